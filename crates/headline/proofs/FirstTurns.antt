@@ -1,5 +1,5 @@
 -- Before its first choice no program is over that may take a step: nobody has to wait yet.
-use Rattle.std.proofs.Common.{◌≡◌, ◌∙◌, ◌<◌, ◌&&◌, ◌||◌, ℕ, ℤ, pos, zero, suc, Bool, true, false, not, if◌then◌else◌, List, [], ◌∷◌, length, map, Some, None, refl, sym, ap, subst, arith}
+use Rattle.std.proofs.Common.{◌≡◌, ◌∙◌, ◌<◌, ◌&&◌, ℕ, ℤ, pos, zero, suc, Bool, true, false, not, if◌then◌else◌, List, [], ◌∷◌, length, map, Some, None, refl, sym, ap, subst, arith}
 use Rattle.std.specs.Prelude.{◌≢◌, nat_abs, nat_lt, nat_le, slice_index_or}
 use Rattle.std.specs.List.{list_all, list_any}
 use Rattle.std.proofs.lemmas.Bool.Decides.{nat_tests}
@@ -17,7 +17,7 @@ use Rattle.row_code.specs.declared.image.Image.{Image}
 use Rattle.row_code.specs.declared.barriers.DeclaredBarrier.{DeclaredBarrier}
 use Rattle.row_code.specs.declared.threads.DeclaredThread.{DeclaredThread}
 use Rattle.loader.specs.declared.load_fault.LoadFault.TheVariants as fault
-use Rattle.loader.specs.Declarations.{forest_of, new_barrier}
+use Rattle.loader.specs.Declarations.{new_barrier}
 use Rattle.loader.specs.Fault.{unless}
 use Rattle.loader.specs.Program.{Program}
 use Rattle.loader.proofs.Images.{all_made}
@@ -48,8 +48,7 @@ fresh_unturned (phaser ∷ phasers) are (suc id) = fresh_unturned phasers (λ k 
 none_turned : (phasers : List PhaserState) (all : List Join) → ((id : ℕ) → (flat_at phasers id).turned ≡ false)
     → list_any (is_turned phasers) all ≡ false
 none_turned phasers [] none = refl
-none_turned phasers (join ∷ all) none =
-    ap (λ b. b || list_any (is_turned phasers) all) (none join.id) ∙ none_turned phasers all none
+none_turned phasers (join ∷ all) none = grind (arith, none_turned phasers all none)
 
 held_by : (ended over turned : Bool) (dead at : Registered) → is_held dead ≡ false → is_held at ≡ false → turned ≡ false
     → is_held (if ended then dead else (if over then registered.TooMany else (if turned then registered.Held else at))) ≡ false
@@ -129,14 +128,7 @@ less_if m n is = grind (arith, nat_tests, is)
 
 -- an accepted program's first scene is such
 nobody_came : (image : Image) (limit : ℕ) → Accepted image → NobodyCame (first_of image limit).scene
-nobody_came image limit (within, loads) = record {
-  threads = image.threads;
-  one = less_if 0 (length image.threads)
-      (some_thread (nat_lt 0 (length image.threads)) (none_left (unless (nat_lt 0 (length image.threads)) fault.NoThread) _ loads).0);
-  begin = refl;
-  unturned = fresh_unturned (forest_of image.phasers) (all_made image loads).fresh;
-  idle = new_idle image.barriers;
-}
+nobody_came image limit given = grind (arith, less_if, some_thread, none_left, fresh_unturned, all_made, new_idle)
 
 -- a live run of an accepted program makes a choice where it may take a step
 pub chooses : (limit : ℕ) (image : Image) (choices : List Choice) → 0 < limit → Accepted image → IsLiveRun limit image choices → choices ≢ []

@@ -1,11 +1,11 @@
 -- With the last arrival at a tree its phase ends, or its routine is entered.
-use Rattle.std.proofs.Common.{inl, inr, ◌≡◌, ◌∙◌, ℕ, ℤ, pos, suc, ◌+◌, ◌-◌, ◌<◌, ◌≤◌, Bool, true, false, List, [], ◌∷◌, length, ap, refl, sym, subst, arith, if◌then◌else◌, rules}
+use Rattle.std.proofs.Common.{inl, inr, ◌≡◌, ◌∙◌, ℕ, ℤ, suc, ◌+◌, ◌-◌, ◌<◌, ◌≤◌, Bool, true, false, List, [], ◌∷◌, length, ap, refl, sym, subst, arith, if◌then◌else◌, rules}
 use Rattle.std.specs.Prelude.{◌⊎◌, ◌||◌, ◌++◌, slice_get, Option, Some, None}
 use Rattle.std.proofs.lemmas.Bool.{cases_eq}
 use Rattle.std.proofs.lemmas.List.{get_or-set_same}
 use Rattle.instruction_table.specs.declared.row.Row.{Row}
 use Rattle.instruction_table.specs.declared.row.Row.TheVariants.{Ret, Preg, Parr, Pdereg, Paaa}
-use Rattle.packed_phaser.specs.Flat.{Flat, Arrival, Counts, arrive, unarrived_of}
+use Rattle.packed_phaser.specs.Flat.{Flat, Arrival, arrive, unarrived_of}
 use Rattle.tier_tree.specs.declared.climb.Climb.{Climb}
 use Rattle.tier_tree.specs.declared.climb.Climb.TheVariants as climb
 use Rattle.tier_tree.specs.declared.registered.Registered.{Registered}
@@ -45,7 +45,7 @@ use Rattle.thread_machine.specs.Step.{played, played_by}
 use Rattle.thread_machine.specs.DirectCounts.{has_ended_phase, with_registration, with_arrival, with_row, with_turn, counts_at_end}
 use Rattle.headline.specs.PhaseEnds.{AreCounted, EndsInTime, HasLastArrived, HaveAllLeft, IsInRoutine, RoutineEnds, TerminateAsSaid, on_advance, row_in, row_of}
 use Rattle.headline.proofs.Prompt.{ArePrompt, Lands, all_come, arrival_prompt, arrive_lands}
-use Rattle.headline.proofs.TreeCalls.{no_answer, none_ended, root_ended}
+use Rattle.headline.proofs.TreeCalls.{no_answer, root_ended}
 use Rattle.headline.proofs.Left.{ended_left}
 use Rattle.headline.proofs.Turns.{scene_after}
 
@@ -64,10 +64,6 @@ left_by : (a : Arrival) (i : ℕ) (above : List ℕ) (root : ℕ) (onward : Bool
     → (n < i) × ((leaves : Bool) → (onward leaves).climb ≡ climb.Counted → IsLeft (suc n) root phasers (onward leaves).phasers))
     → let all = climbed_by a i (is_top above) onward phasers in
     all.climb ≡ climb.Counted → IsLeft (suc i) root phasers all.phasers
-left_by (Counts g) i above root onward phasers there top lands up is =
-    let less = lands.1 in
-    let some : 0 < unarrived_of g = omega (arith, less) in
-    (i, (omega arith, (top, subst (λ (f : Flat). 0 < unarrived_of f) (sym (flat-put phasers i g there)) some)))
 left_by a i above root onward phasers there top lands up is = search (rules, flat-put, child_left)
 
 head_of : List ℕ → ℕ
@@ -129,15 +125,10 @@ LastEnds counts at t scene outcome =
 -- where nobody has arrived, the last hasn't
 nobody_last : (counts at : Origin) (root : ℕ) (phasers : List PhaserState)
     → ((id : ℕ) → root_at phasers id ≡ root → counts.unarrived id ≤ at.unarrived id) → HasLastArrived counts at root phasers → ⊥
-nobody_last counts at root phasers no_less (some, all) =
-    let few = no_less some.0 some.1.1.0 in
-    let none = all some.0 some.1.0 some.1.1.0 in
-    let one = some.1.1.1 in
-    absurd (omega (arith, few, none, one))
+nobody_last counts at root phasers no_less given = grind arith
 
 uncounted : (counts : Origin) (t : ℕ) (scene : Scene) (outcome : Option Outcome) → LastEnds counts counts t scene outcome
-uncounted counts t scene outcome root there live clean last =
-    absurd (nobody_last counts counts root scene.phasers (λ id inside. omega arith) last)
+uncounted counts t scene outcome root there live clean last = grind arith
 
 more_by : (here : Bool) (n k : ℕ) → n ≤ (if here then n + k else n)
 more_by true n k = omega arith
@@ -257,8 +248,7 @@ arrival_ends row program steps t p manner scene counts stands there tallied rest
 row_ends : (row : Row) (program : Program) (steps t : ℕ) (scene : Scene) (counts : Origin) → StandsAt program steps t scene status.Runs row
     → AreTallied scene.phasers counts → ArePrompt scene.phasers
     → LastEnds counts (with_row row t scene counts) t scene (outcome_in status.Runs row t program scene)
-row_ends (Preg into p) program steps t scene counts stands tallied rest =
-    registers p (pos 1) t scene counts (outcome_in status.Runs (Preg into p) t program scene)
+row_ends (Preg into p) program steps t scene counts stands tallied rest = grind (arith, registers)
 row_ends row program steps t scene counts stands tallied rest = search (rules, registers, arrival_ends, uncounted)
 
 turn_ends : (of : Status) (row : Row) (program : Program) (steps t : ℕ) (scene : Scene) (counts : Origin) → StandsAt program steps t scene of row
@@ -303,8 +293,7 @@ Leaves at scene last =
     × (HaveAllLeft at root scene.phasers → (flat_at last.phasers root).parties ≡ 0)
 
 none_leaves : (at : Origin) (scene last : Scene) → KeepsEnds scene.phasers last.phasers → Leaves at scene last
-none_leaves at scene last kept root there top ended =
-    let none = none_ended scene.phasers last.phasers kept root in absurd (cc (none, ended))
+none_leaves at scene last kept root there top ended = grind arith
 
 -- a row that `onAdvance` doesn't answer ends none
 silent_leaves : (row : Option Row) (thread : ThreadState) (at : Origin) (scene last : Scene)

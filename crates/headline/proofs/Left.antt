@@ -52,8 +52,7 @@ pub record IsOpen (phasers : List PhaserState) (counts : Origin) (root : ℕ) : 
 
 pub live_at : (phasers : List PhaserState) (counts : Origin) (root id : ℕ) → IsOpen phasers counts root → id < length phasers
     → root_at phasers id ≡ root → (flat_at phasers id).ended ≡ false
-live_at phasers counts root id fair there tree =
-    (fair.stands.steady id there).tree ∙ ap (λ r. (flat_at phasers r).ended) tree ∙ fair.live
+live_at phasers counts root id fair there tree = grind arith
 
 none_left : (n : ℕ) (phasers : List PhaserState) (counts : Origin) (root : ℕ) → IsOpen phasers counts root → HaveAllLeft counts root phasers
     → (id : ℕ) → length phasers ≤ id + n → id < length phasers → root_at phasers id ≡ root → (flat_at phasers id).parties ≡ 0

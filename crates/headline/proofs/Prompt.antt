@@ -4,7 +4,7 @@ use Rattle.std.specs.Prelude.{◌&&◌, not, slice_set}
 use Rattle.std.proofs.lemmas.Bool.{cases_eq, cases_lt}
 use Rattle.std.proofs.lemmas.Bool.Decides.{nat_tests}
 use Rattle.std.proofs.lemmas.List.{get_or_past}
-use Rattle.packed_phaser.specs.Flat.{Flat, Joins, JoinsLate, MustWait, Overfull, Arrival, Counts, Turns, ComesLate, IsUnregistered, arrive, settled, register, vacate, is_empty, unarrived_of}
+use Rattle.packed_phaser.specs.Flat.{Flat, Joins, JoinsLate, MustWait, Overfull, Arrival, Counts, Turns, ComesLate, IsUnregistered, arrive, settled, vacate, is_empty, unarrived_of}
 use Rattle.tier_tree.specs.declared.climb.Climb.{Climb}
 use Rattle.tier_tree.specs.declared.registered.Registered.{Registered}
 use Rattle.tier_tree.specs.Forest.{PhaserState, phaser_at, flat_at, root_at}
@@ -40,12 +40,7 @@ join_prompt false _ over turned f k view phase is prompt = grind (arith, nat_tes
 
 joined_prompt : (all : List Join) (phasers : List PhaserState) → ArePrompt phasers → ArePrompt (joined all phasers)
 joined_prompt [] phasers prompt = prompt
-joined_prompt (join ∷ others) phasers prompt =
-    let after = joined others phasers in
-    let f = flat_at after join.id in
-    let old = joined_prompt others phasers prompt in
-    put after join.id (record (phaser_at after join.id) { flat = flat_by (register join.count f) f })
-    (join_prompt f.ended (join.count == 0) _ f.turned f join.count _ _ refl (old join.id)) old
+joined_prompt (join ∷ others) phasers prompt = grind (arith, put, join_prompt, joined_prompt others phasers prompt)
 
 pub registration_prompt : (r : Registered) (all : List Join) (phasers : List PhaserState) → ArePrompt phasers
     → ArePrompt (registered_by r all phasers)

@@ -50,8 +50,7 @@ execution-same (choice ∷ choices) phasers world =
 -- the execution from a first world is that from the image's
 first_same : (image : Image) (limit : ℕ) (first : World) (choices : List Choice) → IsFirstOf image limit first
     → execution first choices ≡ stored_after first.program.phasers (execution (first_of image limit) choices)
-first_same image limit first choices is =
-    ap (λ w. execution w choices) (as-stored image limit first is) ∙ execution-same choices first.program.phasers (first_of image limit)
+first_same image limit first choices is = grind (arith, as-stored, execution-same)
 
 -- the program of an image leaves what the image's first world leaves
 pub world_left : (image : Image) (limit : ℕ) (first left : World) (choices : List Choice) → IsFirstOf image limit first

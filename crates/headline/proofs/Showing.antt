@@ -1,5 +1,5 @@
 -- What the commands have written, in the words of their promise.
-use Rattle.std.proofs.Common.{◌≡◌, ◌∙◌, ◌++◌, ℕ, Bool, List, None, Some, refl, ap, sym, subst, append-nil, inl, inr}
+use Rattle.std.proofs.Common.{◌≡◌, ℕ, Bool, List, None, Some, refl, ap, sym, subst, append-nil, inl, inr, arith}
 use Rattle.std.specs.Prelude.{Option, Result, Ok, Err, OnOk}
 use Rattle.std.specs.Io.KnownBytes.{Appends, Consumes, IsAtEnd}
 use Rattle.row_code.specs.declared.image.Image.{Image}
@@ -40,8 +40,7 @@ file_image file image (inr (is, stands)) = text_image file image stands
 
 -- what a known schedule's bytes are that were all read
 whole : (schedule bytes : List ℕ) (rest : Option (List ℕ)) → Consumes (Some schedule) rest bytes → IsAtEnd rest → bytes ≡ schedule
-whole schedule bytes (Some after) consumed end = sym (append-nil bytes) ∙ ap (λ left. bytes ++ left) (sym end) ∙ sym consumed
-whole schedule bytes None consumed end = absurd consumed
+whole schedule bytes rest consumed end = grind (arith, append-nil)
 
 -- the trace of the choices that a schedule makes is that from the image's first world on
 rows : (image : Image) (world : World) (schedule : List ℕ) (runs : List Run) → Begins image world
@@ -51,8 +50,7 @@ rows image world schedule runs begins is = (runs, (is, refl))
 
 first_trace : (image : Image) (world : World) (choices : List Choice) (before after : Option (List ℕ)) → Begins image world
     → Appends before after (trace_of world choices) → Appends before after (trace_of (start image) choices)
-first_trace image world choices before after (loads, begins) appends =
-    subst (Appends before after) (trace-first image 1000000000 world choices begins) appends
+first_trace image world choices before after given appends = grind (arith, trace-first)
 
 pub text-shown : (result : Result RunEnd Fault) (text : List ℕ) (before after : Option (List ℕ)) (failed : Bool)
     → PlaysText text result before after failed → OnOk result (HasShownText text before after)

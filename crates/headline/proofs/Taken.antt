@@ -22,7 +22,7 @@ use Rattle.thread_state.specs.declared.status.Status.TheVariants as status
 use Rattle.thread_state.specs.Thread.{ThreadState}
 use Rattle.machine_scene.specs.declared.manner.Manner.{Manner}
 use Rattle.machine_scene.specs.Manner.{manner_of}
-use Rattle.machine_scene.specs.Scene.{Scene, Outcome, no_thread, thread_at, with_thread}
+use Rattle.machine_scene.specs.Scene.{Scene, Outcome, thread_at, with_thread}
 use Rattle.machine_scene.specs.PhaserRows.{refusal_of_arrival, unless_own, outcome_of_pending_end, outcome_of_arrived, outcome_of_arrival}
 use Rattle.machine_scene.specs.Outcomes.{outcome_in}
 use Rattle.machine_scene.proofs.Plain.{StandsAt}
@@ -121,8 +121,7 @@ Calm t scene = (code : ℤ) → (thread_at scene t).status ≢ status.Throws cod
 
 calm : (thread : ThreadState) (t : ℕ) (scene : Scene) → t < length scene.threads → ((code : ℤ) → thread.status ≢ status.Throws code)
     → Calm t (with_thread thread t scene)
-calm thread t scene there is code throws =
-    is code (sym (ap (λ (th : ThreadState). th.status) (get_or-set_same scene.threads t thread no_thread there)) ∙ throws)
+calm thread t scene there is code throws = grind (arith, get_or-set_same)
 
 runs_on : (code : ℤ) → status.Runs ≢ status.Throws code
 runs_on code is = cc is

@@ -1,6 +1,6 @@
 -- What each call of the trees makes of them in a turn.
 use Rattle.std.proofs.Common.{inl, inr, ◌≡◌, ◌≢◌, ◌∙◌, ℕ, ℤ, zero, suc, ◌<◌, ◌==◌, Bool, true, false, List, [], ◌∷◌, length, map, ap, refl, sym, arith, if◌then◌else◌}
-use Rattle.std.specs.Prelude.{◌||◌, not, Option, Some, None}
+use Rattle.std.specs.Prelude.{◌||◌, Option, Some, None}
 use Rattle.std.proofs.lemmas.Bool.{cases_eq}
 use Rattle.std.proofs.lemmas.List.{length-map, get_or-set_same, get_or-set_other}
 use Rattle.instruction_table.specs.declared.row.Row.{Row}
@@ -54,8 +54,7 @@ pub record TreesGo (row : Option Row) (thread : ThreadState) (before after : Lis
   pub prompt : ArePrompt before → ArePrompt after
 
 pub none_ended : (before after : List PhaserState) → KeepsEnds before after → (root : ℕ) → has_ended_phase root before after ≡ false
-none_ended before after kept root =
-    ap (λ (n : ℕ). not (n == (phaser_at before root).ends)) (kept root) ∙ ap not (same-is (phaser_at before root).ends)
+none_ended before after kept root = grind arith
 
 -- no phase ends, and no tree is terminated
 kept_on : (row : Option Row) (thread : ThreadState) (before after : List PhaserState) → IsQuiet row → KeepsEnds before after

@@ -81,8 +81,7 @@ put (x ∷ barriers) (suc b) gate goes (suc c) = put barriers b gate goes c
 
 at_gate : {row : Option Row} {thread : ThreadState} → IsQuiet row → (b : ℕ) (scene : Scene) (gate : BarrierState) → GoesTo (barrier_at scene b) gate
     → ((c : ℕ) → GoesTo (barrier_at scene c) (barrier_at (with_barrier gate b scene) c)) × TreesGo row thread scene.phasers scene.phasers
-at_gate {row = row} {thread = thread} quiet b scene gate goes =
-    (λ c. put scene.barriers b gate goes c, trees_stay row thread scene.phasers quiet)
+at_gate {row = row} {thread = thread} quiet b scene gate goes = grind (arith, put, trees_stay)
 
 -- rows
 

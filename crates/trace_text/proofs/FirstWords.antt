@@ -1,19 +1,14 @@
 -- The number that a line begins with, by the first byte that is no digit.
-use Rattle.std.proofs.Common.{◌≡◌, ◌∙◌, ◌+◌, ◌<◌, ◌≤◌, ℕ, Bool, true, false, List, length, take, drop, get_or, None, cond, ap, refl, sym, arith, length-take, length-take-le, get_or-take, rules}
-use Rattle.std.specs.Prelude.{Option}
+use Rattle.std.proofs.Common.{◌≡◌, ◌∙◌, ◌+◌, ◌<◌, ◌≤◌, ℕ, true, List, length, drop, get_or, None, ap, sym, arith, length-take, length-take-le, get_or-take, rules}
 use Rattle.std.specs.Char.{is_ascii_digit}
 use Rattle.std.specs.List.{before_first, list_all, position_or_len}
-use Rattle.std.proofs.lemmas.Bool.{and_from, and_parts, cases_lt, eqb-true, le-leb, leb-true, lt-ltb, ltb-true, ne_eqb, not-false, not_from_true}
+use Rattle.std.proofs.lemmas.Bool.{and_from, and_parts, cases_lt, eqb-true, le-leb, leb-true, lt-ltb, ltb-true, not-false, not_from_true}
 use Rattle.std.proofs.lemmas.List.{drop_all}
 use Rattle.std.proofs.lemmas.List.Sums.{AllPass-from_list_all, fails_before_first, list_all-from_AllPass, passes_at_first, position_or_len_is, prefix_len-le-length}
-use Rattle.thread_machine.specs.declared.choice.Choice.{Choice}
 use Rattle.trace_text.specs.Reading.{is_space, choice_named, choice_in, is_no_digit}
 
 space-no_digit : (b : ℕ) → is_space b ≡ true → is_no_digit b ≡ true
 space-no_digit b is = let same : b ≡ 32 = eqb-true b 32 is in ap is_no_digit same
-
-digit-no_space : (b : ℕ) → is_no_digit b ≡ false → is_space b ≡ false
-digit-no_space b digit = ne_eqb b 32 (λ e. let no : true ≡ false = sym (ap is_no_digit e) ∙ digit in cc)
 
 -- where the first word is the number of a choice, it ends where the digits do
 digits_end : (line : List ℕ) → list_all is_ascii_digit (before_first is_space line) ≡ true
@@ -27,29 +22,12 @@ digits_end line digits =
     (λ k before. not_from_true _ (ap is_ascii_digit (sym (get_or-take end line k 0 before)) ∙ all k 0 (omega (arith, size, before))))
     (λ there. space-no_digit _ (passes_at_first is_space line 0 there))
 
--- where a space follows the digits, they are the first word
-space_end : (line : List ℕ) (end : ℕ) → end ≡ position_or_len is_no_digit line → end < length line → get_or line end 0 ≡ 32
-    → position_or_len is_space line ≡ end
-space_end line end is there space = grind (arith, position_or_len_is, digit-no_space, fails_before_first)
-
-digits_word : (line : List ℕ) (end : ℕ) → end ≡ position_or_len is_no_digit line → end ≤ length line
-    → list_all is_ascii_digit (take end line) ≡ true
-digits_word line end is within =
-    list_all-from_AllPass is_ascii_digit (take end line) (λ k d there.
-    let before : k < end = omega (arith, there, length-take end line) in
-    let digit = not-false _ (fails_before_first is_no_digit line k d (omega (arith, before, is))) in
-    ap is_ascii_digit (get_or-take end line k d before) ∙ digit)
-
 -- what a line names whose digits end in a space
 pub named_behind : (line : List ℕ) (end : ℕ) → end ≡ position_or_len is_no_digit line → 0 < end → end ≤ 13 → end < length line
     → get_or line end 0 ≡ 32 → choice_named (before_first is_space (drop (end + 1) line)) ≡ choice_in line
-named_behind line end is some few there space = search (rules, space_end, and_from, lt-ltb, le-leb, digits_word)
+named_behind line end is some few there space = search (rules, position_or_len_is, fails_before_first, and_from, lt-ltb, le-leb, list_all-from_AllPass, length-take, not-false, get_or-take)
 
 -- what one names whose digits aren't the number of a choice, or that ends with them
-unnamed : (b : Bool) (rest : Option Choice) → (b ≡ true → rest ≡ None) → None ≡ cond b rest None
-unnamed true rest none = sym (none refl)
-unnamed false rest none = refl
-
 pub named_none : (line : List ℕ) (end : ℕ) → end ≡ position_or_len is_no_digit line
     → (0 < end → end ≤ 13 → end < length line → get_or line end 0 ≡ 32 → ⊥) → None ≡ choice_in line
-named_none line end is never = search (rules, unnamed, and_parts, digits_end, prefix_len-le-length, ltb-true, leb-true, cases_lt, eqb-true, passes_at_first, drop_all)
+named_none line end is never = search (rules, and_parts, digits_end, prefix_len-le-length, ltb-true, leb-true, cases_lt, eqb-true, passes_at_first, drop_all)

@@ -64,23 +64,7 @@ counted_up_in bytes rest start digits n last long is last_is low fits =
     let front = split.0 in
     let size : digits ≡ length front + 1 = long ∙ ap length split.1 ∙ length-append front _ in
     let place : start + digits - 1 ≡ start + length front = omega (arith, size) in
-    let text_is : drop start bytes ≡ front ++ (48 + n % 10) ∷ rest =
-    is ∙ ap (λ xs. xs ++ rest) split.1 ∙ append_assoc front _ rest in
-    let last_digit_is : last ≡ 48 + n % 10 =
-    last_is ∙ ap (λ i. get_or bytes i 0) place ∙ sym (get_or-drop start bytes (length front) 0)
-    ∙ ap (λ xs. get_or xs (length front) 0) text_is
-    ∙ get_or_at front (48 + n % 10) rest 0 (length front) refl in
-    let text : decimal (n + 1) ≡ front ++ (last + 1) ∷ [] =
-    split.2 (omega arith) ∙ ap (λ d. front ++ (d + 1) ∷ []) (sym last_digit_is) in
-    let size' : length (decimal (n + 1)) ≡ length front + 1 = ap length text ∙ length-append front _ in (
-      omega (arith, size, size'),
-      ap (λ i. drop start (set bytes i (last + 1))) place
-          ∙ drop-set-add start bytes (length front) (last + 1)
-          ∙ ap (λ xs. set xs (length front) (last + 1)) text_is
-          ∙ set_at front (48 + n % 10) rest (last + 1) (length front) refl
-          ∙ sym (append_assoc front ((last + 1) ∷ []) rest)
-          ∙ ap (λ xs. xs ++ rest) (sym text),
-    )
+    grind (arith, append_assoc, get_or-drop, get_or_at, length-append, drop-set-add, set_at)
 
 -- a number that a line begins with ends in the line
 pub within_line : (bytes rest : List ℕ) (start digits n : ℕ) → digits ≡ length (decimal n)
@@ -164,13 +148,8 @@ pub named_line : (new rest digits : List ℕ) (letter : ℕ) (choice : Choice) �
     → (if choice.expiry then codes " x" else codes " t") ≡ 32 ∷ letter ∷ []
     → new ≡ (32 ∷ letter ∷ (digits ++ 32 ∷ [])) ++ rest
     → (step : ℕ) → decimal step ++ new ≡ choice_text step choice ++ rest
-named_line new rest digits letter choice spelt named is step =
-    let word = (if choice.expiry then codes " x" else codes " t") ++ (decimal choice.thread ++ codes " ") in
-    let word_is : word ≡ 32 ∷ letter ∷ (digits ++ 32 ∷ []) =
-    ap (λ xs. xs ++ (decimal choice.thread ++ codes " ")) named ∙ ap (λ xs. 32 ∷ letter ∷ (xs ++ 32 ∷ [])) spelt in
-    ap (λ xs. decimal step ++ xs) (is ∙ ap (λ xs. xs ++ rest) (sym word_is)) ∙ sym (append_assoc (decimal step) word rest)
+named_line new rest digits letter choice spelt named is step = grind (arith, append_assoc)
 
 -- a number of two digits
 pub two_digits : (n : ℕ) → 10 ≤ n → n < 100 → decimal n ≡ (48 + n / 10) ∷ (48 + n % 10) ∷ []
-two_digits n large small =
-    decimal_step n large (omega (arith, small)) ∙ ap (λ xs. xs ++ (48 + n % 10) ∷ []) (decimal_digit (n / 10) (omega (arith, small)))
+two_digits n large small = grind (arith, decimal_step, decimal_digit)

@@ -4,7 +4,7 @@ use Rattle.std.specs.Fmt.{signed_decimal, digits}
 use Rattle.std.specs.Char.{is_ascii_digit}
 use Rattle.std.specs.List.{before_first, after_first, list_all, position_or_len}
 use Rattle.std.specs.Str.{bytes_eq}
-use Rattle.std.proofs.lemmas.Bool.{and_from, ne_eqb, lt-ltb, le-leb, le-ltb, agree_below, agree_below_at, and_parts, eqb-true, not-true, false_from_ne_true, true≢false}
+use Rattle.std.proofs.lemmas.Bool.{and_from, ne_eqb, lt-ltb, le-leb, le-ltb, agree_below, agree_below_at, and_parts, false_from_ne_true, true≢false}
 use Rattle.std.proofs.lemmas.Slice.Eq.{bytes_eq-Decides}
 use Rattle.std.proofs.lemmas.Fmt.{length-decimal-le, decimal_nonempty}
 use Rattle.std.proofs.Math.Seq.{take-append_seam, drop-append-add}
@@ -52,9 +52,7 @@ each_is_named = (refl, refl)
 named_is : (expiry : Bool) (n : ℕ) (named : Option Choice) → names expiry n named ≡ true
     → named ≡ Some (record { thread = n; expiry = expiry })
 unfolding names
-named_is expiry n None is = let no : ⊥ = cc in absurd no
-named_is true n (Some choice) is = grind (arith, and_parts, eqb-true)
-named_is false n (Some choice) is = grind (arith, and_parts, eqb-true, not-true)
+named_is expiry n named is = grind arith
 
 digits_named : (expiry : Bool) (n : ℕ) → n ≤ 63
     → choice_of_digits expiry (decimal n) ≡ Some (record { thread = n; expiry = expiry })
@@ -84,17 +82,10 @@ name-named : (expiry : Bool) (thread : ℕ) → thread ≤ 63
 name-named true thread few = digits_named true thread few
 name-named false thread few = digits_named false thread few
 
-letter-is : (expiry : Bool) (text : List ℕ) → letter_text expiry ++ text ≡ 32 ∷ cond expiry 120 116 ∷ text
-letter-is true text = refl
-letter-is false text = refl
-
 -- a line by its two first words
 words-is : (step : ℕ) (choice : Choice) (rest : List ℕ)
     → choice_text step choice ++ rest ≡ decimal step ++ 32 ∷ (name_text choice ++ 32 ∷ rest)
-words-is step choice rest =
-    append_assoc (decimal step) (letter_text choice.expiry ++ (decimal choice.thread ++ 32 ∷ [])) rest
-    ∙ ap (λ t. decimal step ++ (t ++ rest)) (letter-is choice.expiry (decimal choice.thread ++ 32 ∷ []))
-    ∙ ap (λ t. decimal step ++ 32 ∷ cond choice.expiry 120 116 ∷ t) (append_assoc (decimal choice.thread) (32 ∷ []) rest)
+words-is step choice rest = grind (arith, append_assoc)
 
 step_word : (step : ℕ) → step < 10 ^ 13 → is_step (decimal step) ≡ true
 step_word step few =
@@ -160,14 +151,7 @@ own_line : (step : ℕ) (choice : Choice) (n : ℕ) (rest : List ℕ) → n ≤ 
     → IsLine n rest [] → IsOwnLine choice (choice_text step choice ++ rest)
 own_line step choice n rest short few there p =
     let q = Line-after 131 n (choice_text step choice) rest [] (choice-part step choice) p in
-    record {
-      line = q.line;
-      is = q.is;
-      within = q.part.within;
-      short = let size = q.part.few in le-ltb 65536 (length q.line) (omega (arith, size, short));
-      names = line_names step choice p.line few there;
-      no_state = line-no_state step choice p.line;
-    }
+    grind (arith, le-ltb, line_names, line-no_state)
 
 -- what stands behind a choice's name
 event-line : (pc : ℕ) (event : Event)
@@ -201,9 +185,7 @@ text-few : (step : ℕ) (choice : Choice) (n : ℕ) (rest : List ℕ) → n ≤ 
     → length (choice_text step choice ++ rest) ≤ 408
 text-few step choice n rest few p =
     let first = choice-part step choice in
-    let name = first.few in
-    let others = p.part.few in
-    omega (arith, length-append (choice_text step choice) rest, name, others, ap length p.is, length-append p.line (10 ∷ []), few)
+    grind (arith, length-append)
 
 pub event-few : (step : ℕ) (choice : Choice) (pc : ℕ) (event : Event) → length (event_text step choice pc event) ≤ 408
 event-few step choice pc event = text-few step choice 276 _ (omega arith) (event-line pc event)

@@ -10,8 +10,8 @@ use Rattle.thread_machine.specs.declared.fault.StepFault.TheVariants.{NoSuchThre
 use Rattle.thread_machine.specs.World.{World}
 use Rattle.machine_scene.specs.Scene.{Outcome, thread_at}
 use Rattle.thread_machine.specs.Step.{Played, played, played_by, idled, refusal_of}
-use Rattle.thread_machine.specs.Ready.{outcome_of_choice, is_choice_ready}
-use Rattle.thread_machine.specs.Execution.{Execution, execution, execution_by}
+use Rattle.thread_machine.specs.Ready.{is_choice_ready}
+use Rattle.thread_machine.specs.Execution.{execution, execution_by}
 use Rattle.thread_machine.specs.Idle.{idle_event, idle_times}
 use Rattle.thread_machine.proofs.Readiness.{idle_choice}
 use Rattle.thread_machine.proofs.Idling.{idle_accepted}
@@ -37,12 +37,7 @@ goes_on_by : (refusal : Option StepFault) (world : World) (choice : Choice) (xs 
     ≡ (execution (execution_by refusal world choice (λ after. execution after xs)).world ys).world)
     × ((execution_by refusal world choice (λ after. execution after (xs ++ ys))).refusal
     ≡ (execution (execution_by refusal world choice (λ after. execution after xs)).world ys).refusal)
-goes_on_by (Some fault) world choice xs ys rest none = let no : ⊥ = cc in absurd no
-goes_on_by None world choice xs ys rest none =
-    let play = played world choice in
-    let line = event_text (world.choices + 1) choice (thread_at world.scene choice.thread).pc play.event in
-    let later = rest play.world none in
-    (ap (λ text. line ++ text) later.0 ∙ sym (append_assoc line _ _), later.1, later.2)
+goes_on_by refusal world choice xs ys rest none = grind (arith, append_assoc)
 
 -- choices that are all accepted, and more after them
 pub goes_on : (xs : List Choice) (world : World) (ys : List Choice) → (execution world xs).refusal ≡ None
@@ -113,20 +108,13 @@ Plays-refused first last xs ys old new p =
     refused_by first last xs ys old new (execution first xs).refusal refl p
 
 -- a choice that is no choice of a missing thread and has a step left
-accepted_by : (missing used_up : Bool)
-    → ((if missing then Some NoSuchThread else (if used_up then Some StepLimit else None)) ≡ Some NoSuchThread → ⊥)
-    → ((if missing then Some NoSuchThread else (if used_up then Some StepLimit else None)) ≡ Some StepLimit → ⊥)
-    → (if missing then Some NoSuchThread else (if used_up then Some StepLimit else None)) ≡ None
-accepted_by true used_up there left = absurd (there refl)
-accepted_by false _ there left = grind arith
-
 pub refusal_of-accepted : (event : Event) (world : World) (choice : Choice)
     → (let ok : Result Event StepFault = Ok event in
     (ok ≡ Err NoSuchThread) ↔ (refusal_of world choice ≡ Some NoSuchThread))
     → (let ok : Result Event StepFault = Ok event in
     (ok ≡ Err StepLimit) ↔ (refusal_of world choice ≡ Some StepLimit))
     → refusal_of world choice ≡ None
-refusal_of-accepted event world choice there left = grind (arith, accepted_by)
+refusal_of-accepted event world choice there left = grind arith
 
 -- each choice is counted
 pub played-choices : (outcome : Option Outcome) (world : World) → (played_by outcome world).world.choices ≡ world.choices + 1
@@ -140,25 +128,7 @@ pub Plays-played : (world after : World) (choice : Choice) (event : Event) (step
     → pc ≡ (thread_at world.scene choice.thread).pc
     → Appends old new (event_text step choice pc event)
     → Plays world after (choice ∷ []) true old new
-Plays-played world after choice event step pc old new accepted both step_is pc_is line =
-    let by : Option StepFault → Execution =
-    λ refusal. execution_by refusal world choice (λ after. execution after []) in
-    let lines : Option StepFault → List ℕ = λ refusal. lines_by refusal world choice (λ after. lines_of after []) in
-    let world_is : after ≡ (played world choice).world = ap (λ (play : Played). play.world) both in
-    let event_is : event ≡ (played world choice).event = ap (λ (play : Played). play.event) both in
-    let counted : step ≡ world.choices + 1 =
-    step_is ∙ ap (λ (w : World). w.choices) world_is
-    ∙ played-choices (outcome_of_choice world.program choice world.scene) world in
-    let text : event_text step choice pc event ≡ lines None =
-    ap (λ n. event_text n choice pc event) counted
-    ∙ ap (λ row. event_text (world.choices + 1) choice row event) pc_is
-    ∙ ap (λ e. event_text (world.choices + 1) choice (thread_at world.scene choice.thread).pc e) event_is
-    ∙ sym (append-nil _) in
-    record {
-      lines = subst (λ t. Appends old new t) (text ∙ ap lines (sym accepted)) line;
-      world = world_is ∙ ap (λ refusal. (by refusal).world) (sym accepted);
-      answer = (λ yes. ap (λ refusal. (by refusal).refusal) accepted, λ none. refl);
-    }
+Plays-played world after choice event step pc old new accepted both step_is pc_is line = grind (arith, played-choices, append-nil)
 
 -- nothing is a part of a text
 pub Part-none : (old : Option (List ℕ)) (text : List ℕ) → AppendsPartOf old old text
@@ -252,8 +222,7 @@ Continues-end first now whole rest old known is on =
 -- one of the same choices, and the others
 pub replicate-first : (n : ℕ) (choice : Choice) → 0 < n
     → replicate n choice ≡ (choice ∷ []) ++ replicate (n - 1) choice
-replicate-first n choice some =
-    let is : n ≡ suc (n - 1) = omega (arith, some) in ap (λ m. replicate m choice) is
+replicate-first n choice some = grind arith
 
 -- the choices of one run, and those of the others
 pub choices_of-drop : (runs : List Run) (i : ℕ) (d : Run) → i < length runs
@@ -277,27 +246,14 @@ Part-whole old new text whole = (text, ([], (sym (append-nil text), whole)))
 -- the lines of one idle choice more
 more_idle_lines : (n before : ℕ) (choice : Choice) (pc : ℕ)
     → idle_lines (suc n) before choice pc ≡ idle_lines n before choice pc ++ event_text (before + n + 1) choice pc idle_event
-more_idle_lines zero before choice pc =
-    let none : before + 1 ≡ before + 0 + 1 = omega arith in
-    append-nil _ ∙ ap (λ step. event_text step choice pc idle_event) none
-more_idle_lines (suc n) before choice pc =
-    let line = event_text (before + 1) choice pc idle_event in
-    let rest = idle_lines n (before + 1) choice pc in
-    let last = event_text (before + 1 + n + 1) choice pc idle_event in
-    let counted : before + 1 + n + 1 ≡ before + suc n + 1 = omega arith in
-    ap (λ lines. line ++ lines) (more_idle_lines n (before + 1) choice pc)
-    ∙ sym (append_assoc line rest last)
-    ∙ ap (λ step. (line ++ rest) ++ event_text step choice pc idle_event) counted
-
-idle_lines-more : (n before : ℕ) (choice : Choice) (pc : ℕ)
-    → idle_lines (n + 1) before choice pc ≡ idle_lines n before choice pc ++ event_text (before + n + 1) choice pc idle_event
-idle_lines-more n before choice pc = grind (arith, more_idle_lines)
+more_idle_lines zero before choice pc = grind (arith, append-nil)
+more_idle_lines (suc n) before choice pc = grind (arith, append_assoc, more_idle_lines n (before + 1) choice pc)
 
 pub idle_lines-next : (n before : ℕ) (choice : Choice) (pc : ℕ) (line : NumberedLine) (old now new : Option (List ℕ))
     → line.step ≡ before + (n + 1) → IsBehindNumber line.behind choice pc idle_event
     → Appends old now (idle_lines n before choice pc) → Appends now new (text_of line)
     → Appends old new (idle_lines (n + 1) before choice pc)
-idle_lines-next n before choice pc line old now new is behind lines next = grind (arith, idle_lines-more, Appends-trans)
+idle_lines-next n before choice pc line old now new is behind lines next = grind (arith, more_idle_lines, Appends-trans)
 
 -- the lines of idle choices in a row
 lines_of-idle : (n : ℕ) (world : World) (choice : Choice) → choice.thread < length world.scene.threads
@@ -305,22 +261,7 @@ lines_of-idle : (n : ℕ) (world : World) (choice : Choice) → choice.thread < 
     → lines_of world (replicate n choice) ≡ idle_lines n world.choices choice (thread_at world.scene choice.thread).pc
 lines_of-idle zero world choice there idle few = refl
 lines_of-idle (suc n) world choice there idle few =
-    let pc = (thread_at world.scene choice.thread).pc in
-    ap (λ refusal. lines_by refusal world choice (λ after. lines_of after (replicate n choice)))
-    (idle_accepted world choice there idle (omega (arith, few)))
-    ∙ ap (λ (play : Played). event_text (world.choices + 1) choice pc play.event ++ lines_of play.world (replicate n choice))
-    (idle_choice world choice idle)
-    ∙ ap (λ lines. event_text (world.choices + 1) choice pc idle_event ++ lines)
-    (lines_of-idle n (idled world).world choice there idle (omega (arith, few)))
-
--- by whether the choice is ready
-idle_lines_by : (ready : Bool) (world : World) (choice : Choice) (most n : ℕ)
-    → is_choice_ready world.program choice world.scene ≡ ready
-    → n ≡ (if ready then 0 else min most (1000000000000 - world.choices))
-    → choice.thread < length world.scene.threads → world.choices ≤ 1000000000000
-    → lines_of world (replicate n choice) ≡ idle_lines n world.choices choice (thread_at world.scene choice.thread).pc
-idle_lines_by true world choice most n is times there few = grind arith
-idle_lines_by false world choice most n is times there few = grind (arith, lines_of-idle)
+    grind (arith, idle_accepted, idle_choice, lines_of-idle n (idled world).world choice there idle (omega (arith, few)))
 
 -- a choice is played as long as it is idle
 pub Plays-idle : (world after : World) (choice : Choice) (most n before pc : ℕ) (old new : Option (List ℕ))
@@ -330,17 +271,7 @@ pub Plays-idle : (world after : World) (choice : Choice) (most n before pc : ℕ
     → pc ≡ (thread_at world.scene choice.thread).pc
     → Appends old new (idle_lines n before choice pc)
     → Plays world after (replicate n choice) true old new
-Plays-idle world after choice most n before pc old new times played there few before_is pc_is lines =
-    let text : idle_lines n before choice pc ≡ lines_of world (replicate n choice) =
-    ap (λ step. idle_lines n step choice pc) before_is
-    ∙ ap (λ row. idle_lines n world.choices choice row) pc_is
-    ∙ sym (idle_lines_by (is_choice_ready world.program choice world.scene) world choice most n refl times there
-    (subst (λ k. k ≤ 1000000000000) before_is few)) in
-    record {
-      lines = subst (λ t. Appends old new t) text lines;
-      world = sym (ap (λ (done : Execution). done.world) played);
-      answer = (λ yes. ap (λ (done : Execution). done.refusal) played, λ none. refl);
-    }
+Plays-idle world after choice most n before pc old new times played there few before_is pc_is lines = grind (arith, lines_of-idle)
 
 -- one such choice, and its line as it is kept
 one_time : (ready : Bool) (left n : ℕ) → n ≡ (if ready then 0 else min 1 left) → (n ≡ 0 → ⊥) → n ≡ 1
@@ -356,12 +287,7 @@ pub Plays-idle_again : (world after : World) (choice : Choice) (n pc : ℕ) (lin
     → Plays world after (choice ∷ []) true (Some []) (Some (text_of line))
 Plays-idle_again world after choice n pc line times some played there few row number behind =
     let one : n ≡ 1 = one_time (is_choice_ready world.program choice world.scene) (1000000000000 - world.choices) n times some in
-    let text : text_of line ≡ event_text (world.choices + 1) choice pc idle_event =
-    behind line.step ∙ ap (λ step. event_text step choice pc idle_event) number in
-    subst (λ k. Plays world after (replicate k choice) true (Some []) (Some (text_of line))) one
-    (Plays-idle world after choice 1 n world.choices pc (Some []) (Some (text_of line)) times played there few refl row
-    (text ∙ sym (append-nil (event_text (world.choices + 1) choice pc idle_event))
-    ∙ ap (λ k. idle_lines k world.choices choice pc) (sym one)))
+    grind (arith, Plays-idle, append-nil)
 
 -- some of the same choices, and the others
 pub replicate-some : (n times : ℕ) (choice : Choice) → times ≤ n

@@ -1,6 +1,6 @@
 -- Runs that a reader adds to a list, and what is played with them.
 use Rattle.std.proofs.Common.{◌≡◌, ◌≢◌, ◌∙◌, ◌++◌, ◌⊎◌, ◌≤◌, ℕ, Bool, false, inl, inr, List, [], Ok, Err, None, Result, ap, sym, subst, refl, append-nil, append_assoc, Option, Some, length, arith, rules}
-use Rattle.std.specs.Prelude.{IfOk, IfErr, OnOk, replicate}
+use Rattle.std.specs.Prelude.{IfOk, IfErr, OnOk}
 use Rattle.std.proofs.lemmas.Grind.{flat_map-append}
 use Rattle.std.specs.Io.KnownBytes.{Appends, Consumes, IsAtEnd}
 use Rattle.schedule_reader.specs.declared.fault.ScheduleFault.{ScheduleFault}
@@ -18,20 +18,11 @@ use Rattle.trace_text.specs.RunText.{HasFault, HasNoEarlierFault, faulty_after}
 use Rattle.trace_text.specs.Trace.{AppendsPartOf, Plays, lines_of}
 use Rattle.trace_text.proofs.Plays.{Part-longer}
 
--- the choices of runs and of more runs
-choices_of-append : (xs ys : List Run) → choices_of (xs ++ ys) ≡ choices_of xs ++ choices_of ys
-choices_of-append xs ys = flat_map-append (λ (run : Run). replicate run.times run.choice) xs ys
-
 -- what a call added to an empty list stands between the shorter stream's runs and what was missing
 added_first : (told : Result (Unit {0}) ScheduleFault) (shorter longer : Schedule) (before after : List Run) → before ≡ []
     → (adds : Adds told shorter longer before after)
     → choices_of longer.runs ≡ (choices_of shorter.runs ++ choices_of after) ++ choices_of adds.missing
-added_first told shorter longer before after empty adds =
-    let after_is : after ≡ adds.added = adds.list ∙ ap (λ runs. runs ++ adds.added) empty in
-    ap choices_of (adds.schedule ∙ sym (append_assoc shorter.runs adds.added adds.missing))
-    ∙ choices_of-append (shorter.runs ++ adds.added) adds.missing
-    ∙ ap (λ choices. choices ++ choices_of adds.missing) (choices_of-append shorter.runs adds.added)
-    ∙ ap (λ runs. (choices_of shorter.runs ++ choices_of runs) ++ choices_of adds.missing) (sym after_is)
+added_first told shorter longer before after empty adds = grind (arith, append_assoc, flat_map-append)
 
 -- nothing is missing where memory wasn't wanting
 all_added : (told : Result (Unit {0}) ScheduleFault) (shorter longer : Schedule) (before after : List Run) → before ≡ []
@@ -73,8 +64,7 @@ added-writes_part told shorter longer first before was old known new start runs 
 -- a reader that has told no want of memory stands behind its bytes
 pub has_read : (told : Result (Unit {0}) ScheduleFault) (reader : Progress) (bytes : List ℕ) → told ≢ Err Memory
     → (told ≡ Err Memory) ⊎ HasRead reader bytes → HasRead reader bytes
-has_read told reader bytes enough (inl memory) = absurd (enough memory)
-has_read told reader bytes enough (inr read) = read
+has_read told reader bytes enough given = grind arith
 
 -- an answer that is no fault
 no_fault : (fault : Option ScheduleFault)
@@ -83,8 +73,7 @@ no_fault fault is = grind arith
 
 end_without_fault : (told : Result (Unit {0}) ScheduleFault) (schedule : Schedule) → told ≡ Ok tt
     → (told ≡ Err Memory) ⊎ (told ≡ answer_of schedule) → schedule.fault ≡ None
-end_without_fault told schedule is (inl memory) = let no : ⊥ = cc in absurd no
-end_without_fault told schedule is (inr answer) = no_fault schedule.fault (sym is ∙ answer)
+end_without_fault told schedule is given = grind arith
 
 -- a piece's tokens are played
 pub piece-plays : {E : Type 0} (result : Result Bool E) (told : Result (Unit {0}) ScheduleFault) (bytes longer : List ℕ)
@@ -126,8 +115,7 @@ fault_by fault e is = grind arith
 
 pub end_with_fault : (told : Result (Unit {0}) ScheduleFault) (schedule : Schedule) (fault : ScheduleFault) → told ≡ Err fault
     → told ≢ Err Memory → (told ≡ Err Memory) ⊎ (told ≡ answer_of schedule) → schedule.fault ≡ Some fault
-end_with_fault told schedule fault is enough (inl memory) = absurd (enough memory)
-end_with_fault told schedule fault is enough (inr answer) = fault_by schedule.fault fault (sym is ∙ answer)
+end_with_fault told schedule fault is enough given = grind arith
 
 -- an answer that is none is no want of memory
 told_none : (told : Result (Unit {0}) ScheduleFault) → told ≡ Ok tt → told ≢ Err Memory
@@ -152,8 +140,7 @@ end-plays (Err e) told bytes first before after was old known new start runs now
 -- a schedule by its fault
 pub schedule_by_fault : (schedule : Schedule) (fault : Option ScheduleFault) → schedule.fault ≡ fault
     → schedule ≡ record { runs = schedule.runs; fault = fault }
-schedule_by_fault schedule fault is =
-    let make : Option ScheduleFault → Schedule = λ f. record { runs = schedule.runs; fault = f } in ap make is
+schedule_by_fault schedule fault is = grind arith
 
 -- what stops a run whose reader has gone on from one schedule to a longer one
 stops-behind : (f : RunFault) (told : Result (Unit {0}) ScheduleFault) (shorter longer : Schedule) (bytes : List ℕ) (first before : World)

@@ -2,15 +2,10 @@
 use Rattle.std.proofs.Common.{◌≡◌, ◌∙◌, ◌+◌, ℕ, Bool, true, false, List, [], ◌∷◌, cond, Option, Some, None, refl, ap, sym, arith}
 use Rattle.std.specs.Option.{option_or, option_map}
 use Rattle.tier_tree.specs.declared.fault.DeclareFault.TheVariants as declare
-use Rattle.row_code.specs.declared.phasers.DeclaredPolicy.{DeclaredPolicy}
-use Rattle.row_code.specs.declared.phasers.DeclaredPhaser.{DeclaredPhaser}
-use Rattle.row_code.specs.declared.barriers.DeclaredBarrier.{DeclaredBarrier}
 use Rattle.row_code.specs.declared.image.Image.{Image}
-use Rattle.loader.specs.declared.counts.Counts.{Counts}
 use Rattle.loader.specs.declared.load_fault.LoadFault.{LoadFault}
 use Rattle.loader.specs.declared.load_fault.LoadFault.TheVariants as fault
-use Rattle.loader.specs.declared.named.Named.{Named}
-use Rattle.loader.specs.Fault.{action_fault, barrier_fault, earliest_in, first_fault, listed_phaser_fault, named_fault, routine_fault, unless}
+use Rattle.loader.specs.Fault.{earliest_in, first_fault, unless}
 use Rattle.trace_text.specs.Start.{is_want_of_memory}
 
 -- whether a fault is told that is want of memory
@@ -30,8 +25,7 @@ wants-in : {E : Type 0} (check : ℕ → E → Option LoadFault) → ((n : ℕ) 
     → (n : ℕ) (entries : List E) → wants (earliest_in check n entries) ≡ false
 unfolding wants
 wants-in check each n [] = refl
-wants-in check each n (entry ∷ entries) =
-    wants-or (check n entry) (earliest_in check (n + 1) entries) (each n entry) (wants-in check each (n + 1) entries)
+wants-in check each n (entry ∷ entries) = grind (arith, wants-or, wants-in check each (n + 1) entries)
 
 -- why a phaser can't be declared
 why_by : (n : ℕ) (many orphan parties phase deep full : Bool) → wants (option_map (λ why. fault.Declare n why)
@@ -41,29 +35,9 @@ unfolding wants
 why_by n true orphan parties phase deep full = refl
 why_by n false _ _ phase deep full = grind arith
 
-wants-routine : (rows n : ℕ) (policy : DeclaredPolicy) → wants (routine_fault rows n policy) ≡ false
-unfolding wants
-wants-routine rows n policy = grind (arith, wants-unless)
-
-wants-phaser : (rows : ℕ) (phasers : List DeclaredPhaser) (n : ℕ) (phaser : DeclaredPhaser)
-    → wants (listed_phaser_fault rows phasers n phaser) ≡ false
-wants-phaser rows phasers n phaser =
-    wants-or (routine_fault rows n phaser.policy) _ (wants-routine rows n phaser.policy) (why_by n _ _ _ _ _ _)
-
-wants-action : (rows n : ℕ) (action : Option ℕ) → wants (action_fault rows n action) ≡ false
-unfolding wants
-wants-action rows n action = grind (arith, wants-unless)
-
-wants-barrier : (rows n : ℕ) (barrier : DeclaredBarrier) → wants (barrier_fault rows n barrier) ≡ false
-wants-barrier rows n barrier = grind (arith, wants-or, wants-unless, wants-action)
-
-wants-named : (counts : Counts) (n : ℕ) (thing : Named) → wants (named_fault counts n thing) ≡ false
-unfolding wants
-wants-named counts n thing = grind (arith, wants-unless)
-
 wants-first : (image : Image) → wants (first_fault image) ≡ false
 unfolding wants
-wants-first image = grind (arith, wants-or, wants-unless, wants-in, wants-phaser, wants-barrier, wants-named)
+wants-first image = grind (arith, wants-or, wants-unless, wants-in, why_by)
 
 pub no_want : (image : Image) (told : LoadFault) → first_fault image ≡ Some told → is_want_of_memory told ≡ false
 unfolding wants

@@ -3,7 +3,6 @@ use Rattle.std.proofs.Common.{◌≡◌, ◌+◌, ◌*◌, ◌≤◌, ℕ, ℤ, 
 use Rattle.std.proofs.lemmas.List.Elements.{All-head, All-tail}
 use Rattle.std.specs.Fmt.{signed_decimal}
 use Rattle.std.specs.List.{list_all}
-use Rattle.std.specs.Ordering.{int_eq}
 use Rattle.instruction_table.specs.declared.register.Reg.{Reg}
 use Rattle.instruction_table.specs.Registers.{value_in}
 use Rattle.packed_phaser.specs.Flat.{view_of, unarrived_of}
@@ -76,10 +75,7 @@ interrupted-part false = literal 7 (codes " 0 regs") refl (omega arith)
 texts-few : {A : Type 0} (text : A → List ℕ) → ((x : A) → length (text x) ≤ 66) → (xs : List A)
     → length (flat_map text xs) ≤ 66 * length xs
 texts-few text each [] = omega arith
-texts-few text each (x ∷ xs) =
-    let first = each x in
-    let others = texts-few text each xs in
-    omega (arith, length-append (text x) (flat_map text xs), first, others)
+texts-few text each (x ∷ xs) = grind (arith, length-append, texts-few text each xs)
 
 registers-few : (values : List ℤ) → length (registers_text values all_registers) ≤ 528
 registers-few values =
@@ -154,9 +150,6 @@ cell-whole_by false n value =
     (Line-after 64 66 (decimal n) _ [] (decimal-part n)
     (Line-after 66 0 (value_text value) _ [] (value-part value) (Line-end [])))) (Whole-nil (Unit {0}))
 
-cell-whole : (n : ℕ) (value : ℤ) → IsWhole (Unit {0}) (cell_text n value)
-cell-whole n value = cell-whole_by (int_eq value (pos 0)) n value
-
 -- texts of lines that are short where each element is brief
 numbered-whole : {A : Type 0} (brief : A → Type 0) (text : ℕ → A → List ℕ) → ((n : ℕ) (x : A) → IsWhole (brief x) (text n x))
     → (n : ℕ) (xs : List A) → IsWhole (All brief xs) (numbered_texts text n xs)
@@ -183,7 +176,7 @@ parts_text world =
     ++ numbered_texts cell_text 0 world.scene.cells))
 
 pub parts-whole : (world : World) → IsWhole (All IsBrief world.scene.threads) (parts_text world)
-parts-whole world = search (rules, Whole-append, numbered-whole, thread-whole, all-whole, phaser-whole, barrier-whole, cell-whole)
+parts-whole world = search (rules, Whole-append, numbered-whole, thread-whole, all-whole, phaser-whole, barrier-whole, cell-whole_by)
 
 -- the first line, behind its first word
 counts-line : (world : World) → IsLine 135 (decimal world.choices ++ (codes " " ++ (decimal world.steps ++ (codes " "

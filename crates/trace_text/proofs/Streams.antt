@@ -1,5 +1,5 @@
 -- Bytes that are read one piece after another.
-use Rattle.std.proofs.Common.{◌≡◌, ◌↔◌, inr, refl, ◌∙◌, ◌+◌, ◌<◌, ◌≤◌, ◌++◌, ℕ, Bool, true, false, not, IsTrue, List, Option, length, take, ap, sym, subst, length-append, arith}
+use Rattle.std.proofs.Common.{◌≡◌, ◌↔◌, inr, refl, ◌+◌, ◌<◌, ◌≤◌, ◌++◌, ℕ, Bool, true, false, not, IsTrue, List, Option, length, take, ap, sym, subst, length-append, arith}
 use Rattle.std.proofs.lemmas.List.{length-take}
 use Rattle.std.proofs.KnownBytes.{Appends-trans, Consumes-trans}
 use Rattle.std.specs.Io.KnownBytes.{Appends, Consumes, IsAtEnd}
@@ -10,7 +10,6 @@ use Rattle.thread_machine.specs.declared.fault.StepFault.{StepFault}
 use Rattle.thread_machine.specs.Standing.{standing_of}
 use Rattle.thread_machine.specs.World.{World}
 use Rattle.thread_machine.specs.declared.choice.Choice.{Choice}
-use Rattle.thread_machine.specs.Execution.{execution}
 use Rattle.trace_text.specs.NumberedLine.{NumberedLine}
 use Rattle.trace_text.specs.declared.run.RunFault.{RunFault}
 use Rattle.trace_text.specs.declared.run.RunFault.TheVariants as fault
@@ -18,7 +17,7 @@ use Rattle.trace_text.specs.Outcome.{EndsFrom, Stops, StopsFrom}
 use Rattle.trace_text.specs.declared.play.PlayFault.{PlayFault}
 use Rattle.trace_text.specs.declared.play.PlayFault.TheVariants as play
 use Rattle.trace_text.specs.Playing.{HasPlayedAll, played_fault}
-use Rattle.trace_text.specs.RunText.{AreTraced, IsEndOf}
+use Rattle.trace_text.specs.RunText.{AreTraced}
 use Rattle.trace_text.specs.Start.{Begins}
 use Rattle.row_code.specs.declared.image.Image.{Image}
 use Rattle.trace_text.specs.State.{state_text}
@@ -35,8 +34,7 @@ consumes-none a b c bytes buffer n none first second = grind (arith, Consumes-tr
 -- a read gives a byte at least
 pub longer_by_piece : (bytes buffer piece : List ℕ) (n turns : ℕ) → piece ≡ take n buffer → n ≤ length buffer → 0 < n
     → turns ≤ length bytes → turns + 1 ≤ length (bytes ++ piece)
-longer_by_piece bytes buffer piece n turns is within some many =
-    omega (arith, length-append bytes piece, ap length is, length-take n buffer, within, some, many)
+longer_by_piece bytes buffer piece n turns is within some many = grind (arith, length-append, length-take)
 
 -- a schedule was played to its end
 pub played-all : {E : Type 0} (result : Result Bool E) (first last : World) (bytes : List ℕ) (schedule_before schedule_after old new : Option (List ℕ))
@@ -71,19 +69,11 @@ pub tells_end : {E : Type 0} (result : Result RunEnd E) (last : World) (all : Bo
     → IfOk result (TellsEnd last all)
 tells_end result last all refused is told = grind arith
 
-end_of : (first last : World) (choices : List Choice) (all : Bool) (end : RunEnd) (old new : Option (List ℕ))
-    → Plays first last choices all old new → TellsEnd last all end → IsEndOf (execution first choices) end
-end_of first last choices all end old new plays (standing, text, refused) = (
-  standing ∙ ap standing_of plays.world,
-  text ∙ ap (λ (world : World). state_text world) plays.world,
-  refused ∙ refused_where all (execution first choices).refusal plays.answer,
-)
-
 -- the lines, and then the state that they leave
 traced_by : (end : RunEnd) (first last : World) (choices : List Choice) (all : Bool) (old between new : Option (List ℕ))
     → Plays first last choices all old between → TellsEnd last all end → Appends between new (state_text last)
     → AreTraced first choices end old new
-traced_by end first last choices all old between new plays tells appends = grind (arith, end_of, Appends-trans)
+traced_by end first last choices all old between new plays tells appends = grind (arith, Appends-trans)
 
 pub are_traced : {E : Type 0} (result : Result RunEnd E) (first last : World) (choices : List Choice) (all : Bool)
     (old between new : Option (List ℕ)) → Plays first last choices all old between

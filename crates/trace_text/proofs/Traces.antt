@@ -1,5 +1,5 @@
 -- Texts of lists, element by element.
-use Rattle.std.proofs.Common.{◌≡◌, ◌∙◌, ◌+◌, ◌*◌, ◌<◌, ◌≤◌, ℕ, ℤ, List, ◌++◌, codes, length, length-append, get_or, drop, refl, ap, sym, arith, append_assoc}
+use Rattle.std.proofs.Common.{◌≡◌, ◌∙◌, ◌+◌, ◌*◌, ◌<◌, ◌≤◌, ℕ, ℤ, List, ◌++◌, codes, length, length-append, get_or, drop, refl, ap, sym, arith, append_assoc, rules}
 use Rattle.std.proofs.lemmas.List.{drop_more}
 use Rattle.std.specs.Fmt.{signed_decimal}
 use Rattle.std.proofs.lemmas.Option.{slice_get_within, get_or_from_slice_get}
@@ -25,8 +25,7 @@ pub ruleset text_steps = (flat_map-drop, numbered_texts-drop)
 -- one text more was written, the first of the rest
 pub one_text_more : (now next start one rest more all : List ℕ) → next ≡ now ++ one → rest ≡ one ++ more
     → now ++ rest ≡ start ++ all → next ++ more ≡ start ++ all
-one_text_more now next start one rest more all is first before =
-    ap (λ text. text ++ more) is ∙ append_assoc now one more ∙ ap (λ text. now ++ text) (sym first) ∙ before
+one_text_more now next start one rest more all is first before = grind (arith, append_assoc)
 
 -- what one number more adds to the length of what is written
 pub one_value_more : (values : List ℤ) (i : ℕ) (d : ℤ) → i < length values → length (signed_decimal (get_or values i d)) ≤ 11

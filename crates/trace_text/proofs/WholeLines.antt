@@ -27,10 +27,7 @@ Part-more m n text more p = record { within = p.within; few = let a = p.few in o
 
 -- one part after another
 pub Part-append : (m n : ℕ) (xs ys : List ℕ) → IsPart m xs → IsPart n ys → IsPart (m + n) (xs ++ ys)
-Part-append m n xs ys p q = record {
-  within = list_all-append is_within xs ys ∙ and_from _ _ p.within q.within;
-  few = let a = p.few in let b = q.few in omega (arith, length-append xs ys, a, b);
-}
+Part-append m n xs ys p q = grind (arith, list_all-append, and_from, length-append)
 
 pub all_more : (p q : ℕ → Bool) → ((b : ℕ) → p b ≡ true → q b ≡ true) → (xs : List ℕ) → list_all p xs ≡ true → list_all q xs ≡ true
 all_more p q more [] all = refl
@@ -108,9 +105,7 @@ first-is (x ∷ xs) rest none =
 -- a line before others
 pub split-line : (line rest : List ℕ) → list_all is_within line ≡ true
     → slice_split is_line_end ((line ++ 10 ∷ []) ++ rest) ≡ line ∷ slice_split is_line_end rest
-split-line line rest within =
-    ap (slice_split is_line_end) (append_assoc line (10 ∷ []) rest)
-    ∙ slice_split_at is_line_end line 10 rest (no_end line within) refl
+split-line line rest within = grind (arith, append_assoc, slice_split_at, no_end)
 
 pub first_line-is : (line rest : List ℕ) → list_all is_within line ≡ true → first_line ((line ++ 10 ∷ []) ++ rest) ≡ line ++ 10 ∷ []
 first_line-is line rest within =
@@ -155,12 +150,7 @@ pub Whole-nil : (short : Type 0) → IsWhole short []
 Whole-nil short = record { lines = []; within = tt; few = λ p. tt; is = refl }
 
 pub Whole-append : (short : Type 0) (xs ys : List ℕ) → IsWhole short xs → IsWhole short ys → IsWhole short (xs ++ ys)
-Whole-append short xs ys p q = record {
-  lines = p.lines ++ q.lines;
-  within = within-append p.lines q.lines p.within q.within;
-  few = λ s. few-append p.lines q.lines (p.few s) (q.few s);
-  is = ap (λ t. t ++ ys) p.is ∙ ap (λ t. whole p.lines ++ t) q.is ∙ sym (whole-append p.lines q.lines);
-}
+Whole-append short xs ys p q = grind (arith, within-append, few-append, whole-append)
 
 -- where more is so
 pub Whole-where : (short more : Type 0) (text : List ℕ) → (more → short) → IsWhole short text → IsWhole more text
@@ -179,9 +169,7 @@ line-short (x ∷ xs) rest within few more (suc at) = line-short xs rest (and_pa
 
 lines-short : (lines : List (List ℕ)) → AllWithin lines → AllFew lines → HasNoLongLine (whole lines)
 lines-short [] within few = none-short
-lines-short (line ∷ lines) within few =
-    subst HasNoLongLine (sym (append_assoc line (10 ∷ []) (whole lines)))
-    (line-short line (whole lines) within.0 few.0 (lines-short lines within.1 few.1))
+lines-short (line ∷ lines) within few = grind (arith, append_assoc, line-short, lines-short lines within.1 few.1)
 
 -- a comparison can hold all lines of such a text
 pub Whole-short : (short : Type 0) (text : List ℕ) → IsWhole short text → short → HasNoLongLine text

@@ -9,10 +9,7 @@ same_at : (n at i : ℕ) (bytes line : List ℕ) → take n (drop at bytes) ≡ 
 same_at n at i bytes line same from upto =
     let k = i - at in
     let place : at + k ≡ i = omega (arith, from) in
-    let within : k < n = omega (arith, from, upto) in
-    ap (λ j. get_or bytes j 0) (sym place) ∙ sym (get_or-drop at bytes k 0) ∙ sym (get_or-take n (drop at bytes) k 0 within)
-    ∙ ap (λ bs. get_or bs k 0) same
-    ∙ get_or-take n (drop at line) k 0 within ∙ get_or-drop at line k 0 ∙ ap (λ j. get_or line j 0) place
+    grind (arith, get_or-drop, get_or-take)
 
 same_by : (middle last i : ℕ) (bytes line : List ℕ) → take 8 bytes ≡ take 8 line
     → take 8 (drop middle bytes) ≡ take 8 (drop middle line) → take 8 (drop last bytes) ≡ take 8 (drop last line)

@@ -12,8 +12,7 @@ short n m same few = length-decimal-le 10 n (omega arith) (omega (arith, same, f
 -- one byte more before a number
 one_more : (bytes : List ℕ) (at start d line : ℕ) → length bytes ≡ 192 → at + d ≡ start → d ≤ 10 → 1 ≤ at → start ≤ 192
     → line ≡ 192 - start → length (drop (at - 1) (set bytes (at - 1) 45)) ≤ line + 11
-one_more bytes at start d line long ends few some within is =
-    omega (arith, length-drop (at - 1) (set bytes (at - 1) 45), length-set bytes (at - 1) 45, long, ends, few, some, within, is)
+one_more bytes at start d line long ends few some within is = grind (arith, length-drop, length-set)
 
 pub write_digits-self-inside-requires : goal.write_digits-self-inside-requires
 write_digits-self-inside-requires c =
