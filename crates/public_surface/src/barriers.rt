@@ -9,13 +9,9 @@ use cyclic_barrier::{Barrier, Entered, WaitState};
 pub fn entered(answer: Entered) -> Option<u16> {
     match answer {
         Entered::Wait(index) => Some(index),
-        Entered::Run => None,
         Entered::Tripped => Some(0),
-        Entered::Broken => None,
-        Entered::Interrupted => None,
-        Entered::TimedOut => None,
-        Entered::Busy => None,
-        Entered::Own => None,
+        Entered::Run | Entered::Busy | Entered::Own => None,
+        Entered::Broken | Entered::Interrupted | Entered::TimedOut => None,
     }
 }
 
@@ -25,9 +21,8 @@ pub fn enter(barrier: &mut Barrier, thread: u8, interrupted: bool) -> (Entered, 
     requires no_wait { wait_at barrier.old.waits thread ≡ None }
 {
     let mut before: Barrier = *barrier;
-    let answer: Entered = barrier.enter(thread, interrupted);
-    let timed: Entered = before.enter_timed(thread, interrupted, true);
-    (answer, timed)
+    let timed = before.enter_timed(thread, interrupted, true);
+    (barrier.enter(thread, interrupted), timed)
 }
 
 /// The ends of a wait that isn't over.
@@ -46,31 +41,25 @@ pub fn leave(barrier: &mut Barrier, thread: u8) -> Option<bool>
     requires thread { thread < 64 }
     requires wait { wait_at barrier.old.waits thread ≢ None }
 {
-    let state: WaitState = barrier.look(thread);
-    match state {
-        WaitState::Waiting => None,
-        WaitState::Tripped => {
-            barrier.leave(thread);
-            Some(true)
-        }
-        WaitState::Broken => {
-            barrier.leave(thread);
-            Some(false)
-        }
-    }
+    let tripped = match barrier.look(thread) {
+        WaitState::Waiting => return None,
+        WaitState::Tripped => true,
+        WaitState::Broken => false,
+    };
+    barrier.leave(thread);
+    Some(tripped)
 }
 
 /// A barrier, the end of its action, its reset, and what is read off it.
 pub fn barrier(parties: u16, action: bool) -> Option<(u16, bool, u16)> {
-    let made: Option<Barrier> = Barrier::new(parties, action);
-    let mut barrier: Barrier = made?;
-    let runner: Option<u8> = barrier.runner();
-    match runner {
+    let mut barrier: Barrier = Barrier::new(parties, action)?;
+    match barrier.runner() {
         Some(_) => barrier.end_action(true),
         None => barrier.reset(),
     }
-    let parties: u16 = barrier.parties();
-    let broken: bool = barrier.is_broken();
-    let waiting: u16 = barrier.number_waiting();
-    Some((parties, broken, waiting))
+    Some((
+        barrier.parties(),
+        barrier.is_broken(),
+        barrier.number_waiting(),
+    ))
 }

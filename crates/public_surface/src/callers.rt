@@ -21,8 +21,7 @@ pub fn number_of(reply: Reply) -> Option<i32> {
     match reply {
         Reply::Counted(phase) => Some(phase),
         Reply::Dead(view) => Some(view),
-        Reply::TooMany => None,
-        Reply::NotThere => None,
+        Reply::TooMany | Reply::NotThere => None,
     }
 }
 
@@ -38,8 +37,7 @@ pub fn within(phaser: &SharedPhaser, party: &mut Party, tries: u32) -> Result<Wo
     if let Err(Raced { tries, word }) = forced {
         return Err(Raced { tries, word });
     }
-    let word: Word = phaser.look(party);
-    Ok(word)
+    Ok(phaser.look(party))
 }
 
 /// Those that may wait.
@@ -52,8 +50,7 @@ pub fn waiting<R: Wait>(rt: &R, phaser: &SharedPhaser, party: &mut Party) -> Res
     let _: Reply = phaser.arrive_and_deregister(rt, party);
     let _: Reply = phaser.force(rt, party);
     let _: i32 = phaser.await_advance(rt, party, 0i32);
-    let met: Result<i32, NotThere> = phaser.arrive_and_await_advance(rt, party);
-    met
+    phaser.arrive_and_await_advance(rt, party)
 }
 
 /// A phaser from its first word to its last.
@@ -63,14 +60,10 @@ pub fn closed<R: Wait>(
     policy: Policy,
     phase: Phase,
 ) -> Result<Word, NewFault> {
-    let made: Result<(SharedPhaser, Party), NewFault> = SharedPhaser::new(
-        alloc, 2u16, policy, phase,
-    );
-    let (phaser, mut first): (SharedPhaser, Party) = made?;
+    let (phaser, mut first): (SharedPhaser, Party) = SharedPhaser::new(alloc, 2u16, policy, phase)?;
     let mut second: Party = phaser.split(&mut first);
     let _: Result<Word, Raced> = within(&phaser, &mut second, 1);
     let _: Result<i32, NotThere> = waiting(rt, &phaser, &mut second);
     phaser.join(&mut first, second);
-    let word: Word = phaser.close(first);
-    Ok(word)
+    Ok(phaser.close(first))
 }

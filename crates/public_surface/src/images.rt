@@ -10,22 +10,17 @@ use std::alloc::Global;
 /// What is said of bytes that are no image.
 pub fn place_of(fault: ImageFault) -> Option<usize> {
     match fault {
-        ImageFault::Short => None,
-        ImageFault::Magic => None,
-        ImageFault::Count => None,
         ImageFault::Field(at) => Some(at),
         ImageFault::Row(number) => Some(usize::from(number)),
-        ImageFault::Extra => None,
-        ImageFault::Memory => None,
-        ImageFault::Version => None,
+        ImageFault::Short | ImageFault::Magic | ImageFault::Count => None,
+        ImageFault::Extra | ImageFault::Version | ImageFault::Memory => None,
     }
 }
 
 /// A row's bytes, and the row again.
 pub fn row_again(row: Row) -> Option<Row> {
     let bytes: [u8; 8] = encode(row);
-    let again: Option<Row> = decode(bytes);
-    again
+    decode(bytes)
 }
 
 /// The parts of an image.
@@ -45,8 +40,6 @@ pub fn copied<K: Sink>(
     bytes: &[u8],
     sink: &mut K,
 ) -> Result<Result<(), WriteFault>, ImageFault> {
-    let read: Result<Image, ImageFault> = read_image(alloc, bytes);
-    let image: Image = read?;
-    let written: Result<(), WriteFault> = write_image(&image, sink);
-    Ok(written)
+    let image: Image = read_image(alloc, bytes)?;
+    Ok(write_image(&image, sink))
 }

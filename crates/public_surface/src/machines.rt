@@ -12,17 +12,10 @@ use tier_tree::Forest;
 /// What a turn came to.
 pub fn told(what: What) -> Option<i32> {
     match what {
-        What::Idle => None,
-        What::Done => None,
-        What::Value(value) => Some(value),
-        What::Out(value) => Some(value),
-        What::Waits => None,
-        What::Throws(code) => Some(code),
-        What::Enters => None,
-        What::Unwinds => None,
-        What::Catches(code) => Some(code),
-        What::Dies(code) => Some(code),
-        What::Ends => None,
+        What::Value(value) | What::Out(value) => Some(value),
+        What::Throws(code) | What::Catches(code) | What::Dies(code) => Some(code),
+        What::Idle | What::Done | What::Waits => None,
+        What::Enters | What::Unwinds | What::Ends => None,
     }
 }
 
@@ -31,38 +24,31 @@ pub fn marked(mark: Mark) -> Option<(u8, i32)> {
     match mark {
         Mark::Nothing => None,
         Mark::Phase { root, view } => Some((root, view)),
-        Mark::Tripped(barrier) => Some((barrier, 0)),
-        Mark::Broke(barrier) => Some((barrier, 0)),
+        Mark::Tripped(barrier) | Mark::Broke(barrier) => Some((barrier, 0)),
     }
 }
 
 /// What a thread is about.
 pub fn number_of(status: Status) -> Option<i32> {
     match status {
-        Status::Runs => None,
-        Status::Throws(code) => Some(code),
-        Status::AwaitsPhase(phase) => Some(phase),
-        Status::AwaitsBarrier(index) => Some(index),
-        Status::Ended => None,
-        Status::Died(code) => Some(code),
+        Status::Throws(code) | Status::Died(code) => Some(code),
+        Status::AwaitsPhase(number) | Status::AwaitsBarrier(number) => Some(number),
+        Status::Runs | Status::Ended => None,
     }
 }
 
 /// What stands on a stack.
 pub fn row_of(entry: Entry) -> u16 {
     match entry {
-        Entry::Call(row) => row,
-        Entry::Handler(row) => row,
-        Entry::Advance(root) => u16::from(root),
-        Entry::Action(barrier) => u16::from(barrier),
+        Entry::Call(row) | Entry::Handler(row) => row,
+        Entry::Advance(number) | Entry::Action(number) => u16::from(number),
     }
 }
 
 /// Whether a choice is refused for good.
 pub fn is_final(fault: StepFault) -> bool {
     match fault {
-        StepFault::NoSuchThread => true,
-        StepFault::StepLimit => true,
+        StepFault::NoSuchThread | StepFault::StepLimit => true,
         StepFault::Memory => false,
     }
 }
@@ -77,70 +63,60 @@ pub fn steps(
         thread,
         expiry: false,
     };
-    let stepped: Result<Event, StepFault> = machine.step(turn);
-    let Event { what, mark } = stepped?;
+    let Event { what, mark } = machine.step(turn)?;
     let _: (What, Mark) = (what, mark);
     let expiry: Choice = Choice {
         thread,
         expiry: true,
     };
-    let noted: Result<(Event, Undo), StepFault> = machine.step_noting(expiry);
-    let (_, undo): (Event, Undo) = noted?;
+    let (_, undo): (Event, Undo) = machine.step_noting(expiry)?;
     machine.back(undo);
-    let copied: Result<Machine, AllocError> = machine.copy(alloc);
-    Ok(copied)
+    Ok(machine.copy(alloc))
 }
 
 /// What is read off a thread.
 pub fn thread(machine: &Machine, t: u8) -> (Status, u16, i32, bool)
     requires { t < length machine.now.scene.threads }
 {
-    let status: Status = machine.status(t);
-    let pc: u16 = machine.pc(t);
-    let value: i32 = machine.reg(t, Reg::R7);
-    let interrupted: bool = machine.interrupted(t);
     let _: &[i32] = machine.output(t);
     let depth: usize = machine.depth(t);
     if depth > 0 {
         let _: Entry = machine.entry(t, 0);
     }
-    (status, pc, value, interrupted)
+    (
+        machine.status(t),
+        machine.pc(t),
+        machine.reg(t, Reg::R7),
+        machine.interrupted(t),
+    )
 }
 
 /// What a thread may do.
 pub fn ready(machine: &Machine, t: u8) -> (bool, bool)
     requires { t < length machine.now.scene.threads }
 {
-    let ready: bool = machine.is_ready(t);
-    let expires: bool = machine.can_expire(t);
-    (ready, expires)
+    (machine.is_ready(t), machine.can_expire(t))
 }
 
 /// What is read off a machine.
 pub fn counts(machine: &Machine) -> (u32, u64, u32) {
-    let limit: u32 = machine.limit();
-    let choices: u64 = machine.choices();
-    let steps: u32 = machine.steps();
     let _: bool = machine.ended();
     let _: bool = machine.stuck();
     let _: &Loaded = machine.loaded();
     let _: &Forest = machine.forest();
-    (limit, choices, steps)
+    (machine.limit(), machine.choices(), machine.steps())
 }
 
 /// What its threads share beside phasers.
 pub fn shared(machine: &Machine, number: u8) -> (i32, &Barrier)
     requires { number < length machine.now.scene.barriers }
 {
-    let cell: i32 = machine.cell(31);
-    let barrier: &Barrier = machine.barrier(number);
-    (cell, barrier)
+    (machine.cell(31), machine.barrier(number))
 }
 
 /// The machine of a program.
 pub fn machine(alloc: Global, program: Loaded, limit: u32) -> Result<Machine, AllocError>
     requires { limit ≤ 1000000000 }
 {
-    let made: Result<Machine, AllocError> = Machine::new(alloc, program, limit);
-    made
+    Machine::new(alloc, program, limit)
 }

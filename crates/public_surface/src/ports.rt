@@ -41,10 +41,8 @@ pub fn moved<S: Source, K: Sink>(
     sink: &mut K,
     buffer: &mut [u8],
 ) -> Result<usize, Failed> {
-    let pulled: Result<usize, Failed> = source.pull(buffer);
-    let pushed: Result<(), Failed> = sink.push(buffer);
-    pushed?;
-    pulled
+    sink.push(buffer)?;
+    source.pull(buffer)
 }
 
 /// The ports that there are.
@@ -56,8 +54,7 @@ pub fn ports<R: Read + Drop, W: Write + Drop>(
     buffer: &mut [u8],
 ) -> Result<(), AllocError> {
     let mut source: MemorySource = MemorySource::new(bytes, Some(3u32));
-    let made: Result<MemorySink, AllocError> = MemorySink::new(alloc, 64usize, Some(3u32));
-    let mut sink: MemorySink = made?;
+    let mut sink: MemorySink = MemorySink::new(alloc, 64usize, Some(3u32))?;
     let mut input: ReadPort<R> = ReadPort::new(reader);
     let mut output: WritePort<W> = WritePort::new(writer);
     let _: Result<usize, Failed> = moved(&mut source, &mut output, buffer);

@@ -6,25 +6,15 @@ use instruction_table::{Local, OperandKind, Reg, Regs, Row, Shape, local, mnemon
 
 /// How rows are spelled.
 pub fn spelling(row: Row, text: &[u8]) -> Option<(&'static str, &'static [OperandKind])> {
-    let word: &'static str = mnemonic(row);
-    let found: Option<Shape> = shape_of(text);
-    let Shape {
-        word: same,
-        operands,
-        ..
-    } = found?;
-    let _: (&'static str, &'static str) = (word, same);
-    Some((word, operands))
+    let Shape { word, operands, .. } = shape_of(text)?;
+    let _: &'static str = word;
+    Some((mnemonic(row), operands))
 }
 
 /// What a row leaves that touches nothing else.
 pub fn effect(row: Row, registers: &Regs, pc: u16) -> (i32, u16)
     requires { IsTrue (is_local_row row) }
 {
-    let left: Local = local(row, registers, pc);
-    let Local { registers, pc } = left;
-    let after: Regs = registers;
-    let place: u16 = pc;
-    let value: i32 = after.get(Reg::R0);
-    (value, place)
+    let Local { registers, pc } = local(row, registers, pc);
+    (registers.get(Reg::R0), pc)
 }

@@ -19,8 +19,7 @@ impl Gate for Open {
 pub fn is_early(fault: TakeFault) -> bool {
     match fault {
         TakeFault::NotReady => true,
-        TakeFault::StepLimit => false,
-        TakeFault::Memory => false,
+        TakeFault::StepLimit | TakeFault::Memory => false,
     }
 }
 
@@ -28,8 +27,7 @@ pub fn is_early(fault: TakeFault) -> bool {
 pub fn is_whole(ending: Ending) -> bool {
     match ending {
         Ending::AllEnded => true,
-        Ending::Stuck => false,
-        Ending::Limit => false,
+        Ending::Stuck | Ending::Limit => false,
     }
 }
 
@@ -43,15 +41,12 @@ pub fn left(fault: LiveFault) -> Option<Vec<u8>> {
 
 /// A machine that keeps a record.
 pub fn recorded(alloc: Global, program: Loaded, thread: u8) -> Result<usize, AllocError> {
-    let made: Result<Journaled, AllocError> = Journaled::new(alloc, program, 1000u32);
-    let mut journaled: Journaled = made?;
-    let machine: &Machine = journaled.machine();
-    if usize::from(thread) < machine.thread_count() {
+    let mut journaled: Journaled = Journaled::new(alloc, program, 1000u32)?;
+    if usize::from(thread) < journaled.machine().thread_count() {
         let _: Result<Event, TakeFault> = journaled.take_step(thread);
         let _: Result<Event, TakeFault> = journaled.take_expiry(thread);
     }
-    let schedule: &[u8] = journaled.schedule();
-    Ok(schedule.len())
+    Ok(journaled.schedule().len())
 }
 
 /// A live run, through a gate of its own and through none.
@@ -64,13 +59,11 @@ pub fn live<R: Threads + Wait + Sync>(
 ) -> Result<(Vec<u8>, Machine, Ending), LiveFault>
     requires { limit ≤ 1000000000 }
 {
-    let gated: Result<LiveRun, LiveFault> = run_live(rt, alloc, program, limit, &Open);
-    gated?;
-    let run: LiveRun = run_live(rt, alloc, other, limit, &NoGate)?;
+    run_live(rt, alloc, program, limit, &Open)?;
     let LiveRun {
         schedule,
         machine,
         ending,
-    } = run;
+    } = run_live(rt, alloc, other, limit, &NoGate)?;
     Ok((schedule, machine, ending))
 }

@@ -7,9 +7,7 @@ use thread_machine::Choice;
 /// Where a fault is.
 pub fn place_of(fault: ScheduleFault) -> Option<u64> {
     match fault {
-        ScheduleFault::Byte(at) => Some(at),
-        ScheduleFault::Number(at) => Some(at),
-        ScheduleFault::Repeat(at) => Some(at),
+        ScheduleFault::Byte(at) | ScheduleFault::Number(at) | ScheduleFault::Repeat(at) => Some(at),
         ScheduleFault::Memory => None,
     }
 }
@@ -25,8 +23,6 @@ pub fn read(piece: &[u8], runs: &mut Vec<Run>) -> Result<(), ScheduleFault>
     requires { length piece.now < 9223372036854775807 }
 {
     let mut reader: Reader = Reader::new();
-    let fed: Result<(), ScheduleFault> = reader.feed(piece, runs);
-    fed?;
-    let finished: Result<(), ScheduleFault> = reader.finish(runs);
-    finished
+    reader.feed(piece, runs)?;
+    reader.finish(runs)
 }

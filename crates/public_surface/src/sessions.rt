@@ -10,8 +10,7 @@ use thread_machine::{Choice, Event, Machine, StepFault};
 /// How many choices were played.
 pub fn played(stop: Stop) -> (u64, Option<StepFault>) {
     match stop {
-        Stop::Break(count) => (count, None),
-        Stop::End(count) => (count, None),
+        Stop::Break(count) | Stop::End(count) => (count, None),
         Stop::Fault(count, fault) => (count, Some(fault)),
     }
 }
@@ -29,8 +28,7 @@ pub fn debugger(alloc: Global, machine: Machine, kept: u16) -> Result<Debugger, 
     requires some { 0 < kept }
     requires few { kept ≤ 4096 }
 {
-    let made: Result<Debugger, AllocError> = Debugger::new(alloc, machine, kept);
-    made
+    Debugger::new(alloc, machine, kept)
 }
 
 /// What a debugger does.
@@ -43,8 +41,7 @@ pub fn session<K: Sink>(
 ) -> Result<bool, CommandFault> {
     let _: &Machine = debugger.machine();
     let _: Result<Event, StepFault> = debugger.step(choice);
-    let back: Result<(), NoHistory> = debugger.back();
-    if let Err(NoHistory) = back {
+    if let Err(NoHistory) = debugger.back() {
         return Ok(true);
     }
     let _: bool = debugger.set_break(0u16);
@@ -52,6 +49,5 @@ pub fn session<K: Sink>(
     let _: Stop = debugger.go(runs);
     let stop: Stop = debugger.go_on(Stop::End(0), choice);
     let _: Result<(), Failed> = say_stop(output, stop);
-    let goes_on: Result<bool, CommandFault> = debugger.command(line, output);
-    goes_on
+    debugger.command(line, output)
 }

@@ -14,10 +14,11 @@ pub fn of_one<F: Source, K: Sink, E: Sink>(
     output: &mut K,
     errors: &mut E,
 ) -> [u8; 3] {
-    let both: u8 = both_cmd(alloc, file, output, errors);
-    let asm: u8 = asm_cmd(alloc, file, output, errors);
-    let list: u8 = list_cmd(alloc, file, output, errors);
-    [both, asm, list]
+    [
+        both_cmd(alloc, file, output, errors),
+        asm_cmd(alloc, file, output, errors),
+        list_cmd(alloc, file, output, errors),
+    ]
 }
 
 /// The commands of two inputs.
@@ -28,10 +29,11 @@ pub fn of_two<F: Source, S: Source, K: Sink, E: Sink>(
     output: &mut K,
     errors: &mut E,
 ) -> [u8; 3] {
-    let run: u8 = run_cmd(alloc, file, other, output, errors);
-    let debug: u8 = debug_cmd(alloc, file, other, output, errors);
-    let compare: u8 = compare_cmd(alloc, file, other, output, errors);
-    [run, debug, compare]
+    [
+        run_cmd(alloc, file, other, output, errors),
+        debug_cmd(alloc, file, other, output, errors),
+        compare_cmd(alloc, file, other, output, errors),
+    ]
 }
 
 /// The commands that start threads.
@@ -45,7 +47,8 @@ pub fn of_threads<R: Threads + Wait + Sync, F: Source, K: Sink, E: Sink>(
 ) -> [u8; 2]
     requires { limit ≤ 1000000000 }
 {
-    let live: u8 = live_cmd(rt, alloc, limit, file, output, errors);
-    let race: u8 = race_cmd(rt, alloc, 2u16, 1000u32, output, errors);
-    [live, race]
+    [
+        live_cmd(rt, alloc, limit, file, output, errors),
+        race_cmd(rt, alloc, 2u16, 1000u32, output, errors),
+    ]
 }

@@ -25,12 +25,8 @@ pub fn number_of(kind: AsmFaultKind) -> u8 {
 
 /// A text's canonical text, or the line and the kind of its first fault.
 pub fn canonical(alloc: Global, text: &[u8]) -> Result<Result<Vec<u8>, AllocError>, (u64, u8)> {
-    let made: Result<Image, AsmFault> = assemble(alloc, text);
-    match made {
-        Ok(image) => {
-            let listed: Result<Vec<u8>, AllocError> = disassemble(alloc, &image);
-            Ok(listed)
-        }
+    match assemble(alloc, text) {
+        Ok(image) => Ok(disassemble(alloc, &image)),
         Err(AsmFault { line, kind }) => Err((line, number_of(kind))),
     }
 }

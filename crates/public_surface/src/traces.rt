@@ -14,9 +14,7 @@ pub fn of_run(fault: RunFault) -> (Option<LoadFault>, Option<ScheduleFault>) {
     match fault {
         RunFault::Load(fault) => (Some(fault), None),
         RunFault::Schedule(fault) => (None, Some(fault)),
-        RunFault::Memory => (None, None),
-        RunFault::Read => (None, None),
-        RunFault::Write => (None, None),
+        RunFault::Memory | RunFault::Read | RunFault::Write => (None, None),
     }
 }
 
@@ -24,8 +22,7 @@ pub fn of_run(fault: RunFault) -> (Option<LoadFault>, Option<ScheduleFault>) {
 pub fn of_comparison(fault: CompareFault) -> Option<LoadFault> {
     match fault {
         CompareFault::Load(fault) => Some(fault),
-        CompareFault::Memory => None,
-        CompareFault::Read => None,
+        CompareFault::Memory | CompareFault::Read => None,
     }
 }
 
@@ -33,8 +30,7 @@ pub fn of_comparison(fault: CompareFault) -> Option<LoadFault> {
 pub fn line_of(verdict: Verdict) -> Option<u64> {
     match verdict {
         Verdict::Same => None,
-        Verdict::Differs { line } => Some(line),
-        Verdict::NotATrace { line } => Some(line),
+        Verdict::Differs { line } | Verdict::NotATrace { line } => Some(line),
     }
 }
 
@@ -47,14 +43,10 @@ pub fn lines(
     machine: &Machine,
 ) -> Result<Vec<u8>, AllocError> {
     let step: u64 = machine.choices();
-    let written: Result<(), AllocError> = event_line(text, step, choice, 0u16, event);
-    written?;
-    let limit: Result<(), AllocError> = refusal_line(text, step, choice, Some(0u16));
-    limit?;
-    let none: Result<(), AllocError> = refusal_line(text, step, choice, None);
-    none?;
-    let state: Result<Vec<u8>, AllocError> = state_text(alloc, machine);
-    state
+    event_line(text, step, choice, 0u16, event)?;
+    refusal_line(text, step, choice, Some(0u16))?;
+    refusal_line(text, step, choice, None)?;
+    state_text(alloc, machine)
 }
 
 /// A run's trace.
@@ -64,12 +56,10 @@ pub fn run<S: Source, K: Sink>(
     schedule: &mut S,
     output: &mut K,
 ) -> Result<(), RunFault> {
-    let written: Result<(), RunFault> = run_text(alloc, image, schedule, output);
-    written
+    run_text(alloc, image, schedule, output)
 }
 
 /// What is said of a trace.
 pub fn verdict<S: Source>(alloc: Global, image: Image, trace: &mut S) -> Option<u64> {
-    let compared: Result<Verdict, CompareFault> = compare(alloc, image, trace);
-    line_of(compared.ok()?)
+    line_of(compare(alloc, image, trace).ok()?)
 }

@@ -22,10 +22,8 @@ pub fn place_of(fault: DeclareFault) -> u8 {
 /// What a registration is told.
 pub fn registered(answer: Registered) -> Option<i32> {
     match answer {
-        Registered::At(phase) => Some(phase),
-        Registered::Dead(view) => Some(view),
-        Registered::Held => None,
-        Registered::TooMany => None,
+        Registered::At(number) | Registered::Dead(number) => Some(number),
+        Registered::Held | Registered::TooMany => None,
     }
 }
 
@@ -34,8 +32,7 @@ pub fn arrive(forest: &mut Forest, id: PhaserId, leave: bool, ends: bool) -> Opt
     requires { id.0 < length forest.old }
 {
     forest.is_forest();
-    let answer: Arrived = forest.arrive(id, leave);
-    match answer {
+    match forest.arrive(id, leave) {
         Arrived::At(phase) => Some(phase),
         Arrived::Turning {
             root,
@@ -58,34 +55,32 @@ pub fn arrive(forest: &mut Forest, id: PhaserId, leave: bool, ends: bool) -> Opt
 pub fn counts(forest: &Forest, id: PhaserId) -> (i32, u16, u16, u16)
     requires { id.0 < length forest.now }
 {
-    let view: i32 = forest.phase(id);
-    let parties: u16 = forest.parties(id);
-    let arrived: u16 = forest.arrived(id);
-    let unarrived: u16 = forest.unarrived(id);
-    (view, parties, arrived, unarrived)
+    (
+        forest.phase(id),
+        forest.parties(id),
+        forest.arrived(id),
+        forest.unarrived(id),
+    )
 }
 
 /// Where a phaser stands, and its policy.
 pub fn place(forest: &Forest, id: PhaserId) -> (Option<PhaserId>, PhaserId, Policy, bool)
     requires { id.0 < length forest.now }
 {
-    let parent: Option<PhaserId> = forest.parent(id);
-    let root: PhaserId = forest.root(id);
-    let policy: Policy = forest.policy(id);
-    let terminated: bool = forest.is_terminated(id);
-    (parent, root, policy, terminated)
+    (
+        forest.parent(id),
+        forest.root(id),
+        forest.policy(id),
+        forest.is_terminated(id),
+    )
 }
 
 /// A root and a child.
 pub fn forest(alloc: Global, parties: i32, policy: Policy) -> Result<Forest, DeclareFault> {
-    let made: Result<Forest, AllocError> = Forest::new(alloc);
-    let mut forest: Forest = made.map_err(|_| DeclareFault::Memory)?;
+    let mut forest: Forest = Forest::new(alloc).map_err(|_| DeclareFault::Memory)?;
     let phase: Phase = Phase::prevailing(0);
-    let root: PhaserId = forest.declare(None, parties, policy, phase)?;
-    let PhaserId(number) = root;
-    let _: u8 = number;
-    let child: Result<PhaserId, DeclareFault> = forest.declare(Some(root), 1i32, policy, phase);
-    child?;
+    let PhaserId(number) = forest.declare(None, parties, policy, phase)?;
+    forest.declare(Some(PhaserId(number)), 1i32, policy, phase)?;
     Ok(forest)
 }
 
@@ -97,8 +92,7 @@ pub fn changed(alloc: Global, forest: &mut Forest, id: PhaserId) -> Result<(), A
     let saved: Saved = forest.save(id);
     let _: Registered = forest.register(id, 1u32);
     forest.restore(saved);
-    let copied: Result<Forest, AllocError> = forest.copy(alloc);
-    let mut copy: Forest = copied?;
+    let mut copy: Forest = forest.copy(alloc)?;
     copy.force(id);
     Ok(())
 }

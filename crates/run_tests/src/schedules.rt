@@ -1,12 +1,10 @@
 //! Streams of tokens, cut anywhere, and the first fault of those that are none.
-ghost use Rattle.std.specs.Prelude.{◌≤◌, ◌<◌, All, length};
-ghost use Rattle.schedule_reader.specs.Schedule.{IsRun};
+ghost use Rattle.std.specs.Prelude.{◌<◌, length};
 
 use schedule_reader::ScheduleFault::{self, Byte, Number, Repeat};
-use schedule_reader::{Reader, Run, write_schedule};
-use std::alloc::{AllocError, Global};
+use schedule_reader::{Reader, Run};
+use std::alloc::Global;
 use std::process::Abort;
-use std::test::Fail;
 
 /// A stream, its tokens (whether an expiry, thread, times) before the first fault, and that fault.
 type Example = (
@@ -97,43 +95,4 @@ fn each_cut_of_a_stream_is_read_alike(rt: HostRuntime) {
     for example in &EXAMPLES {
         check_cuts(&rt, rt.alloc(), example);
     }
-}
-
-/// Texts, and what is written of their runs.
-const WRITTEN: [(&str, &str); 6] = [
-    ("", ""),
-    ("\tt3\r\n", "t3"),
-    ("t1*1 t1", "t1 t1"),
-    ("x05*0000000002\nt63", "x5*2 t63"),
-    ("t63*1000000000 x0 x10*10", "t63*1000000000 x0 x10*10"),
-    ("t0*999999999\tt09 x62*1", "t0*999999999 t9 x62"),
-];
-
-/// Adds the runs of a whole text to a list.
-fn read_text(text: &[u8], runs: &mut Vec<Run>) -> Result<(), ScheduleFault>
-    requires { length text.now < 1000 }
-    ensures { All IsRun runs.old.items → All IsRun runs.new.items }
-{
-    let mut reader = Reader::new();
-    reader.feed(text, runs)?;
-    reader.finish(runs)
-}
-
-/// Whether a text's runs are written as this text.
-fn is_written_as(alloc: Global, text: &[u8], written: &str) -> Result<bool, AllocError>
-    requires { length text.now < 1000 }
-{
-    let mut runs = Vec::new(alloc);
-    let read = read_text(text, &mut runs);
-    let back = write_schedule(alloc, runs.as_slice())?;
-    Ok(read.is_ok() && back.as_str() == written)
-}
-
-#[test]
-fn what_was_read_is_written(rt: HostRuntime) -> Result<(), Fail> {
-    for (text, written) in &WRITTEN {
-        assert!(rt; text.len() < 1000);
-        assert!(rt; is_written_as(rt.alloc(), text.as_bytes(), written)?);
-    }
-    Ok(())
 }

@@ -35,27 +35,3 @@ fn blocks_are_handed_on(rt: HostRuntime) -> Result<(), Fail> {
     }
     Ok(())
 }
-
-#[test]
-fn a_sink_that_fails_is_told_of_at_the_end(rt: HostRuntime) -> Result<(), Fail> {
-    let sink = MemorySink::new(rt.alloc(), 2, None)?;
-    let mut port = BlockPort::new(rt.alloc(), sink)?;
-    assert!(rt; port.push(b"abc").is_ok());
-    assert!(rt; port.into_inner().is_err());
-    Ok(())
-}
-
-#[test]
-fn a_port_fails_for_good(rt: HostRuntime) -> Result<(), Fail> {
-    let sink = MemorySink::new(rt.alloc(), 2 * BLOCK, Some(0))?;
-    let mut port = BlockPort::new(rt.alloc(), sink)?;
-    let piece = Vec::from_elem(rt.alloc(), b'a', BLOCK)?;
-    let answers = [
-        port.push(piece.as_slice()).is_ok(),
-        port.push(b"b").is_ok(),
-        port.push(b"").is_ok(),
-        port.into_inner().is_ok(),
-    ];
-    assert_eq!(rt; answers, [true, false, false, false]);
-    Ok(())
-}

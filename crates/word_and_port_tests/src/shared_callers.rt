@@ -3,6 +3,7 @@ ghost use Rattle.std.specs.Prelude.{◌≡◌, IfOk};
 ghost use Rattle.shared_phaser.specs.Known.{phaser_of};
 
 use Call::{Arrive, Force, Register};
+use Policy::{Default, Never, Until};
 use Reply::{Counted, Dead, TooMany};
 use packed_phaser::Policy;
 use phase_number::Phase;
@@ -16,67 +17,32 @@ use std::thread::{Threads, join};
 type Row = (u16, i32, Policy, Call, Reply, u64);
 
 const ROWS: [Row; 12] = [
-    (65535, 0, Policy::Default, Register(1), TooMany, 0xffffffff),
-    (
-        65535,
-        0,
-        Policy::Default,
-        Register(0),
-        Counted(0),
-        0xffffffff,
-    ),
-    (1, 7, Policy::Default, Register(2), Counted(7), 0x700030003),
-    (0, 0, Policy::Default, Arrive(false), Reply::NotThere, 0x1),
-    (2, 0, Policy::Default, Arrive(false), Counted(0), 0x20001),
+    (65535, 0, Default, Register(1), TooMany, 0xffffffff),
+    (65535, 0, Default, Register(0), Counted(0), 0xffffffff),
+    (1, 7, Default, Register(2), Counted(7), 0x700030003),
+    (0, 0, Default, Arrive(false), Reply::NotThere, 0x1),
+    (2, 0, Default, Arrive(false), Counted(0), 0x20001),
+    (1, 0, Default, Arrive(false), Counted(0), 0x100010001),
+    (1, 0, Default, Arrive(true), Counted(0), 0x8000000100000000),
+    (1, 0, Never, Arrive(true), Counted(0), 0x100000001),
     (
         1,
         0,
-        Policy::Default,
-        Arrive(false),
-        Counted(0),
-        0x100010001,
-    ),
-    (
-        1,
-        0,
-        Policy::Default,
-        Arrive(true),
-        Counted(0),
-        0x8000000100000000,
-    ),
-    (1, 0, Policy::Never, Arrive(true), Counted(0), 0x100000001),
-    (
-        1,
-        0,
-        Policy::Until(0),
+        Until(0),
         Arrive(false),
         Counted(0),
         0x8000000100010000,
     ),
-    (
-        1,
-        0,
-        Policy::Until(1),
-        Arrive(false),
-        Counted(0),
-        0x100010001,
-    ),
+    (1, 0, Until(1), Arrive(false), Counted(0), 0x100010001),
     (
         1,
         2147483647,
-        Policy::Default,
+        Default,
         Arrive(false),
         Counted(2147483647),
         0x10001,
     ),
-    (
-        2,
-        3,
-        Policy::Default,
-        Force,
-        Dead(-2147483645),
-        0x8000000300020002,
-    ),
+    (2, 3, Default, Force, Dead(-2147483645), 0x8000000300020002),
 ];
 
 fn made(alloc: Global, parties: u16, policy: Policy) -> Result<(SharedPhaser, Party), Fail>
@@ -91,9 +57,9 @@ fn tried(phaser: &SharedPhaser, party: &mut Party, call: Call) -> Option<Reply>
     ensures { phaser_of party.new ≡ phaser.now }
 {
     let made = match call {
-        Call::Register(parties) => phaser.register_within(party, parties, 1),
-        Call::Arrive(leave) => phaser.arrive_within(party, leave, 1),
-        Call::Force => phaser.force_within(party, 1),
+        Register(parties) => phaser.register_within(party, parties, 1),
+        Arrive(leave) => phaser.arrive_within(party, leave, 1),
+        Force => phaser.force_within(party, 1),
         _ => return None,
     };
     made.ok()
@@ -105,10 +71,10 @@ fn called<R: Wait>(rt: &R, phaser: &SharedPhaser, party: &mut Party, call: Call)
     ensures { phaser_of party.new ≡ phaser.now }
 {
     match call {
-        Call::Register(parties) => Some(phaser.register(rt, party, parties)),
-        Call::Arrive(false) => Some(phaser.arrive(rt, party)),
-        Call::Arrive(true) => Some(phaser.arrive_and_deregister(rt, party)),
-        Call::Force => Some(phaser.force(rt, party)),
+        Register(parties) => Some(phaser.register(rt, party, parties)),
+        Arrive(false) => Some(phaser.arrive(rt, party)),
+        Arrive(true) => Some(phaser.arrive_and_deregister(rt, party)),
+        Force => Some(phaser.force(rt, party)),
         _ => None,
     }
 }
@@ -148,7 +114,7 @@ static SESSIONS: [Session; 2] = [
     (
         2,
         3,
-        Policy::Default,
+        Default,
         &[
             (Force, Dead(-2147483645), 0x8000000300020002),
             (Force, Dead(-2147483645), 0x8000000300020002),
@@ -158,7 +124,7 @@ static SESSIONS: [Session; 2] = [
     (
         1,
         0,
-        Policy::Never,
+        Never,
         &[
             (Arrive(true), Counted(0), 0x100000001),
             (Arrive(false), Reply::NotThere, 0x100000001),
@@ -198,14 +164,14 @@ fn calls_in_a_row(rt: HostRuntime) -> Result<(), Fail> {
 fn stays_terminated<R: Wait>(rt: &R, phaser: &SharedPhaser, party: &mut Party) -> bool
     requires { phaser_of party.old ≡ phaser.now }
 {
-    phaser.force_within(party, 1) == Ok(Reply::Dead(-2147483648))
+    phaser.force_within(party, 1) == Ok(Dead(-2147483648))
         && phaser.await_advance(rt, party, 0) == -2147483648
         && phaser.arrive_and_await_advance(rt, party) == Ok(-2147483648)
 }
 
 #[test]
 fn a_terminated_phaser_stays_so(rt: HostRuntime) -> Result<(), Fail> {
-    let (phaser, mut party) = made(rt.alloc(), 2, Policy::Default)?;
+    let (phaser, mut party) = made(rt.alloc(), 2, Default)?;
     assert!(rt; stays_terminated(&rt, &phaser, &mut party));
     Ok(())
 }
@@ -217,19 +183,19 @@ fn waits_for_nobody<R: Wait>(rt: &R, phaser: &SharedPhaser, party: &mut Party) -
     phaser.await_advance(rt, party, -5) == -5
         && phaser.await_advance(rt, party, 3) == 0
         && phaser.arrive_and_await_advance(rt, party) == Ok(1)
-        && phaser.arrive_and_deregister(rt, party) == Reply::Counted(1)
+        && phaser.arrive_and_deregister(rt, party) == Counted(1)
 }
 
 #[test]
 fn waits_that_are_over(rt: HostRuntime) -> Result<(), Fail> {
-    let (phaser, mut party) = made(rt.alloc(), 1, Policy::Default)?;
+    let (phaser, mut party) = made(rt.alloc(), 1, Default)?;
     assert!(rt; waits_for_nobody(&rt, &phaser, &mut party));
     Ok(())
 }
 
 #[test]
 fn a_stray_cannot_wait(rt: HostRuntime) -> Result<(), Fail> {
-    let (phaser, mut party) = made(rt.alloc(), 0, Policy::Default)?;
+    let (phaser, mut party) = made(rt.alloc(), 0, Default)?;
     let answer = phaser.arrive_and_await_advance(&rt, &mut party);
     assert!(rt; answer == Err(NotThere));
     Ok(())
@@ -237,19 +203,19 @@ fn a_stray_cannot_wait(rt: HostRuntime) -> Result<(), Fail> {
 
 #[test]
 fn two_callers_of_one_phaser(rt: HostRuntime) -> Result<(), Fail> {
-    let (phaser, mut first) = made(rt.alloc(), 1, Policy::Default)?;
+    let (phaser, mut first) = made(rt.alloc(), 1, Default)?;
     let mut second = phaser.split(&mut first);
     let reply = phaser.register_within(&mut second, 2, 1);
-    assert_eq!(rt; reply, Ok(Reply::Counted(0)));
+    assert_eq!(rt; reply, Ok(Counted(0)));
     assert_eq!(rt; phaser.look(&mut first).parties(), 3);
     Ok(())
 }
 
 /// The word of a phaser of two parties, closed behind one arrival of each of two callers.
 fn word_of_two(alloc: Global) -> Result<Option<u64>, Fail> {
-    let (phaser, mut first) = made(alloc, 2, Policy::Default)?;
+    let (phaser, mut first) = made(alloc, 2, Default)?;
     let mut second = phaser.split(&mut first);
-    let arrived = Ok(Reply::Counted(0));
+    let arrived = Ok(Counted(0));
     let both = phaser.arrive_within(&mut first, false, 1) == arrived
         && phaser.arrive_within(&mut second, false, 1) == arrived;
     phaser.join(&mut first, second);
@@ -260,7 +226,7 @@ fn word_of_two(alloc: Global) -> Result<Option<u64>, Fail> {
 #[test]
 fn closed_words(rt: HostRuntime) -> Result<(), Fail> {
     assert!(rt; word_of_two(rt.alloc())? == Some(0x100020002));
-    let (phaser, first) = made(rt.alloc(), 2, Policy::Default)?;
+    let (phaser, first) = made(rt.alloc(), 2, Default)?;
     let word = phaser.close(first).raw();
     assert!(rt; word == 0x20002);
     Ok(())
@@ -272,7 +238,7 @@ fn released<R: Threads + Wait + Sync>(
     alloc: Global,
     call: Call,
 ) -> Result<(i32, Option<Reply>), Fail> {
-    let (phaser, mut first) = made(alloc, 1, Policy::Default)?;
+    let (phaser, mut first) = made(alloc, 1, Default)?;
     let mut second = phaser.split(&mut first);
     let shared = &phaser;
     let waiting = &mut first;
@@ -286,9 +252,9 @@ fn released<R: Threads + Wait + Sync>(
 
 /// The call, what it answers, and what the thread that waits is told.
 const RELEASING: [(Call, Reply, i32); 3] = [
-    (Call::Arrive(false), Reply::Counted(0), 1),
-    (Call::Arrive(true), Reply::Counted(0), -2147483647),
-    (Call::Force, Reply::Dead(-2147483648), -2147483648),
+    (Arrive(false), Counted(0), 1),
+    (Arrive(true), Counted(0), -2147483647),
+    (Force, Dead(-2147483648), -2147483648),
 ];
 
 #[test]

@@ -1,0 +1,241 @@
+//! Ports over readers and writers that fail or are interrupted.
+use byte_ports::{ReadPort, Sink, Source, WritePort};
+use std::alloc::Global;
+use std::io;
+use std::io::{BufWriter, ErrorKind, Read, Write};
+use std::test::Fail;
+
+/// The calls of a reader or a writer. The first are interrupted, and one may fail.
+#[derive(Clone, Copy)]
+struct Calls {
+    interruptions: u32,
+    fails_at: Option<u32>,
+    made: u32,
+}
+
+impl Calls {
+    fn new(interruptions: u32, fails_at: Option<u32>) -> Calls {
+        Calls {
+            interruptions,
+            fails_at,
+            made: 0,
+        }
+    }
+
+    fn next(&mut self) -> io::Result<()> {
+        let call = self.made;
+        self.made = call.saturating_add(1);
+        if call < self.interruptions {
+            return Err(ErrorKind::Interrupted.into());
+        }
+        if self.fails_at == Some(call) {
+            return Err(ErrorKind::BrokenPipe.into());
+        }
+        Ok(())
+    }
+}
+
+/// A reader that gives one byte a call.
+#[derive(Drop)]
+struct FakeReader<'a> {
+    rest: &'a [u8],
+    calls: Calls,
+}
+
+impl Read for FakeReader<'_> {
+    fn read(&mut self, buffer: &mut [u8]) -> io::Result<usize> {
+        self.calls.next()?;
+        if buffer.is_empty() || self.rest.is_empty() {
+            return Ok(0);
+        }
+        buffer[0] = self.rest[0];
+        self.rest = &self.rest[1..];
+        Ok(1)
+    }
+}
+
+/// The reader's call that fails, how many of six calls of the port come before it, what those gave,
+/// and how often the reader was called.
+const FAILING_READS: [(Option<u32>, usize, &[u8; 13], u32); 6] = [
+    (Some(0), 0, b".............", 1),
+    (Some(1), 1, b"a............", 2),
+    (Some(2), 2, b"ab...........", 3),
+    (Some(3), 3, b"abc..........", 4),
+    (Some(4), 4, b"abc..........", 5),
+    (None, 6, b"abc..........", 6),
+];
+
+/// Whether of six calls with a buffer of 8 bytes just so many succeed before the first that fails,
+/// and give such bytes, at most one each.
+fn gives<R: Read>(port: &mut ReadPort<R>, succeeding: usize, bytes: &[u8; 13]) -> bool {
+    let mut given = [b'.'; 13];
+    let mut is_as_wanted = true;
+    for call in 0..6usize {
+        let succeeds = port.pull(&mut given[call..call + 8]).is_ok();
+        is_as_wanted = is_as_wanted && succeeds == (call < succeeding);
+    }
+    is_as_wanted && given == *bytes
+}
+
+#[test]
+fn fails_with_its_reader(rt: HostRuntime) {
+    for (fails_at, succeeding, bytes, calls) in &FAILING_READS {
+        let mut reader = FakeReader {
+            rest: b"abc",
+            calls: Calls::new(0, *fails_at),
+        };
+        let mut port = ReadPort::new(&mut reader);
+        assert!(rt; gives(&mut port, *succeeding, *bytes), "{fails_at:?}");
+        assert!(rt; reader.calls.made == *calls, "{fails_at:?}");
+    }
+}
+
+/// How many calls of the reader are interrupted, whether the port's first call gives a byte, and
+/// the reader's calls.
+const INTERRUPTED_READS: [(u32, bool, u32); 5] = [
+    (0, true, 1),
+    (1, true, 2),
+    (999, true, 1000),
+    (1000, false, 1000),
+    (1001, false, 1000),
+];
+
+/// Whether the first call gives a byte, as is said, or this call and the next fail.
+fn gives_one_or_fails<R: Read>(port: &mut ReadPort<R>, gives: bool) -> bool {
+    let mut buffer = [0; 8];
+    if gives {
+        port.pull(&mut buffer) == Ok(1)
+    } else {
+        port.pull(&mut buffer).is_err() && port.pull(&mut buffer).is_err()
+    }
+}
+
+#[test]
+fn tries_an_interrupted_read_again(rt: HostRuntime) {
+    for (interruptions, gives, calls) in &INTERRUPTED_READS {
+        let mut reader = FakeReader {
+            rest: b"a",
+            calls: Calls::new(*interruptions, None),
+        };
+        let mut port = ReadPort::new(&mut reader);
+        assert!(rt; gives_one_or_fails(&mut port, *gives), "{interruptions}");
+        assert!(rt; reader.calls.made == *calls, "{interruptions}");
+    }
+}
+
+/// A writer that takes two bytes a call at most. A call is a write or a flush.
+#[derive(Drop)]
+struct FakeWriter {
+    kept: Vec<u8>,
+    calls: Calls,
+    flushes: u32,
+}
+
+impl FakeWriter {
+    fn new(alloc: Global, interruptions: u32, fails_at: Option<u32>) -> FakeWriter {
+        FakeWriter {
+            kept: Vec::new(alloc),
+            calls: Calls::new(interruptions, fails_at),
+            flushes: 0,
+        }
+    }
+
+    fn has_met(&self, bytes: &[u8], calls: u32, flushes: u32) -> bool {
+        self.kept.as_slice() == bytes && self.calls.made == calls && self.flushes == flushes
+    }
+}
+
+impl Write for FakeWriter {
+    fn write(&mut self, bytes: &[u8]) -> io::Result<usize> {
+        self.calls.next()?;
+        let count = bytes.len().min(2);
+        self.kept.extend_from_slice(&bytes[..count])?;
+        Ok(count)
+    }
+
+    fn flush(&mut self) -> io::Result<()> {
+        self.calls.next()?;
+        self.flushes = self.flushes.saturating_add(1);
+        Ok(())
+    }
+}
+
+/// The writer's call that fails; how many of the calls of `succeeds` come before it; what was
+/// written; how often the writer was called; how often it flushed.
+const FAILING_WRITES: [(Option<u32>, usize, &[u8], u32, u32); 7] = [
+    (Some(0), 0, b"", 1, 0),
+    (Some(1), 0, b"ab", 2, 0),
+    (Some(2), 1, b"abc", 3, 0),
+    (Some(3), 3, b"abcde", 4, 0),
+    (Some(4), 4, b"abcde", 5, 1),
+    (Some(5), 5, b"abcde", 5, 2),
+    (None, 5, b"abcde", 5, 2),
+];
+
+/// Pushes 3 bytes, 2, and none, and finishes twice: whether just so many of these calls succeed
+/// before the first that fails.
+fn succeeds<W: Write>(port: &mut WritePort<W>, succeeding: usize) -> bool {
+    let pushed = [
+        port.push(b"abc").is_ok(),
+        port.push(b"de").is_ok(),
+        port.push(b"").is_ok(),
+    ];
+    let finished = [port.finish().is_ok(), port.finish().is_ok()];
+    pushed == [0 < succeeding, 1 < succeeding, 2 < succeeding]
+        && finished == [3 < succeeding, 4 < succeeding]
+}
+
+#[test]
+fn fails_with_its_writer(rt: HostRuntime) {
+    for (fails_at, succeeding, bytes, calls, flushes) in &FAILING_WRITES {
+        let mut writer = FakeWriter::new(rt.alloc(), 0, *fails_at);
+        let mut port = WritePort::new(&mut writer);
+        assert!(rt; succeeds(&mut port, *succeeding), "{fails_at:?}");
+        assert!(rt; writer.has_met(*bytes, *calls, *flushes), "{fails_at:?}");
+    }
+}
+
+/// How many calls of the writer are interrupted, whether the flush succeeds, and the writer's
+/// calls.
+const INTERRUPTED_FLUSHES: [(u32, bool, u32); 3] = [
+    (0, true, 1),
+    (999, true, 1000),
+    (1000, false, 1000),
+];
+
+#[test]
+fn tries_an_interrupted_flush_again(rt: HostRuntime) {
+    for (interruptions, succeeds, calls) in &INTERRUPTED_FLUSHES {
+        let mut writer = FakeWriter::new(rt.alloc(), *interruptions, None);
+        let mut port = WritePort::new(&mut writer);
+        assert!(rt; port.finish().is_ok() == *succeeds, "{interruptions}");
+        assert!(rt; writer.calls.made == *calls, "{interruptions}");
+    }
+}
+
+#[test]
+fn tries_an_interrupted_write_again(rt: HostRuntime) {
+    let mut writer = FakeWriter::new(rt.alloc(), 3, None);
+    let mut port = WritePort::new(&mut writer);
+    assert!(rt; port.push(b"abc").is_ok());
+    assert!(rt; writer.kept.as_slice() == b"abc".as_slice());
+}
+
+/// Whether a push succeeds, the `finish` behind it fails, and every later call too.
+fn fails_late<W: Write>(port: &mut WritePort<W>) -> bool {
+    let answers = [
+        port.push(b"abc").is_ok(),
+        port.finish().is_ok(),
+        port.push(b"de").is_ok(),
+        port.finish().is_ok(),
+    ];
+    answers == [true, false, false, false]
+}
+
+#[test]
+fn fails_late_behind_a_buffer(rt: HostRuntime) -> Result<(), Fail> {
+    let mut writer = FakeWriter::new(rt.alloc(), 0, Some(0));
+    let mut port = WritePort::new(BufWriter::new(rt.alloc(), &mut writer)?);
+    assert!(rt; fails_late(&mut port));
+    Ok(())
+}

@@ -1,0 +1,4 @@
+.phaser p 2
+.thread a main
+main: paaa r0 p
+halt
