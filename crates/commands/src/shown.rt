@@ -1,6 +1,7 @@
 //! What follows a verdict.
-ghost use Rattle.std.specs.Prelude.{◌≡◌, [], IfOk};
-ghost use Rattle.trace_compare.specs.declared.comparison.Verdict.{Verdict};
+ghost use Rattle.std.specs.Prelude.{◌≡◌, ◌++◌, IfOk, OnOk, codes, option_map};
+ghost use Rattle.trace_compare.specs.Compare.{told};
+ghost use Rattle.commands.specs.Showing.{StandsBehind, line_behind};
 
 use crate::lines_seen::LinesSeen;
 use std::alloc::{AllocError, Global};
@@ -11,7 +12,9 @@ const WANTED: &[u8] =
     b"wanted STEP tN ROW WHAT, STEP xN ROW WHAT, or the lines of a state, from state CHOICES STEPS WORD on\n";
 
 /// A line behind a word; the word alone where there is none.
-fn push_line(text: &mut Vec<u8>, word: &[u8], line: Option<&[u8]>) -> Result<(), AllocError> {
+fn push_line(text: &mut Vec<u8>, word: &[u8], line: Option<&[u8]>) -> Result<(), AllocError>
+    ensures { OnOk result (text.new.items ≡ text.old.items ++ line_behind word.now (option_map (λ l. l.now) line.entry)) }
+{
     text.extend_from_slice(word)?;
     if let Some(line) = line {
         text.extend_from_slice(b" ")?;
@@ -25,7 +28,10 @@ fn differing(
     alloc: Global,
     trace: Option<&[u8]>,
     run: Option<&[u8]>,
-) -> Result<Vec<u8>, AllocError> {
+) -> Result<Vec<u8>, AllocError>
+    ensures { IfOk result (λ text. text.items ≡ line_behind (codes "trace") (option_map (λ l. l.now) trace.entry)
+        ++ line_behind (codes "run") (option_map (λ l. l.now) run.entry)) }
+{
     let mut text = Vec::new(alloc);
     push_line(&mut text, b"trace", trace)?;
     push_line(&mut text, b"run", run)?;
@@ -42,7 +48,7 @@ fn not_a_trace(alloc: Global, trace: Option<&[u8]>) -> Result<Vec<u8>, AllocErro
 
 /// What follows a verdict on the trace that went by: nothing where it is the run's.
 pub fn shown<S>(alloc: Global, judged: &Judged, trace: &LinesSeen<S>) -> Result<Vec<u8>, AllocError>
-    ensures nothing { IfOk result (λ text. judged.now.verdict ≡ Verdict.Same → text.items ≡ []) }
+    ensures { IfOk result (λ text. StandsBehind judged.now.verdict (told judged.now).line text.items) }
 {
     match judged.verdict {
         Verdict::Same => Ok(Vec::new(alloc)),

@@ -1,47 +1,77 @@
 -- Each call at a barrier takes a past that leads to it one call on.
-use Rattle.std.proofs.Common.{◌≡◌, ℕ, ◌<◌, Bool, refl, length, Some, None, inl, inr}
+use Rattle.std.proofs.Common.{◌≡◌, ◌∙◌, ◌⊎◌, ℕ, ◌<◌, Bool, refl, sym, subst, length, Option, Some, None, inl, inr}
 use Rattle.std.specs.Prelude.{◌≢◌}
+use Rattle.cyclic_barrier.specs.declared.answer.WaitState.{WaitState}
 use Rattle.cyclic_barrier.specs.declared.answer.WaitState.TheVariants as state
 use Rattle.cyclic_barrier.specs.Waits.{wait_at}
 use Rattle.cyclic_barrier.specs.PlainBarrier as plain
-use Rattle.cyclic_barrier.specs.PlainBarrier.{PlainBarrier}
+use Rattle.cyclic_barrier.specs.PlainBarrier.{PlainBarrier, state_of}
 use Rattle.cyclic_barrier.specs.Barrier as now
 use Rattle.cyclic_barrier.specs.Barrier.{BarrierState}
 use Rattle.cyclic_barrier.specs.Past.{StandsFor}
 use Rattle.cyclic_barrier.proofs.PastLemmas.{stands-beside, stands-end_action, stands-interrupt, stands-leave, stands-reset}
-use Rattle.headline.specs.Pasts.{GoesOn, Enter, EndAction, Leave, Interrupt, Expire, Reset}
+use Rattle.headline.specs.Pasts.{BarrierCall, GoesOn, Enter, EndAction, Leave, Interrupt, Expire, Reset}
 
--- each past of the one barrier stays or goes on by one call to a past of the other
-abbrev pub GoesTo : BarrierState → BarrierState → Type 0
-GoesTo before after =
-    (past : PlainBarrier) → StandsFor before past → (next : PlainBarrier) × (GoesOn past next × StandsFor after next)
+-- each past of the one barrier stays or goes on by one of these calls to a past of the other
+abbrev pub GoesTo : (PlainBarrier → BarrierCall → Type 0) → BarrierState → BarrierState → Type 0
+GoesTo makes before after =
+    (past : PlainBarrier) → StandsFor before past → (next : PlainBarrier) × (GoesOn (makes past) past next × StandsFor after next)
 
-pub nowhere : (gate : BarrierState) → GoesTo gate gate
-nowhere gate past stands = (past, (inl refl, stands))
+pub nowhere : (makes : PlainBarrier → BarrierCall → Type 0) (gate : BarrierState) → GoesTo makes gate gate
+nowhere makes gate past stands = (past, (inl refl, stands))
 
-pub goes_entered : (t : ℕ) (interrupted no_wait : Bool) (gate : BarrierState) → t < length gate.waits → wait_at gate.waits t ≡ None
-    → GoesTo gate (now.enter_timed t interrupted no_wait gate).barrier
-goes_entered t interrupted no_wait gate there none past stands = (
+pub goes_entered : (makes : PlainBarrier → BarrierCall → Type 0) (t : ℕ) (interrupted no_wait : Bool) (gate : BarrierState)
+    → ((past : PlainBarrier) → makes past (Enter t interrupted no_wait)) → t < length gate.waits → wait_at gate.waits t ≡ None
+    → GoesTo makes gate (now.enter_timed t interrupted no_wait gate).barrier
+goes_entered makes t interrupted no_wait gate made there none past stands = (
   (plain.enter_timed t interrupted no_wait past).barrier,
   (
-    inr (Enter t interrupted no_wait, refl),
+    inr (Enter t interrupted no_wait, (made past, refl)),
     (stands-beside gate.runner past.runner t interrupted no_wait gate past stands.runner there none stands).barrier,
   ),
 )
 
-pub goes_ended : (returned : Bool) (gate : BarrierState) → GoesTo gate (now.end_action returned gate)
-goes_ended returned gate past stands =
-    (plain.end_action returned past, (inr (EndAction returned, refl), stands-end_action returned gate past stands))
+pub goes_ended : (makes : PlainBarrier → BarrierCall → Type 0) (returned : Bool) (gate : BarrierState)
+    → ((past : PlainBarrier) → makes past (EndAction returned)) → GoesTo makes gate (now.end_action returned gate)
+goes_ended makes returned gate made past stands =
+    (plain.end_action returned past, (inr (EndAction returned, (made past, refl)), stands-end_action returned gate past stands))
 
-pub goes_left : (t : ℕ) (gate : BarrierState) → t < length gate.waits → wait_at gate.waits t ≢ Some state.Waiting
-    → GoesTo gate (now.leave t gate)
-goes_left t gate there out past stands = (plain.leave t past, (inr (Leave t, refl), stands-leave t gate past there out stands))
+-- a wait that has ended, or hasn't
+isnt_over : (wait : Option WaitState) → (wait ≡ Some state.Tripped) ⊎ (wait ≡ Some state.Broken) → wait ≢ Some state.Waiting
+isnt_over wait (inl is) waits = cc (is, waits)
+isnt_over wait (inr is) waits = cc (is, waits)
 
-pub goes_interrupted : (t : ℕ) (gate : BarrierState) → t < length gate.waits → GoesTo gate (now.interrupt t gate)
-goes_interrupted t gate there past stands = (plain.interrupt t past, (inr (Interrupt t, refl), stands-interrupt t gate past there stands))
+pub goes_left : (makes : PlainBarrier → BarrierCall → Type 0) (t : ℕ) (gate : BarrierState) → t < length gate.waits
+    → (wait_at gate.waits t ≡ Some state.Tripped) ⊎ (wait_at gate.waits t ≡ Some state.Broken)
+    → ((past : PlainBarrier) → (state_of t past ≡ Some state.Tripped) ⊎ (state_of t past ≡ Some state.Broken) → makes past (Leave t))
+    → GoesTo makes gate (now.leave t gate)
+goes_left makes t gate there over made past stands = (
+  plain.leave t past,
+  (
+    inr (
+      Leave t,
+      (
+        made past
+            (subst (λ (wait : Option WaitState). (wait ≡ Some state.Tripped) ⊎ (wait ≡ Some state.Broken)) (sym (stands.waits t)) over),
+        refl,
+      ),
+    ),
+    stands-leave t gate past there (isnt_over (wait_at gate.waits t) over) stands,
+  ),
+)
 
-pub goes_expired : (t : ℕ) (gate : BarrierState) → t < length gate.waits → GoesTo gate (now.expire t gate)
-goes_expired t gate there past stands = (plain.expire t past, (inr (Expire t, refl), stands-interrupt t gate past there stands))
+pub goes_interrupted : (makes : PlainBarrier → BarrierCall → Type 0) (t : ℕ) (gate : BarrierState) → t < length gate.waits
+    → wait_at gate.waits t ≡ Some state.Waiting → ((past : PlainBarrier) → state_of t past ≡ Some state.Waiting → makes past (Interrupt t))
+    → GoesTo makes gate (now.interrupt t gate)
+goes_interrupted makes t gate there waits made past stands =
+    (plain.interrupt t past, (inr (Interrupt t, (made past (stands.waits t ∙ waits), refl)), stands-interrupt t gate past there stands))
 
-pub goes_reset : (gate : BarrierState) → GoesTo gate (now.reset gate)
-goes_reset gate past stands = (plain.reset past, (inr (Reset, refl), stands-reset gate past stands))
+pub goes_expired : (makes : PlainBarrier → BarrierCall → Type 0) (t : ℕ) (gate : BarrierState) → t < length gate.waits
+    → wait_at gate.waits t ≡ Some state.Waiting → ((past : PlainBarrier) → state_of t past ≡ Some state.Waiting → makes past (Expire t))
+    → GoesTo makes gate (now.expire t gate)
+goes_expired makes t gate there waits made past stands =
+    (plain.expire t past, (inr (Expire t, (made past (stands.waits t ∙ waits), refl)), stands-interrupt t gate past there stands))
+
+pub goes_reset : (makes : PlainBarrier → BarrierCall → Type 0) (gate : BarrierState) → ((past : PlainBarrier) → makes past Reset)
+    → GoesTo makes gate (now.reset gate)
+goes_reset makes gate made past stands = (plain.reset past, (inr (Reset, (made past, refl)), stands-reset gate past stands))

@@ -1,5 +1,5 @@
 -- What a turn makes of the past of each barrier, and of the trees of phasers.
-use Rattle.std.proofs.Common.{◌≡◌, ◌≢◌, ◌∙◌, ℕ, ℤ, pos, zero, suc, ◌<◌, ◌&&◌, not, Bool, true, false, List, [], ◌∷◌, ap, refl, sym, if◌then◌else◌, arith, rules}
+use Rattle.std.proofs.Common.{◌≡◌, ◌≢◌, ◌∙◌, inl, inr, ℕ, ℤ, pos, zero, suc, ◌<◌, ◌&&◌, not, Bool, true, false, List, [], ◌∷◌, ap, refl, sym, if◌then◌else◌, arith, rules}
 use Rattle.std.specs.Ordering.{int_eq}
 use Rattle.std.specs.Prelude.{nat_abs, int_lt, is_some, length, Option, Some, None, slice_set, slice_index_or}
 use Rattle.instruction_table.specs.declared.row.Row.{Row}
@@ -19,7 +19,9 @@ use Rattle.cyclic_barrier.specs.declared.answer.Entered.TheVariants as entered
 use Rattle.cyclic_barrier.specs.declared.answer.WaitState.{WaitState}
 use Rattle.cyclic_barrier.specs.declared.answer.WaitState.TheVariants as state
 use Rattle.cyclic_barrier.specs.Waits.{wait_at}
-use Rattle.cyclic_barrier.specs.Barrier.{BarrierState, Entry, fresh, enter_timed}
+use Rattle.cyclic_barrier.specs.Barrier.{BarrierState, Entry, fresh, enter_timed, has_wait}
+use Rattle.cyclic_barrier.specs.PlainBarrier.{PlainBarrier}
+use Rattle.std.proofs.lemmas.Bool.{and_parts}
 use Rattle.tier_tree.proofs.Stands.{same-is}
 use Rattle.loader.specs.Program.{Program, IsNamed, row_at}
 use Rattle.thread_state.specs.declared.frame.Frame.{Frame}
@@ -41,11 +43,12 @@ use Rattle.machine_scene.specs.BarrierRows.{is_run_by, is_run_by_another, unless
 use Rattle.machine_scene.specs.Unwinding.{outcome_of_popped}
 use Rattle.machine_scene.specs.Waits.{outcome_of_awaited, outcome_of_phase_wait, outcome_of_release, outcome_of_barrier_wait, outcome_of_phase_timeout, outcome_of_barrier_timeout}
 use Rattle.machine_scene.specs.Outcomes.{outcome_in_group, outcome_in, outcome_of, outcome_of_expiry, is_ready, timeout_in}
-use Rattle.machine_scene.specs.Sound.{IsSound}
+use Rattle.machine_scene.specs.Sound.{IsSound, awaits, is_wait_row}
 use Rattle.machine_scene.proofs.Plain.{either, StandsAt}
 use Rattle.machine_scene.proofs.BarrierRows.{seat}
 use Rattle.machine_scene.proofs.CallRows.{can_turn_on_top}
 use Rattle.machine_scene.proofs.Outcomes.{stands_at}
+use Rattle.headline.specs.Pasts.{BarrierCall, Enter, MakesCall}
 use Rattle.headline.specs.PhaseEnds.{answer_of_ret, row_in}
 use Rattle.headline.proofs.BarrierCalls.{GoesTo, nowhere, goes_entered, goes_ended, goes_left, goes_interrupted, goes_expired, goes_reset}
 use Rattle.headline.proofs.TreeCalls.{AsksPolicy, IsQuiet, TreesGo, trees_stay, trees_registered, trees_forced, trees_counted, trees_advanced, trees_ended}
@@ -55,39 +58,47 @@ abbrev pub scene_after : Option Outcome → Scene → Scene
 scene_after (Some outcome) scene = outcome.scene
 scene_after None scene = scene
 
--- the past of each barrier stays or goes on by one call, and the trees go on as they may at this row
+-- the past of each barrier stays or goes on by a call of the thread, and the trees go on as they may at this row
 abbrev pub GoIf : Option Row → ℕ → Scene → Option Outcome → Type 0
 GoIf row t scene outcome =
-    ((b : ℕ) → GoesTo (barrier_at scene b) (barrier_at (scene_after outcome scene) b))
+    ((b : ℕ) → GoesTo (MakesCall row t (thread_at scene t) b) (barrier_at scene b) (barrier_at (scene_after outcome scene) b))
     × TreesGo row (thread_at scene t) scene.phasers (scene_after outcome scene).phasers
 
 -- the barriers stay
-aside : {row : Option Row} {thread : ThreadState} {after : List PhaserState} (scene : Scene) → TreesGo row thread scene.phasers after
-    → ((b : ℕ) → GoesTo (barrier_at scene b) (barrier_at scene b)) × TreesGo row thread scene.phasers after
-aside scene goes = (λ b. nowhere (barrier_at scene b), goes)
+aside : {row : Option Row} {after : List PhaserState} (t : ℕ) (scene : Scene) → TreesGo row (thread_at scene t) scene.phasers after
+    → ((b : ℕ) → GoesTo (MakesCall row t (thread_at scene t) b) (barrier_at scene b) (barrier_at scene b))
+    × TreesGo row (thread_at scene t) scene.phasers after
+aside {row = row} t scene goes = (λ b. nowhere (MakesCall row t (thread_at scene t) b) (barrier_at scene b), goes)
 
 -- and so do the trees
-stay : {row : Option Row} {thread : ThreadState} → IsQuiet row → (scene : Scene)
-    → ((b : ℕ) → GoesTo (barrier_at scene b) (barrier_at scene b)) × TreesGo row thread scene.phasers scene.phasers
-stay {row = row} {thread = thread} quiet scene = aside scene (trees_stay row thread scene.phasers quiet)
+stay : {row : Option Row} (t : ℕ) → IsQuiet row → (scene : Scene)
+    → ((b : ℕ) → GoesTo (MakesCall row t (thread_at scene t) b) (barrier_at scene b) (barrier_at scene b))
+    × TreesGo row (thread_at scene t) scene.phasers scene.phasers
+stay {row = row} t quiet scene = aside {row = row} t scene (trees_stay row (thread_at scene t) scene.phasers quiet)
 
-put : (barriers : List BarrierState) (b : ℕ) (gate : BarrierState) → GoesTo (slice_index_or barriers b (fresh 1 false)) gate → (c : ℕ)
-    → GoesTo (slice_index_or barriers c (fresh 1 false)) (slice_index_or (slice_set barriers b gate) c (fresh 1 false))
-put [] b gate goes c = nowhere (fresh 1 false)
-put (x ∷ barriers) zero gate goes zero = goes
-put (x ∷ barriers) zero gate goes (suc c) = nowhere (slice_index_or barriers c (fresh 1 false))
-put (x ∷ barriers) (suc b) gate goes zero = nowhere x
-put (x ∷ barriers) (suc b) gate goes (suc c) = put barriers b gate goes c
+put : (makes : ℕ → PlainBarrier → BarrierCall → Type 0) (barriers : List BarrierState) (b : ℕ) (gate : BarrierState)
+    → GoesTo (makes b) (slice_index_or barriers b (fresh 1 false)) gate → (c : ℕ)
+    → GoesTo (makes c) (slice_index_or barriers c (fresh 1 false)) (slice_index_or (slice_set barriers b gate) c (fresh 1 false))
+put makes [] b gate goes c = nowhere (makes c) (fresh 1 false)
+put makes (x ∷ barriers) zero gate goes zero = goes
+put makes (x ∷ barriers) zero gate goes (suc c) = nowhere (makes (suc c)) (slice_index_or barriers c (fresh 1 false))
+put makes (x ∷ barriers) (suc b) gate goes zero = nowhere (makes zero) x
+put makes (x ∷ barriers) (suc b) gate goes (suc c) = put (λ n. makes (suc n)) barriers b gate goes c
 
-at_gate : {row : Option Row} {thread : ThreadState} → IsQuiet row → (b : ℕ) (scene : Scene) (gate : BarrierState) → GoesTo (barrier_at scene b) gate
-    → ((c : ℕ) → GoesTo (barrier_at scene c) (barrier_at (with_barrier gate b scene) c)) × TreesGo row thread scene.phasers scene.phasers
-at_gate {row = row} {thread = thread} quiet b scene gate goes = grind (arith, put, trees_stay)
+at_gate : {row : Option Row} (t : ℕ) → IsQuiet row → (b : ℕ) (scene : Scene) (gate : BarrierState)
+    → GoesTo (MakesCall row t (thread_at scene t) b) (barrier_at scene b) gate
+    → ((c : ℕ) → GoesTo (MakesCall row t (thread_at scene t) c) (barrier_at scene c) (barrier_at (with_barrier gate b scene) c))
+    × TreesGo row (thread_at scene t) scene.phasers scene.phasers
+at_gate {row = row} t quiet b scene gate goes = (
+  λ c. put (MakesCall row t (thread_at scene t)) scene.barriers b gate goes c,
+  trees_stay row (thread_at scene t) scene.phasers quiet,
+)
 
 -- rows
 
 own_row : (row : Row) (t : ℕ) (scene : Scene) → IsQuiet (Some row) → GoIf (Some row) t scene (outcome_of_own_row row t scene)
-own_row Halt t scene quiet = stay quiet scene
-own_row _ t scene quiet = stay quiet scene
+own_row Halt t scene quiet = stay t quiet scene
+own_row _ t scene quiet = stay t quiet scene
 
 -- `ret` out of a routine: the phase ends, or the tree was terminated meanwhile
 routine_end : (ended : Bool) (program : Program) (steps t root back : ℕ) (registers : List ℤ) (manner : Manner) (scene : Scene)
@@ -95,11 +106,11 @@ routine_end : (ended : Bool) (program : Program) (steps t root back : ℕ) (regi
     → top_of (thread_at scene t).stack ≡ Some (frame.Advance root registers back)
     → GoIf (Some Ret) t scene
     (Some (outcome_of_routine_end ended manner root (not (int_eq (value_in (thread_at scene t).registers R0) (pos 0))) t (with_thread left t scene)))
-routine_end true program steps t root back registers manner scene left is stands top = stay tt scene
+routine_end true program steps t root back registers manner scene left is stands top = stay t tt scene
 routine_end false program steps t root back registers manner scene left is stands top =
     let thread = thread_at scene t in
     let says : Option Bool = Some (not (int_eq (value_in thread.registers R0) (pos 0))) in
-    aside scene (trees_ended (Some Ret) thread root _ scene.phasers scene.phasers tt
+    aside t scene (trees_ended (Some Ret) thread root _ scene.phasers scene.phasers tt
     (can_turn_on_top program steps t root back registers scene stands.sound stands.few stands.there top is) refl (λ id. refl) (λ id. refl)
     (λ id. refl) stands.sound.trees.stands.1.steady
     (ap (λ top. answer_of_ret top root thread) top ∙ ap (λ b. if b then says else None) (same-is root)) (λ prompt. prompt))
@@ -108,28 +119,28 @@ ret : (top : Option Frame) (program : Program) (steps t : ℕ) (scene : Scene) �
     → top_of (thread_at scene t).stack ≡ top → GoIf (Some Ret) t scene (Some (outcome_of_ret top t program scene))
 ret (Some (frame.Advance root registers back)) program steps t scene stands is =
     routine_end (flat_at scene.phasers root).ended program steps t root back registers _ scene _ refl stands is
-ret (Some (frame.Action b registers back)) program steps t scene stands is = at_gate tt b scene _ (goes_ended true (barrier_at scene b))
-ret _ program steps t scene stands is = stay tt scene
+ret (Some (frame.Action b registers back)) program steps t scene stands is = at_gate t tt b scene _ (goes_ended (MakesCall (Some Ret) t (thread_at scene t) b) true (barrier_at scene b) (λ past. ((registers, (back, is)), refl)))
+ret _ program steps t scene stands is = stay t tt scene
 
 call_row : (row : Row) (program : Program) (steps t : ℕ) (scene : Scene) → IsQuiet (Some row)
     → StandsAt program steps t scene status.Runs row → GoIf (Some row) t scene (outcome_of_call_row row t program scene)
 call_row Ret program steps t scene quiet stands = ret (top_of (thread_at scene t).stack) program steps t scene stands refl
-call_row _ program steps t scene quiet stands = stay quiet scene
+call_row _ program steps t scene quiet stands = stay t quiet scene
 
 data_row : (row : Row) (t : ℕ) (scene : Scene) → IsQuiet (Some row) → GoIf (Some row) t scene (outcome_of_data_row row t scene)
-data_row (Out value) t scene quiet = stay quiet scene
-data_row _ t scene quiet = stay quiet scene
+data_row (Out value) t scene quiet = stay t quiet scene
+data_row _ t scene quiet = stay t quiet scene
 
 getter_row : (row : Row) (t : ℕ) (scene : Scene) → IsQuiet (Some row) → GoIf (Some row) t scene (outcome_of_getter_row row t scene)
-getter_row (Pphase into p) t scene quiet = stay quiet scene
-getter_row _ t scene quiet = stay quiet scene
+getter_row (Pphase into p) t scene quiet = stay t quiet scene
+getter_row _ t scene quiet = stay t quiet scene
 
 -- rows at phasers
 
 in_registered : (row : Row) (answer : Registered) (into : Reg) (t : ℕ) (scene : Scene) (phasers : List PhaserState)
     → IsQuiet (Some row) → TreesGo (Some row) (thread_at scene t) scene.phasers phasers
     → GoIf (Some row) t scene (outcome_of_registered answer into t (with_phasers phasers scene))
-in_registered row (registered.At phase) into t scene phasers quiet goes = aside scene goes
+in_registered row (registered.At phase) into t scene phasers quiet goes = aside t scene goes
 in_registered row answer into t scene phasers quiet goes = grind (arith, aside, stay)
 
 in_registration : (row : Row) (into : Reg) (p count t : ℕ) (scene : Scene) → IsQuiet (Some row)
@@ -143,10 +154,10 @@ in_turning : (answer : Option Bool) (row : Row) (program : Program) (steps t p :
     → let after = with_phasers (arrival p manner.leaves scene.phasers).phasers scene in
     answer_of_policy root.0 after ≡ answer → GoIf (Some row) t scene (Some (outcome_of_pending_end answer manner root.0 phase t program after))
 in_turning (Some over) row program steps t p manner scene root phase parties quiet asks stands there is says =
-    aside scene (trees_advanced (Some row) (thread_at scene t) steps p manner.leaves scene.phasers root phase parties over quiet asks
+    aside t scene (trees_advanced (Some row) (thread_at scene t) steps p manner.leaves scene.phasers root phase parties over quiet asks
     stands.sound.trees stands.few there is says)
 in_turning None row program steps t p manner scene root phase parties quiet asks stands there is says =
-    aside scene (trees_counted (Some row) (thread_at scene t) p manner.leaves scene.phasers quiet)
+    aside t scene (trees_counted (Some row) (thread_at scene t) p manner.leaves scene.phasers quiet)
 
 in_arrived : (answer : Arrived) (row : Row) (program : Program) (steps t p : ℕ) (manner : Manner) (scene : Scene)
     → IsQuiet (Some row) → AsksPolicy (Some row) (thread_at scene t) p scene.phasers → StandsAt program steps t scene status.Runs row → p < length scene.phasers
@@ -157,12 +168,12 @@ in_arrived (arrived.Turning root phase parties) row program steps t p manner sce
     in_turning (answer_of_policy root.0 (with_phasers (arrival p manner.leaves scene.phasers).phasers scene)) row program steps t p manner
     scene root phase parties quiet asks stands there is refl
 in_arrived _ row program steps t p manner scene quiet asks stands there is =
-    aside scene (trees_counted (Some row) (thread_at scene t) p manner.leaves scene.phasers quiet)
+    aside t scene (trees_counted (Some row) (thread_at scene t) p manner.leaves scene.phasers quiet)
 
 in_unless_own : (row : Row) (p t : ℕ) (scene : Scene) (outcome : Option Outcome) → IsQuiet (Some row) → GoIf (Some row) t scene outcome
     → GoIf (Some row) t scene (unless_own p t scene outcome)
 in_unless_own row p t scene outcome quiet goes =
-    either (GoIf (Some row) t scene) (is_own_tree p (thread_at scene t) scene) {b = outcome} (stay quiet scene) goes
+    either (GoIf (Some row) t scene) (is_own_tree p (thread_at scene t) scene) {b = outcome} (stay t quiet scene) goes
 
 in_arrival : (row : Row) (program : Program) (steps t p : ℕ) (manner : Manner) (scene : Scene)
     → IsQuiet (Some row) → AsksPolicy (Some row) (thread_at scene t) p scene.phasers → StandsAt program steps t scene status.Runs row → p < length scene.phasers
@@ -170,13 +181,13 @@ in_arrival : (row : Row) (program : Program) (steps t p : ℕ) (manner : Manner)
 in_arrival row program steps t p manner scene quiet asks stands there =
     in_unless_own row p t scene (Some (outcome_of_arrival manner p t program scene)) quiet
     (either (λ (outcome : Outcome). GoIf (Some row) t scene (Some outcome)) (has_routine p scene && is_full (thread_at scene t))
-    (stay quiet scene)
+    (stay t quiet scene)
     (in_arrived (arrival p manner.leaves scene.phasers).answer row program steps t p manner scene quiet asks stands there refl))
 
 in_bulk : (row : Row) (into : Reg) (p : ℕ) (count : ℤ) (t : ℕ) (scene : Scene) → IsQuiet (Some row)
     → GoIf (Some row) t scene (outcome_of_bulk into p count t scene)
 in_bulk row into p count t scene quiet =
-    either (GoIf (Some row) t scene) (int_lt count (pos 0)) {b = outcome_of_registration into p (nat_abs count) t scene} (stay quiet scene)
+    either (GoIf (Some row) t scene) (int_lt count (pos 0)) {b = outcome_of_registration into p (nat_abs count) t scene} (stay t quiet scene)
     (in_registration row into p (nat_abs count) t scene quiet)
 
 phaser_row : (row : Row) (program : Program) (steps t : ℕ) (scene : Scene) → StandsAt program steps t scene status.Runs row
@@ -190,43 +201,45 @@ phaser_row (Pdereg into p) program steps t scene stands =
     in_arrival (Pdereg into p) program steps t p _ scene tt (λ parties. refl) stands stands.named
 phaser_row (Paaa into p) program steps t scene stands =
     in_arrival (Paaa into p) program steps t p _ scene tt (λ parties. refl) stands stands.named
-phaser_row (Pawait into p phase) program steps t scene stands = in_unless_own _ p t scene (Some _) tt (stay tt scene)
-phaser_row (Pawaiti into p phase) program steps t scene stands = in_unless_own _ p t scene (Some _) tt (stay tt scene)
-phaser_row (Pawaitt into p phase time) program steps t scene stands = in_unless_own _ p t scene (Some _) tt (stay tt scene)
+phaser_row (Pawait into p phase) program steps t scene stands = in_unless_own _ p t scene (Some _) tt (stay t tt scene)
+phaser_row (Pawaiti into p phase) program steps t scene stands = in_unless_own _ p t scene (Some _) tt (stay t tt scene)
+phaser_row (Pawaitt into p phase time) program steps t scene stands = in_unless_own _ p t scene (Some _) tt (stay t tt scene)
 phaser_row (Pforce p) program steps t scene stands =
-    aside scene (trees_forced (thread_at scene t) p scene.phasers stands.sound.trees.forest stands.named)
-phaser_row _ program steps t scene stands = stay tt scene
+    aside t scene (trees_forced (thread_at scene t) p scene.phasers stands.sound.trees.forest stands.named)
+phaser_row _ program steps t scene stands = stay t tt scene
 
 -- rows at barriers
 
 in_entered : (row : Row) (answer : Entered) (into : Reg) (b t : ℕ) (program : Program) (scene : Scene) (gate : BarrierState)
-    → IsQuiet (Some row) → GoesTo (barrier_at scene b) gate
+    → IsQuiet (Some row) → GoesTo (MakesCall (Some row) t (thread_at scene t) b) (barrier_at scene b) gate
     → GoIf (Some row) t scene (outcome_of_entered answer into b t program (with_barrier gate b scene))
-in_entered row entered.Busy into b t program scene gate quiet goes = stay quiet scene
-in_entered row _ into b t program scene gate quiet goes = at_gate quiet b scene gate goes
+in_entered row entered.Busy into b t program scene gate quiet goes = stay t quiet scene
+in_entered row _ into b t program scene gate quiet goes = at_gate t quiet b scene gate goes
 
 -- thread t has a seat at barrier b, and no wait there
 abbrev MayEnter : ℕ → ℕ → Scene → Type 0
 MayEnter b t scene = (t < length (barrier_at scene b).waits) × (wait_at (barrier_at scene b).waits t ≡ None)
 
 in_await : (row : Row) (no_wait : Bool) (into : Reg) (b t : ℕ) (program : Program) (scene : Scene) → IsQuiet (Some row) → MayEnter b t scene
+    → ((past : PlainBarrier) → MakesCall (Some row) t (thread_at scene t) b past (Enter t (thread_at scene t).interrupted no_wait))
     → GoIf (Some row) t scene (outcome_of_await_at no_wait into b t program scene)
-in_await row no_wait into b t program scene quiet may =
+in_await row no_wait into b t program scene quiet may made =
     let gate = barrier_at scene b in
     let all : Entry = enter_timed t (thread_at scene t).interrupted no_wait gate in
     either (GoIf (Some row) t scene) (gate.action && is_full (thread_at scene t))
-    {b = outcome_of_entered all.answer into b t program (with_barrier all.barrier b scene)} (stay quiet scene)
-    (in_entered row all.answer into b t program scene all.barrier quiet (goes_entered t (thread_at scene t).interrupted no_wait gate may.0 may.1))
+    {b = outcome_of_entered all.answer into b t program (with_barrier all.barrier b scene)} (stay t quiet scene)
+    (in_entered row all.answer into b t program scene all.barrier quiet
+    (goes_entered (MakesCall (Some row) t (thread_at scene t) b) t (thread_at scene t).interrupted no_wait gate made may.0 may.1))
 
 in_unless_busy : (row : Row) (b t : ℕ) (scene : Scene) (outcome : Option Outcome) → IsQuiet (Some row) → GoIf (Some row) t scene outcome
     → GoIf (Some row) t scene (unless_busy b t scene outcome)
 in_unless_busy row b t scene outcome quiet goes =
-    either (GoIf (Some row) t scene) (is_run_by_another t (barrier_at scene b).runner) {a = None} {b = outcome} (stay quiet scene) goes
+    either (GoIf (Some row) t scene) (is_run_by_another t (barrier_at scene b).runner) {a = None} {b = outcome} (stay t quiet scene) goes
 
 in_unless_runner : (row : Row) (b t : ℕ) (scene : Scene) (outcome : Option Outcome) → IsQuiet (Some row) → GoIf (Some row) t scene outcome
     → GoIf (Some row) t scene (unless_runner b t scene outcome)
 in_unless_runner row b t scene outcome quiet goes =
-    either (GoIf (Some row) t scene) (is_run_by t (barrier_at scene b).runner) {b = outcome} (stay quiet scene) goes
+    either (GoIf (Some row) t scene) (is_run_by t (barrier_at scene b).runner) {b = outcome} (stay t quiet scene) goes
 
 -- thread t may enter each barrier that is there
 abbrev MayEnterAny : ℕ → Scene → Type 0
@@ -235,48 +248,52 @@ MayEnterAny t scene = (b : ℕ) → b < length scene.barriers → MayEnter b t s
 barrier_row : (row : Row) (t : ℕ) (program : Program) (scene : Scene) → IsQuiet (Some row) → IsNamed (counts_of program scene) row → MayEnterAny t scene
     → GoIf (Some row) t scene (outcome_of_barrier_row row t program scene)
 barrier_row (Cawait into b) t program scene quiet named may =
-    in_unless_busy _ b t scene _ quiet (in_unless_runner _ b t scene _ quiet (in_await _ false into b t program scene quiet (may b named)))
+    in_unless_busy _ b t scene _ quiet (in_unless_runner _ b t scene _ quiet (in_await _ false into b t program scene quiet (may b named) (λ past. (refl, refl))))
 barrier_row (Cawaitt into b time) t program scene quiet named may =
-    in_unless_busy _ b t scene _ quiet (in_unless_runner _ b t scene _ quiet (in_await _ _ into b t program scene quiet (may b named)))
+    in_unless_busy _ b t scene _ quiet (in_unless_runner _ b t scene _ quiet (in_await _ _ into b t program scene quiet (may b named) (λ past. (refl, refl))))
 barrier_row (Creset b) t program scene quiet named may =
-    in_unless_busy _ b t scene _ quiet (in_unless_runner _ b t scene (Some _) quiet (at_gate quiet b scene _ (goes_reset (barrier_at scene b))))
-barrier_row (Cbroken into b) t program scene quiet named may = in_unless_busy _ b t scene (Some _) quiet (stay quiet scene)
+    in_unless_busy _ b t scene _ quiet (in_unless_runner _ b t scene (Some _) quiet (at_gate t quiet b scene _ (goes_reset (MakesCall (Some (Creset b)) t (thread_at scene t) b) (barrier_at scene b) (λ past. (refl, refl)))))
+barrier_row (Cbroken into b) t program scene quiet named may = in_unless_busy _ b t scene (Some _) quiet (stay t quiet scene)
 barrier_row (Cwaiting into b) t program scene quiet named may =
-    in_unless_busy _ b t scene _ quiet (in_unless_runner _ b t scene (Some _) quiet (stay quiet scene))
-barrier_row _ t program scene quiet named may = stay quiet scene
+    in_unless_busy _ b t scene _ quiet (in_unless_runner _ b t scene (Some _) quiet (stay t quiet scene))
+barrier_row _ t program scene quiet named may = stay t quiet scene
 
 -- turns of threads that don't run
 
-in_popped : (top : Option Frame) (code : ℤ) (t : ℕ) (scene : Scene) → GoIf None t scene (Some (outcome_of_popped top code t scene))
-in_popped (Some (frame.Action b registers back)) code t scene = at_gate tt b scene _ (goes_ended false (barrier_at scene b))
-in_popped _ code t scene = stay tt scene
+in_popped : (top : Option Frame) (code : ℤ) (t : ℕ) (scene : Scene) → top_of (thread_at scene t).stack ≡ top
+    → (thread_at scene t).status ≡ status.Throws code → GoIf None t scene (Some (outcome_of_popped top code t scene))
+in_popped (Some (frame.Action b registers back)) code t scene is throws =
+    at_gate t tt b scene _ (goes_ended (MakesCall None t (thread_at scene t) b) false (barrier_at scene b) (λ past. ((registers, (back, is)), (code, throws))))
+in_popped _ code t scene is throws = stay t tt scene
 
 in_awaited : (looks : Bool) (into : Reg) (p : ℕ) (phase : ℤ) (t : ℕ) (scene : Scene)
     → GoIf None t scene (outcome_of_awaited looks into p phase t scene)
 in_awaited looks into p phase t scene =
-    either (GoIf None t scene) (is_past p phase scene) (stay tt scene)
-    (either (GoIf None t scene) (looks && (thread_at scene t).interrupted) {b = None} (stay tt scene) (stay tt scene))
+    either (GoIf None t scene) (is_past p phase scene) (stay t tt scene)
+    (either (GoIf None t scene) (looks && (thread_at scene t).interrupted) {b = None} (stay t tt scene) (stay t tt scene))
 
 in_phase_wait : (row : Row) (phase : ℤ) (t : ℕ) (scene : Scene) → GoIf None t scene (outcome_of_phase_wait row phase t scene)
 in_phase_wait (Paaa into p) phase t scene = in_awaited false into p phase t scene
 in_phase_wait row phase t scene = search (rules, in_awaited, stay)
 
-tripped_isnt : Some state.Tripped ≢ Some state.Waiting
-tripped_isnt is = cc is
-
-broken_isnt : Some state.Broken ≢ Some state.Waiting
-broken_isnt is = cc is
+-- with the result of a test
+either_so : {A : Type 0} (P : A → Type 0) (test : Bool) {a b : A} → (test ≡ true → P a) → (test ≡ false → P b) → P (if test then a else b)
+either_so P true p q = p refl
+either_so P false p q = q refl
 
 in_release : (wait : Option WaitState) (into : Reg) (index : ℤ) (b t : ℕ) (scene : Scene) → t < length (barrier_at scene b).waits
     → wait_at (barrier_at scene b).waits t ≡ wait → GoIf None t scene (outcome_of_release wait into index b t scene)
 in_release (Some state.Tripped) into index b t scene there is =
-    at_gate tt b scene _ (goes_left t (barrier_at scene b) there (λ waits. tripped_isnt (sym is ∙ waits)))
+    at_gate t tt b scene _ (goes_left (MakesCall None t (thread_at scene t) b) t (barrier_at scene b) there (inl is) (λ past over. (refl, over)))
 in_release (Some state.Broken) into index b t scene there is =
-    at_gate tt b scene _ (goes_left t (barrier_at scene b) there (λ waits. broken_isnt (sym is ∙ waits)))
+    at_gate t tt b scene _ (goes_left (MakesCall None t (thread_at scene t) b) t (barrier_at scene b) there (inr is) (λ past over. (refl, over)))
 in_release (Some state.Waiting) into index b t scene there is =
-    either (GoIf None t scene) ((thread_at scene t).interrupted && not (is_some (barrier_at scene b).runner)) {b = None}
-    (at_gate tt b scene _ (goes_interrupted t (barrier_at scene b) there)) (stay tt scene)
-in_release None into index b t scene there is = stay tt scene
+    let interrupted = (thread_at scene t).interrupted in
+    either_so (GoIf None t scene) (interrupted && not (is_some (barrier_at scene b).runner)) {b = None}
+    (λ so. at_gate t tt b scene _
+    (goes_interrupted (MakesCall None t (thread_at scene t) b) t (barrier_at scene b) there is (λ past waits. (refl, ((and_parts interrupted _ so).0, waits)))))
+    (λ no. stay t tt scene)
+in_release None into index b t scene there is = stay t tt scene
 
 -- thread t has a seat at each barrier that is there
 abbrev HasSeats : ℕ → Scene → Type 0
@@ -289,14 +306,27 @@ in_barrier_wait (Cawait into b) index t program scene named seats =
 in_barrier_wait row index t program scene named seats = search (rules, in_release, stay)
 
 in_phase_timeout : (row : Row) (t : ℕ) (scene : Scene) → GoIf None t scene (outcome_of_phase_timeout row t scene)
-in_phase_timeout (Pawaitt into p number time) t scene = stay tt scene
-in_phase_timeout _ t scene = stay tt scene
+in_phase_timeout (Pawaitt into p number time) t scene = stay t tt scene
+in_phase_timeout _ t scene = stay t tt scene
 
-in_barrier_timeout : (row : Row) (t : ℕ) (program : Program) (scene : Scene) → IsNamed (counts_of program scene) row → HasSeats t scene
-    → GoIf None t scene (outcome_of_barrier_timeout row t scene)
-in_barrier_timeout (Cawaitt into b time) t program scene named seats =
-    either (GoIf None t scene) (is_some (barrier_at scene b).runner) {a = None} (stay tt scene) (at_gate tt b scene _ (goes_expired t (barrier_at scene b) (seats b named)))
-in_barrier_timeout _ t program scene named seats = stay tt scene
+-- a wait that would end otherwise is not left to its time
+still_waits : (wait : Option WaitState) (into : Reg) (index : ℤ) (b t : ℕ) (scene : Scene)
+    → is_some (outcome_of_release wait into index b t scene) ≡ false → is_some wait ≡ true → wait ≡ Some state.Waiting
+still_waits (Some state.Waiting) into index b t scene unready some = refl
+still_waits (Some state.Tripped) into index b t scene unready some = absurd (cc unready)
+still_waits (Some state.Broken) into index b t scene unready some = absurd (cc unready)
+still_waits None into index b t scene unready some = absurd (cc some)
+
+in_barrier_timeout : (row : Row) (index : ℤ) (t : ℕ) (program : Program) (scene : Scene) → IsNamed (counts_of program scene) row
+    → HasSeats t scene → ((b : ℕ) → has_wait t (barrier_at scene b) ≡ is_wait_row b row)
+    → is_some (outcome_of_barrier_wait row index t scene) ≡ false → GoIf None t scene (outcome_of_barrier_timeout row t scene)
+in_barrier_timeout (Cawaitt into b time) index t program scene named seats waits unready =
+    let wait = wait_at (barrier_at scene b).waits t in
+    either (GoIf None t scene) (is_some (barrier_at scene b).runner) {a = None} (stay t tt scene)
+    (at_gate t tt b scene _
+    (goes_expired (MakesCall None t (thread_at scene t) b) t (barrier_at scene b) (seats b named) (still_waits wait into index b t scene unready (waits b ∙ same-is b))
+    (λ past still. (refl, still))))
+in_barrier_timeout _ index t program scene named seats waits unready = stay t tt scene
 
 -- all of them
 
@@ -324,12 +354,18 @@ in_turn : (of : Status) (row : Row) (program : Program) (steps t : ℕ) (scene :
     → GoIf (row_in of row) t scene (outcome_in of row t program scene)
 in_turn status.Runs row program steps t scene stands =
     in_group (group_of row) row program steps t scene refl stands (may_enter program steps t scene row stands)
-in_turn of row program steps t scene stands = search (rules, in_group, may_enter, in_popped, in_phase_wait, in_barrier_wait, seat, stay)
+in_turn (status.Throws code) row program steps t scene stands =
+    in_popped (top_of (thread_at scene t).stack) code t scene refl stands.status
+in_turn of row program steps t scene stands = search (rules, in_phase_wait, in_barrier_wait, seat, stay)
 
 in_timeout : (of : Status) (row : Row) (program : Program) (steps t : ℕ) (scene : Scene) → StandsAt program steps t scene of row
-    → GoIf None t scene (timeout_in of row t scene)
-in_timeout (status.AwaitsPhase phase) row program steps t scene stands = in_phase_timeout row t scene
-in_timeout of row program steps t scene stands = search (rules, in_phase_timeout, in_barrier_timeout, seat, stay)
+    → is_some (outcome_in of row t program scene) ≡ false → GoIf None t scene (timeout_in of row t scene)
+in_timeout (status.AwaitsPhase phase) row program steps t scene stands unready = in_phase_timeout row t scene
+in_timeout (status.AwaitsBarrier index) row program steps t scene stands unready =
+    in_barrier_timeout row index t program scene stands.named (λ b here. seat program steps t b scene stands.sound stands.there here)
+    (λ b. stands.sound.waits b t ∙ ap (λ (of : Status). awaits b of (row_at program.rows (thread_at scene t).pc)) stands.status
+    ∙ ap (is_wait_row b) stands.at) unready
+in_timeout _ row program steps t scene stands unready = stay t tt scene
 
 pub turn_goes : (program : Program) (steps t : ℕ) (scene : Scene) → IsSound program steps scene → steps < 2147483647
     → t < length scene.threads
@@ -343,6 +379,6 @@ pub expiry_goes : (program : Program) (steps t : ℕ) (scene : Scene) → IsSoun
     → t < length scene.threads → GoIf None t scene (outcome_of_expiry t program scene)
 expiry_goes program steps t scene sound few there =
     let thread = thread_at scene t in
-    either (GoIf None t scene) (is_ready t program scene) {a = None} (stay tt scene)
+    either_so (GoIf None t scene) (is_ready t program scene) {a = None} (λ ready. stay t tt scene)
     (in_timeout thread.status (row_at program.rows thread.pc) program steps t scene
     (stands_at program steps t scene thread.status sound few there refl))

@@ -13,7 +13,8 @@
 --      tree ends, and stays in its own elsewhere (NumbersChangeAtEnds);
 --   3. each step back restores the state before (BackRestores, and for a single choice StepsAndReturns);
 --   4. each barrier has one past, of which each state of the run is the record, so that whoever waits there meets the end of
---      its own generation (BarriersHavePasts).
+--      its own generation. It goes on by calls that the threads make by their rows, their stacks and their waits
+--      (BarriersHavePasts).
 -- 1 is what `play` leaves (src/machine.rt); 2 and 4 are laws (src/law.rt); 3 is what `step` and `step_and_back` do to a machine, and
 -- `steps_and_backs` to a debugging session (src/back.rt). Behind each name of a `use` line stands the file that defines it: who
 -- believes this page has to read those too. Beside it stands what lies below: a tree whose words lag, and the word that real
@@ -123,7 +124,8 @@ StepsAndReturns before choice event kept middle =
     (refusal_of (world_of before) choice ≡ None) × (record { world = world_of middle; event = event } ≡ played (world_of before) choice)
     × (undone kept middle ≡ before)
 
--- 4. It begins without a generation that has ended, and each choice that isn't refused leaves it as it is or is one call there.
+-- 4. It begins without a generation that has ended, and each choice that isn't refused leaves it as it is or makes one call
+-- there: its own thread's, by the row that it plays, or by its stack or its wait (MakesCall).
 abbrev pub BarriersHavePasts : Type 0
 BarriersHavePasts =
     (image : Image) → Accepted image → (choices : List Choice) (b : ℕ)

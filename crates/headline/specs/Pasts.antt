@@ -1,12 +1,20 @@
 -- The past of a barrier, over whole runs: how each of its generations ended, and for which one each wait is.
-use Rattle.std.specs.Prelude.{◌≡◌, ◌⊎◌, ℕ, Bool, List, [], ◌∷◌, Option, Some, None}
-use Rattle.cyclic_barrier.specs.PlainBarrier.{PlainBarrier, enter_timed, end_action, leave, interrupt, expire, reset}
+use Rattle.std.specs.Prelude.{◌≡◌, ◌⊎◌, ℕ, ℤ, pos, not, int_lt, Bool, true, false, List, [], ◌∷◌, Option, Some, None}
+use Rattle.instruction_table.specs.declared.row.Row.{Row}
+use Rattle.instruction_table.specs.declared.row.Row.TheVariants.{Ret, Cawait, Cawaitt, Creset}
+use Rattle.instruction_table.specs.Registers.{value_in}
+use Rattle.cyclic_barrier.specs.declared.answer.WaitState.TheVariants as state
+use Rattle.cyclic_barrier.specs.PlainBarrier.{PlainBarrier, state_of, enter_timed, end_action, leave, interrupt, expire, reset}
 use Rattle.cyclic_barrier.specs.Past.{StandsFor}
-use Rattle.machine_scene.specs.Scene.{barrier_at}
+use Rattle.thread_state.specs.declared.frame.Frame.TheVariants as frame
+use Rattle.thread_state.specs.declared.status.Status.TheVariants as status
+use Rattle.thread_state.specs.Thread.{ThreadState, top_of}
+use Rattle.machine_scene.specs.Scene.{barrier_at, thread_at}
 use Rattle.thread_machine.specs.declared.choice.Choice.{Choice}
 use Rattle.thread_machine.specs.declared.fault.StepFault.{StepFault}
 use Rattle.thread_machine.specs.World.{World}
 use Rattle.thread_machine.specs.Step.{played, refusal_of}
+use Rattle.headline.specs.PhaseEnds.{row_of}
 
 -- what may be done at a barrier, by a thread
 pub data BarrierCall : Type 0 where
@@ -26,9 +34,31 @@ after_call (Interrupt thread) past = interrupt thread past
 after_call (Expire thread) past = expire thread past
 after_call Reset past = reset past
 
--- the past stays as it is, or goes on by one call
-abbrev pub GoesOn : PlainBarrier → PlainBarrier → Type 0
-GoesOn past next = (next ≡ past) ⊎ ((call : BarrierCall) × (next ≡ after_call call past))
+-- the top entry of the thread's stack is the action of barrier b
+abbrev pub IsInAction : ℕ → ThreadState → Type 0
+IsInAction b thread = (registers : List ℤ) × ((row : ℕ) × (top_of thread.stack ≡ Some (frame.Action b registers row)))
+
+-- The call that a choice of thread t makes at barrier b, if it makes one there. A row makes the call that it names, at the barrier
+-- that it names, with the thread's interrupted status, and without a wait where no time is left; `ret` ends the action that it
+-- leaves. Without a row a thread breaks the barrier out of whose action it throws; leaves a wait that has ended; breaks a wait
+-- that hasn't, if it is interrupted, or its time is over. No other row and no other thread makes a call.
+abbrev pub MakesCall : Option Row → ℕ → ThreadState → ℕ → PlainBarrier → BarrierCall → Type 0
+MakesCall (Some (Cawait into c)) t thread b past call = (c ≡ b) × (call ≡ Enter t thread.interrupted false)
+MakesCall (Some (Cawaitt into c time)) t thread b past call =
+    (c ≡ b) × (call ≡ Enter t thread.interrupted (not (int_lt (pos 0) (value_in thread.registers time))))
+MakesCall (Some (Creset c)) t thread b past call = (c ≡ b) × (call ≡ Reset)
+MakesCall (Some Ret) t thread b past call = IsInAction b thread × (call ≡ EndAction true)
+MakesCall (Some row) t thread b past call = ⊥
+MakesCall None t thread b past (EndAction false) = IsInAction b thread × ((code : ℤ) × (thread.status ≡ status.Throws code))
+MakesCall None t thread b past (Leave u) =
+    (u ≡ t) × ((state_of t past ≡ Some state.Tripped) ⊎ (state_of t past ≡ Some state.Broken))
+MakesCall None t thread b past (Interrupt u) = (u ≡ t) × ((thread.interrupted ≡ true) × (state_of t past ≡ Some state.Waiting))
+MakesCall None t thread b past (Expire u) = (u ≡ t) × (state_of t past ≡ Some state.Waiting)
+MakesCall None t thread b past call = ⊥
+
+-- the past stays as it is, or goes on by one of these calls
+abbrev pub GoesOn : (BarrierCall → Type 0) → PlainBarrier → PlainBarrier → Type 0
+GoesOn makes past next = (next ≡ past) ⊎ ((call : BarrierCall) × (makes call × (next ≡ after_call call past)))
 
 -- where the choice isn't refused
 abbrev pub IfAccepted : Option StepFault → Type 0 → Type 0
@@ -42,4 +72,6 @@ RecordsOnePast b past now [] = StandsFor (barrier_at now.scene b) past
 RecordsOnePast b past now (choice ∷ choices) =
     StandsFor (barrier_at now.scene b) past
     × IfAccepted (refusal_of now choice)
-    ((next : PlainBarrier) × (GoesOn past next × RecordsOnePast b next (played now choice).world choices))
+    ((next : PlainBarrier)
+    × (GoesOn (MakesCall (row_of now choice) choice.thread (thread_at now.scene choice.thread) b past) past next
+    × RecordsOnePast b next (played now choice).world choices))

@@ -1,6 +1,7 @@
 pub mod NamedLines
 pub mod ChoicesLaws
 pub mod WrittenRuns
+pub mod RunLines
 pub mod Verdicts
 pub mod SameTrace
 pub mod OwnLines

@@ -8,7 +8,7 @@ use Rattle.byte_ports.specs.declared.source_lines.LineEnded.TheVariants as how
 use Rattle.trace_compare.specs.declared.comparison.Comparison.{Comparison}
 use Rattle.trace_compare.specs.declared.comparison.Verdict.{Verdict}
 use Rattle.trace_compare.specs.Compare.{IsReadNoFurther, IsReadUpTo}
-use Rattle.trace_compare.specs.Comparing.{GoesOver, HasComeTo, HasJudged, HasLeft, StandsFrom, bytes_left}
+use Rattle.trace_compare.specs.Comparing.{GoesOver, HasComeTo, HasJudged, HasLeft, StandsFrom, bytes_left, told_by}
 use Rattle.trace_compare.specs.NamedLines.{none_read}
 use Rattle.trace_compare.proofs.NamedLines.{unread}
 use Rattle.trace_compare.proofs.OwnLines.{ends-append, ends-behind, ends-line}
@@ -114,7 +114,7 @@ pub come-verdict : (first now next : Comparison) (x y : Lines) (turns : ℕ) (a 
     (v : Verdict) → HasComeTo first now x turns a b → HasJudged now next ended line (Some v)
     → Consumes (prepend_known x.held b) (prepend_known y.held c) (taken (Ok ended) line)
     → (got : List ℕ) × (taken (Ok ended) line ++ y.held ≡ x.held ++ got) → HasCome ended line (prepend_known y.held c)
-    → (ended ≡ how.AtEnd → y.held ≡ []) → (bytes : List ℕ) × (Consumes a c bytes × HasLeft first bytes c v)
+    → (ended ≡ how.AtEnd → y.held ≡ []) → (bytes : List ℕ) × (Consumes a c bytes × HasLeft first bytes c (told_by v next))
 come-verdict first now next x y turns a b c ended line v come judged gone (got, is) came all =
     let bytes = taken (Ok ended) line in (
       (come.bytes ++ bytes) ++ y.held,
@@ -127,7 +127,7 @@ come-verdict first now next x y turns a b c ended line v come judged gone (got, 
   where
     by : (ended : LineEnded) → HasJudged now next ended line (Some v) → taken (Ok ended) line ++ y.held ≡ x.held ++ got
         → HasCome ended line (prepend_known y.held c) → (ended ≡ how.AtEnd → y.held ≡ [])
-        → HasLeft first ((come.bytes ++ taken (Ok ended) line) ++ y.held) c v
+        → HasLeft first ((come.bytes ++ taken (Ok ended) line) ++ y.held) c (told_by v next)
     by how.Whole (stands, judged) is came all =
         inr (λ rest. ap (bytes_left first) (append_assoc (come.bytes ++ (line ++ 10 ∷ [])) y.held rest)
         ∙ left-behind first now x y turns a b (line ++ 10 ∷ []) got rest come is ∙ judged (y.held ++ rest))

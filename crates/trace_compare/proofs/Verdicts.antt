@@ -1,13 +1,13 @@
 -- The verdict on lines that are the run's.
-use Rattle.std.proofs.Common.{◌≡◌, ◌∙◌, ◌↔◌, ◌+◌, ◌<◌, ◌≤◌, ◌&&◌, ◌⊎◌, ℕ, Bool, true, false, List, [], ◌∷◌, ◌++◌, length, drop, Option, Some, None, IsTrue, ◌==◌, zero, suc, refl, ap, sym, arith, is_none, cond, inl, inr, take, min, length-append, take-append-drop, rules}
+use Rattle.std.proofs.Common.{◌≡◌, ◌∙◌, ◌↔◌, ◌+◌, ◌<◌, ◌≤◌, ◌&&◌, ◌⊎◌, ℕ, Bool, true, false, List, [], ◌∷◌, ◌++◌, length, drop, Option, Some, None, IsTrue, ◌==◌, zero, suc, refl, ap, subst, sym, arith, is_none, cond, inl, inr, take, min, length-append, take-append-drop, rules}
 use Rattle.std.specs.Prelude.{Result, Ok, Err, IfOk}
 use Rattle.trace_compare.specs.declared.comparison.Comparison.{Comparison}
-use Rattle.trace_compare.specs.Comparing.{HasCounted, HasJudged, HasLeft, IsOpen, StandsFrom, bytes_left, decided, lines_left}
+use Rattle.trace_compare.specs.Comparing.{HasCounted, HasJudged, HasLeft, IsOpen, MeetsText, StandsFrom, bytes_left, decided, lines_left, text_left, told_by, told_left}
 use Rattle.std.proofs.Math.Seq.{drop-append_seam, take-append_seam}
 use Rattle.std.proofs.lemmas.Bool.{and_from, and_parts, cases_lt, lt-ltb, false_from_ne_true}
 use Rattle.std.proofs.lemmas.List.Splits.{slice_split_none, length-slice_split}
 use Rattle.std.proofs.lemmas.List.{drop_all, length-take, take_all, drop-drop}
-use Rattle.std.specs.List.{position_or_len}
+use Rattle.std.specs.List.{position_or_len, slice_split}
 use Rattle.std.specs.Str.{bytes_eq}
 use Rattle.std.proofs.lemmas.Slice.Eq.{bytes_eq-Decides}
 use Rattle.std.specs.Io.KnownBytes.{Consumes}
@@ -23,12 +23,12 @@ use Rattle.thread_machine.specs.World.{StoredWorld, World, world_of}
 use Rattle.trace_compare.specs.declared.comparison.Verdict.{Verdict}
 use Rattle.trace_compare.specs.declared.comparison.Judged.{Judged}
 use Rattle.trace_compare.specs.declared.comparison.Verdict.TheVariants as verdict
-use Rattle.trace_compare.specs.Compare.{HasCompared, HasVerdict, verdict_of, choice_verdict, state_verdict, lines_verdict, otherwise}
+use Rattle.trace_compare.specs.Compare.{HasCompared, HasShown, HasTold, HasVerdict, Told, choice_verdict, line_by, lines_verdict, otherwise, state_verdict, told, told_of}
 use Rattle.trace_text.specs.Reading.{HasNoLongLine, first_line, after_line, is_state_line, choice_in}
 use Rattle.trace_text.specs.State.{state_text}
-use Rattle.trace_text.specs.Trace.{Plays, lines_by, lines_of}
+use Rattle.trace_text.specs.Trace.{Plays, lines_of}
 use Rattle.trace_compare.proofs.NamedLines.{begun-line, whole-line}
-use Rattle.trace_text.proofs.Naming.{event-few, refusal-few}
+use Rattle.trace_compare.proofs.RunLines.{none_by, one-line, told-met, told-other}
 use Rattle.trace_text.proofs.StateLines.{parts_text, state-line}
 use Rattle.trace_text.proofs.WholeLines.{first-is}
 
@@ -74,12 +74,6 @@ state-other : (text : List ℕ) (n : ℕ) (line : List ℕ) (lines : List (List 
     → (0 < length text → bytes_eq (line ++ (10 ∷ [])) (first_line text) ≡ false)
     → state_verdict text n (line ∷ lines) ≡ otherwise n line
 state-other text n line lines due_or_left other = grind (arith, state-by)
-
--- whether no choice was refused
-none_by : (refusal : Option StepFault) (all : Bool) → (IsTrue all ↔ (refusal ≡ None)) → is_none refusal ≡ all
-none_by None all is = sym (is.1 refl)
-none_by (Some fault) true is = let no : Some fault ≡ None = is.0 refl in let wrong : ⊥ = cc in absurd wrong
-none_by (Some fault) false is = refl
 
 -- the line of a choice
 pub choice-same : (named : Option Choice) (choice : Choice) (accepted more : Bool) (world after : World) (n : ℕ)
@@ -148,20 +142,45 @@ more_to_come true came _ _ is isnt state_is = omega arith
 pub judged-whole : {E : Type 0} (result : Result (Option Verdict) E) (before after : Comparison) (line : List ℕ) → IsOneLine line
     → ((lines : List (List ℕ)) → IsOpen before line lines
     → IfOk result (λ v. lines_left before (line ∷ lines) ≡ decided v (lines_left after lines)))
+    → ((lines : List (List ℕ)) → IfOk result (λ v. MeetsText before after line lines v))
     → IfOk result (λ v. HasCounted before.number after.number v) → IfOk result (λ v. HasJudged before after how.Whole line v)
-judged-whole (Ok None) before after line one same counted = grind (arith, whole-line, length-slice_split)
-judged-whole (Ok (Some v)) before after line one same counted = grind (arith, whole-line, length-slice_split)
-judged-whole (Err e) before after line one same counted = tt
+judged-whole (Ok None) before after line one same meets counted = (
+  refl,
+  counted,
+  λ rest.
+      let lines = slice_split is_line_end rest in
+      let some : 0 < length lines = omega (arith, length-slice_split is_line_end rest) in
+      ap (told_left before) (whole-line line rest one)
+      ∙ told-met before after line lines one some counted (same lines (λ state. omega (arith, some))) (meets lines),
+)
+judged-whole (Ok (Some v)) before after line one same meets counted = (
+  counted,
+  λ rest.
+      let lines = slice_split is_line_end rest in
+      let some : 0 < length lines = omega (arith, length-slice_split is_line_end rest) in
+      ap (told_left before) (whole-line line rest one)
+      ∙ told-other before after line lines v (same lines (λ state. omega (arith, some))) (meets lines),
+)
+judged-whole (Err e) before after line one same meets counted = tt
 
 -- what is left at the end
-pub judged-last : (now after : Comparison) (line : List ℕ) (v : Verdict) → IsOneLine line → lines_left now (line ∷ []) ≡ v
+pub judged-last : (now after : Comparison) (line : List ℕ) (v : Verdict) → IsOneLine line → told_left now (line ∷ []) ≡ told_by v after
     → (v ≡ verdict.Same) ⊎ StandsFrom now.number v → HasJudged now after how.AtEnd line (Some v)
-judged-last now after line v one is stands = (stands, ap (lines_left now) (slice_split_none is_line_end line one) ∙ is)
+judged-last now after line v one is stands = (stands, ap (told_left now) (slice_split_none is_line_end line one) ∙ is)
 
 -- by whether it is of the state
 long_by : (state : Bool) (x y v : Verdict) → x ≡ v → y ≡ v → cond state x y ≡ v
 long_by true x y v a b = a
 long_by false x y v a b = b
+
+-- what is no line of a trace
+pub told-nothing : (now after : Comparison) (lines : List (List ℕ)) (n : ℕ) → lines_left now lines ≡ verdict.NotATrace n
+    → told_left now lines ≡ told_by (verdict.NotATrace n) after
+told-nothing now after lines n is = ap (λ (v : Verdict). record { verdict = v; line = line_by v now.number (text_left now lines) }) is
+
+and_no : (a b : Bool) → b ≡ false → (a && b) ≡ false
+and_no true b is = is
+and_no false b is = refl
 
 -- a line that is longer than the one that is due
 longer : (line text : List ℕ) → length text ≤ length line → bytes_eq (line ++ (10 ∷ [])) text ≡ false
@@ -179,13 +198,15 @@ long_state : (text : List ℕ) (n : ℕ) (line : List ℕ) (lines : List (List �
 long_state text n line lines few many = grind (arith, state-other, longer, length-take, long-otherwise)
 
 -- nor of a choice
-own-few_by : (refusal : Option StepFault) (world : World) (choice : Choice) → length (lines_by refusal world choice (λ after. [])) ≤ 408
-own-few_by (Some NoSuchThread) world choice = refusal-few (world.choices + 1) choice None
-own-few_by refusal world choice = search (rules, refusal-few, event-few)
-
 long_choice : (named : Option Choice) (accepted : Bool) (world : World) (n : ℕ) (line : List ℕ) (rest : Bool → World → Verdict)
     → 65536 < length line → choice_verdict named accepted world n line rest ≡ verdict.NotATrace n
-long_choice named accepted world n line rest many = grind (arith, own-few_by, choice-other, longer, long-otherwise)
+long_choice None accepted world n line rest many = refl
+long_choice (Some choice) accepted world n line rest many =
+    let own = one-line world choice in
+    let few = own.part.few in
+    let less : length (lines_of world (choice ∷ [])) ≤ length line =
+    omega (arith, many, few, ap length own.is, length-append own.line (10 ∷ [])) in
+    choice-other (Some choice) choice accepted world n line rest refl (and_no accepted _ (longer line _ less)) ∙ long-otherwise n line many
 
 long_line : (accepted : Bool) (world : World) (n : ℕ) (line : List ℕ) (lines : List (List ℕ)) → 65536 < length line
     → lines_verdict accepted world n (line ∷ lines) ≡ verdict.NotATrace n
@@ -205,36 +226,59 @@ too_long now after line one short many = (
   λ rest.
       let (h, (t, is)) = begun-line line rest one in
       let longer : 65536 < length (line ++ h) = omega (arith, length-append line h, many) in
-      ap (lines_left now) is
-      ∙ long_by now.is_state _ _ (verdict.NotATrace now.number)
+      ap (told_left now) is
+      ∙ told-nothing now after ((line ++ h) ∷ t) now.number
+      (long_by now.is_state _ _ (verdict.NotATrace now.number)
       (long_state (drop now.at now.text.items) now.number (line ++ h) t (short now.at) longer)
-      (long_line now.accepted (world_of now.machine) now.number (line ++ h) t longer),
+      (long_line now.accepted (world_of now.machine) now.number (line ++ h) t longer)),
 )
 
 -- a comparison that begins, by its parts
 left-first : (now : Comparison) (machine : StoredWorld) (bytes : List ℕ) → now.machine ≡ machine → now.accepted ≡ true
-    → now.is_state ≡ false → now.number ≡ 1 → bytes_left now bytes ≡ verdict_of (world_of machine) bytes
+    → now.is_state ≡ false → now.number ≡ 1 → bytes_left now bytes ≡ told_of (world_of machine) bytes
 left-first now machine bytes machine_is accepted_is state_is number_is =
     rw (state_is, accepted_is, machine_is, number_is) refl
 
-verdict-first : (now : Comparison) (machine : StoredWorld) (bytes : List ℕ) (left : Option (List ℕ)) (v : Verdict)
-    → ((rest : List ℕ) → bytes_left now rest ≡ verdict_of (world_of machine) rest)
-    → HasLeft now bytes left v → HasVerdict (world_of machine) bytes left v
-verdict-first now machine bytes left v same (inl (end, is)) = inl (end, sym (same bytes) ∙ is)
-verdict-first now machine bytes left v same (inr is) = inr (λ rest. sym (same (bytes ++ rest)) ∙ is rest)
+told-first : (now : Comparison) (machine : StoredWorld) (bytes : List ℕ) (left : Option (List ℕ)) (told : Told)
+    → ((rest : List ℕ) → bytes_left now rest ≡ told_of (world_of machine) rest)
+    → HasLeft now bytes left told → HasTold (world_of machine) bytes left told
+told-first now machine bytes left told same (inl (end, is)) = inl (end, sym (same bytes) ∙ is)
+told-first now machine bytes left told same (inr is) = inr (λ rest. sym (same (bytes ++ rest)) ∙ is rest)
 
 -- of an image whose program begins in that world
-pub compared : {E : Type 0} (result : Result Verdict E) (image : Image) (now : Comparison) (machine : StoredWorld)
+pub told-all : {E : Type 0} (result : Result Verdict E) (image : Image) (now last : Comparison) (machine : StoredWorld)
     (before after : Option (List ℕ)) → Begins image (world_of machine) → now.machine ≡ machine
     → (now.accepted ≡ true) × (now.is_state ≡ false) → now.number ≡ 1
-    → IfOk result (λ v. (bytes : List ℕ) × (Consumes before after bytes × HasLeft now bytes after v))
-    → IfOk result (λ v. HasCompared image before after v)
-compared (Ok v) image now machine before after begins machine_is start number_is (bytes, (consumed, left)) =
+    → IfOk result (λ v. (bytes : List ℕ) × (Consumes before after bytes × HasLeft now bytes after (told_by v last)))
+    → IfOk result (λ v. HasShown image before after (told_by v last))
+told-all (Ok v) image now last machine before after begins machine_is start number_is (bytes, (consumed, left)) =
     let same = λ (rest : List ℕ). left-first now machine rest machine_is start.0 start.1 number_is in
-    (world_of machine, (bytes, (begins, consumed, verdict-first now machine bytes after v same left)))
-compared (Err e) image now machine before after begins machine_is start number_is p = p
+    (world_of machine, (bytes, (begins, consumed, told-first now machine bytes after (told_by v last) same left)))
+told-all (Err e) image now last machine before after begins machine_is start number_is p = p
 
--- a verdict that is handed on
-pub with_verdict : {E : Type 0} (P : Verdict → Type 0) (result : Result Judged E) (v : Verdict) → P v
-    → IfOk result (λ judged. judged.verdict ≡ v) → IfOk result (λ judged. P judged.verdict)
-with_verdict P result v holds same = grind arith
+-- the verdict alone
+told_verdict : (v : Verdict) (now : Comparison) → (told_by v now).verdict ≡ v
+told_verdict (verdict.Differs n) now = refl
+told_verdict v now = refl
+
+verdict-told : (world : World) (bytes : List ℕ) (left : Option (List ℕ)) (told : Told) (v : Verdict) → told.verdict ≡ v
+    → HasTold world bytes left told → HasVerdict world bytes left v
+verdict-told world bytes left told v same (inl (end, is)) = inl (end, ap (λ (t : Told). t.verdict) is ∙ same)
+verdict-told world bytes left told v same (inr is) = inr (λ rest. ap (λ (t : Told). t.verdict) (is rest) ∙ same)
+
+pub compared : {E : Type 0} (result : Result Verdict E) (image : Image) (last : Comparison) (before after : Option (List ℕ))
+    → IfOk result (λ v. HasShown image before after (told_by v last)) → IfOk result (λ v. HasCompared image before after v)
+compared (Ok v) image last before after (world, (bytes, (begins, consumed, told))) =
+    (world, (bytes, (begins, consumed, verdict-told world bytes after (told_by v last) v (told_verdict v last) told)))
+compared (Err e) image last before after p = p
+
+-- what is told by one who copies the line
+pub with_line : {E : Type 0} (P : Told → Type 0) (result : Result Judged E) (v : Verdict) (last : Comparison) → P (told_by v last)
+    → IfOk result (λ judged. told judged ≡ told_by v last) → IfOk result (λ judged. P (told judged))
+with_line P (Ok judged) v last holds is = subst P (sym is) holds
+with_line P (Err e) v last holds is = tt
+
+pub with_verdict : {E : Type 0} (P : Verdict → Type 0) (result : Result Judged E) (v : Verdict) (last : Comparison) → P v
+    → IfOk result (λ judged. told judged ≡ told_by v last) → IfOk result (λ judged. P judged.verdict)
+with_verdict P (Ok judged) v last holds is = subst P (sym (ap (λ (t : Told). t.verdict) is ∙ told_verdict v last)) holds
+with_verdict P (Err e) v last holds is = tt

@@ -1,19 +1,20 @@
 -- What a comparison of a trace with the run that it names says.
-use Rattle.std.specs.Prelude.{◌≡◌, ◌⊎◌, ℕ, ◌+◌, ◌-◌, ◌&&◌, ◌≤◌, ◌<◌, if◌then◌else◌, Bool, true, List, [], ◌∷◌, ◌++◌, length, Option, Some, None, is_none}
+use Rattle.std.specs.Prelude.{◌≡◌, ◌⊎◌, ℕ, ◌+◌, ◌-◌, ◌&&◌, ◌≤◌, ◌<◌, if◌then◌else◌, Bool, true, List, [], ◌∷◌, ◌++◌, length, Option, Some, None, is_none, option_map, zero, suc}
 use Rattle.std.specs.Io.KnownBytes.{Appends, Consumes, IsAtEnd}
-use Rattle.std.specs.List.{count_by, slice_split}
+use Rattle.std.specs.List.{before_first, count_by, slice_split}
 use Rattle.std.specs.Str.{bytes_eq}
 use Rattle.line_reader.specs.Words.{is_line_end}
 use Rattle.row_code.specs.declared.image.Image.{Image}
 use Rattle.thread_machine.specs.declared.choice.Choice.{Choice}
 use Rattle.thread_machine.specs.World.{World}
 use Rattle.thread_machine.specs.Execution.{execution}
+use Rattle.trace_compare.specs.declared.comparison.Judged.{Judged}
 use Rattle.trace_compare.specs.declared.comparison.Verdict.{Verdict}
 use Rattle.trace_compare.specs.declared.comparison.Verdict.TheVariants as verdict
 use Rattle.trace_text.specs.Reading.{after_line, choice_in, first_line, is_state_line, is_too_long}
 use Rattle.trace_text.specs.Start.{Begins}
 use Rattle.trace_text.specs.State.{state_text}
-use Rattle.trace_text.specs.Trace.{lines_of}
+use Rattle.trace_text.specs.Trace.{lines_of, trace_of}
 
 -- the verdict on a line that isn't the run's own: only such a line is asked for its length
 abbrev pub otherwise : ℕ → List ℕ → Verdict
@@ -66,6 +67,31 @@ choices_of_trace trace = choices_in (slice_split is_line_end trace)
 abbrev pub verdict_of : World → List ℕ → Verdict
 verdict_of world trace = lines_verdict true world 1 (slice_split is_line_end trace)
 
+-- line n of a text, counted from 0, without its LF, if the text has so many
+abbrev pub line_at : ℕ → List ℕ → Option (List ℕ)
+line_at n [] = None
+line_at zero (byte ∷ text) = Some (before_first is_line_end (byte ∷ text))
+line_at (suc n) (byte ∷ text) = line_at n (after_line (byte ∷ text))
+
+-- the line whose number a verdict tells as one that differs, of a text whose first line has the number `first`
+abbrev pub line_by : Verdict → ℕ → List ℕ → Option (List ℕ)
+line_by (verdict.Differs n) first text = line_at (n - first) text
+line_by v first text = None
+
+-- what is told of a trace: the verdict, and the run's line where the trace's differs, if the run has one there
+pub record Told : Type 0 where
+  pub verdict : Verdict
+  pub line : Option (List ℕ)
+
+abbrev pub told : Judged → Told
+told judged = record { verdict = judged.verdict; line = option_map (λ line. line.items) judged.run }
+
+-- of a whole trace: that line of the trace of the choices which its lines name
+abbrev pub told_of : World → List ℕ → Told
+told_of world trace =
+    let v = verdict_of world trace in
+    record { verdict = v; line = line_by v 1 (trace_of world (choices_of_trace trace)) }
+
 -- a trace that begins with these bytes has this verdict: it ends with them, or whatever comes after them makes no difference
 abbrev pub HasVerdict : World → List ℕ → Option (List ℕ) → Verdict → Type 0
 HasVerdict world bytes left v =
@@ -76,6 +102,16 @@ abbrev pub HasCompared : Image → Option (List ℕ) → Option (List ℕ) → V
 HasCompared image before after v =
     (world : World) × ((bytes : List ℕ)
     × (Begins image world × Consumes before after bytes × HasVerdict world bytes after v))
+
+-- and the same of what is told
+abbrev pub HasTold : World → List ℕ → Option (List ℕ) → Told → Type 0
+HasTold world bytes left told =
+    (IsAtEnd left × (told_of world bytes ≡ told)) ⊎ ((rest : List ℕ) → told_of world (bytes ++ rest) ≡ told)
+
+abbrev pub HasShown : Image → Option (List ℕ) → Option (List ℕ) → Told → Type 0
+HasShown image before after told =
+    (world : World) × ((bytes : List ℕ)
+    × (Begins image world × Consumes before after bytes × HasTold world bytes after told))
 
 -- the bytes that were read hold no line behind this one whole, but for those that came in one piece with its end
 abbrev pub IsReadUpTo : ℕ → Option (List ℕ) → Option (List ℕ) → Type 0

@@ -1,5 +1,5 @@
 -- What the lines that are left make of a comparison. Nobody has to believe this: it is what proofs go by, from line to line.
-use Rattle.std.specs.Prelude.{◌≡◌, ◌⊎◌, [], ◌∷◌, ◌+◌, ◌<◌, ◌≤◌, ◌++◌, ℕ, false, true, List, drop, length, take, if◌then◌else◌, Option, Some, None}
+use Rattle.std.specs.Prelude.{◌≡◌, ◌⊎◌, [], ◌∷◌, ◌+◌, ◌-◌, ◌<◌, ◌≤◌, ◌++◌, ◌&&◌, ◌||◌, not, ℕ, Bool, false, true, List, drop, length, take, if◌then◌else◌, Option, Some, None}
 use Rattle.std.specs.Io.KnownBytes.{IsAtEnd}
 use Rattle.std.specs.List.{count_by, slice_split}
 use Rattle.byte_ports.specs.SourceLines.{Lines}
@@ -10,7 +10,10 @@ use Rattle.thread_machine.specs.World.{world_of}
 use Rattle.trace_compare.specs.declared.comparison.Comparison.{Comparison}
 use Rattle.trace_compare.specs.declared.comparison.Verdict.{Verdict}
 use Rattle.trace_compare.specs.declared.comparison.Verdict.TheVariants as verdict
-use Rattle.trace_compare.specs.Compare.{IsReadUpTo, lines_verdict, state_verdict}
+use Rattle.trace_text.specs.Reading.{is_state_line}
+use Rattle.trace_text.specs.State.{state_text}
+use Rattle.trace_text.specs.Trace.{trace_of}
+use Rattle.trace_compare.specs.Compare.{IsReadUpTo, Told, choices_in, line_at, line_by, lines_verdict, state_verdict}
 use Rattle.trace_compare.specs.NamedLines.{HasGone, none_read}
 
 -- a verdict that was reached, else what the rest makes of it
@@ -23,14 +26,62 @@ lines_left now lines =
     if now.is_state then state_verdict (drop now.at now.text.items) now.number lines
     else lines_verdict now.accepted (world_of now.machine) now.number lines
 
+-- lines begin with that of a state
+abbrev pub is_state_first : List (List ℕ) → Bool
+is_state_first [] = false
+is_state_first (line ∷ lines) = is_state_line line
+
+-- the run's text from its next line on, by the lines that are left. Of a line that is missed no more is kept: nothing is taken
+-- behind it.
+abbrev pub text_left : Comparison → List (List ℕ) → List ℕ
+text_left now lines =
+    if now.is_state then drop now.at now.text.items
+    else (if now.accepted then trace_of (world_of now.machine) (choices_in lines)
+    else (if now.missed && not (is_state_first lines) then now.expected else state_text (world_of now.machine)))
+
+-- what is told by the lines that are left
+abbrev pub told_left : Comparison → List (List ℕ) → Told
+told_left now lines =
+    let v = lines_left now lines in record { verdict = v; line = line_by v now.number (text_left now lines) }
+
+-- the run's line that a comparison has where one differs
+abbrev pub line_kept : Comparison → Option (List ℕ)
+line_kept now =
+    line_at 0 (if now.is_state then drop now.at now.text.items
+    else (if now.accepted || now.missed then now.expected else state_text (world_of now.machine)))
+
+-- what is told with it
+abbrev pub told_by : Verdict → Comparison → Told
+told_by (verdict.Differs n) now = record { verdict = verdict.Differs n; line = line_kept now }
+told_by v now = record { verdict = v; line = None }
+
+-- a line was the run's, or it differs and is kept
+abbrev pub MeetsText : Comparison → Comparison → List ℕ → List (List ℕ) → Option Verdict → Type 0
+MeetsText before after line lines None = text_left before (line ∷ lines) ≡ (line ++ 10 ∷ []) ++ text_left after lines
+MeetsText before after line lines (Some (verdict.Differs n)) =
+    (n ≡ before.number) × (line_at 0 (text_left before (line ∷ lines)) ≡ line_kept after)
+MeetsText before after line lines (Some v) = Unit {0}
+
+-- a line of the state text was taken last
+abbrev pub StandsBehind : Comparison → List ℕ → Type 0
+StandsBehind now line =
+    (length line + 1 ≤ now.at)
+    × (drop (now.at - (length line + 1)) now.text.items ≡ (line ++ 10 ∷ []) ++ drop now.at now.text.items)
+
+-- no line more came behind this one: what differs is the one that is due, or itself, which is due again
+abbrev pub HasEndedBehind : Comparison → Comparison → List ℕ → Verdict → Type 0
+HasEndedBehind before after line (verdict.Differs n) =
+    line_by (verdict.Differs n) (before.number - 1) ((line ++ 10 ∷ []) ++ text_left before []) ≡ line_kept after
+HasEndedBehind before after line v = Unit {0}
+
 -- not all is said: something of the state text is due, or of the trace left
 abbrev pub IsOpen : Comparison → List ℕ → List (List ℕ) → Type 0
 IsOpen now line lines =
     now.is_state ≡ true → 0 < length (drop now.at now.text.items) + (length line + length lines)
 
 -- what the bytes that are left make of it
-abbrev pub bytes_left : Comparison → List ℕ → Verdict
-bytes_left now bytes = lines_left now (slice_split is_line_end bytes)
+abbrev pub bytes_left : Comparison → List ℕ → Told
+bytes_left now bytes = told_left now (slice_split is_line_end bytes)
 
 -- how many lines end in these bytes
 abbrev pub line_ends : List ℕ → ℕ
@@ -66,16 +117,16 @@ HasJudged before after ended line None =
     (ended ≡ how.Whole) × (after.number ≡ before.number + 1)
     × ((rest : List ℕ) → bytes_left before ((line ++ 10 ∷ []) ++ rest) ≡ bytes_left after rest)
 HasJudged before after how.Whole line (Some v) =
-    StandsFrom before.number v × ((rest : List ℕ) → bytes_left before ((line ++ 10 ∷ []) ++ rest) ≡ v)
+    StandsFrom before.number v × ((rest : List ℕ) → bytes_left before ((line ++ 10 ∷ []) ++ rest) ≡ told_by v after)
 HasJudged before after how.AtEnd line (Some v) =
-    ((v ≡ verdict.Same) ⊎ StandsFrom before.number v) × (bytes_left before line ≡ v)
+    ((v ≡ verdict.Same) ⊎ StandsFrom before.number v) × (bytes_left before line ≡ told_by v after)
 HasJudged before after how.TooLong line (Some v) =
-    StandsFrom before.number v × ((rest : List ℕ) → bytes_left before (line ++ rest) ≡ v)
+    StandsFrom before.number v × ((rest : List ℕ) → bytes_left before (line ++ rest) ≡ told_by v after)
 
--- these bytes reach a verdict: the trace ends with them, or whatever comes after them makes no difference
-abbrev pub HasLeft : Comparison → List ℕ → Option (List ℕ) → Verdict → Type 0
-HasLeft now bytes left v =
-    (IsAtEnd left × (bytes_left now bytes ≡ v)) ⊎ ((rest : List ℕ) → bytes_left now (bytes ++ rest) ≡ v)
+-- these bytes tell this: the trace ends with them, or whatever comes after them makes no difference
+abbrev pub HasLeft : Comparison → List ℕ → Option (List ℕ) → Told → Type 0
+HasLeft now bytes left told =
+    (IsAtEnd left × (bytes_left now bytes ≡ told)) ⊎ ((rest : List ℕ) → bytes_left now (bytes ++ rest) ≡ told)
 
 -- a comparison that began so has come to this behind as many lines at least, which reached no verdict: a byte each was taken at
 -- least, and what is held and comes makes the same of it

@@ -1,13 +1,13 @@
-ghost use Rattle.std.specs.Prelude.{◌≡◌, ◌≢◌, ◌⊎◌, IsTrue, IfErr, Err, false, true, ◌==◌, ◌&&◌, ◌<◌, ◌≤◌, ◌+◌, ◌-◌, ◌++◌, ◌∷◌, [], List, ℕ, Option, None, Ok, IfOk, drop, length, take};
+ghost use Rattle.std.specs.Prelude.{◌≡◌, ◌≢◌, ◌⊎◌, IsTrue, IfErr, Err, false, true, ◌==◌, ◌&&◌, ◌<◌, ◌≤◌, ◌+◌, ◌-◌, ◌++◌, ◌∷◌, [], List, ℕ, Option, None, Ok, IfOk, OnOk, drop, length, option_map, take};
 ghost use Rattle.std.specs.Io.KnownBytes.{Consumes};
 ghost use Rattle.std.specs.Str.{bytes_eq};
 ghost use Rattle.byte_ports.specs.SourceLines.{HasCome, IsOneLine};
 ghost use Rattle.thread_machine.specs.World.{world_of};
 ghost use Rattle.trace_text.specs.RunText.{GivesOnAndOn};
 ghost use Rattle.trace_text.specs.Start.{IsRefused, is_want_of_memory};
-ghost use Rattle.trace_text.specs.Reading.{HasNoLongLine, choice_in};
-ghost use Rattle.trace_compare.specs.Compare.{HasCompared, IsReadNoFurther, choice_verdict, lines_verdict, state_verdict};
-ghost use Rattle.trace_compare.specs.Comparing.{GoesOver, HasCounted, HasJudged, HasLeft, IsOpen, IsReading, StandsFrom, decided, lines_left};
+ghost use Rattle.trace_text.specs.Reading.{HasNoLongLine, choice_in, is_state_line};
+ghost use Rattle.trace_compare.specs.Compare.{HasCompared, HasShown, IsReadNoFurther, choice_verdict, line_at, lines_verdict, state_verdict, told};
+ghost use Rattle.trace_compare.specs.Comparing.{GoesOver, HasCounted, HasEndedBehind, HasJudged, HasLeft, IsOpen, IsReading, MeetsText, StandsBehind, StandsFrom, decided, line_kept, lines_left, told_by, told_left};
 
 use crate::naming::MOST_LINES;
 use byte_ports::{LineEnded, Source, SourceLines};
@@ -66,6 +66,8 @@ struct Comparison {
     kept: KeptLine,
     /// Whether all choices so far were accepted.
     accepted: bool,
+    /// Whether the last one was played for the line that comes, which isn't its own: then none counts as accepted any more.
+    missed: bool,
     /// Whether the state line has come.
     is_state: bool,
     /// The state text, once the state line has come, and how much of it has.
@@ -103,6 +105,7 @@ impl Comparison {
             again: false,
             kept: KeptLine::new(),
             accepted: true,
+            missed: false,
             is_state: false,
             text: Vec::new(alloc),
             at: 0,
@@ -118,6 +121,8 @@ impl Comparison {
             (choice_in line.now) self.old.accepted (world_of self.old.machine) self.old.number line.now
             (λ accepted after. lines_verdict accepted after (self.old.number + 1) lines)
             ≡ decided verdict (lines_verdict self.new.accepted (world_of self.new.machine) self.new.number lines)) }
+        ensures meets { (lines : List (List ℕ)) → self.old.is_state ≡ false → is_state_line line.now ≡ false
+            → IfOk result (λ verdict. MeetsText self.old self.new line.now lines verdict) }
         ensures text { (self.new.text ≡ self.old.text) × (self.new.at ≡ self.old.at) }
         ensures stage { self.new.is_state ≡ self.old.is_state }
         ensures counted { IfOk result (λ verdict. HasCounted self.old.number self.new.number verdict) }
@@ -136,6 +141,7 @@ impl Comparison {
             return Ok(Some(Verdict::Differs { line: self.number }));
         }
         self.accepted = accepted;
+        self.missed = false;
         self.number += 1;
         Ok(None)
     }
@@ -149,6 +155,9 @@ impl Comparison {
             → 0 < length (drop self.old.at self.old.text.items) + (length line.now + length lines)
             → state_verdict (drop self.old.at self.old.text.items) self.old.number (line.now ∷ lines)
             ≡ decided result (state_verdict (drop self.new.at self.new.text.items) self.new.number lines) }
+        ensures meets { (lines : List (List ℕ)) → self.old.is_state ≡ true
+            → MeetsText self.old self.new line.now lines result }
+        ensures behind { result ≡ None → StandsBehind self.new line.now }
         ensures text { self.new.text ≡ self.old.text }
         ensures at { self.new.at ≤ length self.new.text.items }
         ensures stage { self.new.is_state ≡ self.old.is_state }
@@ -173,6 +182,9 @@ impl Comparison {
         ensures verdict { (lines : List (List ℕ)) → IsOpen self.old line.now lines
             → IfOk result (λ verdict. lines_left self.old (line.now ∷ lines)
             ≡ decided verdict (lines_left self.new lines)) }
+        ensures meets { (lines : List (List ℕ))
+            → IfOk result (λ verdict. MeetsText self.old self.new line.now lines verdict) }
+        ensures behind { result ≡ Ok None → self.new.is_state ≡ true → StandsBehind self.new line.now }
         ensures at { self.new.at ≤ length self.new.text.items }
         ensures short { HasNoLongLine self.old.text.items → HasNoLongLine self.new.text.items }
         ensures counted { IfOk result (λ verdict. HasCounted self.old.number self.new.number verdict) }
@@ -204,7 +216,7 @@ impl Comparison {
             × (result ≡ length self.old.expected)
             × (self.new ≡ record self.old { number = self.old.number + 1 }) }
         ensures missed { result ≡ 0 → (take (length self.old.expected) bytes.now ≢ self.old.expected)
-            × (self.new ≡ record self.old { accepted = false }) }
+            × (self.new ≡ record self.old { accepted = false; missed = true }) }
     {
         let line = self.expected.as_slice();
         let length = line.len();
@@ -213,6 +225,7 @@ impl Comparison {
             return length;
         }
         self.accepted = false;
+        self.missed = true;
         0
     }
 
@@ -255,7 +268,7 @@ impl Comparison {
         ensures { IfOk result (λ count. GoesOver self.old self.new bytes.now count) }
     {
         self.next.move_to(self.machine.choices() + 1);
-        let Some(choice) = choice_behind(bytes, self.next.count()) else {
+        let Some(choice) = choice_behind(bytes, self.next.as_slice()) else {
             return Ok(0);
         };
         if usize::from(choice.thread) >= self.machine.thread_count() {
@@ -328,21 +341,25 @@ impl Comparison {
         Ok(done)
     }
 
-    /// The verdict where no more lines come.
-    fn end_verdict(&self) -> Verdict
-        requires { self.now.at ≤ length self.now.text.items }
-        ensures verdict { result ≡ lines_left self.now [] }
-        ensures stands { 0 < self.now.number → StandsFrom (self.now.number - 1) result }
+    /// The verdict where no more lines come behind this one. Where its LF is all that is missing, the run's line is due again.
+    fn end_verdict(&mut self, line: &[u8]) -> Verdict
+        requires at { self.old.at ≤ length self.old.text.items }
+        requires behind { self.old.is_state ≡ true → StandsBehind self.old line.now }
+        requires one { IsOneLine line.now }
+        ensures verdict { result ≡ lines_left self.old [] }
+        ensures kept { 0 < self.old.number → HasEndedBehind self.old self.new line.now result }
+        ensures at { self.new.at ≤ length self.new.text.items }
+        ensures stands { 0 < self.old.number → StandsFrom (self.old.number - 1) result }
     {
         if !self.is_state {
             return Verdict::NotATrace { line: self.number };
         }
-        if rest_of(self.text.as_slice(), self.at).is_empty() {
-            Verdict::Differs {
-                line: self.number.saturating_sub(1),
-            }
-        } else {
-            Verdict::Differs { line: self.number }
+        if !rest_of(self.text.as_slice(), self.at).is_empty() {
+            return Verdict::Differs { line: self.number };
+        }
+        self.at -= line.len() + 1;
+        Verdict::Differs {
+            line: self.number.saturating_sub(1),
         }
     }
 
@@ -363,8 +380,10 @@ impl Comparison {
     fn end(&mut self, alloc: Global, line: &[u8]) -> Result<Verdict, AllocError>
         requires number { self.old.number < 9223372036854775807 }
         requires few { length line.now ≤ 65536 }
+        requires one { IsOneLine line.now }
         requires at { self.old.at ≤ length self.old.text.items }
-        ensures verdict { IfOk result (λ verdict. lines_left self.old (line.now ∷ []) ≡ verdict) }
+        ensures told { IfOk result (λ verdict. told_left self.old (line.now ∷ []) ≡ told_by verdict self.new) }
+        ensures at { self.new.at ≤ length self.new.text.items }
         ensures stands { IfOk result (λ verdict. (verdict ≡ Verdict.Same) ⊎ StandsFrom self.old.number verdict) }
     {
         if self.is_whole(line) {
@@ -372,7 +391,7 @@ impl Comparison {
         }
         match self.take_line(alloc, line) {
             Ok(Some(verdict)) => Ok(verdict),
-            Ok(None) => Ok(self.end_verdict()),
+            Ok(None) => Ok(self.end_verdict(line)),
             Err(error) => Err(error),
         }
     }
@@ -390,7 +409,7 @@ impl Comparison {
         requires one { IsOneLine line.now }
         requires came { (left : Option (List ℕ)) × HasCome ended line.now left }
         ensures judged { IfOk result (λ verdict. HasJudged self.old self.new ended line.now verdict) }
-        ensures at { result ≡ Ok None → self.new.at ≤ length self.new.text.items }
+        ensures at { self.new.at ≤ length self.new.text.items }
         ensures short { result ≡ Ok None → HasNoLongLine self.new.text.items }
     {
         match ended {
@@ -405,48 +424,31 @@ impl Comparison {
 }
 
 /// The line that these bytes begin with, without its LF; none where there are no bytes.
-fn first_line(alloc: Global, bytes: &[u8]) -> Result<Option<Vec<u8>>, AllocError> {
+fn first_line(alloc: Global, bytes: &[u8]) -> Result<Option<Vec<u8>>, AllocError>
+    ensures { IfOk result (λ line. option_map (λ l. l.items) line ≡ line_at 0 bytes.now) }
+{
     if bytes.is_empty() {
         return Ok(None);
     }
-    let end = length_before(b'\n', bytes).min(bytes.len());
-    Ok(Some(Vec::from_slice(alloc, &bytes[..end])?))
+    let line = first_bytes(bytes, length_before(b'\n', bytes));
+    Ok(Some(Vec::from_slice(alloc, line)?))
 }
 
 impl Comparison {
-    /// The run's line of this number, where the verdict is that the trace's line of that number differs; none where the run has
-    /// no line more. No choice is played for it: it is the line of the choice that was played last, or one of the state text.
-    fn run_line(&self, alloc: Global, number: u64) -> Result<Option<Vec<u8>>, AllocError> {
+    /// The run's line where the trace's differs, if the run has one there. No choice is played for it: it is the line of the
+    /// choice that was played last, or one of the state text.
+    fn run_line(&self, alloc: Global) -> Result<Option<Vec<u8>>, AllocError>
+        requires { self.now.at ≤ length self.now.text.items }
+        ensures { IfOk result (λ line. option_map (λ l. l.items) line ≡ line_kept self.now) }
+    {
         if self.is_state {
-            let text = self.text.as_slice();
-            let due = rest_of_text(text, self.at);
-            // The last line of all differs where its LF is missing.
-            if due.is_empty() && number < self.number {
-                return first_line(alloc, last_line(text));
-            }
-            return first_line(alloc, due);
+            return first_line(alloc, rest_of(self.text.as_slice(), self.at));
         }
-        if self.accepted || self.machine.choices() == number {
+        if self.accepted || self.missed {
             return first_line(alloc, self.expected.as_slice());
         }
         first_line(alloc, state_text(alloc, &self.machine)?.as_slice())
     }
-}
-
-/// What stands in a text from this place on.
-fn rest_of_text(text: &[u8], at: usize) -> &[u8] {
-    &text[at.min(text.len())..]
-}
-
-/// The last line of a text whose lines all end with an LF.
-fn last_line(text: &[u8]) -> &[u8] {
-    let mut start = 0;
-    for at in 1..text.len() {
-        if text[at - 1] == b'\n' {
-            start = at;
-        }
-    }
-    &text[start.min(text.len())..]
 }
 
 /// Compares a trace with the run from the world in which the comparison stands. The run's own lines are taken where they lie,
@@ -461,7 +463,8 @@ fn compare_lines<S: Source>(
     requires short { HasNoLongLine now.old.text.items }
     ensures verdict { IfOk result (λ verdict. (bytes : List ℕ)
         × (Consumes (S.left trace.old) (S.left trace.new) bytes
-        × HasLeft now.old bytes (S.left trace.new) verdict)) }
+        × HasLeft now.old bytes (S.left trace.new) (told_by verdict now.new))) }
+    ensures at { OnOk result (now.new.at ≤ length now.new.text.items) }
     ensures far { IfOk result (λ verdict. IsReadNoFurther (S.left trace.old) (S.left trace.new) verdict) }
     ensures read { result ≡ Err CompareFault.Read → IsTrue (S.has_failed trace.new)
         ⊎ GivesOnAndOn (S.left trace.old) (S.left trace.new) }
@@ -537,8 +540,7 @@ pub fn compare_shown<S: Source>(
     image: Image,
     trace: &mut S,
 ) -> Result<Judged, CompareFault>
-    ensures verdict { IfOk result (λ judged.
-        HasCompared image (S.left trace.old) (S.left trace.new) judged.verdict) }
+    ensures shown { IfOk result (λ judged. HasShown image (S.left trace.old) (S.left trace.new) (told judged)) }
     ensures far { IfOk result (λ judged. IsReadNoFurther (S.left trace.old) (S.left trace.new) judged.verdict) }
     ensures load { (fault : LoadFault) → result ≡ Err (CompareFault.Load fault)
         → IsRefused fault image × (S.left trace.new ≡ S.left trace.old) }
@@ -563,13 +565,14 @@ pub fn compare_shown<S: Source>(
 
 /// A verdict with the line that a comparison has for it.
 fn with_run_line(alloc: Global, now: &Comparison, verdict: Verdict) -> Result<Judged, CompareFault>
-    ensures verdict { IfOk result (λ judged. judged.verdict ≡ verdict) }
+    requires { now.now.at ≤ length now.now.text.items }
+    ensures told { IfOk result (λ judged. told judged ≡ told_by verdict now.now) }
     ensures fault { IfErr result (λ fault. fault ≡ CompareFault.Memory) }
 {
-    let Verdict::Differs { line } = verdict else {
+    let Verdict::Differs { .. } = verdict else {
         return Ok(Judged { verdict, run: None });
     };
-    match now.run_line(alloc, line) {
+    match now.run_line(alloc) {
         Ok(run) => Ok(Judged { verdict, run }),
         Err(_) => Err(CompareFault::Memory),
     }

@@ -61,12 +61,6 @@ named_by_two (a ∷ b ∷ c ∷ d ∷ e ∷ rest) expiry long space letter ten s
     (ap (λ n. n ∷ b ∷ c ∷ d ∷ e ∷ rest) space ∙ ap (λ n. 32 ∷ b ∷ c ∷ d ∷ n ∷ rest) after)
 named_by_two _ expiry long space letter ten some digit after few = absurd (omega arith)
 
--- a choice that was found behind so many bytes
-pub named_there : (found : Option Choice) (bytes : List ℕ) (count : ℕ) (behind : List ℕ) → (get_or bytes 0 0 ≡ 115 → ⊥)
-    → behind ≡ drop count bytes → IfSome found (λ choice. BeginsWithName behind choice)
-    → IfSome found (λ choice. NamesBehind bytes count choice)
-named_there found bytes count behind other is p = grind arith
-
 -- the letter of an expiry, and of a turn
 pub letter_x : (letter : ℕ) → letter ≡ 120 → cond (letter == 120) 120 116 ≡ letter
 letter_x letter is = ap (λ b. cond b 120 116) (eq-eqb letter 120 is) ∙ sym is

@@ -180,16 +180,16 @@ refusal-own step choice None few there = own_line step choice 6 (codes "- none\n
 refusal-own step choice (Some pc) few there =
     own_line step choice 70 (decimal pc ++ codes " limit\n") (omega arith) few there (limit-line pc)
 
--- whatever its numbers are, the line of a choice isn't long
-text-few : (step : ℕ) (choice : Choice) (n : ℕ) (rest : List ℕ) → n ≤ 276 → IsLine n rest []
-    → length (choice_text step choice ++ rest) ≤ 408
-text-few step choice n rest few p =
-    let first = choice-part step choice in
-    grind (arith, length-append)
+-- whatever its numbers are, the line of a choice is one, and isn't long
+one_line : (step : ℕ) (choice : Choice) (n : ℕ) (rest : List ℕ) → n ≤ 276 → IsLine n rest []
+    → IsLine 407 (choice_text step choice ++ rest) []
+one_line step choice n rest few p =
+    let q = Line-after 131 n (choice_text step choice) rest [] (choice-part step choice) p in
+    record { line = q.line; part = Part-more (131 + n) 407 q.line (omega (arith, few)) q.part; is = q.is }
 
-pub event-few : (step : ℕ) (choice : Choice) (pc : ℕ) (event : Event) → length (event_text step choice pc event) ≤ 408
-event-few step choice pc event = text-few step choice 276 _ (omega arith) (event-line pc event)
+pub event-one : (step : ℕ) (choice : Choice) (pc : ℕ) (event : Event) → IsLine 407 (event_text step choice pc event) []
+event-one step choice pc event = one_line step choice 276 _ (omega arith) (event-line pc event)
 
-pub refusal-few : (step : ℕ) (choice : Choice) (pc : Option ℕ) → length (refusal_text step choice pc) ≤ 408
-refusal-few step choice None = text-few step choice 6 (codes "- none\n") (omega arith) none-line
-refusal-few step choice (Some pc) = text-few step choice 70 (decimal pc ++ codes " limit\n") (omega arith) (limit-line pc)
+pub refusal-one : (step : ℕ) (choice : Choice) (pc : Option ℕ) → IsLine 407 (refusal_text step choice pc) []
+refusal-one step choice None = one_line step choice 6 (codes "- none\n") (omega arith) none-line
+refusal-one step choice (Some pc) = one_line step choice 70 (decimal pc ++ codes " limit\n") (omega arith) (limit-line pc)

@@ -1,5 +1,5 @@
 -- What a line of a trace names, to one who reads it.
-use Rattle.std.specs.Prelude.{◌≡◌, ◌≢◌, ℕ, ◌+◌, ◌-◌, ◌*◌, ◌==◌, ◌&&◌, ◌≤◌, nat_lt, nat_le, not, if◌then◌else◌, Bool, true, false, List, [], ◌∷◌, ◌++◌, length, take, drop, codes, decimal, get_or, Option, Some, None}
+use Rattle.std.specs.Prelude.{◌≡◌, ℕ, ◌+◌, ◌-◌, ◌*◌, ◌==◌, ◌&&◌, ◌≤◌, nat_lt, nat_le, not, if◌then◌else◌, Bool, true, false, List, [], ◌∷◌, ◌++◌, length, take, drop, codes, decimal, Option, Some, None}
 use Rattle.std.specs.Char.{is_ascii_digit}
 use Rattle.std.specs.List.{before_first, after_first, list_all, position_or_len}
 use Rattle.std.specs.Str.{bytes_eq}
@@ -68,6 +68,7 @@ BeginsWithName bytes choice =
     (choice.thread ≤ 63) × ((rest : List ℕ)
     × (bytes ≡ ((if choice.expiry then codes " x" else codes " t") ++ (decimal choice.thread ++ codes " ")) ++ rest))
 
--- bytes don't begin with the `s` of `state`, and behind so many of them stands the name of a choice
-abbrev pub NamesBehind : List ℕ → ℕ → Choice → Type 0
-NamesBehind bytes count choice = (get_or bytes 0 0 ≢ 115) × BeginsWithName (drop count bytes) choice
+-- bytes begin with this number, and behind it stands the name of a choice
+abbrev pub NamesBehind : List ℕ → List ℕ → Choice → Type 0
+NamesBehind bytes number choice =
+    (take (length number) bytes ≡ number) × BeginsWithName (drop (length number) bytes) choice

@@ -93,14 +93,14 @@ fn choice_between_spaces(bytes: &[u8]) -> Option<Choice>
     Some(Choice { thread, expiry })
 }
 
-/// The choice that is named behind so many bytes, where they don't begin a state line. `None` says nothing of the line.
+/// The choice that is named behind this number, where bytes begin with it. `None` says nothing of the line.
 #[inline(always)]
-pub fn choice_behind(bytes: &[u8], count: usize) -> Option<Choice>
-    requires { count ≤ length bytes.now }
-    ensures { IfSome result (λ choice. NamesBehind bytes.now count choice) }
+pub fn choice_behind(bytes: &[u8], number: &[u8]) -> Option<Choice>
+    requires { length number.now ≤ length bytes.now }
+    ensures { IfSome result (λ choice. NamesBehind bytes.now number.now choice) }
 {
-    if bytes.is_empty() || bytes[0] == b's' {
+    if !begins_with(bytes, number) {
         return None;
     }
-    choice_between_spaces(rest_of(bytes, count))
+    choice_between_spaces(rest_of(bytes, number.len()))
 }

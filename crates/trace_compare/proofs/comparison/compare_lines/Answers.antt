@@ -90,7 +90,7 @@ loop-preserved g c =
           c.in-Ok-read_line.ended c.read_line.new.self.line own c.in-Ok-read_line.ensures.one judged c.in-Ok-read_line.ensures.bytes
           c.in-Ok-read_line.ensures.given c.in-Ok-read_line.ensures.behind far;
       number = omega (arith, inv.number, over.number, over.within, c.held.ensures.few, next);
-      at = c.in-Ok-None.ensures.at (ap Ok c.in-Ok-None.field-0-is);
+      at = c.in-Ok-None.ensures.at;
       short = c.in-Ok-None.ensures.short (ap Ok c.in-Ok-None.field-0-is);
       reads = omega (arith, inv.reads, c.read_line.ensures.reads, c.skip.ensures.reads);
       within = c.read_line.ensures.within;

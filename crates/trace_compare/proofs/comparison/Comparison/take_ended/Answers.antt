@@ -7,12 +7,12 @@ pub returns-in-Whole-clause-judged : goal.returns-in-Whole-clause-judged
 returns-in-Whole-clause-judged c =
     rw c.in-Whole.is
     (judged-whole c.take_line.result c.args.self.now c.take_line.new.self c.args.line.now c.requires.one c.take_line.ensures.verdict
-    c.take_line.ensures.counted)
+    c.take_line.ensures.meets c.take_line.ensures.counted)
 
 pub returns-in-Ok-clause-judged : goal.returns-in-Ok-clause-judged
 returns-in-Ok-clause-judged c =
     rw c.in-AtEnd.is
-    (judged-last c.args.self.now c.end.new.self c.args.line.now c.in-Ok.verdict c.requires.one c.in-Ok.ensures.verdict c.in-Ok.ensures.stands)
+    (judged-last c.args.self.now c.end.new.self c.args.line.now c.in-Ok.verdict c.requires.one c.in-Ok.ensures.told c.in-Ok.ensures.stands)
 
 pub returns-in-TooLong-clause-judged : goal.returns-in-TooLong-clause-judged
 returns-in-TooLong-clause-judged c =
