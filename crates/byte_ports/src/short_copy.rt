@@ -15,10 +15,10 @@ fn copy_ends<const N: usize>(from: &[u8], to: &mut [u8])
     ) else {
         unreachable!()
     };
-    let first = *first;
-    let last = *last;
     let behind = to.len() - N;
+    let first = *first;
     to[..N].copy_from_slice(&first);
+    let last = *last;
     to[behind..].copy_from_slice(&last);
 }
 

@@ -19,6 +19,12 @@ set_without a k fits within t = grind (arith, has-without)
 
 pub ruleset set_at = (set_with, set_without)
 
+-- one that isn't in the set, and stays out of it
+pub stays_out : (set k : ℕ) → has set k ≡ false → (t : ℕ) → has set t ≡ (if k == t then false else has set t)
+stays_out set k out t = grind (arith, cases_eq, other-is)
+
+pub ruleset joined = (set_with, stays_out)
+
 -- one thread was put to the test anew
 abbrev pub IsTestedAt : (ℕ → Bool) → ℕ → ℕ → ℕ → Type 0
 IsTestedAt test t before set = (u : ℕ) → has set u ≡ (if t == u then test u else has before u)

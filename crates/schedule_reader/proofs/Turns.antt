@@ -1,5 +1,5 @@
 -- A turn that is named once, read whole.
-use Rattle.std.proofs.Common.{inl, ◌≡◌, ◌∙◌, ◌+◌, ◌-◌, ◌*◌, ◌<◌, ◌≤◌, if◌then◌else◌, ℕ, Bool, true, false, List, [], ◌∷◌, ◌++◌, length, drop, refl, ap, sym, subst, arith, lit≤, append_assoc, drop-drop}
+use Rattle.std.proofs.Common.{◌≡◌, ◌∙◌, ◌+◌, ◌-◌, ◌*◌, ◌<◌, ◌≤◌, if◌then◌else◌, ℕ, Bool, true, false, List, [], ◌∷◌, ◌++◌, length, drop, refl, ap, sym, subst, arith, lit≤, append_assoc, drop-drop}
 use Rattle.std.specs.Prelude.{All, Ok, Err, get_or}
 use Rattle.std.specs.List.{slice_split}
 use Rattle.std.specs.Char.{is_ascii_digit, digit_value}
@@ -13,10 +13,10 @@ use Rattle.schedule_reader.specs.declared.fault.ScheduleFault.{ScheduleFault}
 use Rattle.schedule_reader.specs.declared.fault.ScheduleFault.TheVariants as fault
 use Rattle.schedule_reader.specs.declared.place.Place.{Place}
 use Rattle.schedule_reader.specs.declared.place.Place.TheVariants as place
-use Rattle.schedule_reader.specs.Schedule.{Token, Schedule, IsRun, Unfinished, is_blank, schedule_with, choice_of, run_of, digits_of, reading_of, reading_of_thread, reading_by_thread}
+use Rattle.schedule_reader.specs.Schedule.{Token, IsRun, Unfinished, is_blank, schedule_with, choice_of, run_of, digits_of, reading_of, reading_of_thread, reading_by_thread}
 use Rattle.schedule_reader.specs.Places.{BeginsWithTurn, Takes, thread_by, pieces_from, schedule_from, with_runs}
 use Rattle.schedule_reader.proofs.Numbers.{digit_value-digit, number_by-some}
-use Rattle.schedule_reader.proofs.Streams.{between-pieces, with_runs-append}
+use Rattle.schedule_reader.proofs.Streams.{between-pieces, takes-plain, with_runs-append}
 use Rattle.schedule_reader.proofs.Tokens.{above-blanks, above-digits, digits-then, not_zero}
 
 -- the letter and one or two digits are a token
@@ -98,41 +98,37 @@ turn-schedule finished at thread count bytes rest begins =
     ∙ first-piece finished at piece run (slice_split is_blank after) (omega arith) some read
     ∙ ap (λ n. schedule_with (Ok run) (pieces_from finished place.Between n (slice_split is_blank after))) end
 
+-- no turn
+pub takes-nothing : (at n : ℕ) (bytes : List ℕ) (runs : List Run) → n ≡ 0
+    → Takes (Ok n) runs runs (λ (stream : Bool × List ℕ). schedule_from stream.0 place.Between at (bytes ++ stream.1))
+    (λ stream n. schedule_from stream.0 place.Between (at + n) (drop n bytes ++ stream.1))
+takes-nothing at n bytes runs none = takes-plain _ _ _ _ (λ (stream : Bool × List ℕ).
+    ap (λ m. schedule_from stream.0 place.Between m (bytes ++ stream.1)) (omega (arith, none))
+    ∙ ap (λ m. schedule_from stream.0 place.Between (at + n) (drop m bytes ++ stream.1)) (sym none))
+
 -- one turn more, behind those with which the bytes begin
-pub takes-turn : (p : Place) (at done thread count : ℕ) (bytes rest : List ℕ) (before between after : List Run) (run : Run) → p ≡ place.Between
-    → rest ≡ drop done bytes
-    → Takes (Ok done) before between (λ (stream : Bool × List ℕ). schedule_from stream.0 p at (bytes ++ stream.1))
-    (λ stream n. schedule_from stream.0 p (at + n) (drop n bytes ++ stream.1))
+pub takes-turn : (at done end thread count : ℕ) (bytes rest : List ℕ) (before between after : List Run) (run : Run) → rest ≡ drop done bytes → done + count ≡ end
+    → Takes (Ok done) before between (λ (stream : Bool × List ℕ). schedule_from stream.0 place.Between at (bytes ++ stream.1))
+    (λ stream n. schedule_from stream.0 place.Between (at + n) (drop n bytes ++ stream.1))
     → BeginsWithTurn rest thread count → run ≡ run_of (choice_of false thread) 1 → after ≡ between ++ (run ∷ [])
-    → Takes (Ok (done + count)) before after (λ (stream : Bool × List ℕ). schedule_from stream.0 p at (bytes ++ stream.1))
-    (λ stream n. schedule_from stream.0 p (at + n) (drop n bytes ++ stream.1))
-takes-turn p at done thread count bytes rest before between after run here same so_far begins is list = record {
+    → Takes (Ok end) before after (λ (stream : Bool × List ℕ). schedule_from stream.0 place.Between at (bytes ++ stream.1))
+    (λ stream n. schedule_from stream.0 place.Between (at + n) (drop n bytes ++ stream.1))
+takes-turn at done end thread count bytes rest before between after run same up so_far begins is list = record {
   added = so_far.added ++ (run ∷ []);
   list = list ∙ ap (λ rs. rs ++ (run ∷ [])) so_far.list ∙ append_assoc before so_far.added (run ∷ []);
   schedules = λ (stream : Bool × List ℕ).
       let first = so_far.schedules stream in
       let next = at + done in
-      let left = schedule_from stream.0 p (at + (done + count)) (drop (done + count) bytes ++ stream.1) in
-      let end : next + count ≡ at + (done + count) = omega arith in
-      let one : schedule_from stream.0 p next (drop done bytes ++ stream.1) ≡ with_runs (run ∷ []) left =
-      ap (λ q. schedule_from stream.0 q next (drop done bytes ++ stream.1)) here
-      ∙ ap (λ bs. schedule_from stream.0 place.Between next (bs ++ stream.1)) (sym same)
+      let left = schedule_from stream.0 place.Between (at + end) (drop end bytes ++ stream.1) in
+      let on : next + count ≡ at + end = omega arith in
+      let one : schedule_from stream.0 place.Between next (drop done bytes ++ stream.1) ≡ with_runs (run ∷ []) left =
+      ap (λ bs. schedule_from stream.0 place.Between next (bs ++ stream.1)) (sym same)
       ∙ turn-schedule stream.0 next thread count rest stream.1 begins
       ∙ ap (λ r. with_runs (r ∷ []) (schedule_from stream.0 place.Between (next + count) (drop count rest ++ stream.1))) (sym is)
-      ∙ ap (λ q. with_runs (run ∷ []) (schedule_from stream.0 q (next + count) (drop count rest ++ stream.1))) (sym here)
-      ∙ ap (λ n. with_runs (run ∷ []) (schedule_from stream.0 p n (drop count rest ++ stream.1))) end
-      ∙ ap (λ bs. with_runs (run ∷ []) (schedule_from stream.0 p (at + (done + count)) (bs ++ stream.1)))
-      (ap (drop count) same ∙ drop-drop count done bytes) in
+      ∙ ap (λ n. with_runs (run ∷ []) (schedule_from stream.0 place.Between n (drop count rest ++ stream.1))) on
+      ∙ ap (λ bs. with_runs (run ∷ []) (schedule_from stream.0 place.Between (at + end) (bs ++ stream.1)))
+      (ap (drop count) same ∙ drop-drop count done bytes ∙ ap (λ n. drop n bytes) up) in
       (left, (first.1.0 ∙ ap (with_runs so_far.added) (first.1.1 ∙ one) ∙ with_runs-append so_far.added (run ∷ []) left, refl));
-}
-
--- and none more, for want of memory
-pub takes-turn_refused : (done : ℕ) (before between after : List Run) (start : Bool × List ℕ → Schedule) (left : Bool × List ℕ → ℕ → Schedule)
-    → Takes (Ok done) before between start left → after ≡ between → Takes (Err fault.Memory) before after start left
-takes-turn_refused done before between after start left so_far same = record {
-  added = so_far.added;
-  list = same ∙ so_far.list;
-  schedules = λ stream. let first = so_far.schedules stream in (first.0, (first.1.0, inl refl));
 }
 
 pub spelled-turn : (thread : ℕ) (before after : List Run) (run : Run) → thread ≤ 63 → run ≡ run_of (choice_of false thread) 1 → after ≡ before ++ (run ∷ [])
@@ -143,29 +139,29 @@ spelled-turn thread before after run small is list all =
     (All-append IsRun before (run ∷ []) all (All-cons IsRun run [] (subst IsRun (sym is) turn) (All-nil IsRun)))
 
 -- what the turns add is what the bytes add
-pub takes-turns : (p : Place) (at count : ℕ) (bytes : List ℕ) (before after : List Run)
-    → Takes (Ok count) before after (λ (stream : Bool × List ℕ). schedule_from stream.0 p at (bytes ++ stream.1))
-    (λ stream n. schedule_from stream.0 p (at + n) (drop n bytes ++ stream.1))
-    → Takes (Ok (p, count)) before after (λ (stream : Bool × List ℕ). schedule_from stream.0 p at (bytes ++ stream.1))
+pub takes-turns : (p : Place) (at count : ℕ) (bytes : List ℕ) (before after : List Run) → p ≡ place.Between
+    → Takes (Ok count) before after (λ (stream : Bool × List ℕ). schedule_from stream.0 place.Between at (bytes ++ stream.1))
+    (λ stream n. schedule_from stream.0 place.Between (at + n) (drop n bytes ++ stream.1))
+    → Takes (Ok (place.Between, count)) before after (λ (stream : Bool × List ℕ). schedule_from stream.0 p at (bytes ++ stream.1))
     (λ stream (next : Place × ℕ). schedule_from stream.0 next.0 (at + next.1) (drop next.1 bytes ++ stream.1))
-takes-turns p at count bytes before after turns = record { added = turns.added; list = turns.list; schedules = turns.schedules }
-
-pub takes-turns_fault : (p : Place) (at : ℕ) (f : ScheduleFault) (bytes : List ℕ) (before after : List Run)
-    → Takes (Err f) before after (λ (stream : Bool × List ℕ). schedule_from stream.0 p at (bytes ++ stream.1))
-    (λ stream (n : ℕ). schedule_from stream.0 p (at + n) (drop n bytes ++ stream.1))
-    → Takes (Err f) before after (λ (stream : Bool × List ℕ). schedule_from stream.0 p at (bytes ++ stream.1))
-    (λ stream (next : Place × ℕ). schedule_from stream.0 next.0 (at + next.1) (drop next.1 bytes ++ stream.1))
-takes-turns_fault p at f bytes before after turns = record { added = turns.added; list = turns.list; schedules = turns.schedules }
+takes-turns p at count bytes before after here turns = record {
+  added = turns.added;
+  list = turns.list;
+  schedules = λ (stream : Bool × List ℕ). let t = turns.schedules stream in (
+    t.0,
+    (ap (λ q. schedule_from stream.0 q at (bytes ++ stream.1)) here ∙ t.1.0, t.1.1),
+  );
+}
 
 -- and after what was read before it, in a piece
-pub takes-some : (p next q : Place) (at offset done count : ℕ) (piece rest : List ℕ) (before between after : List Run) → rest ≡ drop done piece
+pub takes-some : (p next q : Place) (at done count : ℕ) (piece rest : List ℕ) (before between after : List Run) → rest ≡ drop done piece
     → Takes (Ok next) before between (λ (stream : Bool × List ℕ). schedule_from stream.0 p at (piece ++ stream.1))
-    (λ stream n. schedule_from stream.0 n offset (drop done piece ++ stream.1))
-    → Takes (Ok (q, count)) between after (λ (stream : Bool × List ℕ). schedule_from stream.0 next offset (rest ++ stream.1))
-    (λ stream (r : Place × ℕ). schedule_from stream.0 r.0 (offset + r.1) (drop r.1 rest ++ stream.1))
+    (λ stream n. schedule_from stream.0 n (at + done) (drop done piece ++ stream.1))
+    → Takes (Ok (q, count)) between after (λ (stream : Bool × List ℕ). schedule_from stream.0 next (at + done) (rest ++ stream.1))
+    (λ stream (r : Place × ℕ). schedule_from stream.0 r.0 (at + done + r.1) (drop r.1 rest ++ stream.1))
     → Takes (Ok q) before after (λ (stream : Bool × List ℕ). schedule_from stream.0 p at (piece ++ stream.1))
-    (λ stream n. schedule_from stream.0 n (offset + count) (drop (done + count) piece ++ stream.1))
-takes-some p next q at offset done count piece rest before between after same so_far one = record {
+    (λ stream n. schedule_from stream.0 n (at + (done + count)) (drop (done + count) piece ++ stream.1))
+takes-some p next q at done count piece rest before between after same so_far one = record {
   added = so_far.added ++ one.added;
   list = one.list ∙ ap (λ rs. rs ++ one.added) so_far.list ∙ append_assoc before so_far.added one.added;
   schedules = λ (stream : Bool × List ℕ). let first = so_far.schedules stream in let second = one.schedules stream in (
@@ -173,10 +169,11 @@ takes-some p next q at offset done count piece rest before between after same so
     (
       first.1.0
           ∙ ap (with_runs so_far.added)
-          (first.1.1 ∙ ap (λ bs. schedule_from stream.0 next offset (bs ++ stream.1)) (sym same) ∙ second.1.0)
+          (first.1.1 ∙ ap (λ bs. schedule_from stream.0 next (at + done) (bs ++ stream.1)) (sym same) ∙ second.1.0)
           ∙ with_runs-append so_far.added one.added second.0,
-      second.1.1 ∙ ap (λ bs. schedule_from stream.0 q (offset + count) (drop count bs ++ stream.1)) same
-          ∙ ap (λ bs. schedule_from stream.0 q (offset + count) (bs ++ stream.1)) (drop-drop count done piece),
+      second.1.1 ∙ ap (λ bs. schedule_from stream.0 q (at + done + count) (drop count bs ++ stream.1)) same
+          ∙ ap (λ bs. schedule_from stream.0 q (at + done + count) (bs ++ stream.1)) (drop-drop count done piece)
+          ∙ ap (λ n. schedule_from stream.0 q n (drop (done + count) piece ++ stream.1)) (omega arith),
     ),
   );
 }

@@ -140,13 +140,11 @@ fn read_bytes(
         < 3 * vec_capacity runs.old + 3 → result ≢ Err Memory }
 {
     let mut next = place;
-    let mut offset = at;
     let mut done = 0;
     while done < piece.len() {
-        match read_some(next, offset, bytes_from(piece, done), runs) {
+        match read_some(next, at + done as u64, bytes_from(piece, done), runs) {
             Ok((place, count)) => {
                 next = place;
-                offset += count as u64;
                 done += count;
             }
             Err(fault) => return Err(fault),
@@ -193,10 +191,11 @@ fn read_some(
     ensures room { 3 * vec_len runs.old + spent place + length rest.now
         < 3 * vec_capacity runs.old + 3 → result ≢ Err Memory }
 {
-    match read_turns(place, rest, runs) {
-        Ok(0) => {}
-        Ok(count) => return Ok((place, count)),
-        Err(fault) => return Err(fault),
+    if matches!(place, Place::Between) {
+        let count = read_turns(rest, runs);
+        if count > 0 {
+            return Ok((Place::Between, count));
+        }
     }
     match read_byte(place, at, rest[0], runs) {
         Ok(next) => Ok((next, 1)),
@@ -205,33 +204,30 @@ fn read_some(
 }
 
 /// Goes on over the turns that are named once, each with the space behind it, with which the bytes begin. Answers how many
-/// bytes those are: none within a token, or where they don't begin so.
-#[inline(always)]
-fn read_turns(place: Place, rest: &[u8], runs: &mut Vec<Run>) -> Result<usize, ScheduleFault>
-    ensures takes { (at : ℕ) → Takes result runs.old.items runs.new.items
-        (λ (stream : Bool × List ℕ). schedule_from stream.0 place at (rest.now ++ stream.1))
-        (λ stream count. schedule_from stream.0 place (at + count) (drop count rest.now ++ stream.1)) }
-    ensures none { result ≡ Ok 0 → runs.new ≡ runs.old }
-    ensures between { IfOk result (λ count. 0 < count → place ≡ Between) }
-    ensures within { IfOk result (λ count. count ≤ length rest.now) }
+/// bytes those are: none where they don't begin so, or the list is full. It stands apart and takes no memory, so that its loop
+/// is short.
+#[inline(never)]
+fn read_turns(rest: &[u8], runs: &mut Vec<Run>) -> usize
+    ensures takes { (at : ℕ) → Takes (Ok result) runs.old.items runs.new.items
+        (λ (stream : Bool × List ℕ). schedule_from stream.0 Between at (rest.now ++ stream.1))
+        (λ stream count. schedule_from stream.0 Between (at + count) (drop count rest.now ++ stream.1)) }
+    ensures none { result ≡ 0 → runs.new ≡ runs.old }
+    ensures within { result ≤ length rest.now }
     ensures spelled { All IsRun runs.old.items → All IsRun runs.new.items }
-    ensures few { IfOk result (λ count. 3 * length runs.new.items ≤ 3 * length runs.old.items + count) }
-    ensures few_err { 3 * length runs.new.items ≤ 3 * length runs.old.items + length rest.now }
+    ensures few { 3 * length runs.new.items ≤ 3 * length runs.old.items + result }
     ensures capacity { vec_capacity runs.old ≤ vec_capacity runs.new }
-    ensures room { 3 * vec_len runs.old + length rest.now < 3 * vec_capacity runs.old + 3
-        → result ≢ Err Memory }
 {
-    let mut done = 0;
-    if !matches!(place, Place::Between) {
-        return Ok(done);
-    }
-    while let Some((thread, count)) = turn_before_space(bytes_from(rest, done)) {
+    let mut left = rest;
+    while runs.len() < runs.capacity() {
+        let Some((thread, count)) = turn_before_space(left) else {
+            break;
+        };
         match runs.push(turn_of(thread)) {
-            Ok(()) => done += count,
-            Err(_) => return Err(ScheduleFault::Memory),
+            Ok(()) => left = bytes_from(left, count),
+            Err(_) => unreachable!(),
         }
     }
-    Ok(done)
+    rest.len() - left.len()
 }
 
 /// One turn of a thread.

@@ -78,23 +78,29 @@ fn put_mark(line: &mut LineEnd, mark: Mark)
     }
 }
 
-/// What a choice did, from the space before it to the end of a line of which nothing else is there. The most usual answers
-/// are put in fewer words.
+/// Makes it what a choice did, from the space before it to the end of the line. The most usual answers are put in fewer words.
 #[inline(always)]
 fn put_answer(line: &mut LineEnd, event: &Event)
-    requires { line.old ≡ [] }
     ensures text { line.new
         ≡ codes " " ++ (what_text event.now.what ++ (mark_text event.now.mark ++ codes "\n")) }
     ensures length { length line.new ≤ 54 }
 {
     match (event.what, event.mark) {
-        (What::Done, Mark::Nothing) => line.put_word(b" ok\n"),
-        (What::Idle, Mark::Nothing) => line.put_word(b" idle\n"),
+        (What::Done, Mark::Nothing) => {
+            line.clear();
+            line.put_word(b" ok\n");
+        }
+        (What::Idle, Mark::Nothing) => {
+            line.clear();
+            line.put_word(b" idle\n");
+        }
         (What::Value(value), Mark::Nothing) => {
+            line.clear();
             line.put_word(b"\n");
             put_with_value(line, b" = ", value);
         }
         (what, mark) => {
+            line.clear();
             line.put_word(b"\n");
             put_mark(line, mark);
             put_what(line, what);
@@ -116,10 +122,6 @@ fn put_thread(line: &mut LineEnd, choice: Choice)
         line.put_word(&[b' ', letter, b'0' + thread, b' ']);
         return;
     }
-    if thread < 100 {
-        line.put_word(&[b' ', letter, b'0' + thread / 10, b'0' + thread % 10, b' ']);
-        return;
-    }
     line.put_word(b" ");
     line.put_count(u64::from(thread));
     line.put_word(&[b' ', letter]);
@@ -131,7 +133,6 @@ pub(super) fn put_played(line: &mut LineEnd, choice: Choice, pc: u16, event: &Ev
     ensures text { (step : ℕ) → decimal step ++ line.new ≡ event_text step choice pc event.now }
     ensures length { length line.new ≤ 100 }
 {
-    line.clear();
     put_answer(line, event);
     line.put_count(u64::from(pc));
     put_thread(line, choice);

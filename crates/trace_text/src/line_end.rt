@@ -67,6 +67,7 @@ impl LineEnd {
     }
 
     /// Puts a number that is never below 0 before it. Answers how many digits it has.
+    #[inline(always)]
     pub fn put_count(&mut self, count: u64) -> usize
         requires { length self.old + 20 ≤ 192 }
         ensures text { self.new ≡ decimal count ++ self.old }

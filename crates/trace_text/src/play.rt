@@ -1,4 +1,4 @@
-ghost use Rattle.std.specs.Prelude.{◌≡◌, ◌≢◌, ◌+◌, ◌<◌, ◌≤◌, ◌∷◌, length, [], Some, None, Ok, false, replicate, IsTrue, true, IfOk, OnOk};
+ghost use Rattle.std.specs.Prelude.{◌≡◌, ◌≢◌, ◌+◌, ◌<◌, ◌≤◌, ◌∷◌, length, [], Some, None, Ok, false, replicate, IsTrue, true, IfOk, IfSome, OnOk};
 ghost use Rattle.std.specs.Io.KnownBytes.{Appends};
 ghost use Rattle.thread_machine.specs.Idle.{idle_times};
 ghost use Rattle.thread_machine.specs.World.{world_of};
@@ -189,7 +189,7 @@ fn push_idle_lines<W: Sink>(
 }
 
 /// Plays a choice as long as it is idle, up to so many times, writes the lines and answers how often. It stands apart from
-/// the loop of `play_run`, whose usual choices are ready, so that they don't pay for it.
+/// the loop of `play_run`, whose usual choices are ready, so that they don't pay for it. `None` where a line can't be written.
 #[inline(never)]
 fn play_idle<W: Sink>(
     machine: &mut Machine,
@@ -197,25 +197,24 @@ fn play_idle<W: Sink>(
     most: u64,
     line: &mut KeptLine,
     output: &mut W,
-) -> Result<u64, PlayFault>
-    ensures few { IfOk result (λ times. times ≤ most) }
+) -> Option<u64>
+    ensures few { IfSome result (λ times. times ≤ most) }
     ensures times { choice.thread < length machine.old.scene.threads
-        → IfOk result (λ times. times ≡ idle_times (world_of machine.old) choice most) }
-    ensures plays { IfOk result (λ times.
+        → IfSome result (λ times. times ≡ idle_times (world_of machine.old) choice most) }
+    ensures plays { IfSome result (λ times.
         Plays (world_of machine.old) (world_of machine.new) (replicate times choice) true
         (W.written output.old) (W.written output.new)) }
-    ensures write { result ≡ Err PlayFault.Write → IsTrue (W.has_failed output.new) }
-    ensures memory { result ≢ Err PlayFault.Memory }
+    ensures write { result ≡ None → IsTrue (W.has_failed output.new) }
 {
     if usize::from(choice.thread) >= machine.thread_count() {
-        return Ok(0);
+        return Some(0);
     }
     let before = machine.choices();
     let pc = machine.pc(choice.thread);
     let times = machine.idle(choice, most);
     match push_idle_lines(times, before, choice, pc, line, output) {
-        Ok(()) => Ok(times),
-        Err(fault) => Err(fault),
+        Ok(()) => Some(times),
+        Err(_) => None,
     }
 }
 
@@ -242,8 +241,8 @@ fn play_run<W: Sink>(
         left -= 1;
         if left > 0 && line.is_idle() {
             match play_idle(machine, run.choice, left, line, output) {
-                Ok(times) => left -= times,
-                Err(fault) => return Err(fault),
+                Some(times) => left -= times,
+                None => return Err(PlayFault::Write),
             }
         }
     }

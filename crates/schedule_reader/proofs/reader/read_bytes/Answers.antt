@@ -1,14 +1,14 @@
-use Rattle.std.proofs.Common.{refl, arith}
+use Rattle.std.proofs.Common.{◌+◌, ◌++◌, ℕ, Bool, List, ap, subst, refl, arith}
+use Rattle.schedule_reader.specs.Places.{IsPlace, schedule_from}
 use Rattle.schedule_reader.proofs.Streams.{takes-plain, takes-end}
 use Rattle.schedule_reader.proofs.Turns.{takes-some, takes-some_fault}
 use Rattle.schedule_reader.proofs.reader.read_bytes.Goals as goal
 
 pub loop-done-init : goal.loop-done-init
 loop-done-init c = record {
-  offset = omega arith;
   within = omega arith;
-  place = c.requires.place;
-  takes = takes-plain _ _ _ _ (λ stream. refl);
+  place = subst (λ at. IsPlace at c.args.place) (omega arith) c.requires.place;
+  takes = takes-plain _ _ _ _ (λ (stream : Bool × List ℕ). ap (λ at. schedule_from stream.0 c.args.place at (c.args.piece.now ++ stream.1)) (omega arith));
   spelled = λ all. all;
   few = omega arith;
   room = omega arith;
@@ -16,10 +16,9 @@ loop-done-init c = record {
 
 pub loop-done-preserved : goal.loop-done-preserved
 loop-done-preserved c = record {
-  offset = omega (arith, c.loop-done.invariant.offset);
   within = omega (arith, c.bytes_from.ensures.length, c.in-Ok.ensures.within);
-  place = c.in-Ok.ensures.place;
-  takes = takes-some c.args.place c.loop-done.next c.in-Ok.place c.args.at c.loop-done.offset c.loop-done.done c.in-Ok.count c.args.piece.now c.bytes_from.result.now
+  place = subst (λ at. IsPlace at c.in-Ok.place) (omega arith) c.in-Ok.ensures.place;
+  takes = takes-some c.args.place c.loop-done.next c.in-Ok.place c.args.at c.loop-done.done c.in-Ok.count c.args.piece.now c.bytes_from.result.now
       c.args.runs.now.items c.loop-done.runs.items c.read_some.new.runs.items c.bytes_from.ensures.rest c.loop-done.invariant.takes c.in-Ok.ensures.takes;
   spelled = λ all. c.in-Ok.ensures.spelled (c.loop-done.invariant.spelled all);
   few = omega (arith, c.loop-done.invariant.few, c.in-Ok.ensures.few);
@@ -28,10 +27,10 @@ loop-done-preserved c = record {
 
 pub returns-in-Err-clause-takes : goal.returns-in-Err-clause-takes
 returns-in-Err-clause-takes c =
-    takes-some_fault c.args.place c.loop-done.next c.in-Err.fault c.args.at c.loop-done.offset c.loop-done.done c.args.piece.now c.bytes_from.result.now
+    takes-some_fault c.args.place c.loop-done.next c.in-Err.fault c.args.at (c.args.at + c.loop-done.done) c.loop-done.done c.args.piece.now c.bytes_from.result.now
     c.args.runs.now.items c.loop-done.runs.items c.read_some.new.runs.items c.bytes_from.ensures.rest c.loop-done.invariant.takes c.in-Err.ensures.takes
 
 pub returns-clause-takes : goal.returns-clause-takes
 returns-clause-takes c =
-    takes-end c.args.place c.loop-done.next c.args.at c.loop-done.offset c.loop-done.done c.args.piece.now
-    c.args.runs.now.items c.loop-done.runs.items c.loop-done-test.false c.loop-done.invariant.within c.loop-done.invariant.offset c.loop-done.invariant.takes
+    takes-end c.args.place c.loop-done.next c.args.at (c.args.at + c.loop-done.done) c.loop-done.done c.args.piece.now
+    c.args.runs.now.items c.loop-done.runs.items c.loop-done-test.false c.loop-done.invariant.within refl c.loop-done.invariant.takes

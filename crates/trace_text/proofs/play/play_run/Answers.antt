@@ -20,8 +20,8 @@ loop-left-preserved-then-is_idle g c =
     let choice = c.args.run.now.choice in
     let on = Continues-next _ _ _ _ _ _ _ _ _ _ _ (replicate-first c.loop-left.left choice c.loop-left-test.true)
     c.loop-left.invariant c.in_ok-play_choice.ensures.plays c.if-not-branch.false in
-    Continues-next _ _ _ _ _ _ _ _ _ _ _ (replicate-some (c.loop-left.left - 1) c.in-Ok.times choice c.in-Ok.ensures.few)
-    on c.in-Ok.ensures.plays refl
+    Continues-next _ _ _ _ _ _ _ _ _ _ _ (replicate-some (c.loop-left.left - 1) c.in-Some.times choice c.in-Some.ensures.few)
+    on c.in-Some.ensures.plays refl
 
 pub returns-clause-plays : goal.returns-clause-plays
 returns-clause-plays g c =
