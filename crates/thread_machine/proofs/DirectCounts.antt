@@ -42,7 +42,7 @@ use Rattle.machine_scene.specs.CallRows.{outcome_of_routine_end, outcome_of_ret,
 use Rattle.machine_scene.specs.DataRows.{outcome_of_data_row}
 use Rattle.machine_scene.specs.GetterRows.{outcome_of_getter_row}
 use Rattle.machine_scene.specs.BarrierRows.{is_run_by, is_run_by_another, unless_busy, unless_runner, outcome_of_entered, outcome_of_await_at, outcome_of_barrier_row}
-use Rattle.machine_scene.specs.PhaserRows.{is_own_tree, outcome_of_pending_end, outcome_of_arrived, outcome_with_room, outcome_of_arrival, outcome_of_registered, outcome_of_registration, outcome_of_bulk, unless_own, outcome_of_phaser_row}
+use Rattle.machine_scene.specs.PhaserRows.{outcome_of_pending_end, outcome_of_arrived, outcome_with_room, outcome_of_arrival, outcome_of_registered, outcome_of_registration, outcome_of_bulk, unless_own, outcome_of_phaser_row}
 use Rattle.machine_scene.specs.Unwinding.{outcome_of_popped}
 use Rattle.machine_scene.specs.Waits.{outcome_of_awaited, outcome_of_phase_wait, outcome_of_release, outcome_of_barrier_wait, outcome_of_phase_timeout, outcome_of_barrier_timeout}
 use Rattle.machine_scene.specs.Outcomes.{outcome_in_group, outcome_in, timeout_in}
@@ -68,8 +68,7 @@ IsAside scene outcome = phasers_after outcome scene ≡ scene.phasers
 
 pub aside_fares : (outcome : Option Outcome) (scene : Scene) (origin : Origin) → IsAside scene outcome → AreTallied scene.phasers origin
     → FaresTo scene origin outcome
-aside_fares outcome scene origin aside stands =
-    subst (λ (phasers : List PhaserState). Fares scene.phasers phasers origin) (sym aside) (fares_same scene.phasers origin stands)
+aside_fares outcome scene origin aside stands = grind arith
 
 -- rows that touch no phaser
 own_aside : (row : Row) (t : ℕ) (scene : Scene) → IsAside scene (outcome_of_own_row row t scene)
@@ -197,8 +196,7 @@ bulk_fares : (steps t p : ℕ) (count : ℤ) (into : Reg) (scene : Scene) (origi
 bulk_fares steps t p count into scene origin trees there stands = search (rules, fares_same, refused_or, registration_fares)
 
 unless_own_aside : (p t : ℕ) (scene : Scene) (outcome : Outcome) → IsAside scene (Some outcome) → IsAside scene (unless_own p t scene (Some outcome))
-unless_own_aside p t scene outcome aside =
-    either (IsAside scene) (is_own_tree p (thread_at scene t) scene) {b = Some outcome} refl aside
+unless_own_aside p t scene outcome aside = grind arith
 
 phaser_row_fares : (row : Row) (program : Program) (steps t : ℕ) (scene : Scene) (origin : Origin)
     → StandsAt program steps t scene status.Runs row → AreTallied scene.phasers origin
@@ -243,8 +241,7 @@ counts_nothing row t scene origin other = grind arith
 
 uncounted : (row : Row) (t : ℕ) (scene : Scene) (origin : Origin) (outcome : Option Outcome) → group_of row ≢ Phasers
     → FaresTo scene origin outcome → FaresTo scene (with_row row t scene origin) outcome
-uncounted row t scene origin outcome other fares =
-    subst (λ (counted : Origin). FaresTo scene counted outcome) (sym (counts_nothing row t scene origin other)) fares
+uncounted row t scene origin outcome other fares = grind (arith, counts_nothing)
 
 row_fares : (group : Group) (row : Row) (program : Program) (steps t : ℕ) (scene : Scene) (origin : Origin) → group_of row ≡ group
     → StandsAt program steps t scene status.Runs row → AreTallied scene.phasers origin

@@ -1,6 +1,5 @@
 -- The direct counts beside a call of the trees, and as a phase ends.
 use Rattle.std.proofs.Common.{◌≡◌, ◌∙◌, ℕ, zero, suc, ◌<◌, ◌==◌, Bool, true, false, List, [], ◌∷◌, length, map, ap, refl, sym, arith, if◌then◌else◌}
-use Rattle.std.specs.Prelude.{not}
 use Rattle.std.proofs.lemmas.Bool.{cases_eq}
 use Rattle.std.proofs.lemmas.List.{length-map, get_or-set_same, get_or-set_other}
 use Rattle.packed_phaser.specs.Flat.{Flat}
@@ -34,8 +33,7 @@ pub record Fares (before after : List PhaserState) (counted : Origin) : Type 0 w
   pub numbers : NumbersStay before after
 
 none_ended : (before after : List PhaserState) → KeepsEnds before after → (root : ℕ) → has_ended_phase root before after ≡ false
-none_ended before after kept root =
-    ap (λ (n : ℕ). not (n == (phaser_at before root).ends)) (kept root) ∙ ap not (same-is (phaser_at before root).ends)
+none_ended before after kept root = grind arith
 
 -- no phase ends
 pub fares_on : (before after : List PhaserState) (counted : Origin) → KeepsEnds before after → KeepsNumbers before after

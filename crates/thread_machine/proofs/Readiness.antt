@@ -9,8 +9,8 @@ use Rattle.machine_scene.specs.Scene.{Scene, Outcome}
 use Rattle.machine_scene.specs.Outcomes.{is_ready}
 use Rattle.thread_machine.specs.declared.choice.Choice.{Choice}
 use Rattle.thread_machine.specs.World.{World}
-use Rattle.thread_machine.specs.Ready.{outcome_of_choice, is_choice_ready, can_expire, can_go_on, some_ready}
-use Rattle.thread_machine.specs.Step.{played, played_by, idled}
+use Rattle.thread_machine.specs.Ready.{is_choice_ready, can_expire, can_go_on, some_ready}
+use Rattle.thread_machine.specs.Step.{played, idled}
 
 none_by : (outcome : Option Outcome) → is_some outcome ≡ false → outcome ≡ None
 none_by outcome idle = grind arith
@@ -18,8 +18,7 @@ none_by outcome idle = grind arith
 -- a choice without an outcome is idle
 pub idle_choice : (world : World) (choice : Choice) → is_choice_ready world.program choice world.scene ≡ false
     → played world choice ≡ idled world
-idle_choice world choice idle =
-    ap (λ outcome. played_by outcome world) (none_by (outcome_of_choice world.program choice world.scene) idle)
+idle_choice world choice idle = grind arith
 
 -- one number more that fails the test
 pub one_more : (test : ℕ → Bool) (t : ℕ) → ((k : ℕ) → k < t → test k ≡ false) → test t ≡ false

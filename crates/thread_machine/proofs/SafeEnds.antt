@@ -211,5 +211,4 @@ goes_first image limit fits none most =
 
 pub no_early_end_of : (image : Image) (limit : ℕ) → IsImage image → first_fault image ≡ None → limit ≤ 1000000000
     → NoPhaseEndsEarlyFrom (first_of image limit) (declared_origin image.phasers)
-no_early_end_of image limit fits none most =
-    no_early_end_from (first_of image limit) (declared_origin image.phasers) (goes_first image limit fits none most)
+no_early_end_of image limit fits none most = grind (arith, no_early_end_from, goes_first)
