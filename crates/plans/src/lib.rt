@@ -6,7 +6,7 @@
 #![tactic(auto)]
 
 // A plan's text.
-mod cutting;
+pub mod cutting;
 mod draft;
 pub mod fault;
 mod number;

@@ -1,10 +1,8 @@
 -- What `explain` writes.
-use Rattle.std.specs.Prelude.{◌≡◌, ◌⊎◌, ◌++◌, ℕ, List, [], Option, codes}
+use Rattle.std.specs.Prelude.{◌≡◌, ◌⊎◌, ℕ, List, [], Option}
 use Rattle.std.specs.Borrow.{Bor}
 use Rattle.std.specs.Io.KnownBytes.{Appends}
 use Rattle.refusals.specs.declared.entry.Entry.{Entry}
-use Rattle.refusals.specs.declared.explain.Unexplained.{Unexplained}
-use Rattle.refusals.specs.declared.explain.Unexplained.TheVariants as why
 use Rattle.refusals.specs.declared.question.Question.{Question}
 use Rattle.refusals.specs.Entry.{text_of}
 use Rattle.refusals.specs.Question.{AsksFor}
@@ -24,12 +22,3 @@ HasAnswer tables words before after =
 abbrev pub HasExplained : List ℕ → List (Bor (List Entry)) → List (List ℕ) → Option (List ℕ) → Option (List ℕ) → Type 0
 HasExplained questions tables words before after =
     ((words ≡ []) × Appends before after questions) ⊎ (HasForm words before after ⊎ HasAnswer tables words before after)
-
--- the exit status of what isn't explained, and what is told of it
-abbrev pub unexplained_status : Unexplained → ℕ
-unexplained_status why.NoLine = 2
-unexplained_status why.Write = 5
-
-abbrev pub unexplained_text : (no_line questions : List ℕ) → Unexplained → List ℕ
-unexplained_text no_line questions why.NoLine = no_line ++ questions
-unexplained_text no_line questions why.Write = codes "write\n"

@@ -1,5 +1,5 @@
 -- What is told of a word of the language.
-use Rattle.std.specs.Prelude.{◌≡◌, ◌≢◌, ◌⊎◌, ◌≤◌, ◌<◌, ⊤, ℕ, List, [], ◌∷◌, ◌++◌, None, Some, codes, slice_index_or, true}
+use Rattle.std.specs.Prelude.{◌≡◌, ◌≢◌, ◌⊎◌, ◌≤◌, ◌<◌, ⊤, ℕ, List, [], ◌∷◌, ◌++◌, None, Some, if◌then◌else◌, bytes_eq, codes, slice_index_or, true}
 use Rattle.instruction_table.specs.declared.shape.OperandKind.{OperandKind}
 use Rattle.instruction_table.specs.declared.shape.OperandKind.TheVariants.{Register, Number, Target, Phaser, Barrier, Thread, Cell}
 use Rattle.instruction_table.specs.Table.{Entry, entry_named, no_entry, table}
@@ -59,9 +59,15 @@ abbrev pub AreNoWord : List (List ℕ) → Type 0
 AreNoWord (word ∷ []) = IsNoWord word
 AreNoWord _ = ⊤
 
+-- where the documents say more of a word
+abbrev pub more_of : List ℕ → List ℕ
+more_of word =
+    if bytes_eq word (codes ".run") then codes "docs/FORMATS.md, \"Program text\""
+    else (if is_directive word then codes "docs/FORMATS.md, \"Directives\"" else codes "docs/FORMATS.md, \"Instruction table\"")
+
 -- an entry as it is written
 abbrev pub word_text : WordEntry → List ℕ
 word_text e =
     line (codes "") e.form.now ++ (line (codes "  Operands: ") e.operands.now ++ (line (codes "  Java:     ") e.java.now
-    ++ (line (codes "  Means:    ") e.means.now ++ (line (codes "  Event:    ") e.event.now ++ (line (codes "  More:     ") e.more.now
+    ++ (line (codes "  Means:    ") e.means.now ++ (line (codes "  Event:    ") e.event.now ++ (line (codes "  More:     ") (more_of e.word.now)
     ++ (line (codes "  Example:  ") (codes "a text with its schedule, for `vuthgal`") ++ line (codes "") e.example.now))))))

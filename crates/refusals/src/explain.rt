@@ -1,8 +1,8 @@
 //! The command.
-ghost use Rattle.std.specs.Prelude.{◌≡◌, ◌++◌, Err, IsTrue, MatchOption, OnErr, OnOk};
+ghost use Rattle.std.specs.Prelude.{◌≡◌, ◌++◌, Ok, IsTrue, MatchOption, OnErr, OnOk, true, false};
 ghost use Rattle.std.specs.Io.KnownBytes.{Appends};
 ghost use Rattle.refusals.specs.declared.question.Question.{Question};
-ghost use Rattle.refusals.specs.Explained.{HasExplained, unexplained_status, unexplained_text};
+ghost use Rattle.refusals.specs.Explained.{HasExplained};
 ghost use Rattle.refusals.specs.Question.{AsksFor, texts};
 ghost use Rattle.refusals.specs.Word.{AreItsWord, AreNoWord};
 
@@ -42,45 +42,12 @@ fn push_questions<W: Sink>(output: &mut W) -> Result<(), Failed>
 }
 
 /// Writes that no line has the words, and what can be asked.
-fn push_no_line<E: Sink>(errors: &mut E) -> Result<(), Failed>
+pub fn push_no_line<E: Sink>(errors: &mut E) -> Result<(), Failed>
     ensures bytes { OnOk result (Appends (E.written errors.old) (E.written errors.new) (NO_LINE.now ++ QUESTIONS.now)) }
     ensures failed { OnErr result (IsTrue (E.has_failed errors.new)) }
 {
     errors.push(NO_LINE)?;
     push_questions(errors)
-}
-
-/// Why nothing is explained.
-#[derive(Clone, Copy, Debug, PartialEq, Eq)]
-pub enum Unexplained {
-    /// No line on standard error has these words.
-    NoLine,
-    /// The output failed.
-    Write,
-}
-
-impl Unexplained {
-    /// The exit status.
-    pub fn status(self) -> u8
-        ensures { result ≡ unexplained_status self }
-    {
-        match self {
-            Unexplained::NoLine => 2,
-            Unexplained::Write => 5,
-        }
-    }
-
-    /// Tells it: where no line has the words, with what can be asked.
-    pub fn tell<E: Sink>(self, errors: &mut E) -> Result<(), Failed>
-        ensures bytes { OnOk result (Appends (E.written errors.old) (E.written errors.new)
-            (unexplained_text NO_LINE.now QUESTIONS.now self)) }
-        ensures failed { OnErr result (IsTrue (E.has_failed errors.new)) }
-    {
-        match self {
-            Unexplained::NoLine => push_no_line(errors),
-            Unexplained::Write => errors.push(b"write\n"),
-        }
-    }
 }
 
 /// The entry of the one word that is asked for, where it is one of the language.
@@ -94,35 +61,29 @@ fn entry_asked(words: &[&str]) -> Option<WordEntry>
 }
 
 /// Writes the entry of these tables that the words ask for, the words being those of a line on standard error or one word of the language, or
-/// what can be asked where there are none.
-pub fn explain<W: Sink>(
-    tables: &[&[Entry]],
-    words: &[&str],
-    output: &mut W,
-) -> Result<(), Unexplained>
+/// what can be asked where there are none. Answers whether there is one.
+pub fn explain<W: Sink>(tables: &[&[Entry]], words: &[&str], output: &mut W) -> Result<bool, Failed>
     // The entry of the word of the language, or of the question that the words ask for, is written, and nothing else; without
     // words, what can be asked.
-    ensures told { OnOk result (HasExplained QUESTIONS.now tables.now (texts words.now) (W.written output.old) (W.written output.new)) }
+    ensures told { result ≡ Ok true → HasExplained QUESTIONS.now tables.now (texts words.now) (W.written output.old) (W.written output.new) }
 
     // Words of no line, nor a word of the language: nothing is written.
-    ensures none { result ≡ Err Unexplained.NoLine → (q : Question) → AsksFor tables.now (texts words.now) q → ⊥ }
-    ensures no_word { result ≡ Err Unexplained.NoLine → AreNoWord (texts words.now) }
-    ensures untold { result ≡ Err Unexplained.NoLine → W.written output.new ≡ W.written output.old }
-    ensures failed { result ≡ Err Unexplained.Write → IsTrue (W.has_failed output.new) }
+    ensures none { result ≡ Ok false → (q : Question) → AsksFor tables.now (texts words.now) q → ⊥ }
+    ensures no_word { result ≡ Ok false → AreNoWord (texts words.now) }
+    ensures untold { result ≡ Ok false → W.written output.new ≡ W.written output.old }
+    ensures failed { OnErr result (IsTrue (W.has_failed output.new)) }
 {
-    let pushed = if words.is_empty() {
-        push_questions(output)
-    } else {
-        match entry_asked(words) {
-            Some(entry) => entry.push(output),
-            None => match question_of(tables, words) {
-                Some(question) => question.entry.push(output, question.place),
-                None => return Err(Unexplained::NoLine),
-            },
-        }
-    };
-    match pushed {
-        Ok(()) => Ok(()),
-        Err(_) => Err(Unexplained::Write),
+    if words.is_empty() {
+        push_questions(output)?;
+        return Ok(true);
     }
+    if let Some(entry) = entry_asked(words) {
+        entry.push(output)?;
+        return Ok(true);
+    }
+    let Some(question) = question_of(tables, words) else {
+        return Ok(false);
+    };
+    question.entry.push(output, question.place)?;
+    Ok(true)
 }

@@ -6,42 +6,11 @@ use line_reader::words::{before_comment, is_blank};
 use schedule_reader::read_schedule;
 use std::alloc::Global;
 
-/// What helps where a text has a schedule and the command reads none.
-const AT_RUN: &str =
-    "this file is a text with its schedule: `run FILE` plays it, `show FILE` shows it; \
-    `debug` and `live` take what stands above `.run`";
-
-/// What helps where a text begins with a byte order mark.
-const AT_MARK: &str =
-    "the file begins with a UTF-8 byte order mark (EF BB BF): saved without one it can be read";
-
-/// What helps where a text has two bytes for a letter.
-const AT_UTF16: &str = "the file is UTF-16: saved as ASCII it can be read";
-
-/// What helps where a schedule stands in the program's place.
-const AT_SCHEDULE: &str = "this looks like a schedule: the program comes first";
-
 /// What helps where operands are parted by commas.
 const AT_COMMA: &str = "no commas: blanks part operands, as in `paaa r0 p`";
 
 /// What helps where a comment begins as in other languages.
 pub const AT_COMMENT: &str = "a comment begins with `;`";
-
-/// What helps where a label has no colon, or one apart.
-const AT_LABEL: &str = "a label ends with its colon, as in `main: paaa r0 p`";
-
-/// What helps where a name stands alone that is a label's elsewhere.
-const AT_NAME: &str = "a label is written with its colon, as `main:`";
-
-/// What helps where a line is written as Java's.
-const AT_ASSIGNMENT: &str =
-    "the instruction comes first, and behind it where its result goes, as `ldi r0 5`";
-
-/// What helps where a number stands for a register.
-const AT_NUMBER: &str = "a number goes into a register first, as by `ldi r1 1`";
-
-/// What helps where a number stands for a name.
-const AT_REFERENCE: &str = "a name stands here, or a number behind `#`, such as #1";
 
 /// How many bytes a text has at most.
 const LONGEST: usize = 16_777_216;
@@ -125,29 +94,33 @@ fn is_label_alone(text: &[u8], line: &[u8], word: &[u8]) -> bool {
 /// What helps where no word of the language begins what a line says.
 fn helps_at_word(text: &[u8], line: &[u8], word: &[u8]) -> Option<&'static str> {
     if word == b".run".as_slice() {
-        return Some(AT_RUN);
+        Some(
+            "this file is a text with its schedule: `run FILE` plays it, `show FILE` shows it; \
+             `debug` and `live` take what stands above `.run`",
+        )
+    } else if has_comment_sign(word) {
+        Some(AT_COMMENT)
+    } else if word_assigned(line).is_some() {
+        Some("the instruction comes first, and behind it where its result goes, as `ldi r0 5`")
+    } else if is_label_alone(text, line, word) {
+        Some("a label is written with its colon, as `main:`")
+    } else if has_statement_behind(line, word) {
+        Some("a label ends with its colon, as in `main: paaa r0 p`")
+    } else {
+        None
     }
-    if has_comment_sign(word) {
-        return Some(AT_COMMENT);
-    }
-    if word_assigned(line).is_some() {
-        return Some(AT_ASSIGNMENT);
-    }
-    if is_label_alone(text, line, word) {
-        return Some(AT_NAME);
-    }
-    if has_statement_behind(line, word) {
-        return Some(AT_LABEL);
-    }
-    None
 }
 
 /// What helps where a file isn't saved as ASCII, by how it begins: with a mark, or with letters of two bytes.
 pub fn helps_at_encoding(bytes: &[u8]) -> Option<&'static str> {
     match bytes {
-        [0xef, 0xbb, 0xbf, ..] => Some(AT_MARK),
-        [0xff, 0xfe, ..] | [0xfe, 0xff, ..] => Some(AT_UTF16),
-        [1..=126, 0, 1..=126, 0, ..] | [0, 1..=126, 0, 1..=126, ..] => Some(AT_UTF16),
+        [0xef, 0xbb, 0xbf, ..] => Some(
+            "the file begins with a UTF-8 byte order mark (EF BB BF): saved without one it can be read",
+        ),
+        [0xff, 0xfe, ..]
+        | [0xfe, 0xff, ..]
+        | [1..=126, 0, 1..=126, 0, ..]
+        | [0, 1..=126, 0, 1..=126, ..] => Some("the file is UTF-16: saved as ASCII it can be read"),
         _ => None,
     }
 }
@@ -163,7 +136,7 @@ pub fn helps_at(
 ) -> Option<&'static str> {
     match kind {
         AsmFaultKind::UnknownWord | AsmFaultKind::LongLine if is_schedule(alloc, text) => Some(
-            AT_SCHEDULE,
+            "this looks like a schedule: the program comes first",
         ),
         AsmFaultKind::UnknownWord => helps_at_word(text, line, word),
         AsmFaultKind::BadByte if number == 1 => helps_at_encoding(text),
@@ -171,8 +144,12 @@ pub fn helps_at(
         AsmFaultKind::BadOption if has_comment_sign(word) => Some(AT_COMMENT),
         AsmFaultKind::OperandCount if has_other_comment(line) => Some(AT_COMMENT),
         AsmFaultKind::OperandCount if before_comment(line).contains(&b',') => Some(AT_COMMA),
-        AsmFaultKind::BadRegister if is_number(word) => Some(AT_NUMBER),
-        AsmFaultKind::BadName if is_number(word) => Some(AT_REFERENCE),
+        AsmFaultKind::BadRegister if is_number(word) => Some(
+            "a number goes into a register first, as by `ldi r1 1`",
+        ),
+        AsmFaultKind::BadName if is_number(word) => Some(
+            "a name stands here, or a number behind `#`, such as #1",
+        ),
         _ => None,
     }
 }

@@ -3,6 +3,7 @@
 use crate::java::row_of;
 use crate::table::directive::DIRECTIVES;
 use crate::table::row::row_entry;
+use instruction_table::shape_of;
 use line_reader::directive::is_directive;
 use line_reader::label::{before_last, is_label};
 use line_reader::words::{before_comment, is_blank};
@@ -61,6 +62,14 @@ struct Nearest {
 }
 
 impl Nearest {
+    /// None so far: to be near a word at all, more than half of its letters have to be right.
+    fn to(small: &[u8]) -> Nearest {
+        Nearest {
+            word: None,
+            far: small.len().div_ceil(2).min(3),
+        }
+    }
+
     /// This word where it is nearer.
     fn or(self, alloc: Global, word: &'static str, small: &[u8]) -> Result<Nearest, AllocError> {
         let far = distance(alloc, word.as_bytes(), small)?;
@@ -85,10 +94,7 @@ pub fn nearest_word(alloc: Global, word: &[u8]) -> Result<Option<&'static str>, 
         return Ok(Some(row));
     }
     let small = in_small_letters(alloc, word)?;
-    let mut nearest = Nearest {
-        word: None,
-        far: small.len().div_ceil(2).min(3),
-    };
+    let mut nearest = Nearest::to(small.as_slice());
     for opcode in 0..=255 {
         if let Some(entry) = row_entry(opcode) {
             nearest = nearest.or(alloc, entry.word, small.as_slice())?;
@@ -110,10 +116,7 @@ pub fn nearest_option(alloc: Global, word: &[u8]) -> Result<Option<&'static str>
         return Ok(None);
     }
     let small = in_small_letters(alloc, word)?;
-    let mut nearest = Nearest {
-        word: None,
-        far: small.len().div_ceil(2).min(3),
-    };
+    let mut nearest = Nearest::to(small.as_slice());
     for option in &OPTIONS {
         nearest = nearest.or(alloc, *option, small.as_slice())?;
     }
@@ -122,14 +125,7 @@ pub fn nearest_option(alloc: Global, word: &[u8]) -> Result<Option<&'static str>
 
 /// Whether a row or a directive has this word.
 pub fn is_word_of_the_language(word: &[u8]) -> bool {
-    for opcode in 0..=255 {
-        if let Some(entry) = row_entry(opcode) {
-            if entry.word.as_bytes() == word {
-                return true;
-            }
-        }
-    }
-    is_directive(word)
+    shape_of(word).is_some() || is_directive(word)
 }
 
 /// The name of the text that is nearest to this one, where it is near at all.

@@ -58,18 +58,6 @@ impl From<AllocError> for Unshown {
 /// More bytes than the line of a fault has.
 const LONGEST_LINE: usize = 64;
 
-/// What helps where a schedule is a plan.
-const AT_PLAN: &str = "this looks like a plan: `vuthgal plan FILE PLAN` writes its schedule";
-
-/// What helps where a plan stands in the program's place.
-const AT_PLAN_FIRST: &str = "this looks like a plan: the program comes first";
-
-/// What helps where a schedule is a trace.
-const AT_TRACE: &str = "this looks like a trace: `vuthgal choices TRACE` writes its schedule";
-
-/// What helps where a schedule holds a comment.
-const AT_COMMENT: &str = "a schedule has no comments: a text may have some above its line `.run`";
-
 /// What a name is, and what should stand in its place; or the name that may have been meant.
 fn push_name<E: Sink>(
     alloc: Global,
@@ -128,30 +116,28 @@ fn operand(letter: &[u8]) -> Option<(&'static str, &'static str)> {
     }
 }
 
+/// The words of a form, each operand as what it stands for or as one like that.
+fn push_each<E: Sink>(errors: &mut E, form: &[u8], is_example: bool) -> Result<(), Unshown> {
+    for word in form.split(|byte| *byte == b' ') {
+        match operand(word) {
+            Some((name, example)) => {
+                errors.push(b" ")?;
+                errors.push(if is_example { example } else { name }.as_bytes())?;
+            }
+            None => errors.push(word)?,
+        }
+    }
+    Ok(())
+}
+
 /// The operands of a row in words, and a row like that. What is no row stands as it is.
 fn push_operands<E: Sink>(errors: &mut E, form: &[u8]) -> Result<(), Unshown> {
     if form.starts_with(b".") || !form.contains(&b' ') {
         return Ok(errors.push(form)?);
     }
-    for word in form.split(|byte| *byte == b' ') {
-        match operand(word) {
-            Some((name, _)) => {
-                errors.push(b" ")?;
-                errors.push(name.as_bytes())?;
-            }
-            None => errors.push(word)?,
-        }
-    }
+    push_each(errors, form, false)?;
     errors.push(b", as `")?;
-    for word in form.split(|byte| *byte == b' ') {
-        match operand(word) {
-            Some((_, example)) => {
-                errors.push(b" ")?;
-                errors.push(example.as_bytes())?;
-            }
-            None => errors.push(word)?,
-        }
-    }
+    push_each(errors, form, true)?;
     Ok(errors.push(b"`")?)
 }
 
@@ -238,14 +224,6 @@ fn fault_of(
     }
 }
 
-/// Whether a plan stands where the program should, and the program where the plan should.
-fn stands_first(alloc: Global, program: ProgramFile<'_>, other: Option<Named<'_>>) -> bool {
-    match other {
-        Some(other) => is_plan(alloc, other.bytes, program.text),
-        None => false,
-    }
-}
-
 /// The line of a text's fault, with a mark below the word that is wrong.
 fn push_text_place<E: Sink>(
     alloc: Global,
@@ -289,9 +267,9 @@ fn push_text_place<E: Sink>(
         _ => {}
     }
     let helps = helps_at(alloc, program.text, kind, number, line, word);
-    let is_plan = program.file.name.ends_with(".plan") || stands_first(alloc, program, other);
-    if helps.is_none() && is_plan {
-        return Ok(Some(AT_PLAN_FIRST));
+    let stands_first = other.is_some_and(|other| is_plan(alloc, other.bytes, program.text));
+    if helps.is_none() && (program.file.name.ends_with(".plan") || stands_first) {
+        return Ok(Some("this looks like a plan: the program comes first"));
     }
     Ok(helps)
 }
@@ -327,15 +305,12 @@ fn push_made_place<E: Sink>(
     made: OperandKind,
     number: u64,
 ) -> Result<(), Unshown> {
-    let Some(at) = line_that_makes(alloc, program.text, made, number) else {
-        return Ok(());
-    };
-    let Some(line) = line_at(program.text, at) else {
-        return Ok(());
-    };
-    if let Some(place) = place_of_statement(line) {
-        push_file(errors, program.file.name, at)?;
-        push_marked(errors, line, place)?;
+    if let Some(at) = line_that_makes(alloc, program.text, made, number) {
+        let line = line_at(program.text, at).unwrap_or(&[]);
+        if let Some(place) = place_of_statement(line) {
+            push_file(errors, program.file.name, at)?;
+            push_marked(errors, line, place)?;
+        }
     }
     Ok(())
 }
@@ -450,15 +425,14 @@ fn helps_at_schedule(
         Some(schedule) => schedule.bytes,
         None => program.file.bytes.get(program.schedule_at..).unwrap_or(&[]),
     };
-    let helps = helps_at_encoding(bytes);
-    if helps.is_some() {
-        helps
+    if let Some(helps) = helps_at_encoding(bytes) {
+        Some(helps)
     } else if is_trace(bytes) {
-        Some(AT_TRACE)
+        Some("this looks like a trace: `vuthgal choices TRACE` writes its schedule")
     } else if bytes.trim_ascii_start().starts_with(b";") {
-        Some(AT_COMMENT)
+        Some("a schedule has no comments: a text may have some above its line `.run`")
     } else if !bytes.is_empty() && is_plan(alloc, program.text, bytes) {
-        Some(AT_PLAN)
+        Some("this looks like a plan: `vuthgal plan FILE PLAN` writes its schedule")
     } else {
         None
     }

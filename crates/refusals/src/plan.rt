@@ -9,31 +9,11 @@ use assembler::word_place::{WordPlace, line_at};
 use byte_ports::Sink;
 use commands::plan::loaded_program;
 use commands::unplanned::Unplanned;
-use line_reader::words::{before_comment, is_blank, length_before};
+use line_reader::words::{before_comment, length_before};
+use plans::cutting::word_length;
 use plans::fault::{PlanFault, PlanFaultKind};
 use plans::read_plan;
 use std::alloc::{AllocError, Global};
-
-/// Whether a word can't go on with this byte.
-fn parts_words(byte: u8) -> bool {
-    is_blank(byte) || byte == b'(' || byte == b')'
-}
-
-/// How many bytes there are up to the first that parts words.
-fn length_to_part(text: &[u8]) -> usize {
-    text.iter()
-        .position(|byte| parts_words(*byte))
-        .unwrap_or(text.len())
-}
-
-/// How many bytes the word has that a text begins with: a parenthesis stands for itself, with its count if it has one.
-fn word_length(text: &[u8]) -> usize {
-    match text {
-        [b')', b'*', ..] => length_to_part(&text[1..]).saturating_add(1),
-        [b'(' | b')', ..] => 1,
-        _ => length_to_part(text),
-    }
-}
 
 /// The places of a line's words.
 fn word_places(alloc: Global, line: &[u8]) -> Result<Vec<WordPlace>, AllocError> {
@@ -41,9 +21,11 @@ fn word_places(alloc: Global, line: &[u8]) -> Result<Vec<WordPlace>, AllocError>
     let mut places = Vec::new(alloc);
     let mut behind = 0;
     for at in 0..text.len() {
-        if at >= behind && !is_blank(text[at]) {
+        if at >= behind {
             let length = word_length(&text[at..]);
-            places.push(WordPlace { at, length })?;
+            if length > 0 {
+                places.push(WordPlace { at, length })?;
+            }
             behind = at.saturating_add(length);
         }
     }

@@ -1,11 +1,12 @@
 //! Which words ask for which entry.
-ghost use Rattle.std.specs.Prelude.{◌≡◌, ℕ, Option, MatchOption, Some, bytes_eq};
+ghost use Rattle.std.specs.Prelude.{◌≡◌, ℕ, Option, MatchOption, Some};
 ghost use Rattle.refusals.specs.declared.entry.Place.{Place};
 ghost use Rattle.refusals.specs.declared.question.Question.{Question};
 ghost use Rattle.refusals.specs.Question.{AsksAmong, AsksFor, AsksIn, FitOne, Fits, IsPlace, Spells, is_place, texts, without_refused};
 
 use crate::entries::tables;
 use crate::entry::{Entry, Place};
+use crate::word::is_word;
 use std::alloc::{AllocError, Global};
 
 /// What is asked for: an entry, and the place that was told.
@@ -13,13 +14,6 @@ use std::alloc::{AllocError, Global};
 pub struct Question {
     pub entry: Entry,
     pub place: Option<Place>,
-}
-
-/// Whether a word is this one.
-fn is_word(word: &str, told: &str) -> bool
-    ensures { result ≡ bytes_eq word.now told.now }
-{
-    word == told
 }
 
 /// Whether a word of a pattern stands for the number of a place.

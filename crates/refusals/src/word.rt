@@ -1,13 +1,34 @@
 //! What is told of a word of the language: a row of the instruction table, or a word that begins with a dot.
-ghost use Rattle.std.specs.Prelude.{IsTrue, MatchOption, OnErr, OnOk};
+ghost use Rattle.std.specs.Prelude.{◌≡◌, IsTrue, MatchOption, OnErr, OnOk, bytes_eq};
 ghost use Rattle.std.specs.Io.KnownBytes.{Appends};
-ghost use Rattle.refusals.specs.Word.{IsItsWord, IsNoWord, word_text};
+ghost use Rattle.refusals.specs.Word.{IsItsWord, IsNoWord, more_of, word_text};
 
 use crate::entry::push_line;
 use crate::table::directive::directive_entry;
 use crate::table::row::row_entry;
 use byte_ports::{Failed, Sink};
 use instruction_table::shape_of;
+use line_reader::directive::is_directive;
+
+/// Whether a word is this one.
+pub(crate) fn is_word(word: &str, told: &str) -> bool
+    ensures { result ≡ bytes_eq word.now told.now }
+{
+    word == told
+}
+
+/// Where the documents say more of a word.
+fn more_of(word: &str) -> &'static str
+    ensures { result.now ≡ more_of word.now }
+{
+    if is_word(word, ".run") {
+        "docs/FORMATS.md, \"Program text\""
+    } else if is_directive(word.as_bytes()) {
+        "docs/FORMATS.md, \"Directives\""
+    } else {
+        "docs/FORMATS.md, \"Instruction table\""
+    }
+}
 
 /// What is told of a word.
 #[derive(Clone, Copy, Debug)]
@@ -23,8 +44,6 @@ pub struct WordEntry {
     pub means: &'static str,
     /// What a trace shows of it.
     pub event: &'static str,
-    /// Where the documents say more.
-    pub more: &'static str,
     /// A text with its schedule in which it is played.
     pub example: &'static str,
 }
@@ -40,7 +59,7 @@ impl WordEntry {
         push_line(output, b"  Java:     ", self.java)?;
         push_line(output, b"  Means:    ", self.means)?;
         push_line(output, b"  Event:    ", self.event)?;
-        push_line(output, b"  More:     ", self.more)?;
+        push_line(output, b"  More:     ", more_of(self.word))?;
         push_line(
             output,
             b"  Example:  ",

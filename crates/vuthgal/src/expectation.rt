@@ -167,7 +167,7 @@ fn push_unmet<E: Sink>(errors: &mut E, text: &[u8], line: &[u8]) -> Result<(), F
 }
 
 /// A line without its end.
-pub fn without_end(line: &[u8]) -> &[u8] {
+fn without_end(line: &[u8]) -> &[u8] {
     line.strip_suffix(b"\n").unwrap_or(line)
 }
 

@@ -33,32 +33,22 @@ fn said_in(word: &[u8]) -> Option<When> {
     }
 }
 
-/// What the word in this place says.
-fn when_at(rt: &HostRuntime, number: usize) -> Option<When> {
+/// What the word in this place says with the next, and how many words that are, where it is the option.
+fn option_at(rt: &HostRuntime, number: usize, word: &[u8]) -> Option<(When, usize)> {
+    let behind = word.strip_prefix(OPTION)?;
+    if !behind.is_empty() {
+        return Some((said_in(behind.strip_prefix(b"=".as_slice())?)?, 1));
+    }
     let mut room = [0u8; ROOM];
-    match rt.arg(number, &mut room) {
-        Ok(length) => said_in(&room[..length]),
+    match rt.arg(number.saturating_add(1), &mut room) {
+        Ok(length) => Some((said_in(&room[..length])?, 2)),
         Err(_) => None,
     }
 }
 
-/// What the word in this place says with the next, and how many words that are, where it is the option.
-fn option_at(rt: &HostRuntime, number: usize, word: &[u8]) -> Option<(When, usize)> {
-    let behind = word.strip_prefix(OPTION)?;
-    if behind.is_empty() {
-        let said = when_at(rt, number.saturating_add(1))?;
-        return Some((said, 2));
-    }
-    let said = said_in(behind.strip_prefix(b"=".as_slice())?)?;
-    Some((said, 1))
-}
-
 /// How many words from this one on say when a refusal is explained.
 pub fn words_at(rt: &HostRuntime, number: usize, word: &[u8]) -> usize {
-    match option_at(rt, number, word) {
-        Some((_, words)) => words,
-        None => 0,
-    }
+    option_at(rt, number, word).map_or(0, |(_, words)| words)
 }
 
 /// What the words say, the last of them.

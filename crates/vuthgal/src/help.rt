@@ -88,15 +88,11 @@ impl<'a> Files<'a> {
 
 /// What a file holds, nothing where it can't be read twice.
 fn contents(rt: &HostRuntime, path: &str) -> Vec<u8> {
-    match fs::metadata(rt, path) {
-        Ok(metadata) if metadata.is_file() && metadata.len() <= LONGEST => match fs::read(
-            rt, path,
-        ) {
-            Ok(bytes) => bytes,
-            Err(_) => Vec::new(rt.alloc()),
-        },
-        _ => Vec::new(rt.alloc()),
-    }
+    let read = match fs::metadata(rt, path) {
+        Ok(metadata) if metadata.is_file() && metadata.len() <= LONGEST => fs::read(rt, path).ok(),
+        _ => None,
+    };
+    read.unwrap_or(Vec::new(rt.alloc()))
 }
 
 /// A program's file, with what stands before its line `.run` and where the schedule begins that follows it.
@@ -208,38 +204,19 @@ pub fn push_missing(rt: &HostRuntime, missing: Option<(u64, Choice)>) {
     }
 }
 
-/// Writes a line, where what is told is explained.
-fn push_explained(rt: &HostRuntime, line: &str) {
+/// Writes a text, where what is told is explained.
+pub fn push_explained(rt: &HostRuntime, text: &str) {
     if is_explained(rt) {
-        push_text(rt, format!(in rt.alloc(); "{line}\n"));
+        let _ = WritePort::new(printable::errors(rt)).push(text.as_bytes());
     }
 }
 
-/// Tells how a trace is made.
-pub fn push_no_trace(rt: &HostRuntime) {
-    push_explained(
-        rt,
-        "that is no line of a trace: `vuthgal run FILE SCHEDULE > TRACE` writes one",
-    );
-}
+/// How a trace is made.
+pub const NO_TRACE: &str =
+    "that is no line of a trace: `vuthgal run FILE SCHEDULE > TRACE` writes one\n";
 
-/// Tells how a line differs that looks like the run's.
-pub fn push_carriage_return(rt: &HostRuntime) {
-    push_explained(
-        rt,
-        "the trace's line ends with CR LF, a run's with LF alone",
-    );
-}
-
-/// Tells what it means that a run ends `live`.
-pub fn push_live(rt: &HostRuntime, what_ended: &str) {
-    if is_explained(rt) {
-        push_text(
-            rt,
-            format!(in rt.alloc(); "live: some threads could still go on, but {what_ended}\n"),
-        );
-    }
-}
+/// How a line differs that looks like the run's.
+pub const CARRIAGE_RETURN: &str = "the trace's line ends with CR LF, a run's with LF alone\n";
 
 /// Writes a text to standard error, if there was memory for it.
 pub fn push_text(rt: &HostRuntime, text: Result<String, AllocError>) {

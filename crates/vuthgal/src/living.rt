@@ -39,7 +39,7 @@ fn live<'a, R: Threads + Wait + Sync>(
         output,
         program,
         expected,
-        "as many steps were taken as may be",
+        "live: some threads could still go on, but as many steps were taken as may be\n",
     )
 }
 

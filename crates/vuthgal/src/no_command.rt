@@ -6,13 +6,14 @@ use byte_ports::WritePort;
 use clap::Error as WordsError;
 use clap::error::ErrorKind;
 use std::alloc::AllocError;
+use std::fmt::Display;
 use std::io;
 use thiserror::Error;
 use workbench::done::{Done, settled};
 use workbench::fault::Fault;
 
 /// The status where the words are wrong.
-const WRONG_WORDS: u8 = 2;
+pub const WRONG_WORDS: u8 = 2;
 
 /// What is told of a word that is no text.
 const NOT_TEXT: &str = "error: a word of the command line isn't UTF-8";
@@ -45,20 +46,6 @@ fn ended(rt: &HostRuntime, answer: Result<Done, Fault>) -> u8 {
     settled(answer, &mut WritePort::new(rt.stderr()))
 }
 
-/// Tells a fault that comes before a command.
-fn told(rt: &HostRuntime, fault: Fault) -> u8 {
-    ended(rt, Err(fault))
-}
-
-/// Prints the help that the words ask for. Answers the status.
-fn print_help(rt: &HostRuntime, help: &WordsError) -> u8 {
-    let printed = match help.print(rt) {
-        Ok(()) => Ok(Done::AsAsked),
-        Err(_) => Err(Fault::Write),
-    };
-    ended(rt, printed)
-}
-
 /// Tells what is wrong with the words, if there was memory for it. Answers the status.
 fn push_wrong(rt: &HostRuntime, text: Result<String, AllocError>) -> u8 {
     match text {
@@ -66,17 +53,18 @@ fn push_wrong(rt: &HostRuntime, text: Result<String, AllocError>) -> u8 {
             push_text(rt, Ok(text));
             WRONG_WORDS
         }
-        Err(_) => told(rt, Fault::Memory),
+        Err(_) => ended(rt, Err(Fault::Memory)),
     }
 }
 
 /// Tells why the words ask for nothing, or the help that they ask for. Answers the status.
 fn tell_words(rt: &HostRuntime, error: &WordsError, words: &[String]) -> u8 {
     if error.kind() == ErrorKind::OutOfMemory {
-        return told(rt, Fault::Memory);
+        return ended(rt, Err(Fault::Memory));
     }
     if !error.use_stderr() {
-        return print_help(rt, error);
+        let printed = error.print(rt).map_err(|_| Fault::Write);
+        return ended(rt, printed.map(|()| Done::AsAsked));
     }
     let told = usage::told(rt, error);
     let is_enough = is_enough(&told);
@@ -158,37 +146,28 @@ fn push_other_way(rt: &HostRuntime, command: &str, words: &[String]) {
     push_text(rt, format!(in rt.alloc(); "{way}\n"));
 }
 
+/// Tells a fault of a file in its one line, and on a terminal which file it is, and why. Answers the status.
+fn tell_reason<R: Display>(rt: &HostRuntime, fault: Fault, path: &str, reason: &R) -> u8 {
+    let status = ended(rt, Err(fault));
+    push_reason(rt, fault, path, reason);
+    status
+}
+
 impl<'a> NoCommand<'a> {
-    /// Tells on a terminal which file a fault is of, and why.
-    fn push_reason(&self, rt: &HostRuntime, fault: Fault) {
-        match self {
-            NoCommand::Unread(path, error) => push_reason(rt, fault, path, error),
-            NoCommand::Unwritten(path, error) => push_reason(rt, fault, path, error),
-            NoCommand::OneFile(path) => push_reason(
-                rt,
-                fault,
-                path,
-                &"it is the file that is read",
-            ),
-            _ => {}
-        }
-    }
-
-    /// Tells a fault in its one line, and on a terminal which file it is of. Answers the status.
-    fn tell_fault(&self, rt: &HostRuntime, fault: Fault) -> u8 {
-        let status = told(rt, fault);
-        self.push_reason(rt, fault);
-        status
-    }
-
     /// Tells it in its one line; wrong words with the usage, or the help, as the commands' table has them. Answers the status.
     pub fn tell(&self, rt: &HostRuntime, words: &[String]) -> u8 {
         match self {
             NoCommand::Words(error) => tell_words(rt, error, words),
             NoCommand::NotText => push_wrong(rt, usage::with_usage(rt, NOT_TEXT)),
-            NoCommand::Memory => told(rt, Fault::Memory),
-            NoCommand::Unread(_, _) => self.tell_fault(rt, Fault::Read),
-            NoCommand::Unwritten(_, _) | NoCommand::OneFile(_) => self.tell_fault(rt, Fault::Write),
+            NoCommand::Memory => ended(rt, Err(Fault::Memory)),
+            NoCommand::Unread(path, error) => tell_reason(rt, Fault::Read, path, error),
+            NoCommand::Unwritten(path, error) => tell_reason(rt, Fault::Write, path, error),
+            NoCommand::OneFile(path) => tell_reason(
+                rt,
+                Fault::Write,
+                path,
+                &"it is the file that is read",
+            ),
         }
     }
 }

@@ -2,11 +2,12 @@
 
 use crate::ending::handed_on;
 use crate::expectation::{as_expected, expectations, tell_unmet};
+use crate::help::push_explained;
+use crate::notes;
 use crate::progress::{ShownWriter, trace_port};
 use crate::schedule::Schedule;
 use crate::steps::{Steps, opened};
 use crate::trouble::Answer;
-use crate::{help, notes};
 use byte_ports::{BlockPort, ReadPort, WritePort};
 use headline::shown;
 use std::io::Stdout;
@@ -20,18 +21,19 @@ use workbench::run_line::split_at_run;
 /// Where the trace of a run goes.
 pub type TracePort<'a> = BlockPort<WritePort<ShownWriter<'a, Stdout>>>;
 
-/// How a run ends that stays live where its schedule does.
-const SCHEDULE_ENDS: &str = "the schedule is at its end";
+/// What `live` means where the schedule ended the run.
+const SCHEDULE_ENDS: &str =
+    "live: some threads could still go on, but the schedule is at its end\n";
 
 /// What a run comes to whose trace was handed on: whether it ended as it was expected to. What didn't is told, and on a terminal
-/// also a choice of a thread that isn't there, and what `live` means, by what ended the run.
+/// also a choice of a thread that isn't there, and what `live` means.
 pub fn ended<'a>(
     rt: &HostRuntime,
     answer: Result<RunEnd, Fault>,
     output: TracePort<'_>,
     program: &[u8],
     expected: &[Vec<u8>],
-    what_ended: &str,
+    live: &str,
 ) -> Answer<'a> {
     let end = handed_on(answer, output)?;
     notes::push_refused(rt, &end);
@@ -40,7 +42,7 @@ pub fn ended<'a>(
         tell_unmet(rt, program, expected, &end);
     }
     if end.refused.is_none() && end.standing == Standing::Live {
-        help::push_live(rt, what_ended);
+        push_explained(rt, live);
     }
     Ok(done)
 }

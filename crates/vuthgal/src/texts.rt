@@ -8,7 +8,8 @@ use commands::list_rows;
 use refusals::entries::tables;
 use refusals::explain::explain;
 use workbench::asm::asm;
-use workbench::done::as_asked;
+use workbench::done::{Done, as_asked};
+use workbench::fault::Fault;
 use workbench::input::read_all;
 use workbench::list::list;
 
@@ -37,8 +38,10 @@ pub fn write_list<'a>(rt: &HostRuntime, file: &'a str, has_rows: bool) -> Answer
 /// Tells what the words of a line mean.
 pub fn explain_words<'a>(rt: &HostRuntime, words: &[&'a str]) -> Answer<'a> {
     let mut output = WritePort::new(rt.stdout());
-    match explain(&tables(), words, &mut output) {
-        Ok(()) => Ok(as_asked(flushed(Ok(()), &mut output))?),
-        Err(why) => Err(Trouble::Unexplained(why)),
+    let told = explain(&tables(), words, &mut output).map_err(|_| Fault::Write);
+    if flushed(told, &mut output)? {
+        Ok(Done::AsAsked)
+    } else {
+        Err(Trouble::NoLine)
     }
 }

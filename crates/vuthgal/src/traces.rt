@@ -1,10 +1,11 @@
 //! Traces that are read: compared with their run, and as the schedule that they have.
 
 use crate::ending::{flushed, handed_on};
+use crate::help::{CARRIAGE_RETURN, NO_TRACE, push_explained};
 use crate::input::Input;
 use crate::progress::ShownSource;
 use crate::trouble::Answer;
-use crate::{files, help, printable};
+use crate::{files, printable};
 use byte_ports::{BlockPort, ReadPort, WritePort};
 use commands::choices::choices;
 use commands::{LinesSeen, show_comparison};
@@ -16,7 +17,7 @@ use workbench::input::read_all;
 /// What a verdict comes to. On a terminal it is told how a trace is made, where there is none.
 fn ended(rt: &HostRuntime, verdict: Verdict) -> Done {
     if matches!(verdict, Verdict::NotATrace { .. }) {
-        help::push_no_trace(rt);
+        push_explained(rt, NO_TRACE);
     }
     done_by(verdict)
 }
@@ -39,7 +40,7 @@ pub fn compare<'a>(rt: &HostRuntime, file: &'a str, trace: &'a str, is_shown: bo
     let verdict = flushed(verdict, &mut output)?;
     if let Verdict::Differs { line } = verdict {
         if trace.line(line).unwrap_or(&[]).ends_with(b"\r") {
-            help::push_carriage_return(rt);
+            push_explained(rt, CARRIAGE_RETURN);
         }
     }
     Ok(ended(rt, verdict))
@@ -53,6 +54,6 @@ pub fn write_choices<'a>(rt: &HostRuntime, trace: &'a str) -> Answer<'a> {
     if handed_on(answer, output)? {
         return Ok(Done::AsAsked);
     }
-    help::push_no_trace(rt);
+    push_explained(rt, NO_TRACE);
     Ok(Done::Unlike)
 }

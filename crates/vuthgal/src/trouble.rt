@@ -1,11 +1,11 @@
 //! Why the program doesn't do what it is asked for, and how that is told.
 
 use crate::help::{Files, push_help, push_plan_help};
-use crate::no_command::NoCommand;
+use crate::no_command::{NoCommand, WRONG_WORDS};
 use byte_ports::WritePort;
 use commands::unplanned::Unplanned;
 use plans::fault::PlanFault;
-use refusals::explain::Unexplained;
+use refusals::explain::push_no_line;
 use std::alloc::AllocError;
 use workbench::done::{Done, settled};
 use workbench::fault::Fault;
@@ -24,8 +24,8 @@ pub enum Trouble<'a> {
     OfInput(Fault, Vec<u8>),
     /// A plan has a fault.
     Plan(PlanFault),
-    /// Nothing is explained.
-    Unexplained(Unexplained),
+    /// The words that are to be explained are those of no line.
+    NoLine,
 }
 
 impl<'a> From<NoCommand<'a>> for Trouble<'a> {
@@ -82,10 +82,9 @@ impl<'a> Trouble<'a> {
                 files.with_input(input.as_slice()),
             ),
             Trouble::Plan(fault) => tell_plan(rt, *fault, files),
-            Trouble::Unexplained(Unexplained::Write) => tell_fault(rt, Fault::Write, files),
-            Trouble::Unexplained(why) => {
-                let _ = why.tell(&mut WritePort::new(rt.stderr()));
-                why.status()
+            Trouble::NoLine => {
+                let _ = push_no_line(&mut WritePort::new(rt.stderr()));
+                WRONG_WORDS
             }
         }
     }

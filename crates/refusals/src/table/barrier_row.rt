@@ -16,7 +16,6 @@ pub fn barrier_row(opcode: u8) -> Option<WordEntry>
             java: "await()",
             means: "waits for the others; a gets how many were still to come, 0 for the last",
             event: "`= v`, `wait`, `enter`",
-            more: "docs/FORMATS.md, \"Instruction table\"",
             example: ".barrier gate 2\n.thread ann main\n.thread bob main\nmain: cawait r0 gate\nout r0\nhalt\n.run\nt0 t1*3 t0*3",
         },
         36 => WordEntry {
@@ -26,7 +25,6 @@ pub fn barrier_row(opcode: u8) -> Option<WordEntry>
             java: "reset()",
             means: "resets the barrier: who waits there throws 4",
             event: "`ok`",
-            more: "docs/FORMATS.md, \"Instruction table\"",
             example: ".barrier gate 2\n.thread ann main\n.thread bob other\nmain: try broken\ncawait r0 gate\nhalt\nbroken: out r7\nhalt\nother: creset gate\nhalt\n.run\nt0*2 t1*2 t0*4",
         },
         37 => WordEntry {
@@ -36,7 +34,6 @@ pub fn barrier_row(opcode: u8) -> Option<WordEntry>
             java: "isBroken()",
             means: "a gets 1 if the barrier is broken, else 0",
             event: "`= v`",
-            more: "docs/FORMATS.md, \"Instruction table\"",
             example: ".barrier gate 2\n.thread ann main\nmain: cbroken r0 gate\nout r0\nhalt\n.run\nt0*3",
         },
         38 => WordEntry {
@@ -46,7 +43,6 @@ pub fn barrier_row(opcode: u8) -> Option<WordEntry>
             java: "getNumberWaiting()",
             means: "a gets how many wait there",
             event: "`= v`",
-            more: "docs/FORMATS.md, \"Instruction table\"",
             example: ".barrier gate 2\n.thread ann main\n.thread bob other\nmain: cawait r0 gate\nhalt\nother: cwaiting r0 gate\nout r0\nhalt\n.run\nt0 t1*3",
         },
         39 => WordEntry {
@@ -56,7 +52,6 @@ pub fn barrier_row(opcode: u8) -> Option<WordEntry>
             java: "getParties()",
             means: "a gets how many the barrier waits for",
             event: "`= v`",
-            more: "docs/FORMATS.md, \"Instruction table\"",
             example: ".barrier gate 2\n.thread ann main\nmain: cparties r0 gate\nout r0\nhalt\n.run\nt0*3",
         },
         _ => return None,

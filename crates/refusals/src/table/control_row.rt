@@ -16,7 +16,6 @@ pub(crate) fn control_row(opcode: u8) -> Option<WordEntry>
             java: "a method's call",
             means: "goes to row L, and `ret` comes back to the next row; with 64 entries on the stack throws 6",
             event: "`ok`",
-            more: "docs/FORMATS.md, \"Instruction table\"",
             example: ".thread ann main\nmain: call five\nout r0\nhalt\nfive: ldi r0 5\nret\n.run\nt0*5",
         },
         10 => WordEntry {
@@ -26,7 +25,6 @@ pub(crate) fn control_row(opcode: u8) -> Option<WordEntry>
             java: "return;",
             means: "goes back behind the `call`, or ends the routine or the action; elsewhere throws 7",
             event: "`ok`, `= v`",
-            more: "docs/FORMATS.md, \"Instruction table\"",
             example: ".thread ann main\nmain: call five\nout r0\nhalt\nfive: ldi r0 5\nret\n.run\nt0*5",
         },
         11 => WordEntry {
@@ -36,7 +34,6 @@ pub(crate) fn control_row(opcode: u8) -> Option<WordEntry>
             java: "try { .. } catch",
             means: "from here on an exception leads to row L, with its number in r7; with 64 entries on the stack throws 6",
             event: "`ok`",
-            more: "docs/FORMATS.md, \"Instruction table\"",
             example: ".thread ann main\nmain: try failed\nldi r0 9\nthrow r0\nfailed: out r7\nhalt\n.run\nt0*6",
         },
         12 => WordEntry {
@@ -46,7 +43,6 @@ pub(crate) fn control_row(opcode: u8) -> Option<WordEntry>
             java: "the } of try",
             means: "takes back the last `try`; elsewhere throws 7",
             event: "`ok`",
-            more: "docs/FORMATS.md, \"Instruction table\"",
             example: ".thread ann main\nmain: try failed\nldi r0 9\nendtry\nhalt\nfailed: out r7\nhalt\n.run\nt0*4",
         },
         13 => WordEntry {
@@ -56,7 +52,6 @@ pub(crate) fn control_row(opcode: u8) -> Option<WordEntry>
             java: "throw",
             means: "throws the number in a: 1 to 8 are the machine's own (`explain exception 1`)",
             event: "`throw v`",
-            more: "docs/FORMATS.md, \"Instruction table\"",
             example: ".thread ann main\nmain: try failed\nldi r0 9\nthrow r0\nfailed: out r7\nhalt\n.run\nt0*6",
         },
         14 => WordEntry {
@@ -66,7 +61,6 @@ pub(crate) fn control_row(opcode: u8) -> Option<WordEntry>
             java: "System.out.println(a);",
             means: "puts the number in a out; after 4096 numbers throws 8",
             event: "`out v`",
-            more: "docs/FORMATS.md, \"Instruction table\"",
             example: ".thread ann main\nmain: ldi r0 5\nout r0\nhalt\n.run\nt0*3",
         },
         _ => return None,

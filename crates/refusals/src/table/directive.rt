@@ -1,8 +1,8 @@
 //! What begins with a dot in a program's text.
-ghost use Rattle.std.specs.Prelude.{◌≡◌, ◌≢◌, MatchOption, bytes_eq, true};
+ghost use Rattle.std.specs.Prelude.{◌≡◌, ◌≢◌, MatchOption, true};
 ghost use Rattle.line_reader.specs.Reading.{is_directive};
 
-use crate::word::WordEntry;
+use crate::word::{WordEntry, is_word};
 
 /// The words that begin with a dot.
 pub const DIRECTIVES: [&str; 5] = [".phaser", ".barrier", ".thread", ".cell", ".run"];
@@ -14,7 +14,6 @@ const PHASER: WordEntry = WordEntry {
     java: "new Phaser(parent, parties)",
     means: "makes the next phaser; `never`, `until N` and `onadvance L` say when a phase's end terminates it",
     event: "none",
-    more: "docs/FORMATS.md, \"Directives\"",
     example: ".phaser house 1 phase 3 until 9\n.phaser room 1 parent house\n.thread ann main\nmain: parr r0 room\nhalt\n.run\nt0*2",
 };
 
@@ -25,7 +24,6 @@ const BARRIER: WordEntry = WordEntry {
     java: "new CyclicBarrier(parties, action)",
     means: "makes the next cyclic barrier",
     event: "none",
-    more: "docs/FORMATS.md, \"Directives\"",
     example: ".barrier gate 1 action greet\n.thread ann main\nmain: cawait r0 gate\nhalt\ngreet: out r0\nret\n.run\nt0*4",
 };
 
@@ -36,7 +34,6 @@ const THREAD: WordEntry = WordEntry {
     java: "new Thread(..).start()",
     means: "makes the next thread; the first is t0",
     event: "none",
-    more: "docs/FORMATS.md, \"Directives\"",
     example: ".thread ann main\nmain: self r0\nout r0\nhalt\n.run\nt0*3",
 };
 
@@ -47,7 +44,6 @@ const CELL: WordEntry = WordEntry {
     java: "a field that threads share",
     means: "makes the next shared cell, which holds 0",
     event: "none",
-    more: "docs/FORMATS.md, \"Directives\"",
     example: ".thread ann main\n.cell total\nmain: ldi r0 5\nsts r0 total\nhalt\n.run\nt0*3",
 };
 
@@ -58,16 +54,8 @@ const RUN: WordEntry = WordEntry {
     java: "none",
     means: "ends the program; what follows is its schedule: `t0` a turn of thread 0, `t0*3` three, `x0` the end of its time",
     event: "none",
-    more: "docs/FORMATS.md, \"Program text\"",
     example: ".thread ann main\nmain: halt\n.run\nt0",
 };
-
-/// Whether a word is this one.
-fn is_word(word: &str, told: &str) -> bool
-    ensures { result ≡ bytes_eq word.now told.now }
-{
-    word == told
-}
 
 /// What the table says of a word that begins with a dot.
 pub(crate) fn directive_entry(word: &str) -> Option<WordEntry>

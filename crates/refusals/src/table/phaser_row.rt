@@ -16,7 +16,6 @@ pub fn phaser_row(opcode: u8) -> Option<WordEntry>
             java: "register()",
             means: "registers one party; a gets the phase that it joined",
             event: "`= v`",
-            more: "docs/FORMATS.md, \"Instruction table\"",
             example: ".phaser door 1\n.thread ann main\nmain: preg r0 door\npparties r1 door\nout r1\nhalt\n.run\nt0*4",
         },
         21 => WordEntry {
@@ -26,7 +25,6 @@ pub fn phaser_row(opcode: u8) -> Option<WordEntry>
             java: "bulkRegister(b)",
             means: "registers as many parties as b says; a gets the phase that they joined",
             event: "`= v`",
-            more: "docs/FORMATS.md, \"Instruction table\"",
             example: ".phaser door 1\n.thread ann main\nmain: ldi r1 3\npbulk r0 door r1\npparties r2 door\nout r2\nhalt\n.run\nt0*5",
         },
         22 => WordEntry {
@@ -36,7 +34,6 @@ pub fn phaser_row(opcode: u8) -> Option<WordEntry>
             java: "arrive()",
             means: "arrives and goes on; a gets the phase of the arrival",
             event: "`= v`, `enter`",
-            more: "docs/FORMATS.md, \"Instruction table\"",
             example: ".phaser door 2\n.thread ann main\n.thread bob main\nmain: parr r0 door\nout r0\nhalt\n.run\nt0*3 t1*3",
         },
         23 => WordEntry {
@@ -46,7 +43,6 @@ pub fn phaser_row(opcode: u8) -> Option<WordEntry>
             java: "arriveAndDeregister()",
             means: "arrives and leaves: one party less; a gets the phase of the arrival",
             event: "`= v`, `enter`",
-            more: "docs/FORMATS.md, \"Instruction table\"",
             example: ".phaser door 2\n.thread ann main\nmain: pdereg r0 door\npparties r1 door\nout r1\nhalt\n.run\nt0*4",
         },
         24 => WordEntry {
@@ -56,7 +52,6 @@ pub fn phaser_row(opcode: u8) -> Option<WordEntry>
             java: "arriveAndAwaitAdvance()",
             means: "arrives and waits for the others; a gets the phase that follows",
             event: "`= v`, `wait`, `enter`",
-            more: "docs/FORMATS.md, \"Instruction table\"",
             example: ".phaser door 2\n.thread ann main\n.thread bob main\nmain: paaa r0 door\nout r0\nhalt\n.run\nt0 t1*3 t0*3",
         },
         25 => WordEntry {
@@ -66,7 +61,6 @@ pub fn phaser_row(opcode: u8) -> Option<WordEntry>
             java: "awaitAdvance(b)",
             means: "waits until phase b has ended; a gets the phase that it finds",
             event: "`= v`, `wait`",
-            more: "docs/FORMATS.md, \"Instruction table\"",
             example: ".phaser door 1\n.thread ann main\n.thread bob other\nmain: pawait r0 door r1\nout r0\nhalt\nother: parr r0 door\nhalt\n.run\nt0 t1*2 t0*3",
         },
         26 => WordEntry {
@@ -76,7 +70,6 @@ pub fn phaser_row(opcode: u8) -> Option<WordEntry>
             java: "awaitAdvanceInterruptibly(b)",
             means: "as `pawait`; an interrupt ends the wait, and throws 3",
             event: "`= v`, `wait`",
-            more: "docs/FORMATS.md, \"Instruction table\"",
             example: ".phaser door 1\n.thread ann main\n.thread bob other\nmain: try woken\npawaiti r0 door r1\nhalt\nwoken: out r7\nhalt\nother: intr ann\nhalt\n.run\nt0*2 t1*2 t0*4",
         },
         27 => WordEntry {
@@ -86,7 +79,6 @@ pub fn phaser_row(opcode: u8) -> Option<WordEntry>
             java: "forceTermination()",
             means: "terminates the phaser: nobody waits there any more",
             event: "`ok`",
-            more: "docs/FORMATS.md, \"Instruction table\"",
             example: ".phaser door 2\n.thread ann main\n.thread bob other\nmain: paaa r0 door\nout r0\nhalt\nother: pforce door\nhalt\n.run\nt0 t1*2 t0*3",
         },
         _ => return None,

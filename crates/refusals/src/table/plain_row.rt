@@ -16,7 +16,6 @@ pub(crate) fn plain_row(opcode: u8) -> Option<WordEntry>
             java: "return; in run()",
             means: "ends the thread; in a routine or an action throws 7",
             event: "`end`",
-            more: "docs/FORMATS.md, \"Instruction table\"",
             example: ".thread ann main\nmain: halt\n.run\nt0",
         },
         1 => WordEntry {
@@ -26,7 +25,6 @@ pub(crate) fn plain_row(opcode: u8) -> Option<WordEntry>
             java: "a = n;",
             means: "puts n into a",
             event: "`= v`",
-            more: "docs/FORMATS.md, \"Instruction table\"",
             example: ".thread ann main\nmain: ldi r0 5\nout r0\nhalt\n.run\nt0*3",
         },
         2 => WordEntry {
@@ -36,7 +34,6 @@ pub(crate) fn plain_row(opcode: u8) -> Option<WordEntry>
             java: "a = b;",
             means: "copies b into a",
             event: "`= v`",
-            more: "docs/FORMATS.md, \"Instruction table\"",
             example: ".thread ann main\nmain: ldi r1 5\nmov r0 r1\nout r0\nhalt\n.run\nt0*4",
         },
         3 => WordEntry {
@@ -46,7 +43,6 @@ pub(crate) fn plain_row(opcode: u8) -> Option<WordEntry>
             java: "a = b + c;",
             means: "puts b plus c into a; too large a sum wraps, as Java's int does",
             event: "`= v`",
-            more: "docs/FORMATS.md, \"Instruction table\"",
             example: ".thread ann main\nmain: ldi r1 2\nldi r2 3\nadd r0 r1 r2\nout r0\nhalt\n.run\nt0*5",
         },
         4 => WordEntry {
@@ -56,7 +52,6 @@ pub(crate) fn plain_row(opcode: u8) -> Option<WordEntry>
             java: "a = b - c;",
             means: "puts b minus c into a; it wraps, as Java's int does",
             event: "`= v`",
-            more: "docs/FORMATS.md, \"Instruction table\"",
             example: ".thread ann main\nmain: ldi r1 2\nldi r2 3\nsub r0 r1 r2\nout r0\nhalt\n.run\nt0*5",
         },
         5 => WordEntry {
@@ -66,7 +61,6 @@ pub(crate) fn plain_row(opcode: u8) -> Option<WordEntry>
             java: "none: a loop's end",
             means: "goes to row L",
             event: "`ok`",
-            more: "docs/FORMATS.md, \"Instruction table\"",
             example: ".thread ann main\nmain: jmp done\nout r0\ndone: halt\n.run\nt0*2",
         },
         6 => WordEntry {
@@ -76,7 +70,6 @@ pub(crate) fn plain_row(opcode: u8) -> Option<WordEntry>
             java: "if (a == b) ..",
             means: "goes to row L if a equals b, else to the next row",
             event: "`ok`",
-            more: "docs/FORMATS.md, \"Instruction table\"",
             example: ".thread ann main\nmain: ldi r1 0\nbeq r0 r1 done\nout r0\ndone: halt\n.run\nt0*3",
         },
         7 => WordEntry {
@@ -86,7 +79,6 @@ pub(crate) fn plain_row(opcode: u8) -> Option<WordEntry>
             java: "if (a != b) ..",
             means: "goes to row L if a isn't equal to b, else to the next row",
             event: "`ok`",
-            more: "docs/FORMATS.md, \"Instruction table\"",
             example: ".thread ann main\nmain: ldi r1 3\nldi r2 1\nagain: add r0 r0 r2\nbne r0 r1 again\nhalt\n.run\nt0*9",
         },
         8 => WordEntry {
@@ -96,7 +88,6 @@ pub(crate) fn plain_row(opcode: u8) -> Option<WordEntry>
             java: "if (a < b) ..",
             means: "goes to row L if a is less than b, else to the next row",
             event: "`ok`",
-            more: "docs/FORMATS.md, \"Instruction table\"",
             example: ".thread ann main\nmain: ldi r1 3\nldi r2 1\nagain: add r0 r0 r2\nblt r0 r1 again\nhalt\n.run\nt0*9",
         },
         _ => return None,

@@ -16,7 +16,6 @@ pub(crate) fn shared_row(opcode: u8) -> Option<WordEntry>
             java: "a = cell;",
             means: "puts cell C into a",
             event: "`= v`",
-            more: "docs/FORMATS.md, \"Instruction table\"",
             example: ".thread ann main\n.cell total\nmain: ldi r0 5\nsts r0 total\nlds r1 total\nout r1\nhalt\n.run\nt0*5",
         },
         16 => WordEntry {
@@ -26,7 +25,6 @@ pub(crate) fn shared_row(opcode: u8) -> Option<WordEntry>
             java: "cell = a;",
             means: "puts a into cell C",
             event: "`ok`",
-            more: "docs/FORMATS.md, \"Instruction table\"",
             example: ".thread ann main\n.cell total\nmain: ldi r0 5\nsts r0 total\nlds r1 total\nout r1\nhalt\n.run\nt0*5",
         },
         17 => WordEntry {
@@ -36,7 +34,6 @@ pub(crate) fn shared_row(opcode: u8) -> Option<WordEntry>
             java: "Thread.currentThread()",
             means: "puts the thread's own number into a",
             event: "`= v`",
-            more: "docs/FORMATS.md, \"Instruction table\"",
             example: ".thread ann main\n.thread bob main\nmain: self r0\nout r0\nhalt\n.run\nt0*3 t1*3",
         },
         18 => WordEntry {
@@ -46,7 +43,6 @@ pub(crate) fn shared_row(opcode: u8) -> Option<WordEntry>
             java: "t.interrupt()",
             means: "interrupts thread T, unless it has ended or died",
             event: "`ok`",
-            more: "docs/FORMATS.md, \"Instruction table\"",
             example: ".thread ann main\n.thread bob other\nmain: intr bob\nhalt\nother: intrd r0\nout r0\nhalt\n.run\nt0*2 t1*3",
         },
         19 => WordEntry {
@@ -56,7 +52,6 @@ pub(crate) fn shared_row(opcode: u8) -> Option<WordEntry>
             java: "Thread.interrupted()",
             means: "puts 1 into a if the thread itself was interrupted, else 0, and forgets it",
             event: "`= v`",
-            more: "docs/FORMATS.md, \"Instruction table\"",
             example: ".thread ann main\nmain: intr ann\nintrd r0\nout r0\nhalt\n.run\nt0*4",
         },
         _ => return None,

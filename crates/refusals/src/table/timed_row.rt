@@ -16,7 +16,6 @@ pub fn timed_row(opcode: u8) -> Option<WordEntry>
             java: "awaitAdvanceInterruptibly(b, c, ..)",
             means: "as `pawaiti`, no longer than c, which `xN` in a schedule lets run out: throws 5",
             event: "`= v`, `wait`",
-            more: "docs/FORMATS.md, \"Instruction table\"",
             example: ".phaser door 1\n.thread ann main\nmain: try late\nldi r2 9\npawaitt r0 door r1 r2\nhalt\nlate: out r7\nhalt\n.run\nt0*3 x0 t0*3",
         },
         41 => WordEntry {
@@ -26,7 +25,6 @@ pub fn timed_row(opcode: u8) -> Option<WordEntry>
             java: "await(b, ..)",
             means: "as `cawait`, no longer than b, which `xN` in a schedule lets run out: throws 5, and the barrier breaks",
             event: "`= v`, `wait`, `enter`",
-            more: "docs/FORMATS.md, \"Instruction table\"",
             example: ".barrier gate 2\n.thread ann main\nmain: try late\nldi r1 9\ncawaitt r0 gate r1\nhalt\nlate: out r7\nhalt\n.run\nt0*3 x0 t0*3",
         },
         _ => return None,

@@ -16,7 +16,6 @@ pub(crate) fn view_row(opcode: u8) -> Option<WordEntry>
             java: "getPhase()",
             means: "a gets the phase, below 0 where the phaser is terminated",
             event: "`= v`",
-            more: "docs/FORMATS.md, \"Instruction table\"",
             example: ".phaser door 1 phase 7\n.thread ann main\nmain: pphase r0 door\nout r0\nhalt\n.run\nt0*3",
         },
         29 => WordEntry {
@@ -26,7 +25,6 @@ pub(crate) fn view_row(opcode: u8) -> Option<WordEntry>
             java: "getRegisteredParties()",
             means: "a gets how many parties are registered",
             event: "`= v`",
-            more: "docs/FORMATS.md, \"Instruction table\"",
             example: ".phaser door 3\n.thread ann main\nmain: pparties r0 door\nout r0\nhalt\n.run\nt0*3",
         },
         30 => WordEntry {
@@ -36,7 +34,6 @@ pub(crate) fn view_row(opcode: u8) -> Option<WordEntry>
             java: "getArrivedParties()",
             means: "a gets how many parties have arrived",
             event: "`= v`",
-            more: "docs/FORMATS.md, \"Instruction table\"",
             example: ".phaser door 2\n.thread ann main\nmain: parr r0 door\nparrived r1 door\nout r1\nhalt\n.run\nt0*4",
         },
         31 => WordEntry {
@@ -46,7 +43,6 @@ pub(crate) fn view_row(opcode: u8) -> Option<WordEntry>
             java: "getUnarrivedParties()",
             means: "a gets how many parties haven't arrived yet",
             event: "`= v`",
-            more: "docs/FORMATS.md, \"Instruction table\"",
             example: ".phaser door 3\n.thread ann main\nmain: parr r0 door\npunarr r1 door\nout r1\nhalt\n.run\nt0*4",
         },
         32 => WordEntry {
@@ -56,7 +52,6 @@ pub(crate) fn view_row(opcode: u8) -> Option<WordEntry>
             java: "isTerminated()",
             means: "a gets 1 if the phaser is terminated, else 0",
             event: "`= v`",
-            more: "docs/FORMATS.md, \"Instruction table\"",
             example: ".phaser door 2\n.thread ann main\nmain: pforce door\npterm r0 door\nout r0\nhalt\n.run\nt0*4",
         },
         33 => WordEntry {
@@ -66,7 +61,6 @@ pub(crate) fn view_row(opcode: u8) -> Option<WordEntry>
             java: "getParent()",
             means: "a gets the parent's number, -1 where there is none",
             event: "`= v`",
-            more: "docs/FORMATS.md, \"Instruction table\"",
             example: ".phaser house 1\n.phaser room 1 parent house\n.thread ann main\nmain: pparent r0 room\nout r0\nhalt\n.run\nt0*3",
         },
         34 => WordEntry {
@@ -76,7 +70,6 @@ pub(crate) fn view_row(opcode: u8) -> Option<WordEntry>
             java: "getRoot()",
             means: "a gets the root's number",
             event: "`= v`",
-            more: "docs/FORMATS.md, \"Instruction table\"",
             example: ".phaser house 1\n.phaser room 1 parent house\n.thread ann main\nmain: proot r0 room\nout r0\nhalt\n.run\nt0*3",
         },
         _ => return None,
