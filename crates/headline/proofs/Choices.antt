@@ -1,7 +1,6 @@
 -- What an accepted choice makes of the barriers and of the trees.
-use Rattle.std.proofs.Common.{◌≡◌, ℕ, ◌<◌, Bool, true, false, [], ◌∷◌, length, refl, subst, arith, if◌then◌else◌}
-use Rattle.std.specs.Prelude.{nat_le, Option, Some, None}
-use Rattle.std.proofs.lemmas.Bool.Decides.{nat_tests}
+use Rattle.std.proofs.Common.{◌≡◌, ℕ, ◌<◌, Bool, true, false, [], ◌∷◌, length, subst, arith, if◌then◌else◌}
+use Rattle.std.specs.Prelude.{Option, Some, None}
 use Rattle.instruction_table.specs.declared.row.Row.{Row}
 use Rattle.tier_tree.specs.Origin.{Origin}
 use Rattle.loader.specs.Program.{row_at}
@@ -9,7 +8,6 @@ use Rattle.machine_scene.proofs.Outcomes.{stands_at}
 use Rattle.machine_scene.proofs.Plain.{StandsAt}
 use Rattle.machine_scene.specs.Scene.{Outcome, Scene, barrier_at, thread_at}
 use Rattle.thread_machine.specs.declared.choice.Choice.{Choice}
-use Rattle.thread_machine.specs.declared.fault.StepFault.TheVariants as fault
 use Rattle.thread_machine.specs.World.{World}
 use Rattle.thread_machine.specs.Ready.{outcome_of_choice}
 use Rattle.thread_machine.specs.Step.{played, played_by, refusal_of}
@@ -23,16 +21,8 @@ use Rattle.headline.proofs.Turns.{GoIf, turn_goes, expiry_goes}
 use Rattle.headline.proofs.TreeCalls.{TreesGo}
 
 -- an accepted choice is one of a thread that is there
-there_by : (absent over : Bool) → (if absent then Some fault.NoSuchThread else (if over then Some fault.StepLimit else None)) ≡ None
-    → absent ≡ false
-there_by true over is = absurd (cc is)
-there_by false over is = refl
-
-less_if : (m n : ℕ) → nat_le m n ≡ false → n < m
-less_if m n is = grind (arith, nat_tests, is)
-
 is_there : (world : World) (choice : Choice) → refusal_of world choice ≡ None → choice.thread < length world.scene.threads
-is_there world choice is = grind (arith, less_if, there_by)
+is_there world choice is = grind arith
 
 by_kind : (expiry : Bool) (row : Option Row) (t : ℕ) (scene : Scene) (late turn : Option Outcome) → GoIf None t scene late
     → GoIf row t scene turn → GoIf (if expiry then None else row) t scene (if expiry then late else turn)

@@ -1,11 +1,11 @@
 -- With the last arrival at a tree its phase ends, or its routine is entered.
-use Rattle.std.proofs.Common.{inl, inr, ◌≡◌, ◌∙◌, ℕ, ℤ, suc, ◌+◌, ◌-◌, ◌<◌, ◌≤◌, Bool, true, false, List, [], ◌∷◌, length, ap, refl, sym, subst, arith, if◌then◌else◌, rules}
+use Rattle.std.proofs.Common.{inl, inr, ◌≡◌, ◌∙◌, ℕ, ℤ, suc, ◌-◌, ◌<◌, ◌≤◌, Bool, true, false, List, [], ◌∷◌, length, ap, refl, sym, subst, arith, if◌then◌else◌, rules}
 use Rattle.std.specs.Prelude.{◌⊎◌, ◌||◌, ◌++◌, slice_get, Option, Some, None}
 use Rattle.std.proofs.lemmas.Bool.{cases_eq}
 use Rattle.std.proofs.lemmas.List.{get_or-set_same}
 use Rattle.instruction_table.specs.declared.row.Row.{Row}
 use Rattle.instruction_table.specs.declared.row.Row.TheVariants.{Ret, Preg, Parr, Pdereg, Paaa}
-use Rattle.packed_phaser.specs.Flat.{Flat, Arrival, arrive, unarrived_of}
+use Rattle.packed_phaser.specs.Flat.{Arrival, arrive, unarrived_of}
 use Rattle.tier_tree.specs.declared.climb.Climb.{Climb}
 use Rattle.tier_tree.specs.declared.climb.Climb.TheVariants as climb
 use Rattle.tier_tree.specs.declared.registered.Registered.{Registered}
@@ -14,10 +14,10 @@ use Rattle.tier_tree.specs.declared.arrived.Arrived.TheVariants as arrived
 use Rattle.tier_tree.specs.declared.id.PhaserId.{PhaserId}
 use Rattle.tier_tree.specs.Answer.{KeepsEnds}
 use Rattle.tier_tree.specs.Forest.{PhaserState, phaser_at, flat_at, root_at}
-use Rattle.tier_tree.specs.Arrival.{Arrives, Climbed, is_top, with_child, climbed_by, climbed, arrival_by, arrival}
+use Rattle.tier_tree.specs.Arrival.{Arrives, Climbed, is_top, climbed_by, climbed, arrival_by, arrival}
 use Rattle.tier_tree.specs.Sound.{IsForest}
 use Rattle.tier_tree.specs.Origin.{Origin, AreTallied, arrived_at, origin_after_arrival, origin_after_registration}
-use Rattle.tier_tree.proofs.Balance.{next-parent, flat-put, flat-other}
+use Rattle.tier_tree.proofs.Balance.{next-parent, flat-put}
 use Rattle.tier_tree.proofs.Safe.{line_own, last_of, last-more}
 use Rattle.tier_tree.proofs.Stands.{other-is, stands_after_arrival}
 use Rattle.tier_tree.proofs.Trees.{trees_arrived, policy_same}
@@ -43,7 +43,7 @@ use Rattle.thread_machine.specs.World.{World}
 use Rattle.thread_machine.specs.Ready.{outcome_of_choice}
 use Rattle.thread_machine.specs.Step.{played, played_by}
 use Rattle.thread_machine.specs.DirectCounts.{has_ended_phase, with_registration, with_arrival, with_row, with_turn, counts_at_end}
-use Rattle.headline.specs.PhaseEnds.{AreCounted, EndsInTime, HasLastArrived, HaveAllLeft, IsInRoutine, RoutineEnds, TerminateAsSaid, on_advance, row_in, row_of}
+use Rattle.headline.specs.PhaseEnds.{AreCounted, EndsInTime, HasLastArrived, HaveAllLeft, IsInRoutine, RoutineEnds, TerminateAsSaid, row_in, row_of}
 use Rattle.headline.proofs.Prompt.{ArePrompt, Lands, all_come, arrival_prompt, arrive_lands}
 use Rattle.headline.proofs.TreeCalls.{no_answer, root_ended}
 use Rattle.headline.proofs.Left.{ended_left}
@@ -54,17 +54,13 @@ abbrev IsLeft : ℕ → ℕ → (before after : List PhaserState) → Type 0
 IsLeft bound root before after =
     (k : ℕ) × ((k < bound) × ((root_at before k ≡ root) × (0 < unarrived_of (flat_at after k))))
 
-child_left : (c : Climb) (i n root : ℕ) (g : Flat) (above phasers : List PhaserState) → n < i → (with_child i g c above).climb ≡ climb.Counted
-    → (c ≡ climb.Counted → IsLeft (suc n) root phasers above) → IsLeft (suc i) root phasers (with_child i g c above).phasers
-child_left c i n root g above phasers below is left = grind (arith, flat-other)
-
 left_by : (a : Arrival) (i : ℕ) (above : List ℕ) (root : ℕ) (onward : Bool → Climbed) (phasers : List PhaserState) → i < length phasers
     → root_at phasers i ≡ root → Lands a
     → ((n : ℕ) (more : List ℕ) → above ≡ n ∷ more
     → (n < i) × ((leaves : Bool) → (onward leaves).climb ≡ climb.Counted → IsLeft (suc n) root phasers (onward leaves).phasers))
     → let all = climbed_by a i (is_top above) onward phasers in
     all.climb ≡ climb.Counted → IsLeft (suc i) root phasers all.phasers
-left_by a i above root onward phasers there top lands up is = search (rules, flat-put, child_left)
+left_by a i above root onward phasers there top lands up is = search (rules, flat-put)
 
 head_of : List ℕ → ℕ
 head_of [] = 0
@@ -123,34 +119,21 @@ LastEnds counts at t scene outcome =
     ⊎ ((is_routine_policy (phaser_at scene.phasers root).policy ≡ true) × IsInRoutine root (thread_at (scene_after outcome scene) t))
 
 -- where nobody has arrived, the last hasn't
-nobody_last : (counts at : Origin) (root : ℕ) (phasers : List PhaserState)
-    → ((id : ℕ) → root_at phasers id ≡ root → counts.unarrived id ≤ at.unarrived id) → HasLastArrived counts at root phasers → ⊥
-nobody_last counts at root phasers no_less given = grind arith
-
 uncounted : (counts : Origin) (t : ℕ) (scene : Scene) (outcome : Option Outcome) → LastEnds counts counts t scene outcome
 uncounted counts t scene outcome root there live clean last = grind arith
 
-more_by : (here : Bool) (n k : ℕ) → n ≤ (if here then n + k else n)
-more_by true n k = omega arith
-more_by false n k = omega arith
-
 registered_more : (r : Registered) (p k : ℕ) (counts : Origin) (id : ℕ)
     → counts.unarrived id ≤ (origin_after_registration r p k counts).unarrived id
-registered_more r p k counts id = grind (arith, more_by)
-
-with_more : (test : Bool) (r : Registered) (p k : ℕ) (counts : Origin) (id : ℕ)
-    → let at : Origin = if test then counts else origin_after_registration r p k counts in counts.unarrived id ≤ at.unarrived id
-with_more true r p k counts id = omega arith
-with_more false r p k counts id = registered_more r p k counts id
+registered_more r p k counts id = grind arith
 
 registers : (p : ℕ) (count : ℤ) (t : ℕ) (scene : Scene) (counts : Origin) (outcome : Option Outcome)
     → LastEnds counts (with_registration p count t scene counts) t scene outcome
-registers p count t scene counts outcome root there live clean last = grind (arith, nobody_last, with_more)
+registers p count t scene counts outcome root there live clean last = grind arith
 
 -- the last arrival is one in its own tree
 same_tree : (p root : ℕ) (leave : Bool) (phasers : List PhaserState) (counts : Origin)
     → HasLastArrived counts (arrived_at p (root_at phasers p) leave counts) root phasers → root_at phasers p ≡ root
-same_tree p root leave phasers counts last = grind (arith, cases_eq, nobody_last, other-is)
+same_tree p root leave phasers counts last = grind (arith, cases_eq, other-is)
 
 top_pushed : (stack : List Frame) (entry : Frame) → top_of (stack ++ entry ∷ []) ≡ Some entry
 top_pushed [] entry = refl
@@ -229,7 +212,7 @@ arrives (arrived.Turning root phase parties) row program steps t p manner scene 
     (turns.0 ∙ same_tree p top manner.leaves scene.phasers counts last)
     (pending_ends (answer_of_policy root.0 (with_phasers (arrival p manner.leaves scene.phasers).phasers scene)) program steps t p manner scene root
     phase parties row stands there is refl)
-arrives answer row program steps t p manner scene counts stands there tallied rest is root inside live clean last = search (rules, turning_root, same_tree, pending_ends, not_last, nobody_last)
+arrives answer row program steps t p manner scene counts stands there tallied rest is root inside live clean last = search (rules, turning_root, same_tree, pending_ends, not_last)
 
 full_or : (own full : Bool) (t : ℕ) (scene : Scene) (counts at : Origin) (first : Option Outcome) (second call : Outcome)
     → LastEnds counts at t scene (Some call)
@@ -296,11 +279,6 @@ none_leaves : (at : Origin) (scene last : Scene) → KeepsEnds scene.phasers las
 none_leaves at scene last kept root there top ended = grind arith
 
 -- a row that `onAdvance` doesn't answer ends none
-silent_leaves : (row : Option Row) (thread : ThreadState) (at : Origin) (scene last : Scene)
-    → ((root parties : ℕ) → on_advance row thread root scene.phasers parties ≡ None)
-    → TerminateAsSaid row thread scene.phasers last.phasers → Leaves at scene last
-silent_leaves row thread at scene last silent said root there top ended = grind arith
-
 pending_leaves : (answer : Option Bool) (program : Program) (steps t p : ℕ) (manner : Manner) (scene : Scene) (counts : Origin) (root : PhaserId)
     (phase : ℤ) (parties : ℕ) (row : Row) → StandsAt program steps t scene status.Runs row → p < length scene.phasers
     → AreTallied scene.phasers counts → (arrival p manner.leaves scene.phasers).answer ≡ arrived.Turning root phase parties
@@ -369,20 +347,20 @@ row_leaves (Paaa into p) program steps t scene counts stands tallied said =
     counted_leaves (Paaa into p) program steps t p (manner_of (Paaa into p)) scene counts stands stands.named tallied
 row_leaves Ret program steps t scene counts stands tallied said =
     ret_leaves (top_of (thread_at scene t).stack) program steps t scene counts stands refl tallied
-row_leaves row program steps t scene counts stands tallied said = grind (arith, silent_leaves, scene_after)
+row_leaves row program steps t scene counts stands tallied said = grind (arith, scene_after)
 
 turn_leaves : (of : Status) (row : Row) (program : Program) (steps t : ℕ) (scene : Scene) (counts : Origin) → StandsAt program steps t scene of row
     → AreTallied scene.phasers counts
     → TerminateAsSaid (row_in of row) (thread_at scene t) scene.phasers (scene_after (outcome_in of row t program scene) scene).phasers
     → Leaves (with_turn of row t scene counts) scene (scene_after (outcome_in of row t program scene) scene)
 turn_leaves status.Runs row program steps t scene counts stands tallied said = row_leaves row program steps t scene counts stands tallied said
-turn_leaves of row program steps t scene counts stands tallied said = grind (arith, silent_leaves, scene_after)
+turn_leaves of row program steps t scene counts stands tallied said = grind (arith, scene_after)
 
 leaves_by : (expiry : Bool) (row : Option Row) (counts at : Origin) (t : ℕ) (scene : Scene) (late turn : Option Outcome)
     → (TerminateAsSaid row (thread_at scene t) scene.phasers (scene_after turn scene).phasers → Leaves at scene (scene_after turn scene))
     → TerminateAsSaid (if expiry then None else row) (thread_at scene t) scene.phasers (scene_after (if expiry then late else turn) scene).phasers
     → Leaves (if expiry then counts else at) scene (scene_after (if expiry then late else turn) scene)
-leaves_by true row counts at t scene late turn goes said = grind (arith, silent_leaves, scene_after)
+leaves_by true row counts at t scene late turn goes said = grind (arith, scene_after)
 leaves_by false row counts at t scene late turn goes said = goes said
 
 -- the parties that `onAdvance` is told of are those who are registered
@@ -402,25 +380,8 @@ are_counted world choice counts steps stands tallied said =
     (turn_leaves thread.status row world.program steps t scene counts stands tallied)
     (subst (λ (last : Scene). TerminateAsSaid (row_of world choice) thread scene.phasers last.phasers) (played_ends outcome world) said))
 
--- the way back out of a routine
-ret_ends : (ended : Bool) (top : Option Frame) (root : ℕ) (registers : List ℤ) (back : ℕ) (program : Program) (t : ℕ) (scene : Scene)
-    → top ≡ Some (frame.Advance root registers back) → (flat_at scene.phasers root).ended ≡ ended → ended ≡ false → root < length scene.phasers
-    → has_ended_phase root scene.phasers (outcome_of_ret top t program scene).scene.phasers ≡ true
-ret_ends ended top root registers back program t scene is over live there = grind (arith, root_ended)
-
-back_by : (expiry : Bool) (of : Status) (row : Row) (late : Option Outcome) (root : ℕ) (registers : List ℤ) (back : ℕ) (program : Program) (t : ℕ)
-    (scene : Scene) → (if expiry then None else row_in of row) ≡ Some Ret
-    → top_of (thread_at scene t).stack ≡ Some (frame.Advance root registers back) → (flat_at scene.phasers root).ended ≡ false
-    → root < length scene.phasers
-    → has_ended_phase root scene.phasers (scene_after (if expiry then late else outcome_in of row t program scene) scene).phasers ≡ true
-back_by false status.Runs row late root registers back program t scene is top live there =
-    let same : row ≡ Ret = cc is in
-    subst (λ row. has_ended_phase root scene.phasers (scene_after (outcome_in status.Runs row t program scene) scene).phasers ≡ true) (sym same)
-    (ret_ends _ (top_of (thread_at scene t).stack) root registers back program t scene top refl live there)
-back_by _ _ row late root registers back program t scene is top live there = absurd (cc is)
-
 -- a root that isn't there isn't that of a routine
 pub routine_ends : (world : World) (choice : Choice) (steps : ℕ)
     → ((root : ℕ) (registers : List ℤ) (back : ℕ) → top_of (thread_at world.scene choice.thread).stack ≡ Some (frame.Advance root registers back)
     → root < length world.scene.phasers) → RoutineEnds world choice (played world choice).world
-routine_ends world choice steps within root is top live = grind (arith, played_ends, back_by)
+routine_ends world choice steps within root is top live = grind (arith, played_ends, registers, root_ended)

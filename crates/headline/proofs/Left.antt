@@ -1,6 +1,6 @@
 -- A root has no party where all who registered with its tree have left, and only there.
 use Rattle.std.proofs.Common.{inl, inr, ◌≡◌, ◌∙◌, ℕ, zero, suc, ◌+◌, ◌<◌, ◌≤◌, ◌==◌, Bool, true, false, List, [], ◌∷◌, length, ap, refl, sym, arith, if◌then◌else◌}
-use Rattle.std.specs.Prelude.{◌&&◌, not}
+use Rattle.std.specs.Prelude.{not}
 use Rattle.std.proofs.lemmas.Bool.{cases_eq}
 use Rattle.std.proofs.lemmas.Bool.Decides.{nat_tests}
 use Rattle.packed_phaser.specs.Flat.{Flat}
@@ -18,15 +18,10 @@ use Rattle.headline.specs.PhaseEnds.{HaveAllLeft}
 use Rattle.headline.proofs.Prompt.{no_children}
 use Rattle.headline.proofs.TreeCalls.{follow_keeps, others_ended}
 
-first_fails : (under pass : Bool) (others : ℕ) → (if under && pass then 1 else 0) + others ≡ 0 → under ≡ true → pass ≡ false
-first_fails true true others none under = absurd (omega (arith, none))
-first_fails true false others none under = refl
-first_fails false pass others none under = absurd (cc under)
-
 pub none_passes : (test : Flat → Bool) (parent : ℕ) (phasers : List PhaserState) (id : ℕ) → children test parent phasers ≡ 0
     → id < length phasers → is_under parent (phaser_at phasers id).line ≡ true → test (flat_at phasers id) ≡ false
 none_passes test parent [] id none there under = absurd (omega (arith, there))
-none_passes test parent (p ∷ phasers) zero none there under = grind (arith, first_fails)
+none_passes test parent (p ∷ phasers) zero none there under = grind arith
 none_passes test parent (p ∷ phasers) (suc id) none there under =
     none_passes test parent phasers id (omega (arith, none)) (omega (arith, there)) under
 

@@ -1,16 +1,14 @@
 -- Trees of phasers in which no last arrival is forgotten: where all parties of a phaser have arrived its phase is about to end.
-use Rattle.std.proofs.Common.{◌≡◌, ◌∙◌, ℕ, zero, suc, ◌+◌, ◌-◌, ◌<◌, ◌≤◌, ◌==◌, Bool, true, false, List, [], ◌∷◌, length, ap, refl, arith, if◌then◌else◌}
+use Rattle.std.proofs.Common.{◌≡◌, ◌∙◌, ℕ, zero, suc, ◌+◌, ◌<◌, ◌≤◌, Bool, true, false, List, [], ◌∷◌, length, ap, refl, arith, if◌then◌else◌}
 use Rattle.std.specs.Prelude.{◌&&◌, not, slice_set}
 use Rattle.std.proofs.lemmas.Bool.{cases_eq, cases_lt}
 use Rattle.std.proofs.lemmas.Bool.Decides.{nat_tests}
 use Rattle.std.proofs.lemmas.List.{get_or_past}
-use Rattle.packed_phaser.specs.Flat.{Flat, Joins, JoinsLate, MustWait, Overfull, Arrival, Counts, Turns, ComesLate, IsUnregistered, arrive, settled, vacate, is_empty, unarrived_of}
-use Rattle.tier_tree.specs.declared.climb.Climb.{Climb}
+use Rattle.packed_phaser.specs.Flat.{Flat, Arrival, Counts, Turns, ComesLate, IsUnregistered, arrive, is_empty, unarrived_of}
 use Rattle.tier_tree.specs.declared.registered.Registered.{Registered}
 use Rattle.tier_tree.specs.Forest.{PhaserState, phaser_at, flat_at, root_at}
-use Rattle.tier_tree.specs.Registration.{Join, joined, flat_by, registered_by}
-use Rattle.tier_tree.specs.Arrival.{Climbed, is_top, with_child, climbed_by, climbed, arrival}
-use Rattle.tier_tree.specs.PhaseEnd.{follow}
+use Rattle.tier_tree.specs.Registration.{Join, joined, registered_by}
+use Rattle.tier_tree.specs.Arrival.{Climbed, is_top, climbed_by, climbed, arrival}
 use Rattle.tier_tree.specs.Sound.{IsForest}
 use Rattle.tier_tree.specs.Origin.{Origin, is_under, children, is_awaited, AreTallied, HaveAllArrived}
 use Rattle.tier_tree.proofs.Lines.{length-places}
@@ -31,16 +29,9 @@ put (x ∷ phasers) (suc i) new is all zero = all zero
 put (x ∷ phasers) (suc i) new is all (suc q) = put phasers i new is (λ n. all (suc n)) q
 
 -- a registration
-join_prompt : (ended none over turned : Bool) (f : Flat) (k : ℕ) (view phase : _) → (k == 0) ≡ none → IsPrompt f
-    → IsPrompt (flat_by (if ended then JoinsLate view else (if none then Joins f phase
-    else (if over then Overfull else (if turned then MustWait
-    else Joins (record f { parties = f.parties + k }) phase)))) f)
-join_prompt true none over turned f k view phase is prompt = prompt
-join_prompt false _ over turned f k view phase is prompt = grind (arith, nat_tests)
-
 joined_prompt : (all : List Join) (phasers : List PhaserState) → ArePrompt phasers → ArePrompt (joined all phasers)
 joined_prompt [] phasers prompt = prompt
-joined_prompt (join ∷ others) phasers prompt = grind (arith, put, join_prompt, joined_prompt others phasers prompt)
+joined_prompt (join ∷ others) phasers prompt = grind (arith, put, joined_prompt others phasers prompt)
 
 pub registration_prompt : (r : Registered) (all : List Join) (phasers : List PhaserState) → ArePrompt phasers
     → ArePrompt (registered_by r all phasers)
@@ -53,31 +44,12 @@ Lands (Turns g) = IsPrompt g
 Lands (ComesLate view) = Unit {0}
 Lands IsUnregistered = Unit {0}
 
-settled_lands : (all : Bool) (g : Flat) → (g.arrived == g.parties) ≡ all → g.arrived ≤ g.parties
-    → Lands (if all then Turns (record g { turned = true }) else Counts g)
-settled_lands true g is few = (few, λ live one all. refl)
-settled_lands false g is few = grind (arith, nat_tests)
-
-arrive_by : (ended none leave : Bool) (f : Flat) (view : _) → (f.arrived == f.parties) ≡ none → IsPrompt f
-    → Lands (if ended then ComesLate view else (if none then IsUnregistered
-    else (if leave then settled (record f { parties = f.parties - 1 }) else settled (record f { arrived = f.arrived + 1 }))))
-arrive_by true none leave f view is prompt = tt
-arrive_by false _ leave f view is prompt = grind (arith, nat_tests, settled_lands)
-
 pub arrive_lands : (leave : Bool) (f : Flat) → IsPrompt f → Lands (arrive leave f)
-arrive_lands leave f prompt = arrive_by f.ended (f.arrived == f.parties) leave f _ refl prompt
-
-passed_prompt : (none : Bool) (g : Flat) → (g.parties == 0) ≡ none → IsPrompt g → IsPrompt (if none then vacate g else g)
-passed_prompt true g is (few, rest) = (few, λ live one all. absurd (grind (arith, nat_tests, is, one)))
-passed_prompt false g is prompt = prompt
-
-child_prompt : (i : ℕ) (g : Flat) (c : Climb) (above : List PhaserState) → IsPrompt g → ArePrompt above
-    → ArePrompt (with_child i g c above).phasers
-child_prompt i g c above one prompt = grind (arith, put, passed_prompt)
+arrive_lands leave f prompt = grind (arith, nat_tests)
 
 climbed_by_prompt : (a : Arrival) (i : ℕ) (top : Bool) (onward : Bool → Climbed) (phasers : List PhaserState) → Lands a → ArePrompt phasers
     → ((leaves : Bool) → ArePrompt (onward leaves).phasers) → ArePrompt (climbed_by a i top onward phasers).phasers
-climbed_by_prompt a i top onward phasers lands prompt up = grind (arith, put, child_prompt)
+climbed_by_prompt a i top onward phasers lands prompt up = grind (arith, put)
 
 climbed_prompt : (line : List ℕ) (leave : Bool) (phasers : List PhaserState) → ArePrompt phasers → ArePrompt (climbed line leave phasers).phasers
 climbed_prompt [] leave phasers prompt = prompt
@@ -89,13 +61,9 @@ pub arrival_prompt : (id : ℕ) (leave : Bool) (phasers : List PhaserState) → 
 arrival_prompt id leave phasers prompt = grind (arith, climbed_prompt)
 
 -- the end of a phase, or a termination
-follow_prompt : (phase : ℕ) (ends : Bool) (f : Flat) → IsPrompt (follow phase ends f)
-follow_prompt phase true f = (omega arith, λ live. absurd (cc live))
-follow_prompt phase false f = (omega arith, λ live one all. absurd (omega (arith, one, all)))
-
 pub change_prompt : (root : ℕ) (ends : Bool) (before after : List PhaserState) → TreeChange root ends before after → ArePrompt before
     → ArePrompt after
-change_prompt root ends before after change prompt q = grind (arith, length-places, cases_lt, cases_eq, follow_prompt, get_or_past)
+change_prompt root ends before after change prompt q = grind (arith, length-places, cases_lt, cases_eq, get_or_past)
 
 -- where everybody who registered with a tree has arrived, each phaser has all its parties
 pub no_children : (test : Flat → Bool) (parent : ℕ) (phasers : List PhaserState)

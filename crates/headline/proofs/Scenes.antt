@@ -6,29 +6,20 @@ use Rattle.row_code.specs.declared.image.Image.{Image}
 use Rattle.tier_tree.specs.Stored.{Stored}
 use Rattle.loader.specs.Program.{without_words}
 use Rattle.thread_state.specs.declared.event.Event.{Event}
-use Rattle.machine_scene.specs.Scene.{Outcome}
 use Rattle.thread_machine.specs.declared.choice.Choice.{Choice}
 use Rattle.thread_machine.specs.declared.fault.StepFault.{StepFault}
 use Rattle.thread_machine.specs.World.{World, StoredWorld, IsFirstOf, first_of, world_of}
-use Rattle.thread_machine.specs.Step.{Played, played, played_by, refusal_of}
+use Rattle.thread_machine.specs.Step.{Played, played, refusal_of}
 use Rattle.thread_machine.specs.Execution.{Execution, execution, execution_by}
 use Rattle.headline.specs.Headline.{StoredAlike}
 use Rattle.headline.specs.Playing.{Leaves}
 use Rattle.trace_compare.proofs.OneVerdict.{as-stored, played-event, played-world, plays-same, refusal-same, state-same, stored}
 
 -- no choice changes the program
-played_program : (outcome : Option Outcome) (world : World) → (played_by outcome world).world.program ≡ world.program
-played_program outcome world = grind arith
-
 program_by : (refusal : Option StepFault) (world : World) (choice : Choice) (rest : World → Execution)
     → ((after : World) → (rest after).world.program ≡ after.program)
     → (execution_by refusal world choice rest).world.program ≡ world.program
-program_by refusal world choice rest same = grind (arith, played_program)
-
-program_stays : (choices : List Choice) (world : World) → (execution world choices).world.program ≡ world.program
-program_stays [] world = refl
-program_stays (choice ∷ choices) world =
-    program_by (refusal_of world choice) world choice (λ after. execution after choices) (λ after. program_stays choices after)
+program_by refusal world choice rest same = grind arith
 
 -- how the phasers are stored makes no difference to an execution
 abbrev stored_after : List Stored → Execution → Execution
@@ -47,19 +38,14 @@ execution-same (choice ∷ choices) phasers world =
     ∙ execution-by phasers (refusal_of world choice) world choice (λ after. execution after choices)
     (λ after. execution-same choices phasers after)
 
--- the execution from a first world is that from the image's
-first_same : (image : Image) (limit : ℕ) (first : World) (choices : List Choice) → IsFirstOf image limit first
-    → execution first choices ≡ stored_after first.program.phasers (execution (first_of image limit) choices)
-first_same image limit first choices is = grind (arith, as-stored, execution-same)
-
 -- the program of an image leaves what the image's first world leaves
 pub world_left : (image : Image) (limit : ℕ) (first left : World) (choices : List Choice) → IsFirstOf image limit first
     → left ≡ (execution first choices).world
     → record left { program = without_words left.program } ≡ (execution (first_of image limit) choices).world
-world_left image limit first left choices is played = grind (arith, first_same, program_stays)
+world_left image limit first left choices is played = grind (arith, as-stored, execution-same)
 
 pub stored_alike : StoredAlike
-stored_alike image first is choices = grind (arith, first_same, world_left, state-same)
+stored_alike image first is choices = grind (arith, as-stored, execution-same, world_left, state-same)
 
 -- an accepted choice, and a refused one, as a machine's step tells them
 pub led_on : (before after : World) (choice : Choice) (event : Event) → record { world = after; event = event } ≡ played before choice
@@ -75,14 +61,10 @@ pub left_next : (now after : World) (choice : Choice) (rest more : List Choice) 
     → Leaves now choice accepted after → accepted ≡ true → (execution after more).world ≡ (execution now rest).world
 left_next now after choice rest more accepted is led is_accepted = grind arith
 
-refused_last : (now : World) (choice : Choice) (more : List Choice) (why : Option StepFault) → is_some why ≡ true
-    → now ≡ (execution_by why now choice (λ world. execution world more)).world
-refused_last now choice more why some = grind arith
-
 -- a choice that is refused is the last
 pub left_last : (now after : World) (choice : Choice) (rest more : List Choice) (accepted : Bool) → rest ≡ choice ∷ more
     → Leaves now choice accepted after → accepted ≡ false → after ≡ (execution now rest).world
-left_last now after choice rest more accepted is led is_refused = grind (arith, refused_last)
+left_last now after choice rest more accepted is led is_refused = grind arith
 
 -- from one choice on
 pub choices-drop : (choices : List Choice) (i : ℕ) (d : Choice) → i < length choices

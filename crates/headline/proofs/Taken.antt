@@ -1,5 +1,5 @@
 -- The arrival of a registered party is taken.
-use Rattle.std.proofs.Common.{◌≡◌, ◌≢◌, ◌∙◌, ℕ, ℤ, pos, ◌+◌, ◌-◌, ◌<◌, ◌==◌, ◌&&◌, not, Bool, true, false, List, [], ◌∷◌, length, ap, refl, sym, subst, arith, if◌then◌else◌, rules}
+use Rattle.std.proofs.Common.{◌≡◌, ◌≢◌, ◌∙◌, ℕ, ℤ, ◌+◌, ◌-◌, ◌<◌, ◌==◌, Bool, true, false, List, [], ◌∷◌, length, ap, refl, sym, subst, arith, if◌then◌else◌, rules}
 use Rattle.std.specs.Prelude.{Option, Some, None}
 use Rattle.std.proofs.lemmas.Bool.{cases_eq}
 use Rattle.std.proofs.lemmas.List.{get_or-set_same}
@@ -11,7 +11,7 @@ use Rattle.tier_tree.specs.declared.climb.Climb.TheVariants as climb
 use Rattle.tier_tree.specs.declared.arrived.Arrived.{Arrived}
 use Rattle.tier_tree.specs.declared.arrived.Arrived.TheVariants as arrived
 use Rattle.tier_tree.specs.Forest.{PhaserState, phaser_at, flat_at, root_at}
-use Rattle.tier_tree.specs.Arrival.{Arrives, Climbed, is_top, with_child, climbed_by, climbed, arrival_by, arrival}
+use Rattle.tier_tree.specs.Arrival.{Arrives, Climbed, is_top, climbed_by, climbed, arrival_by, arrival}
 use Rattle.tier_tree.specs.Origin.{Origin, AreTallied}
 use Rattle.tier_tree.proofs.Balance.{next-parent}
 use Rattle.tier_tree.proofs.Safe.{line_own, root-parent}
@@ -19,11 +19,10 @@ use Rattle.tier_tree.proofs.Stands.{same-is, other-is}
 use Rattle.loader.specs.Program.{Program, row_at}
 use Rattle.thread_state.specs.declared.status.Status.{Status}
 use Rattle.thread_state.specs.declared.status.Status.TheVariants as status
-use Rattle.thread_state.specs.Thread.{ThreadState}
 use Rattle.machine_scene.specs.declared.manner.Manner.{Manner}
 use Rattle.machine_scene.specs.Manner.{manner_of}
-use Rattle.machine_scene.specs.Scene.{Scene, Outcome, thread_at, with_thread}
-use Rattle.machine_scene.specs.PhaserRows.{refusal_of_arrival, unless_own, outcome_of_pending_end, outcome_of_arrived, outcome_of_arrival}
+use Rattle.machine_scene.specs.Scene.{Scene, Outcome, thread_at}
+use Rattle.machine_scene.specs.PhaserRows.{refusal_of_arrival, unless_own, outcome_of_arrived, outcome_of_arrival}
 use Rattle.machine_scene.specs.Outcomes.{outcome_in}
 use Rattle.machine_scene.proofs.Plain.{StandsAt}
 use Rattle.thread_machine.specs.declared.choice.Choice.{Choice}
@@ -42,18 +41,11 @@ Comes (Turns g) = Unit {0}
 Comes (ComesLate view) = ⊥
 Comes IsUnregistered = ⊥
 
-settled_comes : (all : Bool) (g : Flat) → Comes (if all then Turns (record g { turned = true }) else Counts g)
-settled_comes true g = tt
-settled_comes false g = tt
-
 comes_by : (ended none leave : Bool) (f : Flat) (view : _) → ended ≡ false → none ≡ false
     → Comes (if ended then ComesLate view else (if none then IsUnregistered
     else (if leave then settled (record f { parties = f.parties - 1 }) else settled (record f { arrived = f.arrived + 1 }))))
 comes_by true none leave f view live some = absurd (cc live)
-comes_by false _ leave f view live some = grind (arith, settled_comes)
-
-child_comes : (c : Climb) (i : ℕ) (g : Flat) (above : List PhaserState) → (with_child i g c above).climb ≡ climb.Refused → c ≡ climb.Refused
-child_comes c i g above is = grind arith
+comes_by false _ leave f view live some = grind arith
 
 -- the parent, if there is one, doesn't refuse
 abbrev Onward : List ℕ → (Bool → Climbed) → Type 0
@@ -62,23 +54,13 @@ Onward (n ∷ more) onward = (leaves : Bool) → (onward leaves).climb ≡ climb
 
 climb_comes : (a : Arrival) (i : ℕ) (above : List ℕ) (onward : Bool → Climbed) (phasers : List PhaserState) → Comes a
     → Onward above onward → (climbed_by a i (is_top above) onward phasers).climb ≡ climb.Refused → ⊥
-climb_comes a i above onward phasers comes up is = grind (arith, child_comes)
-
-awaited_by : (ended turned : Bool) (parties : ℕ) → ended ≡ false → turned ≡ false → 0 < parties
-    → (not (if ended then false else (if turned then false else parties == 0)) && not turned) ≡ true
-awaited_by true turned parties live t some = absurd (cc live)
-awaited_by false true parties live t some = absurd (cc t)
-awaited_by false false parties live t some = grind (arith, other-is)
-
-by_turned : (turned : Bool) → (turned ≡ true → ⊥) → turned ≡ false
-by_turned true never = absurd (never refl)
-by_turned false never = refl
+climb_comes a i above onward phasers comes up is = grind arith
 
 -- somebody is still to arrive at a phaser, so its parent waits for it
 parent_waits : (phasers : List PhaserState) (counts : Origin) (root i n : ℕ) (more : List ℕ) → IsOpen phasers counts root → i < length phasers
     → (phaser_at phasers i).line ≡ i ∷ n ∷ more → n < length phasers → root_at phasers i ≡ root → root_at phasers n ≡ root
     → 0 < unarrived_of (flat_at phasers i) → 0 < unarrived_of (flat_at phasers n)
-parent_waits phasers counts root i n more fair there line within tree above some = grind (arith, by_turned, awaited_by, live_at, cases_eq, none_passes, same-is)
+parent_waits phasers counts root i n more fair there line within tree above some = grind (arith, other-is, live_at, cases_eq, none_passes, same-is)
 
 climbed_comes : (line : List ℕ) (i : ℕ) (leave : Bool) (phasers : List PhaserState) (counts : Origin) (root : ℕ) → IsOpen phasers counts root
     → i < length phasers → (phaser_at phasers i).line ≡ i ∷ line → root_at phasers i ≡ root → 0 < unarrived_of (flat_at phasers i)
@@ -119,43 +101,22 @@ arrival_comes id leave phasers counts root fair there tree some is =
 abbrev Calm : ℕ → Scene → Type 0
 Calm t scene = (code : ℤ) → (thread_at scene t).status ≢ status.Throws code
 
-calm : (thread : ThreadState) (t : ℕ) (scene : Scene) → t < length scene.threads → ((code : ℤ) → thread.status ≢ status.Throws code)
-    → Calm t (with_thread thread t scene)
-calm thread t scene there is code throws = grind (arith, get_or-set_same)
-
 runs_on : (code : ℤ) → status.Runs ≢ status.Throws code
 runs_on code is = cc is
 
 waits_on : (phase code : ℤ) → status.AwaitsPhase phase ≢ status.Throws code
 waits_on phase code is = cc is
 
-calm_end : (answer : Option Bool) (manner : Manner) (root : ℕ) (phase : ℤ) (t : ℕ) (program : Program) (scene : Scene) → t < length scene.threads
-    → (thread_at scene t).status ≡ status.Runs → Calm t (outcome_of_pending_end answer manner root phase t program scene).scene
-calm_end answer manner root phase t program scene there runs = grind (arith, calm, runs_on)
-
-calm_wait : (waits : Bool) (manner : Manner) (phase : ℤ) (t : ℕ) (program : Program) (scene : Scene) → manner.waits ≡ waits
-    → t < length scene.threads → Calm t (outcome_of_arrived (arrived.At phase) manner t program scene).scene
-calm_wait true manner phase t program scene is there =
-    calm _ t scene there (λ code throws. waits_on phase code (sym (rw is refl) ∙ throws))
-calm_wait false manner phase t program scene is there =
-    calm _ t scene there (λ code throws. runs_on code (sym (rw is refl) ∙ throws))
-
 calm_arrived : (answer : Arrived) (manner : Manner) (t : ℕ) (program : Program) (scene : Scene) → t < length scene.threads
     → (thread_at scene t).status ≡ status.Runs → (answer ≡ arrived.NotThere → ⊥) → Calm t (outcome_of_arrived answer manner t program scene).scene
-calm_arrived answer manner t program scene there runs comes = grind (arith, calm_wait, calm_end, calm, runs_on)
-
-unrefused : (own full : Bool) (t : ℕ) (scene : Scene) (first second call : Outcome)
-    → (if own then Some (pos 1) else (if full then Some (pos 6) else None)) ≡ None → Calm t call.scene
-    → Calm t (scene_after (if own then Some first else Some (if full then second else call)) scene)
-unrefused false false t scene first second call none is = is
-unrefused _ _ t scene first second call none is = absurd (cc none)
+calm_arrived answer manner t program scene there runs comes = grind (arith, get_or-set_same, runs_on)
 
 arrives_calmly : (row : Row) (manner : Manner) (p t : ℕ) (program : Program) (steps : ℕ) (scene : Scene) (counts : Origin)
     → StandsAt program steps t scene status.Runs row → AreTallied scene.phasers counts → p < length scene.phasers
     → refusal_of_arrival p (thread_at scene t) scene ≡ None → (flat_at scene.phasers p).ended ≡ false
     → counts.stray (root_at scene.phasers p) ≡ false → 0 < counts.unarrived p
     → Calm t (scene_after (unless_own p t scene (Some (outcome_of_arrival manner p t program scene))) scene)
-arrives_calmly row manner p t program steps scene counts stands tallied there none live clean some = search (rules, IsOpen, unrefused, calm_arrived, arrival_comes)
+arrives_calmly row manner p t program steps scene counts stands tallied there none live clean some = search (rules, calm_arrived, arrival_comes)
 
 abbrev TakesAt : Option Row → ℕ → Scene → Scene → Origin → Type 0
 TakesAt row t scene last counts =

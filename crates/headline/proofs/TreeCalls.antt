@@ -13,7 +13,7 @@ use Rattle.tier_tree.specs.declared.id.PhaserId.{PhaserId}
 use Rattle.tier_tree.specs.declared.arrived.Arrived.TheVariants as arrived
 use Rattle.tier_tree.specs.Answer.{KeepsEnds}
 use Rattle.tier_tree.specs.Forest.{PhaserState, phaser_at, flat_at, root_of, root_at}
-use Rattle.tier_tree.specs.Registration.{registration, joins, after_registration}
+use Rattle.tier_tree.specs.Registration.{after_registration}
 use Rattle.tier_tree.specs.Arrival.{arrival}
 use Rattle.tier_tree.specs.PhaseEnd.{follow, in_step, after_phase_end, after_force}
 use Rattle.tier_tree.specs.Sound.{IsForest}
@@ -57,20 +57,13 @@ pub none_ended : (before after : List PhaserState) → KeepsEnds before after �
 none_ended before after kept root = grind arith
 
 -- no phase ends, and no tree is terminated
-kept_on : (row : Option Row) (thread : ThreadState) (before after : List PhaserState) → IsQuiet row → KeepsEnds before after
-    → ((id : ℕ) → (flat_at after id).ended ≡ (flat_at before id).ended) → (ArePrompt before → ArePrompt after)
-    → TreesGo row thread before after
-kept_on row thread before after quiet kept same prompt = grind (arith, none_ended, or_no, no_force)
-
 pub trees_stay : (row : Option Row) (thread : ThreadState) (phasers : List PhaserState) → IsQuiet row → TreesGo row thread phasers phasers
-trees_stay row thread phasers quiet = kept_on row thread phasers phasers quiet (λ id. refl) (λ id. refl) (λ prompt. prompt)
+trees_stay row thread phasers quiet = grind (arith, none_ended, or_no, no_force)
 
 pub trees_registered : (row : Option Row) (thread : ThreadState) (id count : ℕ) (phasers : List PhaserState) → IsQuiet row
     → TreesGo row thread phasers (after_registration id count phasers)
 trees_registered row thread id count phasers quiet =
-    kept_on row thread phasers (after_registration id count phasers) quiet (registration-ends id count phasers)
-    (λ n. ap (λ (s : Standing). s.ended) (registration-standings id count phasers n))
-    (registration_prompt (registration id count phasers) (joins id count phasers) phasers)
+    grind (arith, registration-ends, registration-standings, registration_prompt, none_ended, or_no, no_force)
 
 pub follow_keeps : (phase : ℕ) (ends : Bool) (f : Flat) → ((follow phase ends f).ended ≡ ends) × ((follow phase ends f).parties ≡ f.parties)
 follow_keeps phase true f = (refl, refl)
@@ -121,16 +114,10 @@ pub others_ended : (root : ℕ) (ends : Bool) (before mid : List PhaserState) �
 others_ended root ends before mid kept r apart = grind (arith, get_or-set_other, in_step-ends, same-is)
 
 -- each phaser of the tree is then in the phase behind the root's
-if-phase : (here : Bool) (x : PhaserState) (phase : ℕ) (ended : Bool) → here ≡ true
-    → (if here then record x { flat = follow phase ended x.flat } else x).flat.phase ≡ phase
-if-phase true x phase true is = refl
-if-phase true x phase false is = refl
-if-phase false x phase ended is = absurd (cc is)
-
 in_step-phase : (root phase : ℕ) (ended : Bool) (phasers : List PhaserState) (n : ℕ) → n < length phasers → root_at phasers n ≡ root
     → (flat_at (map (in_step root phase ended) phasers) n).phase ≡ phase
 in_step-phase root phase ended [] n there inside = absurd (omega (arith, there))
-in_step-phase root phase ended (x ∷ phasers) zero there inside = grind (arith, if-phase, same-is)
+in_step-phase root phase ended (x ∷ phasers) zero there inside = grind (arith, same-is)
 in_step-phase root phase ended (x ∷ phasers) (suc n) there inside =
     in_step-phase root phase ended phasers n (omega (arith, there)) inside
 
@@ -194,14 +181,10 @@ trees_ended row thread root ends before mid quiet can many roots kept stood stea
 abbrev pub arrived_at : ℕ → Bool → List PhaserState → List PhaserState
 arrived_at id leave phasers = (arrival id leave phasers).phasers
 
-arrival_same : (id : ℕ) (leave : Bool) (phasers : List PhaserState) (n : ℕ)
-    → (flat_at (arrived_at id leave phasers) n).ended ≡ (flat_at phasers n).ended
-arrival_same id leave phasers n = ap (λ (s : Standing). s.ended) (arrival-standings id leave phasers n)
-
 -- one that ends no phase: it isn't the last, or a routine is to answer
 pub trees_counted : (row : Option Row) (thread : ThreadState) (id : ℕ) (leave : Bool) (phasers : List PhaserState) → IsQuiet row
     → TreesGo row thread phasers (arrived_at id leave phasers)
-trees_counted row thread id leave phasers quiet = grind (arith, kept_on, arrival-ends, arrival_same, arrival_prompt)
+trees_counted row thread id leave phasers quiet = grind (arith, arrival-ends, arrival-standings, arrival_prompt)
 
 pub no_answer : (own : Policy) (phase parties : ℕ) → ends own phase parties ≡ None → is_routine_policy own ≡ true
 no_answer own phase parties is = grind arith

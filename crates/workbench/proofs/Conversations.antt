@@ -8,7 +8,7 @@ use Rattle.std.specs.List.{flat_map}
 use Rattle.std.specs.Io.KnownBytes.{Appends, Consumes, IsAtEnd}
 use Rattle.trace_text.specs.RunText.{GivesOnAndOn}
 use Rattle.debugger.specs.Session.{Session}
-use Rattle.debugger.specs.Command.{Order, Step, Go, Back, Break, Clear, Print, Quit, Unknown, goes_on, line_order}
+use Rattle.debugger.specs.Command.{Order, Quit, goes_on, line_order}
 use Rattle.debugger.specs.Reply.{Replies}
 use Rattle.workbench.specs.declared.fault.Fault.{Fault}
 use Rattle.workbench.specs.declared.fault.Fault.TheVariants as fault
@@ -32,18 +32,12 @@ lines-push xs x =
 -- the texts of exchanges after exchanges
 in_a_row : (text : Exchange → List ℕ) (xs ys : List Exchange) (more : List ℕ)
     → flat_map text xs ++ (flat_map text ys ++ more) ≡ flat_map text (xs ++ ys) ++ more
-in_a_row text xs ys more =
-    sym (append_assoc (flat_map text xs) (flat_map text ys) more)
-    ∙ ap (λ l. l ++ more) (sym (flat_map-append text xs ys))
+in_a_row text xs ys more = grind (arith, append_assoc, flat_map-append)
 
 dialogue_after : (xs ys : List Exchange) (before middle after : Session) → IsDialogue before xs middle → IsDialogue middle ys after
     → IsDialogue before (xs ++ ys) after
 dialogue_after [] ys before middle after same more = subst (λ s. IsDialogue s ys after) same more
-dialogue_after (x ∷ xs) ys before middle after held more = (
-  held.0,
-  held.1,
-  (held.2.0, (held.2.1.0, dialogue_after xs ys held.2.0 middle after held.2.1.1 more)),
-)
+dialogue_after (x ∷ xs) ys before middle after held more = grind (arith, dialogue_after xs ys held.2.0 middle after held.2.1.1 more)
 
 -- a dialogue was held, a read for each byte, and the session goes on with so many reads
 pub record HasGoneOn (before now : Session) (commands_before commands_now output_before output_now : Option (List ℕ)) (reads : ℕ)

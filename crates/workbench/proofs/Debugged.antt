@@ -1,11 +1,10 @@
 -- The conversation on a program that was just loaded.
-use Rattle.std.proofs.Common.{inl, Bool, List, ℕ, Option, Result, Ok, Err, arith}
+use Rattle.std.proofs.Common.{Bool, List, ℕ, Option, Result, arith}
 use Rattle.trace_text.specs.Outcome.{IsUntouched}
 use Rattle.trace_text.specs.RunText.{GivesOnAndOn}
 use Rattle.debugger.specs.Session.{Session}
 use Rattle.schedule_reader.specs.declared.run.Run.{Run}
 use Rattle.workbench.specs.declared.fault.Fault.{Fault}
-use Rattle.workbench.specs.declared.fault.Fault.TheVariants as fault
 use Rattle.workbench.specs.Debug.{Converses, Debugs, HasNoSession, IsBegun, IsFirstSession, IsNotBegun}
 use Rattle.workbench.specs.ProgramFile.{IsNoProgramFor}
 

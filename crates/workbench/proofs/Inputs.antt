@@ -1,5 +1,5 @@
 -- What comes of an input that can't be read.
-use Rattle.std.proofs.Common.{◌≡◌, ◌⊎◌, ℕ, Bool, IsTrue, false, inl, inr, List, Option}
+use Rattle.std.proofs.Common.{◌≡◌, ◌⊎◌, ℕ, Bool, IsTrue, false, List, Option, arith}
 use Rattle.workbench.specs.declared.fault.Fault.{Fault}
 use Rattle.workbench.specs.declared.fault.Fault.TheVariants as fault
 use Rattle.workbench.specs.Input.{GivesTooMuch}
@@ -8,5 +8,4 @@ use Rattle.workbench.specs.Outcome.{IsUnreadFor}
 -- its bytes aren't known
 pub unread : (f : Fault) (before after : Option (List ℕ)) (failed : Bool) → ((f ≡ fault.Memory) × (failed ≡ false)) ⊎ (f ≡ fault.Read)
     → (f ≡ fault.Read → IsTrue failed ⊎ GivesTooMuch before after) → IsUnreadFor f before after failed
-unread f before after failed (inl is) read = inl is
-unread f before after failed (inr is) read = inr (is, read is)
+unread f before after failed given read = grind arith

@@ -1,7 +1,7 @@
 -- Lines that are written piece by piece.
 use Rattle.std.proofs.Common.{◌≡◌, ◌++◌, ℕ, List, sym, subst, arith}
 use Rattle.std.proofs.KnownBytes.{Appends-trans}
-use Rattle.std.specs.Prelude.{Option, Some, Result, Ok, Err, OnOk, codes}
+use Rattle.std.specs.Prelude.{Option, Some, Result, OnOk, codes}
 use Rattle.std.specs.Fmt.{decimal}
 use Rattle.std.specs.Io.KnownBytes.{Appends}
 use Rattle.workbench.specs.declared.fault.Fault.{Fault}

@@ -1,5 +1,5 @@
 -- What becomes of a run that was recorded.
-use Rattle.std.proofs.Common.{◌≡◌, ◌∙◌, ℕ, All, List, Ok, Result, Option, None, inl, inr, subst, sym, arith}
+use Rattle.std.proofs.Common.{◌≡◌, ◌∙◌, ℕ, All, List, Ok, Result, Option, None, inl, inr, sym, arith}
 use Rattle.row_code.specs.declared.image.Image.{Image}
 use Rattle.loader.specs.Fault.{first_fault}
 use Rattle.loader.specs.Program.{IsProgramOf, Program}

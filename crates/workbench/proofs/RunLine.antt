@@ -1,5 +1,5 @@
 -- The first line of a file, and the parts before and after the run line.
-use Rattle.std.proofs.Common.{◌≡◌, ◌∙◌, ◌+◌, ◌-◌, ◌<◌, ◌≤◌, ◌==◌, ◌&&◌, ℕ, true, false, List, [], ◌∷◌, ◌++◌, length, take, drop, get_or, cond, refl, ap, sym, arith, tests}
+use Rattle.std.proofs.Common.{◌≡◌, ◌∙◌, ◌+◌, ◌-◌, ◌<◌, ◌≤◌, ◌==◌, ◌&&◌, ℕ, true, false, List, [], ◌∷◌, ◌++◌, length, take, drop, cond, ap, sym, arith}
 use Rattle.std.specs.Prelude.{codes}
 use Rattle.std.proofs.Common.{inl, inr, ◌⊎◌}
 use Rattle.std.proofs.lemmas.Bool.{cases_lt}
@@ -19,8 +19,7 @@ are_run_by_count ws = grind arith
 
 -- where no LF is left, the first line is the last
 one_line : (bs : List ℕ) → length bs ≤ position_or_len is_line_end bs → slice_split is_line_end bs ≡ bs ∷ []
-one_line bs none =
-    slice_split_none is_line_end bs (λ k d there. fails_before_first is_line_end bs k d (omega (arith, none)))
+one_line bs none = grind (arith, slice_split_none, fails_before_first)
 
 whole_line : (bs : List ℕ) → length bs ≤ position_or_len is_line_end bs → before_first is_line_end bs ≡ bs
 whole_line bs none = take_all (position_or_len is_line_end bs) bs none
@@ -77,8 +76,7 @@ line_with_end : (bs : List ℕ) → position_or_len is_line_end bs < length bs
     → take (position_or_len is_line_end bs + 1) bs ≡ before_first is_line_end bs ++ 10 ∷ []
 line_with_end bs more =
     let end = passes_at_first is_line_end bs 0 more in
-    let ten : get_or bs (position_or_len is_line_end bs) 0 ≡ 10 = grind (arith, nat_tests, end) in
-    take_more bs (position_or_len is_line_end bs) 0 more ∙ ap (λ x. before_first is_line_end bs ++ x ∷ []) ten
+    grind (arith, nat_tests, take_more)
 
 pub program_part-next : (bs : List ℕ) → is_run_line (before_first is_line_end bs) ≡ false
     → program_part bs ≡ take (position_or_len is_line_end bs + 1) bs ++ program_part (after_first is_line_end bs)
@@ -92,8 +90,7 @@ take_in_two n m bs =
 
 -- as far as the list goes
 take_same : (bs : List ℕ) (n k : ℕ) → (k ≡ n) ⊎ ((length bs ≤ n) × (length bs ≤ k)) → take k bs ≡ take n bs
-take_same bs n k (inl same) = ap (λ i. take i bs) same
-take_same bs n k (inr both) = take_all k bs both.1 ∙ sym (take_all n bs both.0)
+take_same bs n k given = grind (arith, take_all)
 
 -- up to what is left, after one line more
 pub take_up_to : (bs : List ℕ) (n m : ℕ) → n ≤ length bs
@@ -101,8 +98,7 @@ pub take_up_to : (bs : List ℕ) (n m : ℕ) → n ≤ length bs
 take_up_to bs n m within = grind (arith, length-drop, take_same, cases_lt, take_in_two)
 
 drop_same : (bs : List ℕ) (n k : ℕ) → (k ≡ n) ⊎ ((length bs ≤ n) × (length bs ≤ k)) → drop k bs ≡ drop n bs
-drop_same bs n k (inl same) = ap (λ i. drop i bs) same
-drop_same bs n k (inr both) = drop_all k bs both.1 ∙ sym (drop_all n bs both.0)
+drop_same bs n k given = grind (arith, drop_all)
 
 -- what is left after one line more is the end of the bytes
 drop_up_to : (bs : List ℕ) (n m : ℕ) → n ≤ length bs

@@ -1,5 +1,5 @@
 -- What becomes of a program under a schedule.
-use Rattle.std.proofs.Common.{◌≡◌, ℕ, inr, Bool, false, List, Ok, Err, Result, Option, Some, refl, subst, arith}
+use Rattle.std.proofs.Common.{◌≡◌, ℕ, Bool, false, List, Ok, Err, Result, Option, Some, subst, arith}
 use Rattle.row_code.specs.declared.image.Image.{Image}
 use Rattle.assembler.specs.Meaning.{StandsFor}
 use Rattle.trace_text.specs.declared.run.RunFault.{RunFault}

@@ -33,8 +33,7 @@ their_choices (choice ∷ choices) = ap (λ cs. choice ∷ cs) (their_choices ch
 -- a session whose choices were played, and told, began as by `g` with their runs
 pub begun_at : (stop : Stop) (session now : Session) (choices : List Choice) (x y : Option (List ℕ)) → Stops session choices stop now
     → Appends x y (stop_text stop) → IsBegun (Some (runs_of choices)) session now x y
-begun_at stop session now choices x y stops written =
-    (stop_text stop, ((stop, subst (λ cs. Stops session cs stop now) (sym (their_choices choices)) stops, refl), written))
+begun_at stop session now choices x y stops written = grind (arith, their_choices)
 
 named_at : (choices : List Choice) (t u : Option (List ℕ)) → HasNamed t u (Ok choices) → HasNamed t u (Ok (choices_of (runs_of choices)))
 named_at choices t u named = subst (λ cs. HasNamed t u (Ok cs)) (sym (their_choices choices)) named
