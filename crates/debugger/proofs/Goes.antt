@@ -1,5 +1,5 @@
 -- Choices that are played one list after another, up to a break or a refusal.
-use Rattle.std.proofs.Common.{◌≡◌, ◌∙◌, ◌↔◌, ◌+◌, ◌-◌, ◌≤◌, ℕ, Bool, true, false, List, [], ◌∷◌, ◌++◌, Option, Some, None, Result, Err, length, refl, ap, sym, subst, arith, append_assoc, append-nil}
+use Rattle.std.proofs.Common.{◌≡◌, ◌∙◌, ◌↔◌, ◌+◌, ◌-◌, ◌≤◌, ℕ, Bool, true, false, List, [], ◌∷◌, ◌++◌, Option, Some, None, Result, Err, length, refl, ap, sym, subst, arith, append_assoc, append-nil, rules}
 use Rattle.std.specs.Prelude.{◌≢◌, ◌&&◌, if◌then◌else◌, is_some}
 use Rattle.std.proofs.lemmas.List.{length-append}
 use Rattle.machine_scene.specs.Scene.{Outcome, scene_of, thread_at}
@@ -69,10 +69,6 @@ idle_by : (outcome : Option Outcome) (world : World)
     → (played_by outcome world).world.steps ≡ world.steps → is_some outcome ≡ false
 idle_by outcome world same = grind arith
 
-no_break : (ready at : Bool) → at ≡ false → (ready && at) ≡ false
-no_break true at is = is
-no_break false at is = refl
-
 -- where a thread stands after a step, by the session and by the definition
 at_break_after : (session after : Session) (choice : Choice) (is : Bool) → IsStep session choice after
     → is_at_break after.breaks (thread_at (scene_of after.machine.scene) choice.thread) ≡ is
@@ -108,7 +104,7 @@ pub pass_on : (session after : Session) (choice : Choice) → refusal_of (world_
     → IsStep session choice after
     → is_at_break after.breaks (thread_at (scene_of after.machine.scene) choice.thread) ≡ false
     → Ends session (choice ∷ []) after
-pass_on session after choice accepted step at = grind (arith, at_break_after, no_break)
+pass_on session after choice accepted step at = search (rules, at_break_after)
 
 -- what some steps leave
 steps_world : (xs : List Choice) (before after : Session) → AreSteps before xs after
@@ -197,13 +193,10 @@ continues_fault why session now after whole rest xs ys is on at = record {
 }
 
 -- each choice is counted
-choices_by : (outcome : Option Outcome) (world : World) → (played_by outcome world).world.choices ≡ world.choices + 1
-choices_by outcome world = grind arith
-
 steps-choices : (xs : List Choice) (before after : Session) → AreSteps before xs after
     → after.machine.choices ≡ before.machine.choices + length xs
 steps-choices [] before after same = grind arith
-steps-choices (x ∷ xs) before after steps = grind (arith, choices_by, steps-choices xs steps.0 after steps.2)
+steps-choices (x ∷ xs) before after steps = grind (arith, steps-choices xs steps.0 after steps.2)
 
 -- with the count of choices
 pub stops_end : (session after : Session) (choices : List Choice) (n : ℕ) → n ≡ after.machine.choices - session.machine.choices

@@ -8,18 +8,11 @@ use Rattle.schedule_reader.specs.Schedule.{Schedule, open_schedule, finished_sch
 use Rattle.schedule_reader.specs.Reading.{Adds, answer_of, answer_by}
 use Rattle.debugger.specs.Command.{runs_of}
 
-no_fault : (fault : Option ScheduleFault) → answer_by fault ≡ Ok tt → fault ≡ None
-no_fault fault is = grind arith
-
 some_fault : (fault : Option ScheduleFault) (why : ScheduleFault) (schedule : Schedule) → answer_by fault ≡ Err why
     → schedule.fault ≡ fault → runs_of schedule ≡ None
 some_fault fault why schedule is same = grind arith
 
 -- nothing is missing
-complete : (result : Result (Unit {0}) ScheduleFault) (missing : List Run) → (result ≡ Err fault.Memory → ⊥)
-    → (result ≡ Err fault.Memory) ⊎ (missing ≡ []) → missing ≡ []
-complete result missing other given = grind arith
-
 pub answered : {A : Type 0} (result : Result (Unit {0}) ScheduleFault) → (result ≡ Err fault.Memory → ⊥)
     → (result ≡ Err fault.Memory) ⊎ A → A
 answered result other (inl is) = absurd (other is)
@@ -30,7 +23,7 @@ pub runs_read : (bytes : List ℕ) (first last : Result (Unit {0}) ScheduleFault
     → Adds last (open_schedule bytes) (finished_schedule bytes) middle end → last ≡ Ok tt → (last ≡ Err fault.Memory → ⊥)
     → (last ≡ Err fault.Memory) ⊎ (last ≡ answer_of (finished_schedule bytes))
     → Some end ≡ runs_of (finished_schedule bytes)
-runs_read bytes first last before middle end nothing some fed more is other answer = grind (arith, no_fault, complete, append-nil)
+runs_read bytes first last before middle end nothing some fed more is other answer = grind (arith, append-nil)
 
 pub none_read : (bytes : List ℕ) (last : Result (Unit {0}) ScheduleFault) (why : ScheduleFault) → last ≡ Err why
     → (last ≡ Err fault.Memory → ⊥) → (last ≡ Err fault.Memory) ⊎ (last ≡ answer_of (finished_schedule bytes))

@@ -1,5 +1,5 @@
 -- Rows of which none has a breakpoint.
-use Rattle.std.proofs.Common.{◌≡◌, ◌&&◌, ◌∷◌, ℕ, zero, suc, Bool, true, false, List, length, refl, ap, arith}
+use Rattle.std.proofs.Common.{◌≡◌, ◌∷◌, ℕ, zero, suc, Bool, false, List, length, refl, ap, arith}
 use Rattle.std.specs.Prelude.{replicate, slice_index_or, slice_set}
 use Rattle.thread_state.specs.Thread.{ThreadState}
 use Rattle.debugger.specs.Go.{is_at_break}
@@ -14,14 +14,10 @@ none_set zero i = refl
 none_set (suc n) zero = refl
 none_set (suc n) (suc i) = ap (λ rows. false ∷ rows) (none_set n i)
 
-neither : (is : Bool) → (is && false) ≡ false
-neither true = refl
-neither false = refl
-
 -- no thread stands at one
 pub none_there : (breaks : List Bool) (thread : ThreadState) → breaks ≡ replicate (length breaks) false
     → false ≡ is_at_break breaks thread
-none_there breaks thread none = grind (arith, none_at, neither)
+none_there breaks thread none = grind (arith, none_at)
 
 -- and where one is cleared there is none still
 pub none_cleared : (breaks : List Bool) (row : ℕ) → breaks ≡ replicate (length breaks) false
