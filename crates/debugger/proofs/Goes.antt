@@ -1,6 +1,6 @@
 -- Choices that are played one list after another, up to a break or a refusal.
-use Rattle.std.proofs.Common.{◌≡◌, ◌∙◌, ◌↔◌, ◌+◌, ◌-◌, ◌≤◌, ℕ, Bool, true, false, List, [], ◌∷◌, ◌++◌, Option, Some, None, Result, Err, length, refl, ap, sym, subst, arith, append_assoc, append-nil}
-use Rattle.std.specs.Prelude.{◌≢◌, ◌&&◌, if◌then◌else◌, is_some, nat_le}
+use Rattle.std.proofs.Common.{◌≡◌, ◌∙◌, ◌↔◌, ◌+◌, ◌-◌, ◌≤◌, ℕ, Bool, true, false, List, [], ◌∷◌, ◌++◌, Option, Some, None, Result, Err, length, refl, ap, sym, subst, arith, append_assoc, append-nil, rules}
+use Rattle.std.specs.Prelude.{◌≢◌, ◌&&◌, if◌then◌else◌, is_some}
 use Rattle.std.proofs.lemmas.List.{length-append}
 use Rattle.machine_scene.specs.Scene.{Outcome, scene_of, thread_at}
 use Rattle.thread_machine.specs.World.{World, world_of}
@@ -9,11 +9,10 @@ use Rattle.thread_machine.specs.declared.choice.Choice.{Choice}
 use Rattle.thread_machine.specs.declared.fault.StepFault.{StepFault}
 use Rattle.thread_machine.specs.declared.fault.StepFault.TheVariants.{NoSuchThread, StepLimit, Memory}
 use Rattle.thread_machine.specs.Ready.{outcome_of_choice, is_choice_ready}
-use Rattle.thread_machine.specs.Step.{Played, played, played_by, is_used_up, refusal_of, puts_out}
+use Rattle.thread_machine.specs.Step.{Played, played, played_by, refusal_of, puts_out}
 use Rattle.debugger.specs.declared.stop.Stop.{Stop}
 use Rattle.debugger.specs.declared.stop.Stop.TheVariants as stop
 use Rattle.debugger.specs.declared.session.go.Went.{Went}
-use Rattle.debugger.specs.declared.session.go.Went.TheVariants as went
 use Rattle.debugger.specs.Session.{Session, went_on, world_after, IsHistory}
 use Rattle.debugger.specs.Moves.{IsStep, AreSteps}
 use Rattle.debugger.specs.Go.{is_at_break, is_break, Refuses, PlaysOn, Ends, Breaks, Faults, Stops}
@@ -25,8 +24,7 @@ use Rattle.debugger.proofs.Histories.{history_on}
 pub is_step : (before after : Session) (choice : Choice) (event : Event)
     → (let both : Played = record { world = world_of after.machine; event = event } in both ≡ played (world_of before.machine) choice)
     → after ≡ went_on before after.machine → IsStep before choice after
-is_step before after choice event both session =
-    record { world = ap (λ (play : Played). play.world) both; session = session }
+is_step before after choice event both session = grind arith
 
 -- there are two reasons for a refusal that isn't want of memory
 refusal_by : (there used_up : Bool)
@@ -39,19 +37,13 @@ refusal_by false false there left = refl
 
 not_refused : (world : World) (choice : Choice) → (refusal_of world choice ≡ Some NoSuchThread → ⊥)
     → (refusal_of world choice ≡ Some StepLimit → ⊥) → refusal_of world choice ≡ None
-not_refused world choice there left =
-    refusal_by (nat_le (length world.scene.threads) choice.thread) (is_used_up world choice) there left
+not_refused world choice there left = grind arith
 
 refuses : (why : StepFault) (world : World) (choice : Choice) (result : Result Event StepFault) → result ≡ Err why
     → ((result ≡ Err NoSuchThread) ↔ (refusal_of world choice ≡ Some NoSuchThread))
     → ((result ≡ Err StepLimit) ↔ (refusal_of world choice ≡ Some StepLimit))
     → (result ≡ Err Memory → puts_out world choice ≡ true) → Refuses world choice why
-refuses NoSuchThread world choice result is there left memory = there.0 is
-refuses StepLimit world choice result is there left memory = left.0 is
-refuses Memory world choice result is there left memory = (
-  not_refused world choice (λ other. absurd (cc (is, there.1 other))) (λ other. absurd (cc (is, left.1 other))),
-  memory is,
-)
+refuses why world choice result is there left memory = grind arith
 
 pub pass_fault : (why : StepFault) (session after : Session) (choice : Choice) (result : Result Event StepFault) → result ≡ Err why
     → ((result ≡ Err NoSuchThread) ↔ (refusal_of (world_of session.machine) choice ≡ Some NoSuchThread))
@@ -71,26 +63,17 @@ pass_fault why session after choice result is there left memory same = record {
 -- an effective step is counted
 ready_by : (outcome : Option Outcome) (world : World)
     → ((played_by outcome world).world.steps ≡ world.steps → ⊥) → is_some outcome ≡ true
-ready_by (Some outcome) world other = refl
-ready_by None world other = absurd (other refl)
+ready_by outcome world other = grind arith
 
 idle_by : (outcome : Option Outcome) (world : World)
     → (played_by outcome world).world.steps ≡ world.steps → is_some outcome ≡ false
-idle_by (Some outcome) world same = absurd (omega (arith, same))
-idle_by None world same = refl
-
-no_break : (ready at : Bool) → at ≡ false → (ready && at) ≡ false
-no_break true at is = is
-no_break false at is = refl
+idle_by outcome world same = grind arith
 
 -- where a thread stands after a step, by the session and by the definition
 at_break_after : (session after : Session) (choice : Choice) (is : Bool) → IsStep session choice after
     → is_at_break after.breaks (thread_at (scene_of after.machine.scene) choice.thread) ≡ is
     → is_at_break session.breaks (thread_at (played (world_of session.machine) choice).world.scene choice.thread) ≡ is
-at_break_after session after choice is step at =
-    ap (λ (world : World). is_at_break session.breaks (thread_at world.scene choice.thread)) (sym step.world)
-    ∙ ap (λ (s : Session). is_at_break s.breaks (thread_at (scene_of after.machine.scene) choice.thread)) (sym step.session)
-    ∙ at
+at_break_after session after choice is step at = grind arith
 
 pub pass_break : (session after : Session) (choice : Choice) → refusal_of (world_of session.machine) choice ≡ None
     → IsStep session choice after → (after.machine.steps ≡ session.machine.steps → ⊥)
@@ -115,35 +98,23 @@ pass_break session after choice accepted step counted at =
 
 pub pass_idle : (session after : Session) (choice : Choice) → refusal_of (world_of session.machine) choice ≡ None
     → IsStep session choice after → after.machine.steps ≡ session.machine.steps → Ends session (choice ∷ []) after
-pass_idle session after choice accepted step same =
-    let world = world_of session.machine in
-    let idle : is_choice_ready world.program choice world.scene ≡ false =
-    idle_by (outcome_of_choice world.program choice world.scene) world
-    (ap (λ (w : World). w.steps) (sym step.world) ∙ same) in
-    let here = is_at_break session.breaks (thread_at (played world choice).world.scene choice.thread) in
-    record { plays = (accepted, ap (λ r. r && here) idle, tt); steps = (after, step, refl) }
+pass_idle session after choice accepted step same = grind arith
 
 pub pass_on : (session after : Session) (choice : Choice) → refusal_of (world_of session.machine) choice ≡ None
     → IsStep session choice after
     → is_at_break after.breaks (thread_at (scene_of after.machine.scene) choice.thread) ≡ false
     → Ends session (choice ∷ []) after
-pass_on session after choice accepted step at =
-    let world = world_of session.machine in
-    let here = is_at_break session.breaks (thread_at (played world choice).world.scene choice.thread) in
-    let off : here ≡ false = at_break_after session after choice false step at in
-    record { plays = (accepted, no_break (is_choice_ready world.program choice world.scene) here off, tt); steps = (after, step, refl) }
+pass_on session after choice accepted step at = search (rules, at_break_after)
 
 -- what some steps leave
 steps_world : (xs : List Choice) (before after : Session) → AreSteps before xs after
     → world_of after.machine ≡ world_after (world_of before.machine) xs
 steps_world [] before after same = ap (λ (s : Session). world_of s.machine) same
-steps_world (x ∷ xs) before after steps =
-    steps_world xs steps.0 after steps.2 ∙ ap (λ world. world_after world xs) steps.1.world
+steps_world (x ∷ xs) before after steps = grind (arith, steps_world xs steps.0 after steps.2)
 
 steps_breaks : (xs : List Choice) (before after : Session) → AreSteps before xs after → after.breaks ≡ before.breaks
 steps_breaks [] before after same = ap (λ (s : Session). s.breaks) same
-steps_breaks (x ∷ xs) before after steps =
-    steps_breaks xs steps.0 after steps.2 ∙ ap (λ (s : Session). s.breaks) steps.1.session
+steps_breaks (x ∷ xs) before after steps = grind (arith, steps_breaks xs steps.0 after steps.2)
 
 -- what is said of the session after some steps is said of the choices
 carried : (P : List Bool → World → Type 0) (xs : List Choice) (before after : Session) → AreSteps before xs after
@@ -155,8 +126,7 @@ carried P xs before after steps p =
 steps-append : (xs ys : List Choice) (before middle after : Session) → AreSteps before xs middle → AreSteps middle ys after
     → AreSteps before (xs ++ ys) after
 steps-append [] ys before middle after same steps = subst (λ s. AreSteps s ys after) same steps
-steps-append (x ∷ xs) ys before middle after steps more =
-    (steps.0, steps.1, steps-append xs ys steps.0 middle after steps.2 more)
+steps-append (x ∷ xs) ys before middle after steps more = grind (arith, steps-append xs ys steps.0 middle after steps.2 more)
 
 world_after-append : (xs ys : List Choice) (world : World) → world_after world (xs ++ ys) ≡ world_after (world_after world xs) ys
 world_after-append [] ys world = refl
@@ -171,8 +141,7 @@ carried_on P xs ys before after steps p =
 plays-append : (xs ys : List Choice) (breaks : List Bool) (world : World) → PlaysOn breaks world xs
     → PlaysOn breaks (world_after world xs) ys → PlaysOn breaks world (xs ++ ys)
 plays-append [] ys breaks world plays more = more
-plays-append (x ∷ xs) ys breaks world plays more =
-    (plays.0, plays.1, plays-append xs ys breaks (played world x).world plays.2 more)
+plays-append (x ∷ xs) ys breaks world plays more = grind (arith, plays-append xs ys breaks (played world x).world plays.2 more)
 
 -- some of the choices were played, the rest is still to come
 pub record Continues (session now : Session) (whole rest : List Choice) : Type 0 where
@@ -190,19 +159,12 @@ more_plays session now done xs plays steps more =
 
 pub continues_next : (session now after : Session) (whole rest xs ys : List Choice) → rest ≡ xs ++ ys
     → Continues session now whole rest → Ends now xs after → Continues session after whole ys
-continues_next session now after whole rest xs ys is on ends = record {
-  done = on.done ++ xs;
-  all = on.all ∙ ap (λ l. on.done ++ l) is ∙ sym (append_assoc on.done xs ys);
-  plays = more_plays session now on.done xs on.plays on.steps ends.plays;
-  steps = steps-append on.done xs session now after on.steps ends.steps;
-}
+continues_next session now after whole rest xs ys is on ends = grind (arith, append_assoc, more_plays, steps-append)
 
 -- a list inside a list
 inside : (whole done rest xs first : List Choice) (one : Choice) (more ys : List Choice) → whole ≡ done ++ rest → rest ≡ xs ++ ys
     → xs ≡ first ++ one ∷ more → whole ≡ (done ++ first) ++ one ∷ (more ++ ys)
-inside whole done rest xs first one more ys all is parts =
-    all ∙ ap (λ l. done ++ l) (is ∙ ap (λ l. l ++ ys) parts ∙ append_assoc first (one ∷ more) ys)
-    ∙ sym (append_assoc done first (one ∷ (more ++ ys)))
+inside whole done rest xs first one more ys all is parts = grind (arith, append_assoc)
 
 pub continues_break : (session now after : Session) (whole rest xs ys : List Choice) → rest ≡ xs ++ ys
     → Continues session now whole rest → Breaks now xs after → Breaks session whole after
@@ -231,26 +193,15 @@ continues_fault why session now after whole rest xs ys is on at = record {
 }
 
 -- each choice is counted
-choices_by : (outcome : Option Outcome) (world : World) → (played_by outcome world).world.choices ≡ world.choices + 1
-choices_by (Some outcome) world = refl
-choices_by None world = refl
-
 steps-choices : (xs : List Choice) (before after : Session) → AreSteps before xs after
     → after.machine.choices ≡ before.machine.choices + length xs
-steps-choices [] before after same =
-    let many = ap (λ (s : Session). s.machine.choices) same in omega (arith, many)
-steps-choices (x ∷ xs) before after steps =
-    let world = world_of before.machine in
-    let next = ap (λ (w : World). w.choices) steps.1.world in
-    let one = choices_by (outcome_of_choice world.program x world.scene) world in
-    let more = steps-choices xs steps.0 after steps.2 in
-    omega (arith, next, one, more)
+steps-choices [] before after same = grind arith
+steps-choices (x ∷ xs) before after steps = grind (arith, steps-choices xs steps.0 after steps.2)
 
 -- with the count of choices
 pub stops_end : (session after : Session) (choices : List Choice) (n : ℕ) → n ≡ after.machine.choices - session.machine.choices
     → Ends session choices after → Stops session choices (stop.End n) after
-stops_end session after choices n is ends =
-    (ends, omega (arith, is, steps-choices choices session after ends.steps))
+stops_end session after choices n is ends = grind (arith, steps-choices)
 
 pub stops_break : (session after : Session) (choices : List Choice) (n : ℕ) → n ≡ after.machine.choices - session.machine.choices
     → Breaks session choices after → Stops session choices (stop.Break n) after
@@ -278,13 +229,7 @@ all_of session now choices choice ends = record { done = choices; all = refl; pl
 pub one_more_ends : (session now after : Session) (choices : List Choice) (choice : Choice) (n : ℕ)
     → Stops session choices (stop.End n) now → Ends now (choice ∷ []) after
     → Stops session (choices ++ choice ∷ []) (stop.End (n + 1)) after
-one_more_ends session now after choices choice n on ends = (
-  record {
-    plays = more_plays session now choices (choice ∷ []) on.0.plays on.0.steps ends.plays;
-    steps = steps-append choices (choice ∷ []) session now after on.0.steps ends.steps;
-  },
-  omega (arith, on.1, length-append choices (choice ∷ [])),
-)
+one_more_ends session now after choices choice n on ends = grind (arith, more_plays, steps-append, length-append)
 
 pub one_more_breaks : (session now after : Session) (choices : List Choice) (choice : Choice) (n : ℕ)
     → Stops session choices (stop.End n) now → Breaks now (choice ∷ []) after
@@ -341,17 +286,12 @@ one_more_stays (stop.Fault n why) session now choices choice other (at, is) = (
 -- no choice is taken back
 pub goes_counts : (result : Went) (session after : Session) (choices : List Choice) → Goes session choices result after
     → session.machine.choices ≤ after.machine.choices
-goes_counts went.On session after choices ends = omega (arith, steps-choices choices session after ends.steps)
-goes_counts went.Break session after choices at =
-    omega (arith, steps-choices (at.first ++ at.last ∷ []) session after at.steps)
-goes_counts (went.Fault why) session after choices at = omega (arith, steps-choices at.first session after at.steps)
+goes_counts result session after choices ends = grind (arith, steps-choices)
 
 -- the history of choices in a row
 pub history_of_steps : (more : List Choice) (first : World) (choices : List Choice) (before after : Session)
     → IsHistory first choices before → AreSteps before more after → IsHistory first (choices ++ more) after
-history_of_steps [] first choices before after history same =
-    subst (λ s. IsHistory first (choices ++ []) s) (sym same)
-    (subst (λ l. IsHistory first l before) (sym (append-nil choices)) history)
+history_of_steps [] first choices before after history same = grind (arith, append-nil)
 history_of_steps (choice ∷ more) first choices before after history steps =
     subst (λ l. IsHistory first l after) (append_assoc choices (choice ∷ []) more)
     (history_of_steps more first (choices ++ choice ∷ []) steps.0 after (history_on first choices choice before steps.0 history steps.1) steps.2)

@@ -1,5 +1,5 @@
 -- The session of a list of choices.
-use Rattle.std.proofs.Common.{◌≡◌, ◌∙◌, ◌-◌, ℕ, zero, suc, List, [], ◌∷◌, ◌++◌, length, map, take, drop, refl, ap, sym, subst, arith, append_assoc}
+use Rattle.std.proofs.Common.{◌≡◌, ◌∙◌, ◌-◌, ℕ, zero, suc, List, [], ◌∷◌, ◌++◌, length, map, take, drop, refl, ap, sym, arith, append_assoc}
 use Rattle.thread_machine.specs.World.{World, StoredWorld, world_of}
 use Rattle.thread_machine.specs.declared.choice.Choice.{Choice}
 use Rattle.thread_machine.specs.Step.{played}
@@ -14,8 +14,7 @@ world_after-snoc (first ∷ choices) world choice = world_after-snoc choices (pl
 worlds_before-snoc : (choices : List Choice) (world : World) (choice : Choice)
     → worlds_before world (choices ++ choice ∷ []) ≡ world_after world choices ∷ worlds_before world choices
 worlds_before-snoc [] world choice = refl
-worlds_before-snoc (first ∷ choices) world choice =
-    ap (λ worlds. worlds ++ world ∷ []) (worlds_before-snoc choices (played world first).world choice)
+worlds_before-snoc (first ∷ choices) world choice = grind (arith, worlds_before-snoc choices (played world first).world choice)
 
 shown-take-drop : (n : ℕ) (worlds : List StoredWorld) → map world_of (take n worlds) ++ map world_of (drop n worlds) ≡ map world_of worlds
 shown-take-drop zero worlds = refl
@@ -51,18 +50,12 @@ last_of first (second ∷ choices) =
 history_back_snoc : (first : World) (choices all : List Choice) (last : Choice) (session : Session) (world : StoredWorld) (past : List StoredWorld)
     → session.past ≡ world ∷ past → all ≡ choices ++ last ∷ [] → IsHistory first all session
     → IsHistory first choices (back_to (world ∷ past) session)
-history_back_snoc first choices all last session world past is snoc history =
-    let both : world_of world ∷ (map world_of past ++ history.older) ≡ world_after first choices ∷ worlds_before first choices =
-    ap (λ worlds. map world_of worlds ++ history.older) (sym is) ∙ history.past ∙ ap (worlds_before first) snoc ∙ worlds_before-snoc choices first last in
-    record { machine = cc; older = history.older; past = cc }
+history_back_snoc first choices all last session world past is snoc history = grind (arith, worlds_before-snoc)
 
 pub history_back_cons : (first : World) (choices : List Choice) (session : Session) (world : StoredWorld) (past : List StoredWorld)
     → session.past ≡ world ∷ past → IsHistory first choices session
     → IsHistory first (take (length choices - 1) choices) (back_to (world ∷ past) session)
-history_back_cons first [] session world past is history =
-    let none : world_of world ∷ (map world_of past ++ history.older) ≡ [] =
-    ap (λ worlds. map world_of worlds ++ history.older) (sym is) ∙ history.past in
-    absurd (cc)
+history_back_cons first [] session world past is history = grind arith
 history_back_cons first (choice ∷ choices) session world past is history =
     let last = last_of choice choices in
     history_back_snoc first (take (length (choice ∷ choices) - 1) (choice ∷ choices)) (choice ∷ choices) last.0 session world past is last.1 history
@@ -71,6 +64,4 @@ history_back_cons first (choice ∷ choices) session world past is history =
 pub history_back : (first : World) (choices : List Choice) (session : Session) (world : StoredWorld) (past : List StoredWorld)
     → session.past ≡ world ∷ past → IsHistory first choices session
     → IsHistory first (take (length choices - 1) choices) (went_back session)
-history_back first choices session world past is history =
-    subst (λ p. IsHistory first (take (length choices - 1) choices) (back_to p session)) (sym is)
-    (history_back_cons first choices session world past is history)
+history_back first choices session world past is history = grind (arith, history_back_cons)

@@ -1,5 +1,5 @@
 -- Steps and steps back in any order.
-use Rattle.std.proofs.Common.{◌≡◌, ◌∙◌, ◌-◌, ◌≤◌, ℕ, zero, suc, List, [], ◌∷◌, ◌++◌, length, take, refl, ap, sym, subst, arith}
+use Rattle.std.proofs.Common.{◌≡◌, ◌-◌, ◌≤◌, ℕ, zero, suc, List, [], ◌∷◌, ◌++◌, length, take, refl, ap, sym, subst, arith}
 use Rattle.std.specs.Prelude.{◌≢◌}
 use Rattle.std.proofs.lemmas.List.{length-take}
 use Rattle.thread_machine.specs.World.{World, StoredWorld}
@@ -10,8 +10,7 @@ use Rattle.debugger.proofs.Histories.{history_on, history_back_cons}
 
 history_taken : (first : World) (choices : List Choice) (session : Session) (past : List StoredWorld) → session.past ≡ past → past ≢ []
     → IsHistory first choices session → IsHistory first (take (length choices - 1) choices) (back_to past session)
-history_taken first choices session [] is some history = absurd (some refl)
-history_taken first choices session (world ∷ past) is some history = history_back_cons first choices session world past is history
+history_taken first choices session past is some history = grind (arith, history_back_cons)
 
 pub any_moves : (moves : List Move) (first : World) (choices : List Choice) (before after : Session)
     → IsHistory first choices before → AreMoves before moves after
@@ -20,8 +19,7 @@ any_moves [] first choices before after history same = subst (IsHistory first ch
 any_moves (Step choice ∷ moves) first choices before after history moved =
     any_moves moves first (choices ++ choice ∷ []) moved.0 after (history_on first choices choice before moved.0 history moved.1) moved.2
 any_moves (Back ∷ moves) first choices before after history moved =
-    any_moves moves first (take (length choices - 1) choices) (went_back before) after
-    (history_taken first choices before before.past refl moved.0 history) moved.1
+    grind (arith, history_taken, any_moves moves first (take (length choices - 1) choices) (went_back before) after)
 
 take_take : (m n : ℕ) (worlds : List StoredWorld) → m ≤ n → take m (take n worlds) ≡ take m worlds
 take_take zero n worlds less = refl
@@ -39,27 +37,20 @@ take_all (suc n) (world ∷ worlds) less = ap (λ ws. world ∷ ws) (take_all n 
 back_one : (session : Session) (world after : StoredWorld) (past : List StoredWorld) (n m : ℕ) → n ≡ suc m → n ≤ session.kept
     → went_back (record session { machine = after; past = take n (take session.kept (world ∷ past)) })
     ≡ record session { machine = world; past = take m past }
-back_one session world after past n m is few =
-    ap (λ ws. went_back (record session { machine = after; past = ws }))
-    (take_take n session.kept (world ∷ past) few ∙ ap (λ k. take k (world ∷ past)) is)
+back_one session world after past n m is few = grind (arith, take_take)
 
 -- the session after one step, given by its parts
 steps_and_backs_by : (choices : List Choice) (before next after : Session) (world : StoredWorld)
     → next ≡ went_on before world → suc (length choices) ≤ before.kept
     → backs (length choices) after ≡ record next { past = take (next.kept - length choices) next.past }
     → went_back (backs (length choices) after) ≡ record before { past = take (before.kept - suc (length choices)) before.past }
-steps_and_backs_by choices before next after world is few back =
-    let one : before.kept - length choices ≡ suc (before.kept - suc (length choices)) = omega (arith, few) in
-    ap went_back (back ∙ ap (λ (s : Session). record s { past = take (s.kept - length choices) s.past }) is)
-    ∙ back_one before before.machine world before.past (before.kept - length choices)
-    (before.kept - suc (length choices)) one (omega arith)
+steps_and_backs_by choices before next after world is few back = grind (arith, back_one)
 
 pub steps_and_backs : (choices : List Choice) (before after : Session) → length choices ≤ before.kept
     → length before.past ≤ before.kept → AreSteps before choices after
     → backs (length choices) after
     ≡ record before { past = take (before.kept - length choices) before.past }
-steps_and_backs [] before after few room same =
-    same ∙ sym (ap (λ ws. record before { past = ws }) (take_all (before.kept - 0) before.past (omega (arith, room))))
+steps_and_backs [] before after few room same = grind (arith, take_all)
 steps_and_backs (choice ∷ choices) before after few room steps =
     let next = steps.0 in
     let is = steps.1.session in

@@ -12,24 +12,13 @@ use Rattle.schedule_reader.specs.Schedule.{IsRun, choices_of}
 
 -- a run more
 pub choices-push : (runs : List Run) (run : Run) → choices_of (runs ++ run ∷ []) ≡ choices_of runs ++ replicate run.times run.choice
-choices-push runs run =
-    flat_map-append (λ (r : Run). replicate r.times r.choice) runs (run ∷ [])
-    ∙ ap (λ cs. choices_of runs ++ cs) (append-nil (replicate run.times run.choice))
+choices-push runs run = grind (arith, flat_map-append, append-nil)
 
 -- the last run as often as two say
 pub choices-joined : (runs : List Run) (last run both : Run) → both.choice ≡ run.choice → last.choice ≡ run.choice
     → both.times ≡ last.times + run.times
     → choices_of (runs ++ both ∷ []) ≡ choices_of (runs ++ last ∷ []) ++ replicate run.times run.choice
-choices-joined runs last run both own old sum =
-    let start = choices_of runs in
-    let more = replicate run.times run.choice in
-    choices-push runs both
-    ∙ ap (λ c. start ++ replicate both.times c) own
-    ∙ ap (λ n. start ++ replicate n run.choice) sum
-    ∙ ap (λ cs. start ++ cs) (sym (replicate-append-replicate last.times run.times run.choice))
-    ∙ sym (append_assoc start (replicate last.times run.choice) more)
-    ∙ ap (λ c. (start ++ replicate last.times c) ++ more) (sym old)
-    ∙ ap (λ cs. cs ++ more) (sym (choices-push runs last))
+choices-joined runs last run both own old sum = grind (arith, choices-push, replicate-append-replicate, append_assoc)
 
 -- some of the choices of a run, and of those behind it as many as are left
 pub take-run : (left times : ℕ) (choice : Choice) (rest : List Choice)
@@ -55,8 +44,7 @@ choices-less runs last n more =
     ∙ ap (λ m. start ++ replicate m last.choice) more
     ∙ ap (λ cs. start ++ cs) (sym (replicate-append-replicate n 1 last.choice))
     ∙ sym (append_assoc start (replicate n last.choice) (last.choice ∷ [])) in
-    all_but_last (start ++ replicate n last.choice) last.choice
-    ∙ ap (λ cs. take (length cs - 1) cs) (sym all)
+    grind (arith, all_but_last)
 
 -- what can be spelled, with another run in place of the last
 pub all_last : (runs : List Run) (last : Run) → All IsRun (runs ++ last ∷ []) → IsRun last
@@ -76,10 +64,4 @@ pub pushed_on : (now next : List Run) (run : Run) (left times : ℕ) (here rest 
     → choices_of now ++ take left here ≡ all
     → choices_of next ≡ choices_of now ++ replicate times run.choice
     → choices_of next ++ take (left - times) rest ≡ all
-pushed_on now next run left times here rest all is first so_far pushed =
-    ap (λ cs. cs ++ take (left - times) rest) pushed
-    ∙ append_assoc (choices_of now) (replicate times run.choice) (take (left - times) rest)
-    ∙ ap (λ n. choices_of now ++ (replicate n run.choice ++ take (left - n) rest)) is
-    ∙ ap (λ cs. choices_of now ++ cs) (sym (take-run left run.times run.choice rest))
-    ∙ ap (λ cs. choices_of now ++ take left cs) (sym first)
-    ∙ so_far
+pushed_on now next run left times here rest all is first so_far pushed = grind (arith, append_assoc, take-run)

@@ -1,5 +1,5 @@
 -- The runs that a reader made of some tokens.
-use Rattle.std.proofs.Common.{◌≡◌, ◌∙◌, List, [], ◌++◌, Option, Some, None, Result, Ok, Err, refl, ap, sym, append-nil, ℕ, Bool, true, false, ◌↔◌}
+use Rattle.std.proofs.Common.{◌≡◌, List, [], Option, Some, None, Result, Ok, Err, append-nil, ℕ, Bool, true, false, ◌↔◌, arith}
 use Rattle.std.proofs.Common.{◌⊎◌, inl, inr}
 use Rattle.schedule_reader.specs.declared.run.Run.{Run}
 use Rattle.schedule_reader.specs.declared.fault.ScheduleFault.{ScheduleFault}
@@ -8,21 +8,11 @@ use Rattle.schedule_reader.specs.Schedule.{Schedule, open_schedule, finished_sch
 use Rattle.schedule_reader.specs.Reading.{Adds, answer_of, answer_by}
 use Rattle.debugger.specs.Command.{runs_of}
 
-no_fault : (fault : Option ScheduleFault) → answer_by fault ≡ Ok tt → fault ≡ None
-no_fault None is = refl
-no_fault (Some fault) is = absurd (cc is)
-
 some_fault : (fault : Option ScheduleFault) (why : ScheduleFault) (schedule : Schedule) → answer_by fault ≡ Err why
     → schedule.fault ≡ fault → runs_of schedule ≡ None
-some_fault None why schedule is same = absurd (cc is)
-some_fault (Some fault) why schedule is same = ap (λ f. runs_of (record schedule { fault = f })) same
+some_fault fault why schedule is same = grind arith
 
 -- nothing is missing
-complete : (result : Result (Unit {0}) ScheduleFault) (missing : List Run) → (result ≡ Err fault.Memory → ⊥)
-    → (result ≡ Err fault.Memory) ⊎ (missing ≡ []) → missing ≡ []
-complete result missing other (inl is) = absurd (other is)
-complete result missing other (inr none) = none
-
 pub answered : {A : Type 0} (result : Result (Unit {0}) ScheduleFault) → (result ≡ Err fault.Memory → ⊥)
     → (result ≡ Err fault.Memory) ⊎ A → A
 answered result other (inl is) = absurd (other is)
@@ -33,23 +23,12 @@ pub runs_read : (bytes : List ℕ) (first last : Result (Unit {0}) ScheduleFault
     → Adds last (open_schedule bytes) (finished_schedule bytes) middle end → last ≡ Ok tt → (last ≡ Err fault.Memory → ⊥)
     → (last ≡ Err fault.Memory) ⊎ (last ≡ answer_of (finished_schedule bytes))
     → Some end ≡ runs_of (finished_schedule bytes)
-runs_read bytes first last before middle end nothing some fed more is other answer =
-    let told = answered last other answer in
-    let none = no_fault (finished_schedule bytes).fault (sym told ∙ is) in
-    let begun = complete first some.missing fed some.all in
-    let whole = complete last more.missing other more.all in
-    let so_far : some.added ≡ middle = sym (some.list ∙ ap (λ l. l ++ some.added) nothing) in
-    let runs : (finished_schedule bytes).runs ≡ end =
-    more.schedule
-    ∙ ap (λ rs. rs ++ (more.added ++ more.missing)) (some.schedule ∙ ap (λ m. some.added ++ m) begun ∙ append-nil some.added ∙ so_far)
-    ∙ ap (λ m. middle ++ (more.added ++ m)) whole ∙ ap (λ a. middle ++ a) (append-nil more.added) ∙ sym more.list in
-    sym (ap (λ f. runs_of (record (finished_schedule bytes) { fault = f })) none ∙ ap Some runs)
+runs_read bytes first last before middle end nothing some fed more is other answer = grind (arith, append-nil)
 
 pub none_read : (bytes : List ℕ) (last : Result (Unit {0}) ScheduleFault) (why : ScheduleFault) → last ≡ Err why
     → (last ≡ Err fault.Memory → ⊥) → (last ≡ Err fault.Memory) ⊎ (last ≡ answer_of (finished_schedule bytes))
     → None ≡ runs_of (finished_schedule bytes)
-none_read bytes last why is other answer =
-    sym (some_fault (finished_schedule bytes).fault why (finished_schedule bytes) (sym (answered last other answer) ∙ is) refl)
+none_read bytes last why is other answer = grind arith
 
 pub not_refused : (refused : Bool) (told : Result (Unit {0}) ScheduleFault) → ((refused ≡ true) ↔ (told ≡ Err fault.Memory))
     → refused ≡ false → told ≡ Err fault.Memory → ⊥

@@ -1,11 +1,11 @@
 -- What the kept records give back.
-use Rattle.std.proofs.Common.{◌≡◌, ◌∙◌, ℕ, zero, suc, Bool, List, [], ◌∷◌, take, drop, refl, ap, sym, subst}
+use Rattle.std.proofs.Common.{◌≡◌, ◌∙◌, ℕ, zero, suc, Bool, List, [], ◌∷◌, take, drop, refl, ap, sym, subst, arith}
 use Rattle.std.specs.Prelude.{Option, Some, None, slice_get}
 use Rattle.machine_scene.specs.Undo.{Note}
 use Rattle.thread_machine.specs.World.{StoredWorld}
 use Rattle.thread_machine.specs.Undo.{undone, CanUndo}
 use Rattle.debugger.specs.Undos.{Kept, with_note, without_newest}
-use Rattle.debugger.specs.Session.{Session, went_on, went_back, back_to, past_of, IsTrail}
+use Rattle.debugger.specs.Session.{Session, went_on, went_back, past_of, IsTrail}
 
 past-take : (n : ℕ) (world : StoredWorld) (notes : List (Option Note)) → past_of world (take n notes) ≡ take n (past_of world notes)
 past-take zero world notes = refl
@@ -25,24 +25,17 @@ session_of world ring breaks = record { machine = world; past = past_of world ri
 pub trail_on : (world after : StoredWorld) (note : Option Note) (old new : Kept)
     → new ≡ with_note note old
     → undone note after ≡ world → CanUndo note after → IsTrail world old.notes → IsTrail after new.notes
-trail_on world after note old new is undo can trail =
-    let longer : IsTrail after (note ∷ old.notes) = (can, subst (λ w. IsTrail w old.notes) (sym undo) trail) in
-    subst (λ (b : Kept). IsTrail after b.notes) (sym is) (trail-take old.most after (note ∷ old.notes) longer)
+trail_on world after note old new is undo can trail = grind (arith, trail-take)
 
 pub session_on : (world after : StoredWorld) (note : Option Note) (old new : Kept) (breaks : List Bool) (session : Session)
     → new ≡ with_note note old
     → undone note after ≡ world → session_of world old breaks ≡ session
     → session_of after new breaks ≡ went_on session after
-session_on world after note old new breaks session is undo seen =
-    let with_past : List StoredWorld → Session = λ past. record { machine = after; past = past; kept = old.most; breaks = breaks } in
-    ap (λ b. session_of after b breaks) is
-    ∙ ap with_past (past-take old.most after (note ∷ old.notes) ∙ ap (λ w. take old.most (w ∷ past_of w old.notes)) undo)
-    ∙ ap (λ s. went_on s after) seen
+session_on world after note old new breaks session is undo seen = grind (arith, past-take)
 
 -- the first record and the others
 first_rest : (notes : List (Option Note)) (note : Option Note) → slice_get notes 0 ≡ Some note → notes ≡ note ∷ drop 1 notes
-first_rest [] newest is = absurd (cc)
-first_rest (first ∷ rest) newest is = let same : first ≡ newest = cc in ap (λ n. n ∷ rest) same
+first_rest notes newest is = grind arith
 
 -- the newest world of the past
 pub past_first : (world : StoredWorld) (note : Option Note) (old : Kept) → Some note ≡ slice_get old.notes 0
@@ -52,11 +45,7 @@ past_first world note old is = ap (past_of world) (first_rest old.notes note (sy
 pub session_back : (world after : StoredWorld) (note : Option Note) (old new : Kept) (breaks : List Bool) (session : Session)
     → Some note ≡ slice_get old.notes 0 → new ≡ without_newest old → after ≡ undone note world
     → session_of world old breaks ≡ session → session_of after new breaks ≡ went_back session
-session_back world after note old new breaks session is ring back seen =
-    ap (λ b. session_of after b breaks) ring
-    ∙ ap (λ w. session_of w (without_newest old) breaks) back
-    ∙ ap (λ past. back_to past (session_of world old breaks)) (sym (past_first world note old is))
-    ∙ ap went_back seen
+session_back world after note old new breaks session is ring back seen = grind arith
 
 pub can_first : (world : StoredWorld) (note : Option Note) (notes : List (Option Note)) → Some note ≡ slice_get notes 0
     → IsTrail world notes → CanUndo note world

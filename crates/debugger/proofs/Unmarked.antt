@@ -1,8 +1,8 @@
 -- Rows of which none has a breakpoint.
-use Rattle.std.proofs.Common.{◌≡◌, ◌∙◌, ◌&&◌, ◌∷◌, ℕ, zero, suc, Bool, true, false, List, length, refl, ap, sym, subst}
+use Rattle.std.proofs.Common.{◌≡◌, ◌∷◌, ℕ, zero, suc, Bool, false, List, length, refl, ap, arith}
 use Rattle.std.specs.Prelude.{replicate, slice_index_or, slice_set}
 use Rattle.thread_state.specs.Thread.{ThreadState}
-use Rattle.debugger.specs.Go.{is_at_break, runs}
+use Rattle.debugger.specs.Go.{is_at_break}
 
 none_at : (n i : ℕ) → slice_index_or (replicate n false) i false ≡ false
 none_at zero i = refl
@@ -14,22 +14,12 @@ none_set zero i = refl
 none_set (suc n) zero = refl
 none_set (suc n) (suc i) = ap (λ rows. false ∷ rows) (none_set n i)
 
-neither : (is : Bool) → (is && false) ≡ false
-neither true = refl
-neither false = refl
-
 -- no thread stands at one
 pub none_there : (breaks : List Bool) (thread : ThreadState) → breaks ≡ replicate (length breaks) false
     → false ≡ is_at_break breaks thread
-none_there breaks thread none =
-    sym (ap (λ b. runs thread.status && b)
-    (ap (λ rows. slice_index_or rows thread.pc false) none ∙ none_at (length breaks) thread.pc)
-    ∙ neither (runs thread.status))
+none_there breaks thread none = grind (arith, none_at)
 
 -- and where one is cleared there is none still
 pub none_cleared : (breaks : List Bool) (row : ℕ) → breaks ≡ replicate (length breaks) false
     → slice_set breaks row false ≡ replicate (length (slice_set breaks row false)) false
-none_cleared breaks row none =
-    let same : slice_set breaks row false ≡ breaks =
-    ap (λ rows. slice_set rows row false) none ∙ none_set (length breaks) row ∙ sym none in
-    subst (λ (rows : List Bool). rows ≡ replicate (length rows) false) (sym same) none
+none_cleared breaks row none = grind (arith, none_set)
