@@ -16,8 +16,7 @@ some_fault fault why is = grind arith
 -- nothing is missing
 complete : (result : Result (Unit {0}) ScheduleFault) (missing : List Run) → (result ≡ Err fault.Memory → ⊥)
     → (result ≡ Err fault.Memory) ⊎ (missing ≡ []) → missing ≡ []
-complete result missing other (inl is) = absurd (other is)
-complete result missing other (inr none) = none
+complete result missing other given = grind arith
 
 pub answered : {A : Type 0} (result : Result (Unit {0}) ScheduleFault) → (result ≡ Err fault.Memory → ⊥)
     → (result ≡ Err fault.Memory) ⊎ A → A
@@ -38,8 +37,7 @@ runs_read bytes first last before middle end nothing some fed more is answer = s
 pub fault_read : (bytes : List ℕ) (last : Result (Unit {0}) ScheduleFault) (why : ScheduleFault) → last ≡ Err why
     → (last ≡ Err fault.Memory) ⊎ (last ≡ answer_of (finished_schedule bytes))
     → (why ≡ fault.Memory) ⊎ ((finished_schedule bytes).fault ≡ Some why)
-fault_read bytes last why is (inl memory) = inl (cc (sym is ∙ memory))
-fault_read bytes last why is (inr answer) = inr (some_fault (finished_schedule bytes).fault why (sym answer ∙ is))
+fault_read bytes last why is given = grind arith
 
 pub not_refused : (refused : Bool) (told : Result (Unit {0}) ScheduleFault) → ((refused ≡ true) ↔ (told ≡ Err fault.Memory))
     → refused ≡ false → told ≡ Err fault.Memory → ⊥

@@ -40,11 +40,7 @@ piece_with-inside p at part more inside = grind arith
 
 last_from-inside : (finished : Bool) (p : Place) (at : ℕ) (part : List ℕ) → IsInside p
     → last_from finished p at part ≡ last_by finished (piece_from p at part)
-last_from-inside finished place.Between at part inside = absurd inside
-last_from-inside true (place.Thread expiry digits number) at part inside = refl
-last_from-inside false (place.Thread expiry digits number) at part inside = refl
-last_from-inside true (place.Times choice digits number) at part inside = refl
-last_from-inside false (place.Times choice digits number) at part inside = refl
+last_from-inside finished p at part inside = grind arith
 
 -- a byte that is no blank goes to the first piece
 plain-pieces : (finished : Bool) (p q : Place) (at b : ℕ) (pieces : List (List ℕ)) → IsInside q
@@ -106,8 +102,7 @@ finished-end p at = grind arith
 -- runs before runs
 pub with_runs-append : (first second : List Run) (schedule : Schedule)
     → with_runs first (with_runs second schedule) ≡ with_runs (first ++ second) schedule
-with_runs-append first second schedule =
-    ap (λ rs. record { runs = rs; fault = schedule.fault }) (sym (append_assoc first second schedule.runs))
+with_runs-append first second schedule = grind (arith, append_assoc)
 
 -- nothing was added
 pub takes-plain : {X I : Type 0} (result : Result X ScheduleFault) (runs : List Run) (from : I → Schedule) (left : I → X → Schedule)
@@ -174,23 +169,7 @@ err_memory f is = ap Err is
 pub adds-by : (shorter longer : Schedule) (result : Result (Unit {0}) ScheduleFault) (before after added : List Run) (rest : Schedule)
     → after ≡ before ++ added → longer ≡ with_runs (shorter.runs ++ added) rest → IsLeft result (λ none. no_runs) rest
     → Adds result shorter longer before after
-adds-by shorter longer (Ok none) before after added rest list is left = record {
-  added = added;
-  missing = rest.runs;
-  list = list;
-  schedule = ap (λ (s : Schedule). s.runs) is ∙ append_assoc shorter.runs added rest.runs;
-  all = inr (ap (λ (s : Schedule). s.runs) left);
-}
-adds-by shorter longer (Err f) before after added rest list is left = record {
-  added = added;
-  missing = rest.runs;
-  list = list;
-  schedule = ap (λ (s : Schedule). s.runs) is ∙ append_assoc shorter.runs added rest.runs;
-  all = elim left as (λ _. (◌≡◌ {A = Result (Unit {0}) ScheduleFault} (Err f) (Err fault.Memory)) ⊎ (rest.runs ≡ [])) [
-    | inl memory ↦ inl (err_memory f memory)
-    | inr is_faulty ↦ inr (ap (λ (s : Schedule). s.runs) is_faulty)
-  ];
-}
+adds-by shorter longer result before after added rest list is left = grind (arith, append_assoc, err_memory)
 
 -- and its answer
 pub answers-by : (longer : Schedule) (result : Result (Unit {0}) ScheduleFault) (runs : List Run) (rest : Schedule)
@@ -205,11 +184,7 @@ told : {X : Type 0} (old : Progress) (bytes piece : List ℕ) (result : Result X
     → (takes : Takes result before after from left) (finished : Bool) (rest : List ℕ)
     → schedule_of finished ((bytes ++ piece) ++ rest)
     ≡ with_runs ((open_schedule bytes).runs ++ takes.added) (takes.schedules (finished, rest)).0
-told old bytes piece result before after from left has same takes finished rest =
-    let t = takes.schedules (finished, rest) in
-    let given = (open_schedule bytes).runs in
-    ap (schedule_of finished) (append_assoc bytes piece rest) ∙ has.rest finished (piece ++ rest)
-    ∙ ap (with_runs given) (same finished rest ∙ t.1.0) ∙ with_runs-append given takes.added t.0
+told old bytes piece result before after from left has same takes finished rest = grind (arith, append_assoc, with_runs-append)
 
 told-open : {X : Type 0} (old : Progress) (bytes piece : List ℕ) (result : Result X ScheduleFault) (before after : List Run)
     (from : Bool × List ℕ → Schedule) (left : Bool × List ℕ → X → Schedule) → HasRead old bytes
@@ -333,14 +308,11 @@ fed-stream old bytes piece (Err (fault.Repeat n)) before after has none place ta
 -- a fault stays
 fault_stays : (old : Progress) (bytes piece rest : List ℕ) (f : ScheduleFault) (finished : Bool) → HasRead old bytes → old.fault ≡ Some f
     → schedule_of finished ((bytes ++ piece) ++ rest) ≡ with_runs (open_schedule bytes).runs (faulty f)
-fault_stays old bytes piece rest f finished has is =
-    ap (schedule_of finished) (append_assoc bytes piece rest) ∙ has.rest finished (piece ++ rest)
-    ∙ ap (λ g. with_runs (open_schedule bytes).runs (rest_by_fault g (schedule_from finished old.place old.read (piece ++ rest)))) is
+fault_stays old bytes piece rest f finished has is = grind (arith, append_assoc)
 
 fault_open : (old : Progress) (bytes piece : List ℕ) (f : ScheduleFault) → HasRead old bytes → old.fault ≡ Some f
     → open_schedule (bytes ++ piece) ≡ with_runs (open_schedule bytes).runs (faulty f)
-fault_open old bytes piece f has is =
-    ap open_schedule (sym (append-nil (bytes ++ piece))) ∙ fault_stays old bytes piece [] f false has is
+fault_open old bytes piece f has is = grind arith
 
 same_runs : (runs : List Run) (schedule : Schedule) → with_runs runs schedule ≡ with_runs (runs ++ []) schedule
 same_runs runs schedule = ap (λ rs. with_runs rs schedule) (sym (append-nil runs))
