@@ -1,7 +1,6 @@
 -- A record gets one choice more, and is read as its choices.
 use Rattle.std.proofs.Common.{suc, ◌≡◌, ◌+◌, ◌*◌, ◌/◌, ◌%◌, ◌<◌, ◌≤◌, ℕ, List, [], ◌∷◌, ◌++◌, length, refl, ap, arith, append_assoc, length-append, rules}
 use Rattle.std.specs.Prelude.{All, None}
-use Rattle.std.specs.Fmt.{decimal}
 use Rattle.std.proofs.lemmas.Fmt.{decimal_digit, decimal_step, length-decimal-le}
 use Rattle.std.proofs.lemmas.List.{append-nil}
 use Rattle.std.proofs.lemmas.List.Elements.{All-cons, All-nil}
@@ -13,22 +12,15 @@ use Rattle.schedule_reader.specs.Record.{IsNamed, once_each, record_text}
 use Rattle.schedule_reader.proofs.Runs.{spelled}
 use Rattle.schedule_reader.proofs.Tokens.{text-read}
 
--- the digits of a thread's number
-two_digits : (n : ℕ) → 10 ≤ n → n < 100 → decimal n ≡ (48 + n / 10) ∷ (48 + n % 10) ∷ []
-two_digits n large small = grind (arith, decimal_step, decimal_digit)
-
 -- a choice by itself as a token
-token-once : (choice : Choice) → token_of (run_of choice 1) ≡ letter_of choice.expiry ∷ decimal choice.thread
-token-once choice = ap (λ ds. letter_of choice.expiry ∷ ds) (append-nil (decimal choice.thread))
-
 pub token-long : (choice : Choice) (old : List ℕ) → 10 ≤ choice.thread → choice.thread ≤ 63
     → ((old ++ letter_of choice.expiry ∷ []) ++ (48 + choice.thread / 10) ∷ []) ++ (48 + choice.thread % 10) ∷ []
     ≡ old ++ token_of (run_of choice 1)
-token-long choice old large small = grind (arith, append_assoc, two_digits, token-once)
+token-long choice old large small = grind (arith, append_assoc, decimal_step, decimal_digit)
 
 pub token-short : (choice : Choice) (old : List ℕ) → choice.thread < 10
     → (old ++ letter_of choice.expiry ∷ []) ++ (48 + choice.thread % 10) ∷ [] ≡ old ++ token_of (run_of choice 1)
-token-short choice old small = grind (arith, append_assoc, decimal_digit, token-once)
+token-short choice old small = grind (arith, append_assoc, decimal_digit)
 
 -- one run more
 spaced-more : (runs : List Run) (run : Run) → spaced_tokens (runs ++ run ∷ []) ≡ spaced_tokens runs ++ 32 ∷ token_of run
@@ -67,7 +59,7 @@ record-read choices all = text-read (once_each choices) (once-spelled choices al
 
 -- it has at most four bytes for each of them
 token-few : (choice : Choice) → choice.thread ≤ 63 → length (token_of (run_of choice 1)) ≤ 3
-token-few choice small = search (rules, length-decimal-le, token-once)
+token-few choice small = search (rules, length-decimal-le)
 
 spaced-few : (choices : List Choice) → All IsNamed choices → length (spaced_tokens (once_each choices)) ≤ 4 * length choices
 spaced-few [] all = omega arith

@@ -12,10 +12,10 @@ use Rattle.schedule_reader.specs.declared.run.Run.{Run}
 use Rattle.schedule_reader.specs.declared.fault.ScheduleFault.{ScheduleFault}
 use Rattle.schedule_reader.specs.declared.place.Place.{Place}
 use Rattle.schedule_reader.specs.declared.place.Place.TheVariants as place
-use Rattle.schedule_reader.specs.Schedule.{Token, IsRun, is_blank, schedule_with, choice_of, run_of, digits_of, reading_of}
-use Rattle.schedule_reader.specs.Places.{BeginsWithTurn, Takes, pieces_from, schedule_from, with_runs}
+use Rattle.schedule_reader.specs.Schedule.{Token, IsRun, is_blank, choice_of, run_of, digits_of, reading_of}
+use Rattle.schedule_reader.specs.Places.{BeginsWithTurn, Takes, schedule_from, with_runs}
 use Rattle.schedule_reader.proofs.Numbers.{digit_value-digit, number_by-some}
-use Rattle.schedule_reader.proofs.Streams.{between-pieces, takes-plain, with_runs-append}
+use Rattle.schedule_reader.proofs.Streams.{takes-plain, with_runs-append}
 use Rattle.schedule_reader.proofs.Tokens.{above-blanks, above-digits, digits-then, not_zero}
 
 -- the letter and one or two digits are a token
@@ -26,13 +26,6 @@ digits-read at thread ds all some few value small =
     let start = at + 1 in
     let read : digits_of ds ≡ ds = ap digits_of (sym (append-nil ds)) ∙ digits-then ds [] all refl in
     grind (arith, drop_all, number_by-some, not_zero)
-
--- pieces of which the first is whole
-first-piece : (finished : Bool) (at : ℕ) (piece : List ℕ) (run : Run) (pieces : List (List ℕ)) → 1 ≤ length piece → 0 < length pieces
-    → reading_of at piece ≡ Token run
-    → pieces_from finished place.Between at (piece ∷ pieces)
-    ≡ schedule_with (Ok run) (pieces_from finished place.Between (at + length piece + 1) pieces)
-first-piece finished at piece run pieces some more read = grind (arith, between-pieces)
 
 -- what a test of three or four bytes finds
 digit_below : (b : ℕ) → is_ascii_digit b ≡ true → digit_value b < 10
@@ -84,7 +77,7 @@ turn-schedule finished at thread count bytes rest begins =
     let run = run_of (choice_of false thread) 1 in
     let end : at + length piece + 1 ≡ at + count = omega (arith, begins.counted) in
     let some : 0 < length (slice_split is_blank after) = omega (arith, length-slice_split is_blank after) in
-    grind (arith, digits-read, above-blanks, above-digits, append_assoc, slice_split_at, first-piece)
+    grind (arith, digits-read, above-blanks, above-digits, append_assoc, slice_split_at)
 
 -- no turn
 pub takes-nothing : (at n : ℕ) (bytes : List ℕ) (runs : List Run) → n ≡ 0
