@@ -1,6 +1,6 @@
 -- Numbers whose digits come one by one.
-use Rattle.std.proofs.Common.{◌≡◌, ◌∙◌, ◌⊎◌, ◌+◌, ◌-◌, ◌*◌, ◌<◌, ◌≤◌, cond, ℕ, Bool, true, List, [], ◌∷◌, length, ap, arith}
-use Rattle.std.specs.Prelude.{Some, None}
+use Rattle.std.proofs.Common.{◌≡◌, ◌∙◌, ◌⊎◌, ◌+◌, ◌-◌, ◌*◌, ◌<◌, ◌≤◌, cond, ℕ, Bool, true, List, [], ◌∷◌, ap, arith}
+use Rattle.std.specs.Prelude.{Some}
 use Rattle.std.specs.Char.{is_ascii_digit, digit_value}
 use Rattle.std.specs.Str.Parse.{digits_value_after}
 use Rattle.std.proofs.lemmas.List.Sums.{take_while-cons}
@@ -23,9 +23,6 @@ value-ge n [] = omega arith
 value-ge n (d ∷ ds) = omega (arith, value-ge (n * 10 + digit_value d) ds)
 
 -- too many digits or too large a number
-number_by-none : (count value most_digits most : ℕ) → (most_digits < count) ⊎ (most < value) → number_by count value most_digits most ≡ None
-number_by-none count value most_digits most above = grind (arith, nat_tests)
-
 pub number_by-some : (count value most_digits most : ℕ) → count ≤ most_digits → value ≤ most → number_by count value most_digits most ≡ Some value
 number_by-some count value most_digits most few small = grind (arith, nat_tests)
 
@@ -39,18 +36,13 @@ pub times-digit : (at : ℕ) (choice : Choice) (digits number b : ℕ) (part : L
 times-digit at choice digits number b part digit = grind (arith, digits_of-digit, digit_value-digit)
 
 -- with it there are too many, or the number is too large, whatever follows
-too_far : (digits number most_digits most b : ℕ) (part : List ℕ) → (digits ≡ most_digits) ⊎ (most < number * 10 + (b - 48))
-    → let ds = digits_of part in
-    number_by (digits + 1 + length ds) (digits_value_after 10 (number * 10 + (b - 48)) ds) most_digits most ≡ None
-too_far digits number most_digits most b part above = grind (arith, value-ge, number_by-none)
-
 pub thread-too_far : (at : ℕ) (expiry : Bool) (digits number b : ℕ) (part : List ℕ) → is_ascii_digit b ≡ true → (digits ≡ 2) ⊎ (63 < number * 10 + (b - 48))
     → thread_from at expiry digits number (b ∷ part) ≡ Faulty (fault.Number (at - digits))
-thread-too_far at expiry digits number b part digit above = grind (arith, thread-digit, too_far)
+thread-too_far at expiry digits number b part digit above = grind (arith, thread-digit, value-ge)
 
 pub times-too_far : (at : ℕ) (choice : Choice) (digits number b : ℕ) (part : List ℕ) → is_ascii_digit b ≡ true → (digits ≡ 10) ⊎ (1000000000 < number * 10 + (b - 48))
     → times_from at choice digits number (b ∷ part) ≡ Faulty (fault.Repeat (at - digits))
-times-too_far at choice digits number b part digit above = grind (arith, times-digit, too_far)
+times-too_far at choice digits number b part digit above = grind (arith, times-digit, value-ge)
 
 -- nothing comes next
 pub thread-end : (at : ℕ) (expiry : Bool) (digits number : ℕ) → digits ≤ 2 → number ≤ 63

@@ -1,5 +1,5 @@
 -- The runs that a reader makes of a whole schedule.
-use Rattle.std.proofs.Common.{◌≡◌, ◌∙◌, List, [], Option, Some, None, Result, Ok, Err, sym, ℕ, Bool, true, false, ◌↔◌, arith, rules}
+use Rattle.std.proofs.Common.{◌≡◌, List, [], Option, Some, None, Result, Ok, Err, ℕ, Bool, true, false, ◌↔◌, arith, rules}
 use Rattle.std.proofs.Common.{◌⊎◌, inl, inr}
 use Rattle.schedule_reader.specs.declared.run.Run.{Run}
 use Rattle.schedule_reader.specs.declared.fault.ScheduleFault.{ScheduleFault}
@@ -7,39 +7,27 @@ use Rattle.schedule_reader.specs.declared.fault.ScheduleFault.TheVariants as fau
 use Rattle.schedule_reader.specs.Schedule.{open_schedule, finished_schedule}
 use Rattle.schedule_reader.specs.Reading.{Adds, answer_of, answer_by}
 
-no_fault : (fault : Option ScheduleFault) → answer_by fault ≡ Ok tt → fault ≡ None
-no_fault fault is = grind arith
-
 some_fault : (fault : Option ScheduleFault) (why : ScheduleFault) → answer_by fault ≡ Err why → fault ≡ Some why
 some_fault fault why is = grind arith
 
 -- nothing is missing
-complete : (result : Result (Unit {0}) ScheduleFault) (missing : List Run) → (result ≡ Err fault.Memory → ⊥)
-    → (result ≡ Err fault.Memory) ⊎ (missing ≡ []) → missing ≡ []
-complete result missing other (inl is) = absurd (other is)
-complete result missing other (inr none) = none
-
 pub answered : {A : Type 0} (result : Result (Unit {0}) ScheduleFault) → (result ≡ Err fault.Memory → ⊥)
     → (result ≡ Err fault.Memory) ⊎ A → A
 answered result other (inl is) = absurd (other is)
 answered result other (inr answer) = answer
 
 -- what isn't that memory was refused
-not_memory : (result : Result (Unit {0}) ScheduleFault) → result ≡ Ok tt → result ≡ Err fault.Memory → ⊥
-not_memory result is memory = absurd (cc (sym is ∙ memory))
-
 pub runs_read : (bytes : List ℕ) (first last : Result (Unit {0}) ScheduleFault) (before middle end : List Run) → before ≡ []
     → Adds first (open_schedule []) (open_schedule bytes) before middle → (first ≡ Err fault.Memory → ⊥)
     → Adds last (open_schedule bytes) (finished_schedule bytes) middle end → last ≡ Ok tt
     → (last ≡ Err fault.Memory) ⊎ (last ≡ answer_of (finished_schedule bytes))
     → finished_schedule bytes ≡ record { runs = end; fault = None }
-runs_read bytes first last before middle end nothing some fed more is answer = search (rules, not_memory, no_fault, answered, complete)
+runs_read bytes first last before middle end nothing some fed more is answer = search rules
 
 pub fault_read : (bytes : List ℕ) (last : Result (Unit {0}) ScheduleFault) (why : ScheduleFault) → last ≡ Err why
     → (last ≡ Err fault.Memory) ⊎ (last ≡ answer_of (finished_schedule bytes))
     → (why ≡ fault.Memory) ⊎ ((finished_schedule bytes).fault ≡ Some why)
-fault_read bytes last why is (inl memory) = inl (cc (sym is ∙ memory))
-fault_read bytes last why is (inr answer) = inr (some_fault (finished_schedule bytes).fault why (sym answer ∙ is))
+fault_read bytes last why is given = grind arith
 
 pub not_refused : (refused : Bool) (told : Result (Unit {0}) ScheduleFault) → ((refused ≡ true) ↔ (told ≡ Err fault.Memory))
     → refused ≡ false → told ≡ Err fault.Memory → ⊥

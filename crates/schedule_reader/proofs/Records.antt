@@ -1,7 +1,6 @@
 -- A record gets one choice more, and is read as its choices.
-use Rattle.std.proofs.Common.{suc, ◌≡◌, ◌∙◌, ◌+◌, ◌*◌, ◌/◌, ◌%◌, ◌<◌, ◌≤◌, ℕ, List, [], ◌∷◌, ◌++◌, length, refl, ap, sym, arith, append_assoc, length-append, rules}
+use Rattle.std.proofs.Common.{suc, ◌≡◌, ◌+◌, ◌*◌, ◌/◌, ◌%◌, ◌<◌, ◌≤◌, ℕ, List, [], ◌∷◌, ◌++◌, length, refl, ap, arith, append_assoc, length-append, rules}
 use Rattle.std.specs.Prelude.{All, None}
-use Rattle.std.specs.Fmt.{decimal}
 use Rattle.std.proofs.lemmas.Fmt.{decimal_digit, decimal_step, length-decimal-le}
 use Rattle.std.proofs.lemmas.List.{append-nil}
 use Rattle.std.proofs.lemmas.List.Elements.{All-cons, All-nil}
@@ -13,41 +12,20 @@ use Rattle.schedule_reader.specs.Record.{IsNamed, once_each, record_text}
 use Rattle.schedule_reader.proofs.Runs.{spelled}
 use Rattle.schedule_reader.proofs.Tokens.{text-read}
 
--- the digits of a thread's number
-two_digits : (n : ℕ) → 10 ≤ n → n < 100 → decimal n ≡ (48 + n / 10) ∷ (48 + n % 10) ∷ []
-two_digits n large small =
-    decimal_step n large (omega (arith, small)) ∙ ap (λ xs. xs ++ (48 + n % 10) ∷ []) (decimal_digit (n / 10) (omega (arith, small)))
-
 -- a choice by itself as a token
-token-once : (choice : Choice) → token_of (run_of choice 1) ≡ letter_of choice.expiry ∷ decimal choice.thread
-token-once choice = ap (λ ds. letter_of choice.expiry ∷ ds) (append-nil (decimal choice.thread))
-
 pub token-long : (choice : Choice) (old : List ℕ) → 10 ≤ choice.thread → choice.thread ≤ 63
     → ((old ++ letter_of choice.expiry ∷ []) ++ (48 + choice.thread / 10) ∷ []) ++ (48 + choice.thread % 10) ∷ []
     ≡ old ++ token_of (run_of choice 1)
-token-long choice old large small =
-    let letter = letter_of choice.expiry in
-    let tens = 48 + choice.thread / 10 in
-    let ones = 48 + choice.thread % 10 in
-    append_assoc (old ++ letter ∷ []) (tens ∷ []) (ones ∷ []) ∙ append_assoc old (letter ∷ []) (tens ∷ ones ∷ [])
-    ∙ ap (λ ds. old ++ letter ∷ ds) (sym (two_digits choice.thread large (omega (arith, small))))
-    ∙ ap (λ t. old ++ t) (sym (token-once choice))
+token-long choice old large small = grind (arith, append_assoc, decimal_step, decimal_digit)
 
 pub token-short : (choice : Choice) (old : List ℕ) → choice.thread < 10
     → (old ++ letter_of choice.expiry ∷ []) ++ (48 + choice.thread % 10) ∷ [] ≡ old ++ token_of (run_of choice 1)
-token-short choice old small =
-    let letter = letter_of choice.expiry in
-    let itself : choice.thread % 10 ≡ choice.thread = omega (arith, small) in
-    append_assoc old (letter ∷ []) ((48 + choice.thread % 10) ∷ []) ∙ ap (λ n. old ++ letter ∷ (48 + n) ∷ []) itself
-    ∙ ap (λ ds. old ++ letter ∷ ds) (sym (decimal_digit choice.thread small))
-    ∙ ap (λ t. old ++ t) (sym (token-once choice))
+token-short choice old small = grind (arith, append_assoc, decimal_digit)
 
 -- one run more
 spaced-more : (runs : List Run) (run : Run) → spaced_tokens (runs ++ run ∷ []) ≡ spaced_tokens runs ++ 32 ∷ token_of run
 spaced-more [] run = ap (λ t. 32 ∷ t) (append-nil (token_of run))
-spaced-more (next ∷ runs) run =
-    ap (λ ts. 32 ∷ (token_of next ++ ts)) (spaced-more runs run)
-    ∙ ap (λ ts. 32 ∷ ts) (sym (append_assoc (token_of next) (spaced_tokens runs) (32 ∷ token_of run)))
+spaced-more (next ∷ runs) run = grind (arith, append_assoc, spaced-more runs run)
 
 once-more : (choices : List Choice) (choice : Choice) → once_each (choices ++ choice ∷ []) ≡ once_each choices ++ run_of choice 1 ∷ []
 once-more [] choice = refl
@@ -62,15 +40,7 @@ record-first (first ∷ choices) choice old new is none more = grind arith
 -- and each further one
 pub record-more : (choices : List Choice) (choice : Choice) (old new : List ℕ) → old ≡ record_text choices → 0 < length old
     → new ≡ (old ++ 32 ∷ []) ++ token_of (run_of choice 1) → new ≡ record_text (choices ++ choice ∷ [])
-record-more [] choice old new is some more = grind arith
-record-more (first ∷ choices) choice old new is some more =
-    let run = run_of choice 1 in
-    let token = token_of (run_of first 1) in
-    more ∙ ap (λ t. (t ++ 32 ∷ []) ++ token_of run) is
-    ∙ append_assoc (record_text (first ∷ choices)) (32 ∷ []) (token_of run)
-    ∙ append_assoc token (spaced_tokens (once_each choices)) (32 ∷ token_of run)
-    ∙ ap (λ ts. token ++ ts) (sym (spaced-more (once_each choices) run))
-    ∙ ap (λ runs. token ++ spaced_tokens runs) (sym (once-more choices choice))
+record-more choices choice old new is some more = grind (arith, append_assoc, spaced-more, once-more)
 
 -- a record is read as its choices
 pub choices-once : (choices : List Choice) → choices_of (once_each choices) ≡ choices
@@ -89,7 +59,7 @@ record-read choices all = text-read (once_each choices) (once-spelled choices al
 
 -- it has at most four bytes for each of them
 token-few : (choice : Choice) → choice.thread ≤ 63 → length (token_of (run_of choice 1)) ≤ 3
-token-few choice small = search (rules, length-decimal-le, token-once)
+token-few choice small = search (rules, length-decimal-le)
 
 spaced-few : (choices : List Choice) → All IsNamed choices → length (spaced_tokens (once_each choices)) ≤ 4 * length choices
 spaced-few [] all = omega arith

@@ -1,5 +1,5 @@
 -- Runs that get one choice more.
-use Rattle.std.proofs.Common.{◌≡◌, ◌∙◌, ◌+◌, ◌<◌, ◌≤◌, ℕ, zero, suc, List, [], ◌∷◌, ◌++◌, length, arith, sym, subst, ap, append_assoc}
+use Rattle.std.proofs.Common.{◌≡◌, ◌∙◌, ◌+◌, ◌<◌, ◌≤◌, ℕ, zero, suc, List, [], ◌∷◌, ◌++◌, length, arith, sym, subst, append_assoc}
 use Rattle.std.proofs.lemmas.List.Elements.{All-append, All-cons, All-nil}
 use Rattle.std.specs.Prelude.{All, replicate, slice_index_or, slice_set}
 use Rattle.std.proofs.lemmas.List.{append-nil, replicate-append-replicate}
@@ -18,9 +18,7 @@ again [] n d choice last is = absurd (omega (arith, last))
 again (run ∷ []) zero d choice last is = grind (arith, append-nil, once_more)
 again (run ∷ []) (suc n) d choice last is = absurd (omega (arith, last))
 again (run ∷ next ∷ runs) zero d choice last is = absurd (omega (arith, last))
-again (run ∷ next ∷ runs) (suc n) d choice last is =
-    ap (λ cs. replicate run.times run.choice ++ cs) (again (next ∷ runs) n d choice (omega (arith, last)) is)
-    ∙ sym (append_assoc (replicate run.times run.choice) (choices_of (next ∷ runs)) (choice ∷ []))
+again (run ∷ next ∷ runs) (suc n) d choice last is = grind (arith, append_assoc, again (next ∷ runs) n d choice (omega (arith, last)) is)
 
 -- and the runs stay joined: a run has the choice that it had
 joined_next : (run next : Run) (runs : List Run) (n : ℕ) (d more : Run) → more.choice ≡ (slice_index_or (next ∷ runs) n d).choice

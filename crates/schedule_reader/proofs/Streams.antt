@@ -9,7 +9,7 @@ use Rattle.schedule_reader.specs.declared.fault.ScheduleFault.{ScheduleFault}
 use Rattle.schedule_reader.specs.declared.fault.ScheduleFault.TheVariants as fault
 use Rattle.schedule_reader.specs.declared.place.Place.{Place}
 use Rattle.schedule_reader.specs.declared.place.Place.TheVariants as place
-use Rattle.schedule_reader.specs.Schedule.{Reading, Faulty, Token, Unfinished, Schedule, is_blank, whole, faulty, no_runs, schedule_with, open_schedule_of, schedule_in, schedule_of, open_schedule, finished_schedule}
+use Rattle.schedule_reader.specs.Schedule.{Reading, Token, Unfinished, Schedule, is_blank, whole, faulty, no_runs, schedule_with, open_schedule_of, schedule_in, schedule_of, open_schedule, finished_schedule}
 use Rattle.schedule_reader.specs.Places.{piece_from, piece_with, last_from, pieces_from, schedule_from, with_runs, reading_left, IsInside, IsPlace, IsLeft, Takes, Progress, rest_by_fault, rest_schedule, HasRead}
 use Rattle.schedule_reader.specs.Reading.{Adds, answer_of}
 use Rattle.schedule_reader.proofs.Numbers.{thread-end, times-end}
@@ -33,41 +33,17 @@ last_from-cons false (place.Thread expiry digits number) at b part = refl
 last_from-cons true (place.Times choice digits number) at b part = refl
 last_from-cons false (place.Times choice digits number) at b part = refl
 
--- nor is one of which a place stands inside
-piece_with-inside : (p : Place) (at : ℕ) (part : List ℕ) (more : Schedule) → IsInside p
-    → piece_with p at part more ≡ schedule_with (whole (piece_from p at part)) more
-piece_with-inside p at part more inside = grind arith
-
-last_from-inside : (finished : Bool) (p : Place) (at : ℕ) (part : List ℕ) → IsInside p
-    → last_from finished p at part ≡ last_by finished (piece_from p at part)
-last_from-inside finished place.Between at part inside = absurd inside
-last_from-inside true (place.Thread expiry digits number) at part inside = refl
-last_from-inside false (place.Thread expiry digits number) at part inside = refl
-last_from-inside true (place.Times choice digits number) at part inside = refl
-last_from-inside false (place.Times choice digits number) at part inside = refl
-
 -- a byte that is no blank goes to the first piece
 plain-pieces : (finished : Bool) (p q : Place) (at b : ℕ) (pieces : List (List ℕ)) → IsInside q
     → ((part : List ℕ) → piece_from p at (b ∷ part) ≡ piece_from q (at + 1) part) → 0 < length pieces
     → pieces_from finished p at (onto_first b pieces) ≡ pieces_from finished q (at + 1) pieces
-plain-pieces finished p q at b pieces inside same some = grind (arith, last_from-cons, last_from-inside, piece_with-cons, piece_with-inside)
-
-faulty-pieces : (finished : Bool) (p : Place) (at b : ℕ) (f : ScheduleFault) (pieces : List (List ℕ))
-    → ((part : List ℕ) → piece_from p at (b ∷ part) ≡ Faulty f) → 0 < length pieces
-    → pieces_from finished p at (onto_first b pieces) ≡ faulty f
-faulty-pieces finished p at b f pieces same some = grind (arith, last_from-cons, piece_with-cons)
-
-some_piece : (rest : List ℕ) → 0 < length (slice_split is_blank rest)
-some_piece rest = omega (arith, length-slice_split is_blank rest)
+plain-pieces finished p q at b pieces inside same some = grind (arith, last_from-cons, piece_with-cons)
 
 -- what a byte that is no blank leaves
 pub plain : (finished : Bool) (p : Place) (at b : ℕ) (rest : List ℕ) (result : Result Place ScheduleFault) → is_blank b ≡ false
     → ((part : List ℕ) → piece_from p at (b ∷ part) ≡ reading_left result (at + 1) part) → IfOk result (λ q. IsInside q)
     → IsLeft result (λ q. schedule_from finished q (at + 1) rest) (schedule_from finished p at (b ∷ rest))
-plain finished p at b rest (Ok q) no_blank same inside = grind (arith, slice_split-cons_no, plain-pieces, some_piece)
-plain finished p at b rest (Err f) no_blank same inside = inr
-    (ap (pieces_from finished p at) (slice_split-cons_no is_blank b rest no_blank)
-    ∙ faulty-pieces finished p at b f (slice_split is_blank rest) same (some_piece rest))
+plain finished p at b rest result no_blank same inside = grind (arith, slice_split-cons_no, plain-pieces, length-slice_split, last_from-cons, piece_with-cons)
 
 -- pieces between tokens are those of the definition
 pub between-pieces : (finished : Bool) (at : ℕ) (pieces : List (List ℕ)) → pieces_from finished place.Between at pieces ≡ schedule_in finished at pieces
@@ -80,7 +56,7 @@ blank-pieces finished p at pieces some = grind (arith, between-pieces)
 -- a blank ends the piece
 pub blank : (finished : Bool) (p : Place) (at b : ℕ) (rest : List ℕ) → is_blank b ≡ true
     → schedule_from finished p at (b ∷ rest) ≡ piece_with p at [] (schedule_from finished place.Between (at + 1) rest)
-blank finished p at b rest is = grind (arith, slice_split-cons_yes, blank-pieces, some_piece)
+blank finished p at b rest is = grind (arith, slice_split-cons_yes, blank-pieces, length-slice_split)
 
 -- the whole stream
 pub start : (finished : Bool) (bytes : List ℕ) → schedule_of finished bytes ≡ schedule_from finished place.Between 0 bytes
@@ -106,8 +82,7 @@ finished-end p at = grind arith
 -- runs before runs
 pub with_runs-append : (first second : List Run) (schedule : Schedule)
     → with_runs first (with_runs second schedule) ≡ with_runs (first ++ second) schedule
-with_runs-append first second schedule =
-    ap (λ rs. record { runs = rs; fault = schedule.fault }) (sym (append_assoc first second schedule.runs))
+with_runs-append first second schedule = grind (arith, append_assoc)
 
 -- nothing was added
 pub takes-plain : {X I : Type 0} (result : Result X ScheduleFault) (runs : List Run) (from : I → Schedule) (left : I → X → Schedule)
@@ -174,23 +149,7 @@ err_memory f is = ap Err is
 pub adds-by : (shorter longer : Schedule) (result : Result (Unit {0}) ScheduleFault) (before after added : List Run) (rest : Schedule)
     → after ≡ before ++ added → longer ≡ with_runs (shorter.runs ++ added) rest → IsLeft result (λ none. no_runs) rest
     → Adds result shorter longer before after
-adds-by shorter longer (Ok none) before after added rest list is left = record {
-  added = added;
-  missing = rest.runs;
-  list = list;
-  schedule = ap (λ (s : Schedule). s.runs) is ∙ append_assoc shorter.runs added rest.runs;
-  all = inr (ap (λ (s : Schedule). s.runs) left);
-}
-adds-by shorter longer (Err f) before after added rest list is left = record {
-  added = added;
-  missing = rest.runs;
-  list = list;
-  schedule = ap (λ (s : Schedule). s.runs) is ∙ append_assoc shorter.runs added rest.runs;
-  all = elim left as (λ _. (◌≡◌ {A = Result (Unit {0}) ScheduleFault} (Err f) (Err fault.Memory)) ⊎ (rest.runs ≡ [])) [
-    | inl memory ↦ inl (err_memory f memory)
-    | inr is_faulty ↦ inr (ap (λ (s : Schedule). s.runs) is_faulty)
-  ];
-}
+adds-by shorter longer result before after added rest list is left = grind (arith, append_assoc, err_memory)
 
 -- and its answer
 pub answers-by : (longer : Schedule) (result : Result (Unit {0}) ScheduleFault) (runs : List Run) (rest : Schedule)
@@ -205,11 +164,7 @@ told : {X : Type 0} (old : Progress) (bytes piece : List ℕ) (result : Result X
     → (takes : Takes result before after from left) (finished : Bool) (rest : List ℕ)
     → schedule_of finished ((bytes ++ piece) ++ rest)
     ≡ with_runs ((open_schedule bytes).runs ++ takes.added) (takes.schedules (finished, rest)).0
-told old bytes piece result before after from left has same takes finished rest =
-    let t = takes.schedules (finished, rest) in
-    let given = (open_schedule bytes).runs in
-    ap (schedule_of finished) (append_assoc bytes piece rest) ∙ has.rest finished (piece ++ rest)
-    ∙ ap (with_runs given) (same finished rest ∙ t.1.0) ∙ with_runs-append given takes.added t.0
+told old bytes piece result before after from left has same takes finished rest = grind (arith, append_assoc, with_runs-append)
 
 told-open : {X : Type 0} (old : Progress) (bytes piece : List ℕ) (result : Result X ScheduleFault) (before after : List Run)
     (from : Bool × List ℕ → Schedule) (left : Bool × List ℕ → X → Schedule) → HasRead old bytes
@@ -268,9 +223,6 @@ fed-answer old bytes piece result before after has none place takes =
     (told-open old bytes piece result before after _ _ has (λ finished rest. no_fault old piece finished rest none) takes)
     (end-left result (old.read + length piece) t.0 place t.1.1)
 
-read-sum : (old : Progress) (bytes piece : List ℕ) → old.read ≡ length bytes → old.read + length piece ≡ length (bytes ++ piece)
-read-sum old bytes piece read = omega (arith, read, length-append bytes piece)
-
 -- the place after a piece, or the fault
 abbrev pub progress_after : Progress → ℕ → Result Place ScheduleFault → Progress
 progress_after old n (Ok next) = record { read = old.read + n; place = next; fault = None }
@@ -290,8 +242,7 @@ open-rest old piece result left no_memory place is = grind (arith, open-end, err
 
 read-after : (old : Progress) (bytes piece : List ℕ) (result : Result Place ScheduleFault) → old.read ≡ length bytes
     → (progress_after old (length piece) result).read ≡ length (bytes ++ piece)
-read-after old bytes piece (Ok next) read = read-sum old bytes piece read
-read-after old bytes piece (Err f) read = read-sum old bytes piece read
+read-after old bytes piece result read = grind (arith, length-append)
 
 has-after : (old : Progress) (bytes piece : List ℕ) (result : Result Place ScheduleFault) (before after : List Run) → HasRead old bytes → old.fault ≡ None
     → IfOk result (λ next. IsPlace (old.read + length piece) next)
@@ -333,14 +284,11 @@ fed-stream old bytes piece (Err (fault.Repeat n)) before after has none place ta
 -- a fault stays
 fault_stays : (old : Progress) (bytes piece rest : List ℕ) (f : ScheduleFault) (finished : Bool) → HasRead old bytes → old.fault ≡ Some f
     → schedule_of finished ((bytes ++ piece) ++ rest) ≡ with_runs (open_schedule bytes).runs (faulty f)
-fault_stays old bytes piece rest f finished has is =
-    ap (schedule_of finished) (append_assoc bytes piece rest) ∙ has.rest finished (piece ++ rest)
-    ∙ ap (λ g. with_runs (open_schedule bytes).runs (rest_by_fault g (schedule_from finished old.place old.read (piece ++ rest)))) is
+fault_stays old bytes piece rest f finished has is = grind (arith, append_assoc)
 
 fault_open : (old : Progress) (bytes piece : List ℕ) (f : ScheduleFault) → HasRead old bytes → old.fault ≡ Some f
     → open_schedule (bytes ++ piece) ≡ with_runs (open_schedule bytes).runs (faulty f)
-fault_open old bytes piece f has is =
-    ap open_schedule (sym (append-nil (bytes ++ piece))) ∙ fault_stays old bytes piece [] f false has is
+fault_open old bytes piece f has is = grind arith
 
 same_runs : (runs : List Run) (schedule : Schedule) → with_runs runs schedule ≡ with_runs (runs ++ []) schedule
 same_runs runs schedule = ap (λ rs. with_runs rs schedule) (sym (append-nil runs))

@@ -12,8 +12,8 @@ use Rattle.std.proofs.lemmas.List.Splits.{slice_split_at, slice_split_none, leng
 use Rattle.std.proofs.lemmas.Bool.Decides.{nat_tests}
 use Rattle.thread_machine.specs.declared.choice.Choice.{Choice}
 use Rattle.schedule_reader.specs.declared.run.Run.{Run}
-use Rattle.schedule_reader.specs.Schedule.{Token, IsRun, is_blank, whole, schedule_with, schedule_with_piece, schedule_in, no_runs, finished_schedule, choice_of, run_of, digits_of, reading_of, reading_after_letter, reading_after_star, reading_of_thread, reading_of_count, reading_by_thread, reading_by_times}
-use Rattle.schedule_reader.specs.Places.{thread_by, times_by}
+use Rattle.schedule_reader.specs.Schedule.{Token, IsRun, is_blank, whole, schedule_with, schedule_with_piece, schedule_in, no_runs, finished_schedule, choice_of, digits_of, reading_of, reading_after_letter, reading_after_star, reading_of_count, reading_by_thread, reading_by_times}
+use Rattle.schedule_reader.specs.Places.{times_by}
 use Rattle.schedule_reader.specs.Text.{letter_of, times_text, token_of, spaced_tokens, schedule_text}
 use Rattle.schedule_reader.proofs.Numbers.{digits_of-digit, number_by-some}
 
@@ -35,12 +35,7 @@ thread-read : (at : ℕ) (expiry : Bool) (thread : ℕ) (rest : List ℕ) → th
 thread-read at expiry thread rest small stops =
     let numeral = decimal_is_IsNumeral thread (omega arith) in
     let few = length-decimal-le 2 thread (omega arith) (omega arith) (omega arith) in
-    let part = decimal thread ++ rest in
-    let count = length (decimal thread) in
-    ap (λ ds. thread_by at expiry (length ds) (digits_value_after 10 0 ds) (drop (length ds) part)) (digits-then (decimal thread) rest numeral.0.1 stops)
-    ∙ ap (λ v. thread_by at expiry count v (drop count part)) numeral.1
-    ∙ ap (λ n. reading_of_thread at expiry count (drop count part) n) (number_by-some count thread 2 63 few small)
-    ∙ ap (reading_by_thread at (choice_of expiry thread) count) (drop-before (decimal thread) rest)
+    grind (arith, digits-then, number_by-some, drop-before)
 
 times-read : (at : ℕ) (choice : Choice) (times : ℕ) → times ≤ 1000000000
     → reading_after_star at choice (decimal times) ≡ reading_by_times at choice times (length (decimal times)) []
@@ -58,23 +53,9 @@ times-read at choice times small =
 pub not_zero : (n : ℕ) → 0 < n → (n == 0) ≡ false
 not_zero n some = grind (arith, nat_tests)
 
--- how often was written
-rest-read : (at : ℕ) (choice : Choice) (times count : ℕ) (once : Bool) → (times == 1) ≡ once → 0 < count → 1 ≤ times → times ≤ 1000000000
-    → reading_by_thread at choice count (if once then [] else 42 ∷ decimal times) ≡ Token (run_of choice times)
-rest-read at choice times count true is some least most = grind (arith, nat_tests, not_zero)
-rest-read at choice times count false is some least most = grind (arith, not_zero, decimal_is_IsNumeral, times-read)
-
-stops-read : (times : ℕ) (once : Bool) → digits_of (if once then [] else 42 ∷ decimal times) ≡ []
-stops-read times true = refl
-stops-read times false = refl
-
 -- a token is read as its run
-letter-read : (at : ℕ) (expiry : Bool) (part : List ℕ) → reading_of at (letter_of expiry ∷ part) ≡ reading_after_letter (at + 1) expiry part
-letter-read at true part = refl
-letter-read at false part = refl
-
 token-read : (at : ℕ) (run : Run) → IsRun run → reading_of at (token_of run) ≡ Token run
-token-read at run is = grind (arith, decimal_is_IsNumeral, letter-read, thread-read, stops-read, rest-read)
+token-read at run is = grind (arith, decimal_is_IsNumeral, thread-read, nat_tests, not_zero, times-read)
 
 -- there is no blank in it
 no_blank : (c : ℕ) → 33 ≤ c → is_blank c ≡ false

@@ -1,5 +1,5 @@
 -- A turn that is named once, read whole.
-use Rattle.std.proofs.Common.{◌≡◌, ◌∙◌, ◌+◌, ◌-◌, ◌*◌, ◌<◌, ◌≤◌, if◌then◌else◌, ℕ, Bool, true, false, List, [], ◌∷◌, ◌++◌, length, drop, refl, ap, sym, subst, arith, lit≤, append_assoc, drop-drop}
+use Rattle.std.proofs.Common.{◌≡◌, ◌∙◌, ◌+◌, ◌-◌, ◌*◌, ◌<◌, ◌≤◌, ℕ, Bool, true, false, List, [], ◌∷◌, ◌++◌, length, drop, refl, ap, sym, subst, arith, lit≤, append_assoc, drop-drop}
 use Rattle.std.specs.Prelude.{All, Ok, Err, get_or}
 use Rattle.std.specs.List.{slice_split}
 use Rattle.std.specs.Char.{is_ascii_digit, digit_value}
@@ -10,13 +10,12 @@ use Rattle.std.proofs.lemmas.List.Splits.{slice_split_at, length-slice_split}
 use Rattle.std.proofs.lemmas.Bool.Decides.{nat_tests}
 use Rattle.schedule_reader.specs.declared.run.Run.{Run}
 use Rattle.schedule_reader.specs.declared.fault.ScheduleFault.{ScheduleFault}
-use Rattle.schedule_reader.specs.declared.fault.ScheduleFault.TheVariants as fault
 use Rattle.schedule_reader.specs.declared.place.Place.{Place}
 use Rattle.schedule_reader.specs.declared.place.Place.TheVariants as place
-use Rattle.schedule_reader.specs.Schedule.{Token, IsRun, Unfinished, is_blank, schedule_with, choice_of, run_of, digits_of, reading_of, reading_of_thread, reading_by_thread}
-use Rattle.schedule_reader.specs.Places.{BeginsWithTurn, Takes, thread_by, pieces_from, schedule_from, with_runs}
+use Rattle.schedule_reader.specs.Schedule.{Token, IsRun, is_blank, choice_of, run_of, digits_of, reading_of}
+use Rattle.schedule_reader.specs.Places.{BeginsWithTurn, Takes, schedule_from, with_runs}
 use Rattle.schedule_reader.proofs.Numbers.{digit_value-digit, number_by-some}
-use Rattle.schedule_reader.proofs.Streams.{between-pieces, takes-plain, with_runs-append}
+use Rattle.schedule_reader.proofs.Streams.{takes-plain, with_runs-append}
 use Rattle.schedule_reader.proofs.Tokens.{above-blanks, above-digits, digits-then, not_zero}
 
 -- the letter and one or two digits are a token
@@ -26,19 +25,7 @@ digits-read at thread ds all some few value small =
     let count = length ds in
     let start = at + 1 in
     let read : digits_of ds ≡ ds = ap digits_of (sym (append-nil ds)) ∙ digits-then ds [] all refl in
-    let none_left : drop count ds ≡ [] = drop_all count ds (omega arith) in
-    ap (λ ms. thread_by start false (length ms) (digits_value_after 10 0 ms) (drop (length ms) ds)) read
-    ∙ ap (λ v. thread_by start false count v (drop count ds)) value
-    ∙ ap (λ n. reading_of_thread start false count (drop count ds) n) (number_by-some count thread 2 63 few small)
-    ∙ ap (reading_by_thread start (choice_of false thread) count) none_left
-    ∙ ap (λ t. if t then Unfinished (fault.Byte start) else Token (run_of (choice_of false thread) 1)) (not_zero count some)
-
--- pieces of which the first is whole
-first-piece : (finished : Bool) (at : ℕ) (piece : List ℕ) (run : Run) (pieces : List (List ℕ)) → 1 ≤ length piece → 0 < length pieces
-    → reading_of at piece ≡ Token run
-    → pieces_from finished place.Between at (piece ∷ pieces)
-    ≡ schedule_with (Ok run) (pieces_from finished place.Between (at + length piece + 1) pieces)
-first-piece finished at piece run pieces some more read = grind (arith, between-pieces)
+    grind (arith, drop_all, number_by-some, not_zero)
 
 -- what a test of three or four bytes finds
 digit_below : (b : ℕ) → is_ascii_digit b ≡ true → digit_value b < 10
@@ -90,21 +77,13 @@ turn-schedule finished at thread count bytes rest begins =
     let run = run_of (choice_of false thread) 1 in
     let end : at + length piece + 1 ≡ at + count = omega (arith, begins.counted) in
     let some : 0 < length (slice_split is_blank after) = omega (arith, length-slice_split is_blank after) in
-    let read = digits-read at thread begins.digits begins.all begins.some begins.few begins.value begins.small in
-    let blanks = above-blanks piece (lit≤ tt, above-digits begins.digits begins.all) in
-    ap (λ bs. schedule_from finished place.Between at (bs ++ rest)) begins.begins
-    ∙ ap (schedule_from finished place.Between at) (append_assoc piece (32 ∷ drop count bytes) rest)
-    ∙ ap (pieces_from finished place.Between at) (slice_split_at is_blank piece 32 after blanks refl)
-    ∙ first-piece finished at piece run (slice_split is_blank after) (omega arith) some read
-    ∙ ap (λ n. schedule_with (Ok run) (pieces_from finished place.Between n (slice_split is_blank after))) end
+    grind (arith, digits-read, above-blanks, above-digits, append_assoc, slice_split_at)
 
 -- no turn
 pub takes-nothing : (at n : ℕ) (bytes : List ℕ) (runs : List Run) → n ≡ 0
     → Takes (Ok n) runs runs (λ (stream : Bool × List ℕ). schedule_from stream.0 place.Between at (bytes ++ stream.1))
     (λ stream n. schedule_from stream.0 place.Between (at + n) (drop n bytes ++ stream.1))
-takes-nothing at n bytes runs none = takes-plain _ _ _ _ (λ (stream : Bool × List ℕ).
-    ap (λ m. schedule_from stream.0 place.Between m (bytes ++ stream.1)) (omega (arith, none))
-    ∙ ap (λ m. schedule_from stream.0 place.Between (at + n) (drop m bytes ++ stream.1)) (sym none))
+takes-nothing at n bytes runs none = grind (arith, takes-plain)
 
 -- one turn more, behind those with which the bytes begin
 pub takes-turn : (at done end thread count : ℕ) (bytes rest : List ℕ) (before between after : List Run) (run : Run) → rest ≡ drop done bytes → done + count ≡ end
