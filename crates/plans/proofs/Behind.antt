@@ -1,5 +1,5 @@
 -- A fold over the words of a line and over the lines of a text, one more at a time.
-use Rattle.std.proofs.Common.{◌≡◌, ◌≢◌, ◌∙◌, ◌+◌, ◌<◌, ◌≤◌, ℕ, zero, suc, Bool, true, false, List, [], ◌∷◌, ◌++◌, length, take, drop, nat_lt, ap, sym, refl, arith}
+use Rattle.std.proofs.Common.{◌≡◌, ◌≢◌, ◌∙◌, ◌+◌, ◌<◌, ◌≤◌, ℕ, zero, suc, Bool, true, false, List, [], ◌∷◌, ◌++◌, length, take, drop, nat_lt, ap, refl, arith}
 use Rattle.std.specs.Prelude.{Result, Ok}
 use Rattle.std.specs.List.{position_or_len, slice_split}
 use Rattle.std.proofs.lemmas.Bool.Decides.{nat_tests}
@@ -37,18 +37,14 @@ pub next_word : (names : List Name) (line : ℕ) (text : List ℕ) (n : ℕ) (be
     → n ≢ 0 → n ≤ length text → words_in (spread text) ≡ word_alone (take n text) ++ words_in (spread (drop n text))
     → words_behind names line before (words_in (spread text)) ≡ all → word_behind names line before (take n text) ≡ Ok after
     → words_behind names line after (words_in (spread (drop n text))) ≡ all
-next_word names line text n before after all some within cut so ok =
-    sym (ap (λ r. r >>= (λ after. words_behind names line after (words_in (spread (drop n text))))) ok)
-    ∙ sym (here names line text n before some within cut) ∙ so
+next_word names line text n before after all some within cut so ok = grind arith
 
 pub faulty_word : (names : List Name) (line : ℕ) (text : List ℕ) (n : ℕ) (before : Draft) (all : Result Draft PlanFault)
     (memory : Bool) (fault : PlanFault)
     → n ≢ 0 → n ≤ length text → words_in (spread text) ≡ word_alone (take n text) ++ words_in (spread (drop n text))
     → words_behind names line before (words_in (spread text)) ≡ all
     → FailsUnless memory fault (word_behind names line before (take n text)) → FailsUnless memory fault all
-faulty_word names line text n before all memory fault some within cut so fails =
-    rw (← so) (rw (here names line text n before some within cut)
-    (fails_then memory fault _ (λ after. words_behind names line after (words_in (spread (drop n text)))) fails))
+faulty_word names line text n before all memory fault some within cut so fails = grind arith
 
 -- a line, and those behind its end
 lines_cut : (text : List ℕ) → position_or_len is_line_end text < length text
@@ -59,23 +55,18 @@ lines_cut text within = slice_split_first is_line_end text 0 within
 -- the last line
 last_cut : (text : List ℕ) → position_or_len is_line_end text ≡ length text
     → slice_split is_line_end text ≡ take (position_or_len is_line_end text) text ∷ []
-last_cut text all =
-    slice_split_none is_line_end text (λ k d there. fails_before_first is_line_end text k d (omega (arith, there, all)))
-    ∙ ap (λ line. line ∷ []) (sym (take_all (position_or_len is_line_end text) text (omega (arith, all))))
+last_cut text all = grind (arith, slice_split_none, fails_before_first, take_all)
 
 pub next_line : (names : List Name) (n : ℕ) (text : List ℕ) (before after : Draft) (all : Result Draft PlanFault)
     → position_or_len is_line_end text < length text → lines_behind names n before (slice_split is_line_end text) ≡ all
     → words_behind names n before (words_of (take (position_or_len is_line_end text) text)) ≡ Ok after
     → lines_behind names (n + 1) after (slice_split is_line_end (drop (position_or_len is_line_end text + 1) text)) ≡ all
-next_line names n text before after all within so ok =
-    sym (ap (λ r. r >>= (λ after. lines_behind names (n + 1) after (slice_split is_line_end (drop (position_or_len is_line_end text + 1) text)))) ok)
-    ∙ sym (ap (lines_behind names n before) (lines_cut text within)) ∙ so
+next_line names n text before after all within so ok = grind (arith, lines_cut)
 
 pub last_line : (names : List Name) (n : ℕ) (text : List ℕ) (before after : Draft) (all : Result Draft PlanFault)
     → position_or_len is_line_end text ≡ length text → lines_behind names n before (slice_split is_line_end text) ≡ all
     → words_behind names n before (words_of (take (position_or_len is_line_end text) text)) ≡ Ok after → all ≡ Ok after
-last_line names n text before after all whole so ok =
-    sym so ∙ ap (lines_behind names n before) (last_cut text whole) ∙ ap (λ r. r >>= (λ after. lines_behind names (n + 1) after [])) ok
+last_line names n text before after all whole so ok = grind (arith, last_cut)
 
 -- the lines that begin with one that is faulty
 faulty_lines : (names : List Name) (n : ℕ) (before : Draft) (line : List ℕ) (lines : List (List ℕ)) (memory : Bool) (fault : PlanFault)

@@ -1,11 +1,11 @@
 -- What is left of a plan behind some of its words.
-use Rattle.std.proofs.Common.{◌≡◌, ◌∙◌, ◌-◌, ◌++◌, ℕ, List, [], ◌∷◌, sym, ap, append_assoc, arith}
+use Rattle.std.proofs.Common.{◌≡◌, ◌∙◌, ◌++◌, ℕ, List, [], ◌∷◌, sym, append_assoc, arith}
 use Rattle.std.specs.Prelude.{Option, Some, None}
 use Rattle.std.proofs.lemmas.List.{append-nil}
 use Rattle.plans.specs.declared.word.Step.{Step}
 use Rattle.plans.specs.declared.word.Word.{Word}
 use Rattle.plans.specs.declared.word.Word.TheVariants as word
-use Rattle.plans.specs.Tree.{Plan, Done, Group, words_of_plan}
+use Rattle.plans.specs.Tree.{Plan, Done, words_of_plan}
 use Rattle.plans.specs.Progress.{Progress}
 use Rattle.plans.specs.Play.{plays, step_played}
 use Rattle.plans.proofs.Progresses.{repeated_same, settles}
@@ -30,9 +30,7 @@ step_left_by behind step remaining plan tail first now after is end played next 
 
 pub step_left : (words here behind : List Word) (step : Step) (first now after : Progress) → here ≡ word.Step step ∷ behind
     → after ≡ step_played step now → IsLeft words here first now → IsLeft words behind first after
-step_left words here behind step first now after is next left plan tail whole end =
-    let before = left plan tail whole end in
-    step_left_by behind step before.remaining plan tail first now after (sym is ∙ before.words) end before.played next
+step_left words here behind step first now after is next left plan tail whole end = grind (arith, step_left_by)
 
 -- a group
 open_left_by : (behind rest : List Word) (remaining plan : Plan) (tail : List Word) (first now after : Progress)
@@ -40,20 +38,11 @@ open_left_by : (behind rest : List Word) (remaining plan : Plan) (tail : List Wo
     → HasPlayedGroup behind rest now after → Left rest plan tail first after
 unfolding plays
 open_left_by behind rest Done plan (word.Step one ∷ tail) first now after is end played group = absurd end
-open_left_by behind rest Done plan (word.Open ∷ tail) first now after is end played group = absurd end
-open_left_by behind rest (Group body times remaining) plan tail first now after is end played group =
-    let inner : behind ≡ (words_of_plan body ++ word.Close times ∷ words_of_plan remaining) ++ tail = cc is in
-    let shape : behind ≡ words_of_plan body ++ word.Close times ∷ (words_of_plan remaining ++ tail) =
-    inner ∙ append_assoc (words_of_plan body) (word.Close times ∷ words_of_plan remaining) tail in
-    let done = group body times (words_of_plan remaining ++ tail) shape in
-    record { remaining = remaining; words = done.behind; played = ap (plays remaining) done.after ∙ played }
-open_left_by behind rest _ plan _ first now after is end played group = absurd (cc is)
+open_left_by behind rest _ plan tail first now after is end played group = grind (arith, append_assoc)
 
 pub open_left : (words here behind rest : List Word) (first now after : Progress) → here ≡ word.Open ∷ behind
     → HasPlayedGroup behind rest now after → IsLeft words here first now → IsLeft words rest first after
-open_left words here behind rest first now after is group left plan tail whole end =
-    let before = left plan tail whole end in
-    open_left_by behind rest before.remaining plan tail first now after (sym is ∙ before.words) end before.played group
+open_left words here behind rest first now after is group left plan tail whole end = grind (arith, open_left_by)
 
 -- nothing is left before what closes
 close_left_by : (times : ℕ) (behind : List Word) (remaining plan : Plan) (tail : List Word) (first now : Progress)
@@ -65,9 +54,7 @@ close_left_by times behind remaining plan tail first now is played = grind arith
 
 pub close_left : (words here behind : List Word) (times : ℕ) (first now : Progress) → here ≡ word.Close times ∷ behind
     → IsLeft words here first now → HasPlayed words (Some times) behind first now
-close_left words here behind times first now closes left plan tail whole end =
-    let before = left plan tail whole end in
-    close_left_by times behind before.remaining plan tail first now (sym closes ∙ before.words) before.played
+close_left words here behind times first now closes left plan tail whole end = grind (arith, close_left_by)
 
 -- or at the end
 end_left_by : (remaining plan : Plan) (tail rest : List Word) (first now : Progress) → [] ≡ words_of_plan remaining ++ tail
@@ -78,9 +65,7 @@ end_left_by remaining plan tail rest first now is played = grind arith
 
 pub end_left : (words here rest : List Word) (first now : Progress) → here ≡ [] → IsLeft words here first now
     → HasPlayed words None rest first now
-end_left words here rest first now none left plan tail whole end =
-    let before = left plan tail whole end in
-    end_left_by before.remaining plan tail rest first now (sym none ∙ before.words) before.played
+end_left words here rest first now none left plan tail whole end = grind (arith, end_left_by)
 
 -- a pass over all the words of a plan
 pub pass_played : (words rest : List Word) (times : Option ℕ) (before after : Progress) (body : Plan)
@@ -91,9 +76,7 @@ pass_played words rest times before after body played is =
 -- that made no choice
 pub settled_pass : (body : Plan) (before after : Progress) → after ≡ plays body before → after.left ≡ before.left
     → plays body after ≡ after
-settled_pass body before after is same =
-    let left : (plays body before).left ≡ before.left = ap (λ (p : Progress). p.left) (sym is) ∙ same in
-    ap (plays body) is ∙ settles body before left ∙ sym is
+settled_pass body before after is same = grind (arith, settles)
 
 -- the first pass of a group, and those behind it
 pub again_group : (words rest : List Word) (times : ℕ) (before once after : Progress) → HasPlayed words (Some times) rest before once
@@ -103,6 +86,4 @@ again_group words rest times before once after played again body more tail whole
 -- a first pass that made no choice is the last
 pub settled_again : (words rest : List Word) (times : ℕ) (before once : Progress) → HasPlayed words (Some times) rest before once
     → once.left ≡ before.left → HasPlayedAgain words times once once
-settled_again words rest times before once played same body tail whole closed =
-    let pass = played body tail whole closed in
-    sym (repeated_same (times - 1) (λ p. plays body p) once (settled_pass body before once pass.after same))
+settled_again words rest times before once played same body tail whole closed = grind (arith, repeated_same, settled_pass)

@@ -39,16 +39,13 @@ step_nests (suc depth) step words nested = record {
 -- a group before a plan
 grouped : (body rest : Plan) (times : ℕ) (tail words : List Word) → words_of_plan rest ≡ tail
     → words_of_plan body ++ word.Close times ∷ tail ≡ words → words_of_plan (Group body times rest) ≡ word.Open ∷ words
-grouped body rest times tail words of_rest is =
-    ap (λ ws. word.Open ∷ (words_of_plan body ++ word.Close times ∷ ws)) of_rest ∙ ap (λ ws. word.Open ∷ ws) is
+grouped body rest times tail words of_rest is = grind arith
 
 -- and before words that close more
 regrouped : (body next : Plan) (times more : ℕ) (tail after words : List Word)
     → words_of_plan next ++ word.Close more ∷ after ≡ tail → words_of_plan body ++ word.Close times ∷ tail ≡ words
     → words_of_plan (Group body times next) ++ word.Close more ∷ after ≡ word.Open ∷ words
-regrouped body next times more tail after words of_next is =
-    ap (λ ws. word.Open ∷ ws) (append_assoc (words_of_plan body) (word.Close times ∷ words_of_plan next) (word.Close more ∷ after)
-    ∙ ap (λ ws. words_of_plan body ++ word.Close times ∷ ws) of_next ∙ is)
+regrouped body next times more tail after words of_next is = grind (arith, append_assoc)
 
 open_nests : (depth : ℕ) (words : List Word) → IsNested (suc depth) words → IsNested depth (word.Open ∷ words)
 open_nests zero words nested = (
@@ -77,27 +74,19 @@ adds_none : (draft : Draft) → Adds draft draft
 adds_none draft = record { added = []; words = sym (append-nil draft.words); nests = λ rest nested. nested }
 
 adds_both : (first second third : Draft) → Adds first second → Adds second third → Adds first third
-adds_both first second third a b = record {
-  added = a.added ++ b.added;
-  words = b.words ∙ ap (λ ws. ws ++ b.added) a.words ∙ append_assoc first.words a.added b.added;
-  nests = λ rest nested. subst (IsNested first.depth) (sym (append_assoc a.added b.added rest)) (a.nests (b.added ++ rest) (b.nests rest nested));
-}
+adds_both first second third a b = grind (arith, append_assoc)
 
 abbrev said : Draft → Said Draft
 said draft = Ok draft
 
 adds_same : (before after other : Draft) → said other ≡ Ok after → Adds before other → Adds before after
-adds_same before after other same adds =
-    let is : other ≡ after = cc same in
-    subst (Adds before) is adds
+adds_same before after other same adds = grind arith
 
 abbrev read_as : {A : Type 0} → A → Result A PlanFault
 read_as read = Ok read
 
 adds_same_draft : (draft after : Draft) → read_as draft ≡ Ok after → Adds draft after
-adds_same_draft draft after same =
-    let is : draft ≡ after = cc same in
-    subst (Adds draft) is (adds_none draft)
+adds_same_draft draft after same = grind (arith, adds_none)
 
 -- behind `(`
 opens : (draft : Draft) (opened : ℕ) → Adds draft (record draft { words = draft.words ++ word.Open ∷ []; depth = draft.depth + 1; opened = opened })
@@ -111,8 +100,7 @@ adds_open false draft after opened ok = adds_same draft after _ ok (opens draft 
 
 -- behind `)`
 closes : (depth less times : ℕ) (rest : List Word) → less + 1 ≡ depth → IsNested less rest → IsNested depth (word.Close times ∷ rest)
-closes depth less times rest is nested =
-    subst (λ k. IsNested k (word.Close times ∷ rest)) (sym (add-one less) ∙ is) (close_nests less times rest nested)
+closes depth less times rest is nested = grind (arith, add-one, close_nests)
 
 adds_close : (none : Bool) (draft after : Draft) (times : ℕ) → (draft.depth == 0) ≡ none
     → ((if none then Err fault.NotOpened else Ok (record draft { depth = draft.depth - 1 })) >>= with_word (word.Close times)) ≡ Ok after
@@ -168,8 +156,7 @@ plan_next : (read : Result Draft PlanFault) (words : List Word) → ((draft : Dr
 plan_next read words adds ok = grind (arith, plan_finished)
 
 pub plan_read : (names : List Name) (lines : List (List ℕ)) (words : List Word) → words_in_lines names lines ≡ Ok words → IsPlan words
-plan_read names lines words ok =
-    plan_next (lines_behind names 1 no_words lines) words (λ draft is. adds_lines names 1 lines no_words draft is) ok
+plan_read names lines words ok = grind (arith, plan_next, adds_lines)
 
 pub answer_is_plan : {X : Type 0} (view : X → List Word) (names : List Name) (lines : List (List ℕ)) (result : Result X PlanFault)
     → AnswersPlan view result (words_in_lines names lines) → IfOk result (λ words. IsPlan (view words))

@@ -69,8 +69,7 @@ pub piece_cut : (text : List ℕ)
     → words_in (spread text) ≡ word_alone (take (position_or_len parts_words text) text) ++ words_in (spread (drop (position_or_len parts_words text) text))
 piece_cut text =
     let first = cut text in
-    ap kept first.pieces ∙ kept_piece (take (position_or_len parts_words text) text) first.others
-    ∙ ap (λ ws. word_alone (take (position_or_len parts_words text) text) ++ ws) first.words
+    grind (arith, kept_piece)
 
 -- a parenthesis is one, with its count if it has one
 pub count_cut : (line : List ℕ) (byte : ℕ) → 0 < length line → slice_index_or line 0 byte ≡ 41 → begins_count (drop 1 line) ≡ true

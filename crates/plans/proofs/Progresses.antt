@@ -1,5 +1,5 @@
 -- What a play makes of a progress: nothing, fewer choices left, or a stop; and that a stop is for good.
-use Rattle.std.proofs.Common.{◌≡◌, ◌∙◌, ◌+◌, ◌-◌, ◌<◌, ◌==◌, ℕ, zero, suc, Bool, true, false, refl, sym, ap, subst, arith}
+use Rattle.std.proofs.Common.{◌≡◌, ◌∙◌, ◌+◌, ◌-◌, ◌<◌, ◌==◌, ℕ, zero, suc, Bool, true, false, refl, sym, ap, arith}
 use Rattle.std.specs.Prelude.{Option, Some, None, if◌then◌else◌}
 use Rattle.thread_machine.specs.declared.choice.Choice.{Choice}
 use Rattle.thread_machine.specs.declared.fault.StepFault.{StepFault}
@@ -23,13 +23,7 @@ pub data Comes (before after : Progress) : Type 0 where
   Over : IsOver after → Comes before after
 
 comes_both : (first second third : Progress) → Comes first second → Comes second third → Comes first third
-comes_both first second third (Same is) later = subst (λ p. Comes p third) is later
-comes_both first second third (Fewer less) (Same is) = Fewer (subst (λ p. p.left < first.left) (sym is) less)
-comes_both first second third (Fewer less) (Fewer more) = Fewer (omega (arith, less, more))
-comes_both first second third (Fewer less) (Over over) = Over over
-comes_both first second third (Over over) (Same is) = Over (subst IsOver (sym is) over)
-comes_both first second third (Over over) (Fewer less) = absurd (omega (arith, over.none, less))
-comes_both first second third (Over over) (Over again) = Over again
+comes_both first second third given later = grind arith
 
 -- one choice
 chosen_comes : (none : Bool) (refusal : Option StepFault) (choice : Choice) (progress : Progress) → (progress.left == 0) ≡ none
@@ -59,9 +53,7 @@ pub repeated_comes : (times : ℕ) (play : Progress → Progress) (progress : Pr
     → Comes progress (repeated times play progress)
 unfolding repeated
 repeated_comes zero play progress comes = Same refl
-repeated_comes (suc times) play progress comes =
-    comes_both progress (play progress) (repeated times play (play progress)) (comes progress)
-    (repeated_comes times play (play progress) comes)
+repeated_comes (suc times) play progress comes = grind (arith, comes_both, repeated_comes times play (play progress) comes)
 
 pub repeated_same : (times : ℕ) (play : Progress → Progress) (progress : Progress) → play progress ≡ progress
     → repeated times play progress ≡ progress
@@ -88,9 +80,7 @@ followed_over_by next later progress over same = grind (arith, choice_over)
 pub followed_over : (rule : Rule) (most k : ℕ) (progress : Progress) → IsOver progress → followed rule most k progress ≡ progress
 unfolding followed
 followed_over rule zero k progress over = refl
-followed_over rule (suc most) k progress over =
-    followed_over_by (next_choice rule k progress) (λ after. followed rule most (k + 1) after) progress over
-    (followed_over rule most (k + 1) progress over)
+followed_over rule (suc most) k progress over = grind (arith, followed_over_by, followed_over rule most (k + 1) progress over)
 
 -- a step
 step_comes : (one : Step) (progress : Progress) → Comes progress (step_played one progress)
@@ -105,9 +95,7 @@ step_over one progress over = grind (arith, repeated_same, choice_over, followed
 pub plan_comes : (plan : Plan) (progress : Progress) → Comes progress (plays plan progress)
 unfolding plays
 plan_comes Done progress = Same refl
-plan_comes (Then one rest) progress =
-    comes_both progress (step_played one progress) (plays rest (step_played one progress)) (step_comes one progress)
-    (plan_comes rest (step_played one progress))
+plan_comes (Then one rest) progress = grind (arith, comes_both, step_comes, plan_comes rest (step_played one progress))
 plan_comes (Group body times rest) progress =
     let once = plays body progress in
     let all = repeated (times - 1) (λ before. plays body before) once in
@@ -118,20 +106,13 @@ plan_comes (Group body times rest) progress =
 pub plan_over : (plan : Plan) (progress : Progress) → IsOver progress → plays plan progress ≡ progress
 unfolding plays
 plan_over Done progress over = refl
-plan_over (Then one rest) progress over =
-    ap (plays rest) (step_over one progress over) ∙ plan_over rest progress over
-plan_over (Group body times rest) progress over =
-    let same = plan_over body progress over in
-    ap (λ p. plays rest (repeated (times - 1) (λ before. plays body before) p)) same
-    ∙ ap (plays rest) (repeated_same (times - 1) (λ before. plays body before) progress same)
-    ∙ plan_over rest progress over
+plan_over (Then one rest) progress over = grind (arith, step_over, plan_over rest progress over)
+plan_over (Group body times rest) progress over = grind (arith, repeated_same, plan_over body progress over, plan_over rest progress over)
 
 -- a pass that left as many choices as there were makes none when it is played again
 settles_by : (plan : Plan) (progress : Progress) → Comes progress (plays plan progress) → (plays plan progress).left ≡ progress.left
     → plays plan (plays plan progress) ≡ plays plan progress
-settles_by plan progress (Same is) left = ap (plays plan) is
-settles_by plan progress (Fewer less) left = absurd (omega (arith, less, left))
-settles_by plan progress (Over over) left = plan_over plan (plays plan progress) over
+settles_by plan progress given left = grind (arith, plan_over)
 
 pub settles : (plan : Plan) (progress : Progress) → (plays plan progress).left ≡ progress.left
     → plays plan (plays plan progress) ≡ plays plan progress

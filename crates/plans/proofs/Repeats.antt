@@ -1,5 +1,5 @@
 -- Repetitions and rules, one choice more at a time.
-use Rattle.std.proofs.Common.{◌≡◌, ◌∙◌, ◌+◌, ◌-◌, ◌<◌, ◌≤◌, ◌==◌, ℕ, suc, Bool, true, false, refl, sym, ap, arith}
+use Rattle.std.proofs.Common.{◌≡◌, ◌∙◌, ◌+◌, ◌-◌, ◌<◌, ◌≤◌, ◌==◌, ℕ, Bool, true, false, refl, sym, arith}
 use Rattle.std.specs.Prelude.{◌&&◌, Some, None}
 use Rattle.thread_machine.specs.declared.choice.Choice.{Choice}
 use Rattle.plans.specs.declared.word.Rule.{Rule}
@@ -19,21 +19,16 @@ is_over progress both = over_by (progress.left == 0) progress.stopped progress r
 repeated_here : (play : Progress → Progress) (done times : ℕ) (progress : Progress) → done < times
     → repeated (times - done) play progress ≡ repeated (times - (done + 1)) play (play progress)
 unfolding repeated
-repeated_here play done times progress there =
-    let more : times - done ≡ suc (times - (done + 1)) = omega (arith, there) in
-    ap (λ n. repeated n play progress) more
+repeated_here play done times progress there = grind arith
 
 pub next_repeated : (play : Progress → Progress) (done times : ℕ) (before after all : Progress) → done < times
     → repeated (times - done) play before ≡ all → after ≡ play before → repeated (times - (done + 1)) play after ≡ all
-next_repeated play done times before after all there so is =
-    ap (repeated (times - (done + 1)) play) is ∙ sym (repeated_here play done times before there) ∙ so
+next_repeated play done times before after all there so is = grind (arith, repeated_here)
 
 pub all_repeated : (play : Progress → Progress) (done times : ℕ) (progress all : Progress) → times ≤ done
     → repeated (times - done) play progress ≡ all → progress ≡ all
 unfolding repeated
-all_repeated play done times progress all enough so =
-    let none : 0 ≡ times - done = omega (arith, enough) in
-    ap (λ n. repeated n play progress) none ∙ so
+all_repeated play done times progress all enough so = grind arith
 
 pub settled_repeated : (play : Progress → Progress) (done times : ℕ) (before after all : Progress) → done < times
     → repeated (times - done) play before ≡ all → after ≡ play before → play after ≡ after → after ≡ all
@@ -50,9 +45,7 @@ followed_here : (rule : Rule) (k most : ℕ) (progress : Progress) → k < most
     → followed rule (most - k) k progress
     ≡ followed_by (next_choice rule k progress) (λ after. followed rule (most - (k + 1)) (k + 1) after) progress
 unfolding followed
-followed_here rule k most progress there =
-    let more : most - k ≡ suc (most - (k + 1)) = omega (arith, there) in
-    ap (λ n. followed rule n k progress) more
+followed_here rule k most progress there = grind arith
 
 pub next_followed : (rule : Rule) (k most : ℕ) (before after all : Progress) (choice : Choice) → k < most
     → followed rule (most - k) k before ≡ all → next_choice rule k before ≡ Some choice → after ≡ chosen choice before
@@ -61,16 +54,12 @@ next_followed rule k most before after all choice there so next is = grind (arit
 
 pub none_followed : (rule : Rule) (k most : ℕ) (before all : Progress) → k < most
     → followed rule (most - k) k before ≡ all → next_choice rule k before ≡ None → before ≡ all
-none_followed rule k most before all there so next =
-    ap (λ o. followed_by o (λ p. followed rule (most - (k + 1)) (k + 1) p) before) (sym next)
-    ∙ sym (followed_here rule k most before there) ∙ so
+none_followed rule k most before all there so next = grind (arith, followed_here)
 
 pub all_followed : (rule : Rule) (k most : ℕ) (progress all : Progress) → most ≤ k
     → followed rule (most - k) k progress ≡ all → progress ≡ all
 unfolding followed
-all_followed rule k most progress all enough so =
-    let none : 0 ≡ most - k = omega (arith, enough) in
-    ap (λ n. followed rule n k progress) none ∙ so
+all_followed rule k most progress all enough so = grind arith
 
 pub over_followed : (rule : Rule) (k most : ℕ) (before after all : Progress) (choice : Choice) → k < most
     → followed rule (most - k) k before ≡ all → next_choice rule k before ≡ Some choice → after ≡ chosen choice before
