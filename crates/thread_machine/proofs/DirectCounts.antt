@@ -11,20 +11,16 @@ use Rattle.tier_tree.specs.declared.registered.Registered.{Registered}
 use Rattle.tier_tree.specs.declared.arrived.Arrived.{Arrived}
 use Rattle.tier_tree.specs.declared.arrived.Arrived.TheVariants as arrived
 use Rattle.tier_tree.specs.declared.id.PhaserId.{PhaserId}
-use Rattle.tier_tree.specs.Forest.{PhaserState, flat_at, root_at}
-use Rattle.tier_tree.specs.Registration.{registration}
+use Rattle.tier_tree.specs.Forest.{PhaserState, flat_at}
 use Rattle.tier_tree.specs.Arrival.{Arrives, arrival}
 use Rattle.tier_tree.specs.PhaseEnd.{after_phase_end}
-use Rattle.tier_tree.specs.Origin.{Origin, AreTallied, origin_after_arrival, origin_after_registration}
+use Rattle.tier_tree.specs.Origin.{Origin, AreTallied, origin_after_registration}
 use Rattle.tier_tree.specs.Trees.{AreTrees}
 use Rattle.tier_tree.proofs.Kept.{registration-ends, arrival-ends, force-ends}
 use Rattle.tier_tree.proofs.Joined.{stands_registered}
 use Rattle.tier_tree.proofs.Stands.{stands_after_arrival}
 use Rattle.tier_tree.proofs.Turned.{stands_after_force}
 use Rattle.tier_tree.proofs.Trees.{trees_same, trees_arrived}
-use Rattle.cyclic_barrier.specs.declared.answer.Entered.{Entered}
-use Rattle.cyclic_barrier.specs.declared.answer.WaitState.{WaitState}
-use Rattle.cyclic_barrier.specs.Barrier.{BarrierState}
 use Rattle.loader.specs.Program.{Program, row_at}
 use Rattle.thread_state.specs.declared.frame.Frame.{Frame}
 use Rattle.thread_state.specs.declared.frame.Frame.TheVariants as frame
@@ -34,17 +30,16 @@ use Rattle.thread_state.specs.Thread.{top_of, left_routine}
 use Rattle.machine_scene.specs.declared.group.Group.{Group}
 use Rattle.machine_scene.specs.declared.group.Group.TheVariants.{Own, Calls, Data, Phasers, Getters, Barriers}
 use Rattle.machine_scene.specs.declared.manner.Manner.{Manner}
-use Rattle.machine_scene.specs.Scene.{Scene, Outcome, thread_at, barrier_at, with_thread, with_phasers, with_barrier}
+use Rattle.machine_scene.specs.Scene.{Scene, Outcome, thread_at, barrier_at, with_thread, with_phasers}
 use Rattle.machine_scene.specs.Group.{group_of}
 use Rattle.machine_scene.specs.OwnRows.{outcome_of_own_row}
 use Rattle.machine_scene.specs.Manner.{manner_of}
 use Rattle.machine_scene.specs.CallRows.{outcome_of_routine_end, outcome_of_ret, outcome_of_call_row}
 use Rattle.machine_scene.specs.DataRows.{outcome_of_data_row}
 use Rattle.machine_scene.specs.GetterRows.{outcome_of_getter_row}
-use Rattle.machine_scene.specs.BarrierRows.{is_run_by, is_run_by_another, unless_busy, unless_runner, outcome_of_entered, outcome_of_await_at, outcome_of_barrier_row}
-use Rattle.machine_scene.specs.PhaserRows.{outcome_of_pending_end, outcome_of_arrived, outcome_with_room, outcome_of_arrival, outcome_of_registered, outcome_of_registration, outcome_of_bulk, unless_own, outcome_of_phaser_row}
-use Rattle.machine_scene.specs.Unwinding.{outcome_of_popped}
-use Rattle.machine_scene.specs.Waits.{outcome_of_awaited, outcome_of_phase_wait, outcome_of_release, outcome_of_barrier_wait, outcome_of_phase_timeout, outcome_of_barrier_timeout}
+use Rattle.machine_scene.specs.BarrierRows.{is_run_by, unless_runner, outcome_of_await_at, outcome_of_barrier_row}
+use Rattle.machine_scene.specs.PhaserRows.{outcome_of_pending_end, outcome_of_arrived, outcome_of_arrival, outcome_of_registered, outcome_of_bulk, unless_own, outcome_of_phaser_row}
+use Rattle.machine_scene.specs.Waits.{outcome_of_awaited, outcome_of_phase_wait, outcome_of_barrier_wait, outcome_of_barrier_timeout}
 use Rattle.machine_scene.specs.Outcomes.{outcome_in_group, outcome_in, timeout_in}
 use Rattle.machine_scene.proofs.Plain.{StandsAt, either}
 use Rattle.machine_scene.proofs.Routines.{turning_root}
@@ -80,64 +75,37 @@ data_aside row t scene = grind arith
 getter_aside : (row : Row) (t : ℕ) (scene : Scene) → IsAside scene (outcome_of_getter_row row t scene)
 getter_aside row t scene = grind arith
 
-entered_aside : (answer : Entered) (into : Reg) (b t : ℕ) (program : Program) (gate : BarrierState) (scene : Scene)
-    → IsAside scene (outcome_of_entered answer into b t program (with_barrier gate b scene))
-entered_aside answer into b t program gate scene = grind arith
-
 await_aside : (no_wait : Bool) (into : Reg) (b t : ℕ) (program : Program) (scene : Scene)
     → IsAside scene (outcome_of_await_at no_wait into b t program scene)
-await_aside no_wait into b t program scene = grind (arith, entered_aside)
-
-busy_aside : (b t : ℕ) (scene : Scene) (outcome : Option Outcome) → IsAside scene outcome → IsAside scene (unless_busy b t scene outcome)
-busy_aside b t scene outcome aside = either (IsAside scene) (is_run_by_another t (barrier_at scene b).runner) {a = None} {b = outcome} refl aside
+await_aside no_wait into b t program scene = grind arith
 
 runner_aside : (b t : ℕ) (scene : Scene) (outcome : Option Outcome) → IsAside scene outcome → IsAside scene (unless_runner b t scene outcome)
 runner_aside b t scene outcome aside = either (IsAside scene) (is_run_by t (barrier_at scene b).runner) {b = outcome} refl aside
 
 barrier_aside : (row : Row) (t : ℕ) (program : Program) (scene : Scene) → IsAside scene (outcome_of_barrier_row row t program scene)
-barrier_aside row t program scene = grind (arith, busy_aside, runner_aside, await_aside)
-
-popped_aside : (top : Option Frame) (code : ℤ) (t : ℕ) (scene : Scene) → IsAside scene (Some (outcome_of_popped top code t scene))
-popped_aside top code t scene = grind arith
-
-awaited_aside : (past looks : Bool) (scene : Scene) (a b : Outcome) → IsAside scene (Some a) → IsAside scene (Some b)
-    → IsAside scene (if past then Some a else (if looks then Some b else None))
-awaited_aside true looks scene a b over ends = over
-awaited_aside false _ scene a b over ends = grind arith
+barrier_aside row t program scene = grind (arith, runner_aside, await_aside)
 
 looked_aside : (looks : Bool) (into : Reg) (p : ℕ) (phase : ℤ) (t : ℕ) (scene : Scene)
     → IsAside scene (outcome_of_awaited looks into p phase t scene)
-looked_aside looks into p phase t scene = grind (arith, awaited_aside)
+looked_aside looks into p phase t scene = grind arith
 
 phase_wait_aside : (row : Row) (phase : ℤ) (t : ℕ) (scene : Scene) → IsAside scene (outcome_of_phase_wait row phase t scene)
 phase_wait_aside row phase t scene = grind (arith, looked_aside)
 
-release_aside : (wait : Option WaitState) (into : Reg) (index : ℤ) (b t : ℕ) (scene : Scene)
-    → IsAside scene (outcome_of_release wait into index b t scene)
-release_aside wait into index b t scene = grind arith
-
 barrier_wait_aside : (row : Row) (index : ℤ) (t : ℕ) (scene : Scene) → IsAside scene (outcome_of_barrier_wait row index t scene)
-barrier_wait_aside row index t scene = grind (arith, release_aside)
-
-phase_timeout_aside : (row : Row) (t : ℕ) (scene : Scene) → IsAside scene (outcome_of_phase_timeout row t scene)
-phase_timeout_aside row t scene = grind arith
+barrier_wait_aside row index t scene = grind arith
 
 barrier_timeout_aside : (row : Row) (t : ℕ) (scene : Scene) → IsAside scene (outcome_of_barrier_timeout row t scene)
 barrier_timeout_aside row t scene = grind arith
 
 pub timeout_aside : (waits : Status) (row : Row) (t : ℕ) (scene : Scene) → IsAside scene (timeout_in waits row t scene)
-timeout_aside waits row t scene = grind (arith, phase_timeout_aside, barrier_timeout_aside)
+timeout_aside waits row t scene = grind (arith, barrier_timeout_aside)
 
 -- a registration, by its answer
 registered_fares : (answer : Registered) (p count t : ℕ) (scene : Scene) (into : Reg) (origin : Origin) (phasers : List PhaserState)
     → Fares scene.phasers phasers (origin_after_registration answer p count origin) → AreTallied scene.phasers origin
     → FaresTo scene (origin_after_registration answer p count origin) (outcome_of_registered answer into t (with_phasers phasers scene))
 registered_fares answer p count t scene into origin phasers fares stands = grind (arith, fares_same)
-
-registration_fares : (steps p count t : ℕ) (scene : Scene) (into : Reg) (origin : Origin) → AreTrees steps scene.phasers
-    → p < length scene.phasers → AreTallied scene.phasers origin
-    → FaresTo scene (origin_after_registration (registration p count scene.phasers) p count origin) (outcome_of_registration into p count t scene)
-registration_fares steps p count t scene into origin trees there stands = search (rules, registered_fares, fares_on, registration-ends, registration-numbers, stands_registered)
 
 -- an arrival that turned a root: its phase ends with it, or its routine is entered
 turning_fares : (answer : Option Bool) (program : Program) (steps t p : ℕ) (manner : Manner) (scene : Scene) (counted : Origin)
@@ -165,12 +133,6 @@ arrived_fares (arrived.At phase) program steps t p manner scene counted trees fe
     fares_on scene.phasers (arrival p manner.leaves scene.phasers).phasers counted (arrival-ends p manner.leaves scene.phasers) (arrival-numbers p manner.leaves scene.phasers) stands
 arrived_fares answer program steps t p manner scene counted trees few there is stands = search (rules, fares_on, arrival-ends, arrival-numbers, turning_fares)
 
-room_fares : (program : Program) (steps t p : ℕ) (manner : Manner) (scene : Scene) (origin : Origin) → AreTrees steps scene.phasers
-    → steps < 2147483647 → p < length scene.phasers → AreTallied scene.phasers origin
-    → FaresTo scene (origin_after_arrival (arrival p manner.leaves scene.phasers).answer p (root_at scene.phasers p) manner.leaves origin)
-    (Some (outcome_with_room manner p t program scene))
-room_fares program steps t p manner scene origin trees few there stands = search (rules, arrived_fares, stands_after_arrival)
-
 -- a row that is refused before its call counts nothing
 refused_or : (own refused : Bool) (scene : Scene) (origin counted : Origin) (first second call : Option Outcome)
     → FaresTo scene origin first → FaresTo scene origin second → FaresTo scene counted call
@@ -188,22 +150,19 @@ arrival_fares : (program : Program) (steps t p : ℕ) (manner : Manner) (scene :
     → steps < 2147483647 → p < length scene.phasers → AreTallied scene.phasers origin
     → FaresTo scene (with_arrival p manner.leaves t scene origin)
     (unless_own p t scene (Some (outcome_of_arrival manner p t program scene)))
-arrival_fares program steps t p manner scene origin trees few there stands = search (rules, fares_same, full_or, room_fares)
+arrival_fares program steps t p manner scene origin trees few there stands = search (rules, fares_same, full_or, arrived_fares, stands_after_arrival)
 
 bulk_fares : (steps t p : ℕ) (count : ℤ) (into : Reg) (scene : Scene) (origin : Origin) → AreTrees steps scene.phasers
     → p < length scene.phasers → AreTallied scene.phasers origin
     → FaresTo scene (with_registration p count t scene origin) (unless_own p t scene (outcome_of_bulk into p count t scene))
-bulk_fares steps t p count into scene origin trees there stands = search (rules, fares_same, refused_or, registration_fares)
-
-unless_own_aside : (p t : ℕ) (scene : Scene) (outcome : Outcome) → IsAside scene (Some outcome) → IsAside scene (unless_own p t scene (Some outcome))
-unless_own_aside p t scene outcome aside = grind arith
+bulk_fares steps t p count into scene origin trees there stands = search (rules, fares_same, refused_or, registered_fares, fares_on, registration-ends, registration-numbers, stands_registered)
 
 phaser_row_fares : (row : Row) (program : Program) (steps t : ℕ) (scene : Scene) (origin : Origin)
     → StandsAt program steps t scene status.Runs row → AreTallied scene.phasers origin
     → FaresTo scene (with_row row t scene origin) (outcome_of_phaser_row row t program scene)
 phaser_row_fares (Preg into p) program steps t scene origin stands counts =
     bulk_fares steps t p (pos 1) into scene origin stands.sound.trees stands.named counts
-phaser_row_fares row program steps t scene origin stands counts = search (rules, bulk_fares, arrival_fares, aside_fares, unless_own_aside, fares_on, force-ends, force-numbers, stands_after_force, fares_same)
+phaser_row_fares row program steps t scene origin stands counts = search (rules, bulk_fares, arrival_fares, aside_fares, fares_on, force-ends, force-numbers, stands_after_force, fares_same)
 
 -- `ret` out of a routine: the phase ends, or the tree was terminated meanwhile
 routine_end_fares : (ended : Bool) (program : Program) (steps t root row : ℕ) (registers : List ℤ) (manner : Manner) (ends : Bool)
@@ -235,13 +194,9 @@ call_row_fares Ret program steps t scene origin stands counts =
 call_row_fares _ program steps t scene origin stands counts = fares_same scene.phasers origin counts
 
 -- rows of other groups count nothing
-counts_nothing : (row : Row) (t : ℕ) (scene : Scene) (origin : Origin) → group_of row ≢ Phasers → with_row row t scene origin ≡ origin
-counts_nothing (Preg into p) t scene origin other = absurd (other refl)
-counts_nothing row t scene origin other = grind arith
-
 uncounted : (row : Row) (t : ℕ) (scene : Scene) (origin : Origin) (outcome : Option Outcome) → group_of row ≢ Phasers
     → FaresTo scene origin outcome → FaresTo scene (with_row row t scene origin) outcome
-uncounted row t scene origin outcome other fares = grind (arith, counts_nothing)
+uncounted row t scene origin outcome other fares = search rules
 
 row_fares : (group : Group) (row : Row) (program : Program) (steps t : ℕ) (scene : Scene) (origin : Origin) → group_of row ≡ group
     → StandsAt program steps t scene status.Runs row → AreTallied scene.phasers origin
@@ -265,4 +220,4 @@ pub turn_fares : (state : Status) (row : Row) (program : Program) (steps t : ℕ
     → FaresTo scene (with_turn state row t scene origin) (outcome_in state row t program scene)
 turn_fares status.Runs row program steps t scene origin stands counts =
     row_fares (group_of row) row program steps t scene origin refl stands counts
-turn_fares state row program steps t scene origin stands counts = grind (arith, row_fares, aside_fares, popped_aside, phase_wait_aside, barrier_wait_aside, fares_same)
+turn_fares state row program steps t scene origin stands counts = grind (arith, row_fares, aside_fares, phase_wait_aside, barrier_wait_aside, fares_same)

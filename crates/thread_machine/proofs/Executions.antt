@@ -12,10 +12,6 @@ use Rattle.thread_machine.specs.Execution.{Execution, execution, execution_by, e
 abbrev after_event : Event → Execution → Execution
 after_event event rest = record { world = rest.world; events = event ∷ rest.events; refusal = rest.refusal }
 
-after_event-extended_by : (event : Event) (before now : Option StepFault) (done : Execution) (choice : Choice)
-    → after_event event (extended_by before now done choice) ≡ extended_by before now (after_event event done) choice
-after_event-extended_by event before now done choice = grind arith
-
 execution-single : (refusal : Option StepFault) (world : World) (choice : Choice)
     → execution_by refusal world choice (λ after. execution after [])
     ≡ extended_by None refusal (execution world []) choice
@@ -25,7 +21,7 @@ execution-cons : (refusal : Option StepFault) (world : World) (first : Choice) (
     → ((after : World) → execution after (choices ++ choice ∷ []) ≡ extended (execution after choices) choice)
     → execution_by refusal world first (λ after. execution after (choices ++ choice ∷ []))
     ≡ extended (execution_by refusal world first (λ after. execution after choices)) choice
-execution-cons refusal world first choices choice rest = grind (arith, after_event-extended_by)
+execution-cons refusal world first choices choice rest = grind arith
 
 -- the execution of one more choice
 pub execution-snoc : (choices : List Choice) (world : World) (choice : Choice)

@@ -19,10 +19,6 @@ accepted_too : (limit : ℕ) (world : World) (choice : Choice) → world.limit �
     → refusal_of (with_limit limit world) choice ≡ None
 accepted_too limit world choice higher accepted = grind (arith, higher, accepted, nat_tests)
 
-played_by_under : (limit : ℕ) (outcome : Option Outcome) (world : World)
-    → played_by outcome (with_limit limit world) ≡ played_under limit (played_by outcome world)
-played_by_under limit outcome world = grind arith
-
 -- what the rest makes of both worlds is the same, so what the choice and the rest make of them is
 steps_under : (limit : ℕ) (now later : Option StepFault) (world : World) (choice : Choice) (choices : List Choice)
     → (now ≡ None → later ≡ None)
@@ -32,7 +28,7 @@ steps_under : (limit : ℕ) (now later : Option StepFault) (world : World) (choi
     ≡ under_limit limit (execution (played world choice).world choices))
     → execution_by later (with_limit limit world) choice (λ after. execution after choices)
     ≡ under_limit limit (execution_by now world choice (λ after. execution after choices))
-steps_under limit now later world choice choices kept accepted rest = grind (arith, played_by_under)
+steps_under limit now later world choice choices kept accepted rest = grind arith
 
 limit_kept : (limit : ℕ) (outcome : Option Outcome) (world : World) → world.limit ≤ limit
     → (played_by outcome world).world.limit ≤ limit

@@ -32,13 +32,10 @@ pub record Fares (before after : List PhaserState) (counted : Origin) : Type 0 w
       → HaveAllArrived counted root before
   pub numbers : NumbersStay before after
 
-none_ended : (before after : List PhaserState) → KeepsEnds before after → (root : ℕ) → has_ended_phase root before after ≡ false
-none_ended before after kept root = grind arith
-
 -- no phase ends
 pub fares_on : (before after : List PhaserState) (counted : Origin) → KeepsEnds before after → KeepsNumbers before after
     → AreTallied after counted → Fares before after counted
-fares_on before after counted kept numbers stands = grind (arith, stands_same, none_ended)
+fares_on before after counted kept numbers stands = grind (arith, stands_same)
 
 -- nothing happens
 pub fares_same : (phasers : List PhaserState) (origin : Origin) → AreTallied phasers origin → Fares phasers phasers origin

@@ -1,7 +1,6 @@
 -- The number of a phase changes only as the phase ends.
-use Rattle.std.proofs.Common.{◌≡◌, ℕ, suc, ◌==◌, Bool, true, false, List, ◌∷◌, map, ap, refl, if◌then◌else◌, arith}
+use Rattle.std.proofs.Common.{◌≡◌, ℕ, suc, ◌==◌, Bool, false, List, ◌∷◌, map, ap, arith}
 use Rattle.std.proofs.lemmas.List.{get_or-set_other}
-use Rattle.packed_phaser.specs.Flat.{Flat, force}
 use Rattle.tier_tree.specs.Forest.{PhaserState, phaser_at, flat_at, root_at}
 use Rattle.tier_tree.specs.Registration.{after_registration}
 use Rattle.tier_tree.specs.Arrival.{arrival}
@@ -21,26 +20,18 @@ pub arrival-numbers : (id : ℕ) (leave : Bool) (phasers : List PhaserState) →
 arrival-numbers id leave phasers q = ap (λ (s : Standing). s.phase) (arrival-standings id leave phasers q)
 
 -- a termination
-forced_number : (here : Bool) (p : PhaserState) → (if here then record p { flat = force p.flat } else p).flat.phase ≡ p.flat.phase
-forced_number true p = refl
-forced_number false p = refl
-
 terminated-numbers : (root : ℕ) (phasers : List PhaserState) → KeepsNumbers phasers (map (terminated root) phasers)
 terminated-numbers root (p ∷ phasers) (suc q) = terminated-numbers root phasers q
-terminated-numbers root phasers q = grind (arith, forced_number)
+terminated-numbers root phasers q = grind arith
 
 pub force-numbers : (id : ℕ) (phasers : List PhaserState) → KeepsNumbers phasers (after_force id phasers)
 force-numbers id phasers q = terminated-numbers (root_at phasers id) phasers q
 
 -- the end of a phase leaves the other trees' phasers
-step_aside : (here : Bool) (p : PhaserState) (flat : Flat) → here ≡ false → (if here then record p { flat = flat } else p) ≡ p
-step_aside true p flat is = absurd (cc (is))
-step_aside false p flat is = refl
-
 in_step-aside : (root phase : ℕ) (ended : Bool) (phasers : List PhaserState) (q : ℕ) → (root_at phasers q == root) ≡ false
     → phaser_at (map (in_step root phase ended) phasers) q ≡ phaser_at phasers q
 in_step-aside root phase ended (p ∷ phasers) (suc q) apart = in_step-aside root phase ended phasers q apart
-in_step-aside root phase ended phasers q apart = grind (arith, step_aside)
+in_step-aside root phase ended phasers q apart = grind arith
 
 pub turn-number : (root : ℕ) (ends : Bool) (phasers : List PhaserState) (q : ℕ) → root_at phasers root ≡ root
     → (root_at phasers q == root) ≡ false → (flat_at (after_phase_end root ends phasers) q).phase ≡ (flat_at phasers q).phase

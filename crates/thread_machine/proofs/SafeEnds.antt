@@ -1,6 +1,6 @@
 -- No choice ends a phase early, nor does any in an execution.
 use Rattle.std.proofs.Common.{◌≡◌, ℕ, ◌+◌, ◌<◌, ◌≤◌, Bool, true, false, List, [], ◌∷◌, length, map, ap, refl, sym, subst, ◌∙◌, arith, if◌then◌else◌}
-use Rattle.std.specs.Prelude.{◌||◌, ◌&&◌, nat_le, is_some, Option, Some, None, Result, Ok, Err, IfOk, OnOk}
+use Rattle.std.specs.Prelude.{nat_le, is_some, Option, Some, None, Result, Ok, Err, IfOk, OnOk}
 use Rattle.std.proofs.lemmas.Bool.Decides.{nat_tests}
 use Rattle.std.proofs.lemmas.List.{length-map}
 use Rattle.tier_tree.specs.Forest.{PhaserState}
@@ -22,7 +22,6 @@ use Rattle.machine_scene.proofs.Outcomes.{stands_at, sound_outcome, sound_timeou
 use Rattle.machine_scene.proofs.Start.{sound_start, sound_with}
 use Rattle.thread_machine.specs.declared.choice.Choice.{Choice}
 use Rattle.thread_machine.specs.declared.fault.StepFault.{StepFault}
-use Rattle.thread_machine.specs.declared.fault.StepFault.TheVariants as fault
 use Rattle.thread_machine.specs.World.{World, StoredWorld, world_of, first_of}
 use Rattle.thread_machine.specs.Ready.{outcome_of_choice, is_choice_ready}
 use Rattle.thread_machine.specs.Step.{Played, played, played_by, refusal_of}
@@ -101,19 +100,13 @@ pub record Goes (world : World) (origin : Origin) : Type 0 where
   pub stands : AreTallied world.scene.phasers origin
 
 -- an accepted choice is one of a thread that is there, and while steps are left if it takes one
-accepted_by : (absent over all ready : Bool)
-    → (if absent then Some fault.NoSuchThread else (if over || (all && ready) then Some fault.StepLimit else None)) ≡ None
-    → (absent ≡ false) × (ready ≡ true → all ≡ false)
-accepted_by true over all ready is = absurd (cc (is))
-accepted_by false _ all ready is = grind arith
-
 less_if : (m n : ℕ) → nat_le m n ≡ false → n < m
 less_if m n is = grind (arith, nat_tests, is)
 
 accepted : (world : World) (choice : Choice) → refusal_of world choice ≡ None
     → (choice.thread < length world.scene.threads)
     × (is_choice_ready world.program choice world.scene ≡ true → world.steps < world.limit)
-accepted world choice is = grind (arith, accepted_by, less_if)
+accepted world choice is = grind (arith, less_if)
 
 sound_choice : (expiry : Bool) (program : Program) (steps t : ℕ) (scene : Scene) (outcome : Outcome) → IsSound program steps scene
     → steps < 2147483647 → t < length scene.threads

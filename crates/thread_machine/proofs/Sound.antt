@@ -1,5 +1,5 @@
 -- A machine stays one.
-use Rattle.std.proofs.Common.{◌≡◌, List, map, replicate, pos, ◌+◌, ◌<◌, ◌≤◌, ℕ, arith, sym, subst}
+use Rattle.std.proofs.Common.{◌≡◌, List, map, replicate, pos, ◌+◌, ◌<◌, ◌≤◌, ℕ, arith}
 use Rattle.tier_tree.specs.Stored.{Stored, phasers_of, IsStored}
 use Rattle.cyclic_barrier.specs.Barrier.{BarrierState}
 use Rattle.thread_state.specs.Thread.{ThreadState}
@@ -34,13 +34,9 @@ pub first_parts : (program : Program) (steps : ℕ) (threads : List ThreadState)
 first_parts program steps threads phasers barriers sound same_threads same_phasers same_barriers = grind arith
 
 -- before the first choice
-scene_starts : (program : Program) (scene : StoredScene) → IsProgram program → IsStored program.phasers
-    → scene_of scene ≡ first_scene program → IsSound program 0 (scene_of scene)
-scene_starts program scene whole stored is = subst (λ (s : Scene). IsSound program 0 s) (sym is) (sound_start program whole stored.places)
-
 pub machine_starts : (program : Program) (limit : ℕ) (scene : StoredScene) → IsProgram program → IsStored program.phasers
     → limit ≤ 1000000000 → scene_of scene ≡ first_scene program → KnowsReady program scene → IsMachine (world_with program limit scene 0 0)
-machine_starts program limit scene whole stored most is known = grind (arith, scene_starts)
+machine_starts program limit scene whole stored most is known = grind (arith, sound_start)
 
 -- an idle choice can be undone
 pub idle_undone : (world after : StoredWorld) → IsMachine world → after ≡ record world { choices = world.choices + 1 } → CanUndo None after

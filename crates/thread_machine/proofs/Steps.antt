@@ -1,14 +1,13 @@
 -- What follows of a choice that was played: what undoes it, and how the direct counts go on.
 use Rattle.std.proofs.Common.{◌≡◌, ◌≢◌, ◌+◌, ◌<◌, Bool, true, false, length, refl, sym, subst, arith, if◌then◌else◌}
-use Rattle.std.specs.Prelude.{Option, Some, None, is_some, Result, Ok, Err}
+use Rattle.std.specs.Prelude.{Option, Some, None, Result, Ok, Err}
 use Rattle.thread_state.specs.declared.event.Event.{Event}
-use Rattle.machine_scene.specs.Scene.{Outcome, scene_of}
+use Rattle.machine_scene.specs.Scene.{scene_of}
 use Rattle.machine_scene.specs.Undo as scene
 use Rattle.thread_machine.specs.declared.choice.Choice.{Choice}
 use Rattle.thread_machine.specs.declared.fault.StepFault.{StepFault}
-use Rattle.thread_machine.specs.World.{World, StoredWorld}
+use Rattle.thread_machine.specs.World.{StoredWorld}
 use Rattle.thread_machine.specs.Ready.{is_choice_ready}
-use Rattle.thread_machine.specs.Step.{played_by}
 use Rattle.thread_machine.specs.Sound.{IsMachine}
 use Rattle.thread_machine.specs.Undo.{undone, CanUndo}
 use Rattle.thread_machine.specs.Stepped.{IsStep, HasPlayed, kept_of}
@@ -16,12 +15,9 @@ use Rattle.thread_machine.proofs.Sound.{idle_undone}
 use Rattle.thread_machine.proofs.SafeEnds.{step_keeps, result_numbers}
 
 -- a choice takes a step just where it is ready
-took : (outcome : Option Outcome) (world : World) → (played_by outcome world).world.steps ≡ (if is_some outcome then world.steps + 1 else world.steps)
-took outcome world = grind arith
-
 steps_after : (old new : StoredWorld) (choice : Choice) (event : Event) (ready : Bool) → is_choice_ready old.program choice (scene_of old.scene) ≡ ready
     → HasPlayed old choice (Ok event) new → new.steps ≡ (if ready then old.steps + 1 else old.steps)
-steps_after old new choice event ready is has = grind (arith, took)
+steps_after old new choice event ready is has = grind arith
 
 -- it undoes the choice
 record IsUndone (old : StoredWorld) (kept : Option scene.Note) (new : StoredWorld) : Type 0 where
