@@ -1,6 +1,6 @@
 -- Where a run isn't over, some thread has a choice to make.
-use Rattle.std.proofs.Common.{◌≡◌, ◌⊎◌, inl, inr, ◌<◌, ℕ, true, false, arith, refl, length}
-use Rattle.std.specs.Prelude.{Option, Some, None, is_some}
+use Rattle.std.proofs.Common.{◌≡◌, ◌⊎◌, inl, inr, ◌<◌, ℕ, true, false, arith, length}
+use Rattle.std.specs.Prelude.{Option, None, is_some}
 use Rattle.std.proofs.lemmas.Bool.Decides.{nat_tests}
 use Rattle.thread_machine.specs.World.{World}
 use Rattle.thread_machine.specs.Ready.{some_ready, can_go_on}
@@ -41,10 +41,7 @@ by_expiry : (world : World) → some_ready world.program world.scene ≡ true
     → ((k : ℕ) → k < length world.scene.threads → is_ready_in world k ≡ false)
     → ((k : ℕ) → k < length world.scene.threads → can_expire_in world k ≡ false) ⊎ Lowest (can_expire_in world) (length world.scene.threads)
     → Chooser world
-by_expiry world some none (inl never) =
-    let stuck : some_ready world.program world.scene ≡ false =
-    none_passes (can_go_on world.program world.scene) (length world.scene.threads) (λ k within. cannot_go_on world k (none k within) (never k within)) in
-    absurd (cc (some, stuck))
+by_expiry world some none (inl never) = grind (arith, none_passes, cannot_go_on)
 by_expiry world some none (inr found) = record {
   at = found.at;
   there = found.there;
@@ -63,13 +60,10 @@ chooser world none = by_turn world (some_is_ready world none) (lowest (is_ready_
 
 -- a worker that waits
 not_over_by : (ending : Option Ending) → is_some ending ≡ false → ending ≡ None
-not_over_by (Some ending) isnt = absurd (cc isnt)
-not_over_by None isnt = refl
+not_over_by ending isnt = grind arith
 
 waits_not_over : (broken : Option Break) (world : World) (t : ℕ) → waits broken world t ≡ true → ending_of world ≡ None
-waits_not_over broken world t wait =
-    let no : is_some (ending_of world) ≡ false = grind (arith, wait) in
-    not_over_by (ending_of world) no
+waits_not_over broken world t wait = grind arith
 
 waits_not_choosing : (broken : Option Break) (world : World) (t : ℕ) → waits broken world t ≡ true → may_choose world t ≡ false
 waits_not_choosing broken world t wait = grind (arith, wait)
@@ -78,5 +72,4 @@ pub not_all_wait : (broken : Option Break) (world : World) → 0 < length world.
     → ((t : ℕ) → t < length world.scene.threads → waits broken world t ≡ true) → ⊥
 not_all_wait broken world some all =
     let found = chooser world (waits_not_over broken world 0 (all 0 some)) in
-    let no = waits_not_choosing broken world found.at (all found.at found.there) in
-    absurd (cc (found.chooses, no))
+    grind (arith, waits_not_choosing)

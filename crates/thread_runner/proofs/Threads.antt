@@ -7,15 +7,11 @@ use Rattle.std.proofs.lemmas.List.Folds.{list_any_at, list_any_none}
 -- one number more that fails the test
 pub one_more : (test : ℕ → Bool) (t : ℕ) → ((k : ℕ) → k < t → test k ≡ false) → test t ≡ false
     → (k : ℕ) → k < t + 1 → test k ≡ false
-one_more test t before now k within =
-    let last : k ≡ t → test k ≡ false = λ is. ap test is ∙ now in
-    grind (arith, last, before k)
+one_more test t before now k within = grind arith
 
 -- the numbers below this one, in order
 nth : (many k d : ℕ) → k < many → get_or (range_with_len 0 many) k d ≡ k
-nth many k d within =
-    let from : 0 + k ≡ k = omega arith in
-    get_or-range_with_len 0 many k d within ∙ from
+nth many k d within = grind (arith, get_or-range_with_len)
 
 -- one passes
 pub one_passes : (test : ℕ → Bool) (many t : ℕ) → t < many → test t ≡ true → list_any test (range_with_len 0 many) ≡ true
@@ -25,10 +21,7 @@ one_passes test many t there passes =
 
 -- none does
 pub none_passes : (test : ℕ → Bool) (many : ℕ) → ((k : ℕ) → k < many → test k ≡ false) → list_any test (range_with_len 0 many) ≡ false
-none_passes test many none =
-    list_any_none test (range_with_len 0 many) (λ k d within.
-    let there : k < many = subst (λ n. k < n) (length-range_with_len 0 many) within in
-    ap test (nth many k d there) ∙ none k there)
+none_passes test many none = grind (arith, list_any_none, length-range_with_len, nth)
 
 -- none below this number passes, or there is a lowest that does
 pub record Lowest (test : ℕ → Bool) (many : ℕ) : Type 0 where
@@ -40,8 +33,7 @@ pub record Lowest (test : ℕ → Bool) (many : ℕ) : Type 0 where
 lowest_by : (test : ℕ → Bool) (many : ℕ) (last : Bool) → test many ≡ last
     → ((k : ℕ) → k < many → test k ≡ false) ⊎ Lowest test many
     → ((k : ℕ) → k < suc many → test k ≡ false) ⊎ Lowest test (suc many)
-lowest_by test many last is (inr found) =
-    inr (record { at = found.at; there = omega (arith, found.there); passes = found.passes; lower = found.lower })
+lowest_by test many last is (inr found) = grind arith
 lowest_by test many true is (inl none) = inr (record { at = many; there = omega arith; passes = is; lower = none })
 lowest_by test many false is (inl none) = inl (λ k within. one_more test many none is k (omega (arith, within)))
 
