@@ -8,6 +8,7 @@ import sys
 from marks import TOP
 
 CRATE = TOP / "crates" / "pictures"
+WIDTH = 140
 SCRIPTS = ("read", "words", "draw", "paper", "steps")
 CONSTANTS = {
     "HEAD": "What a page begins with, up to the listing.",
@@ -35,14 +36,26 @@ def page():
     return re.sub("|".join(made), lambda found: made[found.group()], source("page.html"))
 
 
+def packed(text):
+    """A text as the inside of a byte string, in lines that go on behind a backslash. Rust skips the spaces that such a line begins
+    with, so none does."""
+    lines, line = [], ""
+    for at, letter in enumerate(text):
+        line += {"\n": "\\n", '"': '\\"', "\\": "\\\\"}.get(letter, letter)
+        if len(line) >= WIDTH and text[at + 1:at + 2] != " ":
+            lines.append(line)
+            line = ""
+    return "\\\n".join(lines + [line])
+
+
 def constant(name, text):
-    return f'\n/// {CONSTANTS[name]}\n#[rattlefmt::skip]\npub const {name}: &[u8] = br###"{text}"###;\n'
+    return f'\n/// {CONSTANTS[name]}\n#[rattlefmt::skip]\npub const {name}: &[u8] = b"\\\n{packed(text)}";\n'
 
 
 def made():
     text = page()
-    if '"###' in text or re.search(r"[^ -~\n]", text):
-        sys.exit("the page holds a byte that isn't ASCII, or what ends a constant")
+    if re.search(r"[^ -~\n]", text):
+        sys.exit("the page holds a byte that isn't ASCII")
     parts = text.split("@@TEXT@@")
     if len(parts) != len(CONSTANTS):
         sys.exit(f"the page has {len(parts) - 1} places for its texts, and not {len(CONSTANTS) - 1}")
