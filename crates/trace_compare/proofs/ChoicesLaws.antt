@@ -19,7 +19,7 @@ use Rattle.trace_text.proofs.StateLines.{parts_text, state-is_state, state-line}
 use Rattle.trace_text.proofs.WholeLines.{split-line}
 use Rattle.trace_compare.specs.declared.line_names.LineNames.{LineNames}
 use Rattle.trace_compare.specs.declared.line_names.LineNames.TheVariants as names
-use Rattle.trace_compare.specs.Naming.{Naming, behind_choices, choices_named, choices_or_line, ended, named, naming_by, naming_from}
+use Rattle.trace_compare.specs.Naming.{Naming, behind_choices, choices_named, ended, named, naming_by, naming_from}
 use Rattle.trace_compare.specs.Shown.{behind, shown}
 
 -- choices, and a state behind them
@@ -85,8 +85,7 @@ trace-named (choice ∷ choices) world n few there =
 
 pub trace-choices : (choices : List Choice) (world : World) → world.choices ≤ 1000000000000 → All IsNamed choices
     → choices_named (trace_of world choices) ≡ Ok (shown world choices)
-trace-choices choices world few there =
-    ap (λ (naming : Naming). choices_or_line naming.choices naming.no_line) (trace-named choices world 1 few there)
+trace-choices choices world few there = grind (arith, trace-named)
 
 -- where none is refused
 all_by : (refusal : Option StepFault) (world : World) (choice : Choice) (choices : List Choice)

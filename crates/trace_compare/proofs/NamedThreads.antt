@@ -75,9 +75,7 @@ named-choices (run ∷ runs) there =
 
 -- a token spells a thread that a line may name
 named_each : (runs : List Run) → All IsRun runs → All HasName runs
-named_each [] are = All-nil HasName
-named_each (run ∷ runs) are =
-    All-cons HasName run runs (All-head IsRun run runs are).thread (named_each runs (All-tail IsRun run runs are))
+named_each runs are = grind arith
 
 pub named-runs : (runs : List Run) → All IsRun runs → All IsNamed (choices_of runs)
 named-runs runs are = named-choices runs (named_each runs are)

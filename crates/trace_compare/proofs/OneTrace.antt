@@ -1,6 +1,6 @@
 -- An image's program shows the same under the same choices, however its phasers are stored. So a trace that was written is found
 -- the same.
-use Rattle.std.proofs.Common.{◌≡◌, ◌∙◌, ℕ, List, [], ◌∷◌, ◌++◌, All, Option, None, inl, inr, refl, ap, append-nil, arith, sym}
+use Rattle.std.proofs.Common.{◌≡◌, ◌∙◌, ℕ, List, [], ◌∷◌, All, Option, None, refl, ap, append-nil, arith, sym}
 use Rattle.row_code.specs.declared.image.Image.{Image}
 use Rattle.tier_tree.specs.Stored.{Stored}
 use Rattle.schedule_reader.specs.declared.run.Run.{Run}
@@ -66,8 +66,7 @@ trace-first image limit world choices is = grind (arith, as-stored, trace-same)
 -- the verdict on a trace, beside the program that it is of
 begun-verdict : (image : Image) (world : World) (choices : List Choice) → Begins image world → All IsNamed choices
     → verdict_of world (trace_of world choices) ≡ verdict.Same
-begun-verdict image world choices (loads, first) named =
-    own-trace choices world 1 (omega (arith, ap (λ (w : World). w.choices) first)) named
+begun-verdict image world choices given named = grind (arith, own-trace)
 
 -- and beside that program from another world in which it begins
 other-verdict : (image : Image) (one other : World) (choices : List Choice) → Begins image one → Begins image other → All IsNamed choices
@@ -79,10 +78,7 @@ other-verdict image one other choices begins begins' named =
 -- so a comparison with that program finds it the same
 found-same : (image : Image) (one : World) (choices : List Choice) → Begins image one → All IsNamed choices
     → IsFoundTheSame image (trace_of one choices)
-found-same image one choices begins named left v (other, (bytes, (begins', consumed, inl (end, found)))) =
-    let all : bytes ≡ trace_of one choices = sym (append-nil bytes) ∙ ap (λ rest. bytes ++ rest) (sym end) ∙ sym consumed in
-    sym found ∙ ap (verdict_of other) all ∙ other-verdict image one other choices begins begins' named
-found-same image one choices begins named left v (other, (bytes, (begins', consumed, inr later))) = grind (arith, other-verdict)
+found-same image one choices begins named left v given = grind (arith, append-nil, other-verdict)
 
 -- that of runs that a token can spell
 pub traced-same : (image : Image) (world : World) (runs : List Run) (end : RunEnd) (old new : Option (List ℕ))

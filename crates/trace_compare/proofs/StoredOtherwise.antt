@@ -1,17 +1,17 @@
 -- A choice comes to the same however the phasers of its program are stored.
-use Rattle.std.proofs.Common.{◌≡◌, ◌∙◌, ◌||◌, ℕ, ℤ, Bool, List, [], ◌∷◌, Option, Some, refl, ap, arith}
+use Rattle.std.proofs.Common.{◌≡◌, ℕ, ℤ, Bool, List, Option, Some, arith}
 use Rattle.std.specs.List.{list_any}
 use Rattle.instruction_table.specs.declared.register.Reg.{Reg}
 use Rattle.instruction_table.specs.declared.row.Row.{Row}
 use Rattle.cyclic_barrier.specs.declared.answer.Entered.{Entered}
 use Rattle.tier_tree.specs.declared.arrived.Arrived.{Arrived}
 use Rattle.tier_tree.specs.Stored.{Stored}
-use Rattle.loader.specs.Program.{Program, row_at}
+use Rattle.loader.specs.Program.{Program}
 use Rattle.thread_state.specs.declared.frame.Frame.{Frame}
 use Rattle.thread_state.specs.declared.status.Status.{Status}
 use Rattle.machine_scene.specs.declared.group.Group.{Group}
 use Rattle.machine_scene.specs.declared.manner.Manner.{Manner}
-use Rattle.machine_scene.specs.Scene.{Scene, thread_at}
+use Rattle.machine_scene.specs.Scene.{Scene}
 use Rattle.machine_scene.specs.BarrierRows.{outcome_of_await_at, outcome_of_barrier_row, outcome_of_entered, unless_busy, unless_runner}
 use Rattle.machine_scene.specs.CallRows.{outcome_of_call_row, outcome_of_ret}
 use Rattle.machine_scene.specs.PhaserRows.{outcome_of_arrival, outcome_of_arrived, outcome_of_phaser_row, outcome_of_pending_end, unless_own}
@@ -39,8 +39,7 @@ arrival-same phasers manner p t program scene = grind (arith, arrived-same)
 counted-same : (phasers : List Stored) (manner : Manner) (p t : ℕ) (program : Program) (scene : Scene)
     → unless_own p t scene (Some (outcome_of_arrival manner p t (stored_in phasers program) scene))
     ≡ unless_own p t scene (Some (outcome_of_arrival manner p t program scene))
-counted-same phasers manner p t program scene =
-    ap (λ outcome. unless_own p t scene (Some outcome)) (arrival-same phasers manner p t program scene)
+counted-same phasers manner p t program scene = grind arith
 
 phaser_row-same : (phasers : List Stored) (row : Row) (t : ℕ) (program : Program) (scene : Scene)
     → outcome_of_phaser_row row t (stored_in phasers program) scene ≡ outcome_of_phaser_row row t program scene
@@ -77,8 +76,7 @@ turn_by-same phasers now row t program scene = grind (arith, group-same)
 
 turn-same : (phasers : List Stored) (t : ℕ) (program : Program) (scene : Scene)
     → outcome_of t (stored_in phasers program) scene ≡ outcome_of t program scene
-turn-same phasers t program scene =
-    turn_by-same phasers (thread_at scene t).status (row_at program.rows (thread_at scene t).pc) t program scene
+turn-same phasers t program scene = grind (arith, turn_by-same)
 
 expiry-same : (phasers : List Stored) (t : ℕ) (program : Program) (scene : Scene)
     → outcome_of_expiry t (stored_in phasers program) scene ≡ outcome_of_expiry t program scene
@@ -94,9 +92,7 @@ goes_on-same : (phasers : List Stored) (program : Program) (scene : Scene) (t : 
 goes_on-same phasers program scene t = grind (arith, turn-same, expiry-same)
 
 any-same : (one other : ℕ → Bool) (ts : List ℕ) → ((t : ℕ) → one t ≡ other t) → list_any one ts ≡ list_any other ts
-any-same one other [] same = refl
-any-same one other (t ∷ ts) same =
-    ap (λ first. first || list_any one ts) (same t) ∙ ap (λ rest. other t || rest) (any-same one other ts same)
+any-same one other ts same = grind arith
 
 -- whether any choice may take a step
 pub some_ready-same : (phasers : List Stored) (program : Program) (scene : Scene)
