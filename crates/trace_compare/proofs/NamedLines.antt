@@ -51,34 +51,23 @@ begun-line (x ∷ xs) ys one =
     let (h, (t, is)) = begun-line xs ys (All-tail test x xs one) in
     (h, (t, slice_split-cons_no is_line_end x (xs ++ ys) (All-head test x xs one) ∙ ap (onto_first x) is))
 
-made_by : (is : LineNames) (choice : Choice) → next_by is how.Whole ≡ next.Made choice → is ≡ names.Made choice
-made_by is choice e = grind arith
-
-not_at_end : (is : LineNames) (choice : Choice) → next_by is how.AtEnd ≡ next.Made choice → ⊥
-not_at_end is choice e = grind arith
-
 -- a line that names a choice, and isn't the last
 pub line-made : (ended : LineEnded) (line : List ℕ) (choice : Choice) (n : ℕ) (before after : Lines) (a b : Option (List ℕ))
     → IsOneLine line → HasCome ended line (prepend_known after.held b) → next_by (line_names line) ended ≡ next.Made choice
     → Consumes (prepend_known before.held a) (prepend_known after.held b) (taken (Ok ended) line)
     → (ended ≢ how.AtEnd → Gave before after (length (taken (Ok ended) line))) → HasTaken n (choice ∷ []) (n + 1) before after a b
-line-made ended line choice n before after a b one came is gone gave =
-    grind (arith, length-append, whole-line, names-line, made_by, not_at_end, long-names)
+line-made ended line choice n before after a b one came is gone gave = grind (arith, length-append, whole-line, names-line, long-names)
 
 -- the line that ends them, by what it names
 by_end : (is : LineNames) (n : ℕ) → naming_by is n (ended (Some (n + 1))) ≡ last_naming (next_by is how.AtEnd) n
 by_end is n = grind arith
-
-by_whole : (is : LineNames) (n : ℕ) (rest : Naming) → ((choice : Choice) → next_by is how.Whole ≢ next.Made choice)
-    → naming_by is n rest ≡ last_naming (next_by is how.Whole) n
-by_whole is n rest none = grind arith
 
 pub line-last : (ended : LineEnded) (line : List ℕ) (n : ℕ) (before after : Lines) (a b : Option (List ℕ))
     → IsOneLine line → HasCome ended line (prepend_known after.held b)
     → ((choice : Choice) → next_by (line_names line) ended ≢ next.Made choice)
     → Consumes (prepend_known before.held a) (prepend_known after.held b) (taken (Ok ended) line)
     → HasEnded n (last_naming (next_by (line_names line) ended) n) before after a b
-line-last how.Whole line n before after a b one came none gone = grind (arith, whole-line, by_whole)
+line-last how.Whole line n before after a b one came none gone = grind (arith, whole-line)
 line-last how.AtEnd line n before after a b one came none gone = grind (arith, slice_split_none, by_end)
 line-last how.TooLong line n before after a b one came none gone =
     let nothing : line_names line ≡ names.Nothing = long-names line (omega (arith, came)) in (

@@ -8,7 +8,7 @@ use Rattle.schedule_reader.specs.Schedule.{IsRun, choices_of}
 use Rattle.thread_machine.specs.declared.choice.Choice.{Choice}
 use Rattle.thread_machine.specs.declared.fault.StepFault.{StepFault}
 use Rattle.thread_machine.specs.World.{World, IsFirstOf, first_of}
-use Rattle.thread_machine.specs.Step.{played, refusal_of}
+use Rattle.thread_machine.specs.Step.{refusal_of}
 use Rattle.thread_machine.specs.Execution.{Execution, execution, execution_by}
 use Rattle.trace_text.specs.Outcome.{EndsFrom}
 use Rattle.trace_text.specs.RunText.{AreTraced}
@@ -18,22 +18,14 @@ use Rattle.trace_text.specs.declared.run_end.RunEnd.{RunEnd}
 use Rattle.trace_compare.specs.declared.comparison.Verdict.TheVariants as verdict
 use Rattle.trace_compare.specs.Compare.{HasWrittenTheSame, IsFoundTheSame, verdict_of}
 use Rattle.trace_compare.proofs.NamedThreads.{named-runs, named-threads}
-use Rattle.trace_compare.proofs.OneVerdict.{as-stored, plays-same, played-event, played-world, refusal-same, state-same, stored}
+use Rattle.trace_compare.proofs.OneVerdict.{as-stored, plays-same, played-world, refusal-same, state-same, stored}
 use Rattle.trace_compare.proofs.OwnTrace.{IsNamed, own-trace}
-
-after-same : (phasers : List Stored) (world : World) (choice : Choice)
-    → (played (stored phasers world) choice).world ≡ stored phasers (played world choice).world
-after-same phasers world choice = grind (arith, plays-same, played-world)
-
-event-same : (phasers : List Stored) (world : World) (choice : Choice)
-    → (played (stored phasers world) choice).event ≡ (played world choice).event
-event-same phasers world choice = grind (arith, plays-same, played-event)
 
 -- the lines, and the world that is left
 lines-by : (phasers : List Stored) (refusal : Option StepFault) (world : World) (choice : Choice) (rest : World → List ℕ)
     → ((after : World) → rest (stored phasers after) ≡ rest after)
     → lines_by refusal (stored phasers world) choice rest ≡ lines_by refusal world choice rest
-lines-by phasers refusal world choice rest same = grind (arith, stored, event-same, after-same)
+lines-by phasers refusal world choice rest same = grind (arith, plays-same, played-world)
 
 lines-same : (choices : List Choice) (phasers : List Stored) (world : World)
     → lines_of (stored phasers world) choices ≡ lines_of world choices
@@ -45,7 +37,7 @@ lines-same (choice ∷ choices) phasers world =
 left-by : (phasers : List Stored) (refusal : Option StepFault) (world : World) (choice : Choice) (rest : World → Execution)
     → ((after : World) → (rest (stored phasers after)).world ≡ stored phasers (rest after).world)
     → (execution_by refusal (stored phasers world) choice rest).world ≡ stored phasers (execution_by refusal world choice rest).world
-left-by phasers refusal world choice rest same = grind (arith, after-same)
+left-by phasers refusal world choice rest same = grind (arith, plays-same, played-world)
 
 pub left-same : (choices : List Choice) (phasers : List Stored) (world : World)
     → (execution (stored phasers world) choices).world ≡ stored phasers (execution world choices).world
@@ -54,14 +46,10 @@ left-same (choice ∷ choices) phasers world =
     ap (λ why. (execution_by why (stored phasers world) choice (λ after. execution after choices)).world) (refusal-same phasers world choice)
     ∙ left-by phasers (refusal_of world choice) world choice (λ after. execution after choices) (λ after. left-same choices phasers after)
 
-trace-same : (choices : List Choice) (phasers : List Stored) (world : World)
-    → trace_of (stored phasers world) choices ≡ trace_of world choices
-trace-same choices phasers world = grind (arith, stored, lines-same, left-same, state-same)
-
 -- the trace is that of the image's first world
 pub trace-first : (image : Image) (limit : ℕ) (world : World) (choices : List Choice) → IsFirstOf image limit world
     → trace_of world choices ≡ trace_of (first_of image limit) choices
-trace-first image limit world choices is = grind (arith, as-stored, trace-same)
+trace-first image limit world choices is = grind (arith, as-stored, lines-same, left-same, state-same)
 
 -- the verdict on a trace, beside the program that it is of
 begun-verdict : (image : Image) (world : World) (choices : List Choice) → Begins image world → All IsNamed choices

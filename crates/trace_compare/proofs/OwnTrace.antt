@@ -1,5 +1,5 @@
 -- The trace of any choices has the verdict `Same`.
-use Rattle.std.proofs.Common.{◌≡◌, ◌∙◌, ◌+◌, ◌<◌, ◌≤◌, ◌||◌, ℕ, Bool, true, false, List, [], ◌∷◌, ◌++◌, length, cond, Option, Some, None, is_none, refl, ap, sym, arith, append_assoc, append-nil, All}
+use Rattle.std.proofs.Common.{◌≡◌, ◌∙◌, ◌+◌, ◌<◌, ◌≤◌, ℕ, Bool, true, false, List, [], ◌∷◌, ◌++◌, length, cond, Option, Some, None, is_none, refl, ap, sym, arith, append_assoc, append-nil, All}
 use Rattle.std.proofs.lemmas.Bool.{eqb-false}
 use Rattle.std.proofs.lemmas.List.Elements.{All-head, All-tail}
 use Rattle.std.proofs.lemmas.Slice.Eq.{bytes_eq-Decides}
@@ -51,9 +51,6 @@ state_again : (brief : Type 0) (text : List ℕ) (n : ℕ) → IsWhole brief tex
 state_again brief text n p = ap (λ t. state_verdict t n (slice_split is_line_end t)) p.is ∙ state-own p.lines n p.within
 
 -- a line up to the state line
-cond-no : {A : Type 0} (b : Bool) (x y : A) → b ≡ false → cond b x y ≡ y
-cond-no b x y is = ap (λ c. cond c x y) is
-
 cond-yes : {A : Type 0} (b : Bool) (x y : A) → b ≡ true → cond b x y ≡ x
 cond-yes b x y is = ap (λ c. cond c x y) is
 
@@ -90,12 +87,7 @@ pub choice-same : (world : World) (choice : Choice) (rest : List ℕ) (n : ℕ) 
     → lines_verdict true world n (slice_split is_line_end (lines_of world (choice ∷ []) ++ rest))
     ≡ lines_verdict (is_none (execution world (choice ∷ [])).refusal) (execution world (choice ∷ [])).world (n + 1)
     (slice_split is_line_end rest)
-choice-same world choice rest n own = grind (arith, bytes_eq-Decides, split-line, cond-no, cond-yes)
-
-accepted-few_by : (missing all limit : Bool)
-    → cond missing (Some NoSuchThread) (cond (all || limit) (Some StepLimit) None) ≡ None → all ≡ false
-accepted-few_by false false limit is = refl
-accepted-few_by _ _ limit is = let no : ⊥ = cc in absurd no
+choice-same world choice rest n own = grind (arith, bytes_eq-Decides, split-line, cond-yes)
 
 pub after_by : (refusal : Option StepFault) (world : World) (choice : Choice)
     → (execution_by refusal world choice (λ after. execution after [])).refusal ≡ None
@@ -104,7 +96,7 @@ after_by refusal world choice none = grind arith
 
 pub counted : (world : World) (choice : Choice) → world.choices ≤ 1000000000000 → (execution world (choice ∷ [])).refusal ≡ None
     → (execution world (choice ∷ [])).world.choices ≤ 1000000000000
-counted world choice few none = grind (arith, after_by, accepted-few_by, eqb-false, played-choices)
+counted world choice few none = grind (arith, after_by, eqb-false, played-choices)
 
 -- what follows a choice's line, by whether the choice was refused
 rest_by : (refusal : Option StepFault) (world : World) (choice : Choice) (choices : List Choice) (n : ℕ)

@@ -40,11 +40,6 @@ passed false n line rest e = refuted (is_too_long line) n e
 some_state : (text : List ℕ) (n : ℕ) (lines : List (List ℕ)) → state_verdict text n lines ≡ verdict.Same → 0 < length lines
 some_state text n lines e = grind arith
 
-some_lines : (accepted : Bool) (world : World) (n : ℕ) (lines : List (List ℕ)) → lines_verdict accepted world n lines ≡ verdict.Same
-    → 0 < length lines
-some_lines accepted world n [] e = let no : ⊥ = cc in absurd no
-some_lines accepted world n (line ∷ lines) e = omega arith
-
 -- the state text
 state-joined : (lines : List (List ℕ)) (text : List ℕ) (n : ℕ) → state_verdict text n lines ≡ verdict.Same → joined lines ≡ text
 state-joined (line ∷ lines) (byte ∷ text) n e =
@@ -80,7 +75,7 @@ line-joined : (state : Bool) (named : Option Choice) (accepted : Bool) (world : 
     → joined (line ∷ lines) ≡ left_by accepted world (cond state [] (with_choice named (choices_in lines)))
 line-joined true named accepted world n line lines rest e =
     state-joined (line ∷ lines) (state_text world) n e ∙ left_by-none accepted world
-line-joined false named accepted world n line lines rest e = grind (arith, state-joined, left_by-none, refuted, passed, joined-line, some_lines, bytes_eq-Decides, after_choice)
+line-joined false named accepted world n line lines rest e = grind (arith, state-joined, left_by-none, refuted, passed, joined-line, bytes_eq-Decides, after_choice)
 
 lines-joined : (lines : List (List ℕ)) (accepted : Bool) (world : World) (n : ℕ) → lines_verdict accepted world n lines ≡ verdict.Same
     → joined lines ≡ left_by accepted world (choices_in lines)

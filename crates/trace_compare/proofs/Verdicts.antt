@@ -56,21 +56,10 @@ long-otherwise : (n : ℕ) (line : List ℕ) → 65536 < length line → otherwi
 long-otherwise n line many = ap (λ long. cond long (verdict.NotATrace n) (verdict.Differs n)) (lt-ltb 65536 (length line) many)
 
 -- a line of the state text
-state-by : (byte : ℕ) (text : List ℕ) (n : ℕ) (line : List ℕ) (lines : List (List ℕ)) (same : Bool)
-    → bytes_eq (line ++ (10 ∷ [])) (first_line (byte ∷ text)) ≡ same
-    → state_verdict (byte ∷ text) n (line ∷ lines) ≡ cond same (state_verdict (after_line (byte ∷ text)) (n + 1) lines) (otherwise n line)
-state-by byte text n line lines same is = grind arith
-
 pub state-same : (text : List ℕ) (n : ℕ) (line : List ℕ) (lines : List (List ℕ)) → 0 < length text
     → line ++ (10 ∷ []) ≡ first_line text
     → state_verdict text n (line ∷ lines) ≡ state_verdict (after_line text) (n + 1) lines
-state-same text n line lines some same = grind (arith, state-by, same_bytes)
-
--- where another one is due, or nothing
-state-other : (text : List ℕ) (n : ℕ) (line : List ℕ) (lines : List (List ℕ)) → 0 < length text + (length line + length lines)
-    → (0 < length text → bytes_eq (line ++ (10 ∷ [])) (first_line text) ≡ false)
-    → state_verdict text n (line ∷ lines) ≡ otherwise n line
-state-other text n line lines due_or_left other = grind (arith, state-by)
+state-same text n line lines some same = grind (arith, same_bytes)
 
 -- the line of a choice
 pub choice-same : (named : Option Choice) (choice : Choice) (accepted more : Bool) (world after : World) (n : ℕ)
@@ -177,7 +166,7 @@ longer line text less = grind (arith, false_from_ne_true, length-append, bytes_e
 -- a line that is too long isn't the run's: not in the state
 long_state : (text : List ℕ) (n : ℕ) (line : List ℕ) (lines : List (List ℕ)) → position_or_len is_line_end text ≤ 65536
     → 65536 < length line → state_verdict text n (line ∷ lines) ≡ verdict.NotATrace n
-long_state text n line lines few many = grind (arith, state-other, longer, length-take, long-otherwise)
+long_state text n line lines few many = grind (arith, longer, length-take, long-otherwise)
 
 -- nor of a choice
 long_choice : (named : Option Choice) (accepted : Bool) (world : World) (n : ℕ) (line : List ℕ) (rest : Bool → World → Verdict)
