@@ -1,5 +1,5 @@
 -- The choices of the trace of a schedule.
-use Rattle.std.proofs.Common.{◌≡◌, ◌∙◌, ◌+◌, ◌≤◌, ℕ, Bool, true, false, List, [], ◌∷◌, ◌++◌, length, cond, Option, Some, None, is_none, Ok, refl, ap, sym, arith, append_assoc, All}
+use Rattle.std.proofs.Common.{◌≡◌, ◌∙◌, ◌+◌, ◌≤◌, ℕ, Bool, true, false, List, [], ◌∷◌, ◌++◌, length, cond, Option, None, is_none, Ok, refl, ap, sym, arith, append_assoc, All}
 use Rattle.std.specs.List.{slice_split}
 use Rattle.std.proofs.lemmas.Bool.{le-ltb}
 use Rattle.std.proofs.lemmas.List.Elements.{All-head, All-tail}
@@ -19,7 +19,7 @@ use Rattle.trace_text.proofs.StateLines.{parts_text, state-is_state, state-line}
 use Rattle.trace_text.proofs.WholeLines.{split-line}
 use Rattle.trace_compare.specs.declared.line_names.LineNames.{LineNames}
 use Rattle.trace_compare.specs.declared.line_names.LineNames.TheVariants as names
-use Rattle.trace_compare.specs.Naming.{Naming, behind_choices, choices_named, choices_or_line, ended, named, naming_by, naming_from}
+use Rattle.trace_compare.specs.Naming.{Naming, behind_choices, choices_named, ended, named, naming_by, naming_from}
 use Rattle.trace_compare.specs.Shown.{behind, shown}
 
 -- choices, and a state behind them
@@ -31,11 +31,6 @@ state_by : (long state : Bool) (choice : Option Choice) → long ≡ false → s
     → cond long names.Nothing (cond state names.State (named choice)) ≡ names.State
 state_by false true choice short is = refl
 state_by _ _ choice short is = let no : ⊥ = cc in absurd no
-
-choice_by : (long state : Bool) (named_is : Option Choice) (choice : Choice) → long ≡ false → state ≡ false → named_is ≡ Some choice
-    → cond long names.Nothing (cond state names.State (named named_is)) ≡ names.Made choice
-choice_by false false named_is choice short isnt is = ap named is
-choice_by _ _ named_is choice short isnt is = let no : ⊥ = cc in absurd no
 
 -- the state line
 states-named : (world : World) (n : ℕ) → naming_from n (slice_split is_line_end (state_text world)) ≡ ended None
@@ -53,15 +48,11 @@ states-named world n =
 -- the line of a choice
 line-named : (choice : Choice) (text rest : List ℕ) (n : ℕ) → IsOwnLine choice text
     → naming_from n (slice_split is_line_end (text ++ rest)) ≡ behind_choices (choice ∷ []) (naming_from (n + 1) (slice_split is_line_end rest))
-line-named choice text rest n own = grind (arith, split-line, choice_by)
+line-named choice text rest n own = grind (arith, split-line)
 
 -- an execution of one choice, by whether it was refused
-one_by : (refusal : Option StepFault) (world : World) (choice : Choice)
-    → (execution_by refusal world choice (λ after. execution after [])).refusal ≡ refusal
-one_by refusal world choice = grind arith
-
 one-refusal : (world : World) (choice : Choice) → (execution world (choice ∷ [])).refusal ≡ refusal_of world choice
-one-refusal world choice = one_by (refusal_of world choice) world choice
+one-refusal world choice = grind arith
 
 -- what follows a choice's line, by whether it was refused
 rest_by : (refusal : Option StepFault) (world : World) (choice : Choice) (choices : List Choice) (n : ℕ)
@@ -85,8 +76,7 @@ trace-named (choice ∷ choices) world n few there =
 
 pub trace-choices : (choices : List Choice) (world : World) → world.choices ≤ 1000000000000 → All IsNamed choices
     → choices_named (trace_of world choices) ≡ Ok (shown world choices)
-trace-choices choices world few there =
-    ap (λ (naming : Naming). choices_or_line naming.choices naming.no_line) (trace-named choices world 1 few there)
+trace-choices choices world few there = grind (arith, trace-named)
 
 -- where none is refused
 all_by : (refusal : Option StepFault) (world : World) (choice : Choice) (choices : List Choice)

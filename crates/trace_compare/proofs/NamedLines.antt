@@ -26,8 +26,7 @@ use Rattle.trace_compare.specs.Naming.{HasNamed, HasRead, Naming, Names, behind_
 -- a whole line
 pub whole-line : (line rest : List ℕ) → IsOneLine line
     → slice_split is_line_end ((line ++ 10 ∷ []) ++ rest) ≡ line ∷ slice_split is_line_end rest
-whole-line line rest one =
-    ap (slice_split is_line_end) (append_assoc line (10 ∷ []) rest) ∙ slice_split_at is_line_end line 10 rest one refl
+whole-line line rest one = grind (arith, append_assoc, slice_split_at)
 
 names-line : (line : List ℕ) (lines : List (List ℕ)) (n : ℕ) (is : LineNames) → line_names line ≡ is
     → naming_from n (line ∷ lines) ≡ naming_by is n (naming_from (n + 1) lines)
@@ -52,42 +51,23 @@ begun-line (x ∷ xs) ys one =
     let (h, (t, is)) = begun-line xs ys (All-tail test x xs one) in
     (h, (t, slice_split-cons_no is_line_end x (xs ++ ys) (All-head test x xs one) ∙ ap (onto_first x) is))
 
-made_by : (is : LineNames) (choice : Choice) → next_by is how.Whole ≡ next.Made choice → is ≡ names.Made choice
-made_by is choice e = grind arith
-
-not_at_end : (is : LineNames) (choice : Choice) → next_by is how.AtEnd ≡ next.Made choice → ⊥
-not_at_end is choice e = grind arith
-
 -- a line that names a choice, and isn't the last
 pub line-made : (ended : LineEnded) (line : List ℕ) (choice : Choice) (n : ℕ) (before after : Lines) (a b : Option (List ℕ))
     → IsOneLine line → HasCome ended line (prepend_known after.held b) → next_by (line_names line) ended ≡ next.Made choice
     → Consumes (prepend_known before.held a) (prepend_known after.held b) (taken (Ok ended) line)
     → (ended ≢ how.AtEnd → Gave before after (length (taken (Ok ended) line))) → HasTaken n (choice ∷ []) (n + 1) before after a b
-line-made how.Whole line choice n before after a b one came is gone gave = (
-  line ++ 10 ∷ [],
-  (
-    (gone, gave (λ e. cc)),
-    omega (arith, length-append line (10 ∷ [])),
-    λ rest. ap (naming_from n) (whole-line line rest one)
-        ∙ names-line line (slice_split is_line_end rest) n (names.Made choice) (made_by (line_names line) choice is),
-  ),
-)
-line-made ended line choice n before after a b one came is gone gave = grind (arith, whole-line, names-line, made_by, not_at_end, long-names)
+line-made ended line choice n before after a b one came is gone gave = grind (arith, length-append, whole-line, names-line, long-names)
 
 -- the line that ends them, by what it names
 by_end : (is : LineNames) (n : ℕ) → naming_by is n (ended (Some (n + 1))) ≡ last_naming (next_by is how.AtEnd) n
 by_end is n = grind arith
-
-by_whole : (is : LineNames) (n : ℕ) (rest : Naming) → ((choice : Choice) → next_by is how.Whole ≢ next.Made choice)
-    → naming_by is n rest ≡ last_naming (next_by is how.Whole) n
-by_whole is n rest none = grind arith
 
 pub line-last : (ended : LineEnded) (line : List ℕ) (n : ℕ) (before after : Lines) (a b : Option (List ℕ))
     → IsOneLine line → HasCome ended line (prepend_known after.held b)
     → ((choice : Choice) → next_by (line_names line) ended ≢ next.Made choice)
     → Consumes (prepend_known before.held a) (prepend_known after.held b) (taken (Ok ended) line)
     → HasEnded n (last_naming (next_by (line_names line) ended) n) before after a b
-line-last how.Whole line n before after a b one came none gone = grind (arith, whole-line, by_whole)
+line-last how.Whole line n before after a b one came none gone = grind (arith, whole-line)
 line-last how.AtEnd line n before after a b one came none gone = grind (arith, slice_split_none, by_end)
 line-last how.TooLong line n before after a b one came none gone =
     let nothing : line_names line ≡ names.Nothing = long-names line (omega (arith, came)) in (
@@ -124,9 +104,7 @@ taken-more n next last choices more x y z a b c (one, (gone, many, names)) (two,
 -- what was taken, and what is held
 pub unread : (before left : Option (List ℕ)) (bytes held : List ℕ) → Consumes before (prepend_known held left) bytes
     → Consumes before left (bytes ++ held)
-unread None left bytes held p = tt
-unread (Some xs) None bytes held p = absurd p
-unread (Some xs) (Some ys) bytes held p = p ∙ sym (append_assoc bytes held ys)
+unread before left bytes held p = grind (arith, append_assoc)
 
 none_left : (xs ys : List ℕ) → xs ++ ys ≡ [] → (xs ≡ []) × (ys ≡ [])
 none_left [] ys e = (refl, e)
@@ -149,9 +127,7 @@ read-held (Some xs) (Some ys) bytes held naming gone (inl (end, same)) = grind (
 
 names-behind : (one two : List ℕ) (choices : List Choice) (n : ℕ) (left : Option (List ℕ)) (naming : Naming)
     → NamesFrom 1 one choices n → Names n two left naming → Names 1 (one ++ two) left (behind_choices choices naming)
-names-behind one two choices n left naming names (inl (end, is)) = grind arith
-names-behind one two choices n left naming names (inr is) =
-    inr (λ rest. ap naming_of (append_assoc one two rest) ∙ names (two ++ rest) ∙ ap (behind_choices choices) (is rest))
+names-behind one two choices n left naming names given = grind (arith, append_assoc)
 
 -- the lines to the end
 pub taken-all : (n : ℕ) (choices : List Choice) (naming : Naming) (y z : Lines) (a b c : Option (List ℕ))
@@ -181,9 +157,7 @@ gone-on bytes y z a b c gone on most =
 
 pub gone-lines : (bytes : List ℕ) (y : Lines) (a b : Option (List ℕ)) → HasGone bytes none_read y a b → 1000000000 ≤ length bytes
     → GivesOnAndOn a b
-gone-lines bytes y a b gone most =
-    subst (λ o. GivesOnAndOn o b) (prepend_known-nil a)
-    (bytes ++ y.held, (unread (prepend_known [] a) b bytes y.held gone.0, omega (arith, most, length-append bytes y.held)))
+gone-lines bytes y a b gone most = grind (arith, unread, length-append)
 
 pub taken-on : (n : ℕ) (choices : List Choice) (y z : Lines) (a b c : Option (List ℕ))
     → HasTaken 1 choices n none_read y a b → HasGone [] y z b c → z.reads ≡ 1000000000 → GivesOnAndOn a c
@@ -194,5 +168,4 @@ pub taken-lines : (n : ℕ) (choices : List Choice) (y : Lines) (a b : Option (L
 taken-lines n choices y a b (one, (gone, many, names)) most = gone-lines one y a b gone (omega (arith, many, most))
 
 pub or_else : {F G H : Type 0} → F ⊎ H → (H → G) → F ⊎ G
-or_else (inl f) turn = inl f
-or_else (inr h) turn = inr (turn h)
+or_else given turn = grind arith

@@ -1,6 +1,6 @@
 -- An image's program shows the same under the same choices, however its phasers are stored. So a trace that was written is found
 -- the same.
-use Rattle.std.proofs.Common.{◌≡◌, ◌∙◌, ℕ, List, [], ◌∷◌, ◌++◌, All, Option, None, inl, inr, refl, ap, append-nil, arith, sym}
+use Rattle.std.proofs.Common.{◌≡◌, ◌∙◌, ℕ, List, [], ◌∷◌, All, Option, None, refl, ap, append-nil, arith, sym}
 use Rattle.row_code.specs.declared.image.Image.{Image}
 use Rattle.tier_tree.specs.Stored.{Stored}
 use Rattle.schedule_reader.specs.declared.run.Run.{Run}
@@ -8,7 +8,7 @@ use Rattle.schedule_reader.specs.Schedule.{IsRun, choices_of}
 use Rattle.thread_machine.specs.declared.choice.Choice.{Choice}
 use Rattle.thread_machine.specs.declared.fault.StepFault.{StepFault}
 use Rattle.thread_machine.specs.World.{World, IsFirstOf, first_of}
-use Rattle.thread_machine.specs.Step.{played, refusal_of}
+use Rattle.thread_machine.specs.Step.{refusal_of}
 use Rattle.thread_machine.specs.Execution.{Execution, execution, execution_by}
 use Rattle.trace_text.specs.Outcome.{EndsFrom}
 use Rattle.trace_text.specs.RunText.{AreTraced}
@@ -18,22 +18,14 @@ use Rattle.trace_text.specs.declared.run_end.RunEnd.{RunEnd}
 use Rattle.trace_compare.specs.declared.comparison.Verdict.TheVariants as verdict
 use Rattle.trace_compare.specs.Compare.{HasWrittenTheSame, IsFoundTheSame, verdict_of}
 use Rattle.trace_compare.proofs.NamedThreads.{named-runs, named-threads}
-use Rattle.trace_compare.proofs.OneVerdict.{as-stored, plays-same, played-event, played-world, refusal-same, state-same, stored}
+use Rattle.trace_compare.proofs.OneVerdict.{as-stored, plays-same, played-world, refusal-same, state-same, stored}
 use Rattle.trace_compare.proofs.OwnTrace.{IsNamed, own-trace}
-
-after-same : (phasers : List Stored) (world : World) (choice : Choice)
-    → (played (stored phasers world) choice).world ≡ stored phasers (played world choice).world
-after-same phasers world choice = grind (arith, plays-same, played-world)
-
-event-same : (phasers : List Stored) (world : World) (choice : Choice)
-    → (played (stored phasers world) choice).event ≡ (played world choice).event
-event-same phasers world choice = grind (arith, plays-same, played-event)
 
 -- the lines, and the world that is left
 lines-by : (phasers : List Stored) (refusal : Option StepFault) (world : World) (choice : Choice) (rest : World → List ℕ)
     → ((after : World) → rest (stored phasers after) ≡ rest after)
     → lines_by refusal (stored phasers world) choice rest ≡ lines_by refusal world choice rest
-lines-by phasers refusal world choice rest same = grind (arith, stored, event-same, after-same)
+lines-by phasers refusal world choice rest same = grind (arith, plays-same, played-world)
 
 lines-same : (choices : List Choice) (phasers : List Stored) (world : World)
     → lines_of (stored phasers world) choices ≡ lines_of world choices
@@ -45,7 +37,7 @@ lines-same (choice ∷ choices) phasers world =
 left-by : (phasers : List Stored) (refusal : Option StepFault) (world : World) (choice : Choice) (rest : World → Execution)
     → ((after : World) → (rest (stored phasers after)).world ≡ stored phasers (rest after).world)
     → (execution_by refusal (stored phasers world) choice rest).world ≡ stored phasers (execution_by refusal world choice rest).world
-left-by phasers refusal world choice rest same = grind (arith, after-same)
+left-by phasers refusal world choice rest same = grind (arith, plays-same, played-world)
 
 pub left-same : (choices : List Choice) (phasers : List Stored) (world : World)
     → (execution (stored phasers world) choices).world ≡ stored phasers (execution world choices).world
@@ -54,20 +46,15 @@ left-same (choice ∷ choices) phasers world =
     ap (λ why. (execution_by why (stored phasers world) choice (λ after. execution after choices)).world) (refusal-same phasers world choice)
     ∙ left-by phasers (refusal_of world choice) world choice (λ after. execution after choices) (λ after. left-same choices phasers after)
 
-trace-same : (choices : List Choice) (phasers : List Stored) (world : World)
-    → trace_of (stored phasers world) choices ≡ trace_of world choices
-trace-same choices phasers world = grind (arith, stored, lines-same, left-same, state-same)
-
 -- the trace is that of the image's first world
 pub trace-first : (image : Image) (limit : ℕ) (world : World) (choices : List Choice) → IsFirstOf image limit world
     → trace_of world choices ≡ trace_of (first_of image limit) choices
-trace-first image limit world choices is = grind (arith, as-stored, trace-same)
+trace-first image limit world choices is = grind (arith, as-stored, lines-same, left-same, state-same)
 
 -- the verdict on a trace, beside the program that it is of
 begun-verdict : (image : Image) (world : World) (choices : List Choice) → Begins image world → All IsNamed choices
     → verdict_of world (trace_of world choices) ≡ verdict.Same
-begun-verdict image world choices (loads, first) named =
-    own-trace choices world 1 (omega (arith, ap (λ (w : World). w.choices) first)) named
+begun-verdict image world choices given named = grind (arith, own-trace)
 
 -- and beside that program from another world in which it begins
 other-verdict : (image : Image) (one other : World) (choices : List Choice) → Begins image one → Begins image other → All IsNamed choices
@@ -79,10 +66,7 @@ other-verdict image one other choices begins begins' named =
 -- so a comparison with that program finds it the same
 found-same : (image : Image) (one : World) (choices : List Choice) → Begins image one → All IsNamed choices
     → IsFoundTheSame image (trace_of one choices)
-found-same image one choices begins named left v (other, (bytes, (begins', consumed, inl (end, found)))) =
-    let all : bytes ≡ trace_of one choices = sym (append-nil bytes) ∙ ap (λ rest. bytes ++ rest) (sym end) ∙ sym consumed in
-    sym found ∙ ap (verdict_of other) all ∙ other-verdict image one other choices begins begins' named
-found-same image one choices begins named left v (other, (bytes, (begins', consumed, inr later))) = grind (arith, other-verdict)
+found-same image one choices begins named left v given = grind (arith, append-nil, other-verdict)
 
 -- that of runs that a token can spell
 pub traced-same : (image : Image) (world : World) (runs : List Run) (end : RunEnd) (old new : Option (List ℕ))

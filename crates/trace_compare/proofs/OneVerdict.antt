@@ -43,8 +43,7 @@ played-event phasers outcome world = grind arith
 -- a choice is played by what it comes to
 pub plays-same : (phasers : List Stored) (world : World) (choice : Choice)
     → played (stored phasers world) choice ≡ played_by (outcome_of_choice world.program choice world.scene) (stored phasers world)
-plays-same phasers world choice =
-    ap (λ outcome. played_by outcome (stored phasers world)) (outcome-same phasers world.program choice world.scene)
+plays-same phasers world choice = grind (arith, outcome-same)
 
 -- a world in which the program of an image begins is the image's first, stored otherwise
 pub as-stored : (image : Image) (limit : ℕ) (world : World) → IsFirstOf image limit world

@@ -1,10 +1,9 @@
 -- The run's own lines at the beginning of bytes of a trace, and another line there that names a choice.
-use Rattle.std.proofs.Common.{◌≡◌, ◌≢◌, ◌∙◌, ◌+◌, ◌<◌, ◌≤◌, ◌^◌, ◌&&◌, ◌⊎◌, ℕ, Bool, true, false, zero, suc, List, [], ◌∷◌, ◌++◌, length, drop, take, cond, Option, Some, None, is_none, nat_le, refl, ap, sym, subst, arith, append_assoc, append-nil, length-append, length-drop, take-append-drop, inl, inr, decimal, codes, get_or}
-use Rattle.std.specs.Prelude.{Err, IfOk, Ok, Result, if◌then◌else◌}
+use Rattle.std.proofs.Common.{◌≡◌, ◌≢◌, ◌∙◌, ◌+◌, ◌<◌, ◌≤◌, ◌^◌, ◌&&◌, ◌⊎◌, ℕ, true, false, zero, suc, List, [], ◌∷◌, ◌++◌, length, drop, take, cond, Some, refl, ap, sym, subst, arith, append_assoc, append-nil, length-append, length-drop, take-append-drop, inl, inr, decimal}
+use Rattle.std.specs.Prelude.{IfOk, Result}
 use Rattle.std.specs.List.{join_with_byte, slice_split}
 use Rattle.std.specs.Str.{bytes_eq}
 use Rattle.std.proofs.lemmas.Bool.{false_from_ne_true}
-use Rattle.std.proofs.Math.ListN.{get_or-append}
 use Rattle.std.proofs.Math.Seq.{take-add, take-append_seam}
 use Rattle.std.proofs.lemmas.List.{drop-drop, take-append-le}
 use Rattle.std.proofs.lemmas.List.Elements.{All-head, All-tail}
@@ -14,19 +13,14 @@ use Rattle.std.proofs.lemmas.Slice.Eq.{bytes_eq-Decides}
 use Rattle.byte_ports.specs.SourceLines.{IsOneLine}
 use Rattle.line_reader.specs.Words.{is_line_end}
 use Rattle.thread_machine.specs.declared.choice.Choice.{Choice}
-use Rattle.machine_scene.specs.Scene.{thread_at}
-use Rattle.thread_machine.specs.declared.fault.StepFault.TheVariants.{NoSuchThread, StepLimit}
-use Rattle.thread_machine.specs.Step.{Played, is_used_up, played}
-use Rattle.thread_machine.specs.World.{World, world_of}
-use Rattle.thread_machine.specs.Execution.{execution}
+use Rattle.thread_machine.specs.Step.{played}
+use Rattle.thread_machine.specs.World.{world_of}
 use Rattle.trace_compare.specs.declared.comparison.Comparison.{Comparison}
-use Rattle.trace_compare.specs.declared.comparison.Verdict.{Verdict}
-use Rattle.trace_compare.specs.declared.comparison.Verdict.TheVariants as verdict
-use Rattle.trace_text.specs.Reading.{choice_in, is_state_line, BeginsWithName, NamesBehind}
+use Rattle.trace_text.specs.Reading.{choice_in, is_state_line, NamesBehind}
 use Rattle.trace_compare.specs.Compare.{choices_in, line_at, lines_verdict, otherwise}
 use Rattle.trace_compare.specs.Comparing.{GoesOver, IsReading, bytes_left, line_ends, lines_left, told_left}
-use Rattle.trace_text.specs.Lines.{choice_text, event_text}
-use Rattle.trace_text.specs.Trace.{Plays, lines_by, lines_of}
+use Rattle.trace_text.specs.Lines.{choice_text}
+use Rattle.trace_text.specs.Trace.{Plays, lines_of}
 use Rattle.trace_text.proofs.Naming.{choice-part, line-no_state, line_names}
 use Rattle.trace_compare.proofs.NamedLines.{begun-line, whole-line}
 use Rattle.trace_compare.proofs.RunLines.{first-own, meets-choice, text-choice, text-missed, told-alike, told-met}
@@ -80,11 +74,7 @@ Goes-more a b c bytes rest done count is one two = record {
 
 pub Goes-after : {E : Type 0} (result : Result ℕ E) (a b c : Comparison) (bytes : List ℕ) (none : ℕ) → none ≡ 0
     → GoesOver a b bytes none → IfOk result (λ count. GoesOver b c bytes count) → IfOk result (λ count. GoesOver a c bytes count)
-Goes-after (Ok count) a b c bytes none is one two =
-    let same : none + count ≡ count = omega (arith, is) in
-    subst (GoesOver a c bytes) same
-    (Goes-more a b c bytes bytes none count (sym (ap (λ n. drop n bytes) is)) one two)
-Goes-after (Err e) a b c bytes none is one two = tt
+Goes-after result a b c bytes none is one two = grind arith
 
 -- the bytes begin with the run's line of the choice
 pub met : (before after : Comparison) (choice : Choice) (text bytes : List ℕ) (count : ℕ) → IsReading before → IsReading after

@@ -1,5 +1,5 @@
 -- The trace of any choices has the verdict `Same`.
-use Rattle.std.proofs.Common.{◌≡◌, ◌∙◌, ◌+◌, ◌<◌, ◌≤◌, ◌||◌, ℕ, Bool, true, false, List, [], ◌∷◌, ◌++◌, length, cond, Option, Some, None, is_none, refl, ap, sym, subst, arith, append_assoc, append-nil, All, nat_le}
+use Rattle.std.proofs.Common.{◌≡◌, ◌∙◌, ◌+◌, ◌<◌, ◌≤◌, ℕ, Bool, true, false, List, [], ◌∷◌, ◌++◌, length, cond, Option, Some, None, is_none, refl, ap, sym, arith, append_assoc, append-nil, All}
 use Rattle.std.proofs.lemmas.Bool.{eqb-false}
 use Rattle.std.proofs.lemmas.List.Elements.{All-head, All-tail}
 use Rattle.std.proofs.lemmas.Slice.Eq.{bytes_eq-Decides}
@@ -10,13 +10,12 @@ use Rattle.thread_machine.specs.declared.choice.Choice.{Choice}
 use Rattle.thread_machine.specs.declared.fault.StepFault.{StepFault}
 use Rattle.thread_machine.specs.declared.fault.StepFault.TheVariants.{NoSuchThread, StepLimit}
 use Rattle.thread_machine.specs.World.{World}
-use Rattle.thread_machine.specs.Step.{Played, is_used_up, played}
+use Rattle.thread_machine.specs.Step.{played}
 use Rattle.thread_machine.specs.Execution.{execution, execution_by}
 use Rattle.trace_compare.specs.declared.comparison.Verdict.TheVariants as verdict
 use Rattle.trace_text.specs.Brief.{IsBrief}
 use Rattle.trace_compare.specs.Compare.{lines_verdict, state_verdict}
 use Rattle.trace_text.specs.Reading.{is_state_line}
-use Rattle.trace_text.specs.Lines.{event_text}
 use Rattle.trace_text.specs.State.{state_text}
 use Rattle.trace_text.specs.Trace.{lines_by, lines_of, trace_of}
 use Rattle.trace_text.proofs.Plays.{played-choices}
@@ -52,9 +51,6 @@ state_again : (brief : Type 0) (text : List ℕ) (n : ℕ) → IsWhole brief tex
 state_again brief text n p = ap (λ t. state_verdict t n (slice_split is_line_end t)) p.is ∙ state-own p.lines n p.within
 
 -- a line up to the state line
-cond-no : {A : Type 0} (b : Bool) (x y : A) → b ≡ false → cond b x y ≡ y
-cond-no b x y is = ap (λ c. cond c x y) is
-
 cond-yes : {A : Type 0} (b : Bool) (x y : A) → b ≡ true → cond b x y ≡ x
 cond-yes b x y is = ap (λ c. cond c x y) is
 
@@ -79,29 +75,19 @@ line_by : (missing used : Bool) (world : World) (choice : Choice) → world.choi
 line_by true used world choice few there = refusal-own (world.choices + 1) choice None (omega (arith, few)) there
 line_by false true world choice few there =
     refusal-own (world.choices + 1) choice (Some (thread_at world.scene choice.thread).pc) (omega (arith, few)) there
-line_by false false world choice few there =
-    let play : Played = played world choice in
-    let pc = (thread_at world.scene choice.thread).pc in
-    let own = event-own (world.choices + 1) choice pc play.event (omega (arith, few)) there in
-    subst (IsOwnLine choice) (sym (append-nil (event_text (world.choices + 1) choice pc play.event))) own
+line_by false false world choice few there = grind (arith, event-own, append-nil)
 
 -- a choice of a thread from 0 to 63 has its own line
 pub own-line : (world : World) (choice : Choice) → world.choices ≤ 1000000000000 → choice.thread ≤ 63
     → IsOwnLine choice (lines_of world (choice ∷ []))
-own-line world choice few there =
-    line_by (nat_le (length world.scene.threads) choice.thread) (is_used_up world choice) world choice few there
+own-line world choice few there = grind (arith, line_by)
 
 -- the line of a choice before the others
 pub choice-same : (world : World) (choice : Choice) (rest : List ℕ) (n : ℕ) → IsOwnLine choice (lines_of world (choice ∷ []))
     → lines_verdict true world n (slice_split is_line_end (lines_of world (choice ∷ []) ++ rest))
     ≡ lines_verdict (is_none (execution world (choice ∷ [])).refusal) (execution world (choice ∷ [])).world (n + 1)
     (slice_split is_line_end rest)
-choice-same world choice rest n own = grind (arith, bytes_eq-Decides, split-line, cond-no, cond-yes)
-
-accepted-few_by : (missing all limit : Bool)
-    → cond missing (Some NoSuchThread) (cond (all || limit) (Some StepLimit) None) ≡ None → all ≡ false
-accepted-few_by false false limit is = refl
-accepted-few_by _ _ limit is = let no : ⊥ = cc in absurd no
+choice-same world choice rest n own = grind (arith, bytes_eq-Decides, split-line, cond-yes)
 
 pub after_by : (refusal : Option StepFault) (world : World) (choice : Choice)
     → (execution_by refusal world choice (λ after. execution after [])).refusal ≡ None
@@ -110,7 +96,7 @@ after_by refusal world choice none = grind arith
 
 pub counted : (world : World) (choice : Choice) → world.choices ≤ 1000000000000 → (execution world (choice ∷ [])).refusal ≡ None
     → (execution world (choice ∷ [])).world.choices ≤ 1000000000000
-counted world choice few none = grind (arith, after_by, accepted-few_by, eqb-false, played-choices)
+counted world choice few none = grind (arith, after_by, eqb-false, played-choices)
 
 -- what follows a choice's line, by whether the choice was refused
 rest_by : (refusal : Option StepFault) (world : World) (choice : Choice) (choices : List Choice) (n : ℕ)

@@ -1,5 +1,5 @@
 -- The run's line beside a verdict.
-use Rattle.std.proofs.Common.{◌≡◌, ◌∙◌, ◌↔◌, ◌+◌, ◌-◌, ◌<◌, ◌≤◌, ◌&&◌, ◌||◌, not, ℕ, zero, suc, Bool, true, false, List, [], ◌∷◌, ◌++◌, length, take, drop, cond, Option, Some, None, IsTrue, is_none, refl, ap, sym, arith, append_assoc, append-nil, length-append, nat_le, take-append-drop}
+use Rattle.std.proofs.Common.{◌≡◌, ◌∙◌, ◌↔◌, ◌+◌, ◌-◌, ◌<◌, ◌≤◌, ℕ, suc, Bool, true, false, List, [], ◌∷◌, ◌++◌, length, take, drop, cond, Option, Some, None, IsTrue, is_none, refl, ap, sym, arith, append_assoc, append-nil, length-append, nat_le, take-append-drop, rules}
 use Rattle.std.specs.List.{position_or_len}
 use Rattle.std.specs.Str.{bytes_eq}
 use Rattle.std.proofs.lemmas.List.Elements.{All-head, All-tail}
@@ -13,14 +13,13 @@ use Rattle.thread_machine.specs.declared.choice.Choice.{Choice}
 use Rattle.thread_machine.specs.declared.fault.StepFault.{StepFault}
 use Rattle.thread_machine.specs.declared.fault.StepFault.TheVariants.{NoSuchThread, StepLimit}
 use Rattle.thread_machine.specs.Execution.{execution}
-use Rattle.thread_machine.specs.Step.{Played, is_used_up, played}
+use Rattle.thread_machine.specs.Step.{is_used_up}
 use Rattle.thread_machine.specs.World.{World, world_of}
 use Rattle.trace_compare.specs.declared.comparison.Comparison.{Comparison}
 use Rattle.trace_compare.specs.declared.comparison.Verdict.{Verdict}
 use Rattle.trace_compare.specs.declared.comparison.Verdict.TheVariants as verdict
-use Rattle.trace_compare.specs.Compare.{Told, choice_verdict, choices_in, line_at, line_by, lines_verdict, otherwise, state_verdict, with_choice}
+use Rattle.trace_compare.specs.Compare.{choice_verdict, choices_in, line_at, line_by, lines_verdict, otherwise, state_verdict}
 use Rattle.trace_compare.specs.Comparing.{HasEndedBehind, MeetsText, lines_left, line_kept, text_left, told_by, told_left}
-use Rattle.trace_text.specs.Lines.{event_text}
 use Rattle.trace_text.specs.Reading.{after_line, choice_in, first_line, is_state_line, is_too_long}
 use Rattle.trace_text.specs.State.{state_text}
 use Rattle.trace_text.specs.Trace.{Plays, lines_by, lines_of, trace_of}
@@ -32,17 +31,13 @@ use Rattle.trace_compare.proofs.SameTrace.{after_choice, left_by}
 
 first-one : (line rest : List ℕ) → IsOneLine line → position_or_len is_line_end ((line ++ 10 ∷ []) ++ rest) ≡ length line
 first-one [] rest one = refl
-first-one (x ∷ xs) rest one =
-    ap (λ b. cond b (1 + position_or_len is_line_end ((xs ++ 10 ∷ []) ++ rest)) 0) (ap not (All-head (λ b. is_line_end b ≡ false) x xs one))
-    ∙ ap (λ n. 1 + n) (first-one xs rest (All-tail (λ b. is_line_end b ≡ false) x xs one)) ∙ omega arith
+first-one (x ∷ xs) rest one = grind (arith, All-head, All-tail, first-one xs rest (All-tail (λ b. is_line_end b ≡ false) x xs one))
 
 some_first : (text : List ℕ) → 0 < length text → line_at 0 text ≡ Some (take (position_or_len is_line_end text) text)
-some_first [] some = absurd (omega (arith, some))
-some_first (byte ∷ text) some = refl
+some_first text some = grind arith
 
 some_next : (n : ℕ) (text : List ℕ) → 0 < length text → line_at (suc n) text ≡ line_at n (after_line text)
-some_next n [] some = absurd (omega (arith, some))
-some_next n (byte ∷ text) some = refl
+some_next n text some = grind arith
 
 some_text : (line rest : List ℕ) → 0 < length ((line ++ 10 ∷ []) ++ rest)
 some_text line rest = omega (arith, length-append (line ++ 10 ∷ []) rest, length-append line (10 ∷ []))
@@ -89,9 +84,7 @@ late_state (line ∷ lines) (byte ∷ text) n m is =
 late_choice : (named : Option Choice) (accepted : Bool) (world : World) (n m : ℕ) (line : List ℕ) (rest : Bool → World → Verdict)
     → ((accepted : Bool) (after : World) → rest accepted after ≡ verdict.Differs m → n ≤ m)
     → choice_verdict named accepted world n line rest ≡ verdict.Differs m → n ≤ m
-late_choice None accepted world n m line rest late is = let no : ⊥ = cc in absurd no
-late_choice (Some choice) accepted world n m line rest late is =
-    late_by (accepted && bytes_eq (line ++ (10 ∷ [])) (lines_of world (choice ∷ []))) n m line _ is (late _ _)
+late_choice named accepted world n m line rest late is = grind arith
 
 late_lines : (lines : List (List ℕ)) (accepted : Bool) (world : World) (n m : ℕ)
     → lines_verdict accepted world n lines ≡ verdict.Differs m → n ≤ m + (1 - length lines)
@@ -120,9 +113,7 @@ late_left now lines m some is = by now.is_state is
 -- by a verdict and the line
 told_as : (now : Comparison) (lines : List (List ℕ)) (v : Verdict) (line : Option (List ℕ)) → lines_left now lines ≡ v
     → line_by v now.number (text_left now lines) ≡ line → told_left now lines ≡ record { verdict = v; line = line }
-told_as now lines v line is line_is =
-    ap (λ (w : Verdict). record { verdict = w; line = line_by w now.number (text_left now lines) }) is
-    ∙ ap (λ (l : Option (List ℕ)). record { verdict = v; line = l }) line_is
+told_as now lines v line is line_is = grind arith
 
 behind_line : (v : Verdict) (first next : ℕ) (line text rest : List ℕ) → IsOneLine line → next ≡ first + 1
     → ((m : ℕ) → v ≡ verdict.Differs m → next ≤ m) → text ≡ (line ++ 10 ∷ []) ++ rest → line_by v first text ≡ line_by v next rest
@@ -136,10 +127,7 @@ behind_line v first next line text rest one next_is late is = refl
 pub told-met : (before after : Comparison) (line : List ℕ) (lines : List (List ℕ)) → IsOneLine line → 0 < length lines
     → after.number ≡ before.number + 1 → lines_left before (line ∷ lines) ≡ lines_left after lines
     → MeetsText before after line lines None → told_left before (line ∷ lines) ≡ told_left after lines
-told-met before after line lines one some next same meets =
-    told_as before (line ∷ lines) (lines_left after lines) (line_by (lines_left after lines) after.number (text_left after lines)) same
-    (behind_line (lines_left after lines) before.number after.number line (text_left before (line ∷ lines)) (text_left after lines) one next
-    (λ m is. late_left after lines m some is) meets)
+told-met before after line lines one some next same meets = search (rules, told_as, behind_line, late_left)
 
 -- one that isn't
 pub told-other : (before after : Comparison) (line : List ℕ) (lines : List (List ℕ)) (v : Verdict)
@@ -148,19 +136,13 @@ told-other before after line lines (verdict.Differs n) is (here, kept) =
     let first : n - before.number ≡ 0 = omega (arith, here) in
     told_as before (line ∷ lines) (verdict.Differs n) (line_kept after) is
     (ap (λ k. line_at k (text_left before (line ∷ lines))) first ∙ kept)
-told-other before after line lines verdict.Same is meets = told_as before (line ∷ lines) verdict.Same None is refl
-told-other before after line lines (verdict.NotATrace n) is meets = told_as before (line ∷ lines) (verdict.NotATrace n) None is refl
+told-other before after line lines v is meets = grind (arith, told_as)
 
 -- the last one
 pub told-ended : (before after last : Comparison) (line : List ℕ) (v : Verdict) → after.number ≡ before.number + 1
     → lines_left before (line ∷ []) ≡ v → MeetsText before after line [] None → HasEndedBehind after last line v
     → told_left before (line ∷ []) ≡ told_by v last
-told-ended before after last line (verdict.Differs n) next is meets kept =
-    let first : before.number ≡ after.number - 1 = omega (arith, next) in
-    told_as before (line ∷ []) (verdict.Differs n) (line_kept last) is
-    (ap (λ k. line_at (n - k) (text_left before (line ∷ []))) first ∙ ap (line_at (n - (after.number - 1))) meets ∙ kept)
-told-ended before after last line verdict.Same next is meets kept = told_as before (line ∷ []) verdict.Same None is refl
-told-ended before after last line (verdict.NotATrace n) next is meets kept = told_as before (line ∷ []) (verdict.NotATrace n) None is refl
+told-ended before after last line v next is meets kept = grind arith
 
 -- two comparisons to which the same line is another one
 pub told-alike : (a b : Comparison) (line : List ℕ) (lines : List (List ℕ)) (n : ℕ) → a.number ≡ n → b.number ≡ n
@@ -181,27 +163,20 @@ told-alike a b line lines n a_is b_is one two same =
 -- by the comparison from which a line is met
 pub meets-from : (a b after : Comparison) (line : List ℕ) (lines : List (List ℕ)) (v : Option Verdict) → a.number ≡ b.number
     → text_left a (line ∷ lines) ≡ text_left b (line ∷ lines) → MeetsText b after line lines v → MeetsText a after line lines v
-meets-from a b after line lines None same text meets = text ∙ meets
-meets-from a b after line lines (Some (verdict.Differs n)) same text meets = (meets.0 ∙ sym same, ap (line_at 0) text ∙ meets.1)
-meets-from a b after line lines (Some v) same text meets = tt
+meets-from a b after line lines v same text meets = grind arith
 
 -- ---- the run's text
 
 -- whether no choice was refused
 pub none_by : (refusal : Option StepFault) (all : Bool) → (IsTrue all ↔ (refusal ≡ None)) → is_none refusal ≡ all
-none_by None all is = sym (is.1 refl)
-none_by (Some fault) true is = let no : Some fault ≡ None = is.0 refl in let wrong : ⊥ = cc in absurd wrong
-none_by (Some fault) false is = refl
+none_by refusal all is = grind arith
 
 -- the line of a choice is one, whatever becomes of it
 one_by : (missing used : Bool) (world : World) (choice : Choice)
     → IsLine 407 (lines_by (cond missing (Some NoSuchThread) (cond used (Some StepLimit) None)) world choice (λ after. [])) []
 one_by true used world choice = refusal-one (world.choices + 1) choice None
 one_by false true world choice = refusal-one (world.choices + 1) choice (Some (thread_at world.scene choice.thread).pc)
-one_by false false world choice =
-    let play : Played = played world choice in
-    let own = event-one (world.choices + 1) choice (thread_at world.scene choice.thread).pc play.event in
-    record { line = own.line; part = own.part; is = append-nil _ ∙ own.is }
+one_by false false world choice = grind (arith, event-one, append-nil)
 
 pub one-line : (world : World) (choice : Choice) → IsLine 407 (lines_of world (choice ∷ [])) []
 one-line world choice = one_by (nat_le (length world.scene.threads) choice.thread) (is_used_up world choice) world choice
@@ -229,9 +204,7 @@ choices-line choice line lines state names = rw (state, names) refl
 pub text-choice : (now : Comparison) (choice : Choice) (line : List ℕ) (lines : List (List ℕ)) → now.is_state ≡ false
     → now.accepted ≡ true → is_state_line line ≡ false → choice_in line ≡ Some choice
     → text_left now (line ∷ lines) ≡ trace_of (world_of now.machine) (choice ∷ choices_in lines)
-text-choice now choice line lines state accepted no_state names =
-    text-lines now true (line ∷ lines) state accepted (λ no. let wrong : ⊥ = cc in absurd wrong)
-    ∙ ap (trace_of (world_of now.machine)) (choices-line choice line lines no_state names)
+text-choice now choice line lines state accepted no_state names = grind arith
 
 -- a choice whose line is the trace's
 pub meets-choice : (before after : Comparison) (choice : Choice) (more : Bool) (line text : List ℕ) (lines : List (List ℕ))
@@ -251,13 +224,7 @@ meets-choice before after choice more line text lines state accepted still more_
 -- a line that is the state's first
 pub text-state : (now : Comparison) (line : List ℕ) (lines : List (List ℕ)) → now.is_state ≡ false → is_state_line line ≡ true
     → text_left now (line ∷ lines) ≡ state_text (world_of now.machine)
-text-state now line lines state first = by now.accepted now.missed refl refl
-  where
-    by : (accepted missed : Bool) → now.accepted ≡ accepted → now.missed ≡ missed
-        → text_left now (line ∷ lines) ≡ state_text (world_of now.machine)
-    by true missed is was = rw (state, is, first) refl
-    by false true is was = rw (state, is, was, first) refl
-    by false false is was = rw (state, is, was) refl
+text-state now line lines state first = grind arith
 
 -- one that is missed
 pub text-missed : (now : Comparison) (line : List ℕ) (lines : List (List ℕ)) → now.is_state ≡ false → now.accepted ≡ false

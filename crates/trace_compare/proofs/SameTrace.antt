@@ -1,5 +1,5 @@
 -- A trace with the verdict `Same` is the trace of the choices that it names.
-use Rattle.std.proofs.Common.{◌≡◌, ◌∙◌, ◌+◌, ◌<◌, ℕ, Bool, true, false, List, [], ◌∷◌, ◌++◌, length, cond, Option, Some, None, is_none, refl, ap, sym, arith, append_assoc}
+use Rattle.std.proofs.Common.{◌≡◌, ◌∙◌, ◌+◌, ◌<◌, ℕ, Bool, true, false, List, [], ◌∷◌, ◌++◌, length, cond, Option, is_none, refl, ap, sym, arith, append_assoc}
 use Rattle.std.proofs.lemmas.List.{take-append-drop}
 use Rattle.std.proofs.lemmas.List.Splits.{join_with_byte-slice_split}
 use Rattle.std.proofs.lemmas.Slice.Eq.{bytes_eq-Decides}
@@ -24,8 +24,7 @@ joined lines = join_with_byte 10 lines
 -- a line before others
 joined-line : (line : List ℕ) (lines : List (List ℕ)) → 0 < length lines
     → joined (line ∷ lines) ≡ (line ++ 10 ∷ []) ++ joined lines
-joined-line line [] some = absurd (omega (arith, some))
-joined-line line (next ∷ lines) some = sym (append_assoc line (10 ∷ []) (joined (next ∷ lines)))
+joined-line line lines some = grind (arith, append_assoc)
 
 -- a line that passed
 refuted : {P : Type 0} (long : Bool) (n : ℕ) → cond long (verdict.NotATrace n) (verdict.Differs n) ≡ verdict.Same → P
@@ -40,11 +39,6 @@ passed false n line rest e = refuted (is_too_long line) n e
 -- something is left where the state text is due
 some_state : (text : List ℕ) (n : ℕ) (lines : List (List ℕ)) → state_verdict text n lines ≡ verdict.Same → 0 < length lines
 some_state text n lines e = grind arith
-
-some_lines : (accepted : Bool) (world : World) (n : ℕ) (lines : List (List ℕ)) → lines_verdict accepted world n lines ≡ verdict.Same
-    → 0 < length lines
-some_lines accepted world n [] e = let no : ⊥ = cc in absurd no
-some_lines accepted world n (line ∷ lines) e = omega arith
 
 -- the state text
 state-joined : (lines : List (List ℕ)) (text : List ℕ) (n : ℕ) → state_verdict text n lines ≡ verdict.Same → joined lines ≡ text
@@ -71,13 +65,7 @@ pub after_choice : (world : World) (choice : Choice) (choices : List Choice) (re
     → (execution world (choice ∷ [])).refusal ≡ refusal
     → lines_of world (choice ∷ []) ++ left_by (is_none refusal) (execution world (choice ∷ [])).world choices
     ≡ trace_of world (choice ∷ choices)
-after_choice world choice choices None is =
-    let on = goes_on (choice ∷ []) world choices is in
-    let after = (execution world (choice ∷ [])).world in
-    sym (append_assoc (lines_of world (choice ∷ [])) (lines_of after choices) _)
-    ∙ ap (λ text. text ++ state_text (execution after choices).world) (sym on.0)
-    ∙ ap (λ (w : World). lines_of world (choice ∷ choices) ++ state_text w) (sym on.1)
-after_choice world choice choices (Some fault) is = grind (arith, stops)
+after_choice world choice choices refusal is = grind (arith, goes_on, append_assoc, stops)
 
 -- one line more
 line-joined : (state : Bool) (named : Option Choice) (accepted : Bool) (world : World) (n : ℕ) (line : List ℕ) (lines : List (List ℕ))
@@ -87,7 +75,7 @@ line-joined : (state : Bool) (named : Option Choice) (accepted : Bool) (world : 
     → joined (line ∷ lines) ≡ left_by accepted world (cond state [] (with_choice named (choices_in lines)))
 line-joined true named accepted world n line lines rest e =
     state-joined (line ∷ lines) (state_text world) n e ∙ left_by-none accepted world
-line-joined false named accepted world n line lines rest e = grind (arith, state-joined, left_by-none, refuted, passed, joined-line, some_lines, bytes_eq-Decides, after_choice)
+line-joined false named accepted world n line lines rest e = grind (arith, state-joined, left_by-none, refuted, passed, joined-line, bytes_eq-Decides, after_choice)
 
 lines-joined : (lines : List (List ℕ)) (accepted : Bool) (world : World) (n : ℕ) → lines_verdict accepted world n lines ≡ verdict.Same
     → joined lines ≡ left_by accepted world (choices_in lines)

@@ -82,8 +82,7 @@ left-behind : (first now : Comparison) (x y : Lines) (turns : ℕ) (a b : Option
 left-behind first now x y turns a b bytes got more come is =
     let on : bytes ++ (y.held ++ more) ≡ x.held ++ (got ++ more) =
     sym (append_assoc bytes y.held more) ∙ ap (λ l. l ++ more) is ∙ append_assoc x.held got more in
-    ap (bytes_left first) (append_assoc come.bytes bytes (y.held ++ more) ∙ ap (λ l. come.bytes ++ l) on)
-    ∙ come.left (got ++ more) ∙ ap (bytes_left now) (sym on)
+    grind (arith, append_assoc)
 
 -- a line more
 pub come-line : (first now next : Comparison) (x y : Lines) (turns : ℕ) (a b c : Option (List ℕ)) (ended : LineEnded) (line : List ℕ)
@@ -106,8 +105,7 @@ come-line first now next x y turns a b c how.Whole line come one (whole, number,
       some = omega (arith, come.some, length-append come.bytes bytes, length-append line (10 ∷ []));
       far = read-more now.number next.number a c (omega (arith, number)) far;
     }
-come-line first now next x y turns a b c how.AtEnd line come one (whole, number, judged) gone gave behind far = let no : ⊥ = cc in absurd no
-come-line first now next x y turns a b c how.TooLong line come one (whole, number, judged) gone gave behind far = let no : ⊥ = cc in absurd no
+come-line first now next x y turns a b c ended line come one given gone gave behind far = grind arith
 
 -- a verdict
 pub come-verdict : (first now next : Comparison) (x y : Lines) (turns : ℕ) (a b c : Option (List ℕ)) (ended : LineEnded) (line : List ℕ)
@@ -150,7 +148,4 @@ stands-far n v a c stands far = grind (arith, read-more)
 pub come-far : (now next : Comparison) (y : Lines) (a c : Option (List ℕ)) (ended : LineEnded) (line : List ℕ) (v : Verdict)
     → HasJudged now next ended line (Some v) → IsReadUpTo now.number a c → HasCome ended line (prepend_known y.held c)
     → (ended ≡ how.AtEnd → y.held ≡ []) → IsReadNoFurther a c v
-come-far now next y a c how.Whole line v (stands, judged) far came all = stands-far now.number v a c stands far
-come-far now next y a c how.TooLong line v (stands, judged) far came all = stands-far now.number v a c stands far
-come-far now next y a c how.AtEnd line v (inr stands, judged) far came all = stands-far now.number v a c stands far
-come-far now next y a c how.AtEnd line v (inl same, judged) far came all = grind (arith, prepend_known-nil)
+come-far now next y a c ended line v given far came all = grind arith

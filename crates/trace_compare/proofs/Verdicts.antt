@@ -1,5 +1,5 @@
 -- The verdict on lines that are the run's.
-use Rattle.std.proofs.Common.{◌≡◌, ◌∙◌, ◌↔◌, ◌+◌, ◌<◌, ◌≤◌, ◌&&◌, ◌⊎◌, ℕ, Bool, true, false, List, [], ◌∷◌, ◌++◌, length, drop, Option, Some, None, IsTrue, ◌==◌, zero, suc, refl, ap, subst, sym, arith, is_none, cond, inl, inr, take, min, length-append, take-append-drop, rules}
+use Rattle.std.proofs.Common.{◌≡◌, ◌∙◌, ◌+◌, ◌<◌, ◌≤◌, ◌&&◌, ◌⊎◌, ℕ, Bool, true, false, List, [], ◌∷◌, ◌++◌, length, drop, Option, Some, None, ◌==◌, zero, suc, refl, ap, sym, arith, cond, take, min, length-append, take-append-drop}
 use Rattle.std.specs.Prelude.{Result, Ok, Err, IfOk}
 use Rattle.trace_compare.specs.declared.comparison.Comparison.{Comparison}
 use Rattle.trace_compare.specs.Comparing.{HasCounted, HasJudged, HasLeft, IsOpen, MeetsText, StandsFrom, bytes_left, decided, lines_left, text_left, told_by, told_left}
@@ -17,8 +17,6 @@ use Rattle.row_code.specs.declared.image.Image.{Image}
 use Rattle.trace_text.specs.Start.{Begins}
 use Rattle.line_reader.specs.Words.{is_line_end}
 use Rattle.thread_machine.specs.declared.choice.Choice.{Choice}
-use Rattle.thread_machine.specs.declared.fault.StepFault.{StepFault}
-use Rattle.thread_machine.specs.declared.fault.StepFault.TheVariants.{NoSuchThread}
 use Rattle.thread_machine.specs.World.{StoredWorld, World, world_of}
 use Rattle.trace_compare.specs.declared.comparison.Verdict.{Verdict}
 use Rattle.trace_compare.specs.declared.comparison.Judged.{Judged}
@@ -58,22 +56,10 @@ long-otherwise : (n : ℕ) (line : List ℕ) → 65536 < length line → otherwi
 long-otherwise n line many = ap (λ long. cond long (verdict.NotATrace n) (verdict.Differs n)) (lt-ltb 65536 (length line) many)
 
 -- a line of the state text
-state-by : (byte : ℕ) (text : List ℕ) (n : ℕ) (line : List ℕ) (lines : List (List ℕ)) (same : Bool)
-    → bytes_eq (line ++ (10 ∷ [])) (first_line (byte ∷ text)) ≡ same
-    → state_verdict (byte ∷ text) n (line ∷ lines) ≡ cond same (state_verdict (after_line (byte ∷ text)) (n + 1) lines) (otherwise n line)
-state-by byte text n line lines same is =
-    ap (λ b. cond b (state_verdict (after_line (byte ∷ text)) (n + 1) lines) (otherwise n line)) is
-
 pub state-same : (text : List ℕ) (n : ℕ) (line : List ℕ) (lines : List (List ℕ)) → 0 < length text
     → line ++ (10 ∷ []) ≡ first_line text
     → state_verdict text n (line ∷ lines) ≡ state_verdict (after_line text) (n + 1) lines
-state-same text n line lines some same = grind (arith, state-by, same_bytes)
-
--- where another one is due, or nothing
-state-other : (text : List ℕ) (n : ℕ) (line : List ℕ) (lines : List (List ℕ)) → 0 < length text + (length line + length lines)
-    → (0 < length text → bytes_eq (line ++ (10 ∷ [])) (first_line text) ≡ false)
-    → state_verdict text n (line ∷ lines) ≡ otherwise n line
-state-other text n line lines due_or_left other = grind (arith, state-by)
+state-same text n line lines some same = grind (arith, same_bytes)
 
 -- the line of a choice
 pub choice-same : (named : Option Choice) (choice : Choice) (accepted more : Bool) (world after : World) (n : ℕ)
@@ -108,8 +94,7 @@ not_empty (suc n) empty is isnt = omega arith
 -- before the state line
 pub left-lines : (now : Comparison) (lines : List (List ℕ)) → now.is_state ≡ false
     → lines_left now lines ≡ lines_verdict now.accepted (world_of now.machine) now.number lines
-left-lines now lines is =
-    ap (λ b. cond b (state_verdict (drop now.at now.text.items) now.number lines) (lines_verdict now.accepted (world_of now.machine) now.number lines)) is
+left-lines now lines is = grind arith
 
 pub lines-choice : (accepted : Bool) (world : World) (n : ℕ) (line : List ℕ) (lines : List (List ℕ)) → is_state_line line ≡ false
     → lines_verdict accepted world n (line ∷ lines)
@@ -144,15 +129,7 @@ pub judged-whole : {E : Type 0} (result : Result (Option Verdict) E) (before aft
     → IfOk result (λ v. lines_left before (line ∷ lines) ≡ decided v (lines_left after lines)))
     → ((lines : List (List ℕ)) → IfOk result (λ v. MeetsText before after line lines v))
     → IfOk result (λ v. HasCounted before.number after.number v) → IfOk result (λ v. HasJudged before after how.Whole line v)
-judged-whole (Ok None) before after line one same meets counted = (
-  refl,
-  counted,
-  λ rest.
-      let lines = slice_split is_line_end rest in
-      let some : 0 < length lines = omega (arith, length-slice_split is_line_end rest) in
-      ap (told_left before) (whole-line line rest one)
-      ∙ told-met before after line lines one some counted (same lines (λ state. omega (arith, some))) (meets lines),
-)
+judged-whole (Ok None) before after line one same meets counted = grind (arith, length-slice_split, whole-line, told-met)
 judged-whole (Ok (Some v)) before after line one same meets counted = (
   counted,
   λ rest.
@@ -184,18 +161,12 @@ and_no false b is = refl
 
 -- a line that is longer than the one that is due
 longer : (line text : List ℕ) → length text ≤ length line → bytes_eq (line ++ (10 ∷ [])) text ≡ false
-longer line text less =
-    false_from_ne_true _ (λ same. absurd (omega (
-      arith,
-      less,
-      length-append line (10 ∷ []),
-      ap length ((bytes_eq-Decides (line ++ (10 ∷ [])) text).0 same),
-    )))
+longer line text less = grind (arith, false_from_ne_true, length-append, bytes_eq-Decides)
 
 -- a line that is too long isn't the run's: not in the state
 long_state : (text : List ℕ) (n : ℕ) (line : List ℕ) (lines : List (List ℕ)) → position_or_len is_line_end text ≤ 65536
     → 65536 < length line → state_verdict text n (line ∷ lines) ≡ verdict.NotATrace n
-long_state text n line lines few many = grind (arith, state-other, longer, length-take, long-otherwise)
+long_state text n line lines few many = grind (arith, longer, length-take, long-otherwise)
 
 -- nor of a choice
 long_choice : (named : Option Choice) (accepted : Bool) (world : World) (n : ℕ) (line : List ℕ) (rest : Bool → World → Verdict)
@@ -236,14 +207,12 @@ too_long now after line one short many = (
 -- a comparison that begins, by its parts
 left-first : (now : Comparison) (machine : StoredWorld) (bytes : List ℕ) → now.machine ≡ machine → now.accepted ≡ true
     → now.is_state ≡ false → now.number ≡ 1 → bytes_left now bytes ≡ told_of (world_of machine) bytes
-left-first now machine bytes machine_is accepted_is state_is number_is =
-    rw (state_is, accepted_is, machine_is, number_is) refl
+left-first now machine bytes machine_is accepted_is state_is number_is = grind arith
 
 told-first : (now : Comparison) (machine : StoredWorld) (bytes : List ℕ) (left : Option (List ℕ)) (told : Told)
     → ((rest : List ℕ) → bytes_left now rest ≡ told_of (world_of machine) rest)
     → HasLeft now bytes left told → HasTold (world_of machine) bytes left told
-told-first now machine bytes left told same (inl (end, is)) = inl (end, sym (same bytes) ∙ is)
-told-first now machine bytes left told same (inr is) = inr (λ rest. sym (same (bytes ++ rest)) ∙ is rest)
+told-first now machine bytes left told same given = grind arith
 
 -- of an image whose program begins in that world
 pub told-all : {E : Type 0} (result : Result Verdict E) (image : Image) (now last : Comparison) (machine : StoredWorld)
@@ -258,27 +227,21 @@ told-all (Err e) image now last machine before after begins machine_is start num
 
 -- the verdict alone
 told_verdict : (v : Verdict) (now : Comparison) → (told_by v now).verdict ≡ v
-told_verdict (verdict.Differs n) now = refl
-told_verdict v now = refl
+told_verdict v now = grind arith
 
 verdict-told : (world : World) (bytes : List ℕ) (left : Option (List ℕ)) (told : Told) (v : Verdict) → told.verdict ≡ v
     → HasTold world bytes left told → HasVerdict world bytes left v
-verdict-told world bytes left told v same (inl (end, is)) = inl (end, ap (λ (t : Told). t.verdict) is ∙ same)
-verdict-told world bytes left told v same (inr is) = inr (λ rest. ap (λ (t : Told). t.verdict) (is rest) ∙ same)
+verdict-told world bytes left told v same given = grind arith
 
 pub compared : {E : Type 0} (result : Result Verdict E) (image : Image) (last : Comparison) (before after : Option (List ℕ))
     → IfOk result (λ v. HasShown image before after (told_by v last)) → IfOk result (λ v. HasCompared image before after v)
-compared (Ok v) image last before after (world, (bytes, (begins, consumed, told))) =
-    (world, (bytes, (begins, consumed, verdict-told world bytes after (told_by v last) v (told_verdict v last) told)))
-compared (Err e) image last before after p = p
+compared result image last before after p = grind arith
 
 -- what is told by one who copies the line
 pub with_line : {E : Type 0} (P : Told → Type 0) (result : Result Judged E) (v : Verdict) (last : Comparison) → P (told_by v last)
     → IfOk result (λ judged. told judged ≡ told_by v last) → IfOk result (λ judged. P (told judged))
-with_line P (Ok judged) v last holds is = subst P (sym is) holds
-with_line P (Err e) v last holds is = tt
+with_line P result v last holds is = grind arith
 
 pub with_verdict : {E : Type 0} (P : Verdict → Type 0) (result : Result Judged E) (v : Verdict) (last : Comparison) → P v
     → IfOk result (λ judged. told judged ≡ told_by v last) → IfOk result (λ judged. P judged.verdict)
-with_verdict P (Ok judged) v last holds is = subst P (sym (ap (λ (t : Told). t.verdict) is ∙ told_verdict v last)) holds
-with_verdict P (Err e) v last holds is = tt
+with_verdict P result v last holds is = grind arith

@@ -1,5 +1,5 @@
 -- A schedule that is written as its choices come.
-use Rattle.std.proofs.Common.{◌≡◌, ◌∙◌, ◌+◌, ◌<◌, ◌≤◌, ℕ, Bool, List, [], ◌∷◌, ◌++◌, Some, None, refl, ap, sym, subst, append_assoc, append-nil, arith}
+use Rattle.std.proofs.Common.{◌≡◌, ◌∙◌, ◌+◌, ◌<◌, ◌≤◌, ℕ, Bool, List, [], ◌∷◌, ◌++◌, Some, None, refl, ap, sym, subst, append_assoc, append-nil, arith, rules}
 use Rattle.std.specs.Prelude.{Option, Result, Ok, OnOk, IfOk, is_none, replicate}
 use Rattle.std.specs.List.{slice_split}
 use Rattle.line_reader.specs.Words.{is_line_end}
@@ -23,9 +23,7 @@ use Rattle.trace_compare.proofs.NamedLines.{taken-all, unread}
 -- the choices of runs, and of more behind them
 choices-both : (runs more : List Run) → choices_of (runs ++ more) ≡ choices_of runs ++ choices_of more
 choices-both [] more = refl
-choices-both (run ∷ runs) more =
-    ap (λ cs. replicate run.times run.choice ++ cs) (choices-both runs more)
-    ∙ sym (append_assoc (replicate run.times run.choice) (choices_of runs) (choices_of more))
+choices-both (run ∷ runs) more = grind (arith, append_assoc, choices-both runs more)
 
 -- the last run has another of its choice
 joined-last : (runs : List Run) (a b : Run) → b.choice ≡ a.choice → AreJoined (runs ++ a ∷ []) → AreJoined (runs ++ b ∷ [])
@@ -40,32 +38,17 @@ joined-next runs a b apart joined = grind arith
 
 closed-next : (runs : List Run) (run : Run) → closed_text (runs ++ run ∷ []) ≡ closed_text runs ++ (token_of run ++ 32 ∷ [])
 closed-next [] run = refl
-closed-next (first ∷ runs) run =
-    ap (λ text. token_of first ++ (32 ∷ text)) (closed-next runs run)
-    ∙ sym (append_assoc (token_of first) (32 ∷ closed_text runs) (token_of run ++ 32 ∷ []))
+closed-next (first ∷ runs) run = grind (arith, append_assoc, closed-next runs run)
 
 closed-last : (runs : List Run) (last : Run) → schedule_text (runs ++ last ∷ []) ≡ closed_text runs ++ token_of last
 closed-last [] last = append-nil (token_of last)
-closed-last (run ∷ []) last =
-    ap (λ text. token_of run ++ (32 ∷ text)) (closed-last [] last) ∙ sym (append_assoc (token_of run) (32 ∷ []) (token_of last))
-closed-last (run ∷ next ∷ runs) last =
-    ap (λ text. token_of run ++ (32 ∷ text)) (closed-last (next ∷ runs) last)
-    ∙ sym (append_assoc (token_of run) (32 ∷ closed_text (next ∷ runs)) (token_of last))
+closed-last (run ∷ []) last = grind (arith, append_assoc, closed-last [] last)
+closed-last (run ∷ next ∷ runs) last = grind (arith, append_assoc, closed-last (next ∷ runs) last)
 
 -- the first choice
 pub take-first : (start new : Option (List ℕ)) (choices : List Choice) (choice : Choice) (run : Run) → choice.thread ≤ 63
     → run ≡ run_of choice 1 → HasWritten start None new choices → HasWritten start (Some run) new (choices ++ choice ∷ [])
-take-first start new choices choice run thread is (none, same) =
-    subst (λ r. HasWritten start (Some r) new (choices ++ choice ∷ [])) (sym is) (
-      [],
-      (
-        ap (λ cs. cs ++ choice ∷ []) none,
-        All-nil IsRun,
-        spelled choice 0 thread (omega arith),
-        tt,
-        subst (λ o. Appends start o []) (sym same) (Appends-nil start),
-      ),
-    )
+take-first start new choices choice run thread is given = search (rules, All-nil, spelled)
 
 -- the last choice once more
 pub take-more : (start new : Option (List ℕ)) (choices : List Choice) (choice : Choice) (run more : Run) → choice.thread ≤ 63
@@ -76,19 +59,7 @@ take-more start new choices choice run more thread same few is (runs, (all, spel
     append-nil (replicate (run.times + 1) choice) ∙ sym (replicate-append-replicate run.times 1 choice)
     ∙ ap (λ c. replicate run.times c ++ choice ∷ []) (sym same)
     ∙ ap (λ cs. cs ++ choice ∷ []) (sym (append-nil (replicate run.times run.choice))) in
-    let next = run_of choice (run.times + 1) in
-    subst (λ r. HasWritten start (Some r) new (choices ++ choice ∷ [])) (sym is) (
-      runs,
-      (
-        ap (λ cs. cs ++ choice ∷ []) (all ∙ choices-both runs (run ∷ []))
-            ∙ append_assoc (choices_of runs) (choices_of (run ∷ [])) (choice ∷ [])
-            ∙ ap (λ cs. choices_of runs ++ cs) (sym grown) ∙ sym (choices-both runs (next ∷ [])),
-        spelled-all,
-        spelled choice run.times thread few,
-        joined-last runs run next (sym same) joined,
-        text,
-      ),
-    )
+    grind (arith, choices-both, append_assoc, spelled, joined-last)
 
 -- another one
 pub take-other : (start old new : Option (List ℕ)) (choices : List Choice) (choice : Choice) (run other : Run) → choice.thread ≤ 63

@@ -1,6 +1,5 @@
 use Rattle.std.proofs.Common.{subst}
 use Rattle.std.specs.Prelude.{IfOk}
-use Rattle.trace_compare.specs.declared.comparison.Verdict.{Verdict}
 use Rattle.trace_compare.specs.Compare.{HasShown, IsReadNoFurther}
 use Rattle.trace_compare.specs.Comparing.{told_by}
 use Rattle.trace_compare.proofs.Verdicts.{told-all, with_line, with_verdict}

@@ -1,4 +1,4 @@
-use Rattle.std.proofs.Common.{◌≡◌, ◌∙◌, ◌+◌, ◌∷◌, [], Option, ap, arith, drop, length, subst, sym}
+use Rattle.std.proofs.Common.{◌≡◌, ◌∙◌, ◌+◌, [], Option, ap, arith, drop, length, subst, sym}
 use Rattle.trace_compare.specs.declared.comparison.Verdict.{Verdict}
 use Rattle.trace_compare.specs.Comparing.{HasCounted, MeetsText, decided, lines_left}
 use Rattle.trace_compare.proofs.RunLines.{told-ended, told-other}
