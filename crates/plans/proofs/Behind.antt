@@ -1,5 +1,5 @@
 -- A fold over the words of a line and over the lines of a text, one more at a time.
-use Rattle.std.proofs.Common.{◌≡◌, ◌≢◌, ◌∙◌, ◌+◌, ◌<◌, ◌≤◌, ℕ, zero, suc, Bool, true, false, List, [], ◌∷◌, ◌++◌, length, take, drop, nat_lt, ap, refl, arith}
+use Rattle.std.proofs.Common.{◌≡◌, ◌≢◌, ◌∙◌, ◌+◌, ◌<◌, ◌≤◌, ℕ, zero, suc, Bool, List, [], ◌∷◌, ◌++◌, length, take, drop, ap, refl, arith}
 use Rattle.std.specs.Prelude.{Result, Ok}
 use Rattle.std.specs.List.{position_or_len, slice_split}
 use Rattle.std.proofs.lemmas.Bool.Decides.{nat_tests}
@@ -13,12 +13,6 @@ use Rattle.plans.specs.declared.fault.PlanFault.{PlanFault}
 use Rattle.plans.specs.Plan.{Draft, word_behind, words_behind, lines_behind}
 use Rattle.plans.specs.Reading.{Name}
 use Rattle.plans.specs.Words.{spread, words_of}
-
--- what fails fails whatever comes next
-fails_then : {X Y : Type 0} (memory : Bool) (fault : PlanFault) (read : Result X PlanFault) (next : X → Result Y PlanFault)
-    → FailsUnless memory fault read → FailsUnless memory fault (read >>= next)
-fails_then true fault read next fails = tt
-fails_then false fault read next fails = ap (λ r. r >>= next) fails
 
 -- some bytes are a word
 some_word : (text : List ℕ) (n : ℕ) → n ≢ 0 → n ≤ length text → word_alone (take n text) ≡ take n text ∷ []
@@ -46,12 +40,6 @@ pub faulty_word : (names : List Name) (line : ℕ) (text : List ℕ) (n : ℕ) (
     → FailsUnless memory fault (word_behind names line before (take n text)) → FailsUnless memory fault all
 faulty_word names line text n before all memory fault some within cut so fails = grind arith
 
--- a line, and those behind its end
-lines_cut : (text : List ℕ) → position_or_len is_line_end text < length text
-    → slice_split is_line_end text
-    ≡ take (position_or_len is_line_end text) text ∷ slice_split is_line_end (drop (position_or_len is_line_end text + 1) text)
-lines_cut text within = slice_split_first is_line_end text 0 within
-
 -- the last line
 last_cut : (text : List ℕ) → position_or_len is_line_end text ≡ length text
     → slice_split is_line_end text ≡ take (position_or_len is_line_end text) text ∷ []
@@ -61,7 +49,7 @@ pub next_line : (names : List Name) (n : ℕ) (text : List ℕ) (before after : 
     → position_or_len is_line_end text < length text → lines_behind names n before (slice_split is_line_end text) ≡ all
     → words_behind names n before (words_of (take (position_or_len is_line_end text) text)) ≡ Ok after
     → lines_behind names (n + 1) after (slice_split is_line_end (drop (position_or_len is_line_end text + 1) text)) ≡ all
-next_line names n text before after all within so ok = grind (arith, lines_cut)
+next_line names n text before after all within so ok = grind (arith, slice_split_first)
 
 pub last_line : (names : List Name) (n : ℕ) (text : List ℕ) (before after : Draft) (all : Result Draft PlanFault)
     → position_or_len is_line_end text ≡ length text → lines_behind names n before (slice_split is_line_end text) ≡ all
@@ -69,24 +57,11 @@ pub last_line : (names : List Name) (n : ℕ) (text : List ℕ) (before after : 
 last_line names n text before after all whole so ok = grind (arith, last_cut)
 
 -- the lines that begin with one that is faulty
-faulty_lines : (names : List Name) (n : ℕ) (before : Draft) (line : List ℕ) (lines : List (List ℕ)) (memory : Bool) (fault : PlanFault)
-    → FailsUnless memory fault (words_behind names n before (words_of line)) → FailsUnless memory fault (lines_behind names n before (line ∷ lines))
-faulty_lines names n before line lines memory fault fails = fails_then memory fault _ (λ after. lines_behind names (n + 1) after lines) fails
-
-first_line : (text : List ℕ) (d : Bool) → nat_lt (position_or_len is_line_end text) (length text) ≡ d
-    → (lines : List (List ℕ)) × (slice_split is_line_end text ≡ take (position_or_len is_line_end text) text ∷ lines)
-first_line text true is =
-    let within : position_or_len is_line_end text < length text = grind (arith, nat_tests, is) in
-    (slice_split is_line_end (drop (position_or_len is_line_end text + 1) text), lines_cut text within)
-first_line text false is = grind (arith, nat_tests, prefix_len-le-length, last_cut)
-
 pub faulty_line : (names : List Name) (n : ℕ) (text : List ℕ) (before : Draft) (all : Result Draft PlanFault) (memory : Bool) (fault : PlanFault)
     → lines_behind names n before (slice_split is_line_end text) ≡ all
     → FailsUnless memory fault (words_behind names n before (words_of (take (position_or_len is_line_end text) text)))
     → FailsUnless memory fault all
-faulty_line names n text before all memory fault so fails =
-    let first = first_line text (nat_lt (position_or_len is_line_end text) (length text)) refl in
-    rw (← so) (rw first.1 (faulty_lines names n before (take (position_or_len is_line_end text) text) first.0 memory fault fails))
+faulty_line names n text before all memory fault so fails = grind (arith, nat_tests, slice_split_first, prefix_len-le-length, last_cut)
 
 -- a line as it was cut
 pub before_end : (text line : List ℕ) (n : ℕ) → line ≡ take n text → n ≡ position_or_len is_line_end text

@@ -1,5 +1,5 @@
 -- The words that are read are those of a plan.
-use Rattle.std.proofs.Common.{◌≡◌, ◌∙◌, ◌+◌, ◌-◌, ◌==◌, ℕ, zero, suc, Bool, true, false, List, [], ◌∷◌, ◌++◌, ap, sym, refl, subst, arith, append_assoc, add-one}
+use Rattle.std.proofs.Common.{◌≡◌, ◌∙◌, ◌+◌, ◌==◌, ℕ, zero, suc, Bool, true, false, List, [], ◌∷◌, ◌++◌, ap, sym, refl, subst, arith, append_assoc, add-one}
 use Rattle.std.specs.Prelude.{IfOk, Result, Ok, Err, if◌then◌else◌}
 use Rattle.std.proofs.lemmas.List.{append-nil}
 use Rattle.row_code.specs.Answers.{◌>>=◌}
@@ -8,7 +8,7 @@ use Rattle.plans.specs.declared.fault.PlanFaultKind.TheVariants as fault
 use Rattle.plans.specs.declared.word.Step.{Step}
 use Rattle.plans.specs.declared.word.Word.{Word}
 use Rattle.plans.specs.declared.word.Word.TheVariants as word
-use Rattle.plans.specs.Plan.{AnswersPlan, Draft, no_words, draft_open, with_word, placed, word_behind, words_behind, lines_behind, finished, words_in_lines}
+use Rattle.plans.specs.Plan.{AnswersPlan, Draft, no_words, draft_open, with_word, placed, word_behind, words_behind, lines_behind, words_in_lines}
 use Rattle.plans.specs.Reading.{Name, Said, word_of}
 use Rattle.plans.specs.Tree.{Plan, Done, Then, Group, words_of_plan, IsPlan}
 use Rattle.plans.specs.Words.{words_of}
@@ -70,46 +70,28 @@ record Adds (before after : Draft) : Type 0 where
   pub words : after.words ≡ before.words ++ added
   pub nests : (rest : List Word) → IsNested after.depth rest → IsNested before.depth (added ++ rest)
 
-adds_none : (draft : Draft) → Adds draft draft
-adds_none draft = record { added = []; words = sym (append-nil draft.words); nests = λ rest nested. nested }
-
 adds_both : (first second third : Draft) → Adds first second → Adds second third → Adds first third
 adds_both first second third a b = grind (arith, append_assoc)
 
 abbrev said : Draft → Said Draft
 said draft = Ok draft
 
-adds_same : (before after other : Draft) → said other ≡ Ok after → Adds before other → Adds before after
-adds_same before after other same adds = grind arith
-
 abbrev read_as : {A : Type 0} → A → Result A PlanFault
 read_as read = Ok read
 
 adds_same_draft : (draft after : Draft) → read_as draft ≡ Ok after → Adds draft after
-adds_same_draft draft after same = grind (arith, adds_none)
+adds_same_draft draft after same = grind (arith, append-nil)
 
 -- behind `(`
 opens : (draft : Draft) (opened : ℕ) → Adds draft (record draft { words = draft.words ++ word.Open ∷ []; depth = draft.depth + 1; opened = opened })
 opens draft opened = grind (arith, open_nests)
 
-adds_open : (deep : Bool) (draft after : Draft) (opened : ℕ)
-    → ((if deep then Err fault.TooDeep else Ok (record draft { depth = draft.depth + 1; opened = opened })) >>= with_word word.Open) ≡ Ok after
-    → Adds draft after
-adds_open true draft after opened ok = absurd (cc ok)
-adds_open false draft after opened ok = adds_same draft after _ ok (opens draft opened)
-
 -- behind `)`
 closes : (depth less times : ℕ) (rest : List Word) → less + 1 ≡ depth → IsNested less rest → IsNested depth (word.Close times ∷ rest)
 closes depth less times rest is nested = grind (arith, add-one, close_nests)
 
-adds_close : (none : Bool) (draft after : Draft) (times : ℕ) → (draft.depth == 0) ≡ none
-    → ((if none then Err fault.NotOpened else Ok (record draft { depth = draft.depth - 1 })) >>= with_word (word.Close times)) ≡ Ok after
-    → Adds draft after
-adds_close true draft after times is ok = absurd (cc ok)
-adds_close false draft after times is ok = grind (arith, adds_same, closes)
-
 adds_word : (line : ℕ) (draft after : Draft) (one : Word) → (draft_open line draft one >>= with_word one) ≡ Ok after → Adds draft after
-adds_word line draft after one ok = grind (arith, adds_same, step_nests, adds_open, adds_close)
+adds_word line draft after one ok = grind (arith, step_nests, opens, closes)
 
 placed_ok : {P : Type 0} (line : ℕ) (after : Draft) (said : Said Draft) → (said ≡ Ok after → P) → placed line said ≡ Ok after → P
 placed_ok line after said gives ok = grind arith
@@ -151,12 +133,8 @@ plan_finished true draft words is adds ok =
     let nested : IsNested draft.depth [] = subst (λ k. IsNested k []) (sym none) (Done, refl) in
     subst IsPlan (append-nil adds.added ∙ sym adds.words ∙ whole) (adds.nests [] nested)
 
-plan_next : (read : Result Draft PlanFault) (words : List Word) → ((draft : Draft) → read ≡ Ok draft → Adds no_words draft)
-    → (read >>= finished) ≡ Ok words → IsPlan words
-plan_next read words adds ok = grind (arith, plan_finished)
-
 pub plan_read : (names : List Name) (lines : List (List ℕ)) (words : List Word) → words_in_lines names lines ≡ Ok words → IsPlan words
-plan_read names lines words ok = grind (arith, plan_next, adds_lines)
+plan_read names lines words ok = grind (arith, plan_finished, adds_lines)
 
 pub answer_is_plan : {X : Type 0} (view : X → List Word) (names : List Name) (lines : List (List ℕ)) (result : Result X PlanFault)
     → AnswersPlan view result (words_in_lines names lines) → IfOk result (λ words. IsPlan (view words))

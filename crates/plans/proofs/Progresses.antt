@@ -1,5 +1,5 @@
 -- What a play makes of a progress: nothing, fewer choices left, or a stop; and that a stop is for good.
-use Rattle.std.proofs.Common.{◌≡◌, ◌∙◌, ◌+◌, ◌-◌, ◌<◌, ◌==◌, ℕ, zero, suc, Bool, true, false, refl, sym, ap, arith}
+use Rattle.std.proofs.Common.{◌≡◌, ◌∙◌, ◌+◌, ◌-◌, ◌<◌, ◌==◌, ℕ, zero, suc, Bool, true, false, refl, ap, arith}
 use Rattle.std.specs.Prelude.{Option, Some, None, if◌then◌else◌}
 use Rattle.thread_machine.specs.declared.choice.Choice.{Choice}
 use Rattle.thread_machine.specs.declared.fault.StepFault.{StepFault}
@@ -36,17 +36,9 @@ pub choice_comes : (choice : Choice) (progress : Progress) → Comes progress (c
 unfolding chosen
 choice_comes choice progress = chosen_comes (progress.left == 0) (refusal_of progress.world choice) choice progress refl
 
-same_progress : (progress : Progress) → progress.stopped ≡ true → record progress { stopped = true } ≡ progress
-same_progress progress stopped = ap (λ b. record progress { stopped = b }) (sym stopped)
-
-over_chosen : (none : Bool) (refusal : Option StepFault) (choice : Choice) (progress : Progress) → (progress.left == 0) ≡ none
-    → IsOver progress → (if none then record progress { stopped = true } else chosen_by refusal choice progress) ≡ progress
-over_chosen true refusal choice progress is over = same_progress progress over.stopped
-over_chosen false refusal choice progress is over = grind arith
-
 pub choice_over : (choice : Choice) (progress : Progress) → IsOver progress → chosen choice progress ≡ progress
 unfolding chosen
-choice_over choice progress over = over_chosen (progress.left == 0) (refusal_of progress.world choice) choice progress refl over
+choice_over choice progress over = grind arith
 
 -- a play again and again
 pub repeated_comes : (times : ℕ) (play : Progress → Progress) (progress : Progress) → ((p : Progress) → Comes p (play p))
@@ -110,10 +102,6 @@ plan_over (Then one rest) progress over = grind (arith, step_over, plan_over res
 plan_over (Group body times rest) progress over = grind (arith, repeated_same, plan_over body progress over, plan_over rest progress over)
 
 -- a pass that left as many choices as there were makes none when it is played again
-settles_by : (plan : Plan) (progress : Progress) → Comes progress (plays plan progress) → (plays plan progress).left ≡ progress.left
-    → plays plan (plays plan progress) ≡ plays plan progress
-settles_by plan progress given left = grind (arith, plan_over)
-
 pub settles : (plan : Plan) (progress : Progress) → (plays plan progress).left ≡ progress.left
     → plays plan (plays plan progress) ≡ plays plan progress
-settles plan progress left = settles_by plan progress (plan_comes plan progress) left
+settles plan progress left = grind (arith, plan_comes, plan_over)

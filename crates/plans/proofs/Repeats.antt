@@ -1,5 +1,5 @@
 -- Repetitions and rules, one choice more at a time.
-use Rattle.std.proofs.Common.{◌≡◌, ◌∙◌, ◌+◌, ◌-◌, ◌<◌, ◌≤◌, ◌==◌, ℕ, Bool, true, false, refl, sym, arith}
+use Rattle.std.proofs.Common.{◌≡◌, ◌∙◌, ◌+◌, ◌-◌, ◌<◌, ◌≤◌, ◌==◌, ℕ, true, sym, arith}
 use Rattle.std.specs.Prelude.{◌&&◌, Some, None}
 use Rattle.thread_machine.specs.declared.choice.Choice.{Choice}
 use Rattle.plans.specs.declared.word.Rule.{Rule}
@@ -8,13 +8,8 @@ use Rattle.plans.specs.Rules.{next_choice}
 use Rattle.plans.specs.Play.{repeated, followed, followed_by}
 use Rattle.plans.proofs.Progresses.{IsOver, choice_over, repeated_same, followed_over}
 
-over_by : (none stopped : Bool) (progress : Progress) → (progress.left == 0) ≡ none → progress.stopped ≡ stopped → (none && stopped) ≡ true
-    → IsOver progress
-over_by false stopped progress left is both = absurd (cc both)
-over_by true _ progress left is both = grind arith
-
 pub is_over : (progress : Progress) → ((progress.left == 0) && progress.stopped) ≡ true → IsOver progress
-is_over progress both = over_by (progress.left == 0) progress.stopped progress refl refl both
+is_over progress both = grind arith
 
 repeated_here : (play : Progress → Progress) (done times : ℕ) (progress : Progress) → done < times
     → repeated (times - done) play progress ≡ repeated (times - (done + 1)) play (play progress)

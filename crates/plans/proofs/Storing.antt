@@ -1,5 +1,5 @@
 -- One word more is stored behind those before it.
-use Rattle.std.proofs.Common.{◌≡◌, ◌∙◌, ◌+◌, ℕ, Bool, true, false, cond, List, [], ◌∷◌, ◌++◌, length, refl, sym, ap, arith}
+use Rattle.std.proofs.Common.{◌≡◌, ◌∙◌, ◌+◌, ℕ, Bool, true, cond, List, [], ◌∷◌, ◌++◌, length, refl, ap, arith}
 use Rattle.std.specs.List.{count_by}
 use Rattle.std.proofs.lemmas.List.Sums.{sum_by-cons}
 use Rattle.plans.specs.declared.part.Part.{Part}
@@ -15,13 +15,9 @@ counted : (takes : Part → Bool) (one : Part) (parts : List Part) → count_by 
 counted takes one parts = sum_by-cons (λ x. cond (takes x) 1 0) one parts
 
 -- the rest of them is for the rest of the parts
-rest_for_by : (does : Bool) (numbers : List ℕ) (many : ℕ) → length numbers ≡ cond does 1 0 + many → length (left_of does numbers) ≡ many
-rest_for_by true [] many is = absurd (omega (arith, is))
-rest_for_by _ _ many is = omega (arith, is)
-
 rest_for : (takes : Part → Bool) (one : Part) (parts : List Part) (numbers : List ℕ) → AreFor takes (one ∷ parts) numbers
     → AreFor takes parts (left_of (takes one) numbers)
-rest_for takes one parts numbers is = rest_for_by (takes one) numbers (count_by takes parts) (is ∙ counted takes one parts)
+rest_for takes one parts numbers is = grind (arith, counted)
 
 -- numbers behind them change none that are taken before
 same_taken : (does : Bool) (numbers more : List ℕ) (many : ℕ) → length numbers ≡ cond does 1 0 + many
@@ -38,15 +34,11 @@ none_left : (numbers : List ℕ) → length numbers ≡ 0 → numbers ≡ []
 none_left [] is = refl
 none_left (number ∷ numbers) is = absurd (omega (arith, is))
 
-put_taken : (does : Bool) (number : ℕ) → (does ≡ false → number ≡ 0) → taken_of does (put_of does number) ≡ number
-put_taken true number none = refl
-put_taken false number none = sym (none refl)
-
 put_first : (stored : Stored) (one : Word) → Holds stored one → (numbers seeds : List ℕ)
     → AreFor takes_number [] numbers → AreFor takes_seed [] seeds
     → words_of_parts (stored.part ∷ []) (numbers ++ put_of (takes_number stored.part) stored.number) (seeds ++ put_of (takes_seed stored.part) stored.seed)
     ≡ one ∷ []
-put_first stored one holds numbers seeds n s = grind (arith, none_left, put_taken)
+put_first stored one holds numbers seeds n s = grind (arith, none_left)
 
 put_last : (stored : Stored) (one : Word) → Holds stored one → (parts : List Part) (numbers seeds : List ℕ)
     → AreFor takes_number parts numbers → AreFor takes_seed parts seeds

@@ -23,17 +23,10 @@ pub find_none : (test : ℕ → Bool) (t n : ℕ) → n ≤ t → find test (ran
 find_none test t n done = ap (find test) (range_done t n done)
 
 -- what is made of them begins with what is made of the first
-filter_map_here : (made : ℕ → Option Choice) (t n : ℕ) → t < n
-    → filter_map made (range_with_len t (n - t)) ≡ cons_option (made t) (filter_map made (range_with_len (t + 1) (n - (t + 1))))
-filter_map_here made t n there = ap (filter_map made) (range_here t n there)
-
-cons_append : (items rest : List Choice) (made : Option Choice) → (items ++ cons_option made []) ++ rest ≡ items ++ cons_option made rest
-cons_append items rest made = grind (arith, append_assoc)
-
 pub next_made : (made : ℕ → Option Choice) (t n : ℕ) (items more all : List Choice) → t < n
     → items ++ filter_map made (range_with_len t (n - t)) ≡ all → more ≡ items ++ cons_option (made t) []
     → more ++ filter_map made (range_with_len (t + 1) (n - (t + 1))) ≡ all
-next_made made t n items more all there so is = grind (arith, cons_append, filter_map_here)
+next_made made t n items more all there so is = grind (arith, append_assoc, range_here)
 
 pub all_made : (made : ℕ → Option Choice) (t n : ℕ) (items all : List Choice) → n ≤ t
     → items ++ filter_map made (range_with_len t (n - t)) ≡ all → items ≡ all
