@@ -1,22 +1,15 @@
 -- Arrivals: the exception that they meet before they come to a phaser.
-use Rattle.std.proofs.Common.{◌≡◌, ℕ, ℤ, pos, ◌&&◌, Bool, true, false, [], ap, if◌then◌else◌, arith}
+use Rattle.std.proofs.Common.{◌≡◌, ℕ, ℤ, ◌&&◌, false, [], arith}
 use Rattle.std.specs.Prelude.{Some, None}
-use Rattle.std.proofs.lemmas.Option.{same_Some}
 use Rattle.loader.specs.Program.{Program}
 use Rattle.thread_state.specs.Thread.{ThreadState, is_full, turn_of_throw}
 use Rattle.machine_scene.specs.declared.manner.Manner.{Manner}
-use Rattle.machine_scene.specs.Scene.{Scene, Outcome, thread_at, outcome_of_turn}
+use Rattle.machine_scene.specs.Scene.{Scene, thread_at, outcome_of_turn}
 use Rattle.machine_scene.specs.PhaserRows.{has_routine, unless_own, outcome_with_room, outcome_of_arrival, refusal_of_arrival}
 
 -- a thread with an empty stack comes to it
 pub free : (p : ℕ) (thread : ThreadState) (scene : Scene) → thread.stack ≡ [] → refusal_of_arrival p thread scene ≡ None
 free p thread scene empty = grind arith
-
-thrown_by : (own full : Bool) (thrown : ℤ → Outcome) (comes : Outcome) (code : ℤ)
-    → (if own then Some (pos 1) else (if full then Some (pos 6) else None)) ≡ Some code
-    → (if own then Some (thrown (pos 1)) else Some (if full then thrown (pos 6) else comes)) ≡ Some (thrown code)
-thrown_by true full thrown comes code is = ap (λ (c : ℤ). Some (thrown c)) (same_Some _ _ is)
-thrown_by false full thrown comes code is = grind (arith, same_Some)
 
 -- one that meets an exception throws it
 pub refused : (manner : Manner) (p t : ℕ) (program : Program) (scene : Scene) (code : ℤ)
@@ -24,12 +17,6 @@ pub refused : (manner : Manner) (p t : ℕ) (program : Program) (scene : Scene) 
     → unless_own p t scene (Some (outcome_of_arrival manner p t program scene))
     ≡ Some (outcome_of_turn (turn_of_throw code (thread_at scene t)) t scene)
 refused manner p t program scene code is = grind arith
-
-come_by : (own full : Bool) (thrown : ℤ → Outcome) (comes : Outcome)
-    → (if own then Some (pos 1) else (if full then Some (pos 6) else None)) ≡ None
-    → (if own then Some (thrown (pos 1)) else Some (if full then thrown (pos 6) else comes)) ≡ Some comes
-come_by true full thrown comes is = absurd (cc is)
-come_by false full thrown comes is = grind arith
 
 -- any other comes to it
 pub comes : (manner : Manner) (p t : ℕ) (program : Program) (scene : Scene) → refusal_of_arrival p (thread_at scene t) scene ≡ None

@@ -1,24 +1,17 @@
 -- Turns of the common kinds: what they leave of the sets of ready threads.
-use Rattle.std.proofs.Common.{◌≡◌, ◌≢◌, ◌∙◌, ℕ, ℤ, pos, ◌<◌, ◌||◌, true, false, List, ap, arith}
+use Rattle.std.proofs.Common.{◌≡◌, ◌≢◌, ◌∙◌, ℕ, ℤ, pos, ◌<◌, ◌||◌, true, false, ap, arith}
 use Rattle.std.specs.Prelude.{length, Option, Some, None}
 use Rattle.std.proofs.lemmas.List.{get_or-set_same}
 use Rattle.instruction_table.specs.declared.row.Row.{Row}
-use Rattle.instruction_table.specs.declared.row.Row.TheVariants.{Paaa}
-use Rattle.instruction_table.specs.declared.register.Reg.{Reg}
 use Rattle.instruction_table.specs.LocalRows.{is_local_row}
-use Rattle.tier_tree.specs.declared.climb.Climb.{Climb}
 use Rattle.tier_tree.specs.declared.arrived.Arrived.{Arrived}
 use Rattle.tier_tree.specs.declared.arrived.Arrived.TheVariants as arrived
-use Rattle.tier_tree.specs.Forest.{PhaserState, flat_at}
-use Rattle.tier_tree.specs.Arrival.{arrival_by, arrival}
 use Rattle.cyclic_barrier.specs.ThreadSet.{has}
 use Rattle.loader.specs.Program.{Program, row_at}
 use Rattle.thread_state.specs.declared.event.Event.{Event}
 use Rattle.thread_state.specs.declared.status.Status.{Status}
 use Rattle.machine_scene.specs.declared.ready_set.ReadySet.{ReadySet}
-use Rattle.machine_scene.specs.Manner.{manner_of}
-use Rattle.machine_scene.specs.Scene.{Scene, StoredScene, Outcome, scene_of, thread_at, with_phasers}
-use Rattle.machine_scene.specs.PhaserRows.{outcome_of_arrived}
+use Rattle.machine_scene.specs.Scene.{Scene, StoredScene, Outcome, scene_of, thread_at}
 use Rattle.machine_scene.specs.Outcomes.{outcome_of_row, outcome_in, is_ready}
 use Rattle.machine_scene.specs.Ready.{may_be_blocked}
 use Rattle.machine_scene.specs.ReadySet.{KnowsReady, AreReadyBeside, is_registering, interrupts, is_loud, changes_all, is_arrival, is_common, is_wait}
@@ -41,10 +34,6 @@ abbrev CalmIf : Option Outcome → Type 0
 CalmIf None = Unit {0}
 CalmIf (Some outcome) = is_loud outcome.event ≡ false
 
-calm_in : (of : Status) (row : Row) (t : ℕ) (program : Program) (scene : Scene) → is_common of row ≡ true → is_local_row row ≡ true
-    → CalmIf (outcome_in of row t program scene)
-calm_in of row t program scene common is = grind arith
-
 -- where a thread begins to wait in an outcome, its turn isn't ready after it, and it isn't about to register
 abbrev WaitsIf : ℕ → Program → Option Outcome → Type 0
 WaitsIf t program None = Unit {0}
@@ -56,21 +45,10 @@ abbrev number_of : Arrived → ℤ
 number_of (arrived.At phase) = phase
 number_of _ = pos 0
 
-view_by_climb : (c : Climb) (p : ℕ) (after before : List PhaserState) (phase : ℤ) → (arrival_by c p after before).answer ≡ arrived.At phase
-    → pos (flat_at before p).phase ≡ phase
-view_by_climb c p after before phase is = grind arith
-
--- a thread that waits at `paaa` for the phase that it arrived at
-waits_paaa : (answer : Arrived) (into : Reg) (p t : ℕ) (program : Program) (scene : Scene)
-    → Paaa into p ≡ row_at program.rows (thread_at scene t).pc → t < length scene.threads
-    → (arrival p false scene.phasers).answer ≡ answer
-    → WaitsIf t program (Some (outcome_of_arrived answer (manner_of (Paaa into p)) t program (with_phasers (arrival p false scene.phasers).phasers scene)))
-waits_paaa answer into p t program scene row there is = grind (arith, arrival-standings, get_or-set_same)
-
 -- unless it meets an exception before
 waits_row : (row : Row) (t : ℕ) (program : Program) (scene : Scene) → (is_local_row row || is_arrival row) ≡ true
     → row ≡ row_at program.rows (thread_at scene t).pc → t < length scene.threads → WaitsIf t program (outcome_of_row row t program scene)
-waits_row row t program scene common at there = grind (arith, waits_paaa)
+waits_row row t program scene common at there = grind (arith, arrival-standings, get_or-set_same)
 
 -- after a turn of a common kind
 pub record AfterCommon (program : Program) (row : Row) (t : ℕ) (old mid : StoredScene) (event : Event) : Type 0 where

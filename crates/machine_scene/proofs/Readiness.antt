@@ -3,36 +3,14 @@ use Rattle.std.proofs.Common.{◌≡◌, ◌≢◌, ℕ, ℤ, Bool, true, false,
 use Rattle.std.specs.Prelude.{Option, Some, None, is_some, not}
 use Rattle.instruction_table.specs.declared.row.Row.{Row}
 use Rattle.instruction_table.specs.declared.register.Reg.{Reg}
-use Rattle.cyclic_barrier.specs.declared.answer.Entered.{Entered}
 use Rattle.cyclic_barrier.specs.declared.answer.WaitState.{WaitState}
 use Rattle.cyclic_barrier.specs.declared.answer.WaitState.TheVariants as state
-use Rattle.cyclic_barrier.specs.Barrier.{BarrierState, arrive}
 use Rattle.loader.specs.Program.{Program, row_at}
-use Rattle.machine_scene.specs.Scene.{Scene, Outcome, thread_at, barrier_at}
-use Rattle.machine_scene.specs.PhaserRows.{unless_own, outcome_of_bulk}
-use Rattle.machine_scene.specs.BarrierRows.{is_run_by_another, unless_busy, outcome_of_entered}
+use Rattle.machine_scene.specs.Scene.{Scene, Outcome, thread_at}
+use Rattle.machine_scene.specs.PhaserRows.{unless_own}
 use Rattle.machine_scene.specs.Waits.{outcome_of_release}
 use Rattle.machine_scene.specs.Outcomes.{outcome_of_row, outcome_of_expiry, timeout_in}
-use Rattle.machine_scene.specs.Ready.{registration_is_held, is_blocked, may_be_blocked}
-
--- by whether the tree is the thread's own, and whether the count is below 0
-bulk_is_ready : (into : Reg) (p : ℕ) (count : ℤ) (t : ℕ) (scene : Scene)
-    → is_some (unless_own p t scene (outcome_of_bulk into p count t scene)) ≡ not (registration_is_held p count t scene)
-bulk_is_ready into p count t scene = grind arith
-
--- an entry that isn't told to wait for another's action
-abbrev NotBusy : Entered → Type 0
-NotBusy answer = (into : Reg) (b t : ℕ) (program : Program) (scene : Scene) → is_some (outcome_of_entered answer into b t program scene) ≡ true
-
--- who arrives is told at once
-arrived_is_told : (thread : ℕ) (interrupted no_wait : Bool) (barrier : BarrierState)
-    → NotBusy (arrive thread interrupted no_wait barrier).answer
-arrived_is_told thread interrupted no_wait barrier = grind arith
-
--- an entry that needn't wait for another's action
-busy_is_ready : (b t : ℕ) (scene : Scene) (outcome : Outcome)
-    → is_some (unless_busy b t scene (Some outcome)) ≡ not (is_run_by_another t (barrier_at scene b).runner)
-busy_is_ready b t scene outcome = grind arith
+use Rattle.machine_scene.specs.Ready.{is_blocked}
 
 -- a row that throws or does what it does has an outcome
 own_is_ready : (p t : ℕ) (scene : Scene) (outcome : Outcome) → is_some (unless_own p t scene (Some outcome)) ≡ true
@@ -41,11 +19,7 @@ own_is_ready p t scene outcome = grind arith
 -- a row of a running thread has an outcome exactly where it needn't wait
 pub row_is_ready : (row : Row) (t : ℕ) (program : Program) (scene : Scene)
     → is_some (outcome_of_row row t program scene) ≡ not (is_blocked row t scene)
-row_is_ready row t program scene = search (rules, bulk_is_ready, own_is_ready, busy_is_ready)
-
--- where no thread has to wait
-pub seldom_blocked : (row : Row) (t : ℕ) (scene : Scene) → may_be_blocked row ≡ false → is_blocked row t scene ≡ false
-seldom_blocked row t scene is = grind arith
+row_is_ready row t program scene = search (rules, own_is_ready)
 
 -- a wait that can't end is unreleased
 pub unreleased : (wait : Option WaitState) (into : Reg) (index : ℤ) (b t : ℕ) (scene : Scene)

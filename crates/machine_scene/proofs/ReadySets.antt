@@ -1,8 +1,8 @@
 -- The sets that are kept of a scene: threads that aren't there, and what a step leaves of the sets.
-use Rattle.std.proofs.Common.{◌≡◌, ◌≢◌, ◌∙◌, ℕ, arith, ◌+◌, ◌<◌, ◌≤◌, ◌==◌, ◌&&◌, not, Bool, true, false, ap, refl, sym, if◌then◌else◌, rules}
+use Rattle.std.proofs.Common.{◌≡◌, ◌≢◌, ◌∙◌, ℕ, arith, ◌+◌, ◌≤◌, ◌==◌, ◌&&◌, not, Bool, true, false, ap, refl, sym, rules}
 use Rattle.std.specs.Prelude.{length}
 use Rattle.std.proofs.Math.ListN.{get_or-eq_default}
-use Rattle.std.proofs.lemmas.Bool.{cases_eq, cases_lt}
+use Rattle.std.proofs.lemmas.Bool.{cases_eq}
 use Rattle.instruction_table.specs.declared.row.Row.{Row}
 use Rattle.cyclic_barrier.specs.ThreadSet.{has}
 use Rattle.loader.specs.Program.{Program, row_at}
@@ -13,8 +13,7 @@ use Rattle.machine_scene.specs.Outcomes.{is_ready}
 use Rattle.machine_scene.specs.Ready.{may_be_blocked}
 use Rattle.machine_scene.specs.ReadySet.{is_registering_in, is_registering, AreReady, IsSetAt, AreLooked, IsLooked, AreOthersReady, AreReadyBeside, interrupts, changes_tree, runs_on}
 use Rattle.machine_scene.proofs.ReadyThreads.{ready_as_listed}
-use Rattle.machine_scene.proofs.ThreadSets.{tested_at, all_right, apart_from, nobody, IsFilledTo, filled_none, filled_more, filled_all}
-use Rattle.tier_tree.proofs.Stands.{same-is, other-is}
+use Rattle.machine_scene.proofs.ThreadSets.{tested_at, all_right, apart_from, nobody, IsFilledTo, filled_more, filled_all}
 use Rattle.cyclic_barrier.proofs.WaitsLemmas.{has-none}
 
 -- a thread that isn't there
@@ -27,10 +26,6 @@ none_ready u program scene beyond = grind (arith, nobody_there)
 pub none_registering : (u : ℕ) (program : Program) (scene : Scene) → length scene.threads ≤ u → is_registering u program scene ≡ false
 none_registering u program scene beyond = grind (arith, nobody_there)
 
--- who is ready is there
-pub ready_there : (u : ℕ) (program : Program) (scene : Scene) → is_ready u program scene ≡ true → u < length scene.threads
-ready_there u program scene is = grind (arith, cases_lt, none_ready)
-
 -- one thread was looked at
 pub looked : (program : Program) (t : ℕ) (before set : ReadySet) (scene : Scene)
     → IsSetAt t (is_ready t program scene) before.turns set.turns
@@ -41,9 +36,6 @@ looked program t before set scene turns registering = search (rules, tested_at)
 pub record AreAllLooked (program : Program) (k : ℕ) (set : ReadySet) (scene : Scene) : Type 0 where
   pub turns : IsFilledTo (λ u. is_ready u program scene) k set.turns
   pub registering : IsFilledTo (λ u. is_registering u program scene) k set.registering
-
-pub all_start : (program : Program) (scene : Scene) → AreAllLooked program 0 (record { turns = 0; registering = 0 }) scene
-all_start program scene = grind (arith, filled_none)
 
 pub all_more : (program : Program) (k : ℕ) (before set : ReadySet) (scene : Scene) → AreAllLooked program k before scene
     → IsLooked program k before set scene → AreAllLooked program (k + 1) set scene
@@ -110,19 +102,6 @@ runs_on_ready program t set scene others turn apart runs = record {
 pub looked_on : (program : Program) (t : ℕ) (before set : ReadySet) (scene : Scene) → RunsOn t program scene
     → IsSetAt t true before.turns set.turns → IsSetAt t false before.registering set.registering → IsLooked program t before set scene
 looked_on program t before set scene runs turns registering = grind (arith, looked, on_ready, on_unregistered)
-
--- one that begins to wait is left out
-pub waits_ready : (program : Program) (t : ℕ) (before set : ReadySet) (scene : Scene) → AreReadyBeside program t before scene
-    → IsSetAt t false before.turns set.turns → set.registering ≡ before.registering → has before.registering t ≡ false
-    → (is_ready t program scene ≡ false) × (is_registering t program scene ≡ false) → AreReady program set scene
-waits_ready program t before set scene others turns same apart waits = record {
-  turns = all_beside (λ u. is_ready u program scene) t set.turns
-      (λ u other. turns u ∙ ap (λ (x : Bool). if x then false else has before.turns u) (other-is t u (λ is. other (sym is))) ∙ others.turns u other)
-      (turns t ∙ ap (λ (x : Bool). if x then false else has before.turns t) (same-is t) ∙ sym waits.0);
-  registering = all_beside (λ u. is_registering u program scene) t set.registering
-      (λ u other. ap (λ (registering : ℕ). has registering u) same ∙ others.registering u other)
-      (ap (λ (registering : ℕ). has registering t) same ∙ apart ∙ sym waits.1);
-}
 
 -- one is looked at
 pub looked_ready : (program : Program) (t : ℕ) (before set : ReadySet) (scene : Scene) → AreReadyBeside program t before scene

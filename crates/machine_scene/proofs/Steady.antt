@@ -6,10 +6,8 @@ use Rattle.std.proofs.lemmas.List.{get_or-set_other}
 use Rattle.instruction_table.specs.declared.row.Row.{Row}
 use Rattle.instruction_table.specs.declared.row.Row.TheVariants.{Preg, Paaa, Cawait}
 use Rattle.instruction_table.specs.declared.register.Reg.{Reg}
-use Rattle.tier_tree.specs.Forest.{PhaserState}
 use Rattle.tier_tree.specs.Stored.{Stored, phasers_of}
 use Rattle.tier_tree.specs.Registration.{registration, after_registration}
-use Rattle.tier_tree.proofs.Stands.{same-is}
 use Rattle.cyclic_barrier.specs.declared.answer.Entered.{Entered}
 use Rattle.cyclic_barrier.specs.declared.answer.Entered.TheVariants as entered
 use Rattle.cyclic_barrier.specs.declared.answer.WaitState.{WaitState}
@@ -23,17 +21,15 @@ use Rattle.thread_state.specs.declared.frame.Frame.{Frame}
 use Rattle.thread_state.specs.declared.status.Status.{Status}
 use Rattle.thread_state.specs.Thread.{ThreadState, top_of, is_full, interrupted}
 use Rattle.machine_scene.specs.declared.group.Group.{Group}
-use Rattle.machine_scene.specs.declared.manner.Manner.{Manner}
 use Rattle.machine_scene.specs.Scene.{Scene, StoredScene, Outcome, scene_of, thread_at, barrier_at, with_thread, with_phasers, with_barrier}
-use Rattle.machine_scene.specs.DataRows.{outcome_of_data_row}
-use Rattle.machine_scene.specs.PhaserRows.{is_own_tree, is_past, unless_own, outcome_of_pending_end, outcome_of_registered, outcome_of_bulk, outcome_of_phaser_row}
+use Rattle.machine_scene.specs.PhaserRows.{is_own_tree, is_past, unless_own, outcome_of_registered, outcome_of_bulk, outcome_of_phaser_row}
 use Rattle.machine_scene.specs.BarrierRows.{is_run_by, unless_busy, unless_runner, outcome_of_entered, outcome_of_await_at, outcome_of_barrier_row}
 use Rattle.machine_scene.specs.Waits.{outcome_of_awaited, outcome_of_phase_wait, outcome_of_release, outcome_of_barrier_wait}
 use Rattle.machine_scene.specs.Outcomes.{outcome_in_group, outcome_in, is_ready, timeout_in}
-use Rattle.machine_scene.specs.ReadySet.{is_registration, is_registering, KnowsReady, AreOthersReady, interrupts, changes_tree, is_loud, changes_all}
+use Rattle.machine_scene.specs.ReadySet.{is_registering, KnowsReady, AreOthersReady, interrupts, changes_tree, is_loud, changes_all}
 use Rattle.machine_scene.specs.Undo.{PhasersWithin, reach_in}
 use Rattle.machine_scene.proofs.Plain.{either}
-use Rattle.machine_scene.specs.Ready.{is_blocked, is_awaited, is_over}
+use Rattle.machine_scene.specs.Ready.{is_awaited}
 use Rattle.machine_scene.proofs.ReadyThreads.{ready_as_listed}
 use Rattle.machine_scene.proofs.Standings.{KeepsStandings, registration-standings, arrival-standings}
 
@@ -47,14 +43,6 @@ record Alike (u : ℕ) (scene after : Scene) : Type 0 where
 awaited_same : (row : Row) (phase : ℤ) (u : ℕ) (scene after : Scene) → Alike u scene after
     → is_awaited row phase u after ≡ is_awaited row phase u scene
 awaited_same row phase u scene after alike = grind arith
-
-over_same : (row : Row) (u : ℕ) (scene after : Scene) → Alike u scene after → is_over row u after ≡ is_over row u scene
-over_same row u scene after alike = grind arith
-
--- a registration is held as before where the phasers are the same
-blocked_same : (row : Row) (u : ℕ) (scene after : Scene) → Alike u scene after
-    → (is_registration row ≡ true → after.phasers ≡ scene.phasers) → is_blocked row u after ≡ is_blocked row u scene
-blocked_same row u scene after alike held = grind arith
 
 -- so the turn is ready just where it was
 ready_same : (u : ℕ) (program : Program) (scene after : Scene) → Alike u scene after
@@ -117,9 +105,6 @@ at_gate b t row scene gate after keeps =
 
 -- rows
 
-quiet_data_row : (row : Row) (t : ℕ) (scene : Scene) → QuietIf t row scene (outcome_of_data_row row t scene)
-quiet_data_row row t scene = grind (arith, still, turned, get_or-set_other, same-is)
-
 -- rows at phasers
 
 calm_registration : (into : Reg) (p count t : ℕ) (row : Row) (scene : Scene)
@@ -131,11 +116,6 @@ calm_bulk : (into : Reg) (p : ℕ) (count : ℤ) (t : ℕ) (row : Row) (scene : 
     → CalmIf t row scene (outcome_of_bulk into p count t scene)
 calm_bulk into p count t row scene =
     either (CalmIf t row scene) (int_lt count (pos 0)) (λ calm. still t row scene _) (calm_registration into p (nat_abs count) t row scene)
-
-calm_turning : (answer : Option Bool) (manner : Manner) (root : ℕ) (phase : ℤ) (t : ℕ) (row : Row) (program : Program) (scene : Scene)
-    (phasers : List PhaserState) → KeepsStandings scene.phasers phasers
-    → CalmIf t row scene (Some (outcome_of_pending_end answer manner root phase t program (with_phasers phasers scene)))
-calm_turning answer manner root phase t row program scene phasers same = grind arith
 
 -- unless the thread itself runs the tree's routine
 calm_unless_own : (p t : ℕ) (row : Row) (scene : Scene) (outcome : Option Outcome) → CalmIf t row scene outcome
@@ -220,7 +200,7 @@ calm_barrier_wait row index t scene = search (rules, calm_release)
 
 quiet_in_group : (group : Group) (row : Row) (t : ℕ) (program : Program) (scene : Scene)
     → QuietIf t row scene (outcome_in_group group row t program scene)
-quiet_in_group group row t program scene = search (rules, quiet_data_row, quiet_phaser_row, quiet_barrier_row, still)
+quiet_in_group group row t program scene = search (rules, quiet_phaser_row, quiet_barrier_row, still)
 
 quiet_in : (of : Status) (row : Row) (t : ℕ) (program : Program) (scene : Scene) → QuietIf t row scene (outcome_in of row t program scene)
 quiet_in _ row t program scene = search (rules, quiet_in_group, quiet_if, calm_phase_wait, calm_barrier_wait)

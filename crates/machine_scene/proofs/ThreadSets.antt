@@ -55,9 +55,6 @@ pub record IsFilledTo (test : ℕ → Bool) (k set : ℕ) : Type 0 where
   pub below : (u : ℕ) → u < k → has set u ≡ test u
   pub above : (u : ℕ) → k ≤ u → has set u ≡ false
 
-pub filled_none : (test : ℕ → Bool) → IsFilledTo test 0 0
-filled_none test = record { below = λ u within. absurd (omega (arith, within)); above = λ u beyond. has-none u }
-
 pub filled_more : (test : ℕ → Bool) (k before set : ℕ) → IsFilledTo test k before → IsTestedAt test k before set → IsFilledTo test (k + 1) set
 filled_more test k before set filled is = grind (arith, cases_eq, elsewhere)
 

@@ -11,11 +11,10 @@ use Rattle.thread_state.specs.Thread.{top_of}
 use Rattle.thread_state.specs.Undo as own
 use Rattle.machine_scene.specs.declared.ready_set.ReadySet.{ReadySet}
 use Rattle.machine_scene.specs.declared.reach.Reach.{Reach}
-use Rattle.machine_scene.specs.declared.note.Touched.{Touched}
 use Rattle.machine_scene.specs.Scene.{StoredScene, Outcome, scene_of, counts_in, thread_at}
 use Rattle.machine_scene.specs.Sound.{IsSound}
 use Rattle.machine_scene.specs.Outcomes.{outcome_in, outcome_of, is_ready, outcome_of_expiry}
-use Rattle.machine_scene.specs.Undo.{Note, IsThere, PhasersWithin, CanUndo, reach_in, reach_of, touched_by, with_undone, with_touched, undone}
+use Rattle.machine_scene.specs.Undo.{Note, IsThere, PhasersWithin, CanUndo, reach_in, reach_of, touched_by, undone}
 use Rattle.machine_scene.specs.Played.{IsPlayed}
 use Rattle.machine_scene.proofs.Outcomes.{sound_outcome, sound_timeout}
 use Rattle.machine_scene.proofs.Plain.{either}
@@ -35,9 +34,6 @@ abbrev noted : Reach → ℕ → StoredScene → Note
 noted reach t stored = record { thread = t; before = own.note_of (thread_at (scene_of stored) t); touched = touched_by reach stored; ready = stored.ready }
 
 -- the scene that such a note gives back, but for whose turn was ready
-abbrev given_back : Reach → ℕ → StoredScene → StoredScene → StoredScene
-given_back reach t old new = with_undone (own.note_of (thread_at (scene_of old) t)) t (with_touched (touched_by reach old) new)
-
 undone_within : (reach : Reach) (t : ℕ) (old new : StoredScene) → IsThere reach old → t < length old.threads → IsStored old.phasers
     → GivesBack reach t (scene_of old) (scene_of new) → PhasersWithin reach old.phasers new.phasers
     → IsUndone (noted reach t old) old new
@@ -103,10 +99,6 @@ expiry_played program t old new event sound there stored is within =
     }
 
 -- a note gives back the same, whatever is kept of whose turn is ready
-touched_still : (of : Touched) (stored : StoredScene) (set : ReadySet)
-    → with_touched of (record stored { ready = set }) ≡ record (with_touched of stored) { ready = set }
-touched_still of stored set = grind arith
-
 pub played_still : (outcome : Option Outcome) (t : ℕ) (program : Program) (old new : StoredScene) (set : ReadySet) (event : Event)
     → IsPlayed outcome t program old new event → IsPlayed outcome t program old (record new { ready = set }) event
 played_still outcome t program old new set event is = grind arith

@@ -112,10 +112,6 @@ back_barrier b t scene gate after there back =
     back_from (reach.Barrier b) t scene (with_barrier gate b scene) after (λ first last. refl) there refl
     (gate_back b scene gate) refl back
 
--- of each thread, what is there now can be undone to what was there
-abbrev AllBack : List ThreadState → List ThreadState → Type 0
-AllBack before after = (n : ℕ) → IsBack (slice_index_or before n no_thread) (slice_index_or after n no_thread)
-
 -- two places that were set, and then as they were
 both_set : (threads : List ThreadState) (u t : ℕ) (first second : ThreadState) → u < length threads → t < length threads
     → slice_set (slice_set (slice_set (slice_set threads u first) t second) u (slice_index_or threads u no_thread)) t

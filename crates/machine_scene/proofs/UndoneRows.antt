@@ -1,31 +1,27 @@
 -- What every outcome leaves to be undone, row by row.
 use Rattle.std.proofs.Common.{◌≡◌, ◌∙◌, ℕ, ℤ, pos, ◌+◌, ◌<◌, ◌&&◌, Bool, true, false, List, length, ap, refl, arith, rules}
-use Rattle.std.specs.Prelude.{nat_abs, int_lt, is_some, Option, Some, None, slice_set, slice_index_or}
+use Rattle.std.specs.Prelude.{is_some, Option, Some, None, slice_set, slice_index_or}
 use Rattle.std.proofs.lemmas.List.{set-set, set-get_or, get_or-set_same}
 use Rattle.instruction_table.specs.declared.row.Row.{Row}
-use Rattle.instruction_table.specs.declared.row.Row.TheVariants.{Call, Intr, Preg, Pbulk, Parr, Pdereg, Paaa, Pawait, Pawaiti, Pforce, Pphase, Cawait, Creset, Cbroken, Cwaiting, Cparties, Pawaitt, Cawaitt}
+use Rattle.instruction_table.specs.declared.row.Row.TheVariants.{Call, Intr, Pphase, Cawait, Creset, Cbroken, Cwaiting, Cparties, Pawaitt, Cawaitt}
 use Rattle.instruction_table.specs.declared.register.Reg.{Reg}
-use Rattle.instruction_table.specs.Registers.{value_in}
 use Rattle.tier_tree.specs.declared.registered.Registered.{Registered}
 use Rattle.tier_tree.specs.declared.registered.Registered.TheVariants as registered
 use Rattle.tier_tree.specs.declared.arrived.Arrived.{Arrived}
 use Rattle.tier_tree.specs.declared.arrived.Arrived.TheVariants as arrived
 use Rattle.tier_tree.specs.Forest.{PhaserState, flat_at}
-use Rattle.tier_tree.specs.Registration.{registration, after_registration}
 use Rattle.tier_tree.specs.Arrival.{Arrives, arrival}
-use Rattle.tier_tree.specs.PhaseEnd.{after_phase_end, after_force}
+use Rattle.tier_tree.specs.PhaseEnd.{after_phase_end}
 use Rattle.cyclic_barrier.specs.Barrier.{BarrierState, reset, expire, end_action}
 use Rattle.loader.specs.Program.{Program}
 use Rattle.thread_state.specs.declared.event.What.TheVariants as what
 use Rattle.thread_state.specs.declared.frame.Frame.{Frame}
 use Rattle.thread_state.specs.declared.frame.Frame.TheVariants as frame
 use Rattle.thread_state.specs.declared.status.Status.{Status}
-use Rattle.thread_state.specs.Thread.{ThreadState, Turn, turn_of_throw, turn_of_interruption, turn_of_answer, turn_of_done, turn_of_halt, turn_of_call, turn_of_try, turn_of_endtry, turn_of_return, turn_of_advance, turn_of_popped, top_of, with_entry, popped, left_routine, is_full, interrupted}
+use Rattle.thread_state.specs.Thread.{ThreadState, Turn, turn_of_throw, turn_of_interruption, turn_of_answer, turn_of_done, turn_of_halt, turn_of_call, turn_of_try, turn_of_endtry, turn_of_return, turn_of_advance, top_of, with_entry, popped, left_routine, is_full}
 use Rattle.machine_scene.specs.declared.group.Group.{Group}
 use Rattle.machine_scene.specs.declared.group.Group.TheVariants.{Own}
 use Rattle.machine_scene.specs.declared.manner.Manner.{Manner}
-use Rattle.machine_scene.specs.declared.patience.Patience.{Patience}
-use Rattle.machine_scene.specs.declared.patience.Patience.TheVariants as patience
 use Rattle.machine_scene.specs.declared.reach.Reach.{Reach}
 use Rattle.machine_scene.specs.declared.reach.Reach.TheVariants as reach
 use Rattle.machine_scene.specs.Scene.{Scene, Outcome, no_thread, thread_at, barrier_at, routine_at, with_thread, with_phasers, with_barrier}
@@ -33,7 +29,7 @@ use Rattle.machine_scene.specs.OwnRows.{outcome_of_own_row}
 use Rattle.machine_scene.specs.CallRows.{outcome_of_routine_end, outcome_of_ret, outcome_of_call_row}
 use Rattle.machine_scene.specs.DataRows.{outcome_of_data_row}
 use Rattle.machine_scene.specs.GetterRows.{outcome_of_getter_row}
-use Rattle.machine_scene.specs.PhaserRows.{is_own_tree, has_routine, turn_of_arrival, unless_own, outcome_of_pending_end, outcome_of_arrived, outcome_of_arrival, outcome_of_registered, outcome_of_registration, outcome_of_bulk, outcome_of_await, outcome_of_phaser_row}
+use Rattle.machine_scene.specs.PhaserRows.{is_own_tree, has_routine, turn_of_arrival, unless_own, outcome_of_pending_end, outcome_of_arrived, outcome_of_arrival, outcome_of_registered, outcome_of_phaser_row}
 use Rattle.machine_scene.specs.BarrierRows.{is_run_by, unless_busy, unless_runner, outcome_of_await_at, outcome_of_barrier_row}
 use Rattle.machine_scene.specs.Waits.{outcome_of_phase_timeout, outcome_of_barrier_timeout}
 use Rattle.machine_scene.specs.Outcomes.{outcome_in_group, outcome_in, timeout_in}
@@ -83,9 +79,6 @@ pops before turn stack output = back_pop before turn.thread stack output
 ended_try : (top : Option Frame) (before : ThreadState) → Undoes before (turn_of_endtry top before)
 ended_try (Some (frame.Handler row)) before = pops before (turn_of_done (popped before)) refl refl
 ended_try _ before = thrown before (pos 7)
-
-unwound : (top : Option Frame) (code : ℤ) (before : ThreadState) → Undoes before (turn_of_popped top code before)
-unwound top code before = grind (arith, same, pops)
 
 -- rows
 
@@ -144,16 +137,10 @@ back_call_row (Call target) t program scene there = alone t scene _ there (calle
 back_call_row row t program scene there = search (rules, alone, called, back_ret, tried, ended_try, thrown)
 
 -- `intr`
-marked : (thread : ThreadState) → IsBack thread (interrupted thread)
-marked thread = grind (arith, back_same)
-
-marked_fields : (thread : ThreadState) → ((interrupted thread).stack ≡ thread.stack) × ((interrupted thread).output ≡ thread.output)
-marked_fields thread = grind arith
-
 back_data_row : (row : Row) (top : Option Frame) (t : ℕ) (scene : Scene) → NamesThread row scene → t < length scene.threads
     → BackIf (reach_of_row row top) t scene (outcome_of_data_row row t scene)
 back_data_row _ top t scene named there =
-    search (rules, alone, thrown, back_out, answered, back_from, set-set, set-get_or, same, back_same, read_same, marked_fields, threads_set, marked)
+    search (rules, alone, thrown, back_out, answered, back_from, set-set, set-get_or, same, back_same, read_same, threads_set)
 
 back_getter_row : (row : Row) (top : Option Frame) (t : ℕ) (scene : Scene) → t < length scene.threads
     → BackIf (reach_of_row row top) t scene (outcome_of_getter_row row t scene)
@@ -175,12 +162,6 @@ back_registered : (answer : Registered) (into : Reg) (p t : ℕ) (scene : Scene)
     → BackIf (reach.Tree p) t scene (outcome_of_registered answer into t (with_phasers phasers scene))
 back_registered (registered.At phase) into p t scene phasers there = at_tree p t scene phasers _ there (answered (thread_at scene t) into phase)
 back_registered answer into p t scene phasers there = search (rules, at_tree, answered, thrown)
-
-back_bulk : (into : Reg) (p : ℕ) (count : ℤ) (t : ℕ) (scene : Scene) → t < length scene.threads
-    → BackIf (reach.Tree p) t scene (outcome_of_bulk into p count t scene)
-back_bulk into p count t scene there =
-    either (BackIf (reach.Tree p) t scene) (int_lt count (pos 0)) (no_tree p t scene _ there (thrown (thread_at scene t) (pos 2)))
-    (back_registered (registration p (nat_abs count) scene.phasers) into p t scene (after_registration p (nat_abs count) scene.phasers) there)
 
 back_turning : (answer : Option Bool) (manner : Manner) (p root : ℕ) (phase : ℤ) (t : ℕ) (program : Program) (scene : Scene) (phasers : List PhaserState)
     → t < length scene.threads
@@ -213,37 +194,10 @@ back_unless_own reach p t scene outcome is_own there back =
     either (BackIf reach t scene) (is_own_tree p (thread_at scene t) scene) {b = outcome}
     (back_alone reach t scene (turn_of_throw (pos 1) (thread_at scene t)).thread is_own there (thrown (thread_at scene t) (pos 1))) back
 
-back_asked : (of : Patience) (into : Reg) (p : ℕ) (phase : ℤ) (t : ℕ) (scene : Scene) → t < length scene.threads
-    → BackIf reach.Nothing t scene (unless_own p t scene (Some (outcome_of_await of into p phase t scene)))
-back_asked of into p phase t scene there = grind (arith, back_unless_own, alone, answered, interruption, thrown)
-
 back_phaser_row : (row : Row) (top : Option Frame) (t : ℕ) (program : Program) (scene : Scene) → t < length scene.threads
     → BackIf (reach_of_row row top) t scene (outcome_of_phaser_row row t program scene)
-back_phaser_row (Preg into p) top t program scene there =
-    back_unless_own (reach.Tree p) p t scene (outcome_of_registration into p 1 t scene) (λ first last. refl) there
-    (back_registered (registration p 1 scene.phasers) into p t scene (after_registration p 1 scene.phasers) there)
-back_phaser_row (Pbulk into p count) top t program scene there =
-    back_unless_own (reach.Tree p) p t scene _ (λ first last. refl) there
-    (back_bulk into p (value_in (thread_at scene t).registers count) t scene there)
-back_phaser_row (Parr into p) top t program scene there =
-    back_unless_own (reach.Tree p) p t scene (Some (outcome_of_arrival _ p t program scene)) (λ first last. refl) there
-    (back_arrival _ p t program scene there)
-back_phaser_row (Pdereg into p) top t program scene there =
-    back_unless_own (reach.Tree p) p t scene (Some (outcome_of_arrival _ p t program scene)) (λ first last. refl) there
-    (back_arrival _ p t program scene there)
-back_phaser_row (Paaa into p) top t program scene there =
-    back_unless_own (reach.Tree p) p t scene (Some (outcome_of_arrival _ p t program scene)) (λ first last. refl) there
-    (back_arrival _ p t program scene there)
-back_phaser_row (Pawait into p phase) top t program scene there =
-    back_asked patience.Endless into p (value_in (thread_at scene t).registers phase) t scene there
-back_phaser_row (Pawaiti into p phase) top t program scene there =
-    back_asked patience.Interruptible into p (value_in (thread_at scene t).registers phase) t scene there
-back_phaser_row (Pawaitt into p phase time) top t program scene there =
-    back_asked (patience.Timed (value_in (thread_at scene t).registers time)) into p (value_in (thread_at scene t).registers phase) t scene there
-back_phaser_row (Pforce p) top t program scene there =
-    at_tree p t scene (after_force p scene.phasers) _ there
-    (same (thread_at scene t) (turn_of_done (thread_at scene t)) refl refl)
-back_phaser_row _ top t program scene there = tt
+back_phaser_row _ top t program scene there =
+    grind (arith, back_unless_own, back_registered, back_arrival, at_tree, same, alone, answered, interruption, thrown)
 
 -- rows at barriers
 
@@ -311,7 +265,7 @@ back_in_group group row t program scene named there = search (rules, back_own_ro
 -- the turn of thread t, by its status
 pub back_in : (of : Status) (row : Row) (t : ℕ) (program : Program) (scene : Scene) → NamesThread row scene → t < length scene.threads
     → BackIf (reach_in of row (top_of (thread_at scene t).stack)) t scene (outcome_in of row t program scene)
-back_in of row t program scene named there = grind (arith, back_in_group, at_gate, unwound, alone, answered, interruption)
+back_in of row t program scene named there = grind (arith, back_in_group, at_gate, same, pops, alone, answered, interruption)
 
 -- the expiry of its wait
 pub back_timeout : (of : Status) (row : Row) (t : ℕ) (scene : Scene) → t < length scene.threads
