@@ -1,6 +1,6 @@
 -- A declaration keeps the counts of who registered and arrived where.
 use Rattle.std.proofs.Common.{inl, inr, ◌≡◌, ◌∙◌, ℕ, suc, ◌+◌, ◌<◌, ◌==◌, Bool, true, false, List, [], ◌∷◌, ◌++◌, length, ap, refl, sym, subst, arith, if◌then◌else◌}
-use Rattle.std.specs.Prelude.{◌&&◌, ◌||◌, not, nat_lt, All, Option, Some, None}
+use Rattle.std.specs.Prelude.{◌&&◌, ◌||◌, not, All, Option, Some, None}
 use Rattle.std.specs.List.{list_any}
 use Rattle.std.proofs.lemmas.Bool.{cases_eq, cases_lt}
 use Rattle.std.proofs.lemmas.Bool.Decides.{nat_tests}
@@ -53,17 +53,8 @@ room_more : (line : List ℕ) (count : ℕ) (phasers : List PhaserState) (new : 
     list_any (is_overfull more) (joins_along line count more) ≡ list_any (is_overfull phasers) (joins_along line count phasers)
 room_more [] count phasers new within = refl
 room_more (id ∷ above) count phasers new within =
-    let more = phasers ++ new ∷ [] in
-    let there : id < length phasers = All-head (λ (a : ℕ). a < length phasers) id above within in
-    let same : flat_at more id ≡ flat_at phasers id =
-    ap (λ (p : PhaserState). p.flat) (get_or_append_left phasers (new ∷ []) no_phaser id there) in
-    let rest = room_more above 1 phasers new (All-tail (λ (a : ℕ). a < length phasers) id above within) in
-    let first : is_overfull more (record { id = id; count = count }) ≡ is_overfull phasers (record { id = id; count = count }) =
-    ap (λ (f : Flat). nat_lt 65535 (f.parties + count)) same in
-    ap (λ (b : Bool). b || list_any (is_overfull more) (if is_empty (flat_at more id) then joins_along above 1 more else [])) first
-    ∙ ap (λ (f : Flat). is_overfull phasers (record { id = id; count = count }) || list_any (is_overfull more) (if is_empty f then joins_along above 1 more else [])) same
-    ∙ ap (λ (b : Bool). is_overfull phasers (record { id = id; count = count }) || b)
-    (tail_if (is_empty (flat_at phasers id)) (is_overfull more) (is_overfull phasers) (joins_along above 1 more) (joins_along above 1 phasers) rest)
+    grind (arith, All-head, get_or_append_left, All-tail, tail_if, room_more above 1 phasers new (All-tail (λ (a : ℕ). a < length phasers) id above
+    within))
 
 none_if : (empty : Bool) (f : Join → Bool) (js : List Join) → list_any f js ≡ false → list_any f (if empty then js else []) ≡ false
 none_if true f js none = none

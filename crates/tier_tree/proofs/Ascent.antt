@@ -150,8 +150,7 @@ one_higher (suc k) (id ∷ line) (first ∷ words) word rest here room =
 
 from_refused : (k : ℕ) (line words : List ℕ) (phasers : List PhaserState)
     → from_below k line words (record { phasers = phasers; climb = climb.Refused }) ≡ record { phasers = phasers; climb = climb.Refused }
-from_refused (suc k) (id ∷ line) (word ∷ words) phasers =
-    ap (λ (r : Climbed). passes id word r.climb r.phasers) (from_refused k line words phasers)
+from_refused (suc k) (id ∷ line) (word ∷ words) phasers = grind (arith, from_refused k line words phasers)
 from_refused _ _ _ phasers = refl
 
 written_by : (id word : ℕ) (c : Climb) (above : List PhaserState) → c ≢ climb.Refused
@@ -160,9 +159,7 @@ written_by id word c above not = grind arith
 
 from_written : (k : ℕ) (line words : List ℕ) (phasers : List PhaserState) (c : Climb) → c ≢ climb.Refused
     → from_below k line words (record { phasers = phasers; climb = c }) ≡ record { phasers = written (take k line) words phasers; climb = c }
-from_written (suc k) (id ∷ line) (word ∷ words) phasers c not =
-    ap (λ (r : Climbed). passes id word r.climb r.phasers) (from_written k line words phasers c not)
-    ∙ written_by id word c (written (take k line) words phasers) not
+from_written (suc k) (id ∷ line) (word ∷ words) phasers c not = grind (arith, written_by, from_written k line words phasers c not)
 from_written _ _ _ phasers c not = refl
 
 -- the phaser waits for nobody, or is terminated
@@ -238,8 +235,7 @@ refused_there line words k leave leaves top phasers a here so_far is refuses = g
 
 pub refused_past : (line words : List ℕ) (k : ℕ) (leave leaves : Bool) (top : ℕ) (phasers : List PhaserState) → length line ≤ k
     → IsFound line words k leave leaves top phasers → record { phasers = phasers; climb = climb.Refused } ≡ climbed line leave phasers
-refused_past line words k leave leaves top phasers past so_far =
-    sym (so_far.climbs ∙ ap (λ (l : List ℕ). from_below k line words (climbed l leaves phasers)) (drop_all k line past) ∙ from_refused k line words phasers)
+refused_past line words k leave leaves top phasers past so_far = grind (arith, drop_all, from_refused)
 
 -- a new word is of the root's phase
 pub new_word : (forest : List Stored) (line words : List ℕ) (top k word : ℕ) → IsStored forest → All (λ (id : ℕ). id < length forest) line

@@ -146,8 +146,7 @@ set-places forest id word ends = grind arith
 
 restored-places : (saved : List Kept) (forest : List Stored) → map place_in (restored saved forest) ≡ map place_in forest
 restored-places [] forest = refl
-restored-places (kept ∷ others) forest =
-    restored-places others (with_kept kept forest) ∙ set-places forest kept.id kept.word kept.ends
+restored-places (kept ∷ others) forest = grind (arith, set-places, restored-places others (with_kept kept forest))
 
 shown-places : (all forest : List Stored) → map place_of (map (shown all) forest) ≡ map place_in forest
 shown-places all [] = refl

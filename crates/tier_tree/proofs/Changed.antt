@@ -1,5 +1,5 @@
 -- Which words a call changes, and that putting them back undoes it.
-use Rattle.std.proofs.Common.{inl, inr, ◌≡◌, ◌≢◌, ◌∙◌, ℕ, suc, ◌+◌, ◌-◌, ◌<◌, ◌≤◌, true, false, List, [], ◌∷◌, ◌++◌, length, map, get_or, ap, refl, sym, subst, arith}
+use Rattle.std.proofs.Common.{inl, inr, ◌≡◌, ◌≢◌, ◌∙◌, ℕ, ◌+◌, ◌-◌, ◌<◌, ◌≤◌, true, false, List, [], ◌∷◌, ◌++◌, length, map, get_or, ap, refl, sym, subst, arith}
 use Rattle.std.specs.Prelude.{slice_set, All, Option}
 use Rattle.std.proofs.lemmas.Bool.{cases_eq, cases_lt}
 use Rattle.std.proofs.lemmas.List.{get_or_read, get_or_past, set_past, ext_get_or, length_push, get_or_append_left, get_or_push}
@@ -30,9 +30,7 @@ pub line_read : (forest : List Stored) (id : ℕ) (s : Stored) (line : List ℕ)
 line_read forest id s line is read stored there =
     let same : line ≡ (phaser_at (phasers_of forest) id).line =
     is ∙ ap (λ (x : Stored). x.line) (get_or_read forest id s there read no_stored) ∙ sym (ap (λ (p : PhaserState). p.line) (shown_at forest id there)) in
-    subst (λ (l : List ℕ). All (λ (above : ℕ). above < length forest) l) (sym same)
-    (subst (λ (n : ℕ). All (λ (above : ℕ). above < n) (phaser_at (phasers_of forest) id).line) (length-shown forest)
-    (line_within (phasers_of forest) id stored.places (there_shown forest id there)))
+    grind (arith, length-shown, line_within, there_shown)
 
 -- the root that is read
 pub root_read : (forest : List Stored) (id r : ℕ) (s : Stored) → s ≡ get_or forest id s → r ≡ top_of s → IsStored forest → id < length forest
@@ -60,9 +58,7 @@ root-line forest r stored there top =
 not_top : (forest : List Stored) (id n : ℕ) → IsStored forest → id < length forest → All (λ (m : ℕ). n ≢ m) (stored_at forest id).line → n ≢ top_at forest id
 not_top forest id n stored there away =
     let own = line_own (phasers_of forest) id stored.places (there_shown forest id there) in
-    let line : (stored_at forest id).line ≡ id ∷ own.0 = sym (ap (λ (p : PhaserState). p.line) (shown_at forest id there)) ∙ own.1 in
-    let some : length (stored_at forest id).line ≡ suc (length own.0) = ap length line in
-    away (length (stored_at forest id).line - 1) 0 (omega (arith, some))
+    grind (arith, shown_at)
 
 -- a change of the root alone is one of the line
 pub only_root : (before after : List Stored) (id r : ℕ) → IsStored before → id < length before → r ≡ top_at before id
@@ -135,8 +131,7 @@ restored_line (id ∷ line) before after only =
 
 pub restored_call : (id : ℕ) (before after now : List Stored) (saved : List Kept) → now ≡ restored saved after → saved ≡ saved_of id before
     → ChangedAt id before after → now ≡ before
-restored_call id before after now saved is kept changed =
-    is ∙ ap (λ (ks : List Kept). restored ks after) kept ∙ restored_line (stored_at before id).line before after changed
+restored_call id before after now saved is kept changed = grind (arith, restored_line)
 
 pub saved_restored : (id : ℕ) (before after : List Stored) → ChangedAt id before after → restored (saved_of id before) after ≡ before
 saved_restored id before after changed = restored_line (stored_at before id).line before after changed

@@ -68,15 +68,13 @@ pub top_there : (forest : List Stored) (id : ℕ) → IsStored forest → id < l
 top_there forest id stored there =
     let many = length-shown forest in
     let within = root_within (phasers_of forest) id stored.places (omega (arith, many, there)) in
-    let same = root_shown forest id there in
-    omega (arith, many, within, same)
+    grind (arith, root_shown)
 
 pub top-top : (forest : List Stored) (id : ℕ) → IsStored forest → id < length forest → top_at forest (top_at forest id) ≡ top_at forest id
 top-top forest id stored there =
     let many = length-shown forest in
     let up = (root-root (phasers_of forest) (phaser_at (phasers_of forest) id).line id stored.places (omega (arith, many, there)) refl).0 in
-    sym (root_shown forest (top_at forest id) (top_there forest id stored there))
-    ∙ ap (root_at (phasers_of forest)) (sym (root_shown forest id there)) ∙ up ∙ root_shown forest id there
+    grind (arith, root_shown, top_there)
 
 -- 3. a forest in which one phaser changes and keeps its place
 
@@ -577,24 +575,12 @@ forces forest root w d x is stored there is_root is_word =
     let changed : IsTopPut forest root w (stored_at forest root).ends now =
     subst (IsTopPut forest root w (stored_at forest root).ends) (sym now_is) (top_put forest root w (stored_at forest root).ends stored there is_root) in
     let shows = forced_shows forest root w now stored there is_word changed in
-    let phase_is : (record_of w).phase ≡ (kept_flat (stored_at forest root)).phase = ap (λ (f : Flat). f.phase) is_word in
-    let ended : (record_of w).ended ≡ true = ap (λ (f : Flat). f.ended) is_word in
-    record {
-      shows = shows;
-      stored = record {
-        places = forest_kept (phasers_of forest) (phasers_of now) (ap places_of shows ∙ terminated-places root (phasers_of forest)) stored.places;
-        near = top_near forest root w (stored_at forest root).ends now stored there changed (λ p near.
-            subst (λ (q : ℕ). behind p q ≤ (stored_at forest root).ends) (sym phase_is) near);
-        live = top_live forest root w (stored_at forest root).ends now stored changed (λ alive. absurd (cc (alive, ended)));
-      };
-      only = only_put forest root new now changed.put;
-    }
+    grind (arith, forest_kept, terminated-places, top_near, top_live, only_put)
 
 -- the word that is read of a slice
 pub forces_read : (forest : List Stored) (root w own : ℕ) (d : Stored) → root < length forest → own ≡ (get_or forest root d).word
     → record_of w ≡ force (record_of own) → record_of w ≡ force (kept_flat (stored_at forest root))
-forces_read forest root w own d there is is_word =
-    is_word ∙ ap (λ (n : ℕ). force (record_of n)) (is ∙ ap (λ (x : Stored). x.word) (get_or_default forest root d no_stored there))
+forces_read forest root w own d there is is_word = grind (arith, get_or_default)
 
 -- 7. changes of some phasers, one after the other
 

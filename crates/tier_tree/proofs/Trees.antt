@@ -131,10 +131,7 @@ pub force_pending : (id : ℕ) (phasers : List PhaserState) (r : ℕ) → StaysP
 force_pending id phasers r is =
     let there = pending_there phasers r is in
     let change = force_change id phasers in
-    elim (cases_eq (root_at phasers r) (root_at phasers id)) as (λ _. is_pending (flat_at (after_force id phasers) r) ≡ true) [
-      | inl inside ↦ ap is_pending (change.inside r there inside).1
-      | inr outside ↦ ap is_pending (change.apart r there outside) ∙ is
-    ]
+    grind (arith, cases_eq)
 
 pub turn_pending : (root : ℕ) (ends : Bool) (phasers : List PhaserState) → CanEnd root phasers → (other : ℕ) → other ≢ root
     → root_at phasers other ≡ other → StaysPending other phasers (after_phase_end root ends phasers)
@@ -151,16 +148,14 @@ policy_same before after keeps id = grind (arith, place_at-places)
 
 -- one more phase end may be counted
 pub more_ends : (most : ℕ) (phasers : List PhaserState) → AreTrees most phasers → AreTrees (most + 1) phasers
-more_ends most phasers trees =
-    record { forest = trees.forest; stands = trees.stands; ends = λ id. (let few = trees.ends id in omega (arith, few)) }
+more_ends most phasers trees = grind arith
 
 pub more_trees : (most : ℕ) (before after : List PhaserState) → KeepsTrees most before after → KeepsTrees (most + 1) before after
 more_trees most before after keeps = grind arith
 
 -- nothing is done
 pub trees_same : (most : ℕ) (phasers : List PhaserState) → AreTrees most phasers → KeepsTrees most phasers phasers
-trees_same most phasers trees =
-    record { places = keeps_places phasers phasers refl; many = refl; trees = trees; pending = λ root top is. is }
+trees_same most phasers trees = grind arith
 
 -- a registration
 pub trees_registered : (most id count : ℕ) (phasers : List PhaserState) → AreTrees most phasers → id < length phasers
@@ -287,16 +282,4 @@ trees_turned_at_once most id leave ends phasers root phase parties trees few the
     let told = if_turning all.answer (λ own. (own.0 ≡ root_at phasers id) × (is_pending (flat_at phasers own.0) ≡ false) × CanEnd own.0 all.phasers)
     (arrived_can_turn most id leave phasers trees few there) root phase parties is in
     let second = trees_turned most root.0 ends all.phasers first.trees told.2 in
-    let after = after_phase_end root.0 ends all.phasers in
-    let same : places_of after ≡ places_of phasers = second.places.places ∙ first.places.places in
-    record {
-      places = keeps_places phasers after same;
-      many = second.many ∙ first.many;
-      trees = second.trees;
-      pending = λ other top was. elim (cases_eq other root.0) as (λ _. is_pending (flat_at after other) ≡ true) [
-        | inl own ↦
-            let none : is_pending (flat_at phasers other) ≡ false = ap (λ (n : ℕ). is_pending (flat_at phasers n)) own ∙ told.1 in
-            absurd (cc (none, was))
-        | inr apart ↦ second.pending other apart (first.places.roots other ∙ top) (first.pending other top was)
-      ];
-    }
+    grind (arith, keeps_places, cases_eq)

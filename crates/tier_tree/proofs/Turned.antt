@@ -1,5 +1,5 @@
 -- A phase end and a termination keep the counts of who registered and arrived where.
-use Rattle.std.proofs.Common.{inl, inr, ◌≡◌, ◌≢◌, ◌∙◌, ℕ, suc, ◌+◌, ◌-◌, ◌<◌, ◌≤◌, ◌==◌, Bool, true, false, List, [], ◌∷◌, length, map, ap, refl, sym, subst, arith, if◌then◌else◌}
+use Rattle.std.proofs.Common.{inl, inr, ◌≡◌, ◌≢◌, ◌∙◌, ℕ, suc, ◌+◌, ◌<◌, ◌≤◌, ◌==◌, Bool, true, false, List, [], ◌∷◌, length, map, ap, refl, sym, subst, arith, if◌then◌else◌}
 use Rattle.std.specs.Prelude.{◌&&◌, not}
 use Rattle.std.proofs.lemmas.Bool.{cases_eq}
 use Rattle.std.proofs.lemmas.Bool.Decides.{nat_tests}
@@ -61,8 +61,7 @@ child-tree phasers id parent sound there under =
     let same : shape.0 ≡ id = ap head_of (sym shape.2 ∙ own.1) in
     let line : (phaser_at phasers id).line ≡ id ∷ parent ∷ shape.1 = shape.2 ∙ ap (λ (n : ℕ). n ∷ parent ∷ shape.1) same in
     let next = next-parent phasers id parent shape.1 sound there line in
-    let below : parent < id = next.0 in
-    (below, root-parent phasers id parent sound (omega (arith, below, there)) (line ∙ ap (λ (l : List ℕ). id ∷ l) (sym next.1)))
+    grind (arith, root-parent)
 
 -- a root is its own root, and is above none but its own tree
 pub root-root : (phasers : List PhaserState) (line : List ℕ) (id : ℕ) → IsForest phasers → id < length phasers → (phaser_at phasers id).line ≡ line
@@ -122,27 +121,7 @@ going_tallied phasers after origin other root id sound within there stands clean
     let open_at : (n : ℕ) → n < length phasers → root_at phasers n ≡ root → (flat_at phasers n).ended ≡ false =
     λ n here inside. (stands.steady n here).tree ∙ ap (λ (m : ℕ). (flat_at phasers m).ended) inside ∙ live in
     let tally = stands.tallied id there (ap origin.stray tree ∙ clean) (open_at id there tree) in
-    let now = change.inside id there tree in
-    let p : (flat_at after id).parties ≡ (flat_at phasers id).parties = ap (λ (f : Flat). f.parties) now.1 in
-    let u : unarrived_of (flat_at after id) ≡ (flat_at phasers id).parties - 0 = ap unarrived_of now.1 in
-    let kept : (k : ℕ) → k < length phasers → is_under id (phaser_at phasers k).line ≡ true
-    → not ((flat_at phasers k).parties == 0) ≡ has_joined (flat_at phasers k) = λ k here under.
-    let family = child-tree phasers k id sound here under in
-    let below : id < k = family.0 in
-    let inside : root_at phasers k ≡ root = family.1 ∙ tree in
-    let least : root_at phasers id ≤ id = (root-root phasers (phaser_at phasers id).line id sound there refl).1 in
-    let not_root : root_at phasers k ≢ k = (let up = family.1 in λ is. absurd (omega (arith, is, up, least, below))) in
-    joined-by (flat_at phasers k).ended (flat_at phasers k).turned (flat_at phasers k).parties (open_at k here inside)
-    (λ turned. (stands.steady k here).child turned not_root) in
-    let moved : (k : ℕ) → k < length phasers → is_under id (phaser_at phasers k).line ≡ true → root_at phasers k ≡ root =
-    λ k here under. (child-tree phasers k id sound here under).1 ∙ tree in
-    let j : children has_joined id after ≡ children has_joined id phasers = children-same has_joined has_joined id after phasers change.same
-    (λ k here under. ap has_joined (change.inside k here (moved k here under)).1 ∙ kept k here under) in
-    let w : children is_awaited id after ≡ children has_joined id phasers = children-same is_awaited has_joined id after phasers change.same
-    (λ k here under. ap is_awaited (change.inside k here (moved k here under)).1
-    ∙ and-true (not ((flat_at phasers k).parties == 0)) ∙ kept k here under) in
-    let tr = tally.registered in
-    record { registered = omega (arith, p, j, tr, registered); unarrived = omega (arith, u, w, tr, unarrived); within = omega (arith, registered, unarrived) }
+    grind (arith, child-tree, root-root, joined-by, children-same, and-true)
 
 -- a change of one tree
 pub stands_reset : (phasers after : List PhaserState) (origin other : Origin) (root : ℕ) (ends : Bool) → IsForest phasers → root < length phasers
