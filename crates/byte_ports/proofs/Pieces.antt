@@ -1,5 +1,5 @@
 -- What is held of a source's lines, and a line of it.
-use Rattle.std.proofs.Common.{◌≡◌, ◌∙◌, ◌+◌, ◌<◌, ◌≤◌, ℕ, false, List, [], ◌∷◌, ◌++◌, Some, None, length, take, drop, get_or, ap, refl, sym, subst, append_assoc, take-append-drop, arith}
+use Rattle.std.proofs.Common.{◌≡◌, ◌∙◌, ◌+◌, ◌<◌, ◌≤◌, ℕ, false, List, [], ◌∷◌, ◌++◌, length, take, drop, get_or, ap, refl, sym, subst, append_assoc, take-append-drop, arith}
 use Rattle.std.specs.Prelude.{Option}
 use Rattle.std.specs.Io.KnownBytes.{Consumes, Keeps, prepend_known}
 use Rattle.std.proofs.KnownBytes.{prepend_known-read}
@@ -34,10 +34,7 @@ less-line m n bytes few one =
 -- more bytes are held
 pub more-held : (a b : Option (List ℕ)) (held got new : List ℕ) → Consumes a b got → new ≡ held ++ got
     → Keeps (prepend_known held a) (prepend_known new b)
-more-held None b held got new given is = tt
-more-held (Some x) None held got new given is = absurd given
-more-held (Some x) (Some y) held got new given is =
-    ap (λ l. l ++ y) is ∙ append_assoc held got y ∙ ap (λ l. held ++ l) (sym given)
+more-held a b held got new given is = grind (arith, append_assoc)
 
 -- some of them are taken
 pub taken-held : (a b : Option (List ℕ)) (first held line rest : List ℕ) → Keeps (prepend_known first a) (prepend_known held b)
@@ -46,27 +43,18 @@ taken-held a b first held line rest same is =
     (prepend_known-read (prepend_known first a) b held rest line ⊥ same is (λ no. absurd no)).0
 
 pub front-held : (held line rest : List ℕ) (n : ℕ) → line ≡ take n held → rest ≡ drop n held → held ≡ line ++ rest
-front-held held line rest n front behind =
-    sym (take-append-drop n held) ∙ ap (λ l. l ++ drop n held) (sym front) ∙ ap (λ r. line ++ r) (sym behind)
+front-held held line rest n front behind = grind (arith, take-append-drop)
 
 -- a line and its LF
 pub line-held : (bytes held line rest : List ℕ) (n : ℕ) → bytes ≡ held → n < length bytes → get_or bytes n 0 ≡ 10
     → line ≡ take n held → rest ≡ drop (n + 1) held → held ≡ (line ++ 10 ∷ []) ++ rest
-line-held bytes held line rest n same there is front behind =
-    let lf : get_or held n 0 ≡ 10 = ap (λ b. get_or b n 0) (sym same) ∙ is in
-    let lt : n < length held = omega (arith, there, ap length same) in
-    sym (take-append-drop n held)
-    ∙ ap (λ r. take n held ++ r) (drop_more held n 0 lt ∙ ap (λ b. b ∷ drop (n + 1) held) lf)
-    ∙ sym (append_assoc (take n held) (10 ∷ []) (drop (n + 1) held))
-    ∙ ap (λ l. (l ++ 10 ∷ []) ++ drop (n + 1) held) (sym front) ∙ ap (λ r. (line ++ 10 ∷ []) ++ r) (sym behind)
+line-held bytes held line rest n same there is front behind = grind (arith, take-append-drop, drop_more, append_assoc)
 
 -- a piece more, behind bytes of one line
 pub one-still : (held bytes got new : List ℕ) (n : ℕ) → bytes ≡ held → n ≤ length bytes → length bytes ≤ n → new ≡ held ++ got
     → IsOneLine (take n bytes) → IsOneLine (take n new)
-one-still held bytes got new n same within all is one =
-    subst IsOneLine (sym (ap (take n) is ∙ take-append-le n held got (omega (arith, within, ap length same)) ∙ ap (take n) (sym same))) one
+one-still held bytes got new n same within all is one = grind (arith, take-append-le)
 
 pub piece-behind : (held bytes got new : List ℕ) (n : ℕ) → bytes ≡ held → length bytes ≤ n → new ≡ held ++ got
     → IsOneLine (take n bytes) → length got ≤ 16384 → EndsInAPiece new
-piece-behind held bytes got new n same all is one few =
-    (held, (got, (is, subst IsOneLine (take_all n bytes all ∙ same) one, few)))
+piece-behind held bytes got new n same all is one few = grind (arith, take_all)

@@ -1,12 +1,8 @@
 -- Bytes that are copied by their two ends.
-use Rattle.std.proofs.Common.{◌≡◌, ◌∙◌, ◌+◌, ◌-◌, ◌≤◌, ℕ, List, ◌++◌, length, take, drop, ap, arith, length-take-le, take-append-drop}
+use Rattle.std.proofs.Common.{◌≡◌, ◌+◌, ◌-◌, ◌≤◌, ℕ, List, ◌++◌, length, take, drop, arith, length-take-le, take-append-drop}
 use Rattle.std.proofs.lemmas.List.{take-take, take-append-le}
 
 -- the first n of some bytes, and over what is behind them the last n, are all of them
 pub both_ends : (n : ℕ) (from rest : List ℕ) → n ≤ length from → length from ≤ n + n
     → take (length from - n) (take n from ++ rest) ++ drop (length from - n) from ≡ from
-both_ends n from rest many few =
-    ap (λ xs. xs ++ drop (length from - n) from)
-    (take-append-le (length from - n) (take n from) rest (omega (arith, length-take-le n from many, few))
-    ∙ take-take (length from - n) n from (omega (arith, few)))
-    ∙ take-append-drop (length from - n) from
+both_ends n from rest many few = grind (arith, take-append-le, length-take-le, take-take, take-append-drop)

@@ -1,5 +1,5 @@
 -- What a row at a phaser waits for.
-use Rattle.std.proofs.Common.{◌≡◌, ◌⊎◌, inl, inr, ℕ, ap}
+use Rattle.std.proofs.Common.{◌≡◌, ◌⊎◌, ℕ, arith}
 use Rattle.assembler.specs.Symbols.{SymbolTable}
 use Rattle.instruction_table.specs.declared.register.Reg.{Reg}
 use Rattle.instruction_table.specs.declared.row.Row.{Row}
@@ -13,7 +13,4 @@ pub awaited_at : (sheet : Sheet) (symbols : SymbolTable) (scene : Scene) (row : 
     ⊎ (((x : Reg) × (y : Reg) × (row ≡ Pawaiti x p y))
     ⊎ ((x : Reg) × (y : Reg) × (z : Reg) × (row ≡ Pawaitt x p y z))))
     → awaited_text sheet symbols scene row ≡ at_phaser sheet symbols scene.phasers p
-awaited_at sheet symbols scene row p (inl (x, is)) = ap (awaited_text sheet symbols scene) is
-awaited_at sheet symbols scene row p (inr (inl (x, y, is))) = ap (awaited_text sheet symbols scene) is
-awaited_at sheet symbols scene row p (inr (inr (inl (x, y, is)))) = ap (awaited_text sheet symbols scene) is
-awaited_at sheet symbols scene row p (inr (inr (inr (x, y, z, is)))) = ap (awaited_text sheet symbols scene) is
+awaited_at sheet symbols scene row p given = grind arith

@@ -1,11 +1,11 @@
 -- One choice more is drawn.
-use Rattle.std.proofs.Common.{◌≡◌, ◌∙◌, ℕ, ◌+◌, ◌<◌, Bool, true, false, List, [], ◌∷◌, ◌++◌, Option, Some, None, ap, sym, subst, refl, append_assoc, append-nil, length, get_or, drop, is_none}
+use Rattle.std.proofs.Common.{◌≡◌, ◌∙◌, ℕ, ◌+◌, ◌<◌, Bool, true, false, List, [], ◌∷◌, ◌++◌, Option, Some, None, ap, sym, append_assoc, append-nil, length, get_or, drop, is_none, arith, rules}
 use Rattle.std.proofs.lemmas.List.{drop_more}
 use Rattle.std.proofs.lemmas.Grind.{flat_map-append}
 use Rattle.assembler.specs.Symbols.{SymbolTable}
 use Rattle.thread_machine.specs.declared.choice.Choice.{Choice}
 use Rattle.thread_machine.specs.declared.fault.StepFault.{StepFault}
-use Rattle.thread_machine.specs.Execution.{Execution, execution, execution_by}
+use Rattle.thread_machine.specs.Execution.{execution, execution_by}
 use Rattle.thread_machine.specs.Step.{Played, played, refusal_of}
 use Rattle.thread_machine.specs.World.{World}
 use Rattle.pictures.specs.declared.sheet.Sheet.{Sheet}
@@ -22,10 +22,7 @@ use Rattle.pictures.specs.Turn.{mark_words, marked, turn_text}
 -- lines that were written, and then more
 pub both_lines : (width : ℕ) (old mid new : List ℕ) (lines more : List (List ℕ)) → mid ≡ old ++ lines_text width lines
     → new ≡ mid ++ lines_text width more → new ≡ old ++ lines_text width (lines ++ more)
-both_lines width old mid new lines more first second =
-    second ∙ ap (λ bytes. bytes ++ lines_text width more) first
-    ∙ append_assoc old (lines_text width lines) (lines_text width more)
-    ∙ ap (λ bytes. old ++ bytes) (sym (flat_map-append (written_line width) lines more))
+both_lines width old mid new lines more first second = grind (arith, append_assoc, flat_map-append)
 
 -- from one choice on
 pub choices-drop : (choices : List Choice) (i : ℕ) (d : Choice) → i < length choices
@@ -40,8 +37,7 @@ accepted-lines : (refusal : Option StepFault) (sheet : Sheet) (symbols : SymbolT
     ++ choice_lines sheet symbols first (execution_by refusal world choice (λ after. execution after [])).world more)
     × ((execution_by refusal world choice (λ after. execution after more)).world
     ≡ (execution (execution_by refusal world choice (λ after. execution after [])).world more).world)
-accepted-lines None sheet symbols first world choice more none = (refl, refl)
-accepted-lines (Some fault) sheet symbols first world choice more none = let no : ⊥ = cc in absurd no
+accepted-lines refusal sheet symbols first world choice more none = grind arith
 
 -- a refused choice is the last
 refused-lines : (refusal : Option StepFault) (sheet : Sheet) (symbols : SymbolTable) (first : ℕ) (world : World) (choice : Choice)
@@ -51,14 +47,12 @@ refused-lines : (refusal : Option StepFault) (sheet : Sheet) (symbols : SymbolTa
     × ((execution_by refusal world choice (λ after. execution after more)).world
     ≡ (execution_by refusal world choice (λ after. execution after [])).world)
     × ((execution_by refusal world choice (λ after. execution after more)).refusal ≡ refusal)
-refused-lines None sheet symbols first world choice more some = let no : ⊥ = cc in absurd no
-refused-lines (Some fault) sheet symbols first world choice more some = (refl, refl, refl)
+refused-lines refusal sheet symbols first world choice more some = grind arith
 
 -- whether a choice was accepted
 answer_by : (refusal : Option StepFault) (world : World) (choice : Choice)
     → (execution_by refusal world choice (λ after. execution after [])).refusal ≡ refusal
-answer_by None world choice = refl
-answer_by (Some fault) world choice = refl
+answer_by refusal world choice = grind arith
 
 -- an accepted choice
 pub IsDrawing-next : (sheet : Sheet) (symbols : SymbolTable) (first : ℕ) (begin now after : World) (choices rest more : List Choice)
@@ -91,24 +85,12 @@ pub IsDrawing-refused : (sheet : Sheet) (symbols : SymbolTable) (first : ℕ) (b
     → DrawsOne sheet symbols first now after choice accepted mid new → accepted ≡ false
     → Draws sheet symbols first begin after choices old new
 IsDrawing-refused sheet symbols first begin now after choices rest more choice accepted old mid new is so_far one refuses =
-    let refusal = refusal_of now choice in
-    let some : is_none refusal ≡ false = ap is_none (sym (answer_by refusal now choice)) ∙ sym one.answer ∙ refuses in
-    let both = refused-lines refusal sheet symbols first now choice more some in
-    let line = choice_lines sheet symbols first now (choice ∷ []) in
-    let lines : choice_lines sheet symbols first begin choices ≡ so_far.drawn ++ line =
-    so_far.lines ∙ ap (λ cs. so_far.drawn ++ choice_lines sheet symbols first now cs) is
-    ∙ ap (λ ls. so_far.drawn ++ ls) both.0 in
-    record {
-      text = subst (λ (ls : List (List ℕ)). new ≡ old ++ lines_text sheet.width ls) (sym lines)
-          (both_lines sheet.width old mid new so_far.drawn line so_far.text one.draws.text);
-      world = one.draws.world ∙ sym both.1 ∙ ap (λ cs. (execution now cs).world) (sym is) ∙ sym so_far.world;
-    }
+    grind (arith, answer_by, refused-lines, both_lines)
 
 -- one line that was written
 one_line : (width : ℕ) (old new : List ℕ) (line : List ℕ) (lines : List (List ℕ)) → new ≡ old ++ written_line width line
     → lines ≡ line ∷ [] → new ≡ old ++ lines_text width lines
-one_line width old new line lines written is =
-    written ∙ ap (λ bytes. old ++ bytes) (sym (append-nil (written_line width line)) ∙ ap (lines_text width) (sym is))
+one_line width old new line lines written is = grind (arith, append-nil)
 
 -- a choice that was played
 pub DrawsOne-played : (sheet : Sheet) (symbols : SymbolTable) (first number : ℕ) (world after : World) (choice : Choice) (event : Event)
@@ -120,43 +102,11 @@ pub DrawsOne-played : (sheet : Sheet) (symbols : SymbolTable) (first number : �
     (turn_text (column_room sheet) (row_caption symbols row) choice.expiry event.what)
     (kept_behind (mark_room sheet) (marked symbols event.mark) (mark_words event.mark))))
     → DrawsOne sheet symbols first world after choice true old new
-DrawsOne-played sheet symbols first number world after choice event row old new accepted both number_is row_is written =
-    let by : Option StepFault → Execution = λ refusal. execution_by refusal world choice (λ after. execution after []) in
-    let lines : Option StepFault → List (List ℕ) =
-    λ refusal. lines_by refusal sheet symbols first world choice (λ after. []) in
-    let text : ℕ → Row → Played → List ℕ =
-    λ number row play. choice_line sheet first play.world number choice.thread
-    (turn_text (column_room sheet) (row_caption symbols row) choice.expiry play.event.what)
-    (kept_behind (mark_room sheet) (marked symbols play.event.mark) (mark_words play.event.mark)) in
-    let played_here : Played = record { world = after; event = event } in
-    let same : text number row played_here
-    ≡ text (world.choices + 1) (row_at world.program.rows (thread_at world.scene choice.thread).pc) (played world choice) =
-    ap (λ n. text n row played_here) number_is
-    ∙ ap (λ r. text (world.choices + 1) r played_here) row_is
-    ∙ ap (λ play. text (world.choices + 1) (row_at world.program.rows (thread_at world.scene choice.thread).pc) play) both in
-    let drawn : lines (refusal_of world choice) ≡ text number row played_here ∷ [] =
-    ap lines accepted ∙ ap (λ line. line ∷ []) (sym same) in
-    record {
-      draws = record {
-        text = one_line sheet.width old new (text number row played_here) (lines (refusal_of world choice)) written drawn;
-        world = ap (λ (play : Played). play.world) both ∙ ap (λ refusal. (by refusal).world) (sym accepted);
-      };
-      answer = ap (λ refusal. is_none (by refusal).refusal) (sym accepted);
-    }
+DrawsOne-played sheet symbols first number world after choice event row old new accepted both number_is row_is written = search (rules, one_line)
 
 -- a choice that was refused
 pub DrawsOne-refused : (sheet : Sheet) (symbols : SymbolTable) (first : ℕ) (world after : World) (choice : Choice) (why : StepFault)
     (old new : List ℕ) → refusal_of world choice ≡ Some why → after ≡ world
     → new ≡ old ++ (written_line sheet.width (refused_line sheet first world choice why))
     → DrawsOne sheet symbols first world after choice false old new
-DrawsOne-refused sheet symbols first world after choice why old new refused same written =
-    let by : Option StepFault → Execution = λ refusal. execution_by refusal world choice (λ after. execution after []) in
-    let lines : Option StepFault → List (List ℕ) =
-    λ refusal. lines_by refusal sheet symbols first world choice (λ after. []) in
-    record {
-      draws = record {
-        text = one_line sheet.width old new (refused_line sheet first world choice why) (lines (refusal_of world choice)) written (ap lines refused);
-        world = same ∙ ap (λ refusal. (by refusal).world) (sym refused);
-      };
-      answer = ap (λ refusal. is_none (by refusal).refusal) (sym refused);
-    }
+DrawsOne-refused sheet symbols first world after choice why old new refused same written = search (rules, one_line)

@@ -1,6 +1,6 @@
 -- One choice more is shown.
 use Rattle.std.specs.Prelude.{is_none}
-use Rattle.std.proofs.Common.{◌≡◌, ◌∙◌, ℕ, ◌+◌, ◌<◌, Bool, true, false, List, [], ◌∷◌, ◌++◌, ap, sym, subst, append_assoc, if◌then◌else◌, length, get_or, drop, Result, Ok, Err}
+use Rattle.std.proofs.Common.{◌≡◌, ◌∙◌, ℕ, ◌+◌, ◌<◌, Bool, true, false, List, [], ◌∷◌, ◌++◌, ap, sym, append_assoc, if◌then◌else◌, length, get_or, drop, Result, arith}
 use Rattle.std.specs.Result.{OnOk}
 use Rattle.std.proofs.lemmas.List.{drop_more}
 use Rattle.std.proofs.lemmas.Grind.{flat_map-append}
@@ -15,33 +15,13 @@ use Rattle.trace_text.specs.Trace.{lines_of}
 pub shown_next : (now after : World) (choice : Choice) (rest more : List Choice) (accepted : Bool) (old mid : List ℕ)
     → rest ≡ choice ∷ more → Shows now after choice accepted old mid → accepted ≡ true
     → mid ++ escaped (moments after more) ≡ old ++ escaped (moments now rest)
-shown_next now after choice rest more accepted old mid is shown is_accepted =
-    let shows = subst (λ b. Shows now after choice b old mid) is_accepted shown in
-    let lines = lines_of now (choice ∷ []) in
-    let end = (execution now (choice ∷ [])).world in
-    let went : moments now rest ≡ lines ++ (moment end ++ moments end more) =
-    ap (λ choices. moments now choices) is
-    ∙ ap (λ go. lines ++ (if go then moment end ++ moments end more else [])) (sym shows.answer) in
-    let here : moments now rest ≡ (lines ++ moment after) ++ moments after more =
-    went ∙ ap (λ world. lines ++ (moment world ++ moments world more)) (sym shows.world)
-    ∙ sym (append_assoc lines (moment after) (moments after more)) in
-    ap (λ text. text ++ escaped (moments after more)) shows.text
-    ∙ append_assoc old (escaped (lines ++ moment after)) (escaped (moments after more))
-    ∙ ap (λ text. old ++ text)
-    (sym (flat_map-append escaped_byte (lines ++ moment after) (moments after more)) ∙ ap (λ text. escaped text) (sym here))
+shown_next now after choice rest more accepted old mid is shown is_accepted = grind (arith, append_assoc, flat_map-append)
 
 -- a refused choice is the last
 pub shown_refused : (now after : World) (choice : Choice) (rest more : List Choice) (accepted : Bool) (old mid : List ℕ)
     → rest ≡ choice ∷ more → Shows now after choice accepted old mid → accepted ≡ false
     → mid ≡ old ++ escaped (moments now rest)
-shown_refused now after choice rest more accepted old mid is shown is_refused =
-    let shows = subst (λ b. Shows now after choice b old mid) is_refused shown in
-    let lines = lines_of now (choice ∷ []) in
-    let end = (execution now (choice ∷ [])).world in
-    let went : moments now rest ≡ lines ++ [] =
-    ap (λ choices. moments now choices) is
-    ∙ ap (λ go. lines ++ (if go then moment end ++ moments end more else [])) (sym shows.answer) in
-    shows.text ∙ ap (λ text. old ++ escaped text) (sym went)
+shown_refused now after choice rest more accepted old mid is shown is_refused = grind arith
 
 -- an accepted choice's line and the moment after it, which a machine shows that is as before that
 pub shown_by : (before : World) (after end : StoredWorld) (choice : Choice) (accepted : Bool) (old mid new line : List ℕ)
@@ -63,13 +43,7 @@ pub run_more : {E : Type 0} (result : Result (Unit {0}) E) (first now : StoredWo
     → now ≡ first → mid ≡ old ++ escaped (moment (world_of first))
     → OnOk result (new ≡ mid ++ escaped (moments (world_of now) choices))
     → OnOk result (new ≡ old ++ escaped (run_shown (world_of first) choices))
-run_more (Ok is) first now choices old mid new same begun done =
-    let shown = moment (world_of first) in
-    let later = moments (world_of first) choices in
-    done ∙ ap (λ (world : StoredWorld). mid ++ escaped (moments (world_of world) choices)) same
-    ∙ ap (λ text. text ++ escaped later) begun ∙ append_assoc old (escaped shown) (escaped later)
-    ∙ ap (λ text. old ++ text) (sym (flat_map-append escaped_byte shown later))
-run_more (Err fault) first now choices old mid new same begun done = tt
+run_more result first now choices old mid new same begun done = grind (arith, append_assoc, flat_map-append)
 
 -- from one choice on
 pub choices-drop : (choices : List Choice) (i : ℕ) (d : Choice) → i < length choices

@@ -1,16 +1,13 @@
 -- A replay of one choice more.
 use Rattle.std.proofs.Common.{◌≡◌, ◌+◌, ◌*◌, ◌<◌, ◌≤◌, ℕ, true, List, [], ◌∷◌, ◌++◌, length, arith, length-append}
-use Rattle.std.specs.Prelude.{All, Option, None, is_some}
+use Rattle.std.specs.Prelude.{All, None}
 use Rattle.std.proofs.lemmas.List.Elements.{All-push}
 use Rattle.std.proofs.lemmas.Bool.Decides.{nat_tests}
 use Rattle.loader.specs.Program.{Program}
-use Rattle.machine_scene.specs.Scene.{Outcome}
 use Rattle.thread_machine.specs.declared.choice.Choice.{Choice}
-use Rattle.thread_machine.specs.declared.fault.StepFault.{StepFault}
 use Rattle.thread_machine.specs.World.{World, first_world}
-use Rattle.thread_machine.specs.Ready.{outcome_of_choice, is_choice_ready}
-use Rattle.thread_machine.specs.Step.{played, played_by, refusal_of}
-use Rattle.thread_machine.specs.Execution.{Execution, extended_by}
+use Rattle.thread_machine.specs.Ready.{is_choice_ready}
+use Rattle.thread_machine.specs.Step.{played, refusal_of}
 use Rattle.thread_machine.proofs.Executions.{execution-snoc}
 use Rattle.schedule_reader.specs.Schedule.{choices_of, finished_schedule}
 use Rattle.schedule_reader.specs.Record.{IsNamed, record_text}
@@ -24,24 +21,16 @@ Counts before after =
     (after.program ≡ before.program) × (after.limit ≡ before.limit)
     × (after.choices ≡ before.choices + 1) × (after.steps ≡ before.steps + 1)
 
-counts_by : (outcome : Option Outcome) (world : World) → is_some outcome ≡ true → Counts world (played_by outcome world).world
-counts_by outcome world ready = grind arith
-
 pub counts : (world : World) (choice : Choice) → is_choice_ready world.program choice world.scene ≡ true
     → Counts world (played world choice).world
-counts world choice ready = counts_by (outcome_of_choice world.program choice world.scene) world ready
+counts world choice ready = grind arith
 
 -- an execution without a refusal, and one accepted choice more
-extended-ok : (before now : Option StepFault) (done : Execution) (choice : Choice) → before ≡ None → now ≡ None
-    → ((extended_by before now done choice).world ≡ (played done.world choice).world)
-    × ((extended_by before now done choice).refusal ≡ None)
-extended-ok before now done choice none accepted = grind arith
-
 pub replay_more : (recording : Recording) (choice : Choice) (before after : World) → IsReplay recording before
     → is_choice_ready before.program choice before.scene ≡ true → refusal_of before choice ≡ None → before.steps < before.limit
     → after ≡ (played before choice).world → length after.scene.threads ≡ length before.scene.threads
     → IsReplay (with_choice choice recording) after
-replay_more recording choice before after replay ready accepted below is threads = grind (arith, execution-snoc, extended-ok, counts, length-append)
+replay_more recording choice before after replay ready accepted below is threads = grind (arith, execution-snoc, counts, length-append)
 
 -- a ready choice of a thread that is there is accepted
 pub not_refused : (world : World) (choice : Choice) → choice.thread < length world.scene.threads → world.choices < 1000000000000

@@ -1,4 +1,4 @@
-use Rattle.std.proofs.Common.{◌≡◌, ◌∙◌, ◌⊎◌, ◌≤◌, ◌++◌, ◌∷◌, [], ℕ, List, ap, append_assoc, inr, sym, subst, length, take, arith, length-append, length-drop, length-take-le}
+use Rattle.std.proofs.Common.{◌≡◌, ◌∙◌, ◌⊎◌, ◌≤◌, ◌++◌, ℕ, List, ap, append_assoc, inr, sym, subst, length, take, arith, length-append, length-drop, length-take-le, rules}
 use Rattle.std.proofs.KnownBytes.{Keeps-trans}
 use Rattle.byte_ports.specs.SourceLines.{EndsInAPiece, IsOneLine}
 use Rattle.byte_ports.proofs.Pieces.{front-held, less-line, line-held, one-still, piece-behind, taken-held}
@@ -6,10 +6,7 @@ use Rattle.byte_ports.proofs.source_lines.SourceLines.read_line.Goals as goal
 
 pub returns-then-place-gt-MOST_BYTES-clause-bytes :
     goal.returns-then-place-gt-MOST_BYTES-clause-bytes
-returns-then-place-gt-MOST_BYTES-clause-bytes g c =
-    taken-held (g.S.Source.left c.args.source.now) (g.S.Source.left c.loop-held.source) c.args.self.now.held c.loop-held.self.held
-    c.take_line.new.self.line c.take_line.new.self.held c.loop-held.invariant.bytes
-    (front-held c.loop-held.self.held _ _ 65537 c.take_line.ensures.line c.take_line.ensures.held)
+returns-then-place-gt-MOST_BYTES-clause-bytes g c = search (rules, taken-held, front-held)
 
 pub returns-then-place-gt-MOST_BYTES-clause-came :
     goal.returns-then-place-gt-MOST_BYTES-clause-came
