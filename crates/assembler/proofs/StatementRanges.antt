@@ -52,9 +52,6 @@ parent_fits : (all : List (Line Name)) → AreFew all → (word : List ℕ) (r :
 parent_fits all few word (Named name) h = below_or_0 (count kind.Phaser all) (number_named kind.Phaser name all) (phaser_below name all) (few kind.Phaser)
 parent_fits all few word (Numbered n) h = omega (arith, spelled_below 63 n h.0 h.2)
 
-int_fits : (word : List ℕ) (value : ℤ) → SpellsNumber least_int greatest_int word value → FitsSigned w32 value
-int_fits word value h = grind (arith, ints)
-
 -- ---- operands
 
 abbrev IsInRange : List (Line Name) → Operand Name → Type 0

@@ -27,14 +27,6 @@ pub is_step : (before after : Session) (choice : Choice) (event : Event)
 is_step before after choice event both session = grind arith
 
 -- there are two reasons for a refusal that isn't want of memory
-refusal_by : (there used_up : Bool)
-    → ((if there then Some NoSuchThread else (if used_up then Some StepLimit else None)) ≡ Some NoSuchThread → ⊥)
-    → ((if there then Some NoSuchThread else (if used_up then Some StepLimit else None)) ≡ Some StepLimit → ⊥)
-    → (if there then Some NoSuchThread else (if used_up then Some StepLimit else None)) ≡ None
-refusal_by true used_up there left = absurd (there refl)
-refusal_by false true there left = absurd (left refl)
-refusal_by false false there left = refl
-
 not_refused : (world : World) (choice : Choice) → (refusal_of world choice ≡ Some NoSuchThread → ⊥)
     → (refusal_of world choice ≡ Some StepLimit → ⊥) → refusal_of world choice ≡ None
 not_refused world choice there left = grind arith
@@ -64,10 +56,6 @@ pass_fault why session after choice result is there left memory same = record {
 ready_by : (outcome : Option Outcome) (world : World)
     → ((played_by outcome world).world.steps ≡ world.steps → ⊥) → is_some outcome ≡ true
 ready_by outcome world other = grind arith
-
-idle_by : (outcome : Option Outcome) (world : World)
-    → (played_by outcome world).world.steps ≡ world.steps → is_some outcome ≡ false
-idle_by outcome world same = grind arith
 
 -- where a thread stands after a step, by the session and by the definition
 at_break_after : (session after : Session) (choice : Choice) (is : Bool) → IsStep session choice after

@@ -122,10 +122,6 @@ LastEnds counts at t scene outcome =
 uncounted : (counts : Origin) (t : ℕ) (scene : Scene) (outcome : Option Outcome) → LastEnds counts counts t scene outcome
 uncounted counts t scene outcome root there live clean last = grind arith
 
-registered_more : (r : Registered) (p k : ℕ) (counts : Origin) (id : ℕ)
-    → counts.unarrived id ≤ (origin_after_registration r p k counts).unarrived id
-registered_more r p k counts id = grind arith
-
 registers : (p : ℕ) (count : ℤ) (t : ℕ) (scene : Scene) (counts : Origin) (outcome : Option Outcome)
     → LastEnds counts (with_registration p count t scene counts) t scene outcome
 registers p count t scene counts outcome root there live clean last = grind arith

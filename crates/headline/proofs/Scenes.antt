@@ -15,12 +15,6 @@ use Rattle.headline.specs.Headline.{StoredAlike}
 use Rattle.headline.specs.Playing.{Leaves}
 use Rattle.trace_compare.proofs.OneVerdict.{as-stored, played-event, played-world, plays-same, refusal-same, state-same, stored}
 
--- no choice changes the program
-program_by : (refusal : Option StepFault) (world : World) (choice : Choice) (rest : World → Execution)
-    → ((after : World) → (rest after).world.program ≡ after.program)
-    → (execution_by refusal world choice rest).world.program ≡ world.program
-program_by refusal world choice rest same = grind arith
-
 -- how the phasers are stored makes no difference to an execution
 abbrev stored_after : List Stored → Execution → Execution
 stored_after phasers done = record done { world = stored phasers done.world }

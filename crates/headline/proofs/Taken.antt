@@ -104,9 +104,6 @@ Calm t scene = (code : ℤ) → (thread_at scene t).status ≢ status.Throws cod
 runs_on : (code : ℤ) → status.Runs ≢ status.Throws code
 runs_on code is = cc is
 
-waits_on : (phase code : ℤ) → status.AwaitsPhase phase ≢ status.Throws code
-waits_on phase code is = cc is
-
 calm_arrived : (answer : Arrived) (manner : Manner) (t : ℕ) (program : Program) (scene : Scene) → t < length scene.threads
     → (thread_at scene t).status ≡ status.Runs → (answer ≡ arrived.NotThere → ⊥) → Calm t (outcome_of_arrived answer manner t program scene).scene
 calm_arrived answer manner t program scene there runs comes = grind (arith, get_or-set_same, runs_on)

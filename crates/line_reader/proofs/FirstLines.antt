@@ -28,9 +28,6 @@ letter_calm : (byte : ℕ) → is_letter byte ≡ true → is_calm byte ≡ true
 letter_calm byte h = grind (arith, both_true, nat_tests, both, or_right)
 
 -- what is allowed and no letter is a blank, where it begins no comment
-other_is_blank : (byte : ℕ) → is_allowed byte ≡ true → is_letter byte ≡ false → begins_comment byte ≡ false → is_blank byte ≡ true
-other_is_blank byte a l c = grind (arith, nat_tests)
-
 blank_calm : (byte : ℕ) → is_blank byte ≡ true → is_calm byte ≡ true
 blank_calm byte h = grind (arith, eqb-true)
 

@@ -28,26 +28,6 @@ bit_of-bound true = omega arith
 pub word_of-bound : (f : Fields) → Fit f → word_of f < 18446744073709551616
 word_of-bound f fit = let b = bit_of-bound f.ended in omega arith
 
-pub unarrived-word_of : (f : Fields) → Fit f → word_of f % 65536 ≡ f.unarrived
-unarrived-word_of f fit = omega arith
-
-pub parties-word_of : (f : Fields) → Fit f → word_of f / 65536 % 65536 ≡ f.parties
-parties-word_of f fit = omega arith
-
-pub phase-word_of : (f : Fields) → Fit f → word_of f / 4294967296 % 2147483648 ≡ f.phase
-phase-word_of f fit = omega arith
-
-pub bit-word_of : (f : Fields) → Fit f → word_of f / 9223372036854775808 ≡ bit_of f.ended
-bit-word_of f fit = let b = bit_of-bound f.ended in omega arith
-
--- a test for 1, as the number of the test
-pub bit_of-test : (n : ℕ) → n ≤ 1 → bit_of (n == 1) ≡ n
-bit_of-test n h = grind (arith, nat_tests)
-
-pub test-bit_of : (b : Bool) → (bit_of b == 1) ≡ b
-test-bit_of false = refl
-test-bit_of true = refl
-
 -- a word is made of its fields
 pub word_of-fields_of : (word : ℕ) → word < 18446744073709551616 → word_of (fields_of word) ≡ word
 unfolding fields_of
@@ -99,10 +79,6 @@ pub IsFlat-record_of_fields : (u p n : ℕ) (e : Bool) → u ≤ max p 1 → p <
 IsFlat-record_of_fields u p n false few parties phase = grind (arith, nat_tests)
 IsFlat-record_of_fields u p n true few parties phase = grind arith
 
--- the parties still to arrive, as the tests on a record show them
-pub unarrived_from : (u v p : ℕ) → u ≤ max p 1 → v ≤ max p 1 → p - u ≡ p - v → (u == 0) ≡ (v == 0) → u ≡ v
-unarrived_from u v p few few' arrived turned = grind (arith, nat_tests)
-
 -- fields that tell one phaser which isn't terminated are the same
 pub fields_from_record : (f g : Fields) → f.unarrived ≤ max f.parties 1 → g.unarrived ≤ max g.parties 1
     → record_of_fields f ≡ record_of_fields g → f.ended ≡ false → f ≡ g
@@ -123,23 +99,6 @@ pub fields_for-unarrived : (parties arrived : ℕ) (ended turned : Bool)
 fields_for-unarrived parties arrived true turned = omega arith
 fields_for-unarrived parties arrived false true = omega arith
 fields_for-unarrived parties arrived false false = omega arith
-
--- and tell the arrived parties
-pub fields_for-arrived : (parties arrived : ℕ) (ended turned : Bool) → arrived ≤ parties
-    → (turned ≡ true → (ended ≡ false) × (arrived ≡ parties)) → (ended ≡ true → arrived ≡ parties)
-    → (ended ≡ false → 0 < parties → arrived ≡ parties → turned ≡ true)
-    → (if ended then parties else parties - (if ended then 0 else (if turned then 0 else max (parties - arrived) 1))) ≡ arrived
-fields_for-arrived parties arrived true turned within by_all has_all turn = let all = has_all refl in omega arith
-fields_for-arrived parties arrived false true within by_all has_all turn = let all = (by_all refl).1 in omega arith
-fields_for-arrived parties arrived false false within by_all has_all turn = grind arith
-
--- and whether the phaser is turned
-pub fields_for-turned : (left : ℕ) (ended turned : Bool) → (turned ≡ true → ended ≡ false)
-    → (not ended && ((if ended then 0 else (if turned then 0 else max left 1)) == 0)) ≡ turned
-fields_for-turned left true true by_all = absurd (cc (by_all refl))
-fields_for-turned left true false by_all = refl
-fields_for-turned left false true by_all = refl
-fields_for-turned left false false by_all = grind (arith, nat_tests)
 
 -- so the phaser is the one that its fields tell
 pub record_of_fields-for : (f : Flat) → IsFlat f → record_of_fields (fields_for f) ≡ f

@@ -17,13 +17,6 @@ IsBytes-drop n bytes h i = rw get_or-drop (h (n + i))
 pub IsBytes-take : (n : ℕ) (bytes : List ℕ) → IsBytes bytes → IsBytes (take n bytes)
 IsBytes-take n bytes h i = grind (arith, cases_lt, get_or-take, get_or_past, length-take)
 
-four_fit : (a b c d : ℕ) → a < 256 → b < 256 → c < 256 → d < 256 → IsBytes (a ∷ b ∷ c ∷ d ∷ [])
-four_fit a b c d fa fb fc fd zero = fa
-four_fit a b c d fa fb fc fd (suc zero) = fb
-four_fit a b c d fa fb fc fd (suc (suc zero)) = fc
-four_fit a b c d fa fb fc fd (suc (suc (suc zero))) = fd
-four_fit a b c d fa fb fc fd (suc (suc (suc (suc i)))) = omega arith
-
 -- two bytes are those of their number
 pub u16_back : (n : ℕ) → n < 65536 → u16_of (u16_bytes n) ≡ n
 u16_back n lt = from_le_bytes-to_le_bytes_2 n lt
@@ -49,13 +42,3 @@ pub of_twelve : (bytes : List ℕ) → length bytes ≡ 12 →
     bytes ≡ get_or bytes 0 0 ∷ get_or bytes 1 0 ∷ get_or bytes 2 0 ∷ get_or bytes 3 0 ∷ get_or bytes 4 0 ∷ get_or bytes 5 0 ∷ get_or bytes 6 0 ∷ get_or bytes 7 0 ∷ get_or bytes 8 0 ∷ get_or bytes 9 0 ∷ get_or bytes 10 0 ∷ get_or bytes 11 0 ∷ []
 of_twelve (_ ∷ _ ∷ _ ∷ _ ∷ _ ∷ _ ∷ _ ∷ _ ∷ _ ∷ _ ∷ _ ∷ _ ∷ []) e = refl
 of_twelve _ e = absurd (cc)
-
--- the first four bytes, one by one
-pub front_four : (bytes : List ℕ) → 4 ≤ length bytes →
-    take 4 bytes ≡ get_or bytes 0 0 ∷ get_or bytes 1 0 ∷ get_or bytes 2 0 ∷ get_or bytes 3 0 ∷ []
-front_four bytes e = grind arith
-
--- the first twelve bytes, one by one
-pub front_twelve : (bytes : List ℕ) → 12 ≤ length bytes →
-    take 12 bytes ≡ get_or bytes 0 0 ∷ get_or bytes 1 0 ∷ get_or bytes 2 0 ∷ get_or bytes 3 0 ∷ get_or bytes 4 0 ∷ get_or bytes 5 0 ∷ get_or bytes 6 0 ∷ get_or bytes 7 0 ∷ get_or bytes 8 0 ∷ get_or bytes 9 0 ∷ get_or bytes 10 0 ∷ get_or bytes 11 0 ∷ []
-front_twelve bytes e = grind arith

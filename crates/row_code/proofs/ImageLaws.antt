@@ -89,9 +89,6 @@ pub record IsHead (bytes : List ℕ) (c : Counts) : Type 0 where
   pub size : length bytes ≡ file_end c
 
 -- the first four bytes are the magic that says what they say
-magic_said : (bytes : List ℕ) → is_magic (take 4 bytes) ≡ true → take 4 bytes ≡ magic (says_timed bytes)
-magic_said bytes e = grind arith
-
 head_takes : (bytes : List ℕ) (c : Counts) → counts_at bytes ≡ Ok c → IsHead bytes c
 unfolding counts_at
 head_takes bytes c e = grind arith

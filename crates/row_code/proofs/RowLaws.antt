@@ -13,20 +13,10 @@ use Rattle.row_code.specs.declared.operands.Operands.{Operands}
 use Rattle.row_code.specs.RowOperands.{operands_at, rows_with, row_with, row_in}
 use Rattle.row_code.specs.RowBytes.{bytes_of, fields_at}
 
-small_fits : (n : ℕ) → pos n <ℤ pos 65536 → FitsSigned w32 (pos n)
-small_fits n h = record { sfits = omega (arith, ints) }
-
--- the number in imm is an `int`
-imm_fits : (row : Row) → IsRow row → FitsSigned w32 (fields_of row).imm
-imm_fits row h = grind (arith, ints, small_fits)
-
 -- a row's own fields lead back to it
 likely_back : (row : Row) → IsRow row → row_with (opcode_of row) (operands_at (fields_of row)) ≡ row
 likely_back Halt h = refl
 likely_back row h = grind (arith, ints, nat_tests)
-
-unsigned_below : (z : ℤ) → FitsSigned w32 z → cast_unsigned w32 z < 2 ^ 32
-unsigned_below z h = grind (arith, ints)
 
 -- an `int` is read as it was written
 pub i32_back : (z : ℤ) → FitsSigned w32 z → i32_of (i32_bytes z) ≡ z

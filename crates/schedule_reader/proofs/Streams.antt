@@ -282,10 +282,6 @@ fed-stream old bytes piece (Err (fault.Repeat n)) before after has none place ta
     inr (has-after old bytes piece (Err (fault.Repeat n)) before after has none place takes (λ e. absurd (cc)))
 
 -- a fault stays
-fault_stays : (old : Progress) (bytes piece rest : List ℕ) (f : ScheduleFault) (finished : Bool) → HasRead old bytes → old.fault ≡ Some f
-    → schedule_of finished ((bytes ++ piece) ++ rest) ≡ with_runs (open_schedule bytes).runs (faulty f)
-fault_stays old bytes piece rest f finished has is = grind (arith, append_assoc)
-
 fault_open : (old : Progress) (bytes piece : List ℕ) (f : ScheduleFault) → HasRead old bytes → old.fault ≡ Some f
     → open_schedule (bytes ++ piece) ≡ with_runs (open_schedule bytes).runs (faulty f)
 fault_open old bytes piece f has is = grind arith

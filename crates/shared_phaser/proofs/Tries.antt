@@ -22,13 +22,6 @@ pub opens : (p : Policy) (c : Call) (f g : Flat) (a : Answer) → effect p c f �
 opens p c f g a is = grind arith
 
 -- and leaves it not turned
-same_flat : (f g : Flat) (x a : Answer) → Makes f x ≡ Makes g a → f.turned ≡ false → g.turned ≡ false
-same_flat f g x a is un = let same : f ≡ g = cc is in sym (ap (λ (h : Flat). h.turned) same) ∙ un
-
-joins_unturned : (z : Bool) (f g : Flat) (x a : Answer) → (if z then Tells x else Makes f x) ≡ Makes g a → f.turned ≡ false → g.turned ≡ false
-joins_unturned true f g x a is un = absurd (cc is)
-joins_unturned false f g x a is un = same_flat f g x a is un
-
 awaits_nothing : (b e : Bool) (g : Flat) (x y a : Answer) → (if b then Tells x else (if e then Waits else Tells y)) ≡ Makes g a → ⊥
 awaits_nothing true e g x y a is = cc is
 awaits_nothing false e g x y a is = grind arith

@@ -9,9 +9,6 @@ use Rattle.thread_machine.specs.Step.{refusal_of}
 use Rattle.thread_machine.specs.Execution.{Execution, execution, execution_by, extended, extended_by}
 
 -- an event before an execution
-abbrev after_event : Event → Execution → Execution
-after_event event rest = record { world = rest.world; events = event ∷ rest.events; refusal = rest.refusal }
-
 execution-single : (refusal : Option StepFault) (world : World) (choice : Choice)
     → execution_by refusal world choice (λ after. execution after [])
     ≡ extended_by None refusal (execution world []) choice

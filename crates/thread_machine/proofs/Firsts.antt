@@ -9,15 +9,6 @@ use Rattle.machine_scene.specs.Scene.{first_scene}
 use Rattle.thread_machine.specs.World.{World, IsFirstOf, first_world}
 
 -- the first world of this program, with these phasers
-abbrev world_by : ℕ → Program → List PhaserState → World
-world_by limit program phasers = record {
-  program = without_words program;
-  limit = limit;
-  scene = record (first_scene program) { phasers = phasers };
-  choices = 0;
-  steps = 0;
-}
-
 pub is_first : (image : Image) (program : Program) (limit : ℕ) → IsProgramOf image program
     → IsFirstOf image limit (first_world program limit)
 is_first image program limit is = grind (arith, is_declared, declared_by)

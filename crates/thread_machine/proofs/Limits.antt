@@ -12,9 +12,6 @@ use Rattle.thread_machine.specs.Execution.{execution, execution_by}
 use Rattle.thread_machine.specs.Limit.{with_limit, under_limit}
 
 -- a choice played in a world with another limit
-abbrev played_under : ℕ → Played → Played
-played_under limit play = record { world = with_limit limit play.world; event = play.event }
-
 accepted_too : (limit : ℕ) (world : World) (choice : Choice) → world.limit ≤ limit → refusal_of world choice ≡ None
     → refusal_of (with_limit limit world) choice ≡ None
 accepted_too limit world choice higher accepted = grind (arith, higher, accepted, nat_tests)

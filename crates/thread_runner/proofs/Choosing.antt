@@ -36,9 +36,6 @@ pub chooser : (world : World) → ending_of world ≡ None → Chooser world
 chooser world none = grind (arith, by_turn, lowest)
 
 -- a worker that waits
-not_over_by : (ending : Option Ending) → is_some ending ≡ false → ending ≡ None
-not_over_by ending isnt = grind arith
-
 waits_not_over : (broken : Option Break) (world : World) (t : ℕ) → waits broken world t ≡ true → ending_of world ≡ None
 waits_not_over broken world t wait = grind arith
 

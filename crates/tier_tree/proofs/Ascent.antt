@@ -211,12 +211,6 @@ turned_there line words k word leave leaves top phasers here room last so_far is
     (sym (first_climbed leaves (drop k line) [] (get_or line k 0) phasers (Turns (record_of word)) alone is))
 
 -- a party that stays leaves no phaser without parties
-abbrev pub Stays : Arrival → Type 0
-Stays (Counts g) = Unit {0}
-Stays (Turns g) = (g.parties == 0) ≡ false
-Stays (ComesLate view) = Unit {0}
-Stays IsUnregistered = Unit {0}
-
 pub stays : (f g : Flat) (leave : Bool) → Turns g ≡ arrive leave f → leave ≡ false → (g.parties == 0) ≡ false
 stays f g leave is not = grind arith
 

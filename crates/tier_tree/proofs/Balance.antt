@@ -223,11 +223,6 @@ child_by : (c : Climb) (id first less : ℕ) (last : Flat) (phasers mid : List P
     → Changes first 0 less 0 1 phasers (with_child id last c mid).phasers
 child_by c id first less last phasers mid ok changes = grind arith
 
-abbrev second_of : List ℕ → ℕ
-second_of [] = 0
-second_of (x ∷ []) = 0
-second_of (x ∷ y ∷ rest) = y
-
 abbrev others_of : List ℕ → List ℕ
 others_of [] = []
 others_of (x ∷ rest) = rest

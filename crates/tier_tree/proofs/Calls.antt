@@ -34,12 +34,6 @@ use Rattle.tier_tree.proofs.Changed.{there_shown}
 use Rattle.tier_tree.proofs.Kept.{keeps_places, registration-ends, arrival-ends, force-ends}
 use Rattle.tier_tree.proofs.Turning.{IsFull, turning}
 
--- a counted registration of somebody joins all along the line
-pub joined_all : (ps after : List PhaserState) (id count : ℕ) (line : List ℕ) (answer : Registered) (phase : ℤ)
-    → answer ≡ registration id count ps → answer ≡ registered_answer.At phase → 0 < count → line ≡ (phaser_at ps id).line
-    → after ≡ joined (joins_along line count ps) ps → after ≡ after_registration id count ps
-joined_all ps after id count line answer phase is at some line_is joins_is = grind (arith, nat_tests)
-
 -- a slice of all phasers, written back
 pub written_back : (P : List Stored → List Stored → Type 0) (items given now written : List Stored) (n : ℕ) → given ≡ items → items ≡ now
     → length given ≡ n → length written ≡ length given → P given written → P now (take n (written ++ drop (length written) items))

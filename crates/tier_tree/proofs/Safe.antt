@@ -28,15 +28,6 @@ HasAll flat = (flat.turned ≡ true) ⊎ (is_empty flat ≡ true)
 not_awaited : (flat : Flat) → is_awaited flat ≡ false → HasAll flat
 not_awaited flat none = grind arith
 
--- nobody is missing where all have arrived or nobody is registered
-none_missing : (arrived parties : ℕ) → arrived ≡ parties → parties - arrived ≡ 0
-none_missing arrived parties all = omega (arith, all)
-
-if_ended : (ended turned : Bool) (parties : ℕ) → (if ended then false else (if turned then false else parties == 0)) ≡ true
-    → (ended ≡ false) × (parties ≡ 0)
-if_ended true turned parties empty = absurd (cc)
-if_ended false _ parties empty = grind (arith, nat_tests)
-
 -- such a phaser isn't terminated, and waits for nobody
 pub all_there : (id : ℕ) (phasers : List PhaserState) → IsSteady id phasers → HasAll (flat_at phasers id)
     → ((flat_at phasers id).ended ≡ false) × (unarrived_of (flat_at phasers id) ≡ 0)

@@ -24,12 +24,6 @@ IsTurned f = (f.turned ≡ true) × (f.ended ≡ false)
 abbrev pub IsOpen : Flat → Type 0
 IsOpen f = (f.ended ≡ false) × ((f.arrived == f.parties) ≡ false)
 
-abbrev pub TurnsAll : Flat → Arrival → Type 0
-TurnsAll f (Counts g) = Unit {0}
-TurnsAll f (Turns g) = IsTurned g × IsOpen f
-TurnsAll f (ComesLate view) = Unit {0}
-TurnsAll f IsUnregistered = Unit {0}
-
 -- the root is turned now, and waited for somebody before
 abbrev pub TurnsIt : Flat → Flat → Type 0
 TurnsIt f g = IsTurned g × IsOpen f

@@ -18,14 +18,6 @@ Names (Token run) = HasName run
 Names (Faulty fault) = Unit {0}
 Names (Unfinished fault) = Unit {0}
 
-names-by_thread : (at : ℕ) (choice : Choice) (count : ℕ) (rest : List ℕ) → choice.thread ≤ 63
-    → Names (reading_by_thread at choice count rest)
-names-by_thread at choice count rest there = grind arith
-
--- a number that isn't above the largest
-names-after_letter : (at : ℕ) (expiry : Bool) (part : List ℕ) → Names (reading_after_letter at expiry part)
-names-after_letter at expiry part = grind arith
-
 -- a piece and what comes after it
 named-with_piece : (at : ℕ) (piece : List ℕ) (rest : Schedule) → All HasName rest.runs
     → All HasName (schedule_with_piece at piece rest).runs

@@ -197,10 +197,6 @@ text-lines : (now : Comparison) (more : Bool) (lines : List (List ℕ)) → now.
 text-lines now true lines state more missed = rw (state, more) refl
 text-lines now false lines state more missed = rw (state, more, missed refl) refl
 
-choices-line : (choice : Choice) (line : List ℕ) (lines : List (List ℕ)) → is_state_line line ≡ false → choice_in line ≡ Some choice
-    → choices_in (line ∷ lines) ≡ choice ∷ choices_in lines
-choices-line choice line lines state names = rw (state, names) refl
-
 pub text-choice : (now : Comparison) (choice : Choice) (line : List ℕ) (lines : List (List ℕ)) → now.is_state ≡ false
     → now.accepted ≡ true → is_state_line line ≡ false → choice_in line ≡ Some choice
     → text_left now (line ∷ lines) ≡ trace_of (world_of now.machine) (choice ∷ choices_in lines)

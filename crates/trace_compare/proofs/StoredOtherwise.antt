@@ -19,26 +19,6 @@ use Rattle.thread_machine.specs.Ready.{outcome_of_choice, some_ready}
 abbrev pub stored_in : List Stored → Program → Program
 stored_in phasers program = record program { phasers = phasers }
 
-arrival-same : (phasers : List Stored) (manner : Manner) (p t : ℕ) (program : Program) (scene : Scene)
-    → outcome_of_arrival manner p t (stored_in phasers program) scene ≡ outcome_of_arrival manner p t program scene
-arrival-same phasers manner p t program scene = grind arith
-
-phaser_row-same : (phasers : List Stored) (row : Row) (t : ℕ) (program : Program) (scene : Scene)
-    → outcome_of_phaser_row row t (stored_in phasers program) scene ≡ outcome_of_phaser_row row t program scene
-phaser_row-same phasers row t program scene = grind arith
-
-entered-same : (phasers : List Stored) (answer : Entered) (into : Reg) (b t : ℕ) (program : Program) (scene : Scene)
-    → outcome_of_entered answer into b t (stored_in phasers program) scene ≡ outcome_of_entered answer into b t program scene
-entered-same phasers answer into b t program scene = grind arith
-
-barrier_row-same : (phasers : List Stored) (row : Row) (t : ℕ) (program : Program) (scene : Scene)
-    → outcome_of_barrier_row row t (stored_in phasers program) scene ≡ outcome_of_barrier_row row t program scene
-barrier_row-same phasers row t program scene = grind arith
-
-call_row-same : (phasers : List Stored) (row : Row) (t : ℕ) (program : Program) (scene : Scene)
-    → outcome_of_call_row row t (stored_in phasers program) scene ≡ outcome_of_call_row row t program scene
-call_row-same phasers row t program scene = grind arith
-
 turn_by-same : (phasers : List Stored) (now : Status) (row : Row) (t : ℕ) (program : Program) (scene : Scene)
     → outcome_in now row t (stored_in phasers program) scene ≡ outcome_in now row t program scene
 turn_by-same phasers now row t program scene = grind arith

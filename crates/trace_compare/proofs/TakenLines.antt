@@ -142,9 +142,6 @@ come-verdict first now next x y turns a b c ended line v come judged gone (got, 
         )
 
 -- and no more was read than it needs
-stands-far : (n : ℕ) (v : Verdict) (a c : Option (List ℕ)) → StandsFrom n v → IsReadUpTo n a c → IsReadNoFurther a c v
-stands-far n v a c stands far = grind (arith, read-more)
-
 pub come-far : (now next : Comparison) (y : Lines) (a c : Option (List ℕ)) (ended : LineEnded) (line : List ℕ) (v : Verdict)
     → HasJudged now next ended line (Some v) → IsReadUpTo now.number a c → HasCome ended line (prepend_known y.held c)
     → (ended ≡ how.AtEnd → y.held ≡ []) → IsReadNoFurther a c v

@@ -226,13 +226,6 @@ told-all (Ok v) image now last machine before after begins machine_is start numb
 told-all (Err e) image now last machine before after begins machine_is start number_is p = p
 
 -- the verdict alone
-told_verdict : (v : Verdict) (now : Comparison) → (told_by v now).verdict ≡ v
-told_verdict v now = grind arith
-
-verdict-told : (world : World) (bytes : List ℕ) (left : Option (List ℕ)) (told : Told) (v : Verdict) → told.verdict ≡ v
-    → HasTold world bytes left told → HasVerdict world bytes left v
-verdict-told world bytes left told v same given = grind arith
-
 pub compared : {E : Type 0} (result : Result Verdict E) (image : Image) (last : Comparison) (before after : Option (List ℕ))
     → IfOk result (λ v. HasShown image before after (told_by v last)) → IfOk result (λ v. HasCompared image before after v)
 compared result image last before after p = grind arith

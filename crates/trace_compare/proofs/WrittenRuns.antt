@@ -45,11 +45,6 @@ closed-last [] last = append-nil (token_of last)
 closed-last (run ∷ []) last = grind (arith, append_assoc, closed-last [] last)
 closed-last (run ∷ next ∷ runs) last = grind (arith, append_assoc, closed-last (next ∷ runs) last)
 
--- the first choice
-pub take-first : (start new : Option (List ℕ)) (choices : List Choice) (choice : Choice) (run : Run) → choice.thread ≤ 63
-    → run ≡ run_of choice 1 → HasWritten start None new choices → HasWritten start (Some run) new (choices ++ choice ∷ [])
-take-first start new choices choice run thread is given = search (rules, All-nil, spelled)
-
 -- the last choice once more
 pub take-more : (start new : Option (List ℕ)) (choices : List Choice) (choice : Choice) (run more : Run) → choice.thread ≤ 63
     → run.choice ≡ choice → run.times < 1000000000 → more ≡ run_of choice (run.times + 1) → HasWritten start (Some run) new choices

@@ -109,10 +109,6 @@ pub fault_told : (told : Result (Unit {0}) ScheduleFault) (fault : ScheduleFault
 fault_told told fault reader is err = subst (λ (t : Result (Unit {0}) ScheduleFault). IfErr t (λ f. reader.fault ≡ Some f)) is err
 
 -- a fault that was answered
-fault_by : (fault : Option ScheduleFault) (e : ScheduleFault)
-    → ◌≡◌ {A = Result (Unit {0}) ScheduleFault} (Err e) (answer_by fault) → fault ≡ Some e
-fault_by fault e is = grind arith
-
 pub end_with_fault : (told : Result (Unit {0}) ScheduleFault) (schedule : Schedule) (fault : ScheduleFault) → told ≡ Err fault
     → told ≢ Err Memory → (told ≡ Err Memory) ⊎ (told ≡ answer_of schedule) → schedule.fault ≡ Some fault
 end_with_fault told schedule fault is enough given = grind arith

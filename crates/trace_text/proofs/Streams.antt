@@ -53,11 +53,6 @@ pub has_answered : {T E : Type 0} (x : T) (before after : Bool) (result : Result
 has_answered x before false result is fails = refl
 has_answered x before true result is fails = grind arith
 
--- a choice was refused, where not all were accepted
-refused_where : (all : Bool) (refusal : Option StepFault) → (IsTrue all ↔ (refusal ≡ None)) → not all ≡ is_some refusal
-refused_where true refusal answer = ap is_some (sym (answer.0 refl))
-refused_where false refusal answer = grind arith
-
 -- what is told of a run's end, beside the world that it leaves
 abbrev pub TellsEnd : World → Bool → RunEnd → Type 0
 TellsEnd last all end =

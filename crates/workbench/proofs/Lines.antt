@@ -12,13 +12,6 @@ pub pushed-after : {X E : Type 0} (last : Result X E) (a b c : Option (List ℕ)
     → Appends a b front → OnOk last (Appends b c rest) → OnOk last (Appends a c (front ++ rest))
 pushed-after last a b c front rest first second = grind (arith, Appends-trans)
 
--- the four pieces of a refusal's line, of which the last may fail
-pub refusal_line-pushed : {X E : Type 0} (last : Result X E) (a b c d e : Option (List ℕ))
-    (word : List ℕ) (kind : Option ℕ) (number : ℕ) (place : List ℕ) → kind ≡ Some number
-    → Appends a b word → Appends b c (decimal number) → Appends c d place
-    → OnOk last (Appends d e (codes "\n")) → OnOk last (Appends a e (refusal_line word kind place))
-refusal_line-pushed last a b c d e word kind number place is first second third fourth = grind (arith, Appends-trans)
-
 -- the word of a refusal that is known
 pub same_word : {X E : Type 0} (last : Result X E) (a b : Option (List ℕ)) (f known : Fault) → f ≡ known
     → OnOk last (Appends a b (word_of known)) → OnOk last (Appends a b (word_of f))
