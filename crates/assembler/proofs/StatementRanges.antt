@@ -1,5 +1,5 @@
 -- What a statement adds to each list of an image is in its ranges.
-use Rattle.std.proofs.Common.{ℕ, suc, ◌<◌, ◌≤◌, ℤ, pos, FitsSigned, List, [], ◌∷◌, Option, Some, None, sym, subst, arith, rules}
+use Rattle.std.proofs.Common.{ℕ, suc, ◌<◌, ◌≤◌, pos, FitsSigned, List, [], ◌∷◌, Option, Some, None, sym, subst, arith, rules}
 use Rattle.std.specs.Prelude.{IfSome}
 use Rattle.std.specs.Int.{w32}
 use Rattle.std.specs.List.{AllByRecursion}
@@ -22,7 +22,7 @@ use Rattle.line_reader.specs.declared.statement.Statement.{Statement}
 use Rattle.line_reader.specs.declared.statement.Statement.TheVariants as statement
 use Rattle.line_reader.specs.declared.statement.Line.{Line}
 use Rattle.line_reader.specs.Symbols.{Name}
-use Rattle.line_reader.specs.Spelling.{Spell, SpellOperands, SpellPolicy, SpellRow, SpellsNumber, SpellsReference, greatest_int, greatest_number, least_int, operand_in}
+use Rattle.line_reader.specs.Spelling.{Spell, SpellOperands, SpellPolicy, SpellRow, SpellsNumber, SpellsReference, greatest_number, operand_in}
 use Rattle.assembler.specs.Statements.{count, most, number_named}
 use Rattle.assembler.specs.Meaning.{barriers_in, referent_or_0, number_or_0, operands_of, phasers_in, policy_of, row_of, rows_in, threads_in, with_operand}
 use Rattle.assembler.proofs.Counts.{AreFew, number_within, phaser_below}

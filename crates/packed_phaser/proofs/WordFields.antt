@@ -1,6 +1,6 @@
 -- The fields of a word by themselves.
-use Rattle.std.proofs.Common.{◌≡◌, ℕ, ◌+◌, ◌-◌, ◌*◌, ◌/◌, ◌%◌, ◌<◌, ◌≤◌, ◌∙◌, Bool, true, false, ap, sym, subst, arith, refl, rules}
-use Rattle.std.specs.Prelude.{◌==◌, ◌&&◌, not, max, if◌then◌else◌}
+use Rattle.std.proofs.Common.{◌≡◌, ℕ, ◌+◌, ◌-◌, ◌*◌, ◌<◌, ◌≤◌, Bool, true, false, arith}
+use Rattle.std.specs.Prelude.{max, if◌then◌else◌}
 use Rattle.std.proofs.lemmas.Bool.Decides.{nat_tests}
 use Rattle.packed_phaser.specs.declared.word.Fields.{Fields}
 use Rattle.packed_phaser.specs.Flat.{Flat, IsFlat}

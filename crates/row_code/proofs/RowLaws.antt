@@ -1,7 +1,7 @@
 -- What a row's bytes lead back to.
-use Rattle.std.proofs.Common.{◌≡◌, ℕ, zero, suc, ◌<◌, ◌^◌, ℤ, pos, ◌<ℤ◌, FitsSigned, true, false, cond, List, [], ◌∷◌, get_or, bytes_eq, Some, None, refl, sym, subst, arith, rules}
+use Rattle.std.proofs.Common.{◌≡◌, ℕ, zero, suc, ◌<◌, ℤ, pos, ◌<ℤ◌, FitsSigned, true, false, cond, List, [], ◌∷◌, get_or, bytes_eq, Some, None, refl, sym, subst, arith, rules}
 use Rattle.std.specs.List.{AllByRecursion}
-use Rattle.std.specs.Int.{w32, cast_unsigned}
+use Rattle.std.specs.Int.{w32}
 use Rattle.std.proofs.lemmas.Int.{ints}
 use Rattle.std.proofs.lemmas.Bool.Decides.{nat_tests}
 use Rattle.instruction_table.specs.declared.row.Row.{Row}

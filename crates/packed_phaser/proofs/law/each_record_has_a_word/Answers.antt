@@ -1,4 +1,4 @@
-use Rattle.std.proofs.Common.{◌∙◌, ◌≤◌, ap, subst, sym, arith, rules}
+use Rattle.std.proofs.Common.{◌∙◌, ◌≤◌, ap, subst, sym}
 use Rattle.std.specs.Prelude.{max}
 use Rattle.packed_phaser.specs.declared.word.Fields.{Fields}
 use Rattle.packed_phaser.specs.Word.{record_of_fields}

@@ -1,4 +1,3 @@
-use Rattle.std.proofs.Common.{arith, rules}
 use Rattle.packed_phaser.specs.Word.{fields_of}
 use Rattle.packed_phaser.proofs.WordFields.{Fit-fields_of, IsFlat-record_of_fields}
 use Rattle.packed_phaser.proofs.law.each_word_has_a_record.Goals as goal

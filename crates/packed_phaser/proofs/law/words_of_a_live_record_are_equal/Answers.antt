@@ -1,4 +1,4 @@
-use Rattle.std.proofs.Common.{◌∙◌, ap, sym, arith, rules}
+use Rattle.std.proofs.Common.{◌∙◌, ap, sym}
 use Rattle.packed_phaser.specs.Word.{fields_of}
 use Rattle.packed_phaser.proofs.WordFields.{word_of, word_of-fields_of, fields_from_record}
 use Rattle.packed_phaser.proofs.law.words_of_a_live_record_are_equal.Goals as goal

@@ -1,4 +1,4 @@
-use Rattle.std.proofs.Common.{◌∙◌, ℕ, Bool, true, false, ap, sym, subst, ◌-◌, ◌<◌, arith, rules}
+use Rattle.std.proofs.Common.{◌∙◌, ℕ, Bool, true, false, ap, sym, subst, ◌-◌, ◌<◌}
 use Rattle.packed_phaser.specs.Word.{fields_of}
 use Rattle.packed_phaser.proofs.WordFields.{fewer, party_there, fields_of-fewer, IsWord-fewer}
 use Rattle.packed_phaser.proofs.word.Word.without_one.Goals as goal
