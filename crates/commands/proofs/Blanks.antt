@@ -1,5 +1,5 @@
 -- A blank behind a schedule.
-use Rattle.std.proofs.Common.{◌≡◌, ◌∙◌, ◌+◌, ◌<◌, ℕ, Bool, true, false, List, [], ◌∷◌, ◌++◌, length, refl, ap, sym, arith}
+use Rattle.std.proofs.Common.{◌≡◌, ◌∙◌, ◌+◌, ◌<◌, ℕ, Bool, true, false, List, [], ◌∷◌, ◌++◌, length, refl, ap, arith}
 use Rattle.std.specs.List.{slice_split, onto_first}
 use Rattle.std.proofs.lemmas.List.Splits.{slice_split-cons_no, slice_split-cons_yes, length-slice_split}
 use Rattle.schedule_reader.specs.Schedule.{finished_schedule, is_blank, schedule_in, schedule_with_piece}
@@ -29,8 +29,7 @@ split-piece (x ∷ text) = split-piece_by x text (is_blank x) refl (split-piece 
 -- an empty piece behind them is nothing
 same-pieces : (pieces : List (List ℕ)) (at : ℕ) → schedule_in true at (with_piece pieces) ≡ schedule_in true at pieces
 same-pieces (piece ∷ next ∷ []) at = ap (schedule_with_piece at piece) (same-pieces (next ∷ []) (at + length piece + 1))
-same-pieces (piece ∷ next ∷ more ∷ pieces) at =
-    ap (schedule_with_piece at piece) (same-pieces (next ∷ more ∷ pieces) (at + length piece + 1))
+same-pieces (piece ∷ next ∷ more ∷ pieces) at = grind (arith, same-pieces (next ∷ more ∷ pieces) (at + length piece + 1))
 same-pieces pieces at = grind arith
 
 pub same-schedule : (text : List ℕ) → finished_schedule (text ++ 10 ∷ []) ≡ finished_schedule text

@@ -1,5 +1,5 @@
 -- What one run more makes of the outcomes.
-use Rattle.std.proofs.Common.{◌≡◌, ◌∙◌, ◌+◌, ◌≤◌, ◌<◌, ℕ, Bool, true, false, List, [], ◌∷◌, ◌++◌, Option, Some, None, length, refl, ap, sym, arith}
+use Rattle.std.proofs.Common.{◌≡◌, ◌+◌, ◌≤◌, ◌<◌, ℕ, Bool, true, false, List, [], ◌∷◌, ◌++◌, Option, Some, None, length, refl, ap, sym, arith}
 use Rattle.std.specs.Prelude.{IfSome, IsSome, bytes_eq, cond, filter, is_some, option_map}
 use Rattle.std.specs.List.{IsDistinct}
 use Rattle.std.specs.Cmp.{IsStrictWeakOrder}
@@ -66,8 +66,7 @@ few-step false run runs kept few = omega (arith, few)
 
 few-of : (runs : List Ended) (state : List ℕ) → length (filter (ends_in state) runs) ≤ length runs
 few-of [] state = omega arith
-few-of (run ∷ runs) state =
-    let is = few-step (ends_in state run) run runs (filter (ends_in state) runs) (few-of runs state) in omega (arith, is)
+few-of (run ∷ runs) state = grind (arith, few-step, few-of runs state)
 
 abbrev times_in : Option Told → ℕ
 times_in None = 0

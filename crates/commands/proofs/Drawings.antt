@@ -1,5 +1,5 @@
 -- The drawing of a file's program under a schedule.
-use Rattle.std.proofs.Common.{◌≡◌, ◌∙◌, ◌≤◌, inl, inr, ℕ, List, length, ap, arith}
+use Rattle.std.proofs.Common.{◌≡◌, ◌≤◌, ℕ, List, length, arith}
 use Rattle.assembler.specs.Symbols.{SymbolTable}
 use Rattle.commands.specs.Drawing.{IsDrawingIn, IsNamedProgram}
 use Rattle.row_code.specs.declared.image.Image.{Image}
@@ -13,8 +13,7 @@ use Rattle.workbench.specs.ProgramFile.{IsProgramFile}
 -- the program of a file that has names, and of one that has none
 pub named_file : (file : List ℕ) (image : Image) (symbols : SymbolTable) → IsNamedProgram file image symbols
     → IsProgramFile file image
-named_file file image symbols (inl (is, ((same, fits), none))) = inl (is, same, fits)
-named_file file image symbols (inr (is, (stands, names))) = inr (is, stands)
+named_file file image symbols given = grind arith
 
 pub drawing_in_file : (width : ℕ) (program schedule text : List ℕ) (image : Image) (symbols : SymbolTable) (world : World)
     (choices drawn : List Choice) → IsNamedProgram program image symbols → Begins image world → AreChoicesOf schedule choices

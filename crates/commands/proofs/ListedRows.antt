@@ -1,12 +1,11 @@
 -- Rows, and the lines that say them.
-use Rattle.std.proofs.Common.{◌≡◌, ◌∙◌, inl, inr, ℕ, zero, suc, ◌+◌, ◌-◌, List, [], ◌∷◌, ◌++◌, drop, Option, Some, None, Result, Ok, Err, slice_index_or, refl, sym, ap, subst, arith}
+use Rattle.std.proofs.Common.{◌≡◌, ◌∙◌, inl, inr, ℕ, zero, suc, ◌+◌, List, [], ◌∷◌, ◌++◌, drop, Option, Some, Result, Ok, slice_index_or, refl, sym, ap, subst, arith}
 use Rattle.std.specs.List.{flat_map, slice_split}
 use Rattle.row_code.specs.Answers.{◌>>=◌}
 use Rattle.row_code.specs.declared.image.Image.{Image}
 use Rattle.line_reader.specs.declared.asm_fault.AsmFault.{AsmFault}
 use Rattle.line_reader.specs.declared.statement.Line.{Line}
 use Rattle.line_reader.specs.declared.statement.Statement.{Statement}
-use Rattle.line_reader.specs.declared.statement.Statement.TheVariants as statement
 use Rattle.line_reader.specs.Spelling.{Says}
 use Rattle.line_reader.specs.Symbols.{Name}
 use Rattle.line_reader.specs.Words.{is_line_end, lines_of, without_empty_last}
@@ -19,8 +18,7 @@ use Rattle.assembler.specs.Symbols.{SymbolTable, symbols_in, symbols_of}
 use Rattle.assembler.proofs.FirstPass.{one_less}
 use Rattle.assembler.proofs.ReadLines.{lines_take, stands_for-assembled}
 use Rattle.assembler.proofs.SpelledLines.{LineSays, line_again}
-use Rattle.row_code.specs.Reading.{image_of as image_in}
-use Rattle.commands.specs.Rows.{AreSaid, IsRowListing, IsTextListing, image_listing, line_at, row_lines, text_listing, text_row_words}
+use Rattle.commands.specs.Rows.{AreSaid, IsRowListing, IsTextListing, line_at, row_lines, text_row_words}
 
 -- ---- the lines of a text, with an empty one behind the last line end
 
@@ -37,9 +35,7 @@ same_line ((x ∷ xs) ∷ next ∷ pieces) (suc i) = same_line (next ∷ pieces)
 
 same_rows : (text : List ℕ) (n : ℕ) (numbers : List ℕ)
     → numbered (text_row_words (slice_split is_line_end text)) n numbers ≡ numbered (text_row_words (lines_of text)) n numbers
-same_rows text n [] = refl
-same_rows text n (number ∷ numbers) =
-    rw (same_line (slice_split is_line_end text) (number - 1), same_rows text (n + 1) numbers) refl
+same_rows text n numbers = grind (arith, same_line)
 
 pub rows_by_pieces : (text : List ℕ) (pieces : List (List ℕ)) (numbers none listing : List ℕ)
     → pieces ≡ slice_split is_line_end text → none ≡ []
@@ -64,8 +60,7 @@ unfolding assembled
 image_read text image lines stands read =
     let all : (lines_read 1 [] (lines_of text) >>= (λ ls. looked_up ls (first_unknown ls))) ≡ Ok image =
     stands_for-assembled text image stands in
-    image_there lines (first_unknown lines) image
-    (ap (λ (r : Result (List (Line Name)) AsmFault). r >>= (λ ls. looked_up ls (first_unknown ls))) (sym read) ∙ all)
+    grind (arith, image_there)
 
 table_rows : (lines : List (Line Name)) (table : SymbolTable) (r : Result SymbolTable AsmFault) → r ≡ Ok (symbols_of lines)
     → r ≡ Ok table → table.rows ≡ row_lines lines
@@ -155,7 +150,4 @@ same_lines n (text ∷ texts) a b (inr s) (inr t) =
     (same_lines (n + 1) texts s.1 t.1 s.4 t.4)
 
 pub one_listing : (file a b : List ℕ) → IsRowListing file a → IsRowListing file b → a ≡ b
-one_listing file a b (inl (is, (i, (same, told)))) (inl (also, (j, (like, said)))) = grind (arith, alike)
-one_listing file a b (inl s) (inr t) = absurd (cc (s.0, t.0))
-one_listing file a b (inr s) (inl t) = absurd (cc (s.0, t.0))
-one_listing file a b (inr (is, (lines, (say, stands, told)))) (inr (also, (others, (speak, means, said)))) = grind (arith, same_lines)
+one_listing file a b given given_too = grind (arith, alike, same_lines)

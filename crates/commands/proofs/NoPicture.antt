@@ -1,5 +1,5 @@
 -- Why there is no picture, by the fault that was found in the program or the schedule.
-use Rattle.std.proofs.Common.{◌≡◌, ◌∙◌, ◌⊎◌, inl, inr, refl, ℕ, ◌<◌, List, length, Some, None, Result, Err, ap, sym, subst, arith}
+use Rattle.std.proofs.Common.{◌≡◌, ◌⊎◌, ℕ, ◌<◌, List, length, Some, None, Result, Err, arith}
 use Rattle.loader.specs.declared.load_fault.LoadFault.{LoadFault}
 use Rattle.workbench.specs.declared.fault.Fault.{Fault}
 use Rattle.workbench.specs.declared.fault.PictureKind.{PictureKind}

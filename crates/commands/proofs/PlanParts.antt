@@ -3,7 +3,6 @@ use Rattle.std.proofs.Common.{◌≡◌, ◌∙◌, ◌+◌, ◌≤◌, ◌++◌
 use Rattle.std.specs.Prelude.{Option, Result, Ok, Err}
 use Rattle.std.specs.Borrow.{Bor}
 use Rattle.std.specs.Io.KnownBytes.{Appends}
-use Rattle.std.specs.List.{range_with_len}
 use Rattle.std.proofs.lemmas.List.{length-map, map-append}
 use Rattle.std.proofs.lemmas.List.FromFn.{length-map-range_with_len, map-range_with_len_more}
 use Rattle.assembler.specs.Symbols.{SymbolTable}
@@ -20,11 +19,9 @@ use Rattle.plans.specs.Tree.{IsPlan}
 use Rattle.plans.specs.declared.fault.PlanFault.{PlanFault}
 use Rattle.plans.specs.declared.word.Word.{Word}
 use Rattle.plans.specs.Planned.{AreRuns, IsPlanOf, Shows}
-use Rattle.plans.specs.Play.{plays}
-use Rattle.plans.specs.Progress.{Progress, begun}
+use Rattle.plans.specs.Progress.{Progress}
 use Rattle.plans.specs.declared.planned.Planned.{Planned}
 use Rattle.row_code.specs.declared.image.Image.{Image}
-use Rattle.workbench.specs.Fault.{status_of}
 use Rattle.workbench.specs.Input.{GivesAll}
 use Rattle.workbench.specs.declared.fault.Fault.{Fault}
 use Rattle.workbench.specs.declared.fault.Fault.TheVariants as fault
@@ -62,12 +59,7 @@ pub plan_played : (file plan : List ℕ) (program : Program) (planned : Planned)
     → IsLoaded file program names → given ≡ names → words_in_plan (map name_seen given) plan ≡ Ok words → IsPlan words
     → taken ≡ words → IsPlanOf program taken planned
     → (progress : Progress) × (Plays file plan progress × Shows planned progress)
-plan_played file plan program planned names given words taken (image, (has, of)) same read (steps, spelled) also shows =
-    let whole = subst (λ (ns : List (Bor (List ℕ))). words_in_plan (map name_seen ns) plan ≡ Ok words) same read in
-    let written = subst (λ (ws : List Word). words_in_plan (map name_seen names) plan ≡ Ok ws) (sym spelled) whole in (
-      plays steps (begun program),
-      ((image, (map name_seen names, (program, (steps, (has, of, written, refl))))), shows steps (spelled ∙ sym also)),
-    )
+plan_played file plan program planned names given words taken given_too same read given_too_too also shows = grind arith
 
 -- there is no schedule of what was read
 pub none_planned : (reason : Unplanned) (bytes steps program taken : List ℕ) (fb fa pb pa : Option (List ℕ))

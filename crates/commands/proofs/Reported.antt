@@ -1,5 +1,5 @@
 -- What was written of the runs of an image's program.
-use Rattle.std.proofs.Common.{◌≡◌, ◌⊎◌, ℕ, Bool, IsTrue, List, ap, inl, inr, subst, sym, arith}
+use Rattle.std.proofs.Common.{◌≡◌, ◌⊎◌, ℕ, Bool, IsTrue, List, arith}
 use Rattle.std.specs.Prelude.{Option, None, Result, Ok, Err, IfErr, IfOk, OnOk}
 use Rattle.std.specs.Io.KnownBytes.{Appends}
 use Rattle.row_code.specs.declared.image.Image.{Image}
@@ -12,7 +12,7 @@ use Rattle.commands.specs.declared.end_state.EndState.{EndState}
 use Rattle.commands.specs.declared.outcomes.Outcome.{Outcome}
 use Rattle.workbench.specs.declared.done.Done.{Done}
 use Rattle.commands.specs.Outcomes.{IsMostFrequentFirst, report, done_by}
-use Rattle.commands.specs.Runs.{AreOutcomesFrom, Reports, StopsReporting}
+use Rattle.commands.specs.Runs.{AreOutcomesFrom, Reports}
 use Rattle.workbench.specs.declared.fault.Fault.{Fault}
 use Rattle.workbench.specs.declared.fault.Fault.TheVariants as fault
 use Rattle.workbench.specs.ProgramFile.{IsProgramFile}

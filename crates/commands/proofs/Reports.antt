@@ -1,5 +1,5 @@
 -- Outcomes one behind the other.
-use Rattle.std.proofs.Common.{◌≡◌, ◌∙◌, ◌+◌, ◌<◌, ◌&&◌, ℕ, Bool, List, ◌∷◌, ◌++◌, Some, length, get_or, drop, ap, append_assoc, append-nil}
+use Rattle.std.proofs.Common.{◌≡◌, ◌∙◌, ◌+◌, ◌<◌, ◌&&◌, ℕ, Bool, List, ◌∷◌, ◌++◌, Some, length, get_or, drop, ap, append_assoc, append-nil, arith, rules}
 use Rattle.std.specs.Prelude.{slice_get}
 use Rattle.std.specs.List.{flat_map, list_all}
 use Rattle.std.proofs.lemmas.List.{drop_more}

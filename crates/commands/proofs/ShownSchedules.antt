@@ -1,10 +1,9 @@
 -- A schedule that is shown with a token for choices that repeat.
-use Rattle.std.proofs.Common.{◌≡◌, ℕ, List, sym, subst, arith}
+use Rattle.std.proofs.Common.{◌≡◌, ℕ, List, arith}
 use Rattle.std.specs.Prelude.{None}
 use Rattle.schedule_reader.specs.Schedule.{choices_of, finished_schedule}
 use Rattle.thread_machine.specs.World.{World}
-use Rattle.thread_machine.specs.declared.choice.Choice.{Choice}
-use Rattle.thread_runner.specs.Replay.{IsReplay, IsReplayOfText}
+use Rattle.thread_runner.specs.Replay.{IsReplayOfText}
 
 -- a schedule of the same choices is of the same run
 pub same_replay : (first : World) (text shown : List ℕ) (world : World) → (finished_schedule shown).fault ≡ None

@@ -1,5 +1,5 @@
 -- What is told of a trace's choices.
-use Rattle.std.proofs.Common.{◌≡◌, ℕ, true, false, List, [], ◌++◌, Some, None, append-nil, refl, subst, sym, rules}
+use Rattle.std.proofs.Common.{◌≡◌, ℕ, true, false, List, ◌++◌, Some, None, refl, subst, rules}
 use Rattle.std.specs.Prelude.{Option, is_none}
 use Rattle.std.specs.Io.KnownBytes.{Appends}
 use Rattle.std.proofs.KnownBytes.{Appends-trans}

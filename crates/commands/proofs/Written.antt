@@ -1,13 +1,12 @@
 -- A picture that was written, by the program and the schedule that were read.
-use Rattle.std.proofs.Common.{◌≡◌, ℕ, List, Option, Result, Ok, Err, OnOk, subst, arith}
+use Rattle.std.proofs.Common.{◌≡◌, ℕ, List, Option, Result, OnOk, arith}
 use Rattle.std.specs.Io.KnownBytes.{Appends}
 use Rattle.commands.specs.Pictures.{HasMade, HasWritten}
 use Rattle.workbench.specs.Input.{GivesAll}
 
 pub picture_written : (IsPicture : List ℕ → Type 0) (picture bytes : List ℕ) (old new : Option (List ℕ)) → bytes ≡ picture
     → IsPicture picture → Appends old new bytes → HasWritten IsPicture old new
-picture_written IsPicture picture bytes old new is made appends =
-    (picture, (made, subst (λ text. Appends old new text) is appends))
+picture_written IsPicture picture bytes old new is made appends = grind arith
 
 -- the same picture, by what the bytes of program and schedule are
 same_picture : (IsPicture : List ℕ → List ℕ → List ℕ → Type 0) (program schedule file choices : List ℕ)

@@ -1,5 +1,5 @@
 -- What several runs came to.
-use Rattle.std.specs.Prelude.{◌≡◌, ℕ, Bool, true, if◌then◌else◌, List, [], ◌∷◌, ◌++◌, Option, Some, None, bytes_eq, codes, decimal, filter, flat_map, length, nat_lt, option_map, IsSortedBy}
+use Rattle.std.specs.Prelude.{◌≡◌, ℕ, Bool, if◌then◌else◌, List, [], ◌∷◌, ◌++◌, Option, Some, None, bytes_eq, codes, decimal, filter, flat_map, length, nat_lt, option_map, IsSortedBy}
 use Rattle.std.specs.List.{IsDistinct, list_all}
 use Rattle.std.specs.Global.{Vec}
 use Rattle.std.specs.String.{string_bytes}

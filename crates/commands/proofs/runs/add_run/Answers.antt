@@ -1,4 +1,4 @@
-use Rattle.std.proofs.Common.{◌≡◌, ◌∙◌, ap}
+use Rattle.std.proofs.Common.{◌∙◌, ap}
 use Rattle.std.specs.String.{string_bytes}
 use Rattle.schedule_reader.specs.Schedule.{choices_of, finished_schedule}
 use Rattle.thread_machine.specs.World.{world_of}

@@ -1,4 +1,4 @@
-use Rattle.std.proofs.Common.{◌∷◌, [], ◌+◌, ◌++◌, arith, refl, subst, sym}
+use Rattle.std.proofs.Common.{◌∷◌, [], ◌++◌, arith, refl, subst, sym}
 use Rattle.std.proofs.lemmas.List.{length-append}
 use Rattle.commands.specs.Outcomes.{AreOutcomes, is_state}
 use Rattle.commands.specs.Seeds.{IsEndBy}
