@@ -1,5 +1,5 @@
 -- What one run more makes of the outcomes.
-use Rattle.std.proofs.Common.{◌≡◌, ◌+◌, ◌≤◌, ◌<◌, ℕ, Bool, true, false, List, [], ◌∷◌, ◌++◌, Option, Some, None, length, refl, ap, sym, arith}
+use Rattle.std.proofs.Common.{◌≡◌, ◌+◌, ◌≤◌, ◌<◌, ℕ, List, [], ◌∷◌, ◌++◌, Option, Some, None, length, refl, ap, arith}
 use Rattle.std.specs.Prelude.{IfSome, IsSome, bytes_eq, cond, filter, is_some, option_map}
 use Rattle.std.specs.List.{IsDistinct}
 use Rattle.std.specs.Cmp.{IsStrictWeakOrder}
@@ -16,39 +16,9 @@ abbrev pub and_run : Option Told → Ended → Told
 and_run None run = record { times = 1; ending = run.ending; schedule = run.schedule }
 and_run (Some before) run = record { times = before.times + 1; ending = before.ending; schedule = before.schedule }
 
-told-more : (runs : List Ended) (run : Ended) → told_of (runs ++ run ∷ []) ≡ Some (and_run (told_of runs) run)
-told-more runs run = grind (arith, length-append)
-
-in-state : (runs : List Ended) (run : Ended) (state : List ℕ) → ends_in state run ≡ true
-    → told_in (runs ++ run ∷ []) state ≡ Some (and_run (told_in runs state) run)
-in-state runs run state is = grind (arith, filter-append, told-more)
-
-append-nothing : {A : Type 0} (xs : List A) → xs ++ [] ≡ xs
-append-nothing [] = refl
-append-nothing (x ∷ xs) = ap (λ ys. x ∷ ys) (append-nothing xs)
-
-in-other : (runs : List Ended) (run : Ended) (state : List ℕ) → ends_in state run ≡ false
-    → told_in (runs ++ run ∷ []) state ≡ told_in runs state
-in-other runs run state isnt = grind (arith, filter-append, append-nothing)
-
-same_if : (a b : Bool) → (a ≡ true → b ≡ true) → (b ≡ true → a ≡ true) → a ≡ b
-same_if true false there back = sym (there refl)
-same_if false true there back = back refl
-same_if _ _ there back = refl
-
-turned : (a b : List ℕ) → bytes_eq a b ≡ true → bytes_eq b a ≡ true
-turned a b is = (bytes_eq-Decides b a).1 (sym ((bytes_eq-Decides a b).0 is))
-
 -- which state a run ended in may be asked either way round
 asked : (a b : List ℕ) → bytes_eq a b ≡ bytes_eq b a
-asked a b = same_if (bytes_eq a b) (bytes_eq b a) (turned a b) (turned b a)
-
-grown-at : (runs : List Ended) (run : Ended) (old : Option Outcome) (key state : List ℕ) (w : Outcome) (is : Bool)
-    → bytes_eq key state ≡ is → option_map told old ≡ told_in runs state → run.state ≡ key
-    → told w ≡ and_run (told_in runs key) run
-    → option_map told (cond is (Some w) old) ≡ told_in (runs ++ run ∷ []) state
-grown-at runs run old key state w true is before at now = grind (arith, bytes_eq-Decides, in-state, asked)
-grown-at runs run old key state w false is before at now = grind (arith, asked, in-other)
+asked a b = grind (arith, bytes_eq-Decides)
 
 -- the outcomes with one run more
 pub grown : (runs : List Ended) (run : Ended) (old new : EndState → Option Outcome) (key : EndState) (w : Outcome)
@@ -56,17 +26,12 @@ pub grown : (runs : List Ended) (run : Ended) (old new : EndState → Option Out
     → ((state : EndState) → new state ≡ cond (is_state key state) (Some w) (old state))
     → run.state ≡ key.text.items → told w ≡ and_run (told_in runs key.text.items) run
     → (state : EndState) → option_map told (new state) ≡ told_in (runs ++ run ∷ []) state.text.items
-grown runs run old new key w before is at now state = grind (arith, grown-at)
+grown runs run old new key w before is at now state = grind (arith, bytes_eq-Decides, filter-append, length-append, asked)
 
 -- no more runs ended in a state than there are
-few-step : (is : Bool) (run : Ended) (runs kept : List Ended) → length kept ≤ length runs
-    → length (cond is (run ∷ kept) kept) ≤ length runs + 1
-few-step true run runs kept few = omega (arith, few)
-few-step false run runs kept few = omega (arith, few)
-
 few-of : (runs : List Ended) (state : List ℕ) → length (filter (ends_in state) runs) ≤ length runs
 few-of [] state = omega arith
-few-of (run ∷ runs) state = grind (arith, few-step, few-of runs state)
+few-of (run ∷ runs) state = grind (arith, few-of runs state)
 
 abbrev times_in : Option Told → ℕ
 times_in None = 0

@@ -11,7 +11,6 @@ use Rattle.line_reader.specs.Symbols.{Name}
 use Rattle.line_reader.specs.Words.{is_line_end, lines_of, without_empty_last}
 use Rattle.line_reader.specs.Listing.{line_text, numbered}
 use Rattle.assembler.specs.Meaning.{image_of, rows_in, SayInOrder, StandsFor}
-use Rattle.assembler.specs.Reading.{line_behind}
 use Rattle.assembler.specs.Statements.{Follows}
 use Rattle.assembler.specs.Passes.{assembled, first_unknown, lines_read, looked_up}
 use Rattle.assembler.specs.Symbols.{SymbolTable, symbols_in, symbols_of}
@@ -33,25 +32,17 @@ same_line ([] ∷ next ∷ pieces) (suc i) = same_line (next ∷ pieces) i
 same_line ((x ∷ xs) ∷ next ∷ pieces) zero = refl
 same_line ((x ∷ xs) ∷ next ∷ pieces) (suc i) = same_line (next ∷ pieces) i
 
-same_rows : (text : List ℕ) (n : ℕ) (numbers : List ℕ)
-    → numbered (text_row_words (slice_split is_line_end text)) n numbers ≡ numbered (text_row_words (lines_of text)) n numbers
-same_rows text n numbers = grind (arith, same_line)
-
 pub rows_by_pieces : (text : List ℕ) (pieces : List (List ℕ)) (numbers none listing : List ℕ)
     → pieces ≡ slice_split is_line_end text → none ≡ []
     → listing ≡ none ++ flat_map line_text (numbered (text_row_words pieces) 0 numbers)
     → listing ≡ flat_map line_text (numbered (text_row_words (lines_of text)) 0 numbers)
-rows_by_pieces text pieces numbers none listing are is-none is = grind (arith, same_rows)
+rows_by_pieces text pieces numbers none listing are is-none is = grind (arith, same_line)
 
 -- ---- the lines that were read
 
 bound : {A B C : Type 0} (r : Result A AsmFault) (f : A → Result B AsmFault) (y : B) → (r >>= f) ≡ Ok y
     → ((x : A) → r ≡ Ok x → f x ≡ Ok y → C) → C
 bound r f y e then = grind arith
-
-image_there : (lines : List (Line Name)) (unknown : Option (Line Name)) (image : Image)
-    → looked_up lines unknown ≡ Ok image → image ≡ image_of lines
-image_there lines unknown image e = grind arith
 
 -- the image of the lines that were read
 image_read : (text : List ℕ) (image : Image) (lines : List (Line Name)) → StandsFor text image
@@ -60,7 +51,7 @@ unfolding assembled
 image_read text image lines stands read =
     let all : (lines_read 1 [] (lines_of text) >>= (λ ls. looked_up ls (first_unknown ls))) ≡ Ok image =
     stands_for-assembled text image stands in
-    grind (arith, image_there)
+    grind arith
 
 table_rows : (lines : List (Line Name)) (table : SymbolTable) (r : Result SymbolTable AsmFault) → r ≡ Ok (symbols_of lines)
     → r ≡ Ok table → table.rows ≡ row_lines lines
@@ -126,11 +117,8 @@ rows_said text lines s = said_from (lines_of text) lines 0 (lines_of text) lines
 follows_none : (said : Statement Name) → Follows [] said
 follows_none said = grind arith
 
-alike : {A B : Type 0} (x y : A) (r : Result A B) → r ≡ Ok x → r ≡ Ok y → x ≡ y
-alike x y r e f = cc
-
 same_statement : (text : List ℕ) (s t : Option (Statement Name)) → LineSays [] text s → LineSays [] text t → s ≡ t
-same_statement text s t p q = alike s t (line_behind [] text) (line_again [] text s p) (line_again [] text t q)
+same_statement text s t p q = grind (arith, line_again)
 
 abbrev numbered_line : ℕ → Statement Name → Line Name
 numbered_line n said = record { number = n; statement = said }
@@ -150,4 +138,4 @@ same_lines n (text ∷ texts) a b (inr s) (inr t) =
     (same_lines (n + 1) texts s.1 t.1 s.4 t.4)
 
 pub one_listing : (file a b : List ℕ) → IsRowListing file a → IsRowListing file b → a ≡ b
-one_listing file a b given given_too = grind (arith, alike, same_lines)
+one_listing file a b given given_too = grind (arith, same_lines)

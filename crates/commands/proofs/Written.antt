@@ -9,15 +9,10 @@ pub picture_written : (IsPicture : List ℕ → Type 0) (picture bytes : List �
 picture_written IsPicture picture bytes old new is made appends = grind arith
 
 -- the same picture, by what the bytes of program and schedule are
-same_picture : (IsPicture : List ℕ → List ℕ → List ℕ → Type 0) (program schedule file choices : List ℕ)
-    (old new : Option (List ℕ)) → program ≡ file → schedule ≡ choices
-    → HasWritten (IsPicture program schedule) old new → HasWritten (IsPicture file choices) old new
-same_picture IsPicture program schedule file choices old new is also written = grind arith
-
 pub both_read : {A E : Type 0} (IsPicture : List ℕ → List ℕ → List ℕ → Type 0) (result : Result A E)
     (program schedule file choices : List ℕ)
     (file_before file_after schedule_before schedule_after old new : Option (List ℕ)) → program ≡ file → schedule ≡ choices
     → GivesAll file_before file_after file → GivesAll schedule_before schedule_after choices
     → OnOk result (HasWritten (IsPicture program schedule) old new)
     → OnOk result (HasMade IsPicture file_before file_after schedule_before schedule_after old new)
-both_read IsPicture result program schedule file choices fb fa sb sa old new is also gives more written = grind (arith, same_picture)
+both_read IsPicture result program schedule file choices fb fa sb sa old new is also gives more written = grind arith
