@@ -1,6 +1,6 @@
 -- Choices that are played one list after another, up to a break or a refusal.
 use Rattle.std.proofs.Common.{◌≡◌, ◌∙◌, ◌↔◌, ◌+◌, ◌-◌, ◌≤◌, ℕ, Bool, true, false, List, [], ◌∷◌, ◌++◌, Option, Some, None, Result, Err, length, refl, ap, sym, subst, arith, append_assoc, append-nil, rules}
-use Rattle.std.specs.Prelude.{◌≢◌, ◌&&◌, if◌then◌else◌, is_some}
+use Rattle.std.specs.Prelude.{◌≢◌, ◌&&◌, is_some}
 use Rattle.std.proofs.lemmas.List.{length-append}
 use Rattle.machine_scene.specs.Scene.{Outcome, scene_of, thread_at}
 use Rattle.thread_machine.specs.World.{World, world_of}

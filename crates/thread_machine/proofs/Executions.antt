@@ -2,11 +2,10 @@
 use Rattle.std.proofs.Common.{◌≡◌, List, [], ◌∷◌, ◌++◌, arith}
 use Rattle.std.specs.Prelude.{Option, None}
 use Rattle.thread_machine.specs.declared.choice.Choice.{Choice}
-use Rattle.thread_state.specs.declared.event.Event.{Event}
 use Rattle.thread_machine.specs.declared.fault.StepFault.{StepFault}
 use Rattle.thread_machine.specs.World.{World}
 use Rattle.thread_machine.specs.Step.{refusal_of}
-use Rattle.thread_machine.specs.Execution.{Execution, execution, execution_by, extended, extended_by}
+use Rattle.thread_machine.specs.Execution.{execution, execution_by, extended, extended_by}
 
 -- an event before an execution
 execution-single : (refusal : Option StepFault) (world : World) (choice : Choice)

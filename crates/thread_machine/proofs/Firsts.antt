@@ -1,12 +1,10 @@
 -- A program of an image begins in the image's first world, however its phasers are stored.
-use Rattle.std.proofs.Common.{ℕ, List, arith}
+use Rattle.std.proofs.Common.{ℕ, arith}
 use Rattle.row_code.specs.declared.image.Image.{Image}
-use Rattle.tier_tree.specs.Forest.{PhaserState}
-use Rattle.loader.specs.Program.{Program, IsProgramOf, without_words}
+use Rattle.loader.specs.Program.{Program, IsProgramOf}
 use Rattle.loader.proofs.Images.{is_declared}
 use Rattle.loader.proofs.Whole.{declared_by}
-use Rattle.machine_scene.specs.Scene.{first_scene}
-use Rattle.thread_machine.specs.World.{World, IsFirstOf, first_world}
+use Rattle.thread_machine.specs.World.{IsFirstOf, first_world}
 
 -- the first world of this program, with these phasers
 pub is_first : (image : Image) (program : Program) (limit : ℕ) → IsProgramOf image program

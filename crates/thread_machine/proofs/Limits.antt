@@ -7,7 +7,7 @@ use Rattle.thread_machine.specs.declared.choice.Choice.{Choice}
 use Rattle.thread_machine.specs.declared.fault.StepFault.{StepFault}
 use Rattle.thread_machine.specs.World.{World}
 use Rattle.thread_machine.specs.Ready.{outcome_of_choice}
-use Rattle.thread_machine.specs.Step.{Played, played, played_by, refusal_of}
+use Rattle.thread_machine.specs.Step.{played, played_by, refusal_of}
 use Rattle.thread_machine.specs.Execution.{execution, execution_by}
 use Rattle.thread_machine.specs.Limit.{with_limit, under_limit}
 

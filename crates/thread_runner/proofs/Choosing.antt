@@ -1,10 +1,9 @@
 -- Where a run isn't over, some thread has a choice to make.
 use Rattle.std.proofs.Common.{◌≡◌, ◌⊎◌, ◌<◌, ℕ, true, false, arith, length}
-use Rattle.std.specs.Prelude.{Option, None, is_some}
+use Rattle.std.specs.Prelude.{Option, None}
 use Rattle.std.proofs.lemmas.Bool.Decides.{nat_tests}
 use Rattle.thread_machine.specs.World.{World}
 use Rattle.thread_machine.specs.Ready.{some_ready}
-use Rattle.thread_runner.specs.declared.ending.Ending.{Ending}
 use Rattle.thread_runner.specs.declared.live.Break.{Break}
 use Rattle.thread_runner.specs.Turns.{is_ready_in, can_expire_in, may_choose}
 use Rattle.thread_runner.specs.Endings.{ending_of}

@@ -2,13 +2,10 @@
 use Rattle.std.proofs.Common.{◌≡◌, ◌∙◌, ℕ, suc, ◌<◌, Bool, false, List, [], ◌∷◌, ◌++◌, length, map, take, drop, ap, refl, sym, subst, arith}
 use Rattle.std.specs.Prelude.{slice_set}
 use Rattle.std.proofs.lemmas.List.{take_at}
-use Rattle.std.proofs.lemmas.Bool.Decides.{nat_tests}
 use Rattle.tier_tree.specs.declared.registered.Registered.{Registered}
 use Rattle.tier_tree.specs.declared.arrived.Arrived.{Arrived}
 use Rattle.tier_tree.specs.Forest.{PhaserState, phaser_at, flat_at, root_at}
-use Rattle.std.specs.Prelude.{ℤ}
-use Rattle.tier_tree.specs.declared.registered.Registered.TheVariants as registered_answer
-use Rattle.tier_tree.specs.Registration.{registration, after_registration, joined, joins_along}
+use Rattle.tier_tree.specs.Registration.{registration, after_registration}
 use Rattle.tier_tree.specs.Arrival.{Arrives, arrival}
 use Rattle.tier_tree.specs.PhaseEnd.{after_phase_end, after_force}
 use Rattle.tier_tree.specs.Sound.{places_of}

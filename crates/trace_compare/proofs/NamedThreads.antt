@@ -1,11 +1,10 @@
 -- A schedule names threads from 0 to 63.
-use Rattle.std.proofs.Common.{◌≡◌, ◌+◌, ◌≤◌, ℕ, Bool, true, List, [], ◌∷◌, length, replicate, All, Option, subst, arith}
+use Rattle.std.proofs.Common.{◌≡◌, ◌+◌, ◌≤◌, ℕ, true, List, [], ◌∷◌, length, replicate, All, Option, subst, arith}
 use Rattle.std.specs.List.{slice_split}
 use Rattle.std.proofs.lemmas.List.Elements.{All-append, All-head, All-nil, All-replicate, All-tail}
-use Rattle.thread_machine.specs.declared.choice.Choice.{Choice}
 use Rattle.schedule_reader.specs.declared.fault.ScheduleFault.{ScheduleFault}
 use Rattle.schedule_reader.specs.declared.run.Run.{Run}
-use Rattle.schedule_reader.specs.Schedule.{IsRun, Reading, Token, Faulty, Unfinished, Schedule, choices_of, finished_schedule, is_blank, reading_after_letter, reading_by_thread, schedule_in, schedule_with_piece}
+use Rattle.schedule_reader.specs.Schedule.{IsRun, Reading, Token, Faulty, Unfinished, Schedule, choices_of, finished_schedule, is_blank, schedule_in, schedule_with_piece}
 use Rattle.trace_compare.proofs.OwnTrace.{IsNamed}
 
 -- a run of such a thread

@@ -1,16 +1,10 @@
 -- A choice comes to the same however the phasers of its program are stored.
 use Rattle.std.proofs.Common.{◌≡◌, ℕ, List, arith}
-use Rattle.instruction_table.specs.declared.register.Reg.{Reg}
 use Rattle.instruction_table.specs.declared.row.Row.{Row}
-use Rattle.cyclic_barrier.specs.declared.answer.Entered.{Entered}
 use Rattle.tier_tree.specs.Stored.{Stored}
 use Rattle.loader.specs.Program.{Program}
 use Rattle.thread_state.specs.declared.status.Status.{Status}
-use Rattle.machine_scene.specs.declared.manner.Manner.{Manner}
 use Rattle.machine_scene.specs.Scene.{Scene}
-use Rattle.machine_scene.specs.BarrierRows.{outcome_of_barrier_row, outcome_of_entered}
-use Rattle.machine_scene.specs.CallRows.{outcome_of_call_row}
-use Rattle.machine_scene.specs.PhaserRows.{outcome_of_arrival, outcome_of_phaser_row}
 use Rattle.machine_scene.specs.Outcomes.{outcome_in}
 use Rattle.thread_machine.specs.declared.choice.Choice.{Choice}
 use Rattle.thread_machine.specs.Ready.{outcome_of_choice, some_ready}

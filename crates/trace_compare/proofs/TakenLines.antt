@@ -8,7 +8,7 @@ use Rattle.byte_ports.specs.declared.source_lines.LineEnded.TheVariants as how
 use Rattle.trace_compare.specs.declared.comparison.Comparison.{Comparison}
 use Rattle.trace_compare.specs.declared.comparison.Verdict.{Verdict}
 use Rattle.trace_compare.specs.Compare.{IsReadNoFurther, IsReadUpTo}
-use Rattle.trace_compare.specs.Comparing.{GoesOver, HasComeTo, HasJudged, HasLeft, StandsFrom, bytes_left, told_by}
+use Rattle.trace_compare.specs.Comparing.{GoesOver, HasComeTo, HasJudged, HasLeft, bytes_left, told_by}
 use Rattle.trace_compare.specs.NamedLines.{none_read}
 use Rattle.trace_compare.proofs.NamedLines.{unread}
 use Rattle.trace_compare.proofs.OwnLines.{ends-append, ends-behind, ends-line}

@@ -21,7 +21,7 @@ use Rattle.thread_machine.specs.World.{StoredWorld, World, world_of}
 use Rattle.trace_compare.specs.declared.comparison.Verdict.{Verdict}
 use Rattle.trace_compare.specs.declared.comparison.Judged.{Judged}
 use Rattle.trace_compare.specs.declared.comparison.Verdict.TheVariants as verdict
-use Rattle.trace_compare.specs.Compare.{HasCompared, HasShown, HasTold, HasVerdict, Told, choice_verdict, line_by, lines_verdict, otherwise, state_verdict, told, told_of}
+use Rattle.trace_compare.specs.Compare.{HasCompared, HasShown, HasTold, Told, choice_verdict, line_by, lines_verdict, otherwise, state_verdict, told, told_of}
 use Rattle.trace_text.specs.Reading.{HasNoLongLine, first_line, after_line, is_state_line, choice_in}
 use Rattle.trace_text.specs.State.{state_text}
 use Rattle.trace_text.specs.Trace.{Plays, lines_of}

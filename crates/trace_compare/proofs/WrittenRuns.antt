@@ -1,5 +1,5 @@
 -- A schedule that is written as its choices come.
-use Rattle.std.proofs.Common.{◌≡◌, ◌∙◌, ◌+◌, ◌<◌, ◌≤◌, ℕ, Bool, List, [], ◌∷◌, ◌++◌, Some, None, refl, ap, sym, subst, append_assoc, append-nil, arith, rules}
+use Rattle.std.proofs.Common.{◌≡◌, ◌∙◌, ◌+◌, ◌<◌, ◌≤◌, ℕ, Bool, List, [], ◌∷◌, ◌++◌, Some, None, refl, ap, sym, subst, append_assoc, append-nil, arith}
 use Rattle.std.specs.Prelude.{Option, Result, Ok, OnOk, IfOk, is_none, replicate}
 use Rattle.std.specs.List.{slice_split}
 use Rattle.line_reader.specs.Words.{is_line_end}

@@ -1,5 +1,5 @@
 -- What a choice's own line names.
-use Rattle.std.proofs.Common.{◌≡◌, ◌∙◌, ◌+◌, ◌^◌, ◌<◌, ◌≤◌, ◌==◌, ◌&&◌, not, ℕ, Bool, true, false, List, [], ◌∷◌, ◌++◌, length, take, drop, cond, if◌then◌else◌, Option, Some, None, codes, decimal, refl, ap, arith, append_assoc, length-append, ℤ, rules}
+use Rattle.std.proofs.Common.{◌≡◌, ◌∙◌, ◌+◌, ◌^◌, ◌<◌, ◌≤◌, ◌==◌, ◌&&◌, not, ℕ, Bool, true, false, List, [], ◌∷◌, ◌++◌, length, take, drop, cond, if◌then◌else◌, Option, Some, None, codes, decimal, refl, ap, arith, append_assoc, ℤ, rules}
 use Rattle.std.specs.Fmt.{signed_decimal, digits}
 use Rattle.std.specs.Char.{is_ascii_digit}
 use Rattle.std.specs.List.{before_first, after_first, list_all, position_or_len}

@@ -1,12 +1,11 @@
 -- Bytes that are read one piece after another.
-use Rattle.std.proofs.Common.{◌≡◌, ◌↔◌, inr, refl, ◌+◌, ◌<◌, ◌≤◌, ◌++◌, ℕ, Bool, true, false, not, IsTrue, List, Option, length, take, ap, sym, subst, length-append, arith}
+use Rattle.std.proofs.Common.{◌≡◌, inr, refl, ◌+◌, ◌<◌, ◌≤◌, ◌++◌, ℕ, Bool, true, false, not, IsTrue, List, Option, length, take, ap, sym, subst, length-append, arith}
 use Rattle.std.proofs.lemmas.List.{length-take}
 use Rattle.std.proofs.KnownBytes.{Appends-trans, Consumes-trans}
 use Rattle.std.specs.Io.KnownBytes.{Appends, Consumes, IsAtEnd}
 use Rattle.std.specs.Prelude.{Result, Ok, Err, IfOk, OnOk, None, is_some}
 use Rattle.byte_ports.specs.Port.{FailsForGood}
 use Rattle.schedule_reader.specs.Schedule.{Schedule, finished_schedule, choices_of}
-use Rattle.thread_machine.specs.declared.fault.StepFault.{StepFault}
 use Rattle.thread_machine.specs.Standing.{standing_of}
 use Rattle.thread_machine.specs.World.{World}
 use Rattle.thread_machine.specs.declared.choice.Choice.{Choice}
