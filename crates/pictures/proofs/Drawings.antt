@@ -1,5 +1,5 @@
 -- One choice more is drawn.
-use Rattle.std.proofs.Common.{◌≡◌, ◌∙◌, ℕ, ◌+◌, ◌<◌, Bool, true, false, List, [], ◌∷◌, ◌++◌, Option, Some, None, ap, sym, append_assoc, append-nil, length, get_or, drop, is_none, arith, rules}
+use Rattle.std.proofs.Common.{◌≡◌, ◌∙◌, ℕ, ◌+◌, ◌<◌, Bool, true, false, List, [], ◌∷◌, ◌++◌, Option, Some, None, ap, sym, append_assoc, length, get_or, drop, is_none, arith, rules}
 use Rattle.std.proofs.lemmas.List.{drop_more}
 use Rattle.std.proofs.lemmas.Grind.{flat_map-append}
 use Rattle.assembler.specs.Symbols.{SymbolTable}
@@ -39,16 +39,6 @@ accepted-lines : (refusal : Option StepFault) (sheet : Sheet) (symbols : SymbolT
     ≡ (execution (execution_by refusal world choice (λ after. execution after [])).world more).world)
 accepted-lines refusal sheet symbols first world choice more none = grind arith
 
--- a refused choice is the last
-refused-lines : (refusal : Option StepFault) (sheet : Sheet) (symbols : SymbolTable) (first : ℕ) (world : World) (choice : Choice)
-    (more : List Choice) → is_none refusal ≡ false
-    → (lines_by refusal sheet symbols first world choice (λ after. choice_lines sheet symbols first after more)
-    ≡ lines_by refusal sheet symbols first world choice (λ after. []))
-    × ((execution_by refusal world choice (λ after. execution after more)).world
-    ≡ (execution_by refusal world choice (λ after. execution after [])).world)
-    × ((execution_by refusal world choice (λ after. execution after more)).refusal ≡ refusal)
-refused-lines refusal sheet symbols first world choice more some = grind arith
-
 -- whether a choice was accepted
 answer_by : (refusal : Option StepFault) (world : World) (choice : Choice)
     → (execution_by refusal world choice (λ after. execution after [])).refusal ≡ refusal
@@ -85,12 +75,7 @@ pub IsDrawing-refused : (sheet : Sheet) (symbols : SymbolTable) (first : ℕ) (b
     → DrawsOne sheet symbols first now after choice accepted mid new → accepted ≡ false
     → Draws sheet symbols first begin after choices old new
 IsDrawing-refused sheet symbols first begin now after choices rest more choice accepted old mid new is so_far one refuses =
-    grind (arith, answer_by, refused-lines, both_lines)
-
--- one line that was written
-one_line : (width : ℕ) (old new : List ℕ) (line : List ℕ) (lines : List (List ℕ)) → new ≡ old ++ written_line width line
-    → lines ≡ line ∷ [] → new ≡ old ++ lines_text width lines
-one_line width old new line lines written is = grind (arith, append-nil)
+    grind (arith, answer_by, both_lines)
 
 -- a choice that was played
 pub DrawsOne-played : (sheet : Sheet) (symbols : SymbolTable) (first number : ℕ) (world after : World) (choice : Choice) (event : Event)
@@ -102,11 +87,11 @@ pub DrawsOne-played : (sheet : Sheet) (symbols : SymbolTable) (first number : �
     (turn_text (column_room sheet) (row_caption symbols row) choice.expiry event.what)
     (kept_behind (mark_room sheet) (marked symbols event.mark) (mark_words event.mark))))
     → DrawsOne sheet symbols first world after choice true old new
-DrawsOne-played sheet symbols first number world after choice event row old new accepted both number_is row_is written = search (rules, one_line)
+DrawsOne-played sheet symbols first number world after choice event row old new accepted both number_is row_is written = search rules
 
 -- a choice that was refused
 pub DrawsOne-refused : (sheet : Sheet) (symbols : SymbolTable) (first : ℕ) (world after : World) (choice : Choice) (why : StepFault)
     (old new : List ℕ) → refusal_of world choice ≡ Some why → after ≡ world
     → new ≡ old ++ (written_line sheet.width (refused_line sheet first world choice why))
     → DrawsOne sheet symbols first world after choice false old new
-DrawsOne-refused sheet symbols first world after choice why old new refused same written = search (rules, one_line)
+DrawsOne-refused sheet symbols first world after choice why old new refused same written = search rules
