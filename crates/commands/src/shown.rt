@@ -24,11 +24,7 @@ fn push_line(text: &mut Vec<u8>, word: &[u8], line: Option<&[u8]>) -> Result<(),
 }
 
 /// The trace's line and the run's.
-fn differing(
-    alloc: Global,
-    trace: Option<&[u8]>,
-    run: Option<&[u8]>,
-) -> Result<Vec<u8>, AllocError>
+fn differing(alloc: Global, trace: Option<&[u8]>, run: Option<&[u8]>) -> Result<Vec<u8>, AllocError>
     ensures { IfOk result (λ text. text.items ≡ line_behind (codes "trace") (option_map (λ l. l.now) trace.entry)
         ++ line_behind (codes "run") (option_map (λ l. l.now) run.entry)) }
 {

@@ -53,8 +53,15 @@ room_more : (line : List ℕ) (count : ℕ) (phasers : List PhaserState) (new : 
     list_any (is_overfull more) (joins_along line count more) ≡ list_any (is_overfull phasers) (joins_along line count phasers)
 room_more [] count phasers new within = refl
 room_more (id ∷ above) count phasers new within =
-    grind (arith, All-head, get_or_append_left, All-tail, tail_if, room_more above 1 phasers new (All-tail (λ (a : ℕ). a < length phasers) id above
-    within))
+    grind (
+      arith,
+      All-head,
+      get_or_append_left,
+      All-tail,
+      tail_if,
+      room_more above 1 phasers new (All-tail (λ (a : ℕ). a < length phasers) id above
+          within),
+    )
 
 none_if : (empty : Bool) (f : Join → Bool) (js : List Join) → list_any f js ≡ false → list_any f (if empty then js else []) ≡ false
 none_if true f js none = none

@@ -18,8 +18,7 @@ returns-clause-verdict c = λ lines.
 
 pub returns-then-not-is_line-clause-meets : goal.returns-then-not-is_line-clause-meets
 returns-then-not-is_line-clause-meets c = λ lines state no_state.
-    let self = c.args.self.now in
-    (
+    let self = c.args.self.now in (
       refl,
       ap (line_at 0)
           (text-choice self c.in-Some.choice c.args.line.now lines state c.if-not-self.false no_state (sym c.choice_in.ensures ∙ c.in-Some.is))

@@ -7,8 +7,12 @@ pub choice_behind-requires : goal.choice_behind-requires
 choice_behind-requires c =
     let step = c.choices.result + 1 in
     let few : step < 10 ^ 13 = omega (arith, c.choices.ensures.within) in
-    omega (arith, c.requires.room, ap length (c.as_slice.ensures ∙ ap decimal c.move_to.ensures),
-    length-decimal-le 13 step (omega arith) few (omega (arith, few)))
+    omega (
+      arith,
+      c.requires.room,
+      ap length (c.as_slice.ensures ∙ ap decimal c.move_to.ensures),
+      length-decimal-le 13 step (omega arith) few (omega (arith, few)),
+    )
 
 pub returns-in-Ok-true : goal.returns-in-Ok-true
 returns-in-Ok-true c =

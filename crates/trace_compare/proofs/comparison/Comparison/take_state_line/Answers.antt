@@ -31,10 +31,14 @@ returns-clause-behind c = λ _.
     let due = c.rest_of-due.result.now in
     let same = sym c.is_line.ensures ∙ c.if-not-is_line.false in
     let size : length line + 1 ≡ c.min-end.result =
-    omega (arith, length-append line (10 ∷ []), ap length ((bytes_eq-Decides (line ++ (10 ∷ [])) part).0 same ∙ c.first_bytes.ensures),
-    length-take c.min-end.result due, c.min-end.ensures) in
-    let at : (self.at + c.min-end.result) - (length line + 1) ≡ self.at = omega (arith, size) in
-    (
+    omega (
+      arith,
+      length-append line (10 ∷ []),
+      ap length ((bytes_eq-Decides (line ++ (10 ∷ [])) part).0 same ∙ c.first_bytes.ensures),
+      length-take c.min-end.result due,
+      c.min-end.ensures,
+    ) in
+    let at : (self.at + c.min-end.result) - (length line + 1) ≡ self.at = omega (arith, size) in (
       omega (arith, size),
       ap (λ k. drop k self.text.items) at
           ∙ due-parts self.text.items due self.at c.min-end.result line part
