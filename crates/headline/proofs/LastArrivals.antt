@@ -1,5 +1,5 @@
 -- With the last arrival at a tree its phase ends, or its routine is entered.
-use Rattle.std.proofs.Common.{inl, inr, ◌≡◌, ◌∙◌, ℕ, ℤ, suc, ◌-◌, ◌<◌, ◌≤◌, Bool, true, false, List, [], ◌∷◌, length, ap, refl, sym, subst, arith, if◌then◌else◌, rules}
+use Rattle.std.proofs.Common.{inl, inr, ◌≡◌, ◌∙◌, ℕ, ℤ, suc, ◌-◌, ◌<◌, Bool, true, false, List, [], ◌∷◌, length, ap, refl, sym, subst, arith, if◌then◌else◌, rules}
 use Rattle.std.specs.Prelude.{◌⊎◌, ◌||◌, ◌++◌, slice_get, Option, Some, None}
 use Rattle.std.proofs.lemmas.Bool.{cases_eq}
 use Rattle.std.proofs.lemmas.List.{get_or-set_same}
@@ -8,7 +8,6 @@ use Rattle.instruction_table.specs.declared.row.Row.TheVariants.{Ret, Preg, Parr
 use Rattle.packed_phaser.specs.Flat.{Arrival, arrive, unarrived_of}
 use Rattle.tier_tree.specs.declared.climb.Climb.{Climb}
 use Rattle.tier_tree.specs.declared.climb.Climb.TheVariants as climb
-use Rattle.tier_tree.specs.declared.registered.Registered.{Registered}
 use Rattle.tier_tree.specs.declared.arrived.Arrived.{Arrived}
 use Rattle.tier_tree.specs.declared.arrived.Arrived.TheVariants as arrived
 use Rattle.tier_tree.specs.declared.id.PhaserId.{PhaserId}
@@ -16,7 +15,7 @@ use Rattle.tier_tree.specs.Answer.{KeepsEnds}
 use Rattle.tier_tree.specs.Forest.{PhaserState, phaser_at, flat_at, root_at}
 use Rattle.tier_tree.specs.Arrival.{Arrives, Climbed, is_top, climbed_by, climbed, arrival_by, arrival}
 use Rattle.tier_tree.specs.Sound.{IsForest}
-use Rattle.tier_tree.specs.Origin.{Origin, AreTallied, arrived_at, origin_after_arrival, origin_after_registration}
+use Rattle.tier_tree.specs.Origin.{Origin, AreTallied, arrived_at, origin_after_arrival}
 use Rattle.tier_tree.proofs.Balance.{next-parent, flat-put}
 use Rattle.tier_tree.proofs.Safe.{line_own, last_of, last-more}
 use Rattle.tier_tree.proofs.Stands.{other-is, stands_after_arrival}
