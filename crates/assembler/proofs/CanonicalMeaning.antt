@@ -63,7 +63,7 @@ all_listed i =
     ap (λ rows. numbered phaser_words 0 i.phasers ++ (numbered barrier_words 0 i.barriers ++ (numbered thread_words 0 i.threads ++ rows)))
     (map_numbered row_words 0 i.rows)
 
--- what is made of four lists
+-- each line of an image says what it stands for
 all_say : (i : Image) → IsImage i → SayEach (all_lines i) (all_said i)
 all_say i h =
     let phasers = numbered_says IsPhaser 64 phaser_words phaser_said phaser_says 0 i.phasers (omega (arith, h.phasers.0))

@@ -12,7 +12,7 @@ some_fault : (fault : Option ScheduleFault) (why : ScheduleFault) (schedule : Sc
     → schedule.fault ≡ fault → runs_of schedule ≡ None
 some_fault fault why schedule is same = grind arith
 
--- nothing is missing
+-- want of memory, or what holds without it
 pub answered : {A : Type 0} (result : Result (Unit {0}) ScheduleFault) → (result ≡ Err fault.Memory → ⊥)
     → (result ≡ Err fault.Memory) ⊎ A → A
 answered result other (inl is) = absurd (other is)

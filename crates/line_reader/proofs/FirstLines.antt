@@ -27,7 +27,7 @@ is_calm byte = is_allowed byte && not (begins_comment byte)
 letter_calm : (byte : ℕ) → is_letter byte ≡ true → is_calm byte ≡ true
 letter_calm byte h = grind (arith, both_true, nat_tests, both, or_right)
 
--- what is allowed and no letter is a blank, where it begins no comment
+-- a blank is allowed, and begins no comment
 blank_calm : (byte : ℕ) → is_blank byte ≡ true → is_calm byte ≡ true
 blank_calm byte h = grind (arith, eqb-true)
 

@@ -40,7 +40,7 @@ pub count_again : (high : ℕ) (word : List ℕ) (n : ℕ) → SpellsNumber (pos
 unfolding count_at
 count_again high word n s = rw (number_again (pos 0) (pos high) word (pos n) s) refl
 
--- a name does not begin with a number sign
+-- what a word is read as, it spells
 pub reference_takes : (high : ℕ) (word : List ℕ) (r : Reference Name) → reference_at high word ≡ Ok r →
     SpellsReference high word r
 unfolding reference_at

@@ -136,7 +136,7 @@ back_call_row : (row : Row) (t : ℕ) (program : Program) (scene : Scene) → t 
 back_call_row (Call target) t program scene there = alone t scene _ there (called target (thread_at scene t))
 back_call_row row t program scene there = search (rules, alone, called, back_ret, tried, ended_try, thrown)
 
--- `intr`
+-- rows on cells and flags
 back_data_row : (row : Row) (top : Option Frame) (t : ℕ) (scene : Scene) → NamesThread row scene → t < length scene.threads
     → BackIf (reach_of_row row top) t scene (outcome_of_data_row row t scene)
 back_data_row _ top t scene named there =

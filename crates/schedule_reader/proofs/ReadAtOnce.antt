@@ -10,13 +10,13 @@ use Rattle.schedule_reader.specs.Reading.{Adds, answer_of, answer_by}
 some_fault : (fault : Option ScheduleFault) (why : ScheduleFault) → answer_by fault ≡ Err why → fault ≡ Some why
 some_fault fault why is = grind arith
 
--- nothing is missing
+-- want of memory, or what holds without it
 pub answered : {A : Type 0} (result : Result (Unit {0}) ScheduleFault) → (result ≡ Err fault.Memory → ⊥)
     → (result ≡ Err fault.Memory) ⊎ A → A
 answered result other (inl is) = absurd (other is)
 answered result other (inr answer) = answer
 
--- what isn't that memory was refused
+-- the runs of both parts are those of the whole
 pub runs_read : (bytes : List ℕ) (first last : Result (Unit {0}) ScheduleFault) (before middle end : List Run) → before ≡ []
     → Adds first (open_schedule []) (open_schedule bytes) before middle → (first ≡ Err fault.Memory → ⊥)
     → Adds last (open_schedule bytes) (finished_schedule bytes) middle end → last ≡ Ok tt

@@ -21,7 +21,7 @@ use Rattle.shared_phaser.proofs.Plays.{made_legal, made_owns}
 pub opens : (p : Policy) (c : Call) (f g : Flat) (a : Answer) → effect p c f ≡ Makes g a → f.ended ≡ false
 opens p c f g a is = grind arith
 
--- and leaves it not turned
+-- a wait changes nothing
 awaits_nothing : (b e : Bool) (g : Flat) (x y a : Answer) → (if b then Tells x else (if e then Waits else Tells y)) ≡ Makes g a → ⊥
 awaits_nothing true e g x y a is = cc is
 awaits_nothing false e g x y a is = grind arith

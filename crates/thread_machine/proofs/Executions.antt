@@ -7,7 +7,7 @@ use Rattle.thread_machine.specs.World.{World}
 use Rattle.thread_machine.specs.Step.{refusal_of}
 use Rattle.thread_machine.specs.Execution.{execution, execution_by, extended, extended_by}
 
--- an event before an execution
+-- an execution of one choice, by whether it was refused
 execution-single : (refusal : Option StepFault) (world : World) (choice : Choice)
     → execution_by refusal world choice (λ after. execution after [])
     ≡ extended_by None refusal (execution world []) choice

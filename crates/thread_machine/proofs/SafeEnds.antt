@@ -99,7 +99,7 @@ pub record Goes (world : World) (origin : Origin) : Type 0 where
   pub limit : world.limit ≤ 1000000000
   pub stands : AreTallied world.scene.phasers origin
 
--- an accepted choice is one of a thread that is there, and while steps are left if it takes one
+-- an order that was asked for the other way round
 less_if : (m n : ℕ) → nat_le m n ≡ false → n < m
 less_if m n is = grind (arith, nat_tests, is)
 

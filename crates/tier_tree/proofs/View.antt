@@ -12,7 +12,7 @@ pub view_number : (view : ℤ) (ended : Bool) (p q : ℕ) → view ≡ phase_vie
 view_number (pos n) false p q is found few = cc (is, found)
 view_number _ _ p q is found few = grind (arith, is, found, few)
 
--- in its root's phase, and terminated where that is
+-- the phase stands in a word's upper half, below its highest bit
 phase_high : (w : ℕ) → (fields_of w).phase ≡ w / 4294967296 % 2147483648
 unfolding fields_of
 phase_high w = refl
