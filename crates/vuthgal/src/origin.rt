@@ -2,4 +2,4 @@
 
 /// The version, the kit whose logic proves it, and the sum of the sources but for this file.
 pub const VERSION: &str =
-    "1.1.0\nkit rattle-kit-13f logic dac8208d650f15bf\nsources 2f8d5c5f2a8d6ffe3db33672f0fe6711e6946567bcb0ec62c548e53eb42c5425";
+    "1.1.0\nkit rattle-kit-13f logic dac8208d650f15bf\nsources 904204417a32e6217d2d6ba8cb4c999f4d53a724c86a6c035bb83dd165b9d8e0";
