@@ -58,10 +58,6 @@ unnamed k name (l ∷ lines) h =
 none_else : (o : Option ℕ) → or_else o None ≡ o
 none_else o = grind arith
 
-or_true : (b : Bool) → (b || true) ≡ true
-or_true true = refl
-or_true false = refl
-
 pub same_kind : (a b : OperandKind) → is_kind a b ≡ true → a ≡ b
 same_kind a b h = grind arith
 

@@ -1,6 +1,5 @@
 -- What a line is kept as: a row where there is room for one, and a directive, which is no code.
-use Rattle.std.proofs.Common.{◌≡◌, ℕ, Bool, true, false, List, Option, None, Result, Ok, Err, refl, sym, arith}
-use Rattle.line_reader.specs.declared.asm_fault.AsmFaultKind.{AsmFaultKind}
+use Rattle.std.proofs.Common.{◌≡◌, ℕ, Bool, true, false, List, Option, None, Ok, Err, refl, sym, arith}
 use Rattle.line_reader.specs.declared.asm_fault.AsmFaultKind.TheVariants as fault
 use Rattle.line_reader.specs.declared.statement.Line.{Line}
 use Rattle.line_reader.specs.declared.statement.Statement.{Statement}
@@ -25,9 +24,6 @@ pub row_refused : (before : List (Line Name)) (label : Option Name) (word : List
 unfolding row_behind
 row_refused before label word words row false read room is = rw (sym read, sym room) refl
 row_refused before label word words row true read room is = absurd (cc)
-
-abbrev Said : Type 0
-Said = Result (Statement Name) AsmFaultKind
 
 pub directive_no_code : (word : List ℕ) (words : List (List ℕ)) (s : Statement Name) → Ok s ≡ directive_at word words →
     is_code s ≡ false

@@ -26,11 +26,6 @@ pub is_step : (before after : Session) (choice : Choice) (event : Event)
     → after ≡ went_on before after.machine → IsStep before choice after
 is_step before after choice event both session = grind arith
 
--- there are two reasons for a refusal that isn't want of memory
-not_refused : (world : World) (choice : Choice) → (refusal_of world choice ≡ Some NoSuchThread → ⊥)
-    → (refusal_of world choice ≡ Some StepLimit → ⊥) → refusal_of world choice ≡ None
-not_refused world choice there left = grind arith
-
 refuses : (why : StepFault) (world : World) (choice : Choice) (result : Result Event StepFault) → result ≡ Err why
     → ((result ≡ Err NoSuchThread) ↔ (refusal_of world choice ≡ Some NoSuchThread))
     → ((result ≡ Err StepLimit) ↔ (refusal_of world choice ≡ Some StepLimit))

@@ -1,16 +1,12 @@
 -- The runs that a reader made of some tokens.
-use Rattle.std.proofs.Common.{◌≡◌, List, [], Option, Some, None, Result, Ok, Err, append-nil, ℕ, Bool, true, false, ◌↔◌, arith}
+use Rattle.std.proofs.Common.{◌≡◌, List, [], Some, None, Result, Ok, Err, append-nil, ℕ, Bool, true, false, ◌↔◌, arith}
 use Rattle.std.proofs.Common.{◌⊎◌, inl, inr}
 use Rattle.schedule_reader.specs.declared.run.Run.{Run}
 use Rattle.schedule_reader.specs.declared.fault.ScheduleFault.{ScheduleFault}
 use Rattle.schedule_reader.specs.declared.fault.ScheduleFault.TheVariants as fault
-use Rattle.schedule_reader.specs.Schedule.{Schedule, open_schedule, finished_schedule}
-use Rattle.schedule_reader.specs.Reading.{Adds, answer_of, answer_by}
+use Rattle.schedule_reader.specs.Schedule.{open_schedule, finished_schedule}
+use Rattle.schedule_reader.specs.Reading.{Adds, answer_of}
 use Rattle.debugger.specs.Command.{runs_of}
-
-some_fault : (fault : Option ScheduleFault) (why : ScheduleFault) (schedule : Schedule) → answer_by fault ≡ Err why
-    → schedule.fault ≡ fault → runs_of schedule ≡ None
-some_fault fault why schedule is same = grind arith
 
 -- want of memory, or what holds without it
 pub answered : {A : Type 0} (result : Result (Unit {0}) ScheduleFault) → (result ≡ Err fault.Memory → ⊥)

@@ -61,10 +61,6 @@ left_by : (a : Arrival) (i : ℕ) (above : List ℕ) (root : ℕ) (onward : Bool
     all.climb ≡ climb.Counted → IsLeft (suc i) root phasers all.phasers
 left_by a i above root onward phasers there top lands up is = search (rules, flat-put)
 
-head_of : List ℕ → ℕ
-head_of [] = 0
-head_of (n ∷ more) = n
-
 climbed_left : (line : List ℕ) (i : ℕ) (leave : Bool) (phasers : List PhaserState) → IsForest phasers → i < length phasers
     → (phaser_at phasers i).line ≡ i ∷ line → ArePrompt phasers
     → let all = climbed (i ∷ line) leave phasers in

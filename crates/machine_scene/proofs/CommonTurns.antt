@@ -1,15 +1,13 @@
 -- Turns of the common kinds: what they leave of the sets of ready threads.
-use Rattle.std.proofs.Common.{◌≡◌, ◌≢◌, ◌∙◌, ℕ, ℤ, pos, ◌<◌, ◌||◌, true, false, ap, arith}
+use Rattle.std.proofs.Common.{◌≡◌, ◌≢◌, ◌∙◌, ℕ, ◌<◌, ◌||◌, true, false, ap, arith}
 use Rattle.std.specs.Prelude.{length, Option, Some, None}
 use Rattle.std.proofs.lemmas.List.{get_or-set_same}
 use Rattle.instruction_table.specs.declared.row.Row.{Row}
 use Rattle.instruction_table.specs.LocalRows.{is_local_row}
-use Rattle.tier_tree.specs.declared.arrived.Arrived.{Arrived}
 use Rattle.tier_tree.specs.declared.arrived.Arrived.TheVariants as arrived
 use Rattle.cyclic_barrier.specs.ThreadSet.{has}
 use Rattle.loader.specs.Program.{Program, row_at}
 use Rattle.thread_state.specs.declared.event.Event.{Event}
-use Rattle.thread_state.specs.declared.status.Status.{Status}
 use Rattle.machine_scene.specs.declared.ready_set.ReadySet.{ReadySet}
 use Rattle.machine_scene.specs.Scene.{Scene, StoredScene, Outcome, scene_of, thread_at}
 use Rattle.machine_scene.specs.Outcomes.{outcome_of_row, outcome_in, is_ready}
@@ -25,25 +23,11 @@ record IsCalm (row : Row) : Type 0 where
   pub interrupts : (u : ℕ) → interrupts u row ≡ false
   pub seldom : may_be_blocked row ≡ false
 
-is_calm : (of : Status) (row : Row) (t : ℕ) (program : Program) (scene : Scene) (outcome : Outcome) → is_common of row ≡ true
-    → outcome_in of row t program scene ≡ Some outcome → IsCalm row
-is_calm of row t program scene outcome common is = grind arith
-
--- where there is an outcome, its event shows no more than a turn
-abbrev CalmIf : Option Outcome → Type 0
-CalmIf None = Unit {0}
-CalmIf (Some outcome) = is_loud outcome.event ≡ false
-
 -- where a thread begins to wait in an outcome, its turn isn't ready after it, and it isn't about to register
 abbrev WaitsIf : ℕ → Program → Option Outcome → Type 0
 WaitsIf t program None = Unit {0}
 WaitsIf t program (Some outcome) = is_wait outcome.event.what ≡ true
     → (is_ready t program outcome.scene ≡ false) × (is_registering t program outcome.scene ≡ false)
-
--- an arrival before the last answers the phase that the phaser is in
-abbrev number_of : Arrived → ℤ
-number_of (arrived.At phase) = phase
-number_of _ = pos 0
 
 -- unless it meets an exception before
 waits_row : (row : Row) (t : ℕ) (program : Program) (scene : Scene) → (is_local_row row || is_arrival row) ≡ true

@@ -7,9 +7,7 @@ use Rattle.loader.specs.Program.{Program}
 use Rattle.thread_state.specs.declared.status.Status.{Status}
 use Rattle.thread_state.specs.declared.status.Status.TheVariants as status
 use Rattle.thread_state.specs.Thread.{turn_of_local}
-use Rattle.machine_scene.specs.declared.group.Group.TheVariants.{Own}
 use Rattle.machine_scene.specs.Scene.{Scene, Outcome, thread_at, outcome_of_turn}
-use Rattle.machine_scene.specs.Group.{group_of}
 use Rattle.machine_scene.specs.OwnRows.{outcome_of_own_row}
 use Rattle.machine_scene.specs.Outcomes.{outcome_in}
 use Rattle.machine_scene.specs.ReadySet.{is_local_turn}
@@ -28,9 +26,6 @@ is_local of row is = grind arith
 -- its outcome
 pub own_outcome : (row : Row) (t : ℕ) (scene : Scene) → is_local_row row ≡ true → outcome_of_own_row row t scene ≡ Some (local_outcome row t scene)
 own_outcome row t scene is = grind arith
-
-is_own : (row : Row) → is_local_row row ≡ true → group_of row ≡ Own
-is_own row is = grind arith
 
 -- it is the outcome of the turn
 pub local_turn : (of : Status) (row : Row) (t : ℕ) (program : Program) (scene : Scene) → is_local_turn of row ≡ true

@@ -1,5 +1,5 @@
 -- The sets that are kept of a scene: threads that aren't there, and what a step leaves of the sets.
-use Rattle.std.proofs.Common.{◌≡◌, ◌≢◌, ◌∙◌, ℕ, arith, ◌+◌, ◌≤◌, ◌==◌, ◌&&◌, not, Bool, true, false, ap, refl, sym, rules}
+use Rattle.std.proofs.Common.{◌≡◌, ◌≢◌, ◌∙◌, ℕ, arith, ◌≤◌, ◌==◌, ◌&&◌, not, Bool, true, false, ap, refl, sym, rules}
 use Rattle.std.specs.Prelude.{length}
 use Rattle.std.proofs.Math.ListN.{get_or-eq_default}
 use Rattle.std.proofs.lemmas.Bool.{cases_eq}
@@ -13,7 +13,7 @@ use Rattle.machine_scene.specs.Outcomes.{is_ready}
 use Rattle.machine_scene.specs.Ready.{may_be_blocked}
 use Rattle.machine_scene.specs.ReadySet.{is_registering_in, is_registering, AreReady, IsSetAt, AreLooked, IsLooked, AreOthersReady, AreReadyBeside, interrupts, changes_tree, runs_on}
 use Rattle.machine_scene.proofs.ReadyThreads.{ready_as_listed}
-use Rattle.machine_scene.proofs.ThreadSets.{tested_at, all_right, apart_from, nobody, IsFilledTo, filled_more, filled_all}
+use Rattle.machine_scene.proofs.ThreadSets.{tested_at, all_right, apart_from, nobody, IsFilledTo, filled_all}
 use Rattle.cyclic_barrier.proofs.WaitsLemmas.{has-none}
 
 -- a thread that isn't there
@@ -36,10 +36,6 @@ looked program t before set scene turns registering = search (rules, tested_at)
 pub record AreAllLooked (program : Program) (k : ℕ) (set : ReadySet) (scene : Scene) : Type 0 where
   pub turns : IsFilledTo (λ u. is_ready u program scene) k set.turns
   pub registering : IsFilledTo (λ u. is_registering u program scene) k set.registering
-
-pub all_more : (program : Program) (k : ℕ) (before set : ReadySet) (scene : Scene) → AreAllLooked program k before scene
-    → IsLooked program k before set scene → AreAllLooked program (k + 1) set scene
-all_more program k before set scene so_far is = grind (arith, filled_more)
 
 pub all_ready : (program : Program) (k : ℕ) (set : ReadySet) (scene : Scene) → AreAllLooked program k set scene → length scene.threads ≤ k
     → AreReady program set scene

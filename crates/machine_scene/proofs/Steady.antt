@@ -29,7 +29,6 @@ use Rattle.machine_scene.specs.Outcomes.{outcome_in_group, outcome_in, is_ready,
 use Rattle.machine_scene.specs.ReadySet.{is_registering, KnowsReady, AreOthersReady, interrupts, changes_tree, is_loud, changes_all}
 use Rattle.machine_scene.specs.Undo.{PhasersWithin, reach_in}
 use Rattle.machine_scene.proofs.Plain.{either}
-use Rattle.machine_scene.specs.Ready.{is_awaited}
 use Rattle.machine_scene.proofs.ReadyThreads.{ready_as_listed}
 use Rattle.machine_scene.proofs.Standings.{KeepsStandings, registration-standings, arrival-standings}
 
@@ -39,10 +38,6 @@ record Alike (u : ℕ) (scene after : Scene) : Type 0 where
   pub standings : KeepsStandings scene.phasers after.phasers
   pub waits : (b : ℕ) → wait_at (barrier_at after b).waits u ≡ wait_at (barrier_at scene b).waits u
   pub runners : (b : ℕ) → (barrier_at after b).runner ≡ (barrier_at scene b).runner
-
-awaited_same : (row : Row) (phase : ℤ) (u : ℕ) (scene after : Scene) → Alike u scene after
-    → is_awaited row phase u after ≡ is_awaited row phase u scene
-awaited_same row phase u scene after alike = grind arith
 
 -- so the turn is ready just where it was
 ready_same : (u : ℕ) (program : Program) (scene after : Scene) → Alike u scene after

@@ -145,16 +145,13 @@ impl Word {
         Phase::prevailing(unpacked(self.bits).phase as i32)
     }
 
-    /// `getPhase`: the number of the phase, less 2147483648 once the phaser is terminated.
+    /// `getPhase`: the number of the phase, less 2147483648 once the phaser is terminated. The upper half of the word is this
+    /// number's bits.
+    #[tactic(auto, unfolding(crate::specs::Word::fields_of))]
     pub fn phase_view(self) -> i32
         ensures { result ≡ view_of (record_of self) }
     {
-        let phase = self.phase();
-        if self.is_terminated() {
-            phase.negative()
-        } else {
-            phase.number()
-        }
+        ((self.bits >> 32) as u32).cast_signed()
     }
 
     /// `getRegisteredParties`.

@@ -1,31 +1,18 @@
 -- A fold over the words of a line and over the lines of a text, one more at a time.
-use Rattle.std.proofs.Common.{◌≡◌, ◌≢◌, ◌∙◌, ◌+◌, ◌<◌, ◌≤◌, ℕ, zero, suc, Bool, List, [], ◌∷◌, ◌++◌, length, take, drop, ap, refl, arith}
+use Rattle.std.proofs.Common.{◌≡◌, ◌≢◌, ◌∙◌, ◌+◌, ◌<◌, ◌≤◌, ℕ, Bool, List, [], ◌∷◌, ◌++◌, length, take, drop, ap, arith}
 use Rattle.std.specs.Prelude.{Result, Ok}
 use Rattle.std.specs.List.{position_or_len, slice_split}
 use Rattle.std.proofs.lemmas.Bool.Decides.{nat_tests}
 use Rattle.std.proofs.lemmas.List.{take_all}
 use Rattle.std.proofs.lemmas.List.Splits.{slice_split_first, slice_split_none}
 use Rattle.std.proofs.lemmas.List.Sums.{fails_before_first, prefix_len-le-length}
-use Rattle.row_code.specs.Answers.{◌>>=◌, FailsUnless}
+use Rattle.row_code.specs.Answers.{FailsUnless}
 use Rattle.line_reader.specs.Words.{is_line_end, words_in}
 use Rattle.plans.specs.Cutting.{word_alone}
 use Rattle.plans.specs.declared.fault.PlanFault.{PlanFault}
 use Rattle.plans.specs.Plan.{Draft, word_behind, words_behind, lines_behind}
 use Rattle.plans.specs.Reading.{Name}
 use Rattle.plans.specs.Words.{spread, words_of}
-
--- some bytes are a word
-some_word : (text : List ℕ) (n : ℕ) → n ≢ 0 → n ≤ length text → word_alone (take n text) ≡ take n text ∷ []
-some_word text zero some within = absurd (some refl)
-some_word [] (suc n) some within = absurd (omega (arith, within))
-some_word (byte ∷ text) (suc n) some within = refl
-
-here : (names : List Name) (line : ℕ) (text : List ℕ) (n : ℕ) (before : Draft) → n ≢ 0 → n ≤ length text
-    → words_in (spread text) ≡ word_alone (take n text) ++ words_in (spread (drop n text))
-    → words_behind names line before (words_in (spread text))
-    ≡ (word_behind names line before (take n text) >>= (λ after. words_behind names line after (words_in (spread (drop n text)))))
-here names line text n before some within cut =
-    ap (words_behind names line before) (cut ∙ ap (λ ws. ws ++ words_in (spread (drop n text))) (some_word text n some within))
 
 pub next_word : (names : List Name) (line : ℕ) (text : List ℕ) (n : ℕ) (before after : Draft) (all : Result Draft PlanFault)
     → n ≢ 0 → n ≤ length text → words_in (spread text) ≡ word_alone (take n text) ++ words_in (spread (drop n text))

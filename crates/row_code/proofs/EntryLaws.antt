@@ -72,9 +72,6 @@ small n h = record { sfits = omega (arith, h) }
 argument_fits : (policy : DeclaredPolicy) → IsPolicy policy → FitsSigned w32 (argument policy)
 argument_fits policy h = grind (arith, small, count_fits)
 
-row_fits : (action : Option ℕ) → IfSome action (λ row. row < 65536) → FitsSigned w32 (action_row action)
-row_fits action h = grind (arith, small)
-
 -- a row may stand in an image whose magic says whether there is one with a timeout
 abbrev pub MayStand : Bool → Row → Type 0
 MayStand timed row = (timed || not (is_timed_row row)) ≡ true

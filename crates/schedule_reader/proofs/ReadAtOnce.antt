@@ -1,14 +1,11 @@
 -- The runs that a reader makes of a whole schedule.
-use Rattle.std.proofs.Common.{◌≡◌, List, [], Option, Some, None, Result, Ok, Err, ℕ, Bool, true, false, ◌↔◌, arith, rules}
+use Rattle.std.proofs.Common.{◌≡◌, List, [], Some, None, Result, Ok, Err, ℕ, Bool, true, false, ◌↔◌, arith, rules}
 use Rattle.std.proofs.Common.{◌⊎◌, inl, inr}
 use Rattle.schedule_reader.specs.declared.run.Run.{Run}
 use Rattle.schedule_reader.specs.declared.fault.ScheduleFault.{ScheduleFault}
 use Rattle.schedule_reader.specs.declared.fault.ScheduleFault.TheVariants as fault
 use Rattle.schedule_reader.specs.Schedule.{open_schedule, finished_schedule}
-use Rattle.schedule_reader.specs.Reading.{Adds, answer_of, answer_by}
-
-some_fault : (fault : Option ScheduleFault) (why : ScheduleFault) → answer_by fault ≡ Err why → fault ≡ Some why
-some_fault fault why is = grind arith
+use Rattle.schedule_reader.specs.Reading.{Adds, answer_of}
 
 -- want of memory, or what holds without it
 pub answered : {A : Type 0} (result : Result (Unit {0}) ScheduleFault) → (result ≡ Err fault.Memory → ⊥)

@@ -5,15 +5,12 @@ use Rattle.std.specs.List.{range_with_len}
 use Rattle.std.proofs.lemmas.List.FromFn.{length-range_with_len, get_or-range_with_len}
 use Rattle.std.proofs.lemmas.List.Folds.{list_any_at, list_any_none}
 use Rattle.loader.specs.Program.{Program}
-use Rattle.machine_scene.specs.Scene.{Scene, Outcome}
+use Rattle.machine_scene.specs.Scene.{Scene}
 use Rattle.machine_scene.specs.Outcomes.{is_ready}
 use Rattle.thread_machine.specs.declared.choice.Choice.{Choice}
 use Rattle.thread_machine.specs.World.{World}
 use Rattle.thread_machine.specs.Ready.{is_choice_ready, can_expire, can_go_on, some_ready}
 use Rattle.thread_machine.specs.Step.{played, idled}
-
-none_by : (outcome : Option Outcome) → is_some outcome ≡ false → outcome ≡ None
-none_by outcome idle = grind arith
 
 -- a choice without an outcome is idle
 pub idle_choice : (world : World) (choice : Choice) → is_choice_ready world.program choice world.scene ≡ false

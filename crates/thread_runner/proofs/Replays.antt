@@ -2,7 +2,6 @@
 use Rattle.std.proofs.Common.{◌≡◌, ◌+◌, ◌*◌, ◌<◌, ◌≤◌, ℕ, true, List, [], ◌∷◌, ◌++◌, length, arith, length-append}
 use Rattle.std.specs.Prelude.{All, None}
 use Rattle.std.proofs.lemmas.List.Elements.{All-push}
-use Rattle.std.proofs.lemmas.Bool.Decides.{nat_tests}
 use Rattle.loader.specs.Program.{Program}
 use Rattle.thread_machine.specs.declared.choice.Choice.{Choice}
 use Rattle.thread_machine.specs.World.{World, first_world}
@@ -31,11 +30,6 @@ pub replay_more : (recording : Recording) (choice : Choice) (before after : Worl
     → after ≡ (played before choice).world → length after.scene.threads ≡ length before.scene.threads
     → IsReplay (with_choice choice recording) after
 replay_more recording choice before after replay ready accepted below is threads = grind (arith, execution-snoc, counts, length-append)
-
--- a ready choice of a thread that is there is accepted
-pub not_refused : (world : World) (choice : Choice) → choice.thread < length world.scene.threads → world.choices < 1000000000000
-    → world.steps < world.limit → refusal_of world choice ≡ None
-not_refused world choice there few below = grind (arith, there, few, below, nat_tests)
 
 -- the program and the limit stay, so that the first world does
 pub same_first : (before after : World) (choice : Choice) → is_choice_ready before.program choice before.scene ≡ true

@@ -20,11 +20,6 @@ or_false : (a b : Bool) → (a || b) ≡ false → (a ≡ false) × (b ≡ false
 or_false true b none = absurd (cc)
 or_false false b none = (refl, none)
 
--- a phaser that takes them has that many more parties, who are still to arrive
-taken : (count : ℕ) (f : Flat) → f.ended ≡ false → 0 < count → nat_lt 65535 (f.parties + count) ≡ false → f.turned ≡ false
-    → flat_by (register count f) f ≡ record f { parties = f.parties + count }
-taken count f live some room idle = grind (arith, nat_tests)
-
 -- the phaser changes after those above, whose counts `mid` has
 put_more : (count : ℕ) (phasers mid : List PhaserState) (i : ℕ) → i < length phasers → length mid ≡ length phasers → AllGood phasers
     → flat_at mid i ≡ flat_at phasers i → (flat_at phasers i).ended ≡ false → (flat_at phasers i).turned ≡ false

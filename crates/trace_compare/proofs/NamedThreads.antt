@@ -4,18 +4,12 @@ use Rattle.std.specs.List.{slice_split}
 use Rattle.std.proofs.lemmas.List.Elements.{All-append, All-head, All-nil, All-replicate, All-tail}
 use Rattle.schedule_reader.specs.declared.fault.ScheduleFault.{ScheduleFault}
 use Rattle.schedule_reader.specs.declared.run.Run.{Run}
-use Rattle.schedule_reader.specs.Schedule.{IsRun, Reading, Token, Faulty, Unfinished, Schedule, choices_of, finished_schedule, is_blank, schedule_in, schedule_with_piece}
+use Rattle.schedule_reader.specs.Schedule.{IsRun, Schedule, choices_of, finished_schedule, is_blank, schedule_in, schedule_with_piece}
 use Rattle.trace_compare.proofs.OwnTrace.{IsNamed}
 
 -- a run of such a thread
 abbrev HasName : Run → Type 0
 HasName run = run.choice.thread ≤ 63
-
--- a token of such a thread, or none
-abbrev Names : Reading → Type 0
-Names (Token run) = HasName run
-Names (Faulty fault) = Unit {0}
-Names (Unfinished fault) = Unit {0}
 
 -- a piece and what comes after it
 named-with_piece : (at : ℕ) (piece : List ℕ) (rest : Schedule) → All HasName rest.runs

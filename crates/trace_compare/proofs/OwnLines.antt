@@ -18,7 +18,7 @@ use Rattle.thread_machine.specs.World.{world_of}
 use Rattle.trace_compare.specs.declared.comparison.Comparison.{Comparison}
 use Rattle.trace_text.specs.Reading.{choice_in, is_state_line, NamesBehind}
 use Rattle.trace_compare.specs.Compare.{choices_in, line_at, lines_verdict, otherwise}
-use Rattle.trace_compare.specs.Comparing.{GoesOver, IsReading, bytes_left, line_ends, lines_left, told_left}
+use Rattle.trace_compare.specs.Comparing.{GoesOver, IsReading, bytes_left, line_ends, line_played, lines_left, told_left}
 use Rattle.trace_text.specs.Lines.{choice_text}
 use Rattle.trace_text.specs.Trace.{Plays, lines_of}
 use Rattle.trace_text.proofs.Naming.{choice-part, line-no_state, line_names}
@@ -126,9 +126,6 @@ first_part all line lines is = by lines (sym (join_with_byte-slice_split 10 all)
     by [] whole = ([], (whole ∙ sym (append-nil line), inl refl))
     by (next ∷ lines) whole = (10 ∷ join_with_byte 10 (next ∷ lines), (whole, inr (join_with_byte 10 (next ∷ lines), refl)))
 
-first_is : (x y : List ℕ) (xs ys : List (List ℕ)) → x ∷ xs ≡ y ∷ ys → x ≡ y
-first_is x y xs ys same = let head : x ≡ y = cc in head
-
 -- so where it has its LF within bytes, they begin with both
 first_of : (bytes more line rest : List ℕ) → bytes ++ more ≡ line ++ rest → (rest ≡ []) ⊎ ((behind : List ℕ) × (rest ≡ 10 ∷ behind))
     → length line + 1 ≤ length bytes → take (length line + 1) bytes ≡ line ++ (10 ∷ [])
@@ -179,16 +176,24 @@ missed before after choice text bytes more reading still none lost kept same few
     ∙ ap (line_at 0) (text_is ∙ sym kept ∙ sym (text-missed after line lines still none lost no_state)))
     ∙ sym (ap (told_left after) split)
 
+-- bytes that begin with a number begin with the whole line where they go on as it does
+pub begun_whole : (number rest bytes : List ℕ) → take (length number) bytes ≡ number
+    → take (length (number ++ rest)) bytes ≡ number ++ take (length rest) (drop (length number) bytes)
+begun_whole number rest bytes begun =
+    ap (λ n. take n bytes) (length-append number rest) ∙ take-add (length number) (length rest) bytes
+    ∙ ap (λ xs. xs ++ take (length rest) (drop (length number) bytes)) begun
+
 -- a choice was played for the bytes, and its line was met or not
 pub own-by : (before played after : Comparison) (choice : Choice) (number bytes : List ℕ) (count : ℕ) → IsReading before
-    → (world_of before.machine).choices ≤ 1000000000000
-    → number ≡ decimal ((world_of before.machine).choices + 1) → 120 ≤ length bytes
-    → NamesBehind bytes number choice
-    → Plays (world_of before.machine) (world_of played.machine) (choice ∷ []) true (Some []) (Some played.expected)
+    → (world_of before.machine).choices ≤ 1000000000000 → played.next ≡ (world_of before.machine).choices + 1
+    → number ≡ decimal played.next → 120 ≤ length bytes → NamesBehind bytes number choice
+    → Plays (world_of before.machine) (world_of played.machine) (choice ∷ []) true
+    (Some []) (Some (decimal ((world_of before.machine).choices + 1) ++ played.expected))
     → IsReading played → played.number ≡ before.number → played.text ≡ before.text → played.at ≡ before.at
-    → (count ≢ 0 → (take (length played.expected) bytes ≡ played.expected) × (count ≡ length played.expected)
+    → (count ≢ 0 → (take (length (line_played played)) bytes ≡ line_played played) × (count ≡ length (line_played played))
     × (after ≡ record played { number = played.number + 1 }))
-    → (count ≡ 0 → (take (length played.expected) bytes ≢ played.expected) × (after ≡ record played { accepted = false; missed = true }))
-    → length played.expected ≤ 120 → GoesOver before after bytes count
-own-by before played after choice number bytes zero reading few number_is room names p going same text_is at_is was wasnt size = grind (arith, missed)
-own-by before played after choice number bytes (suc n) reading few number_is room names p going same text_is at_is was wasnt size = grind (arith, met)
+    → (count ≡ 0 → (take (length (line_played played)) bytes ≢ line_played played)
+    × (after ≡ record played { accepted = false; missed = true; expected = line_played played }))
+    → length (line_played played) ≤ 120 → GoesOver before after bytes count
+own-by before played after choice number bytes zero reading few next number_is room names p going same text_is at_is was wasnt size = grind (arith, missed)
+own-by before played after choice number bytes (suc n) reading few next number_is room names p going same text_is at_is was wasnt size = grind (arith, met)

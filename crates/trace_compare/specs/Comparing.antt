@@ -1,5 +1,5 @@
 -- What the lines that are left make of a comparison. Nobody has to believe this: it is what proofs go by, from line to line.
-use Rattle.std.specs.Prelude.{◌≡◌, ◌⊎◌, [], ◌∷◌, ◌+◌, ◌-◌, ◌<◌, ◌≤◌, ◌++◌, ◌&&◌, ◌||◌, not, ℕ, Bool, false, true, List, drop, length, take, if◌then◌else◌, Option, Some, None}
+use Rattle.std.specs.Prelude.{◌≡◌, ◌⊎◌, [], ◌∷◌, ◌+◌, ◌-◌, ◌<◌, ◌≤◌, ◌++◌, ◌&&◌, ◌||◌, not, ℕ, Bool, false, true, List, decimal, drop, length, take, if◌then◌else◌, Option, Some, None}
 use Rattle.std.specs.Io.KnownBytes.{IsAtEnd}
 use Rattle.std.specs.List.{count_by, slice_split}
 use Rattle.byte_ports.specs.SourceLines.{Lines}
@@ -43,6 +43,10 @@ text_left now lines =
 abbrev pub told_left : Comparison → List (List ℕ) → Told
 told_left now lines =
     let v = lines_left now lines in record { verdict = v; line = line_by v now.number (text_left now lines) }
+
+-- the run's line of the choice that was just played, where its number is kept beside it
+abbrev pub line_played : Comparison → List ℕ
+line_played now = decimal now.next ++ now.expected
 
 -- the run's line that a comparison has where one differs
 abbrev pub line_kept : Comparison → Option (List ℕ)

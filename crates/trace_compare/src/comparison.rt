@@ -1,4 +1,4 @@
-ghost use Rattle.std.specs.Prelude.{◌≡◌, ◌≢◌, ◌⊎◌, IsTrue, IfErr, Err, false, true, ◌==◌, ◌&&◌, ◌<◌, ◌≤◌, ◌+◌, ◌-◌, ◌++◌, ◌∷◌, [], List, ℕ, Option, None, Ok, IfOk, OnOk, drop, length, option_map, take};
+ghost use Rattle.std.specs.Prelude.{◌≡◌, ◌≢◌, ◌⊎◌, IsTrue, IfErr, Err, false, true, ◌==◌, ◌&&◌, ◌<◌, ◌≤◌, ◌+◌, ◌-◌, ◌++◌, ◌∷◌, [], List, ℕ, Option, None, Ok, IfOk, OnOk, decimal, drop, length, option_map, take};
 ghost use Rattle.std.specs.Io.KnownBytes.{Consumes};
 ghost use Rattle.std.specs.Str.{bytes_eq};
 ghost use Rattle.byte_ports.specs.SourceLines.{HasCome, IsOneLine};
@@ -7,7 +7,7 @@ ghost use Rattle.trace_text.specs.RunText.{GivesOnAndOn};
 ghost use Rattle.trace_text.specs.Start.{IsRefused, is_want_of_memory};
 ghost use Rattle.trace_text.specs.Reading.{HasNoLongLine, choice_in, is_state_line};
 ghost use Rattle.trace_compare.specs.Compare.{HasCompared, HasShown, IsReadNoFurther, choice_verdict, line_at, lines_verdict, state_verdict, told};
-ghost use Rattle.trace_compare.specs.Comparing.{GoesOver, HasCounted, HasEndedBehind, HasJudged, HasLeft, IsOpen, IsReading, MeetsText, StandsBehind, StandsFrom, decided, line_kept, lines_left, told_by, told_left};
+ghost use Rattle.trace_compare.specs.Comparing.{GoesOver, HasCounted, HasEndedBehind, HasJudged, HasLeft, IsOpen, IsReading, MeetsText, StandsBehind, StandsFrom, decided, line_kept, line_played, lines_left, told_by, told_left};
 
 use crate::naming::MOST_LINES;
 use byte_ports::{LineEnded, Source, SourceLines};
@@ -54,7 +54,7 @@ pub enum CompareFault {
 #[derive(Drop)]
 struct Comparison {
     machine: Machine,
-    /// The run's line of the last choice that was played.
+    /// The run's line of the last choice that was played; where that was the trace's, without its number.
     expected: LineEnd,
     /// The number of the next choice, as of the last line that was looked at where it lies.
     next: Digits,
@@ -204,26 +204,27 @@ impl Comparison {
         Ok(self.take_state_line(line))
     }
 
-    /// Goes on over the run's line of the choice that was just played, where these bytes begin with it. Answers how many
-    /// bytes it has. Where they don't, no choice counts as accepted any more, and the answer is 0.
+    /// Goes on over the run's line of the choice that was just played, whose number these bytes begin with, where they go on as
+    /// it does. Answers how many bytes it has. Where they don't, no choice counts as accepted any more, and the answer is 0.
     #[inline(always)]
     fn meet(&mut self, bytes: &[u8]) -> usize
         requires room { 120 ≤ length bytes.now }
-        requires some { 0 < length self.old.expected }
-        requires few { length self.old.expected ≤ 120 }
+        requires begun { take (length (decimal self.old.next)) bytes.now ≡ decimal self.old.next }
+        requires few { length self.old.expected ≤ 100 }
         requires number { self.old.number < 9223372036854775807 }
-        ensures met { result ≢ 0 → (take (length self.old.expected) bytes.now ≡ self.old.expected)
-            × (result ≡ length self.old.expected)
-            × (self.new ≡ record self.old { number = self.old.number + 1 }) }
-        ensures missed { result ≡ 0 → (take (length self.old.expected) bytes.now ≢ self.old.expected)
-            × (self.new ≡ record self.old { accepted = false; missed = true }) }
+        ensures met { result ≢ 0 → (take (length (line_played self.old)) bytes.now ≡ line_played self.old)
+            × (result ≡ length (line_played self.old)) × (self.new ≡ record self.old { number = self.old.number + 1 }) }
+        ensures missed { result ≡ 0 → (take (length (line_played self.old)) bytes.now ≢ line_played self.old)
+            × (self.new ≡ record self.old { accepted = false; missed = true; expected = line_played self.old }) }
     {
-        let line = self.expected.as_slice();
-        let length = line.len();
-        if begins_with(bytes, line) {
+        let digits = self.next.count();
+        let behind = self.expected.as_slice();
+        let count = digits + behind.len();
+        if begins_with::<8>(rest_of(bytes, digits), behind) {
             self.number += 1;
-            return length;
+            return count;
         }
+        self.expected.put_digits(&self.next);
         self.accepted = false;
         self.missed = true;
         0
@@ -246,7 +247,7 @@ impl Comparison {
         let pc = self.machine.pc(choice.thread);
         self.kept.put_idle(self.machine.choices() + 1, choice, pc);
         let length = self.kept.as_slice().len();
-        if !begins_with(bytes, self.kept.as_slice()) {
+        if !begins_with::<16>(bytes, self.kept.as_slice()) {
             return 0;
         }
         if self.machine.idle(choice, 1) == 0 {
@@ -277,7 +278,7 @@ impl Comparison {
         self.again = self.is_again(choice);
         self.steps = self.machine.steps();
         self.last = choice;
-        match own_line_of_choice(&mut self.machine, choice, &self.next, &mut self.expected) {
+        match own_line_of_choice(&mut self.machine, choice, &mut self.expected) {
             Ok(true) => Ok(self.meet(bytes)),
             Ok(false) => Ok(0),
             Err(error) => Err(error),

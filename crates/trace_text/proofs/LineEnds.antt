@@ -55,7 +55,7 @@ last_digit n fits =
     ]
 
 -- the number that a line begins with, counted up by one in its last place
-pub counted_up_in : (bytes rest : List ℕ) (start digits n last : ℕ) → digits ≡ length (decimal n)
+counted_up_in : (bytes rest : List ℕ) (start digits n last : ℕ) → digits ≡ length (decimal n)
     → drop start bytes ≡ decimal n ++ rest → last ≡ get_or bytes (start + digits - 1) 0 → last < 57 → n + 1 < 2 ^ 64
     → (digits ≡ length (decimal (n + 1)))
     × (drop start (set bytes (start + digits - 1) (last + 1)) ≡ decimal (n + 1) ++ rest)
@@ -65,12 +65,6 @@ counted_up_in bytes rest start digits n last long is last_is low fits =
     let size : digits ≡ length front + 1 = long ∙ ap length split.1 ∙ length-append front _ in
     let place : start + digits - 1 ≡ start + length front = omega (arith, size) in
     grind (arith, append_assoc, get_or-drop, get_or_at, length-append, drop-set-add, set_at)
-
--- a number that a line begins with ends in the line
-pub within_line : (bytes rest : List ℕ) (start digits n : ℕ) → digits ≡ length (decimal n)
-    → drop start bytes ≡ decimal n ++ rest → length bytes ≡ 192 → start ≤ 192 → start + digits ≤ length bytes
-within_line bytes rest start digits n size is long within =
-    omega (arith, ap length is, length-append (decimal n) rest, length-drop start bytes, size, long, within)
 
 -- how many digits a block ends with
 pub kept_digits : (block : List ℕ) (count n : ℕ) → length block ≡ 20 → count ≤ 20 → drop (20 - count) block ≡ decimal n
@@ -143,12 +137,11 @@ copied_block bytes block copied line start n count long within is room same size
     ∙ ap (λ k. drop (20 - k) block ++ line) count_is
     ∙ ap (λ xs. xs ++ line) ends
 
--- whose turn or expiry a choice is, as one word before a line
-pub named_line : (new rest digits : List ℕ) (letter : ℕ) (choice : Choice) → decimal choice.thread ≡ digits
-    → (if choice.expiry then codes " x" else codes " t") ≡ 32 ∷ letter ∷ []
-    → new ≡ (32 ∷ letter ∷ (digits ++ 32 ∷ [])) ++ rest
-    → (step : ℕ) → decimal step ++ new ≡ choice_text step choice ++ rest
-named_line new rest digits letter choice spelt named is step = grind (arith, append_assoc)
+-- whose turn or expiry a choice is, before a line
+pub named_line : (new rest word : List ℕ) (choice : Choice) (step : ℕ)
+    → new ≡ word ++ (decimal choice.thread ++ (codes " " ++ rest)) → (if choice.expiry then codes " x" else codes " t") ≡ word
+    → decimal step ++ new ≡ choice_text step choice ++ rest
+named_line new rest word choice step is named = grind (arith, append_assoc)
 
 -- a number of two digits
 pub two_digits : (n : ℕ) → 10 ≤ n → n < 100 → decimal n ≡ (48 + n / 10) ∷ (48 + n % 10) ∷ []

@@ -7,7 +7,7 @@ use Rattle.schedule_reader.specs.declared.fault.ScheduleFault.{ScheduleFault}
 use Rattle.schedule_reader.specs.declared.fault.ScheduleFault.TheVariants.{Memory}
 use Rattle.schedule_reader.specs.declared.run.Run.{Run}
 use Rattle.schedule_reader.specs.Places.{Progress, HasRead}
-use Rattle.schedule_reader.specs.Reading.{Adds, answer_by, answer_of}
+use Rattle.schedule_reader.specs.Reading.{Adds, answer_of}
 use Rattle.schedule_reader.specs.Schedule.{Schedule, open_schedule, finished_schedule, choices_of}
 use Rattle.thread_machine.specs.World.{World}
 use Rattle.trace_text.specs.declared.run.RunFault.{RunFault}
@@ -65,11 +65,6 @@ added-writes_part told shorter longer first before was old known new start runs 
 pub has_read : (told : Result (Unit {0}) ScheduleFault) (reader : Progress) (bytes : List ℕ) → told ≢ Err Memory
     → (told ≡ Err Memory) ⊎ HasRead reader bytes → HasRead reader bytes
 has_read told reader bytes enough given = grind arith
-
--- an answer that is no fault
-no_fault : (fault : Option ScheduleFault)
-    → (let ok : Result (Unit {0}) ScheduleFault = Ok tt in ok ≡ answer_by fault) → fault ≡ None
-no_fault fault is = grind arith
 
 end_without_fault : (told : Result (Unit {0}) ScheduleFault) (schedule : Schedule) → told ≡ Ok tt
     → (told ≡ Err Memory) ⊎ (told ≡ answer_of schedule) → schedule.fault ≡ None

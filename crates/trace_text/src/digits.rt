@@ -75,6 +75,14 @@ impl Digits {
         self.number = number;
     }
 
+    /// The number.
+    #[inline(always)]
+    pub fn value(&self) -> u64
+        ensures { result ≡ self.now }
+    {
+        self.number
+    }
+
     /// How many there are.
     #[inline(always)]
     pub fn count(&self) -> usize

@@ -27,13 +27,11 @@ fn is_idle(event: &Event) -> bool
     }
 }
 
-/// The line of the last choice, played or refused. Where one idle choice of a thread follows another, its number is counted up in place.
+/// The line of the last choice, played or refused. Where one idle choice of a thread follows another, its number alone is new.
 #[derive(Drop)]
 pub struct KeptLine {
     text: LineEnd,
-    digits: usize,
-    step: u64,
-    /// The digits of the last number that was put, and not counted up in the line.
+    /// The digits of its number, with which it begins.
     number: Digits,
     /// Whether the choice was idle, and then which one it was, of a thread at which row.
     is_idle: bool,
@@ -49,24 +47,23 @@ impl Model for KeptLine {
 
     ghost Value = { NumberedLine };
 
-    ghost view = { λ line. record { step = line.step; behind = drop line.digits line.text } };
+    ghost view = { λ line. record { step = line.number; behind = drop (length (decimal line.number)) line.text } };
 
-    ghost invariant = { λ line. (line.text ≡ decimal line.step ++ drop line.digits line.text)
-        × (line.digits ≡ length (decimal line.step)) × (line.digits ≤ 20)
-        × (length line.text ≤ line.digits + 100)
-        × (line.is_idle ≡ true → IsBehindNumber (drop line.digits line.text) line.choice line.pc idle_event) };
+    ghost invariant = { λ line. (line.text ≡ decimal line.number ++ drop (length (decimal line.number)) line.text)
+        × (length (drop (length (decimal line.number)) line.text) ≤ 100) × (length line.text ≤ 120)
+        × (line.is_idle ≡ true
+        → IsBehindNumber (drop (length (decimal line.number)) line.text) line.choice line.pc idle_event) };
 }
 
 impl KeptLine {
     /// Some line, of no choice.
     pub fn new() -> KeptLine {
         let mut text = LineEnd::new();
-        let digits = text.put_count(0);
+        let number = Digits::new();
+        text.put_digits(&number);
         KeptLine {
             text,
-            digits,
-            step: 0,
-            number: Digits::new(),
+            number,
             is_idle: false,
             choice: Choice {
                 thread: 0,
@@ -106,8 +103,7 @@ impl KeptLine {
         }
         put_played(&mut self.text, choice, pc, event);
         self.number.move_to(step);
-        self.digits = self.text.put_digits(&self.number);
-        self.step = step;
+        self.text.put_digits(&self.number);
         self.is_idle = false;
     }
 
@@ -118,8 +114,7 @@ impl KeptLine {
     {
         put_refused(&mut self.text, choice, pc);
         self.number.move_to(step);
-        self.digits = self.text.put_digits(&self.number);
-        self.step = step;
+        self.text.put_digits(&self.number);
         self.is_idle = false;
     }
 
@@ -131,7 +126,7 @@ impl KeptLine {
     {
         self.is_idle
             && 0 < step
-            && step - 1 == self.step
+            && step - 1 == self.number.value()
             && self.pc == pc
             && are_same(self.choice, choice)
     }
@@ -163,8 +158,7 @@ impl KeptLine {
         };
         put_played(&mut self.text, choice, pc, &event);
         self.number.move_to(step);
-        self.digits = self.text.put_digits(&self.number);
-        self.step = step;
+        self.text.put_digits(&self.number);
         self.is_idle = true;
         self.choice = choice;
         self.pc = pc;
@@ -173,10 +167,11 @@ impl KeptLine {
     /// Makes it the line of the next choice, which is the same and did the same.
     #[inline(always)]
     pub fn count_up(&mut self)
-        requires { self.old.step + 1 < 2 ^ 64 }
+        requires { self.old.step + 2 < 2 ^ 64 }
         ensures { self.new ≡ record self.old { step = self.old.step + 1 } }
     {
-        self.digits = self.text.count_up(self.step, self.digits);
-        self.step += 1;
+        self.text.drop_first(self.number.count());
+        self.number.move_to(self.number.value() + 1);
+        self.text.put_digits(&self.number);
     }
 }

@@ -1,8 +1,7 @@
-ghost use Rattle.std.specs.Prelude.{◌≡◌, ◌++◌, ◌+◌, ◌<◌, ◌≤◌, ℕ, [], OnOk, OnErr, codes, length};
+ghost use Rattle.std.specs.Prelude.{◌≡◌, ◌++◌, ◌+◌, ◌<◌, ◌≤◌, ℕ, OnOk, OnErr, codes, length};
 ghost use Rattle.std.specs.Fmt.{signed_decimal, decimal};
 ghost use Rattle.trace_text.specs.Lines.{what_text, mark_text, choice_text, event_text, refusal_text};
 
-use crate::digits::Digits;
 use crate::line_end::LineEnd;
 use std::alloc::AllocError;
 use std::marker::Model;
@@ -94,6 +93,10 @@ fn put_answer(line: &mut LineEnd, event: &Event)
             line.clear();
             line.put_word(b" idle\n");
         }
+        (What::Waits, Mark::Nothing) => {
+            line.clear();
+            line.put_word(b" wait\n");
+        }
         (What::Value(value), Mark::Nothing) => {
             line.clear();
             line.put_word(b"\n");
@@ -109,22 +112,34 @@ fn put_answer(line: &mut LineEnd, event: &Event)
     }
 }
 
-/// Whose turn or expiry a choice is, between its spaces. Where the thread's number has one digit or two, that is one word.
+/// A number and a space. One of one digit is a single word with it.
+#[inline(always)]
+fn put_spaced(line: &mut LineEnd, number: u8)
+    requires { length line.old + 21 ≤ 192 }
+    ensures text { line.new ≡ decimal number ++ (codes " " ++ line.old) }
+    ensures length { length line.new ≤ length line.old + 21 }
+{
+    if number < 10 {
+        line.put_word(&[b'0' + number, b' ']);
+        return;
+    }
+    line.put_word(b" ");
+    line.put_count(u64::from(number));
+}
+
+/// Whose turn or expiry a choice is, between its spaces.
 #[inline(always)]
 fn put_thread(line: &mut LineEnd, choice: Choice)
     requires { length line.old + 23 ≤ 192 }
     ensures text { (step : ℕ) → decimal step ++ line.new ≡ choice_text step choice ++ line.old }
     ensures length { length line.new ≤ length line.old + 23 }
 {
-    let thread = choice.thread;
-    let letter = if choice.expiry { b'x' } else { b't' };
-    if thread < 10 {
-        line.put_word(&[b' ', letter, b'0' + thread, b' ']);
-        return;
+    put_spaced(line, choice.thread);
+    if choice.expiry {
+        line.put_word(b" x");
+    } else {
+        line.put_word(b" t");
     }
-    line.put_word(b" ");
-    line.put_count(u64::from(thread));
-    line.put_word(&[b' ', letter]);
 }
 
 /// The line of a choice that was played by a thread at this row, from what stands behind its number.
@@ -144,23 +159,6 @@ pub fn put_event(line: &mut LineEnd, step: u64, choice: Choice, pc: u16, event: 
 {
     put_played(line, choice, pc, event);
     line.put_count(step);
-}
-
-/// The line of a choice that was played by a thread at this row, where the digits of its number are kept.
-#[inline(always)]
-pub(super) fn put_event_behind(
-    line: &mut LineEnd,
-    number: &Digits,
-    choice: Choice,
-    pc: u16,
-    event: &Event,
-)
-    ensures text { line.new ≡ event_text number.now choice pc event.now }
-    ensures some { 0 < length line.new }
-    ensures few { length line.new ≤ 120 }
-{
-    put_played(line, choice, pc, event);
-    line.put_digits(number);
 }
 
 /// The line of a choice that was refused, by the row of its thread, or `None` where there is no such thread, from what stands

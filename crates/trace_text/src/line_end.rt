@@ -1,5 +1,5 @@
 // A line that is put together from its end.
-ghost use Rattle.std.specs.Prelude.{◌≡◌, ◌+◌, ◌<◌, ◌≤◌, ◌^◌, List, ℕ, [], ◌++◌, length, drop};
+ghost use Rattle.std.specs.Prelude.{◌≡◌, ◌+◌, ◌<◌, ◌≤◌, List, ℕ, [], ◌++◌, length, drop};
 ghost use Rattle.std.specs.Fmt.{decimal, signed_decimal};
 
 use crate::digits::{Digits, MOST_DIGITS};
@@ -66,34 +66,36 @@ impl LineEnd {
         self.start = start;
     }
 
-    /// Puts a number that is never below 0 before it. Answers how many digits it has.
+    /// Takes so many bytes from its beginning.
     #[inline(always)]
-    pub fn put_count(&mut self, count: u64) -> usize
+    pub fn drop_first(&mut self, count: usize)
+        requires { count ≤ length self.old }
+        ensures { self.new ≡ drop count self.old }
+    {
+        self.start += count;
+    }
+
+    /// Puts a number that is never below 0 before it.
+    #[inline(always)]
+    pub fn put_count(&mut self, count: u64)
         requires { length self.old + 20 ≤ 192 }
         ensures text { self.new ≡ decimal count ++ self.old }
-        ensures length { length self.new ≡ result + length self.old }
-        ensures digits { result ≡ length (decimal count) }
-        ensures few { result ≤ 20 }
+        ensures length { length self.new ≤ length self.old + 20 }
     {
-        let end = self.start;
-        self.start = write_digits(count, &mut self.bytes, end);
-        end - self.start
+        self.start = write_digits(count, &mut self.bytes, self.start);
     }
 
     /// Puts a number before it of which the digits are kept: their block is copied whole, and what of it stands before the
-    /// digits is no part of the line. Answers how many digits the number has.
+    /// digits is no part of the line.
     #[inline(always)]
-    pub fn put_digits(&mut self, digits: &Digits) -> usize
+    pub fn put_digits(&mut self, digits: &Digits)
         requires { length self.old + 20 ≤ 192 }
         ensures text { self.new ≡ decimal digits.now ++ self.old }
-        ensures length { length self.new ≡ result + length self.old }
-        ensures digits { result ≡ length (decimal digits.now) }
-        ensures few { result ≤ 20 }
+        ensures length { length self.new ≤ length self.old + 20 }
     {
         let end = self.start;
         self.bytes[end - MOST_DIGITS..end].copy_from_slice(&digits.block());
         self.start = end - digits.count();
-        digits.count()
     }
 
     /// Puts a number before it.
@@ -109,25 +111,5 @@ impl LineEnd {
         }
         self.start -= 1;
         self.bytes[self.start] = b'-';
-    }
-
-    /// Counts up the number that the line begins with, which has so many digits. Answers how many the next one has.
-    pub fn count_up(&mut self, number: u64, digits: usize) -> usize
-        requires next { number + 1 < 2 ^ 64 }
-        requires digits { digits ≡ length (decimal number) }
-        requires number { self.old ≡ decimal number ++ drop digits self.old }
-        requires room { length self.old + 20 ≤ 192 }
-        ensures text { self.new ≡ decimal (number + 1) ++ drop digits self.old }
-        ensures digits { result ≡ length (decimal (number + 1)) }
-        ensures length { length self.new + digits ≡ length self.old + result }
-    {
-        let end = self.start + digits;
-        let last = self.bytes[end - 1];
-        if last < b'9' {
-            self.bytes[end - 1] = last + 1;
-            return digits;
-        }
-        self.start = write_digits(number + 1, &mut self.bytes, end);
-        end - self.start
     }
 }

@@ -21,47 +21,52 @@ pub fn first_bytes(text: &[u8], count: usize) -> &[u8]
     &text[..count]
 }
 
-/// The first eight of these bytes.
+/// Whether so many bytes are the same. Their number is known, so each are a word or two, wherever this is inlined.
 #[inline(always)]
-fn first_eight(bytes: &[u8]) -> &[u8; 8]
-    requires { 8 ≤ length bytes.now }
-    ensures { result.now ≡ take 8 bytes.now }
+fn are_same<const N: usize>(one: &[u8; N], other: &[u8; N]) -> bool
+    ensures same { result ≡ true → one.now ≡ other.now }
+    ensures other { one.now ≡ other.now → result ≡ true }
 {
-    &bytes.as_chunks::<8>().0[0]
+    *one == *other
 }
 
-/// Whether both begin with the same eight bytes. As arrays of a known size they are one word each, wherever this is inlined.
+/// Whether two texts of N to 2 N bytes are the same, by their first N and their last N, which may overlap.
 #[inline(always)]
-fn begin_alike(one: &[u8], other: &[u8]) -> bool
-    requires one { 8 ≤ length one.now }
-    requires other { 8 ≤ length other.now }
-    ensures same { result ≡ true → take 8 one.now ≡ take 8 other.now }
-    ensures other { take 8 one.now ≡ take 8 other.now → result ≡ true }
+#[tactic(auto, using(crate::proofs::Words::ends_same))]
+fn have_same_ends<const N: usize>(one: &[u8], other: &[u8]) -> bool
+    requires length { length one.now ≡ length other.now }
+    requires many { N ≤ length one.now }
+    requires few { length one.now ≤ N + N }
+    ensures same { result ≡ true → one.now ≡ other.now }
+    ensures other { result ≡ false → one.now ≢ other.now }
 {
-    first_eight(one) == first_eight(other)
+    let (Some((first, _)), Some((_, last))) = (
+        one.split_first_chunk::<N>(),
+        one.split_last_chunk::<N>(),
+    ) else {
+        unreachable!()
+    };
+    let (Some((other_first, _)), Some((_, other_last))) = (
+        other.split_first_chunk::<N>(),
+        other.split_last_chunk::<N>(),
+    ) else {
+        unreachable!()
+    };
+    are_same(first, other_first) && are_same(last, other_last)
 }
 
-/// Whether bytes begin with a line. One of 8 to 24 bytes, as most are, is held against them as three words of eight bytes,
-/// which may overlap.
+/// Whether bytes begin with a text. No function is called for one of N to 2 N bytes.
 #[inline(always)]
-pub fn begins_with(bytes: &[u8], line: &[u8]) -> bool
-    requires { length line.now ≤ length bytes.now }
-    ensures same { result ≡ true → take (length line.now) bytes.now ≡ line.now }
-    ensures other { result ≡ false → take (length line.now) bytes.now ≢ line.now }
+pub fn begins_with<const N: usize>(bytes: &[u8], text: &[u8]) -> bool
+    requires { length text.now ≤ length bytes.now }
+    ensures same { result ≡ true → take (length text.now) bytes.now ≡ text.now }
+    ensures other { result ≡ false → take (length text.now) bytes.now ≢ text.now }
 {
-    let length = line.len();
-    if length < 8 || 24 < length {
-        return first_bytes(bytes, length) == line;
+    let first = first_bytes(bytes, text.len());
+    if text.len() >= N && text.len() - N <= N {
+        return have_same_ends::<N>(first, text);
     }
-    if !begin_alike(bytes, line) {
-        return false;
-    }
-    let last = length - 8;
-    if !begin_alike(rest_of(bytes, last), rest_of(line, last)) {
-        return false;
-    }
-    let middle = last.min(8);
-    begin_alike(rest_of(bytes, middle), rest_of(line, middle))
+    first == text
 }
 
 /// The choice that is named at the beginning of these bytes, between two spaces.
@@ -99,7 +104,7 @@ pub fn choice_behind(bytes: &[u8], number: &[u8]) -> Option<Choice>
     requires { length number.now ≤ length bytes.now }
     ensures { IfSome result (λ choice. NamesBehind bytes.now number.now choice) }
 {
-    if !begins_with(bytes, number) {
+    if !begins_with::<4>(bytes, number) {
         return None;
     }
     choice_between_spaces(rest_of(bytes, number.len()))

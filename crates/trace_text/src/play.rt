@@ -1,4 +1,4 @@
-ghost use Rattle.std.specs.Prelude.{◌≡◌, ◌≢◌, ◌+◌, ◌<◌, ◌≤◌, ◌∷◌, length, [], Some, None, Ok, false, replicate, IsTrue, true, IfOk, IfSome, OnOk};
+ghost use Rattle.std.specs.Prelude.{◌≡◌, ◌≢◌, ◌+◌, ◌++◌, ◌<◌, ◌≤◌, ◌∷◌, decimal, length, [], Some, None, Ok, false, replicate, IsTrue, true, IfOk, IfSome, OnOk};
 ghost use Rattle.std.specs.Io.KnownBytes.{Appends};
 ghost use Rattle.thread_machine.specs.Idle.{idle_times};
 ghost use Rattle.thread_machine.specs.World.{world_of};
@@ -8,9 +8,8 @@ ghost use Rattle.trace_text.specs.NumberedLine.{text_of};
 ghost use Rattle.trace_text.specs.Playing.{idle_lines};
 ghost use Rattle.trace_text.specs.Trace.{AppendsPartOf, Plays, lines_of};
 
-use crate::digits::Digits;
 use crate::kept_line::KeptLine;
-use crate::line::{put_event, put_event_behind, put_refusal};
+use crate::line::{put_event, put_played, put_refusal};
 use crate::line_end::LineEnd;
 use byte_ports::Sink;
 use schedule_reader::Run;
@@ -133,27 +132,24 @@ pub fn line_of_choice(
     }
 }
 
-/// Plays one choice of a thread that is there, and makes its line where it is accepted; whether it was. The digits of the
-/// choice's number are given.
+/// Plays one choice of a thread that is there, and makes what stands behind the number in its line, where it is accepted;
+/// whether it was.
 #[inline(always)]
 pub fn own_line_of_choice(
     machine: &mut Machine,
     choice: Choice,
-    number: &Digits,
     line: &mut LineEnd,
 ) -> Result<bool, AllocError>
     requires there { choice.thread < length machine.old.scene.threads }
-    requires number { number.now ≡ machine.old.choices + 1 }
-    ensures played { result ≡ Ok true
-        → Plays (world_of machine.old) (world_of machine.new) (choice ∷ []) true (Some []) (Some line.new) }
-    ensures some { result ≡ Ok true → 0 < length line.new }
-    ensures few { result ≡ Ok true → length line.new ≤ 120 }
+    ensures played { result ≡ Ok true → Plays (world_of machine.old) (world_of machine.new) (choice ∷ []) true
+        (Some []) (Some (decimal (machine.old.choices + 1) ++ line.new)) }
+    ensures few { result ≡ Ok true → length line.new ≤ 100 }
     ensures refused { result ≡ Ok false → machine.new ≡ machine.old }
 {
     let pc = machine.pc(choice.thread);
     match machine.step(choice) {
         Ok(event) => {
-            put_event_behind(line, number, choice, pc, &event);
+            put_played(line, choice, pc, &event);
             Ok(true)
         }
         Err(StepFault::Memory) => Err(AllocError),

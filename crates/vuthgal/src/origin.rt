@@ -2,4 +2,4 @@
 
 /// The version, the kit whose logic proves it, and the sum of the sources but for this file.
 pub const VERSION: &str =
-    "1.1.0\nkit rattle-kit-13f logic dac8208d650f15bf\nsources 904204417a32e6217d2d6ba8cb4c999f4d53a724c86a6c035bb83dd165b9d8e0";
+    "1.1.0\nkit rattle-kit-13f logic dac8208d650f15bf\nsources 5cdb7510eca72c7a092b9e72fcb8c916c20ee372760512a2c74d9ea8d28f4a0a";

@@ -248,6 +248,30 @@ impl Debugger {
         replace(&mut self.room, Vec::new(self.alloc))
     }
 
+    /// `command`, of a line that isn't `g` and one turn. It stands apart, so that such a line doesn't pay for its room.
+    #[inline(never)]
+    fn command_of_words<W: Sink>(
+        &mut self,
+        line: &[u8],
+        output: &mut W,
+    ) -> Result<bool, CommandFault>
+        ensures replies { result ≢ Err CommandFault.Memory → IsCarriedOut result self.old (line_order line.now) self.new
+            (W.written output.old) (W.written output.new) }
+        ensures goes_on { IfOk result (λ more. more ≡ goes_on (line_order line.now)) }
+        ensures memory { result ≡ Err CommandFault.Memory
+            → (self.new ≡ self.old) × (W.written output.new ≡ W.written output.old) }
+        ensures write { result ≡ Err CommandFault.Write → IsTrue (W.has_failed output.new) }
+        ensures wants { result ≡ Err CommandFault.Memory → MayWantMemory line.now }
+    {
+        let room = self.take_room();
+        let command = command_of(room, line)?;
+        let goes_on = command.goes_on();
+        match self.carry_out(command, output) {
+            Ok(()) => Ok(goes_on),
+            Err(fault) => Err(fault),
+        }
+    }
+
     /// Carries out the command of a line and writes its reply; false after `q`. The line is read whole before anything is
     /// done, so one that is no command leaves the debugger as before. After `Write` the command was carried out, and how much
     /// of its reply went out is left open; after `Memory` it was not, and nothing was written.
@@ -260,15 +284,11 @@ impl Debugger {
         ensures write { result ≡ Err CommandFault.Write → IsTrue (W.has_failed output.new) }
         ensures wants { result ≡ Err CommandFault.Memory → MayWantMemory line.now }
     {
-        if let Some(run) = lone_turn(line) {
-            self.go_command(&[run], output)?;
-            return Ok(true);
-        }
-        let room = self.take_room();
-        let command = command_of(room, line)?;
-        let goes_on = command.goes_on();
-        match self.carry_out(command, output) {
-            Ok(()) => Ok(goes_on),
+        let Some(run) = lone_turn(line) else {
+            return self.command_of_words(line, output);
+        };
+        match self.go_command(&[run], output) {
+            Ok(()) => Ok(true),
             Err(fault) => Err(fault),
         }
     }

@@ -1,16 +1,16 @@
-use Rattle.std.proofs.Common.{◌≡◌, ◌∙◌, ◌∷◌, [], ap, sym}
+use Rattle.std.proofs.Common.{◌∙◌, ◌++◌, ap}
 use Rattle.std.specs.Prelude.{codes, if◌then◌else◌}
-use Rattle.std.proofs.lemmas.Fmt.{decimal_digit}
 use Rattle.trace_text.proofs.LineEnds.{named_line}
 use Rattle.trace_text.proofs.line.put_thread.Goals as goal
-use Rattle.trace_text.proofs.line.put_thread.Goals.{then-choice, else-choice}
 
-pub returns-then-thread-lt10-clause-text : goal.returns-then-thread-lt10-clause-text
-returns-then-thread-lt10-clause-text c =
-    let named : (if c.args.choice.expiry then codes " x" else codes " t") ≡ 32 ∷ c.if-choice.letter ∷ [] =
-    elim c.if-choice.branch [
-      | then-choice w ↦ ap (λ is. if is then codes " x" else codes " t") w.if-choice.true ∙ ap (λ letter. 32 ∷ letter ∷ []) (sym w.letter-is)
-      | else-choice w ↦ ap (λ is. if is then codes " x" else codes " t") w.if-choice.false ∙ ap (λ letter. 32 ∷ letter ∷ []) (sym w.letter-is)
-    ] in
-    named_line _ _ _ c.if-choice.letter c.args.choice (decimal_digit c.args.choice.thread c.if-thread-lt10.true) named
-    c.put_word.ensures.text
+pub returns-then-choice-clause-text : goal.returns-then-choice-clause-text
+returns-then-choice-clause-text c = λ step.
+    named_line _ c.args.line.now (codes " x") c.args.choice step
+    (c.put_word.ensures.text ∙ ap (λ l. codes " x" ++ l) c.put_spaced.ensures.text)
+    (ap (λ is. if is then codes " x" else codes " t") c.if-choice.true)
+
+pub returns-else-choice-clause-text : goal.returns-else-choice-clause-text
+returns-else-choice-clause-text c = λ step.
+    named_line _ c.args.line.now (codes " t") c.args.choice step
+    (c.put_word-else-choice.ensures.text ∙ ap (λ l. codes " t" ++ l) c.put_spaced.ensures.text)
+    (ap (λ is. if is then codes " x" else codes " t") c.if-choice.false)

@@ -6,5 +6,5 @@ use Rattle.trace_text.proofs.kept_line.KeptLine.is_idle.Goals as goal
 pub returns : goal.returns
 returns c = λ idle.
     let behind = subst (λ (end : List ℕ). IsBehindNumber end c.self.inside.choice c.self.inside.pc idle_event)
-    (ap (λ (line : NumberedLine). line.behind) c.self.view_is) (c.self.invariant.4 idle) in
+    (ap (λ (line : NumberedLine). line.behind) c.self.view_is) (c.self.invariant.3 idle) in
     (c.self.inside.choice, (c.self.inside.pc, behind))

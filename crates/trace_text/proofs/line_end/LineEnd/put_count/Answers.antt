@@ -15,12 +15,9 @@ pub returns-clause-length : goal.returns-clause-length
 returns-clause-length c =
     let w = c.write_digits-self-inside.ensures in
     let is = ap length (w.written ∙ ap (λ line. decimal c.args.count ++ line) c.self.view_is) in
-    omega (arith, is, w.start, length-append (decimal c.args.count) c.args.self.now)
-
-pub returns-clause-few : goal.returns-clause-few
-returns-clause-few c =
     omega (
       arith,
-      c.write_digits-self-inside.ensures.start,
+      is,
+      length-append (decimal c.args.count) c.args.self.now,
       length-decimal-le 20 c.args.count (omega arith) (omega (arith, c.ranges.count.fits)) c.ranges.count.fits,
     )

@@ -2,7 +2,7 @@ use Rattle.std.proofs.Common.{subst}
 use Rattle.debugger.specs.Session.{Session}
 use Rattle.debugger.specs.Command.{Order, line_order}
 use Rattle.debugger.specs.Reply.{Replies}
-use Rattle.debugger.proofs.session.Debugger.command.Goals as goal
+use Rattle.debugger.proofs.session.Debugger.command_of_words.Goals as goal
 
 pub returns-in-Err-clause-replies : goal.returns-in-Err-clause-replies
 returns-in-Err-clause-replies g c other =
