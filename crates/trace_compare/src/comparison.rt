@@ -266,7 +266,8 @@ impl Comparison {
         requires room { 120 ≤ length bytes.now }
         requires number { self.old.number < 9223372036854775807 }
         requires reading { IsReading self.old }
-        ensures { IfOk result (λ count. GoesOver self.old self.new bytes.now count) }
+        ensures over { IfOk result (λ count. GoesOver self.old self.new bytes.now count) }
+        ensures reading { IfOk result (λ count. count ≢ 0 → IsReading self.new) }
     {
         self.next.move_to(self.machine.choices() + 1);
         let Some(choice) = choice_behind(bytes, self.next.as_slice()) else {
@@ -313,11 +314,10 @@ impl Comparison {
     fn take_next_line(&mut self, bytes: &[u8]) -> Result<usize, AllocError>
         requires room { 120 ≤ length bytes.now }
         requires number { self.old.number < 9223372036854775807 }
-        ensures { IfOk result (λ count. GoesOver self.old self.new bytes.now count) }
+        requires reading { IsReading self.old }
+        ensures over { IfOk result (λ count. GoesOver self.old self.new bytes.now count) }
+        ensures reading { IfOk result (λ count. count ≢ 0 → IsReading self.new) }
     {
-        if self.is_state || !self.accepted {
-            return Ok(0);
-        }
         let count = self.take_line_again(bytes);
         if count > 0 {
             return Ok(count);
@@ -331,6 +331,9 @@ impl Comparison {
         requires number { self.old.number + length bytes.now < 9223372036854775807 }
         ensures { IfOk result (λ count. GoesOver self.old self.new bytes.now count) }
     {
+        if self.is_state || !self.accepted {
+            return Ok(0);
+        }
         let mut done = 0;
         while bytes.len() - done >= MOST_OWN {
             match self.take_next_line(rest_of(bytes, done)) {

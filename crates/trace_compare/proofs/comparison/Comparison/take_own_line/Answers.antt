@@ -14,8 +14,8 @@ choice_behind-requires c =
       length-decimal-le 13 step (omega arith) few (omega (arith, few)),
     )
 
-pub returns-in-Ok-true : goal.returns-in-Ok-true
-returns-in-Ok-true c =
+pub returns-in-Ok-true-clause-over : goal.returns-in-Ok-true-clause-over
+returns-in-Ok-true-clause-over c =
     let machine = c.args.self.now.machine in
     let few : machine.choices ≤ 1000000000000 = subst (λ n. n ≤ 1000000000000) c.choices.ensures.choices c.choices.ensures.within in
     let accepted = ap Ok c.in-Ok-true.field-0-test in
