@@ -1,5 +1,5 @@
 -- Sets of threads of which one is looked at.
-use Rattle.std.proofs.Common.{sym, arith, w64, ◌+◌, ◌≤◌, ◌≢◌, ◌≡◌, ◌∙◌, ℕ, ◌-◌, ◌*◌, ◌%◌, ◌^◌, ◌<◌, ◌==◌, Bool, true, false, refl, ap, bit_and, bit_or, if◌then◌else◌}
+use Rattle.std.proofs.Common.{sym, arith, w64, ◌≤◌, ◌≢◌, ◌≡◌, ◌∙◌, ℕ, ◌-◌, ◌*◌, ◌%◌, ◌^◌, ◌<◌, ◌==◌, Bool, true, false, refl, ap, bit_and, bit_or, if◌then◌else◌}
 use Rattle.cyclic_barrier.specs.ThreadSet.{has}
 use Rattle.machine_scene.specs.ReadySet.{IsSetAt}
 use Rattle.cyclic_barrier.proofs.ThreadSetLemmas.{has-with, has-without}
@@ -19,19 +19,9 @@ set_without a k fits within t = grind (arith, has-without)
 
 pub ruleset set_at = (set_with, set_without)
 
--- one that isn't in the set, and stays out of it
-pub stays_out : (set k : ℕ) → has set k ≡ false → (t : ℕ) → has set t ≡ (if k == t then false else has set t)
-stays_out set k out t = grind (arith, cases_eq, other-is)
-
-pub ruleset joined = (set_with, stays_out)
-
 -- one thread was put to the test anew
 abbrev pub IsTestedAt : (ℕ → Bool) → ℕ → ℕ → ℕ → Type 0
 IsTestedAt test t before set = (u : ℕ) → has set u ≡ (if t == u then test u else has before u)
-
--- it, and the others
-pub elsewhere : (test : ℕ → Bool) (t before set : ℕ) → IsTestedAt test t before set → (u : ℕ) → u ≢ t → has set u ≡ has before u
-elsewhere test t before set is u apart = grind arith
 
 -- nobody is in the empty set
 pub nobody : (u : ℕ) → has 0 u ≡ true → false ≡ true
@@ -54,9 +44,6 @@ all_right false now was right is others = is ∙ others refl
 pub record IsFilledTo (test : ℕ → Bool) (k set : ℕ) : Type 0 where
   pub below : (u : ℕ) → u < k → has set u ≡ test u
   pub above : (u : ℕ) → k ≤ u → has set u ≡ false
-
-pub filled_more : (test : ℕ → Bool) (k before set : ℕ) → IsFilledTo test k before → IsTestedAt test k before set → IsFilledTo test (k + 1) set
-filled_more test k before set filled is = grind (arith, cases_eq, elsewhere)
 
 pub filled_all : (test : ℕ → Bool) (n set : ℕ) → IsFilledTo test n set → ((u : ℕ) → n ≤ u → test u ≡ false) → (u : ℕ) → has set u ≡ test u
 filled_all test n set filled none u = grind (arith, cases_lt)

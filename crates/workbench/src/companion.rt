@@ -69,31 +69,19 @@ impl<S: Source> Companion for S {
         line: &mut Vec<u8>,
     ) -> Result<bool, Fault> {
         line.clear();
-        let mut left = *reads;
-        while left > 0 {
-            left -= 1;
+        while *reads > 0 {
+            *reads -= 1;
             match next_byte(self) {
-                Ok(None) => {
-                    *reads = left;
-                    return Ok(false);
-                }
-                Ok(Some(b'\n')) => {
-                    *reads = left;
-                    return Ok(true);
-                }
+                Ok(None) => return Ok(false),
+                Ok(Some(b'\n')) => return Ok(true),
                 Ok(Some(byte)) => {
                     if line.push(byte).is_err() {
-                        *reads = left;
                         return Err(Fault::Memory);
                     }
                 }
-                Err(fault) => {
-                    *reads = left;
-                    return Err(fault);
-                }
+                Err(fault) => return Err(fault),
             }
         }
-        *reads = 0;
         Err(Fault::Read)
     }
 }

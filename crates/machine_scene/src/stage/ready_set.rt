@@ -51,17 +51,6 @@ fn set_at(set: u64, thread: usize, within: bool) -> u64
     }
 }
 
-/// The set with this thread, where it is to be within: it isn't yet.
-#[inline(always)]
-#[tactic(auto, using(crate::proofs::ThreadSets::joined))]
-fn joined(set: u64, thread: usize, within: bool) -> u64
-    requires thread { thread < 64 }
-    requires apart { has set thread ≡ false }
-    ensures { IsSetAt thread within set result }
-{
-    if within { set | (1 << thread) } else { set }
-}
-
 /// Whether the row is a registration.
 #[inline(always)]
 fn is_registration(row: Row) -> bool
@@ -193,29 +182,6 @@ impl Stage {
         }
     }
 
-    /// `looked`, where the thread is in neither set.
-    #[inline(always)]
-    #[tactic(auto, using(crate::proofs::ReadySets::looked_on))]
-    fn looked_first(&self, program: &Loaded, before: ReadySet, t: usize) -> ReadySet
-        requires sound { IsSound program.now most_after (scene_of self.now) }
-        requires thread { t < length self.now.threads }
-        requires turns { has before.turns t ≡ false }
-        requires registering { has before.registering t ≡ false }
-        ensures { IsLooked program.now t before result (scene_of self.now) }
-    {
-        if self.runs_on(program, t) {
-            ReadySet {
-                turns: joined(before.turns, t, true),
-                registering: joined(before.registering, t, false),
-            }
-        } else {
-            ReadySet {
-                turns: joined(before.turns, t, self.goes_on(program, t)),
-                registering: joined(before.registering, t, self.is_registering(program, t)),
-            }
-        }
-    }
-
     /// A thread is looked at anew.
     #[inline(never)]
     fn refresh(&mut self, program: &Loaded, t: usize)
@@ -305,7 +271,7 @@ impl Stage {
             registering: 0,
         };
         for u in 0..self.threads.len() {
-            set = self.looked_first(program, set, u);
+            set = self.looked(program, set, u);
         }
         set
     }
