@@ -21,6 +21,3 @@ pub mod beneath;
 pub mod shown;
 
 pub use machine::play;
-
-#[cfg(test)]
-mod tests;

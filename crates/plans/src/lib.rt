@@ -12,8 +12,6 @@ pub mod fault;
 mod number;
 mod part;
 mod reading;
-#[cfg(test)]
-mod tests;
 pub mod word;
 pub mod words;
 

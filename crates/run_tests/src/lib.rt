@@ -1,7 +1,9 @@
 //! Tests of runs by public calls, of what no command of the program shows: streams cut anywhere, threads in a forced order,
-//! replies that can't be written.
+//! replies that can't be written, the calls of the closing page.
 #![tactic(auto)]
 
+#[cfg(test)]
+mod closing_page;
 #[cfg(test)]
 mod limits;
 #[cfg(test)]
@@ -10,6 +12,8 @@ mod lines;
 mod names;
 #[cfg(test)]
 mod orders;
+#[cfg(test)]
+mod plan_texts;
 #[cfg(test)]
 mod programs;
 #[cfg(test)]

@@ -225,6 +225,3 @@ impl Forest {
         let _ = &self.nodes;
     }
 }
-
-#[cfg(test)]
-mod tests;

@@ -1,8 +1,11 @@
--- What is expected of the state that a run ends in.
+-- What is expected of the state that a run ends in, and of that end.
 use Rattle.std.specs.Prelude.{ℕ, ◌==◌, ◌||◌, ◌&&◌, not, nat_lt, nat_le, Bool, false, if◌then◌else◌, List, [], ◌∷◌, Option, Some, None, codes, drop, is_none, is_some, length}
 use Rattle.std.specs.Global.{Vec}
 use Rattle.std.specs.List.{before_first, list_all, position_or_len}
 use Rattle.std.specs.Str.{bytes_eq}
+use Rattle.thread_machine.specs.declared.standing.Standing.{Standing}
+use Rattle.thread_machine.specs.declared.standing.Standing.TheVariants as standing
+use Rattle.trace_text.specs.declared.run_end.RunEnd.{RunEnd}
 use Rattle.trace_text.specs.ExpectedLine.{has_died, has_whole, is_blank, line_of}
 
 -- a digit, as a byte
@@ -68,3 +71,23 @@ is_met state text =
 -- whether it is as all of them expect
 abbrev pub are_met : List ℕ → List (Vec ℕ) → Bool
 are_met state texts = list_all (λ (text : Vec ℕ). is_met state text.items) texts
+
+-- whether a text expects all to have ended, and whether it expects this end
+abbrev pub wants_all : List ℕ → Bool
+wants_all text = bytes_eq text (codes "all") || bytes_eq text (codes "ended")
+
+abbrev pub wants_stuck : List ℕ → Bool
+wants_stuck text = bytes_eq text (codes "stuck")
+
+abbrev pub wants_live : List ℕ → Bool
+wants_live text = bytes_eq text (codes "live")
+
+-- whether a text lets the program stand so: it is the word for no other end
+abbrev pub allows : List ℕ → Standing → Bool
+allows text standing.All = not (wants_stuck text || wants_live text)
+allows text standing.Stuck = not (wants_all text || wants_live text)
+allows text standing.Live = not (wants_all text || wants_stuck text)
+
+-- whether a run ended as a text expects: no choice was refused, and how the program stands and its state are so
+abbrev pub is_end_expected : RunEnd → List ℕ → Bool
+is_end_expected end text = is_none end.refused && (allows text end.standing && is_met end.state.items text)

@@ -1,9 +1,11 @@
-//! Whether a state is as expected.
+//! Whether a state is as expected, and whether a run ended so.
 ghost use Rattle.std.specs.Prelude.{◌≡◌};
-ghost use Rattle.trace_text.specs.Expectation.{are_met, have_ended, is_cell, is_met, is_zero_cell, says};
+ghost use Rattle.trace_text.specs.Expectation.{allows, are_met, have_ended, is_cell, is_end_expected, is_met, is_zero_cell, says};
 
 use crate::form::{end_words, subject_of, words_of};
+use crate::run_end::RunEnd;
 use crate::state_line::{has_died, has_whole, line_of};
+use thread_machine::Standing;
 
 /// Whether the line of a state that begins with this word has these words in a row, and of a list the whole.
 fn says(state: &[u8], subject: &[u8], words: &[u8]) -> bool
@@ -63,4 +65,25 @@ pub fn are_met(state: &[u8], texts: &[Vec<u8>]) -> bool
     ensures { result ≡ are_met state.now texts.now }
 {
     texts.iter().all(|text| is_met(state, text.as_slice()))
+}
+
+/// Whether a text lets the program stand so in the end: it is the word for no other end.
+fn allows(text: &[u8], standing: Standing) -> bool
+    ensures { result ≡ allows text.now standing }
+{
+    let wants_all = text == b"all".as_slice() || text == b"ended".as_slice();
+    let wants_stuck = text == b"stuck".as_slice();
+    let wants_live = text == b"live".as_slice();
+    match standing {
+        Standing::All => !(wants_stuck || wants_live),
+        Standing::Stuck => !(wants_all || wants_live),
+        Standing::Live => !(wants_all || wants_stuck),
+    }
+}
+
+/// Whether a run ended as a text expects: no choice was refused, and how the program stands and its state are so.
+pub fn is_end_expected(end: &RunEnd, text: &[u8]) -> bool
+    ensures { result ≡ is_end_expected end.now text.now }
+{
+    end.refused.is_none() && allows(text, end.standing) && is_met(end.state.as_slice(), text)
 }

@@ -1,6 +1,5 @@
 //! Sessions of the debugger.
 
-use crate::ending::flushed;
 use crate::input::Input;
 use crate::planning::runs_of_plan;
 use crate::steps::{OpenSteps, Steps, opened};
@@ -15,6 +14,7 @@ use std::io::IsTerminal;
 use trace_compare::naming::{Named, NamingFault, choices_in};
 use workbench::companion::Companion;
 use workbench::done::{Done, as_asked};
+use workbench::ending::flushed;
 use workbench::fault::{Fault, push_counted_line};
 
 /// Answers commands that are about a program, behind runs of choices if there are some. Nothing is kept back: standard output is

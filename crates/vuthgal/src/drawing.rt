@@ -1,6 +1,5 @@
 //! Pictures of a run: the page, and the text.
 
-use crate::ending::flushed;
 use crate::help;
 use crate::schedule::Schedule;
 use crate::steps::{Steps, opened};
@@ -9,6 +8,7 @@ use byte_ports::WritePort;
 use commands::making::make;
 use commands::picture::Picture;
 use workbench::done::Done;
+use workbench::ending::flushed;
 use workbench::slice_source::SliceSource;
 
 /// Writes the picture of the program in a file. It is written at once, so nothing is kept back.

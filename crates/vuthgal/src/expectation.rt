@@ -1,7 +1,7 @@
 //! Whether a run ended as it was expected to.
 
 ghost use Rattle.std.specs.Prelude.{◌≡◌};
-ghost use Rattle.vuthgal.specs.Expectation.{allows, are_as_expected, done_by, is_as_expected};
+ghost use Rattle.vuthgal.specs.Expectation.{are_as_expected, done_by};
 
 use crate::explaining::is_explained;
 use crate::printable;
@@ -13,10 +13,9 @@ use line_reader::asm_fault::{AsmFault, AsmFaultKind};
 use refusals::nearest_name;
 use row_code::is_image_file;
 use std::alloc::{AllocError, Global};
-use thread_machine::Standing;
 use trace_text::RunEnd;
 use trace_text::form::{end_words, subject_of, words_of};
-use trace_text::meeting::is_met;
+use trace_text::meeting::{is_end_expected, is_met};
 use trace_text::state_line::{has_died, line_of};
 use workbench::done::Done;
 
@@ -94,34 +93,13 @@ pub fn expectations(
     Ok(expected)
 }
 
-/// Whether a text lets the program stand so in the end: it is the word for no other end.
-fn allows(text: &[u8], standing: Standing) -> bool
-    ensures { result ≡ allows text.now standing }
-{
-    let wants_all = text == b"all".as_slice() || text == b"ended".as_slice();
-    let wants_stuck = text == b"stuck".as_slice();
-    let wants_live = text == b"live".as_slice();
-    match standing {
-        Standing::All => !(wants_stuck || wants_live),
-        Standing::Stuck => !(wants_all || wants_live),
-        Standing::Live => !(wants_all || wants_stuck),
-    }
-}
-
-/// Whether a run ended as a text expects: no choice was refused, and how the program stands and its state are so.
-fn is_as_expected(end: &RunEnd, text: &[u8]) -> bool
-    ensures { result ≡ is_as_expected end.now text.now }
-{
-    end.refused.is_none() && allows(text, end.standing) && is_met(end.state.as_slice(), text)
-}
-
 /// Whether it ended as all of these texts expect.
 fn are_as_expected(expected: &[Vec<u8>], end: &RunEnd) -> bool
     ensures { result ≡ are_as_expected expected.now end.now }
 {
     expected
         .iter()
-        .all(|text| is_as_expected(end, text.as_slice()))
+        .all(|text| is_end_expected(end, text.as_slice()))
 }
 
 /// What a command comes to whose run ended so.
@@ -179,7 +157,7 @@ fn push_all_unmet<E: Sink>(
 ) -> Result<(), Failed> {
     for text in expected {
         let text = text.as_slice();
-        if is_as_expected(end, text) {
+        if is_end_expected(end, text) {
             continue;
         }
         let line = match &end.refused {

@@ -2,7 +2,6 @@
 
 ghost use Rattle.std.specs.Prelude.{◌≤◌, IfSome};
 
-use crate::ending::flushed;
 use crate::expectation::expectations;
 use crate::explaining::is_explained;
 use crate::progress::{BehindProgress, Meter, trace_port};
@@ -15,6 +14,7 @@ use headline::shown;
 use std::sync::Wait;
 use std::thread::Threads;
 use workbench::done::{Done, as_asked};
+use workbench::ending::flushed;
 use workbench::racing;
 
 /// Plays a program on real threads, which pause a little where there is a seed.

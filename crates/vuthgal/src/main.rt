@@ -2,7 +2,7 @@
 //!
 //! Each command is a function of a library, over ports. Here stands what meets the world: which ports a command gets (`running`,
 //! `drawing`, `living`, `texts`, `traces`, `planning`, `debugging`), files and streams (`files`, `input`, `steps`, `schedule`),
-//! the last flush and the status (`ending`, `trouble`), and what a person is told (`notes`, `progress`, `printable`, `help`,
+//! the status of what went wrong (`trouble`), and what a person is told (`notes`, `progress`, `printable`, `help`,
 //! `explaining`).
 #![tactic(auto)]
 
@@ -10,7 +10,6 @@ ghost use Rattle.command_line.specs.Request.{IsInRange};
 
 mod debugging;
 mod drawing;
-mod ending;
 mod expectation;
 mod explaining;
 mod files;

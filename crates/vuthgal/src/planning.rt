@@ -3,7 +3,6 @@
 ghost use Rattle.std.specs.Prelude.{◌<◌, ◌≤◌, ◌+◌, IfOk};
 ghost use Rattle.plans.specs.Planned.{AreRuns};
 
-use crate::ending::flushed;
 use crate::input::Input;
 use crate::trouble::Trouble;
 use crate::{files, notes};
@@ -14,6 +13,7 @@ use commands::plan::{plan, planned_in};
 use commands::seeds::{self, report_seeds};
 use schedule_reader::Run;
 use workbench::done::{Done, as_asked};
+use workbench::ending::flushed;
 use workbench::input::read_all;
 
 /// Tells that a plan wanted one more choice than it may make.

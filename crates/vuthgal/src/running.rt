@@ -1,6 +1,5 @@
 //! Runs: a program that is played under a schedule, and what is expected of its end.
 
-use crate::ending::handed_on;
 use crate::expectation::{as_expected, expectations, tell_unmet};
 use crate::help::push_explained;
 use crate::notes;
@@ -14,6 +13,7 @@ use std::io::Stdout;
 use thread_machine::Standing;
 use trace_text::RunEnd;
 use workbench::done::Done;
+use workbench::ending::handed_on;
 use workbench::fault::Fault;
 use workbench::input::read_all;
 use workbench::run_line::split_at_run;

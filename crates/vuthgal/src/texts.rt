@@ -1,6 +1,5 @@
 //! What is written of a program's text, of its image, and of the words of a line.
 
-use crate::ending::{flushed, handed_on};
 use crate::trouble::{Answer, Trouble};
 use crate::{files, printable};
 use byte_ports::{BlockPort, ReadPort, WritePort};
@@ -9,6 +8,7 @@ use refusals::entries::tables;
 use refusals::explain::explain;
 use workbench::asm::asm;
 use workbench::done::{Done, as_asked};
+use workbench::ending::{flushed, handed_on};
 use workbench::fault::Fault;
 use workbench::input::read_all;
 use workbench::list::list;

@@ -1,6 +1,5 @@
 //! Traces that are read: compared with their run, and as the schedule that they have.
 
-use crate::ending::{flushed, handed_on};
 use crate::help::{CARRIAGE_RETURN, NO_TRACE, push_explained};
 use crate::input::Input;
 use crate::progress::ShownSource;
@@ -12,6 +11,7 @@ use commands::{LinesSeen, show_comparison};
 use trace_compare::Verdict;
 use workbench::compare::{compared, done_by};
 use workbench::done::Done;
+use workbench::ending::{flushed, handed_on};
 use workbench::input::read_all;
 
 /// What a verdict comes to. On a terminal it is told how a trace is made, where there is none.

@@ -1,4 +1,4 @@
-//! Tests of the lowest crates by their public calls: ports, packed words, and words between real threads.
+//! Tests of the lowest crates by their public calls: ports, packed words, trees of them, and words between real threads.
 #![tactic(auto)]
 
 // Ports.
@@ -12,5 +12,7 @@ mod std_ports;
 // Words.
 #[cfg(test)]
 mod shared_callers;
+#[cfg(test)]
+mod trees;
 #[cfg(test)]
 mod words;

@@ -10,6 +10,7 @@ pub mod companion;
 pub mod compare;
 pub mod debug;
 pub mod done;
+pub mod ending;
 pub mod fault;
 pub mod input;
 pub mod list;

@@ -1,6 +1,8 @@
-use crate::draft::read_plan;
-use crate::fault::PlanFault;
-use crate::word::{Chosen, Rule, Step, Word};
+//! Plans: the words that a text is read as, and its faults.
+
+use plans::fault::PlanFault;
+use plans::read_plan;
+use plans::word::{Chosen, Rule, Step, Word};
 use std::alloc::Global;
 use std::test::Fail;
 

@@ -1,13 +1,15 @@
+//! Trees of phasers: what each call answers, and what is seen behind it.
+
 ghost use Rattle.std.specs.Prelude.{◌≡◌, ◌<◌, length, true, false, IfOk, IfSome};
 ghost use Rattle.tier_tree.specs.Declaration.{AreAllFresh};
 ghost use Rattle.tier_tree.specs.PhaseEnd.{after_phase_end};
 ghost use Rattle.tier_tree.specs.Stored.{phasers_of};
 
-use super::*;
-use crate::fault::DeclareFault;
 use packed_phaser::Policy;
 use phase_number::Phase;
+use std::alloc::Global;
 use std::test::Fail;
+use tier_tree::{Arrived, DeclareFault, Forest, PhaserId, Registered};
 
 /// A phaser to declare.
 #[derive(Clone, Copy)]

@@ -1,11 +1,11 @@
 //! What a command comes to once all that it wrote is handed on.
 
-ghost use Rattle.std.specs.Prelude.{◌≡◌, true, false, Err};
+ghost use Rattle.std.specs.Prelude.{◌≡◌, ◌⊎◌, true, false, Err};
 ghost use Rattle.workbench.specs.declared.fault.Fault.{Fault};
 
+use crate::fault::Fault;
 use byte_ports::{BlockPort, WritePort};
 use std::io::Write;
-use workbench::fault::Fault;
 
 /// What a command came to whose last flush was tried: where that failed, its output is lost, whatever else there is to tell.
 fn unless_lost<T: Drop>(answer: Result<T, Fault>, is_flushed: bool) -> Result<T, Fault>
@@ -23,7 +23,10 @@ fn unless_lost<T: Drop>(answer: Result<T, Fault>, is_flushed: bool) -> Result<T,
 pub fn flushed<T: Drop, W: Write>(
     answer: Result<T, Fault>,
     output: &mut WritePort<W>,
-) -> Result<T, Fault> {
+) -> Result<T, Fault>
+    ensures kept { output.new.failed ≡ false → result ≡ answer }
+    ensures lost { output.new.failed ≡ true → result ≡ Err Fault.Write }
+{
     unless_lost(answer, output.finish().is_ok())
 }
 
@@ -31,7 +34,10 @@ pub fn flushed<T: Drop, W: Write>(
 pub fn handed_on<T: Drop, W: Write + Drop>(
     answer: Result<T, Fault>,
     output: BlockPort<WritePort<W>>,
-) -> Result<T, Fault> {
+) -> Result<T, Fault>
+    ensures kept { (result ≡ answer) ⊎ (result ≡ Err Fault.Write) }
+    ensures lost { output.failed ≡ true → result ≡ Err Fault.Write }
+{
     let is_flushed = match output.into_inner() {
         Ok(mut port) => port.finish().is_ok(),
         Err(_) => false,

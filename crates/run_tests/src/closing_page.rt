@@ -1,6 +1,8 @@
-use crate::back::{step_and_back, steps_and_backs};
-use crate::play;
+//! A meeting, by the calls of the closing page: what a schedule leaves, and what is taken back.
+
 use debugger::Debugger;
+use headline::back::{step_and_back, steps_and_backs};
+use headline::play;
 use loader::LoadFault;
 use row_code::{Image, read_image};
 use std::alloc::Global;
