@@ -1,7 +1,9 @@
 //! Choices that are played and taken back.
-ghost use Rattle.std.specs.Prelude.{◌≡◌, ◌≤◌, ◌∷◌, [], length, None, IfOk, OnErr};
+ghost use Rattle.std.specs.Prelude.{◌≡◌, ◌≤◌, ◌∷◌, [], length, true, None, Some, Err, IfOk, OnErr};
 ghost use Rattle.thread_machine.specs.World.{world_of};
 ghost use Rattle.thread_machine.specs.Execution.{execution};
+ghost use Rattle.thread_machine.specs.Step.{puts_out, refusal_of};
+ghost use Rattle.thread_machine.specs.declared.fault.StepFault.TheVariants as fault;
 ghost use Rattle.thread_machine.specs.Undo.{CanUndo};
 ghost use Rattle.debugger.specs.Moves.{AreSteps, backs};
 ghost use Rattle.headline.specs.Headline.{BackRestores, StepsAndReturns};
@@ -15,6 +17,9 @@ pub fn step(machine: &mut Machine, choice: Choice) -> Result<(Event, Undo), Step
     ensures returns { IfOk result (λ both. StepsAndReturns machine.old choice both.0 both.1 machine.new) }
     ensures can { IfOk result (λ both. CanUndo both.1 machine.new) }
     ensures refused { OnErr result (machine.new ≡ machine.old) }
+    ensures no_thread { result ≡ Err fault.NoSuchThread → refusal_of (world_of machine.old) choice ≡ Some fault.NoSuchThread }
+    ensures limit { result ≡ Err fault.StepLimit → refusal_of (world_of machine.old) choice ≡ Some fault.StepLimit }
+    ensures memory { result ≡ Err fault.Memory → puts_out (world_of machine.old) choice ≡ true }
 {
     machine.step_noting(choice)
 }
@@ -23,6 +28,9 @@ pub fn step(machine: &mut Machine, choice: Choice) -> Result<(Event, Undo), Step
 pub fn step_and_back(machine: &mut Machine, choice: Choice) -> Result<Event, StepFault>
     ensures restores { IfOk result (λ event. BackRestores machine.old (choice ∷ []) (event ∷ []) machine.new) }
     ensures refused { OnErr result (machine.new ≡ machine.old) }
+    ensures no_thread { result ≡ Err fault.NoSuchThread → refusal_of (world_of machine.old) choice ≡ Some fault.NoSuchThread }
+    ensures limit { result ≡ Err fault.StepLimit → refusal_of (world_of machine.old) choice ≡ Some fault.StepLimit }
+    ensures memory { result ≡ Err fault.Memory → puts_out (world_of machine.old) choice ≡ true }
 {
     let (event, undo) = step(machine, choice)?;
     machine.back(undo);
@@ -38,6 +46,10 @@ fn steps(
     ensures steps { IfOk result (λ events. AreSteps debugger.old choices.now debugger.new) }
     ensures accepted { IfOk result (λ events. (execution (world_of debugger.old.machine) choices.now).refusal ≡ None) }
     ensures events { IfOk result (λ events. (execution (world_of debugger.old.machine) choices.now).events ≡ events.items) }
+    ensures no_thread { result ≡ Err fault.NoSuchThread
+        → (execution (world_of debugger.old.machine) choices.now).refusal ≡ Some fault.NoSuchThread }
+    ensures limit { result ≡ Err fault.StepLimit
+        → (execution (world_of debugger.old.machine) choices.now).refusal ≡ Some fault.StepLimit }
 {
     let mut events = Vec::new(alloc);
     for choice in choices {
@@ -68,6 +80,10 @@ pub fn steps_and_backs(
     requires { length choices.now ≤ debugger.old.kept }
     ensures restores { IfOk result (λ events.
         BackRestores debugger.old.machine choices.now events.items debugger.new.machine) }
+    ensures no_thread { result ≡ Err fault.NoSuchThread
+        → (execution (world_of debugger.old.machine) choices.now).refusal ≡ Some fault.NoSuchThread }
+    ensures limit { result ≡ Err fault.StepLimit
+        → (execution (world_of debugger.old.machine) choices.now).refusal ≡ Some fault.StepLimit }
 {
     let events = steps(alloc, debugger, choices)?;
     backs(debugger, choices.len());

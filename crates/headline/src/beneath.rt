@@ -1,5 +1,8 @@
 //! What the machine and the shared phaser promise, each by the call in which it is seen.
-ghost use Rattle.std.specs.Prelude.{◌≡◌, IfOk, false};
+ghost use Rattle.std.specs.Prelude.{◌≡◌, Err, IfOk, Some, false, true};
+ghost use Rattle.thread_machine.specs.Step.{puts_out, refusal_of};
+ghost use Rattle.thread_machine.specs.World.{world_of};
+ghost use Rattle.thread_machine.specs.declared.fault.StepFault.TheVariants as fault;
 ghost use Rattle.shared_phaser.specs.Known.{EndsAs, phaser_of};
 ghost use Rattle.shared_phaser.specs.declared.history.Call.TheVariants.{Arrive};
 ghost use Rattle.shared_phaser.specs.declared.history.Answer.TheVariants.{Replied};
@@ -12,7 +15,10 @@ use thread_machine::{Choice, Event, Machine, StepFault};
 
 /// A step of a machine, whose trees' words may lag behind their roots.
 pub fn step(machine: &mut Machine, choice: Choice) -> Result<Event, StepFault>
-    ensures { IfOk result (λ event. StepGivesTheRow machine.old choice event machine.new) }
+    ensures row { IfOk result (λ event. StepGivesTheRow machine.old choice event machine.new) }
+    ensures no_thread { result ≡ Err fault.NoSuchThread → refusal_of (world_of machine.old) choice ≡ Some fault.NoSuchThread }
+    ensures limit { result ≡ Err fault.StepLimit → refusal_of (world_of machine.old) choice ≡ Some fault.StepLimit }
+    ensures memory { result ≡ Err fault.Memory → puts_out (world_of machine.old) choice ≡ true }
 {
     machine.step(choice)
 }
