@@ -82,6 +82,12 @@ def text(line, many):
     return '\n'.join(['.phaser p 2', '.cell cc', '.thread a #0'] + [line(i, many) for i in range(many)] + ['halt']) + '\n'
 
 
+def ended_at_once(many):
+    """A text of so many rows whose thread plays the last one alone."""
+    rows = [mixed(i, many) for i in range(many)]
+    return '\n'.join(['.phaser p 2', '.cell cc', '.thread a end'] + rows + ['end: halt']) + '\n'
+
+
 def counts_to(n):
     """Threads that go round so many times, and end."""
     return program('', 2, f'ldi r1 1 | ldi r2 {n} | l: add r0 r0 r1 | ldi r3 7 | blt r0 r2 l | halt')

@@ -146,7 +146,7 @@ def blocks(text):
     return top + text[at:], parts
 
 
-def contracts(text, chosen, word="pub fn"):
+def contracts(text, chosen, word=r'pub (?:extern "C" )?fn'):
     """The functions behind this word that are chosen by name, each up to its body: its name, and its head with its clauses."""
     found = re.finditer(rf"(?m)^\s*{word} (\w+)(.*?)(?=^\s*\{{|\Z)", text, re.S)
     return [it.groups() for it in found if chosen(it.group(1))]
@@ -288,7 +288,7 @@ def reading(crate, definitions):
 
 
 def made():
-    return {HEADLINE: reading("headline", all_definitions())}
+    return {HEADLINE: f"Made by `bin/made headline`: the definitions that the headline rests on.\n\n{reading('headline', all_definitions())}"}
 
 
 def wrong():

@@ -1,8 +1,9 @@
-"""Makes of crates.txt and of the crates their map in docs/ARCHITECTURE.md, the list of their pages in docs/PROMISES.md, and of
-each page, docs/crates/NAME.md, what the crate is for, as its lib.rt (a program's main.rt) begins; its laws; its definitions that
-somebody has to believe, each with its comment, a file behind those that it names; and its wrong ideas, the edits in must-fail/.
-What else a crate promises is written by hand; the page of a crate that has none is begun. Wrong is a page on which nothing is
-promised, and a name in brackets that is none of a clause, a function or a test."""
+"""Makes the map of the crates in docs/ARCHITECTURE.md and the list of their pages in docs/PROMISES.md, and of each page,
+docs/crates/NAME.md: what the crate is for, as its lib.rt (a program's main.rt) begins; an example, a proved caller; its laws; its
+definitions that somebody has to believe, a file after those that it names; and its must-fail edits. What else a crate promises is
+written by hand; the page of a crate that has none is begun. Which function is the example is named on the page, by a line
+`<!-- the example is NAME of FILE -->`. Wrong is a page on which nothing is promised, and a name in brackets that is none of a
+clause, a function or a test."""
 import itertools
 import re
 import sys
@@ -28,8 +29,8 @@ def floors():
         if line.startswith("# "):
             found[line[2:]] = {}
         elif line:
-            crate, _, below = line.partition(":")
-            found[list(found)[-1]][crate] = below.split()
+            head, _, below = line.partition(":")
+            found[list(found)[-1]][head.split()[0]] = below.split()
     return found
 
 
@@ -61,8 +62,27 @@ def purpose(crate):
     return head_of(crate) + "\nHow to read this page: [promises](../PROMISES.md), [definitions](../DEFINITIONS.md).\n"
 
 
+def first_sentence_of(text):
+    return re.match(r".*?\.(?= |$)|.*", text).group()
+
+
 def first_sentence(crate):
-    return re.match(r".*?\.(?= |$)|.*", " ".join(head_of(crate).partition("\n\n")[0].split())).group()
+    return first_sentence_of(" ".join(head_of(crate).partition("\n\n")[0].split()))
+
+
+# -- the example
+
+def example(text):
+    """The function that a page names as its example, with its comment, as a block of code, and where it is."""
+    named = re.search(r"<!-- the example is (\w+) of (\S+) -->", text)
+    if not named:
+        return ""
+    name, file = named.groups()
+    source = (TOP / file).read_text()
+    found = re.search(rf"(?m)((?:^///.*\n)*)^{PUBLIC}fn {name}\b[\s\S]*?^}}\n", source)
+    if not found:
+        sys.exit(f"{file} has no function {name}, which is the example of a page")
+    return f"This function is proved, in [{file}](../../{file}):\n\n```rust\n{found.group()}```\n"
 
 
 # -- definitions and laws
@@ -84,37 +104,27 @@ def files_of(crate):
     return in_reading_order([crate / "specs" / f"{name}.antt" for name in listed])
 
 
-def named_with_comments(found):
-    """Definitions as lines of a list: those without a comment stand with the one before them."""
-    groups = []
-    for name, comment in found:
-        if comment or not groups:
-            groups.append([[], comment])
-        groups[-1][0].append(f"`{name}`")
-    return "".join(item(", ".join(names) + (f": {comment}" if comment else ""), "  ") for names, comment in groups)
-
-
 def definitions(crate, its, all_believed):
     """The definitions of a crate by files, those that somebody has to believe; the names of the others; the types named."""
     text, abstract, others = "", [], []
     for path in files_of(crate):
         here = [(key[2], it) for key, it in its.items() if key[1] == path.stem]
-        kept = [(name, comment_of(it.text, "-")) for name, it in here if (crate.name, path.stem, name) in all_believed]
+        file = f"[{path.name}](../../crates/{crate.name}/specs/{path.name})"
+        kept = [f"`{name}`" for name, it in here if (crate.name, path.stem, name) in all_believed]
         handed = [f"`{name}`" for name, it in here if it.mark]
         rest = [f"`{name}`" for name, it in here if (crate.name, path.stem, name) not in all_believed and not it.mark]
         if kept:
             head = comment_of(path.read_text().split("\n"), "-")
-            text += item(f"`specs/{path.name}`" + (f": {head}" if head else "")) + named_with_comments(kept)
+            text += item(f"{file}: {first_sentence_of(head)} {', '.join(kept)}" if head else f"{file}: {', '.join(kept)}")
         if handed:
-            abstract.append(f"{', '.join(handed)} (`specs/{path.name}`)")
+            abstract.append(f"{', '.join(handed)} ({file})")
         if rest:
-            others.append(f"{', '.join(rest)} (`specs/{path.name}`)")
-    types = [(key[2], comment_of(it.text, "/")) for key, it in its.items() if key[1] == "declared" and key in all_believed]
+            others.append(f"{len(rest)} in {file}")
+    types = [f"`{key[2]}`" for key, it in its.items() if key[1] == "declared" and key in all_believed]
     if types:
-        text += item("Types of the code that these and the contracts name") + "".join(
-            item(f"`{name}`" + (f": {comment}" if comment else ""), "  ") for name, comment in types)
-    text += item("*Abstract*: contracts hand them from call to call: " + "; ".join(abstract)) if abstract else ""
-    return text + (item("*Not believed*, since no public contract names them: " + "; ".join(others)) if others else "")
+        text += item("Types of the code that these and the contracts name: " + ", ".join(types))
+    text += item("*Abstract*: contracts pass them from call to call: " + "; ".join(abstract)) if abstract else ""
+    return text + (item("*You need not believe* these, since no public contract names them: " + "; ".join(others)) if others else "")
 
 
 def laws(crate):
@@ -131,7 +141,7 @@ def laws(crate):
     return text
 
 
-# -- wrong ideas
+# -- must-fail edits
 
 def function_at(lines, place):
     """The function in which a line stands, with its type, whether it is private, and the names of its clauses."""
@@ -156,7 +166,7 @@ def function_at(lines, place):
     return f"{'private ' if is_private else ''}`{of_type}{name.group(1)}`", tuple(clauses)
 
 
-def wrong_ideas(crate):
+def edits_of(crate):
     text = ""
     for path in sorted(crate.glob("must-fail/*.edit")):
         places, file = {}, None
@@ -228,9 +238,10 @@ def page_of(name, all_definitions, all_believed):
         "the purpose": purpose(crate),
         "the laws": laws(crate),
         "the definitions": definitions(crate, its, all_believed),
-        "the wrong ideas": wrong_ideas(crate),
+        "the must-fail edits": edits_of(crate),
     }
     text = page.read_text() if page.is_file() else new_page(name, parts)
+    parts["the example"] = example(text)
     for mark, part in parts.items():
         if part or begin_of(mark, "crates") in text:
             text = between(page, text, mark, "crates", part)

@@ -1,14 +1,15 @@
-"""Makes two tables of the kit. In kit/cases/README.md that of the cases: for each heading of docs/BEHAVIOUR.md the cases whose first
-line names it, in the order of the headings. In docs/PORTING.md that of the adapters in kit/wrong/burst: what each has
+"""Makes two tables of the kit. In kit/cases/README.md that of the cases: for each heading of docs/BEHAVIOUR.md how many cases of each
+folder name it in their first line, in the order of the headings. In kit/wrong/README.md that of the adapters in kit/wrong/burst: what each has
 misunderstood, the kind of burst that finds it, and where lock-step does, as its comment says; and of the faults in
 kit/wrong/lockfree/table.txt. Each heading has to be one of BEHAVIOUR's, and each kind of burst one of the player's."""
 import re
 import sys
+from collections import Counter
 
 from marks import TOP, between
 
 KEPT = TOP / "kit" / "cases" / "README.md"
-GUIDE = TOP / "docs" / "PORTING.md"
+WRONG = TOP / "kit" / "wrong" / "README.md"
 ADAPTERS = TOP / "kit" / "wrong" / "burst"
 LOCK_FREE = TOP / "kit" / "wrong" / "lockfree" / "table.txt"
 RULES = (TOP / "docs" / "BEHAVIOUR.md").read_text()
@@ -33,12 +34,15 @@ def table_of_cases():
     for path in sorted(KEPT.parent.rglob("*.txt")):
         with path.open() as lines:
             heading = lines.readline().lstrip("; ").partition(":")[0]
-        cases.setdefault(heading, []).append(f"`{path.parent.name}/{path.stem}`")
+        cases.setdefault(heading, Counter())[path.parent.name] += 1
     missing = [heading for heading in cases if not place_of(heading)]
     if missing:
         sys.exit(f"no headings of docs/BEHAVIOUR.md: {'; '.join(missing)}")
-    rows = [f"| {heading} | {len(cases[heading])} | {', '.join(cases[heading])} |\n" for heading in sorted(cases, key=place_of)]
-    return "| Heading | Cases | Names |\n|---|---|---|\n" + "".join(rows)
+    rows = []
+    for heading in sorted(cases, key=place_of):
+        folders = ", ".join(f"`{folder}` {count}" for folder, count in cases[heading].items())
+        rows.append(f"| {heading} | {folders} |\n")
+    return "| Heading | Cases |\n|---|---|\n" + "".join(rows)
 
 
 def table_of_adapters():
@@ -67,5 +71,5 @@ def table_of_adapters():
 
 
 def made():
-    tables = {KEPT: table_of_cases(), GUIDE: table_of_adapters()}
+    tables = {KEPT: table_of_cases(), WRONG: table_of_adapters()}
     return {page: between(page, page.read_text(), "the table", "kit", table) for page, table in tables.items()}

@@ -14,6 +14,7 @@ CONSTANTS = {
     "HEAD": "What a page begins with, up to the listing.",
     "BEFORE_SOURCE": "What stands between the listing and the program's text.",
     "BEFORE_RUN": "What stands between the program's text and the run.",
+    "BEFORE_OTHERS": "What stands between the run and the other runs.",
     "TAIL": "What a page ends with: its script.",
 }
 
@@ -28,7 +29,7 @@ def sum_of(text):
 
 
 def page():
-    """The page, in which each of the three texts is left as `@@TEXT@@`."""
+    """The page, in which each of the four texts is left as `@@TEXT@@`."""
     style = source("page.css").rstrip("\n")
     script = "".join(source(f"{it}.js") for it in SCRIPTS).rstrip("\n")
     script = f'(function () {{\n"use strict";\n{script}\n}})();'

@@ -7,7 +7,7 @@
 
 WHAT is one of: `say TEXT` (\\n, \\r, \\xNN as in Python; no LF is added); `also TEXT`, behind the right line; `flood TEXT`
 and `endless TEXT`, again and again, with LF or without; `exit N`; `signal N`; `close`, of the output alone; `silence`;
-`child`, which starts a process that outlives its parent, and goes on rightly.
+`child`, which starts a process that outlives its parent, and goes on rightly; `warn`, as a race detector does, and goes on.
 """
 
 import os
@@ -52,6 +52,9 @@ def do(what, line):
         silent = True
     elif word == "silence":
         silent = True
+    elif word == "warn":
+        print(f"{'=' * 18}\nWARNING: DATA RACE, as kit/faults/port.py has it\n{text}\n{'=' * 18}", file=sys.stderr, flush=True)
+        right_say(line)
     elif word == "child":
         subprocess.Popen(["sleep", "87654"])
         right_say(line)

@@ -6,13 +6,20 @@ import java.util.List;
 /** Bursts in which barriers break and are reset. Who is left alone is let out by a reset now and then. */
 final class BreakBursts {
     static final List<BurstKind> KINDS = List.of(
-        new BurstKind("interrupts-at-a-barrier", BreakBursts::interrupts),
-        new BurstKind("resets-among-waiters", BreakBursts::resets),
-        new BurstKind("no-time-among-waiters", BreakBursts::noTime),
-        new BurstKind("breaks-among-comers", BreakBursts::breaksAmongComers),
-        new BurstKind("time-that-breaks", BreakBursts::timeThatBreaks),
-        new BurstKind("an-action-that-fails", BreakBursts::failingAction),
-        new BurstKind("looks-at-a-barrier", BreakBursts::looks));
+        new BurstKind("interrupts-at-a-barrier", BreakBursts::interrupts,
+            "Interrupts while the parties come."),
+        new BurstKind("resets-among-waiters", BreakBursts::resets,
+            "Resets while more come than there are parties."),
+        new BurstKind("no-time-among-waiters", BreakBursts::noTime,
+            "One comes without any time, and breaks the barrier."),
+        new BurstKind("breaks-among-comers", BreakBursts::breaksAmongComers,
+            "One of those who come breaks one barrier after the other. They are too few to trip any."),
+        new BurstKind("time-that-breaks", BreakBursts::timeThatBreaks,
+            "Times of less than a millisecond, and nobody completes the generation."),
+        new BurstKind("an-action-that-fails", BreakBursts::failingAction,
+            "The action throws, in each generation."),
+        new BurstKind("looks-at-a-barrier", BreakBursts::looks,
+            "Looks while parties come and one resets the barrier."));
 
     private static final int MOST_BARRIERS = 6;
 

@@ -21,6 +21,7 @@ final class BurstCount {
     private final Set<String> kindsPlayed = new HashSet<>();
     private final Set<String> kindsLeftOut = new HashSet<>();
     private final Map<String, Integer> whyLeftOut = new TreeMap<>();
+    private final BurstOverlap overlap = new BurstOverlap();
     private long rounds;
     private long asked;
     private long calls;
@@ -35,15 +36,27 @@ final class BurstCount {
         asked++;
     }
 
+    /** How many bursts were to be played, and weren't left out. */
+    synchronized long asked() {
+        return asked;
+    }
+
     synchronized boolean isLeftOut(String kind) {
         return kindsLeftOut.contains(kind);
     }
 
+    /** A burst can't be played, and so none of its kind; another takes its place. */
     synchronized void leavesOut(String kind, String why) {
+        asked--;
         if (kindsLeftOut.add(kind)) {
             whyLeftOut.merge(why, 1, Integer::sum);
             suite.leavesOut(kind, why);
         }
+    }
+
+    /** How a burst went whose threads all came to their end. */
+    synchronized void overlaps(BurstHistory history) {
+        overlap.add(history);
     }
 
     /** A burst was played, with so many calls and interrupts. */
@@ -63,14 +76,14 @@ final class BurstCount {
         suite.fails(burst.kind(), text);
     }
 
-    /** An interrupt won over the end of a phase; whether that counts. */
-    synchronized boolean countsOvertaking() {
+    /** An interrupt won over the end of a phase; whether that counts. With points it never does: they make it frequent. */
+    synchronized boolean countsOvertaking(boolean withPoints) {
         if (rounds - overtakenSince > ROUNDS_OF_OVERTAKING) {
             overtaken = 0;
             overtakenSince = rounds;
         }
         overtaken++;
-        return overtaken >= OVERTAKEN_TO_COUNT;
+        return !withPoints && overtaken >= OVERTAKEN_TO_COUNT;
     }
 
     synchronized int findings() {
@@ -95,8 +108,9 @@ final class BurstCount {
         String kinds = kindsPlayed.size() == 1 ? " kind, " : " kinds, ";
         to.println(rounds + (asked > rounds ? " of " + asked : "") + " bursts of " + kindsPlayed.size() + kinds + calls
             + " calls and interrupts, " + seconds() + ": " + findings + " found"
-            + (findings == 0 || round >= 0 ? "" : ", the first in round " + firstFound)
+            + (findings == 0 || round >= 0 ? "" : ", the first at try " + firstTry + ", in round " + firstFound)
             + (overtaken == 0 ? "" : "; an interrupt won over the end of a phase " + overtaken + " times"));
+        overlap.tell(to);
         if (round >= 0) {
             to.println("round " + round + (findings == 0 ? " didn't fail in " + rounds + " tries" : " failed at try " + firstTry));
         }

@@ -46,6 +46,11 @@ final class BurstEntry {
         return end;
     }
 
+    /** When it began, in nanoseconds. */
+    long beganAt() {
+        return beganAt;
+    }
+
     /** When it ended, in nanoseconds. */
     long endedAt() {
         return endedAt;

@@ -2,10 +2,12 @@ package kit.player;
 
 import java.util.ArrayList;
 import java.util.List;
+import java.util.Set;
 import java.util.function.Consumer;
+import java.util.stream.Collectors;
 
-/** A kind of burst: its name, and how one of it is put together. */
-record BurstKind(String name, Consumer<BurstMaker> maker) {
+/** A kind of burst: its name, how one of it is put together, and what happens in it, in a sentence. */
+record BurstKind(String name, Consumer<BurstMaker> maker, String words) {
     static final List<BurstKind> ALL = all();
 
     private static List<BurstKind> all() {
@@ -16,6 +18,29 @@ record BurstKind(String name, Consumer<BurstMaker> maker) {
         all.addAll(TripBursts.KINDS);
         all.addAll(BreakBursts.KINDS);
         return List.copyOf(all);
+    }
+
+    /**
+     * All but those in which the JDK's classes may differ: there a register during the last departure from a child may wait until
+     * another phase has ended.
+     */
+    static Set<String> playedOnTheJdk() {
+        String differs = "registration-at-an-empty-child";
+        return ALL.stream().map(BurstKind::name).filter(name -> !name.equals(differs)).collect(Collectors.toSet());
+    }
+
+    static boolean isName(String name) {
+        return ALL.stream().anyMatch(kind -> kind.name.equals(name));
+    }
+
+    /** All of them, a line each. */
+    static String list() {
+        int longest = ALL.stream().mapToInt(kind -> kind.name.length()).max().orElse(0);
+        StringBuilder lines = new StringBuilder();
+        for (BurstKind kind : ALL) {
+            lines.append(kind.name).append(" ".repeat(longest - kind.name.length() + 2)).append(kind.words).append('\n');
+        }
+        return lines.toString();
     }
 
     /** The kind of a round; they come in turn. */

@@ -5,6 +5,7 @@ import java.nio.file.Files;
 import java.nio.file.Path;
 import java.util.Arrays;
 import java.util.List;
+import java.util.Set;
 import java.util.regex.Matcher;
 import java.util.regex.Pattern;
 
@@ -13,7 +14,6 @@ final class BurstKit {
     private static final int SCENARIOS = 100;
     private static final int ROUNDS_ON_THE_JDK = 2_000;
     private static final int ROUNDS_ON_THE_RIGHT_ONE = 1_000;
-    private static final int ROUNDS_TO_BEGIN_WITH = 800;
     private static final int ROUNDS_TO_FIND = 20_000;
     /** A race is a matter of chance, and of free processors: what the bursts of one seed don't find, those of another may. */
     private static final int SEEDS_TO_FIND = 4;
@@ -99,18 +99,19 @@ final class BurstKit {
     }
 
     void checkJdk() throws IOException {
-        checkRight("the JDK", new JvmStage(new JdkFactory()), ROUNDS_ON_THE_JDK);
+        checkRight("the JDK", new JvmStage(new JdkFactory()), ROUNDS_ON_THE_JDK, BurstKind.playedOnTheJdk());
     }
 
     void checkPort(Kit.Port port) throws IOException {
         Stage stage = new PortStage(port.command());
-        checkRight("the port `" + port.command() + "`", stage, port.bursts());
+        checkRight("the port `" + port.command() + "`", stage, port.bursts(), Set.of());
         stage.close();
     }
 
-    private void checkRight(String name, Stage stage, int rounds) throws IOException {
+    /** Bursts of these kinds, or of all where none is named, find nothing. */
+    private void checkRight(String name, Stage stage, int rounds, Set<String> kinds) throws IOException {
         Bursts bursts = new Bursts(List.of(stage), Bursts.PATIENT, null, part.to);
-        bursts.play(new BurstOrder(1, BurstOrder.EACH, rounds, 0));
+        bursts.play(new BurstOrder(1, BurstOrder.EACH, rounds, 0).of(kinds, PointSeeds.NONE));
         int found = bursts.count().findings();
         part.take("bursts on " + name, found == 0, found + " found");
         part.to.print("bursts on " + name + ": ");
@@ -143,13 +144,19 @@ final class BurstKit {
         return named.group(1);
     }
 
-    /** What bursts find in something wrong: some of all kinds, else many of this kind, else many of all; null for nothing. */
+    /** What bursts find in something wrong: many of this kind, else with points where it has some, else many of all kinds. */
     private String finding(Stage stage, String kind) {
         Bursts bursts = new Bursts(List.of(stage), IMPATIENT, null, part.to);
-        String finding = bursts.find(1, ROUNDS_TO_BEGIN_WITH, null);
+        String finding = null;
         for (String only : Arrays.asList(kind, null)) {
             for (int seed = 1; seed <= SEEDS_TO_FIND && finding == null; seed++) {
                 finding = bursts.find(seed, ROUNDS_TO_FIND, only);
+                if (finding == null && only != null && !stage.isHere()) {
+                    stage.startWithPoints(seed);
+                    finding = bursts.find(seed, ROUNDS_TO_FIND, only);
+                    finding = finding == null ? null : finding + ", with points";
+                    stage.startWithPoints(PointSeeds.OFF);
+                }
             }
         }
         return finding;

@@ -3,20 +3,34 @@ package kit.player;
 import java.io.IOException;
 import java.nio.file.Files;
 import java.nio.file.Path;
+import java.util.Set;
 
 /**
- * Which bursts are to be played: {@code count} of a seed at most, or, where {@code round} isn't negative, that one so often; and
- * for how many seconds, or without such a bound where that is 0.
+ * Which bursts are to be played: {@code count} of a seed at most, or, where {@code round} isn't negative, that one so often; for
+ * how many seconds, or without such a bound where that is 0; of which kinds, or of all where none is named; and with which seeds
+ * of points.
  */
-record BurstOrder(long seed, long round, long count, long seconds) {
+record BurstOrder(long seed, long round, long count, long seconds, Set<String> kinds, PointSeeds points) {
     static final long EACH = -1;
     /** So often is a round played that failed before. */
     static final int TRIES_OF_ONE = 20_000;
     /** Of the first line of a kept one: HEAD, the seed, the round, and the kind. */
     private static final int WORDS = 4;
 
+    BurstOrder(long seed, long round, long count, long seconds) {
+        this(seed, round, count, seconds, Set.of(), PointSeeds.NONE);
+    }
+
+    BurstOrder of(Set<String> some, PointSeeds seeds) {
+        return new BurstOrder(seed, round, count, seconds, some, seeds);
+    }
+
     boolean playsOneRound() {
         return round != EACH;
+    }
+
+    boolean wants(String kind) {
+        return kinds.isEmpty() || playsOneRound() || kinds.contains(kind);
     }
 
     /** The burst of a file that was kept; null where it is none, or where that round is of another kind now. */

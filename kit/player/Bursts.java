@@ -23,11 +23,15 @@ final class Bursts {
         }
     }
 
+    /** A round to be played, and the seed of the port's points. */
+    private record Turn(long round, long points) {
+    }
+
     private final List<Place> places;
     private final Path keep;
     private final PrintStream to;
     private final BurstCount count = new BurstCount();
-    private BurstOrder order;
+    private BurstOrder order = new BurstOrder(1, BurstOrder.EACH, 0, 0);
     private long given;
     private long until;
     private RuntimeException failed;
@@ -75,8 +79,8 @@ final class Bursts {
 
     private void work(Place place) {
         try {
-            for (long round = next(); round >= 0; round = next()) {
-                playOne(place, order.seed(), round);
+            for (Turn turn = next(); turn != null; turn = next()) {
+                playOne(place, turn);
             }
         } catch (IOException | RuntimeException thrown) {
             fail(thrown);
@@ -87,16 +91,38 @@ final class Bursts {
         failed = thrown instanceof RuntimeException unchecked ? unchecked : new IllegalStateException(thrown);
     }
 
-    /** The next round to be played; negative where none is. */
-    private synchronized long next() {
+    /** What is to be played next; null for nothing. */
+    private synchronized Turn next() {
         boolean again = order.playsOneRound();
         boolean enough = count.findings() >= (again ? 1 : MOST_FINDINGS);
-        if (enough || failed != null || given >= order.count() || System.nanoTime() > until) {
-            return -1;
+        if (enough || failed != null || count.asked() >= order.count() || System.nanoTime() > until) {
+            return null;
         }
+        long round = again ? order.round() : nextRound();
+        if (round < 0 || count.isLeftOut(BurstKind.of(round).name())) {
+            return null;
+        }
+        Turn turn = new Turn(round, order.points().at(part()));
         count.asks();
-        long round = given++;
-        return again ? order.round() : round;
+        return turn;
+    }
+
+    /** That of the next kind that is wanted, and that the real side can play; negative where there is none. */
+    private long nextRound() {
+        for (int skipped = 0; skipped < BurstKind.ALL.size(); skipped++) {
+            long round = given++;
+            String kind = BurstKind.of(round).name();
+            if (order.wants(kind) && !count.isLeftOut(kind)) {
+                return round;
+            }
+        }
+        return -1;
+    }
+
+    /** How much has been given, of the rounds or of the time, from 0 to 1. */
+    private double part() {
+        double ofTime = order.seconds() > 0 ? 1 - (until - System.nanoTime()) / (order.seconds() * 1e9) : 0;
+        return Math.max(ofTime, (double) count.asked() / order.count());
     }
 
     /**
@@ -107,6 +133,9 @@ final class Bursts {
         Place place = places.get(0);
         for (long round = 0; round < rounds; round++) {
             if (kind != null && !BurstKind.of(round).name().equals(kind)) {
+                continue;
+            }
+            if (count.isLeftOut(BurstKind.of(round).name())) {
                 continue;
             }
             BurstHistory history = historyUnlessBroken(place, place.burst(seed, round));
@@ -127,25 +156,28 @@ final class Bursts {
         }
     }
 
-    private void playOne(Place place, long seed, long round) throws IOException {
-        Burst burst = place.burst(seed, round);
+    private void playOne(Place place, Turn turn) throws IOException {
+        place.stage().startWithPoints(turn.points());
+        Burst burst = place.burst(order.seed(), turn.round());
         String text = whatFails(place, burst);
         if (text != null) {
-            tellFailure(burst, text);
+            String with = turn.points() == PointSeeds.OFF ? "" : "  with " + PointSeeds.VARIABLE + "=" + turn.points() + "\n";
+            tellFailure(burst, text + with, PointSeeds.option(turn.points()));
         }
     }
 
-    private synchronized void tellFailure(Burst burst, String text) throws IOException {
+    /** {@code more} is how the same points are asked for. */
+    private synchronized void tellFailure(Burst burst, String text, String more) throws IOException {
         count.fails(burst, text);
         Progress.clear();
         to.print(text);
         if (keep == null) {
-            to.println("again: --burst " + BurstOrder.TRIES_OF_ONE + " --seed " + burst.seed() + " --round " + burst.round());
+            to.println("again: --burst " + BurstOrder.TRIES_OF_ONE + " --seed " + burst.seed() + " --round " + burst.round() + more);
         } else {
             Files.createDirectories(keep);
             Path file = keep.resolve(burst.kind() + "-" + burst.seed() + "-" + burst.round() + ".burst");
             Files.writeString(file, text);
-            to.println("kept; again: --burst " + file);
+            to.println("kept; again: --burst " + file + more);
         }
     }
 
@@ -164,13 +196,13 @@ final class Bursts {
 
     /** Null where the real side can't make the objects. */
     private BurstHistory history(Place place, Burst burst) {
-        if (count.isLeftOut(burst.kind())) {
-            return null;
-        }
         long begun = System.nanoTime();
         try {
             BurstHistory history = place.player().play(burst);
             count.played(burst, history.entries().size(), System.nanoTime() - begun);
+            if (!history.hasOpen()) {
+                count.overlaps(history);
+            }
             return history;
         } catch (Unplayable why) {
             count.leavesOut(burst.kind(), why.getMessage());
@@ -181,7 +213,7 @@ final class Bursts {
     /** Null where the history is right. */
     private BurstJudge.Finding judge(BurstHistory history) {
         BurstJudge.Finding finding = BurstJudge.judge(history);
-        return finding.isRight() || finding.overtaken() && !count.countsOvertaking() ? null : finding;
+        return finding.isRight() || finding.overtaken() && !count.countsOvertaking(!order.points().areNone()) ? null : finding;
     }
 
     /** The counts, in some lines. */

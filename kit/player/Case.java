@@ -72,6 +72,25 @@ record Case(String name, Path file, Program program, List<Choice> schedule, Stri
         return file.resolveSibling(title(file) + ending);
     }
 
+    /**
+     * The trace that is kept of a case: that of {@code NAME.trace} beside it, or what the file {@code traces} of its folder has after
+     * the line {@code == NAME}. It is null if none is kept.
+     */
+    static String keptTrace(Path file) {
+        Path alone = beside(file, ".trace");
+        Path all = file.resolveSibling("traces");
+        if (Files.exists(alone)) {
+            return read(alone);
+        }
+        String named = title(file) + "\n";
+        for (String each : Files.exists(all) ? ("\n" + read(all) + "== ").split("\n== ") : new String[0]) {
+            if (each.startsWith(named)) {
+                return each.substring(named.length()) + "\n";
+            }
+        }
+        return null;
+    }
+
     private static String title(Path file) {
         String name = file.getFileName().toString();
         int dot = name.lastIndexOf('.');

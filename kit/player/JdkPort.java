@@ -7,7 +7,7 @@ import java.nio.charset.StandardCharsets;
 import java.util.Arrays;
 
 /**
- * The JDK's classes as a port, which speaks the port protocol (docs/FORMATS.md): so {@code kit/run} plays on them the
+ * The JDK's classes as a port, which speaks the port protocol (kit/PROTOCOL.md): so {@code kit/run} plays on them the
  * transcripts that no program makes, of children made in the middle of a phase.
  */
 public final class JdkPort {

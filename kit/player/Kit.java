@@ -199,13 +199,12 @@ public final class Kit {
         return notes.count(Notes.Kind.LEFT_OUT) + notes.count(Notes.Kind.TOLD_AGAIN) + notes.count(Notes.Kind.UNSEEN) == 0;
     }
 
-    private static boolean isTrace(Case each) throws IOException {
-        Path trace = Case.beside(each.file(), ".trace");
-        return Files.exists(trace) && Files.readString(trace).equals(each.wanted());
+    private static boolean isTrace(Case each) {
+        return each.wanted().equals(Case.keptTrace(each.file()));
     }
 
-    private static String whatFails(Case each, Verdict verdict) throws IOException {
-        String trace = isTrace(each) ? "" : "its .trace isn't Vuthgal's; ";
+    private static String whatFails(Case each, Verdict verdict) {
+        String trace = isTrace(each) ? "" : "its trace isn't Vuthgal's; ";
         return trace + verdict.words() + "; " + String.join("; ", verdict.notes().lines());
     }
 
@@ -226,7 +225,7 @@ public final class Kit {
         for (Path file : files) {
             String name = kit.relativize(file).toString();
             Case ours = Case.of(vuthgal, name, file);
-            part.take(name, isTrace(ours), "its .trace isn't Vuthgal's");
+            part.take(name, isTrace(ours), "its trace isn't Vuthgal's");
             String jdk = Files.readString(Case.beside(file, ".jdk"));
             Case theirs = new Case(name, file, ours.program(), ours.schedule(), jdk);
             Verdict verdict = plain.judge(theirs);

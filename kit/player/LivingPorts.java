@@ -17,9 +17,14 @@ final class LivingPorts {
     private LivingPorts() {
     }
 
-    static synchronized Process start(String command) throws IOException {
+    /** {@code points} is the seed of its points. */
+    static synchronized Process start(String command, long points) throws IOException {
         check();
-        Process process = new ProcessBuilder("bash", "-c", command).redirectError(ProcessBuilder.Redirect.INHERIT).start();
+        ProcessBuilder builder = new ProcessBuilder("bash", "-c", command);
+        if (points != PointSeeds.OFF) {
+            builder.environment().put(PointSeeds.VARIABLE, Long.toString(points));
+        }
+        Process process = builder.start();
         LIVING.add(process);
         return process;
     }

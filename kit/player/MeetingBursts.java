@@ -6,16 +6,30 @@ import java.util.List;
 /** Bursts in which the parties of one phaser meet, come, and leave. */
 final class MeetingBursts {
     static final List<BurstKind> KINDS = List.of(
-        new BurstKind("meetings", MeetingBursts::meetings),
-        new BurstKind("meetings-with-an-audience", MeetingBursts::audience),
-        new BurstKind("meetings-and-departures", MeetingBursts::departures),
-        new BurstKind("meetings-until-the-last", MeetingBursts::untilTheLast),
-        new BurstKind("registration-while-a-phase-ends", MeetingBursts::registration),
-        new BurstKind("bulk-registration-while-a-phase-ends", MeetingBursts::bulkRegistration),
-        new BurstKind("looks-at-a-phaser", MeetingBursts::manyLooks),
-        new BurstKind("arrivals-that-nobody-awaits", MeetingBursts::arrivals),
-        new BurstKind("arrivals-one-after-the-other", MeetingBursts::manyArrivals),
-        new BurstKind("barging-at-a-phaser", MeetingBursts::barging));
+        new BurstKind("meetings", MeetingBursts::meetings,
+            "All parties meet some times, each back at once."),
+        new BurstKind("meetings-with-an-audience", MeetingBursts::audience,
+            "The same before others, who await each phase."),
+        new BurstKind("meetings-and-departures", MeetingBursts::departures,
+            "Some meet more often than others, and each leaves at its end."),
+        new BurstKind("meetings-until-the-last", MeetingBursts::untilTheLast,
+            "A phaser terminates with a phase, while all go on to meet."),
+        new BurstKind("registration-while-a-phase-ends", MeetingBursts::registration,
+            "Others come and go again while the parties meet."),
+        new BurstKind("bulk-registration-while-a-phase-ends", MeetingBursts::bulkRegistration,
+            "Others come, several at once, and go again while one party ends phases."),
+        new BurstKind("looks-at-a-phaser", MeetingBursts::manyLooks,
+            "Looks at the counts while many come and go."),
+        new BurstKind("arrivals-that-nobody-awaits", MeetingBursts::arrivals,
+            "Threads arrive and go, some of them in the place of others, and one awaits the end."),
+        new BurstKind("arrivals-one-after-the-other", MeetingBursts::manyArrivals,
+            "Few parties, and more threads than these that arrive again and again: each may be the last of a phase."),
+        new BurstKind("barging-at-a-phaser", MeetingBursts::barging,
+            "More threads than parties meet, so that one may end a phase while another still wakes those of the phase before."),
+        new BurstKind("arrivals-behind-a-look", MeetingBursts::arrivalsBehindALook,
+            "Each thread looks at the phaser, and arrives: whoever has seen a phase begin isn't refused as in one that ends."),
+        new BurstKind("waits-while-arrivals-barge", MeetingBursts::waitsWhileArrivalsBarge,
+            "Threads that only arrive end phases, while others await some of them: two may wake waiters at once."));
 
     private static final int MANY = 24;
 
@@ -26,7 +40,6 @@ final class MeetingBursts {
         return BurstMaker.call(Method.ARRIVE_AND_AWAIT_ADVANCE, phaser);
     }
 
-    /** All parties meet some times, each back at once. */
     private static void meetings(BurstMaker make) {
         int parties = make.between(2, BurstMaker.MOST_THREADS);
         int phaser = make.root(parties, make.of(50) ? Policy.DEFAULT : BurstMaker.NEVER);
@@ -37,7 +50,6 @@ final class MeetingBursts {
         make.claims(BurstClaim.MEETS);
     }
 
-    /** The same before others, who await each phase. */
     private static void audience(BurstMaker make) {
         int parties = make.between(1, 3);
         int phaser = make.root(parties, make.of(50) ? Policy.DEFAULT : BurstMaker.NEVER);
@@ -56,7 +68,6 @@ final class MeetingBursts {
         make.claims(BurstClaim.MEETS);
     }
 
-    /** Some meet more often than others, and each leaves at its end. */
     private static void departures(BurstMaker make) {
         int parties = make.between(2, 6);
         int phaser = make.root(parties, make.of(50) ? Policy.DEFAULT : BurstMaker.NEVER);
@@ -83,7 +94,6 @@ final class MeetingBursts {
         make.thread(BurstMaker.call(Method.AWAIT_ADVANCE, phaser, last));
     }
 
-    /** Others come and go again while the parties meet. */
     private static void registration(BurstMaker make) {
         int parties = make.between(1, 3);
         int phaser = make.root(parties, BurstMaker.NEVER);
@@ -101,7 +111,6 @@ final class MeetingBursts {
         looks(make, phaser);
     }
 
-    /** Looks at the counts while many come and go. */
     private static void manyLooks(BurstMaker make) {
         int phaser = make.root(1);
         for (int other = make.between(2, 4); other > 0; other--) {
@@ -142,7 +151,6 @@ final class MeetingBursts {
         looks(make, phaser);
     }
 
-    /** Few parties, and more threads than these that arrive again and again: each may be the last of a phase. */
     private static void manyArrivals(BurstMaker make) {
         int phaser = make.root(make.between(1, 2));
         for (int thread = make.between(2, 4); thread > 0; thread--) {
@@ -150,7 +158,6 @@ final class MeetingBursts {
         }
     }
 
-    /** More threads than parties meet, so that one may end a phase while another still wakes those of the phase before. */
     private static void barging(BurstMaker make) {
         int parties = make.between(1, 3);
         int phaser = make.root(parties, make.of(50) ? Policy.DEFAULT : BurstMaker.NEVER);
@@ -159,6 +166,42 @@ final class MeetingBursts {
             make.thread(BurstMaker.times(make.between(1, most), meet(phaser)));
         }
         make.closes(Request.of(Method.FORCE_TERMINATION, phaser));
+    }
+
+    private static void arrivalsBehindALook(BurstMaker make) {
+        int phaser = make.root(make.between(1, 2));
+        for (int thread = make.between(2, 4); thread > 0; thread--) {
+            List<BurstStep> steps = new ArrayList<>();
+            for (int often = make.between(3, 10); often > 0; often--) {
+                Method look = make.of(70) ? Method.GET_PHASE : Method.GET_UNARRIVED_PARTIES;
+                steps.add(BurstMaker.call(look, phaser));
+                steps.add(BurstMaker.call(Method.ARRIVE, phaser));
+            }
+            make.thread(steps);
+        }
+    }
+
+    /**
+     * In a meeting two can't wake at once: who ends a phase is a party of the next, and wakes before it arrives there. Here an
+     * arrival is refused while another ends a phase, so that no more than two phases need end: more arrivals come where others
+     * are awaited.
+     */
+    private static void waitsWhileArrivalsBarge(BurstMaker make) {
+        int phaser = make.root(1);
+        for (int thread = make.between(2, 3); thread > 0; thread--) {
+            make.thread(BurstMaker.times(make.between(2, 6), BurstMaker.call(Method.ARRIVE, phaser)));
+        }
+        int phases = make.between(2, 4);
+        if (phases > 2) {
+            make.closes(Request.of(Method.ARRIVE, phaser));
+        }
+        for (int waiter = make.between(2, 4); waiter > 0; waiter--) {
+            List<BurstStep> steps = new ArrayList<>();
+            for (int phase = 0; phase < phases; phase++) {
+                steps.add(BurstMaker.call(Method.AWAIT_ADVANCE, phaser, phase));
+            }
+            make.thread(steps);
+        }
     }
 
     private static void looks(BurstMaker make, int phaser) {

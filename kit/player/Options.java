@@ -6,7 +6,9 @@ import java.nio.file.Path;
 import java.util.ArrayList;
 import java.util.Collections;
 import java.util.Iterator;
+import java.util.LinkedHashSet;
 import java.util.List;
+import java.util.Set;
 
 /** The words of the command line. */
 final class Options {
@@ -15,11 +17,12 @@ final class Options {
         kit/play [OPTION].. PROGRAM SCHEDULE [--trace FILE]
         kit/play [OPTION].. FOLDER.. [--transcripts FOLDER]
         kit/play [OPTION].. --random N [--seed S] [--keep FOLDER]
-        kit/play [OPTION].. --burst ROUNDS [--for SECONDS] [--seed S] [--round R] [--keep FOLDER]
-        kit/play [OPTION].. --for SECONDS [--seed S] [--round R] [--keep FOLDER]
-        kit/play [OPTION].. --burst FILE [--for SECONDS]
+        kit/play [OPTION].. --burst ROUNDS [--for SECONDS] [--seed S] [--round R] [--kind NAMES] [--points N] [--keep FOLDER]
+        kit/play [OPTION].. --for SECONDS [--seed S] [--round R] [--kind NAMES] [--points N] [--keep FOLDER]
+        kit/play [OPTION].. --burst FILE [--for SECONDS] [--points N]
+        kit/play --kinds
           --factory NAME     a class on the class path KIT_CLASSPATH that implements kit.player.Factory
-          --port COMMAND     a command that speaks the port protocol (docs/FORMATS.md)
+          --port COMMAND     a command that speaks the port protocol (kit/PROTOCOL.md)
           --jobs N           starts the port so many times, and plays so many cases or bursts at once
           --known            tells documented differences over (docs/BEHAVIOUR.md, "Where the JDK differs"), and counts them
           --trace FILE       writes the trace of what was played
@@ -29,6 +32,10 @@ final class Options {
           --burst ROUNDS     plays so many bursts: several calls at once on threads that run freely
           --for SECONDS      plays bursts for so long, and no more than ROUNDS where these are given
           --burst FILE       plays a burst that was kept until it fails, 20000 times at most
+          --kind NAME[,NAME] plays bursts of these kinds alone
+          --kinds            lists the kinds of bursts, with a sentence each
+          --points N         starts a port that has points with the seeds 1 to N, each for its share of the bursts;
+                             FIRST..LAST names others
           --round R          plays the burst of round R alone until it fails, ROUNDS times at most
           --seed S           other scenarios, or other bursts; by default 1
           --keep FOLDER      writes each scenario that differs there, as NAME.txt and NAME.trace, and each burst that
@@ -73,6 +80,9 @@ final class Options {
     private String burst;
     private long round = BurstOrder.EACH;
     private long seconds;
+    private Set<String> kinds = Set.of();
+    private boolean listsKinds;
+    private PointSeeds points = PointSeeds.NONE;
     private String factory = JdkFactory.class.getName();
     private String port;
 
@@ -94,6 +104,9 @@ final class Options {
                 case "--burst" -> burst = argument(word, at);
                 case "--for" -> seconds = number(word, at, 1, MOST_SECONDS);
                 case "--round" -> round = number(word, at, 0, MOST_ROUNDS);
+                case "--kind" -> kinds = kinds(argument(word, at));
+                case "--kinds" -> listsKinds = true;
+                case "--points" -> points = points(argument(word, at));
                 case "--patience" -> patience = factor(word, at);
                 case "--known" -> known = true;
                 case "--first-try" -> firstTry = true;
@@ -105,16 +118,17 @@ final class Options {
     }
 
     private void check() throws Wrong {
+        if (listsKinds) {
+            return;
+        }
         if (programs.isEmpty() == (random == 0 && !playsBursts())) {
             throw new Wrong("either programs, or --random, or --burst or --for");
         }
         if (playsBursts() && (random > 0 || known || firstTry || keepGoing)) {
-            throw new Wrong("with --burst and --for go only --factory or --port, --jobs, --seed, --round, --keep, --report, and"
-                + " --patience");
+            throw new Wrong("with --burst and --for go only --factory or --port, --jobs, --seed, --round, --kind, --points, --keep,"
+                + " --report, and --patience");
         }
-        if (round >= 0 && !playsBursts()) {
-            throw new Wrong("--round wants --burst or --for");
-        }
+        checkBursts();
         if (jobs > 1 && port == null) {
             throw new Wrong("--jobs wants --port: classes on the JVM are played one case after the other");
         }
@@ -127,6 +141,35 @@ final class Options {
         if (trace != null && one() == null) {
             throw new Wrong("--trace wants one case");
         }
+    }
+
+    private void checkBursts() throws Wrong {
+        if (round >= 0 && !playsBursts()) {
+            throw new Wrong("--round wants --burst or --for");
+        }
+        if (!kinds.isEmpty() && !playsBursts()) {
+            throw new Wrong("--kind wants --burst or --for");
+        }
+        if (!points.areNone() && (!playsBursts() || port == null)) {
+            throw new Wrong("--points wants --port, and --burst or --for");
+        }
+    }
+
+    private static Set<String> kinds(String names) throws Wrong {
+        Set<String> kinds = new LinkedHashSet<>(List.of(names.split(",")));
+        for (String kind : kinds) {
+            if (!BurstKind.isName(kind)) {
+                throw new Wrong("there is no kind " + kind + "; these are:\n" + BurstKind.list());
+            }
+        }
+        return kinds;
+    }
+
+    private static PointSeeds points(String word) throws Wrong {
+        String[] ends = word.split("\\.\\.", 2);
+        long first = ends.length == 1 ? 1 : number("--points", List.of(ends[0]).iterator(), 0, MOST_SCENARIOS);
+        long last = number("--points", List.of(ends[ends.length - 1]).iterator(), first, MOST_SCENARIOS);
+        return new PointSeeds(first, (int) (last - first + 1));
     }
 
     private boolean playsBursts() {
@@ -179,8 +222,18 @@ final class Options {
         }
     }
 
+    /** Whether the kinds of bursts are asked for. */
+    boolean listsKinds() {
+        return listsKinds;
+    }
+
     /** The bursts that were asked for, or null. */
     BurstOrder bursts() throws Wrong, IOException {
+        BurstOrder order = order();
+        return order == null ? null : order.of(kinds, points);
+    }
+
+    private BurstOrder order() throws Wrong, IOException {
         if (burst == null) {
             return seconds == 0 ? null : new BurstOrder(seed, round, MOST_ROUNDS, seconds);
         }

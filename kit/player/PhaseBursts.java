@@ -5,18 +5,30 @@ import java.util.List;
 /** Bursts about the end of one phase: who waits for it, how long, and what else comes at that moment. */
 final class PhaseBursts {
     static final List<BurstKind> KINDS = List.of(
-        new BurstKind("wait-against-the-end", PhaseBursts::waitAgainstTheEnd),
-        new BurstKind("phases-that-end-at-once", PhaseBursts::phasesAtOnce),
-        new BurstKind("interrupt-behind-the-advance", PhaseBursts::interruptBehind),
-        new BurstKind("interrupts-among-waiters", PhaseBursts::interruptsAmong),
-        new BurstKind("time-at-the-advance", PhaseBursts::timeAtTheAdvance),
-        new BurstKind("time-that-runs-out", PhaseBursts::timeThatRunsOut),
-        new BurstKind("time-among-pokes", PhaseBursts::timeAmongPokes),
-        new BurstKind("the-longest-time", PhaseBursts::longestTime),
-        new BurstKind("a-crowd-at-a-phase", PhaseBursts::crowd),
-        new BurstKind("force-among-waiters", PhaseBursts::forceAmong),
-        new BurstKind("force-against-the-end", PhaseBursts::forceAgainstTheEnd),
-        new BurstKind("force-among-arrivals", PhaseBursts::forceAmongArrivals));
+        new BurstKind("wait-against-the-end", PhaseBursts::waitAgainstTheEnd,
+            "Some begin to wait for a phase at the moment at which it ends."),
+        new BurstKind("phases-that-end-at-once", PhaseBursts::phasesAtOnce,
+            "Some wait for a phase, and phases end one behind the other."),
+        new BurstKind("interrupt-behind-the-advance", PhaseBursts::interruptBehind,
+            "Who ends the phase interrupts the waiters at once."),
+        new BurstKind("interrupts-among-waiters", PhaseBursts::interruptsAmong,
+            "Interrupts at any moment of waits that hear them, and of waits that don't."),
+        new BurstKind("time-at-the-advance", PhaseBursts::timeAtTheAdvance,
+            "The phase ends when the time of a wait does."),
+        new BurstKind("time-that-runs-out", PhaseBursts::timeThatRunsOut,
+            "A time of less than a millisecond is over, and the phaser is as it was."),
+        new BurstKind("time-among-pokes", PhaseBursts::timeAmongPokes,
+            "A time is over although others come and go all the while."),
+        new BurstKind("the-longest-time", PhaseBursts::longestTime,
+            "A time so long that what is added to it overflows."),
+        new BurstKind("a-crowd-at-a-phase", PhaseBursts::crowd,
+            "More waiters than any round number of the small ones."),
+        new BurstKind("force-among-waiters", PhaseBursts::forceAmong,
+            "A forced termination while some meet and some wait."),
+        new BurstKind("force-against-the-end", PhaseBursts::forceAgainstTheEnd,
+            "A phase ends, somebody registers, and a forced termination comes in between."),
+        new BurstKind("force-among-arrivals", PhaseBursts::forceAmongArrivals,
+            "Phases end one behind the other, others look at their numbers, and a forced termination comes at some moment."));
 
     private static final int MANY = 40;
     private static final long DAY = 86_400_000_000_000L;
@@ -62,7 +74,6 @@ final class PhaseBursts {
         }
     }
 
-    /** Who ends the phase interrupts the waiters at once. */
     private static void interruptBehind(BurstMaker make) {
         int phaser = make.root(1, make.of(50) ? Policy.DEFAULT : BurstMaker.NEVER);
         int waiters = make.between(1, 3);
@@ -76,7 +87,6 @@ final class PhaseBursts {
         }
     }
 
-    /** Interrupts at any moment of waits that hear them, and of waits that don't. */
     private static void interruptsAmong(BurstMaker make) {
         int parties = make.between(1, 2);
         int phaser = make.root(parties, make.of(50) ? Policy.DEFAULT : BurstMaker.NEVER);
@@ -93,7 +103,6 @@ final class PhaseBursts {
         }
     }
 
-    /** The phase ends when the time of a wait does. */
     private static void timeAtTheAdvance(BurstMaker make) {
         int phaser = make.root(1, make.of(50) ? Policy.DEFAULT : BurstMaker.NEVER);
         long time = make.time(1_000, 2_000);
@@ -103,7 +112,6 @@ final class PhaseBursts {
         make.thread(arrive(phaser).after(Math.max(time - make.time(-200, 600), 0)));
     }
 
-    /** A time of less than a millisecond is over, and the phaser is as it was. */
     private static void timeThatRunsOut(BurstMaker make) {
         int phaser = make.root(2);
         for (int waiter = make.between(1, 3); waiter > 0; waiter--) {
@@ -124,7 +132,6 @@ final class PhaseBursts {
         make.pokes(BurstMaker.call(Method.ARRIVE_AND_DEREGISTER, phaser));
     }
 
-    /** A time so long that what is added to it overflows. */
     private static void longestTime(BurstMaker make) {
         int phaser = make.root(1);
         long time = Long.MAX_VALUE - make.between(0, 1) * make.between(0, 1_000);
@@ -132,7 +139,6 @@ final class PhaseBursts {
         make.thread(arrive(phaser).after(make.time(300, 1_000)));
     }
 
-    /** More waiters than any round number of the small ones. */
     private static void crowd(BurstMaker make) {
         int phaser = make.root(1, make.of(50) ? Policy.DEFAULT : BurstMaker.NEVER);
         for (int waiter = make.between(BurstMaker.MOST_THREADS + 1, BurstMaker.CROWD); waiter > 0; waiter--) {
@@ -154,7 +160,6 @@ final class PhaseBursts {
         make.then(thread, BurstMaker.call(make.any(List.of(Method.GET_PHASE, Method.ARRIVE, Method.REGISTER)), phaser));
     }
 
-    /** Phases end one behind the other, others look at their numbers, and a forced termination comes at some moment. */
     private static void forceAmongArrivals(BurstMaker make) {
         int phaser = make.root(1);
         for (int thread = make.between(1, 2); thread > 0; thread--) {
@@ -167,7 +172,6 @@ final class PhaseBursts {
             BurstMaker.call(Method.GET_PHASE, phaser));
     }
 
-    /** A phase ends, somebody registers, and a forced termination comes in between. */
     private static void forceAgainstTheEnd(BurstMaker make) {
         int phaser = make.root(1, BurstMaker.NEVER);
         make.thread(BurstMaker.times(make.between(1, 3), arrive(phaser)));

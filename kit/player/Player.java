@@ -39,6 +39,10 @@ public final class Player {
     }
 
     private int run() throws IOException, Options.Wrong {
+        if (options.listsKinds()) {
+            to.print(BurstKind.list());
+            return 0;
+        }
         BurstOrder bursts = options.bursts();
         if (bursts != null) {
             return playBursts(bursts);

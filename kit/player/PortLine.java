@@ -2,7 +2,7 @@ package kit.player;
 
 import java.util.regex.Pattern;
 
-/** A line that a port wrote, taken apart (docs/FORMATS.md, "Port protocol"). */
+/** A line that a port wrote, taken apart (kit/PROTOCOL.md, "Port protocol"). */
 record PortLine(Kind kind, int thread, int[] numbers, String line) {
     enum Kind {
         /** A command for objects was carried out, or can't be, or its constructor threw. */

@@ -13,7 +13,7 @@ import java.util.concurrent.LinkedBlockingQueue;
 import java.util.concurrent.TimeUnit;
 import java.util.concurrent.locks.LockSupport;
 
-/** A port's process, and the lines that it is told and tells (docs/FORMATS.md, "Port protocol"). */
+/** A port's process, and the lines that it is told and tells (kit/PROTOCOL.md, "Port protocol"). */
 final class PortProcess {
     private static final long SECOND = 1_000_000_000L;
     /** How long the first answer may take, since a start takes its time. */
@@ -25,6 +25,7 @@ final class PortProcess {
     private static final long MILLISECONDS_OF_A_SIGNAL = 1_000;
     private final Process process;
     private final Thread reader = new Thread(this::read, "port reader");
+    private final PortErrors errors;
     private final BurstSpread spread;
     private final BufferedWriter into;
     private final BoundedLines from;
@@ -50,12 +51,14 @@ final class PortProcess {
     private record Reply(PortLine said) {
     }
 
-    PortProcess(String command) {
+    /** {@code points} is the seed of its points. */
+    PortProcess(String command, long points) {
         try {
-            process = LivingPorts.start(command);
+            process = LivingPorts.start(command, points);
         } catch (IOException failed) {
             throw new PortEnded("the port can't be started: " + failed.getMessage(), true);
         }
+        errors = new PortErrors(process);
         spread = new BurstSpread(process);
         into = new BufferedWriter(new OutputStreamWriter(process.getOutputStream(), StandardCharsets.US_ASCII));
         from = new BoundedLines(process.getInputStream());
@@ -82,12 +85,12 @@ final class PortProcess {
         order("case");
     }
 
-    /** Whether none of its threads runs now. */
-    boolean isAtRest() {
+    /** Its threads, as the system shows them in this case. */
+    Tasks tasks() {
         if (tasks == null) {
             tasks = new Tasks(process);
         }
-        return tasks.areAtRest();
+        return tasks;
     }
 
     /** Whether none does for a while. */
@@ -179,8 +182,11 @@ final class PortProcess {
         }
     }
 
-    /** Throws where the port has ended, or has written what no port writes. */
+    /** Throws where the port has ended, has written what no port writes, or was warned of by a race detector. */
     void check() {
+        if (breakdown == null && errors.warning() != null) {
+            breakdown = new RaceWarning(errors.warning());
+        }
         if (breakdown != null) {
             LivingPorts.check();
             throw breakdown;
@@ -191,7 +197,7 @@ final class PortProcess {
     String state() {
         String wrote = lastLine == null ? "it has written nothing" : "its last line is `" + Excerpt.of(lastLine) + "`";
         String flushed = from.unfinished().isEmpty() && !allAnswered() ? "; is each line flushed?" : "";
-        return from.unfinished() + " (" + wrote + ", and it " + (isAtRest() ? "stands still" : "runs") + flushed + ")";
+        return from.unfinished() + " (" + wrote + ", and it " + (tasks().areAtRest() ? "stands still" : "runs") + flushed + ")";
     }
 
     /** Whether both of its sides have answered once: who makes objects, and the threads. */
@@ -215,12 +221,18 @@ final class PortProcess {
                 lastLine = line.startsWith(Stage.LOOKER + " ") ? lastLine : line;
                 take(PortLine.of(line));
             }
-            return new PortEnded(howItEnded() + from.unfinished(), !answered);
+            return end(howItEnded() + from.unfinished());
         } catch (IOException closed) {
-            return new PortEnded(howItEnded(), !answered);
+            return end(howItEnded());
         } catch (Breakdown down) {
             return down;
         }
+    }
+
+    /** Many a race detector ends the port behind its warning. */
+    private Breakdown end(String how) {
+        String warning = errors.lastWarning();
+        return warning != null ? new RaceWarning(warning) : new PortEnded(how, !answered);
     }
 
     private void take(PortLine said) {

@@ -8,6 +8,7 @@ import java.util.concurrent.BlockingQueue;
 final class PortStage implements Stage {
     private final String command;
     private PortProcess process;
+    private long points = PointSeeds.OFF;
     /** Null until it was asked. */
     private Boolean takesLists;
 
@@ -18,7 +19,7 @@ final class PortStage implements Stage {
     @Override
     public void begin(Patience patience) {
         if (process == null) {
-            process = new PortProcess(command);
+            process = new PortProcess(command, points);
         }
         process.begin(patience);
     }
@@ -94,6 +95,14 @@ final class PortStage implements Stage {
     @Override
     public void askSoFar() {
         process.order("so-far");
+    }
+
+    @Override
+    public void startWithPoints(long seed) {
+        if (seed != points) {
+            points = seed;
+            abandon();
+        }
     }
 
     @Override

@@ -36,8 +36,13 @@ final class PortThread extends RealThread {
     }
 
     @Override
-    protected boolean isAtRest() {
-        return process.isAtRest();
+    protected void markRest() {
+        process.tasks().mark();
+    }
+
+    @Override
+    protected Rest rest() {
+        return process.tasks().rest();
     }
 
     @Override

@@ -18,6 +18,16 @@ abstract class RealThread {
         BLOCKED
     }
 
+    /** How much the threads of a real side rest. */
+    enum Rest {
+        /** All slept at one moment. */
+        ASLEEP,
+        /** Not all sleep, and who doesn't has had a processor since it was told something. */
+        RUNNING,
+        /** Somebody waits for a processor, and may not have begun yet. */
+        STARVING
+    }
+
     /** A real side that isn't at rest is waited for so many times as long. */
     static final int TIMES_FOR_THE_BUSY = 4;
 
@@ -58,9 +68,18 @@ abstract class RealThread {
     /** Whether it may be blocked now, as far as can be seen. */
     protected abstract boolean mayBeBlocked();
 
+    /** From now on {@code rest} asks who has had a processor. */
+    protected void markRest() {
+    }
+
+    /** How much the real side's threads rest now, as far as can be seen. */
+    protected Rest rest() {
+        return Rest.ASLEEP;
+    }
+
     /** Whether none of the real side's threads runs now, as far as can be seen. */
-    protected boolean isAtRest() {
-        return true;
+    protected final boolean isAtRest() {
+        return rest() == Rest.ASLEEP;
     }
 
     /** Whether it is so for a while. */

@@ -14,8 +14,8 @@ final class ReplayChecks {
     /** Where all stand still, so many times as long at each try, since the machine may be busy; more and a time would be over. */
     private static final List<String> PATIENCE = List.of("2", "4", "4");
     private static final String RIGHT = " same, 0 different, 0 left out\n";
-    /** So many that 128 KiB more, which is how an allocator grows, are less than the bytes that `kit/soak` allows. */
-    private static final int WAITS = 48_000;
+    /** So few that it takes some seconds; of the two growths of a heap that `kit/soak` looks at one is without a step. */
+    private static final int WAITS = 24_000;
     private static final long LONGEST_SECONDS = 240;
 
     /** The status of a replay and what it has to say, the command of the port, and folders of cases. */
@@ -41,7 +41,8 @@ final class ReplayChecks {
         for (Kit.Port port : ports) {
             checks.add(() -> soak(0, "while 60 threads wait: ", port.command()));
         }
-        checks.add(() -> soak(1, " 0.0 bytes a wait are left\n", wrong + "polls.py"));
+        checks.add(() -> soak(0, "left out: it makes no barrier\n", python + " " + kit.resolve("faults/port.py") + " without barrier"));
+        checks.add(() -> soak(1, " 0.0 bytes a wait are left, resident\n", wrong + "polls.py"));
         checks.add(() -> soak(1, "while 60 threads wait: 0.", wrong + "keeps_waits.py"));
         for (Kit.Port port : ports) {
             for (String folder : folders()) {
@@ -74,7 +75,8 @@ final class ReplayChecks {
             new Check(1, "`< 0 = 0`: ['0 = 7'] came", faults + "'0 = 0' 'say 0 = 7\\n'", "phase-numbers"),
             new Check(1, "waiting/for-the-present-phase differs, at line ", faults + "'1 = 0' 'also 0 = 1\\n'", "waiting"),
             new Check(0, " left out: no it makes no barrier\n", faults + "without barrier", "tiers action"),
-            new Check(2, "0 same, 0 different, ", faults + "without case", "reset"));
+            new Check(2, "0 same, 0 different, 363 left out\n", faults + "without case", ""),
+            new Check(2, "kit/replay [--patience FACTOR] COMMAND [FILE..]", "--none", ""));
     }
 
     /** A port whose constructors refuse all but one thing, and the transcript that it plays otherwise. */
@@ -103,7 +105,7 @@ final class ReplayChecks {
 
     /** The examples of the port protocol are played as they stand in its page, without their remarks. */
     private void checkExamples(List<Kit.Port> ports) throws IOException {
-        String page = Files.readString(kit.resolve("../docs/FORMATS.md"));
+        String page = Files.readString(kit.resolve("PROTOCOL.md"));
         StringBuilder examples = new StringBuilder();
         int number = 0;
         for (String line : page.substring(page.indexOf("**Examples.** `>`"), page.indexOf("## Transcripts")).split("\n")) {
@@ -125,7 +127,7 @@ final class ReplayChecks {
         for (String name : check.folders().split(" ")) {
             files.append(" transcripts/").append(name).append(".txt");
         }
-        replay(check.status(), check.says(), check.command(), files.toString());
+        replay(check.status(), check.says(), check.command(), check.folders().isEmpty() ? "" : files.toString());
     }
 
     private void replay(int status, String says, String command, String files) {
@@ -136,7 +138,7 @@ final class ReplayChecks {
             if (told != null) {
                 part.to.println(words + " is played again: " + told.text());
             }
-            told = shell(words, Map.of("PATIENCE", patience));
+            told = shell(words.replace("./replay ", "./replay --patience " + patience + " "), Map.of());
             if (told.is(status, says)) {
                 break;
             }

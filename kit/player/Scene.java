@@ -218,12 +218,16 @@ final class Scene {
         note(Notes.Kind.ODD, what);
     }
 
-    /** A call that has to end doesn't, after all this time. It is stuck if nothing of the real side runs any more. */
+    /**
+     * A call that has to end doesn't, after all this time. It is stuck if nothing of the real side runs any more, and no slow
+     * machine explains it: a call that was taken to wait before it had begun may have begun too late to be released.
+     */
     void stuck(RealThread thread, String what) {
-        note(notes.count(Notes.Kind.STUCK) > 0 || thread.staysAtRest() ? Notes.Kind.STUCK : Notes.Kind.ODD, what + thread.state());
+        boolean stuck = notes.count(Notes.Kind.STUCK) > 0 || !mayBeSlow() && thread.staysAtRest();
+        note(stuck ? Notes.Kind.STUCK : Notes.Kind.ODD, what + thread.state());
     }
 
-    /** Whether a slow machine may explain a value: a time was over too soon, or a wait isn't surely one. */
+    /** Whether a slow machine may explain what came: a time was over too soon, or a wait isn't surely one. */
     boolean mayBeSlow() {
         return early || settling.isUnsure();
     }

@@ -4,11 +4,13 @@ package kit.player;
  * Whether a call is done, enters a routine or an action, or is blocked. Of a blocked thread there is nothing to be seen but
  * that it stands still, and on a busy machine so does one that waits for a processor. So the time for which it has to stand
  * still counts from when a round trip of the looker, begun after the call, has come back; it is longer where that trip was
- * long; the real side has to be at rest behind it; and one more trip, which mustn't be longer than that time, comes last.
+ * long; the real side has to be at rest behind it; and one more trip, which mustn't be longer than that time, comes last. A real
+ * side that is never at rest is taken to spin while it waits, once whoever isn't asleep has had a processor; who starves is
+ * waited for.
  */
 final class Settling {
     private static final int TRIPS = 3;
-    /** A real side that isn't at rest after so many times is one that spins while it waits. */
+    /** A real side that isn't at rest after so many times, though it has run, is one that spins while it waits. */
     private static final int MOST_ROUNDS = 10;
 
     private final Stage stage;
@@ -29,15 +31,18 @@ final class Settling {
             return RealThread.outcome(call);
         }
         long last = roundTrip();
+        thread.markRest();
         for (int round = 1;; round++) {
             long still = Math.max(patience.settle(), TRIPS * last);
             thread.standStill(call, still, limit);
-            boolean rests = round >= MOST_ROUNDS || thread.isAtRest();
+            RealThread.Rest rest = thread.rest();
             last = roundTrip();
-            boolean settled = rests && last <= still || System.nanoTime() > limit;
-            if (settled || RealThread.outcome(call) != RealThread.Outcome.BLOCKED) {
-                unsure |= RealThread.outcome(call) == RealThread.Outcome.BLOCKED && !thread.isAtRest();
-                return RealThread.outcome(call);
+            boolean waits = rest == RealThread.Rest.ASLEEP && last <= still;
+            boolean spins = rest == RealThread.Rest.RUNNING && last <= still && round >= MOST_ROUNDS;
+            RealThread.Outcome outcome = RealThread.outcome(call);
+            if (waits || spins || outcome != RealThread.Outcome.BLOCKED || System.nanoTime() > limit) {
+                unsure |= outcome == RealThread.Outcome.BLOCKED && !waits;
+                return outcome;
             }
         }
     }
@@ -61,7 +66,7 @@ final class Settling {
         return took;
     }
 
-    /** Whether a call was taken to wait though the real side wasn't at rest. */
+    /** Whether a call was taken to wait though the real side wasn't at rest: it may not have begun. */
     boolean isUnsure() {
         return unsure;
     }

@@ -64,6 +64,13 @@ interface Stage {
         throw new IllegalStateException("it takes no lists");
     }
 
+    /** From now on it runs with this seed of points, in a process of its own; {@code PointSeeds.OFF} is without. */
+    default void startWithPoints(long seed) {
+        if (seed != PointSeeds.OFF) {
+            throw new IllegalStateException("only a port has points");
+        }
+    }
+
     /** How long to wait, first and then at each further try. */
     Patience[] patience();
 

@@ -5,7 +5,9 @@ import java.nio.charset.StandardCharsets;
 import java.nio.file.DirectoryStream;
 import java.nio.file.Files;
 import java.nio.file.Path;
+import java.util.HashMap;
 import java.util.List;
+import java.util.Map;
 import java.util.concurrent.locks.LockSupport;
 import java.util.stream.Stream;
 
@@ -13,8 +15,17 @@ import java.util.stream.Stream;
 final class Tasks {
     private static final int LOOKS = 10;
     private static final long BETWEEN_LOOKS = 10_000_000;
+    /** Whoever has had a processor for so long has begun what it was told, in nanoseconds. */
+    private static final long LONG_ENOUGH = 1_000_000;
+    private static final boolean HAS_TIMES = Files.exists(Path.of("/proc/self/schedstat"));
+
+    /** What is seen of a task: whether it sleeps, how long it has run, in nanoseconds, and how often it was given a processor. */
+    private record Seen(boolean sleeps, long ran, long turns) {
+    }
 
     private final List<Path> folders;
+    /** What was seen when the present call was told. */
+    private Map<Path, Seen> before = Map.of();
 
     Tasks(Process process) {
         folders = Stream.concat(Stream.of(process.toHandle()), process.descendants())
@@ -32,25 +43,65 @@ final class Tasks {
         return true;
     }
 
-    /** Whether none of them runs, or waits for a processor or a disk. */
+    /** From now on {@code rest} counts how long each has run. */
+    void mark() {
+        before = look();
+    }
+
+    /** How much they rest, and whether those that don't have run since the mark. */
+    RealThread.Rest rest() {
+        Map<Path, Seen> now = look();
+        if (areAtRest(now)) {
+            return RealThread.Rest.ASLEEP;
+        }
+        return now.keySet().stream().allMatch(task -> now.get(task).sleeps() || hasRun(task, now.get(task)))
+            ? RealThread.Rest.RUNNING : RealThread.Rest.STARVING;
+    }
+
+    /** Taken for granted where the system doesn't say it. */
+    private boolean hasRun(Path task, Seen now) {
+        Seen then = before.get(task);
+        return !HAS_TIMES || now.ran() - (then == null ? 0 : then.ran()) >= LONG_ENOUGH;
+    }
+
+    /** Whether there was a moment at which all slept. */
     boolean areAtRest() {
+        return areAtRest(look());
+    }
+
+    /**
+     * One look after the other misses what a task hands to one that was seen asleep before. So a second look follows: whoever
+     * slept at both, and was given no processor between, slept at the moment between them.
+     */
+    private boolean areAtRest(Map<Path, Seen> first) {
+        return first.values().stream().allMatch(Seen::sleeps) && look().equals(first);
+    }
+
+    private Map<Path, Seen> look() {
+        Map<Path, Seen> seen = new HashMap<>();
         for (Path folder : folders) {
             try (DirectoryStream<Path> tasks = Files.newDirectoryStream(folder)) {
-                for (Path task : tasks) {
-                    if (runs(task)) {
-                        return false;
-                    }
-                }
+                tasks.forEach(task -> look(task, seen));
             } catch (IOException | RuntimeException gone) {
                 continue;
             }
         }
-        return true;
+        return seen;
     }
 
-    private static boolean runs(Path task) throws IOException {
-        String stat = new String(Files.readAllBytes(task.resolve("stat")), StandardCharsets.ISO_8859_1);
-        char state = stat.charAt(stat.lastIndexOf(')') + 2);
-        return state == 'R' || state == 'D';
+    /** A task that has ended meanwhile isn't there. */
+    private static void look(Path task, Map<Path, Seen> seen) {
+        try {
+            String stat = text(task.resolve("stat"));
+            char state = stat.charAt(stat.lastIndexOf(')') + 2);
+            String[] times = (HAS_TIMES ? text(task.resolve("schedstat")).strip() : "0 0 0").split(" ");
+            seen.put(task, new Seen(state != 'R' && state != 'D', Long.parseLong(times[0]), Long.parseLong(times[2])));
+        } catch (IOException gone) {
+            seen.remove(task);
+        }
+    }
+
+    private static String text(Path file) throws IOException {
+        return new String(Files.readAllBytes(file), StandardCharsets.ISO_8859_1);
     }
 }

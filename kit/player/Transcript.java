@@ -7,7 +7,7 @@ import java.util.List;
 import java.util.Set;
 
 /**
- * A play in the lines of the port protocol (docs/FORMATS.md, "Transcripts"): what the player says, what a right port answers,
+ * A play in the lines of the port protocol (kit/PROTOCOL.md, "Transcripts"): what the player says, what a right port answers,
  * and where all stand still. Of the player's own looks only those at the play's end stand in it.
  */
 final class Transcript {

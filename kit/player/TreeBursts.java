@@ -6,10 +6,16 @@ import java.util.List;
 /** Bursts over trees of phasers. Counts are looked at only in the end: an arrival goes up step by step. */
 final class TreeBursts {
     static final List<BurstKind> KINDS = List.of(
-        new BurstKind("tree-meetings", TreeBursts::meetings),
-        new BurstKind("tree-departures", TreeBursts::departures),
-        new BurstKind("tree-registration", TreeBursts::registration),
-        new BurstKind("tree-force", TreeBursts::force));
+        new BurstKind("tree-meetings", TreeBursts::meetings,
+            "All parties of the children meet some times."),
+        new BurstKind("tree-departures", TreeBursts::departures,
+            "The parties of the children meet, and leave one after the other."),
+        new BurstKind("tree-registration", TreeBursts::registration,
+            "Others come and go at children that keep a party; that one meets once."),
+        new BurstKind("tree-force", TreeBursts::force,
+            "A child is forced to terminate while the parties of all meet."),
+        new BurstKind("registration-at-an-empty-child", TreeBursts::registrationAtAnEmptyChild,
+            "The root's own party ends phases, while others come to a child without parties, look, and leave it empty."));
 
     private TreeBursts() {
     }
@@ -56,13 +62,27 @@ final class TreeBursts {
         }
     }
 
-    /** Others come and go at children that keep a party; that one meets once. */
     private static void registration(BurstMaker make) {
         List<Integer> leaves = tree(make, 2, 1);
         leaves.forEach(leaf -> make.thread(meet(leaf)));
         for (int other = make.between(1, 4); other > 0; other--) {
             int leaf = make.any(leaves);
             make.thread(BurstMaker.call(Method.REGISTER, leaf), BurstMaker.call(Method.ARRIVE_AND_DEREGISTER, leaf));
+        }
+    }
+
+    private static void registrationAtAnEmptyChild(BurstMaker make) {
+        int root = make.root(1, BurstMaker.NEVER);
+        int child = make.phaser(root, 0, Policy.DEFAULT);
+        make.thread(BurstMaker.times(make.between(2, 6), meet(root)));
+        for (int other = make.between(2, 3); other > 0; other--) {
+            List<BurstStep> steps = new ArrayList<>();
+            for (int often = make.between(1, 2); often > 0; often--) {
+                steps.add(BurstMaker.call(Method.REGISTER, child));
+                steps.add(BurstMaker.call(Method.GET_PHASE, root));
+                steps.add(BurstMaker.call(Method.ARRIVE_AND_DEREGISTER, child));
+            }
+            make.thread(steps);
         }
     }
 

@@ -6,15 +6,24 @@ import java.util.List;
 /** Bursts in which barriers trip, and what comes right behind a trip. */
 final class TripBursts {
     static final List<BurstKind> KINDS = List.of(
-        new BurstKind("trips", TripBursts::trips),
-        new BurstKind("barging", TripBursts::barging),
-        new BurstKind("a-crowd-at-a-barrier", TripBursts::crowd),
-        new BurstKind("released-and-then-broken", TripBursts::releasedAndBroken),
-        new BurstKind("released-and-then-reset", TripBursts::releasedAndReset),
-        new BurstKind("interrupt-behind-the-trip", TripBursts::interruptBehind),
-        new BurstKind("time-at-the-trip", TripBursts::timeAtTheTrip),
-        new BurstKind("time-during-the-action", TripBursts::timeDuringTheAction),
-        new BurstKind("the-longest-time-at-a-barrier", TripBursts::longestTime));
+        new BurstKind("trips", TripBursts::trips,
+            "As many threads as parties, each back at once."),
+        new BurstKind("barging", TripBursts::barging,
+            "More threads than parties, so that each may come in the generation of others; now and then over many generations."),
+        new BurstKind("a-crowd-at-a-barrier", TripBursts::crowd,
+            "One trip of more threads than any round number of the small ones."),
+        new BurstKind("released-and-then-broken", TripBursts::releasedAndBroken,
+            "Who trips the barrier breaks the next generation at once."),
+        new BurstKind("released-and-then-reset", TripBursts::releasedAndReset,
+            "Who trips the barrier resets it at once."),
+        new BurstKind("interrupt-behind-the-trip", TripBursts::interruptBehind,
+            "Who trips the barrier interrupts the others at once."),
+        new BurstKind("time-at-the-trip", TripBursts::timeAtTheTrip,
+            "The barrier trips when the time of a wait is over."),
+        new BurstKind("time-during-the-action", TripBursts::timeDuringTheAction,
+            "The time of a waiter is over while the action runs."),
+        new BurstKind("the-longest-time-at-a-barrier", TripBursts::longestTime,
+            "A time so long that what is added to it overflows."));
 
     private TripBursts() {
     }
@@ -33,7 +42,6 @@ final class TripBursts {
         }
     }
 
-    /** As many threads as parties, each back at once. */
     private static void trips(BurstMaker make) {
         int parties = make.between(2, BurstMaker.MOST_THREADS);
         int barrier = make.barrier(parties, make.of(40), 0, false);
@@ -44,7 +52,6 @@ final class TripBursts {
         make.claims(BurstClaim.TRIPS);
     }
 
-    /** More threads than parties, so that each may come in the generation of others; now and then over many generations. */
     private static void barging(BurstMaker make) {
         int parties = make.between(2, 3);
         int barrier = make.barrier(parties, make.of(30), 0, false);
@@ -98,7 +105,6 @@ final class TripBursts {
         make.thread(await(barrier).after(Math.max(time - make.time(-200, 600), 0)));
     }
 
-    /** The time of a waiter is over while the action runs. */
     private static void timeDuringTheAction(BurstMaker make) {
         int parties = make.between(2, 3);
         long time = make.time(2_000, 4_000);

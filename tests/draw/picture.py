@@ -1,6 +1,6 @@
 #!/usr/bin/env python3
 """The picture of a run, made a second way: from the program's text and from what `debug` says of each choice. Nothing here
-knows how `draw` makes it; docs/FORMATS.md, "Picture", is the rule that both follow.
+knows how `draw` makes it; docs/TRACES.md, "Picture", is the rule that both follow.
 usage: picture.py VUTHGAL PROGRAM [SCHEDULE] [WIDTH]"""
 import re
 import subprocess

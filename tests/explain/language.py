@@ -9,7 +9,7 @@ import sys
 import tempfile
 
 program, top = sys.argv[1:]
-FORMATS = open(f"{top}/docs/FORMATS.md").read()
+LANGUAGE = open(f"{top}/docs/LANGUAGE.md").read()
 ROOM = tempfile.mkdtemp()
 LABELS = ["Operands", "Java", "Means", "Event", "More", "Example"]
 wrong = []
@@ -17,8 +17,8 @@ wrong = []
 
 def table(heading):
     """The cells of the table below a heading, row by row."""
-    begin = re.search(rf"^#+ {heading}$", FORMATS, re.M).end()
-    text = FORMATS[begin : begin + re.search(r"^#", FORMATS[begin:], re.M).start()]
+    begin = re.search(rf"^#+ {heading}$", LANGUAGE, re.M).end()
+    text = LANGUAGE[begin : begin + re.search(r"^#", LANGUAGE[begin:], re.M).start()]
     lines = text[text.index("|---") :].split("\n\n")[0].split("\n")[1:]
     return [[cell.strip().replace(r"\|", "|") for cell in re.split(r"(?<!\\)\|", line.strip("|"))] for line in lines]
 
@@ -103,8 +103,9 @@ def directive(form):
 
 ROWS = [cells for cells in table("Instruction table") if cells[0].isdigit()]
 DIRECTIVES = [cells[0].strip("`") for cells in table("Directives")] + [".run"]
-for _, text, does, event in ROWS:
-    row(text.strip("`"), does, event)
+for _, text, does in ROWS:
+    event = re.search(r"\(((?:`[^`]*`(?:, )?)+)\)$", does)
+    row(text.strip("`"), does, event[1] if event else "")
 for form in DIRECTIVES:
     directive(form)
 os.remove(f"{ROOM}/text")

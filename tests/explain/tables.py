@@ -29,24 +29,19 @@ def told(words):
     return {"told": first} | {label: text for label, text in (re.fullmatch(r"  (\w+): +(.*)", line).groups() for line in lines)}
 
 
-def cells(line):
-    """The cells of a line; a number and a name that share the first one count as two."""
-    first, *others = [cell.strip() for cell in line.strip("|").split("|")]
-    both = re.fullmatch(r"(\d+) ([`A-Z].*)", first)
-    return [*(both.groups() if both else [first]), *others]
-
-
 def rows(table):
-    return [cells(line) for line in table.split("\n") if line.startswith("|")]
+    return [[cell.strip() for cell in line.strip("|").split("|")] for line in table.split("\n") if line.startswith("|")]
 
 
-def named(document, heading, group, skip=("Memory",)):
-    """Each number of a table has an entry of the same name; the numbers from 0 to 20 that it lacks have none."""
-    kinds = {}
-    for number, name, *_ in rows(section(document, heading)):
-        name = re.sub(r"\(.*", "", name.replace("`", ""))
-        if number.isdigit() and name not in skip:
-            kinds[int(number)] = name
+def kinds_in(text):
+    """The numbers of a text and their names, which begin with a capital letter, as `4 Field`; or the first two cells of a row."""
+    pairs = re.findall(r"(?<![\w.,`])(\d+) ([A-Z]\w+)", text) + [row[:2] for row in rows(text) if row[0].isdigit()]
+    return {int(number): name for number, name in pairs}
+
+
+def named(document, heading, group):
+    """Each number of a section has an entry of the same name; the numbers from 0 to 20 that it lacks have none."""
+    kinds = kinds_in(section(document, heading))
     for number in range(21):
         entry = told(f"{group} {number}")
         if (entry is not None) != (number in kinds):
@@ -60,26 +55,20 @@ def named(document, heading, group, skip=("Memory",)):
 def declared():
     """The faults of a declaration are the second table of their section."""
     text = section("FORMATS", "Load faults")
-    for number, name, *_ in rows(text[text.index("The faults of a declaration") :]):
-        if number.isdigit():
-            entry = told(f"declare {number}")
-            if not entry or not entry["Means"].startswith(name + ":"):
-                wrong.append(f"declare {number}: {entry}, and the documents say {name}")
-            yield f"declare {number}", entry
+    for number, name in kinds_in(text[text.index("the faults of a declaration") :]).items():
+        entry = told(f"declare {number}")
+        if not entry or not entry["Means"].startswith(name + ":"):
+            wrong.append(f"declare {number}: {entry}, and the documents say {name}")
+        yield f"declare {number}", entry
 
 
 def loads():
     text = section("FORMATS", "Load faults")
-    kinds = {n: re.sub(r"\(.*", "", name) for n, name, *_ in rows(text[: text.index("The faults of a declaration")]) if n.isdigit()}
-    for number, name in kinds.items():
+    for number, name in kinds_in(text[: text.index("the faults of a declaration")]).items():
         entry = told(f"load {number}")
-        if name == "Memory":
-            if entry:
-                wrong.append(f"load {number}: an entry, and the documents have none")
-        else:
-            if not entry or not entry["Means"].startswith(name + ":"):
-                wrong.append(f"load {number}: {entry}, and the documents say {name}")
-            yield f"load {number}", entry
+        if not entry or not entry["Means"].startswith(name + ":"):
+            wrong.append(f"load {number}: {entry}, and the documents say {name}")
+        yield f"load {number}", entry
 
 
 def statuses():
@@ -91,7 +80,7 @@ def statuses():
             yield f"status {number}", entry
 
 
-LINES = ["show", "draw", "memory", "spawn", "read", "write", "not a trace", "differs", "expected", "stopped", "none", "limit", "?", "no history"]
+LINES = ["show", "draw", "memory", "spawn", "read", "write", "not a trace", "differs", "expected", "stopped", "stuck", "live", "none", "limit", "?", "no history"]
 
 
 def pattern(entry):
@@ -119,12 +108,12 @@ def made(words, entry):
 
 
 entries = [
-    *named("FORMATS", "Kinds of fault", "asm"),
+    *named("LANGUAGE", "Kinds of fault", "asm"),
     *named("FORMATS", "Images", "image"),
     *loads(),
     *declared(),
-    *named("FORMATS", "Schedule text", "schedule"),
-    *named("FORMATS", "Plan text", "plan"),
+    *named("TRACES", "Schedule text", "schedule"),
+    *named("TRACES", "Plan text", "plan"),
     *named("BEHAVIOUR", "Exceptions", "exception"),
     *statuses(),
     *((words, told(words)) for words in LINES),

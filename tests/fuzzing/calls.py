@@ -19,7 +19,7 @@ REFUSED = rb"""(?x)refused[ ](
 # nearly so, or where another way does it more is told
 WRONG_WORDS = rb"""(?xs)error:[ ](
     .*\n\nUsage:[ ]vuthgal[^\n]*(\n\nFor[ ]more[ ]information,[ ]try[ ]'--help'\.)?(\n(.*[ ]is[ ]a[ ]file:[ ].*|tip:[ ][^\n]*|`[^\n]*))?
-    | no[ ]line[ ]on[ ]standard[ ]error[ ]has[ ]these[ ]words.*
+    | `explain`[ ]doesn't[ ]know[ ]these[ ]words.*
     )\n"""
 # a run that ended otherwise, or a plan that wanted more choices than there are
 UNLIKE = rb"(expected [^\n]+\n)*|stopped at 1000000 choices\n"

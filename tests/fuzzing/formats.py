@@ -1,10 +1,10 @@
-"""An own reader of what docs/FORMATS.md lays down, to hold the program's answers against: rows, images, schedules, traces, and the
-lines of `debug`. The rows' words and operands are read from its table."""
+"""An own reader of the formats (docs/FORMATS.md and the pages that it names), to compare with what the program writes: rows,
+images, schedules, traces, and the lines of `debug`. The rows' words and operands are read from the table in docs/LANGUAGE.md."""
 import re
 import struct
 from pathlib import Path
 
-FORMATS = Path(__file__).resolve().parent.parent.parent / "docs" / "FORMATS.md"
+LANGUAGE = Path(__file__).resolve().parent.parent.parent / "docs" / "LANGUAGE.md"
 BLANKS = b" \t\r\n"
 LONGEST_LINE = 65_536
 
@@ -21,9 +21,9 @@ class Row:
         self.has_timeout = opcode >= 40
 
 
-TABLE = FORMATS.read_text().partition("## Instruction table\n")[2].partition("\n## ")[0]
+TABLE = LANGUAGE.read_text().partition("## Instruction table\n")[2].partition("\n## ")[0]
 ROWS = [Row(int(opcode), text) for opcode, text in re.findall(r"(?m)^\| (\d+) \| `(.*?)` \|", TABLE)]
-assert [row.opcode for row in ROWS] == list(range(42)), "the instruction table of docs/FORMATS.md"
+assert [row.opcode for row in ROWS] == list(range(42)), "the instruction table of docs/LANGUAGE.md"
 
 
 def is_row(data):

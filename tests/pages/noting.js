@@ -1,5 +1,6 @@
-// Goes through all choices of a page as its reader does, and notes what is drawn of each: the lines of its
-// tables, what it says, and what it says of each thread that could be next.
+// Goes through all choices of a page as its reader does, and notes what is drawn of each: the lines of its tables, what it says,
+// and what it says of each thread that could be next. Then goes to each other run by a click on the name, and by its address, and
+// notes the same of it, behind a line `other` with the address of its first choice and its schedule, as it is copied.
 (function () {
   const id = name => document.getElementById(name), noted = [];
   const cells = row => [...row.cells].map(cell => cell.textContent);
@@ -33,11 +34,51 @@
     const line = document.querySelector("#lanes tr.now");
     noted.push("lanes " + [...line.querySelectorAll("td.t")].map(td => /l-(\w+)/.exec(td.className)[1]).join(" ") + " mark=" + (line.querySelector(".part") ? 1 : 0));
   }
-  id("first").click();
-  for (let k = 0; k < 5000; k++) {
-    note();
-    if (id("forth").disabled) break;
-    id("forth").click();
+  function noteAll() {
+    id("first").click();
+    for (let k = 0; k < 5000; k++) {
+      note();
+      if (id("forth").disabled) break;
+      id("forth").click();
+    }
+  }
+  // a browser takes no more than some hundred addresses in a while, so what the page makes its address is kept here
+  let address = "";
+  history.replaceState = (_state, _title, to) => { address = to; };
+  history.pushState = () => {};
+  function goTo(to) {
+    location.hash = to;
+    dispatchEvent(new Event("hashchange"));
+  }
+  noteAll();
+  // the choices that could be next behind each choice of the run, in the order in which the page names them
+  const next = [];
+  for (const line of id("run").textContent.split("\n")) {
+    if (line.startsWith("state ")) next.push([]);
+    else if (line.startsWith("next ")) next[next.length - 1].push(line.split(" ")[2]);
+  }
+  const wrong = (name, what) => noted.push("wrong " + name + " " + what + ": " + address);
+  const forks = id("others").textContent.split(/^other /m).slice(1).map(text => text.split(/[ \n]/).slice(0, 2));
+  for (const [fork, token] of forks) {
+    const name = "#" + (+fork + 1) + token + "." + (+fork + 1), named = next[fork].filter(one => one[0] === "t").concat(next[fork].filter(one => one[0] === "x"));
+    goTo("#" + fork);
+    if (address !== "#" + fork || id("crumbs").getClientRects().length) wrong(name, "the run isn't shown");
+    const button = id("next").querySelectorAll(".choice")[named.indexOf(token)];
+    if (button) button.click();
+    if (address !== name) wrong(name, "a click leads elsewhere");
+    document.dispatchEvent(new KeyboardEvent("keydown", { key: "Escape", bubbles: true }));
+    if (address !== "#" + fork) wrong(name, "Escape leads elsewhere");
+    goTo(name);
+    if (address !== name || !id("crumbs").getClientRects().length) wrong(name, "it isn't there");
+    id("whole").click();
+    noted.push("other " + name + " " + id("copied").value);
+    noteAll();
+  }
+  // an address that names nothing leads to the start
+  for (const to of ["#0t0.3", "#0x1.0", "#1t99.3", "#start"]) {
+    goTo("#1");
+    goTo(to);
+    if (address !== "#0" || id("crumbs").getClientRects().length) wrong(to, "it doesn't lead to the start");
   }
   id("noted").textContent = "\n" + noted.join("\n") + "\n";
 })();

@@ -1,5 +1,5 @@
 -- The first pass, one line more.
-use Rattle.std.proofs.Common.{◌≡◌, ◌∙◌, ℕ, ◌+◌, ◌<◌, ◌==◌, true, false, List, [], ◌∷◌, length, take, drop, Result, Ok, refl, sym, ap, arith}
+use Rattle.std.proofs.Common.{◌≡◌, ◌∙◌, ℕ, ◌+◌, ◌<◌, ◌≤◌, ◌==◌, true, false, List, [], ◌∷◌, length, take, drop, Result, Ok, refl, sym, ap, arith}
 use Rattle.std.proofs.lemmas.Bool.Decides.{nat_tests}
 use Rattle.std.proofs.lemmas.List.{length-take, length-drop, drop-drop, take-take, drop-take}
 use Rattle.line_reader.specs.declared.asm_fault.AsmFault.{AsmFault}
@@ -16,6 +16,12 @@ pub one_left : (texts : List (List ℕ)) (k : ℕ) (line : List ℕ) (more : Lis
     drop k texts ≡ line ∷ more → k < length texts
 one_left texts k line more left =
     let long = ap length left in
+    grind (arith, length-drop)
+
+-- all were
+pub none_left : (texts : List (List ℕ)) (k : ℕ) → k ≤ length texts → drop k texts ≡ [] → k ≡ length texts
+none_left texts k within none =
+    let long = ap length none in
     grind (arith, length-drop)
 
 -- the line behind those that were read, and then the others

@@ -111,19 +111,22 @@ operands_of lines (operand ∷ operands) =
 abbrev pub row_of : List (Line Name) → SymbolicRow Name → Row
 row_of lines row = row_with row.opcode (operands_of lines (operands_in row))
 
--- what a statement adds to each list of an image, where the names are those of all lines
+-- the phaser that a statement declares, none of any other statement; the names are those of all lines
 abbrev pub phasers_in : List (Line Name) → Statement Name → List DeclaredPhaser
 phasers_in lines (statement.Phaser p) = phaser_of lines p ∷ []
 phasers_in lines _ = []
 
+-- the barrier that it declares
 abbrev pub barriers_in : List (Line Name) → Statement Name → List DeclaredBarrier
 barriers_in lines (statement.Barrier b) = barrier_of lines b ∷ []
 barriers_in lines _ = []
 
+-- the thread that it declares
 abbrev pub threads_in : List (Line Name) → Statement Name → List DeclaredThread
 threads_in lines (statement.Thread t) = thread_of lines t ∷ []
 threads_in lines _ = []
 
+-- the row that it is
 abbrev pub rows_in : List (Line Name) → Statement Name → List Row
 rows_in lines (statement.Row label row) = row_of lines row ∷ []
 rows_in lines _ = []

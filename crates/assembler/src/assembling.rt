@@ -1,9 +1,11 @@
-ghost use Rattle.std.specs.Prelude.{◌≡◌, IfOk, Ok};
+ghost use Rattle.std.specs.Prelude.{◌≡◌, ◌≤◌, IfErr, IfOk, Ok, length, max};
 ghost use Rattle.row_code.specs.declared.image.Image.{Image};
 ghost use Rattle.assembler.specs.Answers.{AnswersAt};
 ghost use Rattle.assembler.specs.Meaning.{StandsFor};
 ghost use Rattle.assembler.specs.Passes.{assembled};
 ghost use Rattle.assembler.specs.Symbols.{symbols_in};
+ghost use Rattle.line_reader.specs.Words.{lines_of};
+ghost use Rattle.line_reader.specs.declared.asm_fault.AsmFaultKind.TheVariants as fault;
 
 use crate::first_pass::lines_read;
 use crate::resolution::image_of;
@@ -30,6 +32,10 @@ pub fn assemble(alloc: Global, text: &[u8]) -> Result<Image, AsmFault>
 
     // Which fault it is, and at which line.
     ensures exact { AnswersAt (λ image. image) result (assembled text.now) }
+
+    // Want of memory, too, is told with a line of the text, or with the first where it has none.
+    ensures memory { IfErr result (λ e. e.kind ≡ fault.Memory
+        → (1 ≤ e.line) × (e.line ≤ max (length (lines_of text.now)) 1)) }
 {
     let (draft, lines) = match lines_read(alloc, text) {
         Ok(read) => read,
@@ -49,6 +55,10 @@ pub fn assemble_named(alloc: Global, text: &[u8]) -> Result<(Image, Symbols<'_>)
 
     // Which fault it is, and at which line.
     ensures exact { AnswersAt (λ both. both.0) result (assembled text.now) }
+
+    // As above.
+    ensures memory { IfErr result (λ e. e.kind ≡ fault.Memory
+        → (1 ≤ e.line) × (e.line ≤ max (length (lines_of text.now)) 1)) }
 {
     let (draft, lines) = match lines_read(alloc, text) {
         Ok(read) => read,

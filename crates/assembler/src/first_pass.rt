@@ -1,4 +1,4 @@
-ghost use Rattle.std.specs.Prelude.{◌≡◌, ◌<◌, [], ◌∷◌, IfErr, IfOk, IsErr, Ok, OnOk, false, length, map, true};
+ghost use Rattle.std.specs.Prelude.{◌≡◌, ◌<◌, ◌≤◌, [], ◌∷◌, IfErr, IfOk, IsErr, Ok, OnOk, false, length, map, true};
 ghost use Rattle.line_reader.specs.Reading.{is_directive, is_label};
 ghost use Rattle.assembler.specs.Answers.{AnswersAt, at_line};
 ghost use Rattle.line_reader.specs.declared.asm_fault.AsmFaultKind.TheVariants as fault;
@@ -128,6 +128,8 @@ fn read_line<'a>(
 /// Reads all lines of a text: what they say, and how many lines there are.
 pub fn lines_read(alloc: Global, text: &[u8]) -> Result<(Draft<'_>, u64), AsmFault>
     ensures read { AnswersAt (λ x. x.0) result (lines_read 1 [] (lines_of text.now)) }
+    ensures lines { IfOk result (λ x. x.1 ≡ length (lines_of text.now)) }
+    ensures line { IfErr result (λ e. (1 ≤ e.line) × (e.line ≤ length (lines_of text.now))) }
 {
     let mut draft = Draft::new(alloc, NameHash::new(text));
     let mut words = Vec::new(alloc);

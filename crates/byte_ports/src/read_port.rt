@@ -23,6 +23,7 @@ impl<R> Model for ReadPort<R> {
 }
 
 impl<R: Read> ReadPort<R> {
+    /// A port round a reader, of which no call has failed.
     pub fn new(reader: R) -> ReadPort<R>
         ensures { result ≡ record { inner = reader; failed = false } }
     {

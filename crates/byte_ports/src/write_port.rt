@@ -27,6 +27,7 @@ impl<W> Model for WritePort<W> {
 }
 
 impl<W: Write> WritePort<W> {
+    /// A port round a writer, of which no call has failed.
     pub fn new(writer: W) -> WritePort<W>
         ensures { result ≡ record { inner = writer; failed = false } }
     {

@@ -65,6 +65,9 @@ schedule_rule = new_rule (codes "SCHEDULE")
 abbrev pub plan_rule : Rule
 plan_rule = option_rule (codes "plan")
 
+abbrev pub plan_file_rule : Rule
+plan_file_rule = option_rule (codes "plan-file")
+
 abbrev pub expect_rule : Rule
 expect_rule = options_rule (codes "expect")
 
@@ -72,12 +75,12 @@ abbrev pub commands : List Shape
 commands =
     command (codes "asm") (place_rule (codes "SRC") ∷ place_rule (codes "OUT") ∷ [])
     ∷ command (codes "list") (file_rule ∷ flag_rule (codes "rows") ∷ [])
-    ∷ command (codes "run") (file_rule ∷ schedule_rule ∷ expect_rule ∷ plan_rule ∷ [])
+    ∷ command (codes "run") (file_rule ∷ schedule_rule ∷ expect_rule ∷ plan_rule ∷ plan_file_rule ∷ [])
     ∷ command (codes "compare") (file_rule ∷ place_rule (codes "TRACE") ∷ flag_rule (codes "show") ∷ [])
-    ∷ command (codes "debug") (file_rule ∷ option_rule (codes "at") ∷ plan_rule ∷ [])
-    ∷ command (codes "show") (file_rule ∷ schedule_rule ∷ plan_rule ∷ [])
+    ∷ command (codes "debug") (file_rule ∷ option_rule (codes "at") ∷ plan_rule ∷ plan_file_rule ∷ [])
+    ∷ command (codes "show") (file_rule ∷ schedule_rule ∷ plan_rule ∷ plan_file_rule ∷ flag_rule (codes "alone") ∷ [])
     ∷ command (codes "draw")
-    (file_rule ∷ schedule_rule ∷ default_rule (codes "width") (codes "80") ∷ plan_rule ∷ [])
+    (file_rule ∷ schedule_rule ∷ default_rule (codes "width") (codes "80") ∷ plan_rule ∷ plan_file_rule ∷ [])
     ∷ command (codes "live") (file_rule ∷ default_rule (codes "limit") (codes "1000000")
     ∷ option_rule (codes "stir") ∷ option_rule (codes "runs") ∷ expect_rule ∷ [])
     ∷ command (codes "race") (number_rule (codes "parties") ∷ number_rule (codes "rounds") ∷ [])

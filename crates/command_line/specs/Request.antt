@@ -18,11 +18,13 @@ use Rattle.command_line.specs.declared.refusal.WrongOption.TheVariants as option
 use Rattle.command_line.specs.declared.request.Request.{Request}
 use Rattle.command_line.specs.declared.request.Request.TheVariants as request
 use Rattle.command_line.specs.declared.request.Seeds.{Seeds}
+use Rattle.command_line.specs.declared.request.Steps.{Steps}
+use Rattle.command_line.specs.declared.request.Steps.TheVariants as steps
 
 -- its numbers are in their ranges
 abbrev pub IsInRange : Request → Type 0
 IsInRange (request.Live file limit seed runs expected) = ((1 ≤ limit) × (limit ≤ 1000000000)) × IfSome runs (λ n. (1 ≤ n) × (n ≤ 100000))
-IsInRange (request.Draw file schedule width plan) = (60 ≤ width) × (width ≤ 1000)
+IsInRange (request.Draw file steps width) = (60 ≤ width) × (width ≤ 1000)
 IsInRange (request.Plan file plan seeds) = IfSome seeds (λ s. (s.first ≤ s.last) × (s.last < s.first + 100000))
 IsInRange (request.Race parties rounds) = ((1 ≤ parties) × (parties ≤ 16)) × ((1 ≤ rounds) × (rounds ≤ 1000000))
 IsInRange _ = Unit {0}
@@ -92,19 +94,29 @@ abbrev pub IsNoNumber : ℕ → ℕ → Option Text → Type 0
 IsNoNumber least most None = ⊥
 IsNoNumber least most (Some text) = SpellsNone text least most
 
--- of two words at most one is there
-abbrev pub IsAlone : Option (Bor Text) → Option Text → Type 0
-IsAlone (Some text) (Some other) = ⊥
-IsAlone _ _ = Unit {0}
+-- of the word of this name, which names a file of choices, `--plan` and `--plan-file` these are there
+abbrev pub AreThere : Text → List Row → (named plan plan_file : Option Text) → Type 0
+AreThere name rows named plan plan_file = (word_given name rows ≡ named)
+    × (word_given (codes "plan") rows ≡ plan) × (word_given (codes "plan-file") rows ≡ plan_file)
 
--- both are there
-abbrev pub AreBoth : Option Text → Option Text → Type 0
-AreBoth (Some text) (Some other) = Unit {0}
-AreBoth _ _ = ⊥
+-- what is played is what one of them names, and the others aren't there
+abbrev pub AreSteps : Text → List Row → Steps → Type 0
+AreSteps name rows steps.Beside = AreThere name rows None None None
+AreSteps name rows (steps.Named word) = AreThere name rows (Some word.now) None None
+AreSteps name rows (steps.Plan plan) = AreThere name rows None (Some plan.now) None
+AreSteps name rows (steps.PlanFile file) = AreThere name rows None None (Some file.now)
 
--- the plan is the one that is named, and this other word isn't there beside it
-abbrev pub IsPlan : Option Text → List Row → Option (Bor Text) → Type 0
-IsPlan other rows plan = (option_map (λ s. s.now) plan ≡ word_given (codes "plan") rows) × IsAlone plan other
+-- two of three words are there
+abbrev pub AreTwo : Option Text → Option Text → Option Text → Type 0
+AreTwo (Some one) (Some other) third = Unit {0}
+AreTwo (Some one) None (Some third) = Unit {0}
+AreTwo None (Some other) (Some third) = Unit {0}
+AreTwo _ _ _ = ⊥
+
+-- of those three more than one is there
+abbrev pub AreSeveral : Text → List Row → Type 0
+AreSeveral name rows =
+    AreTwo (word_given name rows) (word_given (codes "plan") rows) (word_given (codes "plan-file") rows)
 
 abbrev pub command_names : List Text
 command_names = map (λ (c : Shape). c.name) commands
@@ -116,21 +128,20 @@ IsAskedBy name rows (request.Asm source image) = (name ≡ codes "asm")
     × (source.now ≡ word_at (codes "SRC") rows) × (image.now ≡ word_at (codes "OUT") rows)
 IsAskedBy name rows (request.List file has_rows) = (name ≡ codes "list")
     × (file.now ≡ word_at (codes "FILE") rows) × IsFlag (word_given (codes "rows") rows) has_rows
-IsAskedBy name rows (request.Run file schedule plan expected) = (name ≡ codes "run")
-    × (file.now ≡ word_at (codes "FILE") rows) × (option_map (λ s. s.now) schedule ≡ word_given (codes "SCHEDULE") rows)
-    × IsPlan (word_given (codes "SCHEDULE") rows) rows plan × IsExpected (words_at (codes "expect") rows) expected
+IsAskedBy name rows (request.Run file steps expected) = (name ≡ codes "run")
+    × (file.now ≡ word_at (codes "FILE") rows) × AreSteps (codes "SCHEDULE") rows steps
+    × IsExpected (words_at (codes "expect") rows) expected
 IsAskedBy name rows (request.Compare file trace is_shown) = (name ≡ codes "compare")
     × (file.now ≡ word_at (codes "FILE") rows) × (trace.now ≡ word_at (codes "TRACE") rows)
     × IsFlag (word_given (codes "show") rows) is_shown
-IsAskedBy name rows (request.Debug file trace plan) = (name ≡ codes "debug")
-    × (file.now ≡ word_at (codes "FILE") rows) × (option_map (λ s. s.now) trace ≡ word_given (codes "at") rows)
-    × IsPlan (word_given (codes "at") rows) rows plan
-IsAskedBy name rows (request.Show file schedule plan) = (name ≡ codes "show")
-    × (file.now ≡ word_at (codes "FILE") rows) × (option_map (λ s. s.now) schedule ≡ word_given (codes "SCHEDULE") rows)
-    × IsPlan (word_given (codes "SCHEDULE") rows) rows plan
-IsAskedBy name rows (request.Draw file schedule width plan) = (name ≡ codes "draw")
-    × (file.now ≡ word_at (codes "FILE") rows) × (option_map (λ s. s.now) schedule ≡ word_given (codes "SCHEDULE") rows)
-    × Spells (word_at (codes "width") rows) 60 1000 width × IsPlan (word_given (codes "SCHEDULE") rows) rows plan
+IsAskedBy name rows (request.Debug file steps) = (name ≡ codes "debug")
+    × (file.now ≡ word_at (codes "FILE") rows) × AreSteps (codes "at") rows steps
+IsAskedBy name rows (request.Show file steps is_alone) = (name ≡ codes "show")
+    × (file.now ≡ word_at (codes "FILE") rows) × AreSteps (codes "SCHEDULE") rows steps
+    × IsFlag (word_given (codes "alone") rows) is_alone
+IsAskedBy name rows (request.Draw file steps width) = (name ≡ codes "draw")
+    × (file.now ≡ word_at (codes "FILE") rows) × AreSteps (codes "SCHEDULE") rows steps
+    × Spells (word_at (codes "width") rows) 60 1000 width
 IsAskedBy name rows (request.Live file limit seed runs expected) = (name ≡ codes "live")
     × (file.now ≡ word_at (codes "FILE") rows) × Spells (word_at (codes "limit") rows) 1 1000000000 limit
     × IsNumber 0 4294967295 (word_given (codes "stir") rows) seed
@@ -157,9 +168,8 @@ IsWrong option.Runs name rows = (name ≡ codes "live") × IsNoNumber 1 100000 (
 IsWrong option.Early name rows = ⊥
 IsWrong option.Seeds name rows = (name ≡ codes "plan") × (word_given (codes "seeds") rows ≢ None)
 IsWrong option.Plan name rows =
-    (((name ≡ codes "run") ⊎ ((name ≡ codes "show") ⊎ (name ≡ codes "draw")))
-    × AreBoth (word_given (codes "plan") rows) (word_given (codes "SCHEDULE") rows))
-    ⊎ ((name ≡ codes "debug") × AreBoth (word_given (codes "plan") rows) (word_given (codes "at") rows))
+    (((name ≡ codes "run") ⊎ ((name ≡ codes "show") ⊎ (name ≡ codes "draw"))) × AreSeveral (codes "SCHEDULE") rows)
+    ⊎ ((name ≡ codes "debug") × AreSeveral (codes "at") rows)
 IsWrong option.Rounds name rows = (name ≡ codes "race") × SpellsNone (word_at (codes "rounds") rows) 1 1000000
 
 -- memory may be refused always, else an option is wrong

@@ -5,7 +5,7 @@ use Rattle.command_line.specs.declared.refusal.WrongOption.TheVariants as option
 
 -- an option's value is a number of this range
 abbrev pub ranged : List ℕ → List ℕ → List ℕ → List ℕ
-ranged value least most = value ++ (codes " is " ++ (least ++ (codes " to " ++ (most ++ codes ", in digits alone"))))
+ranged value least most = value ++ (codes " is " ++ (least ++ (codes " to " ++ (most ++ codes ", in decimal digits"))))
 
 abbrev pub told_of : WrongOption → List ℕ
 told_of option.Width = ranged (codes "--width N: N") (codes "60") (codes "1000")
@@ -16,6 +16,6 @@ told_of option.Expect =
     codes "--expect STATE: STATE is ended, all, stuck or live, or words of a line of the state"
 told_of option.Stir = ranged (codes "--stir SEED: SEED") (codes "0") (codes "4294967295")
 told_of option.Runs = ranged (codes "--runs N: N") (codes "1") (codes "100000")
-told_of option.Early = codes "--expect STATE stands behind the command's name"
-told_of option.Plan = codes "--plan PLAN stands in place of a SCHEDULE or of --at TRACE"
-told_of option.Seeds = codes "--seeds FROM..TO: up to 100000 numbers from 0 to 4294967295, in digits alone, FROM no more than TO, as 1..1000"
+told_of option.Early = codes "--expect STATE goes after the command's name"
+told_of option.Plan = codes "--plan 'PLAN', --plan-file FILE, --at TRACE, SCHEDULE: only one of them; quote a PLAN with blanks"
+told_of option.Seeds = codes "--seeds FROM..TO: at most 100000 numbers from 0 to 4294967295, in decimal digits, FROM not above TO, as 1..1000"

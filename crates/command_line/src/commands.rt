@@ -61,13 +61,19 @@ const TRACE: Word = Word(
 const PLAN: Word = Word(
     "plan",
     Kind::Value("PLAN"),
-    "Plays this plan in place of a schedule, such as 'ann. bob.'",
+    "Plays this plan instead of a schedule, such as 'ann. bob.'",
+);
+
+const PLAN_FILE: Word = Word(
+    "plan-file",
+    Kind::Value("FILE"),
+    "Plays the plan in this file instead of a schedule",
 );
 
 const EXPECT: Word = Word(
     "expect",
     Kind::Values("STATE"),
-    "Answers 1 where the run ends otherwise; may stand several times",
+    "Exits with 1 if the run ends differently; can be repeated",
 );
 
 /// The commands, in the order in which help lists them.
@@ -88,14 +94,14 @@ static COMMANDS: [Subcommand; 12] = [
             Word(
                 "rows",
                 Kind::Flag,
-                "Writes each row behind its number, and of a text its line",
+                "Writes each row with its number, and for a text its line",
             ),
         ],
     },
     Subcommand {
         name: "run",
         about: "Plays a program under a schedule and writes the trace",
-        words: &[FILE, SCHEDULE, EXPECT, PLAN],
+        words: &[FILE, SCHEDULE, EXPECT, PLAN, PLAN_FILE],
     },
     Subcommand {
         name: "compare",
@@ -118,19 +124,34 @@ static COMMANDS: [Subcommand; 12] = [
             Word(
                 "at",
                 Kind::Value("TRACE"),
-                "Begins behind the choices of the trace in this file",
+                "Begins after the choices of the trace in this file",
             ),
             Word(
                 "plan",
                 Kind::Value("PLAN"),
-                "Begins behind the choices of this plan, such as 'ann. bob.'",
+                "Begins after the choices of this plan, such as 'ann. bob.'",
+            ),
+            Word(
+                "plan-file",
+                Kind::Value("FILE"),
+                "Begins after the choices of the plan in this file",
             ),
         ],
     },
     Subcommand {
         name: "show",
         about: "Writes a page that shows a run",
-        words: &[FILE, SCHEDULE, PLAN],
+        words: &[
+            FILE,
+            SCHEDULE,
+            PLAN,
+            PLAN_FILE,
+            Word(
+                "alone",
+                Kind::Flag,
+                "Leaves out what other choices would lead to",
+            ),
+        ],
     },
     Subcommand {
         name: "draw",
@@ -141,9 +162,10 @@ static COMMANDS: [Subcommand; 12] = [
             Word(
                 "width",
                 Kind::DefaultValue("N", "80"),
-                "How many bytes a line has at most, 60 to 1000",
+                "The longest line in bytes, 60 to 1000",
             ),
             PLAN,
+            PLAN_FILE,
         ],
     },
     Subcommand {
@@ -159,12 +181,12 @@ static COMMANDS: [Subcommand; 12] = [
             Word(
                 "stir",
                 Kind::Value("SEED"),
-                "Lets threads pause before some of their turns, 0 to 4294967295",
+                "Makes threads pause before some of their turns, 0 to 4294967295",
             ),
             Word(
                 "runs",
                 Kind::Value("N"),
-                "Plays N runs and writes what they came to, 1 to 100000",
+                "Plays N runs and counts how they end, 1 to 100000",
             ),
             EXPECT,
         ],
@@ -203,7 +225,7 @@ static COMMANDS: [Subcommand; 12] = [
             Word(
                 "seeds",
                 Kind::Value("FROM..TO"),
-                "Counts what the orders of these seeds come to, such as 1..1000",
+                "Counts how the runs of these seeds end, such as 1..1000",
             ),
         ],
     },

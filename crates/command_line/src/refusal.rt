@@ -18,7 +18,7 @@ pub enum WrongOption {
     Runs,
     /// `--expect` before the name of a command.
     Early,
-    /// `--plan` beside a schedule or a trace.
+    /// Two of a schedule or a trace, `--plan` and `--plan-file`.
     Plan,
     Seeds,
 }
@@ -53,18 +53,19 @@ impl WrongOption {
         ensures { result.now ≡ told_of self }
     {
         match self {
-            WrongOption::Width => "--width N: N is 60 to 1000, in digits alone",
-            WrongOption::Limit => "--limit N: N is 1 to 1000000000, in digits alone",
-            WrongOption::Parties => "--parties N: N is 1 to 16, in digits alone",
-            WrongOption::Rounds => "--rounds R: R is 1 to 1000000, in digits alone",
+            WrongOption::Width => "--width N: N is 60 to 1000, in decimal digits",
+            WrongOption::Limit => "--limit N: N is 1 to 1000000000, in decimal digits",
+            WrongOption::Parties => "--parties N: N is 1 to 16, in decimal digits",
+            WrongOption::Rounds => "--rounds R: R is 1 to 1000000, in decimal digits",
             WrongOption::Expect =>
                 "--expect STATE: STATE is ended, all, stuck or live, or words of a line of the state",
-            WrongOption::Stir => "--stir SEED: SEED is 0 to 4294967295, in digits alone",
-            WrongOption::Runs => "--runs N: N is 1 to 100000, in digits alone",
-            WrongOption::Early => "--expect STATE stands behind the command's name",
-            WrongOption::Plan => "--plan PLAN stands in place of a SCHEDULE or of --at TRACE",
+            WrongOption::Stir => "--stir SEED: SEED is 0 to 4294967295, in decimal digits",
+            WrongOption::Runs => "--runs N: N is 1 to 100000, in decimal digits",
+            WrongOption::Early => "--expect STATE goes after the command's name",
+            WrongOption::Plan =>
+                "--plan 'PLAN', --plan-file FILE, --at TRACE, SCHEDULE: only one of them; quote a PLAN with blanks",
             WrongOption::Seeds =>
-                "--seeds FROM..TO: up to 100000 numbers from 0 to 4294967295, in digits alone, FROM no more than TO, as 1..1000",
+                "--seeds FROM..TO: at most 100000 numbers from 0 to 4294967295, in decimal digits, FROM not above TO, as 1..1000",
         }
     }
 }

@@ -8,7 +8,7 @@ ghost use Rattle.std.specs.List.{list_all};
 ghost use Rattle.trace_text.specs.Expectation.{is_expectation};
 ghost use Rattle.command_line.specs.Commands.{vuthgal};
 ghost use Rattle.command_line.specs.Request.{Asks, ComesTo, ComesToBy, ComesToOf, Fails, IsInRange, rows_in};
-ghost use Rattle.command_line.specs.Request.{AreBoth, IsExpected, IsFlag, IsPlan, IsNoNumber, IsNoState, IsNumber};
+ghost use Rattle.command_line.specs.Request.{AreSeveral, AreSteps, IsExpected, IsFlag, IsNoNumber, IsNoState, IsNumber};
 ghost use Rattle.command_line.specs.Request.{IsSeeds, Spells, SpellsNone, SpellsSeeds, word_at, word_given, words_at};
 ghost use Rattle.command_line.specs.declared.refusal.Refusal.TheVariants as refusal;
 ghost use Rattle.command_line.specs.declared.refusal.WrongOption.TheVariants as option;
@@ -37,12 +37,10 @@ pub enum Request<'a> {
         file: &'a str,
         has_rows: bool,
     },
-    /// `run FILE [SCHEDULE | --plan PLAN] [--expect STATE]..`; the schedule `-` is standard input, and without both it stands
-    /// in FILE. The plan is its text.
+    /// `run FILE [SCHEDULE | --plan PLAN | --plan-file FILE] [--expect STATE]..`; the schedule `-` is standard input.
     Run {
         file: &'a str,
-        schedule: Option<&'a str>,
-        plan: Option<&'a str>,
+        steps: Steps<'a>,
         expected: Vec<&'a str>,
     },
     /// `compare FILE TRACE [--show]`; the trace `-` is standard input.
@@ -51,24 +49,22 @@ pub enum Request<'a> {
         trace: &'a str,
         is_shown: bool,
     },
-    /// `debug FILE [--at TRACE | --plan PLAN]`.
+    /// `debug FILE [--at TRACE | --plan PLAN | --plan-file FILE]`.
     Debug {
         file: &'a str,
-        trace: Option<&'a str>,
-        plan: Option<&'a str>,
+        steps: Steps<'a>,
     },
-    /// `show FILE [SCHEDULE | --plan PLAN]`; the schedule `-` is standard input, and without both it stands in FILE.
+    /// `show FILE [SCHEDULE | --plan PLAN | --plan-file FILE] [--alone]`; the schedule `-` is standard input.
     Show {
         file: &'a str,
-        schedule: Option<&'a str>,
-        plan: Option<&'a str>,
+        steps: Steps<'a>,
+        is_alone: bool,
     },
-    /// `draw FILE [SCHEDULE | --plan PLAN] --width N`; lines of 60 to 1,000 bytes at most.
+    /// `draw FILE [SCHEDULE | --plan PLAN | --plan-file FILE] --width N`; lines of 60 to 1,000 bytes at most.
     Draw {
         file: &'a str,
-        schedule: Option<&'a str>,
+        steps: Steps<'a>,
         width: u16,
-        plan: Option<&'a str>,
     },
     /// `live FILE --limit N [--stir SEED] [--runs N] [--expect STATE]..`: 1 to 1,000,000,000 steps, 1 to 100,000 runs.
     Live {
@@ -97,6 +93,19 @@ pub enum Request<'a> {
     Explain {
         words: Vec<&'a str>,
     },
+}
+
+/// The choices that a command plays, or begins behind.
+#[derive(Clone, Copy, Debug, PartialEq, Eq)]
+pub enum Steps<'a> {
+    /// Those that stand in the program's own file; a session begins behind none.
+    Beside,
+    /// Those in the file of this name: a schedule, or for a session a trace.
+    Named(&'a str),
+    /// Those of the plan with this text.
+    Plan(&'a str),
+    /// Those of the plan in the file of this name.
+    PlanFile(&'a str),
 }
 
 /// Seeds from one on: 1 to 100,000 numbers up to 4,294,967,295.
@@ -199,15 +208,19 @@ fn number_given(
     }
 }
 
-/// The plan that these matches name, where this other word isn't there too.
-fn plan_alone<'a>(matches: &ArgMatches<'a>, other: &str) -> Result<Option<&'a str>, WrongOption>
-    ensures asked { IfOk result (IsPlan (word_given other.now (rows_in matches.now)) (rows_in matches.now)) }
-    ensures wrong { IfErr result (λ why. (why ≡ option.Plan) × AreBoth (word_given (codes "plan") (rows_in matches.now))
-        (word_given other.now (rows_in matches.now))) }
+/// The choices that these matches name, by the word of this name, `--plan` or `--plan-file`, where one of them alone is there.
+fn steps_by<'a>(matches: &ArgMatches<'a>, name: &str) -> Result<Steps<'a>, WrongOption>
+    ensures asked { IfOk result (AreSteps name.now (rows_in matches.now)) }
+    ensures wrong { IfErr result (λ why. (why ≡ option.Plan) × AreSeveral name.now (rows_in matches.now)) }
 {
-    match (given(matches, "plan"), given(matches, other)) {
-        (Some(_), Some(_)) => Err(WrongOption::Plan),
-        (plan, _) => Ok(plan),
+    let plan = given(matches, "plan");
+    let plan_file = given(matches, "plan-file");
+    match (given(matches, name), plan, plan_file) {
+        (None, None, None) => Ok(Steps::Beside),
+        (Some(word), None, None) => Ok(Steps::Named(word)),
+        (None, Some(plan), None) => Ok(Steps::Plan(plan)),
+        (None, None, Some(file)) => Ok(Steps::PlanFile(file)),
+        _ => Err(WrongOption::Plan),
     }
 }
 
@@ -243,13 +256,11 @@ fn seeds_given(matches: &ArgMatches<'_>) -> Result<Option<Seeds>, WrongOption>
 fn run<'a>(alloc: Global, matches: &ArgMatches<'a>) -> Result<Request<'a>, Refusal>
     ensures { ComesToBy (codes "run") (rows_in matches.now) result }
 {
-    let plan = plan_alone(matches, "SCHEDULE")?;
+    let steps = steps_by(matches, "SCHEDULE")?;
     let expected = expected(alloc, matches)?;
-    let schedule = given(matches, "SCHEDULE");
     Ok(Request::Run {
         file: word(matches, "FILE"),
-        schedule,
-        plan,
+        steps,
         expected,
     })
 }
@@ -258,11 +269,10 @@ fn run<'a>(alloc: Global, matches: &ArgMatches<'a>) -> Result<Request<'a>, Refus
 fn debug<'a>(matches: &ArgMatches<'a>) -> Result<Request<'a>, Refusal>
     ensures { ComesToBy (codes "debug") (rows_in matches.now) result }
 {
-    let plan = plan_alone(matches, "at")?;
+    let steps = steps_by(matches, "at")?;
     Ok(Request::Debug {
         file: word(matches, "FILE"),
-        trace: given(matches, "at"),
-        plan,
+        steps,
     })
 }
 
@@ -270,11 +280,11 @@ fn debug<'a>(matches: &ArgMatches<'a>) -> Result<Request<'a>, Refusal>
 fn show<'a>(matches: &ArgMatches<'a>) -> Result<Request<'a>, Refusal>
     ensures { ComesToBy (codes "show") (rows_in matches.now) result }
 {
-    let plan = plan_alone(matches, "SCHEDULE")?;
+    let steps = steps_by(matches, "SCHEDULE")?;
     Ok(Request::Show {
         file: word(matches, "FILE"),
-        schedule: given(matches, "SCHEDULE"),
-        plan,
+        steps,
+        is_alone: is_set(matches, "alone"),
     })
 }
 
@@ -282,15 +292,14 @@ fn show<'a>(matches: &ArgMatches<'a>) -> Result<Request<'a>, Refusal>
 fn draw<'a>(matches: &ArgMatches<'a>) -> Result<Request<'a>, Refusal>
     ensures { ComesToBy (codes "draw") (rows_in matches.now) result }
 {
-    let plan = plan_alone(matches, "SCHEDULE")?;
+    let steps = steps_by(matches, "SCHEDULE")?;
     let Some(width) = number(word(matches, "width"), 60, 1000) else {
         return Err(Refusal::Wrong(WrongOption::Width));
     };
     Ok(Request::Draw {
         file: word(matches, "FILE"),
-        schedule: given(matches, "SCHEDULE"),
+        steps,
         width: width as u16,
-        plan,
     })
 }
 

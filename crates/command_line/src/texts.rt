@@ -1,54 +1,56 @@
 //! What the help says, in lines of at most 80 columns.
 
-/// What stands below the help of each command.
+/// What follows the help of each command.
 pub const STATUSES: &str = "\
 Exit statuses:
   0  done
-  1  a trace isn't that of the run (`compare`), or is none (`choices`, `debug`);
-     the run ended otherwise than `--expect` says; or a plan was stopped
+  1  a trace isn't the run's (`compare`), or isn't a trace (`choices`, `debug`);
+     the run ended differently than `--expect` says; or a plan was stopped
   2  the command line is wrong
   3  the input is refused: standard error has a line `refused ..`
-  4  memory is wanting, or a thread: standard error has `memory` or `spawn`
+  4  out of memory or threads: standard error has `memory` or `spawn`
   5  a file can't be read or written: standard error has `read` or `write`
 
-`vuthgal explain`, with the words of such a line behind it, says what it means
-and what helps. At a terminal that follows by itself: `--explain always` beside
-any command, or VUTHGAL_EXPLAIN=always, has it follow everywhere, `never`
-nowhere. docs/FORMATS.md has the formats.";
+`vuthgal explain` with the words of such a line says what it means and what
+helps. At a terminal this follows the line. With `--explain always`, an option
+of any command, or VUTHGAL_EXPLAIN=always it follows everywhere, with `never`
+nowhere. docs/COMMANDS.md says more.";
 
 pub const PROGRAM: &str = "\
 Plays small programs of threads that call the phasers and barriers of
 java.util.concurrent.
 
-Without words it reads a program text from standard input, then a line `.run`
-and a schedule, and writes the trace: a line for each choice, and then the
-state. It may tell `refused asm`, `refused load`, `refused schedule`, `memory`,
-`read` or `write`.
+Without arguments it reads a program text, then a line `.run` and a schedule,
+from standard input. It writes the trace: a line for each choice, and then the
+state.
 
-With `--expect STATE` it answers 1 where the run ends otherwise than STATE says
-(`vuthgal run --help`). Behind a command's name the option is that command's.
+With `--expect STATE` the exit status is 1 if the run ends differently than
+STATE says (`vuthgal run --help`). `run` and `live` have this option too; then
+it goes after the command's name.
+
+Errors: `refused asm`, `refused load`, `refused schedule`, `memory`, `read`,
+`write`.
 
 Example: vuthgal < examples/two-threads-meet.txt";
 
 const ASM: &str = "\
 Assembles the program text in SRC and writes its image to OUT.
 
-OUT is made empty first, and is a file of that name also where it is `-`. SRC
-and OUT can't be one file. Whether the program can be loaded is not looked at.
+OUT is made empty first. `-` is a file of this name. SRC and OUT can't be the
+same file. `asm` doesn't check whether the program can be loaded.
 
-It may tell `refused asm`, `memory`, `read` or `write`.
+Errors: `refused asm`, `memory`, `read`, `write`.
 
 Example: vuthgal asm examples/meeting.asm meeting.image";
 
 const LIST: &str = "\
 Writes the canonical text of the program in FILE, an image or a program text.
 
-FILE is an image where its first four bytes are `PBW1` or `PBW2`, else a text.
-With `--rows` it writes a line for each row instead: the row's number, as traces
-have it; of a text the number of its line, and that line; of an image the row.
+FILE is an image if its first four bytes are `PBW1` or `PBW2`, else a program
+text. With `--rows` it writes a line for each row instead: the row's number, as
+in traces, then for a text the line's number and the line, for an image the row.
 
-It may tell `refused asm` of a text, `refused image` of an image, `memory`,
-`read` or `write`.
+Errors: `refused asm`, `refused image`, `memory`, `read`, `write`.
 
 Example: vuthgal list meeting.image";
 
@@ -56,20 +58,23 @@ const RUN: &str = "\
 Plays the program in FILE under the schedule in SCHEDULE and writes the trace:
 a line for each choice, and then the state.
 
-FILE is an image where its first four bytes are `PBW1` or `PBW2`, else a program
-text. SCHEDULE is a file, or `-` for standard input; it may be as long as you
-like. Without it FILE is a text with its schedule behind a line `.run`. A plan
-may stand in its place: `--plan 'ann. bob.'`, or a file named `NAME.plan`.
+FILE is an image if its first four bytes are `PBW1` or `PBW2`, else a program
+text. SCHEDULE is a file of any length, or `-` for standard input. Without it
+FILE is a text with a line `.run`, and its schedule after that. A plan can
+replace the schedule: `--plan 'ann. bob.'`, or `--plan-file FILE` for a file.
 
-STATE is `all` where all threads have ended or died, `ended` where none of them
-died, `stuck` where none of the others can go on, `live` where one can; or words
-of a line of the final state, in a row, behind the name or the number of its
-thread, phaser, barrier or cell: `--expect 't0 out 1 2' --expect 'total 3'`.
-What stands otherwise is told on standard error, a line for each, and the status
-is 1; so it is where a choice is refused.
+STATE is one of
+  all    all threads have ended or died
+  ended  all threads have ended, and none has died
+  stuck  some threads haven't ended, and none of them can continue
+  live   some thread can continue
+or the name of a thread, phaser, barrier or cell (or t0, p0, b0, c0), and then
+words in a row of its line in the final state, such as `--expect 't0 out 1 2'`.
+For each STATE that isn't met, standard error has a line, and the status is 1.
+If a choice is refused, none is met.
 
-It may tell `refused asm`, `refused image`, `refused load`, `refused schedule`,
-`refused plan`, `memory`, `read` or `write`.
+Errors: `refused asm`, `refused image`, `refused load`, `refused schedule`,
+`refused plan`, `memory`, `read`, `write`.
 
 Example: vuthgal run examples/meeting.asm - <<< 't0 t1 t0*3 t1*2'";
 
@@ -77,17 +82,16 @@ const COMPARE: &str = "\
 Compares the trace in TRACE with the run of the program in FILE under the
 choices that the trace names.
 
-It writes `same`; `differs LINE`, the first line that isn't the run's, byte for
-byte; or `not a trace LINE`, the first line that is no trace's. FILE is an image
-where its first four bytes are `PBW1` or `PBW2`, else a program text. TRACE is a
-file, or `-` for standard input; it may be as long as you like.
+It writes `same`; or `differs LINE`, the first line that isn't the run's, byte
+for byte; or `not a trace LINE`, the first line that a trace can't have. FILE is
+an image if its first four bytes are `PBW1` or `PBW2`, else a program text.
+TRACE is a file of any length, or `-` for standard input.
 
-With `--show` two lines follow a verdict that isn't `same`: behind `differs
-LINE` that line of each, `trace ..` and `run ..`; behind `not a trace LINE` that
-line, `trace ..`, and what a line has to be, `wanted ..`. TRACE is read again
-for that, or is held in memory where it is `-`.
+With `--show` two lines follow. After `differs LINE` they are this line of the
+trace, `trace ..`, and of the run, `run ..`. After `not a trace LINE` they are
+this line, `trace ..`, and what the line has to be, `wanted ..`.
 
-It may tell `refused asm`, `refused image`, `refused load`, `memory`, `read` or
+Errors: `refused asm`, `refused image`, `refused load`, `memory`, `read`,
 `write`.
 
 Example: vuthgal compare examples/meeting.asm examples/two-threads-meet.trace";
@@ -96,97 +100,102 @@ const DEBUG: &str = "\
 Plays the program in FILE by the commands on standard input, forwards and
 backwards.
 
-FILE is an image where its first four bytes are `PBW1` or `PBW2`, else a program
-text. Each line of standard input is one command, and its answer stands on
+FILE is an image if its first four bytes are `PBW1` or `PBW2`, else a program
+text. Each line of standard input is one command. Its reply is written to
 standard output before the next line is read:
 
   s tN       one choice: thread N's turn; `s xN` lets its timed wait expire
-  b          one choice back; the last 4096 can be taken back
-  k ROW      a breakpoint at a row of the program, numbered from 0
-  c ROW      no breakpoint there any more
+  b          one choice back, up to 4096
+  k ROW      set a breakpoint at a row of the program, numbered from 0
+  c ROW      clear the breakpoint there
   g TOKENS   choices, as in a schedule, up to the first that leads a thread to
              a breakpoint
   p          the state of all threads, phasers and barriers
-  q          the end, as the end of standard input
+  q          end the session, like the end of standard input
 
-What is none of these is answered with `?`. With `--at TRACE` the first command
-is a `g` with the choices of the trace in that file; of what is no trace it
-writes `not a trace LINE`, and reads no commands. With `--plan PLAN`, or `--at`
-and a file named `NAME.plan`, it is a `g` with the choices of that plan.
+The reply to any other line is `?`. With `--at TRACE` the first command is a `g`
+with the choices of the trace in this file. If it isn't a trace, `debug` writes
+`not a trace LINE` and reads no commands. With `--plan PLAN` or
+`--plan-file FILE` the first command is a `g` with the choices of the plan.
 
-At a terminal `help` lists the commands, `w` writes the choices so far as a
-schedule, and behind each answer stands who may go on, and at which row.
+At a terminal `help` lists the commands, and `w` writes the choices so far as a
+schedule. After each reply you see which threads can continue, and at which row.
 
-It may tell `refused asm`, `refused image`, `refused load`, `refused plan`,
-`memory`, `read` or `write`.
+Errors: `refused asm`, `refused image`, `refused load`, `refused plan`,
+`memory`, `read`, `write`.
 
 Example: vuthgal debug examples/meeting.asm <<< 'g t0 t1 t0'";
 
 const SHOW: &str = "\
-Writes a page that shows a run: one HTML file that any browser opens, with no
+Writes a page that shows a run: one HTML file that any browser opens, without a
 network.
 
-FILE is an image where its first four bytes are `PBW1` or `PBW2`, else a program
+FILE is an image if its first four bytes are `PBW1` or `PBW2`, else a program
 text. SCHEDULE is a file, or `-` for standard input. Without it FILE is a text
-with its schedule behind a line `.run`. A plan may stand in place of a schedule:
-`--plan 'ann. bob.'`, or a file named `NAME.plan`. A page shows 2000 choices at
-most.
+with a line `.run`, and its schedule after that. A plan can replace the
+schedule: `--plan 'ann. bob.'`, or `--plan-file FILE` for a file. A page shows
+at most 2000 choices.
 
-It may tell `refused asm`, `refused image`, `refused load`, `refused schedule`,
-`refused plan`, `refused show`, `memory`, `read` or `write`.
+The page also shows other runs: what would have followed another choice. The
+chosen thread runs until it waits or ends, then the choices of the run follow
+that still do something, then all threads in turn. With `--alone` the page shows
+only the run.
+
+Errors: `refused asm`, `refused image`, `refused load`, `refused schedule`,
+`refused plan`, `refused show`, `memory`, `read`, `write`.
 
 Example: vuthgal show examples/two-threads-meet.txt > meeting.html";
 
 const DRAW: &str = "\
 Draws a run as text: a column for each thread, a line for each choice.
 
-FILE is an image where its first four bytes are `PBW1` or `PBW2`, else a program
+FILE is an image if its first four bytes are `PBW1` or `PBW2`, else a program
 text. SCHEDULE is a file, or `-` for standard input. Without it FILE is a text
-with its schedule behind a line `.run`. A plan may stand in place of a schedule:
-`--plan 'ann. bob.'`, or a file `NAME.plan`. No line has more than N bytes.
+with a line `.run`, and its schedule after that. A plan can replace the
+schedule: `--plan 'ann. bob.'`, or `--plan-file FILE` for a file. A line has at
+most N bytes (`--width N`), and a drawing at most 2000 choices.
 
-It may tell `refused asm`, `refused image`, `refused load`, `refused schedule`,
-`refused plan`, `refused draw`, `memory`, `read` or `write`.
+Errors: `refused asm`, `refused image`, `refused load`, `refused schedule`,
+`refused plan`, `refused draw`, `memory`, `read`, `write`.
 
 Example: vuthgal draw examples/two-threads-meet.txt";
 
 const LIVE: &str = "\
-Plays the program in FILE on real threads, one for each of its own, and writes
-the trace of the run that came about.
+Plays the program in FILE on real threads, one for each thread of the program,
+and writes the trace of this run.
 
-FILE is an image where its first four bytes are `PBW1` or `PBW2`, else a program
-text. The run is recorded choice by choice, and what is written is the trace of
-that record: `vuthgal compare` finds it the same. It ends where all threads have
-ended, where none can go on, or after N steps: in the state `all`, `stuck` or
-`live`. With `--stir SEED` each thread yields or pauses a little before about
-half of its turns, so that other runs come about too; what is written is still
-the trace of the run that came about, whatever the pauses.
+FILE is an image if its first four bytes are `PBW1` or `PBW2`, else a program
+text. `live` records the choices of the run and writes their trace, which is
+`same` for `vuthgal compare`. The run ends if all threads have ended, if none
+can continue, or after N steps: in the state `all`, `stuck` or `live`. With
+`--stir SEED` each thread yields or pauses a little before about half of its
+turns, so that other runs happen too. The trace is still that of the run.
 
-Time passes only where no thread can go on otherwise: a timed wait never runs
-out before an arrival that is still possible. A plan with `xNAME` shows that.
+Time passes only if no thread can continue otherwise: a timed wait never expires
+before an arrival that is still possible. A plan with `xNAME` shows that case.
 
-With `--runs N` it plays N runs and writes no trace, but a line for each state
-that a run ended in, the most frequent first: how often one did, `all`, `stuck`
-or `live`, and the schedule of the first that did. `vuthgal run FILE -` plays
-that schedule again. How many choices it took makes no other state. Where a
-thread died `+died` stands behind the word. With `--expect` the exit status is 1
-where any run ended otherwise (`vuthgal run --help`). An interrupt (Ctrl-C) ends
-it with nothing written: the counts so far are lost.
+With `--runs N` it plays N runs and writes no trace. It writes a line for each
+state in which a run ended, the most frequent first: how many runs ended in it,
+`all`, `stuck` or `live`, with `+died` if a thread died, and the schedule of the
+first of them, which `vuthgal run FILE -` plays again. The number of choices is
+no part of the state. With `--expect` the exit status is 1 if any run ended
+differently (`vuthgal run --help`). An interrupt (Ctrl-C) ends the command: it
+writes nothing, and the counts so far are lost.
 
-It may tell `refused asm`, `refused image`, `refused load`, `memory`, `spawn`,
-`read` or `write`.
+Errors: `refused asm`, `refused image`, `refused load`, `memory`, `spawn`,
+`read`, `write`.
 
 Example: vuthgal live examples/meeting.asm";
 
 const RACE: &str = "\
-Lets real threads meet at one shared phaser, round after round, and writes the
-word that they leave.
+Lets real threads meet at one shared phaser, round after round, and writes its
+state at the end.
 
 N threads call `arriveAndAwaitAdvance` R times each on a phaser of N parties.
-The line is `phase A parties B unarrived C`: A is R, and B and C are N, whatever
-the threads' order was.
+The line is `phase A parties B unarrived C`. In any order of the threads A is R,
+and B and C are N.
 
-It may tell `memory`, `spawn` or `write`.
+Errors: `memory`, `spawn`, `write`.
 
 Example: vuthgal race --parties 4 --rounds 10000";
 
@@ -194,60 +203,61 @@ const CHOICES: &str = "\
 Writes the schedule of the trace in TRACE: the choices that its lines name, up
 to its state.
 
-TRACE is a file, or `-` for standard input; it may be as long as you like. Of
-what is no trace it writes `not a trace LINE`, the first line that is none.
-Nothing is played, so it wants no program.
+TRACE is a file of any length, or `-` for standard input. If it isn't a trace,
+`choices` writes `not a trace LINE`, the first line that a trace can't have. It
+plays nothing, so it needs no program.
 
-It may tell `memory`, `read` or `write`.
+Errors: `memory`, `read`, `write`.
 
 Example: vuthgal choices examples/two-threads-meet.trace";
 
 const PLAN: &str = "\
-Writes the schedule that the plan in PLAN stands for on the program in FILE. It
-is what `run`, `show` and `draw` take as SCHEDULE.
+Writes the schedule of the plan in PLAN for the program in FILE. `run`, `show`
+and `draw` take it as SCHEDULE.
 
-FILE is an image where its first four bytes are `PBW1` or `PBW2`, else a program
-text, up to its line `.run`. PLAN is a file, or `-` for standard input, as it is
-without it. A plan says whose turn it is:
+FILE is an image if its first four bytes are `PBW1` or `PBW2`, else a program
+text, up to its line `.run`. PLAN is a file, or `-` for standard input. Without
+PLAN and `--seeds` it is standard input. To play the text of a plan, write
+`vuthgal run FILE --plan 'ann. bob.'`. A plan says whose turn it is:
 
   ann, t0    one turn of a thread, by its name or its number
   ann*3      three turns
   ann.       turns until it waits, ends or dies
-  xann, x0   its timed wait runs out
-  ..         turn about, in order of number, until nobody can go on
-  ..*50      so 50 turns at most
-  ?7         any thread that can go on, by the seed 7, to the end
-  ?7*50      so 50 turns at most
-  ( .. )*20  what stands in parentheses 20 times
+  xann, x0   its timed wait expires
+  ..         all threads in turn, by number, until none can continue
+  ..*50      the same, at most 50 turns
+  ?7         any thread that can continue, by the seed 7, to the end
+  ?7*50      the same, at most 50 turns
+  ( .. )*20  the words in parentheses 20 times
   ;          a comment, up to the end of the line
 
-What `.`, `..` and `?` choose is never idle. A plan makes 1000000 choices at
-most. Where it wants one more, the schedule so far is written, standard error
-has `stopped at 1000000 choices`, and the status is 1.
+`.`, `..` and `?` never choose an idle thread. A plan makes at most 1000000
+choices. If it needs more, the schedule so far is written, standard error has
+`stopped at 1000000 choices`, and the status is 1.
 
-With `--seeds 1..1000` each of these seeds has its order: PLAN, or nothing where
-none is named, and then any thread that can go on, by the seed, to the end. What
-is written is a line for each state that one ended in, the most frequent first:
-how often one did, `all`, `stuck` or `live`, with `+died` where a thread died,
-and the schedule of the first that did.
+With `--seeds 1..1000` there is a run for each of these seeds: first PLAN, if
+there is one, then any thread that can continue, by the seed, to the end. A line
+is written for each state in which a run ended, the most frequent first: how
+many runs ended in it, `all`, `stuck` or `live`, with `+died` if a thread died,
+and the schedule of the first of them.
 
-It may tell `refused asm`, `refused image`, `refused load`, `refused plan`,
-`memory`, `read` or `write`.
+Errors: `refused asm`, `refused image`, `refused load`, `refused plan`,
+`memory`, `read`, `write`.
 
 Example: vuthgal plan examples/meeting.asm - <<< 't0. t1. t0.'";
 
 const EXPLAIN: &str = "\
 Says in words what a line on standard error means: what is wrong, what helps, a
-command that makes it, and where the documents say more. Or what a row of a
-program is, or a word that begins with a dot: its operands, Java's method, what
-it answers, and a text with its schedule in which it is played.
+command that causes it, and where the documents say more. Or what an instruction
+or a directive of a program is: its operands, Java's method, what it does, and a
+program with its schedule in which it is played.
 
-The words are those of the line. A place may be left out: `explain asm 5` is the
-fifth kind of a program text's fault. `explain status 4` is an exit status,
-`explain exception 6` the number of an exception; `explain not a trace`,
+The words are those of the line. You can leave out a place: `explain asm 5` is
+the fifth kind of a program text's fault. `explain status 4` is an exit status,
+`explain exception 6` the number of an exception. `explain not a trace`,
 `explain none` and `explain ?` are words of traces and sessions. `explain paaa`
-is a row, `explain .thread` a directive. Without words it lists what can be
-asked.
+is an instruction, `explain .thread` a directive. Without words it lists what
+you can ask.
 
 Example: vuthgal explain refused asm 2 5";
 

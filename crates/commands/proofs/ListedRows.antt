@@ -1,5 +1,7 @@
 -- Rows, and the lines that say them.
-use Rattle.std.proofs.Common.{◌≡◌, ◌∙◌, inl, inr, ℕ, zero, suc, ◌+◌, List, [], ◌∷◌, ◌++◌, drop, Option, Some, Result, Ok, slice_index_or, refl, sym, ap, subst, arith}
+use Rattle.std.proofs.Common.{◌≡◌, ◌∙◌, inl, inr, true, false, ℕ, zero, suc, ◌+◌, List, [], ◌∷◌, ◌++◌, drop, Option, Some, Result, Ok, Err, slice_index_or, refl, sym, ap, subst, arith}
+use Rattle.std.specs.Prelude.{IfOk}
+use Rattle.std.specs.Global.{Vec}
 use Rattle.std.specs.List.{flat_map, slice_split}
 use Rattle.row_code.specs.Answers.{◌>>=◌}
 use Rattle.row_code.specs.declared.image.Image.{Image}
@@ -17,7 +19,8 @@ use Rattle.assembler.specs.Symbols.{SymbolTable, symbols_in, symbols_of}
 use Rattle.assembler.proofs.FirstPass.{one_less}
 use Rattle.assembler.proofs.ReadLines.{lines_take, stands_for-assembled}
 use Rattle.assembler.proofs.SpelledLines.{LineSays, line_again}
-use Rattle.commands.specs.Rows.{AreSaid, IsRowListing, IsTextListing, line_at, row_lines, text_row_words}
+use Rattle.commands.specs.Rows.{AreSaid, IsRowListing, IsTextListing, image_listing, line_at, row_lines, text_row_words}
+use Rattle.workbench.specs.ProgramFile.{IsNamedProgram, is_image_file}
 
 -- ---- the lines of a text, with an empty one behind the last line end
 
@@ -72,6 +75,34 @@ text_listed text image table numbers listing stands named are is =
             (are ∙ table_rows lines table _ refl e),
       ),
     ))
+
+-- the listing of a program, by what its bytes are
+pub listing_of_image : (file listing : List ℕ) (image : Image) (table : SymbolTable) → IsNamedProgram file image table
+    → is_image_file file ≡ true → listing ≡ image_listing image → IsRowListing file listing
+listing_of_image file listing image table (inl (is, ((read, fits), none))) holds same = inl (is, (image, (read, same)))
+listing_of_image file listing image table (inr (is, (stands, named))) holds same = absurd (cc (is, holds))
+
+pub listing_of_text : (file listing numbers : List ℕ) (image : Image) (table : SymbolTable) → IsNamedProgram file image table
+    → is_image_file file ≡ false → numbers ≡ table.rows
+    → listing ≡ flat_map line_text (numbered (text_row_words (lines_of file)) 0 numbers) → IsRowListing file listing
+listing_of_text file listing numbers image table (inl (is, (read, none))) other are same = absurd (cc (is, other))
+listing_of_text file listing numbers image table (inr (is, (stands, named))) other are same =
+    inr (is, text_listed file image table numbers listing stands named are same)
+
+-- as they are returned
+pub image_listed : (file : List ℕ) (image : Image) (table : SymbolTable) {E : Type 0} (listed : Result (Vec ℕ) E)
+    → IsNamedProgram file image table → is_image_file file ≡ true → IfOk listed (λ listing. listing.items ≡ image_listing image)
+    → IfOk listed (λ listing. IsRowListing file listing.items)
+image_listed file image table (Ok listing) named is same = listing_of_image file listing.items image table named is same
+image_listed file image table (Err error) named is same = tt
+
+pub text_rows_listed : (file numbers : List ℕ) (image : Image) (table : SymbolTable) {E : Type 0} (listed : Result (Vec ℕ) E)
+    → IsNamedProgram file image table → is_image_file file ≡ false → numbers ≡ table.rows
+    → IfOk listed (λ listing. listing.items ≡ flat_map line_text (numbered (text_row_words (lines_of file)) 0 numbers))
+    → IfOk listed (λ listing. IsRowListing file listing.items)
+text_rows_listed file numbers image table (Ok listing) named other are same =
+    listing_of_text file listing.items numbers image table named other are same
+text_rows_listed file numbers image table (Err error) named other are same = tt
 
 -- ---- each row is said by its line
 

@@ -14,15 +14,14 @@ use Rattle.schedule_reader.specs.declared.fault.ScheduleFault.{ScheduleFault}
 use Rattle.schedule_reader.specs.declared.fault.ScheduleFault.TheVariants as wrong
 use Rattle.schedule_reader.specs.Schedule.{choices_of, finished_schedule}
 use Rattle.trace_text.specs.Start.{IsRefused}
-use Rattle.workbench.specs.ProgramFile.{IsProgramFile}
 
-pub no_picture : {A : Type 0} (result : Result A PageFault) (fault : PageFault) (told : Fault) (kind : PictureKind) (program schedule : List ℕ)
-    (image : Image) → result ≡ Err fault → told ≡ fault_of fault kind → IsProgramFile program image
+pub no_picture : {A : Type 0} (result : Result A PageFault) (fault : PageFault) (told : Fault) (kind : PictureKind) (schedule : List ℕ)
+    (image : Image) → result ≡ Err fault → told ≡ fault_of fault kind
     → ((f : LoadFault) → result ≡ Err (none.Load f) → IsRefused f image)
     → ((f : ScheduleFault) → result ≡ Err (none.Schedule f)
     → ((finished_schedule schedule).fault ≡ Some f) × (f ≡ wrong.Memory → ⊥))
     → (result ≡ Err none.Choices → ((finished_schedule schedule).fault ≡ None)
     × (most_choices < length (choices_of (finished_schedule schedule).runs)))
     → ((f : LoadFault) → IsRefused f image → (result ≡ Err (none.Load f)) ⊎ (result ≡ Err none.Memory))
-    → status_of told ≡ 3 → HaveNoPicture kind told program schedule
-no_picture result fault told kind program schedule image is same file load faulty many loads three = grind arith
+    → status_of told ≡ 3 → HaveNoPicture kind told image schedule
+no_picture result fault told kind schedule image is same load faulty many loads three = grind arith

@@ -1,30 +1,31 @@
 -- The schedule of a plan, by the parts that it is made of.
-use Rattle.std.proofs.Common.{◌≡◌, ◌∙◌, ◌+◌, ◌≤◌, ◌++◌, ℕ, List, [], ◌∷◌, Bool, length, map, refl, sym, ap, subst, arith}
-use Rattle.std.specs.Prelude.{Option, Result, Ok, Err}
-use Rattle.std.specs.Borrow.{Bor}
+use Rattle.std.proofs.Common.{◌≡◌, ◌∙◌, ◌+◌, ◌≤◌, ◌++◌, ℕ, Bool, List, [], ◌∷◌, length, map, refl, sym, subst, ap, arith}
+use Rattle.std.specs.Prelude.{Err, IfOk, Ok, Option, Result}
 use Rattle.std.specs.Io.KnownBytes.{Appends}
+use Rattle.std.specs.Borrow.{Bor}
 use Rattle.std.proofs.lemmas.List.{length-map, map-append}
 use Rattle.std.proofs.lemmas.List.FromFn.{length-map-range_with_len, map-range_with_len_more}
 use Rattle.assembler.specs.Symbols.{SymbolTable}
 use Rattle.commands.specs.Choices.{schedule_line}
-use Rattle.commands.specs.Pictures.{program_of}
-use Rattle.commands.specs.Planning.{HasNone, HasNoSchedule, HasPlanned, HasThreads, Plays, thread_name, thread_names}
+use Rattle.commands.specs.Planning.{ComesOfPlan, HasNoSchedule, HasPlanned, HasThreads, Plays, thread_name, thread_names}
+use Rattle.commands.specs.Seeds.{plan_by}
 use Rattle.commands.specs.Unplanned.{unplanned_status}
 use Rattle.commands.specs.declared.unplanned.Unplanned.{Unplanned}
 use Rattle.commands.specs.declared.unplanned.Unplanned.TheVariants as why
+use Rattle.loader.specs.Program.{IsProgramOf}
+use Rattle.row_code.specs.declared.image.Image.{Image}
+use Rattle.workbench.specs.declared.fault.Fault.{Fault}
+use Rattle.workbench.specs.declared.fault.Fault.TheVariants as fault
+use Rattle.workbench.specs.declared.program.Program.{Program}
 use Rattle.line_reader.specs.Seen.{name_seen}
-use Rattle.loader.specs.Program.{IsProgramOf, Program}
+use Rattle.loader.specs.Program.{Program as Loaded}
 use Rattle.plans.specs.Plan.{words_in_plan}
 use Rattle.plans.specs.Tree.{IsPlan}
-use Rattle.plans.specs.declared.fault.PlanFault.{PlanFault}
 use Rattle.plans.specs.declared.word.Word.{Word}
+use Rattle.plans.specs.declared.fault.PlanFault.{PlanFault}
 use Rattle.plans.specs.Planned.{AreRuns, IsPlanOf, Shows}
 use Rattle.plans.specs.Progress.{Progress}
 use Rattle.plans.specs.declared.planned.Planned.{Planned}
-use Rattle.row_code.specs.declared.image.Image.{Image}
-use Rattle.workbench.specs.Input.{GivesAll}
-use Rattle.workbench.specs.declared.fault.Fault.{Fault}
-use Rattle.workbench.specs.declared.fault.Fault.TheVariants as fault
 
 -- the name of one thread more
 pub one_more : (symbols : SymbolTable) (names after : List (Bor (List ℕ))) (name : Bor (List ℕ)) (thread : ℕ)
@@ -42,57 +43,51 @@ pub few_names : (symbols : SymbolTable) (names : List (Bor (List ℕ))) (count :
     → map name_seen names ≡ thread_names symbols count → count ≤ 64 → length names ≤ 64
 few_names symbols names count are few = grind (arith, length-map, length-map-range_with_len)
 
--- a program that is loaded, with its threads' names
-abbrev pub IsLoaded : List ℕ → Program → List (Bor (List ℕ)) → Type 0
-IsLoaded file program names = (image : Image) × (HasThreads file image (map name_seen names) × IsProgramOf image program)
-
--- a plan that isn't read has a fault, or memory ran out
-pub plan_refused : {A : Type 0} (answered : Result A Unplanned) (reason : Unplanned) (file plan : List ℕ) (program : Program)
-    (names given : List (Bor (List ℕ))) → answered ≡ Err reason → IsLoaded file program names → given ≡ names
-    → ((f : PlanFault) → answered ≡ Err (why.Plan f) → words_in_plan (map name_seen given) plan ≡ Err f)
-    → ((f : Fault) → answered ≡ Err (why.Fault f) → f ≡ fault.Memory)
-    → unplanned_status reason ≡ 3 → HasNoSchedule reason file plan
-plan_refused answered reason file plan program names given is loaded same refused other three = grind arith
-
 -- a plan that is read is played
-pub plan_played : (file plan : List ℕ) (program : Program) (planned : Planned) (names given : List (Bor (List ℕ))) (words taken : List Word)
-    → IsLoaded file program names → given ≡ names → words_in_plan (map name_seen given) plan ≡ Ok words → IsPlan words
-    → taken ≡ words → IsPlanOf program taken planned
-    → (progress : Progress) × (Plays file plan progress × Shows planned progress)
-plan_played file plan program planned names given words taken given_too same read given_too_too also shows = grind arith
+pub plan_played : (names : List (List ℕ)) (plan : List ℕ) (program : Loaded) (planned : Planned) (words taken : List Word)
+    → words_in_plan names plan ≡ Ok words → IsPlan words → taken ≡ words → IsPlanOf program taken planned
+    → (progress : Progress) × (Plays program names plan progress × Shows planned progress)
+plan_played names plan program planned words taken read whole also shows = grind arith
 
--- there is no schedule of what was read
-pub none_planned : (reason : Unplanned) (bytes steps program taken : List ℕ) (fb fa pb pa : Option (List ℕ))
-    → GivesAll fb fa bytes → GivesAll pb pa steps → program ≡ program_of bytes → taken ≡ steps
-    → HasNoSchedule reason program taken → HasNone reason fb fa pb pa
-none_planned reason bytes steps program taken fb fa pb pa gives more is also none = (
-  bytes,
+-- what a plan comes to on a loaded program, it comes to on the program
+pub comes_of_plan : (program : Program) (image : Image) (loaded : Loaded) (names seen : List (Bor (List ℕ))) (plan : List ℕ)
+    (answer : Result Planned Unplanned) → image ≡ program.image → seen ≡ names → IsProgramOf image loaded
+    → HasThreads image program.names (map name_seen names)
+    → IfOk answer (λ planned. (progress : Progress) × (Plays loaded (map name_seen seen) plan progress × Shows planned progress))
+    → IfOk answer (λ planned. (progress : Progress) × (ComesOfPlan program plan progress × Shows planned progress))
+comes_of_plan program image loaded names seen plan (Ok planned) is same of has p = (
+  p.0,
   (
-    steps,
     (
-      gives,
-      more,
-      subst (λ (p : List ℕ). HasNoSchedule reason (program_of bytes) p) also
-          (subst (λ (f : List ℕ). HasNoSchedule reason f taken) is none),
-    ),
-  ),
-)
-
--- what was read was played, and its schedule was written
-pub plan_written : (stopped : Bool) (planned : Planned) (bytes steps program taken : List ℕ) (fb fa pb pa old new : Option (List ℕ))
-    → GivesAll fb fa bytes → GivesAll pb pa steps → program ≡ program_of bytes → taken ≡ steps
-    → (progress : Progress) × (Plays program taken progress × Shows planned progress)
-    → AreRuns planned.runs.items → stopped ≡ planned.stopped → Appends old new (schedule_line planned.runs.items)
-    → HasPlanned stopped fb fa pb pa old new
-plan_written stopped planned bytes steps program taken fb fa pb pa old new gives more is also (progress, (played, shows)) are told appends =
-    let there = subst (λ (p : List ℕ). Plays (program_of bytes) p progress) also
-    (subst (λ (f : List ℕ). Plays f taken progress) is played) in (
-      bytes,
+      loaded,
       (
-        steps,
+        map name_seen names,
         (
-          schedule_line planned.runs.items,
-          (gives, more, (progress, (there, (planned.runs.items, (are, shows.choices, refl, told ∙ shows.stopped)))), appends),
+          subst (λ i. HasThreads i program.names (map name_seen names)) is has,
+          subst (λ i. IsProgramOf i loaded) is of,
+          subst (λ (ns : List (Bor (List ℕ))). Plays loaded (map name_seen ns) plan p.0) same p.1.0,
         ),
       ),
-    )
+    ),
+    p.1.1,
+  ),
+)
+comes_of_plan program image loaded names seen plan (Err reason) is same of has p = tt
+
+-- it is written
+pub plan_written : (stopped : Bool) (planned : Planned) (program : Program) (plan : List ℕ) (old new : Option (List ℕ))
+    → (progress : Progress) × (ComesOfPlan program plan progress × Shows planned progress)
+    → AreRuns planned.runs.items → stopped ≡ planned.stopped → Appends old new (schedule_line planned.runs.items)
+    → HasPlanned stopped program plan old new
+plan_written stopped planned program plan old new (progress, (comes, shows)) are told appends =
+    (schedule_line planned.runs.items, (progress, (comes, (planned.runs.items, (are, shows.choices, refl, told ∙ shows.stopped)), appends)))
+
+-- why the orders of seeds have no schedule
+pub no_orders : (reason : Unplanned) (program : Program) (names : List (List ℕ)) (plan : List ℕ)
+    → HasThreads program.image program.names names
+    → ((f : PlanFault) → reason ≡ why.Plan f → (seed : ℕ) × (words_in_plan names (plan_by plan seed) ≡ Err f))
+    → ((f : Fault) → reason ≡ why.Fault f → f ≡ fault.Memory) → unplanned_status reason ≡ 3
+    → (seed : ℕ) × HasNoSchedule reason program (plan_by plan seed)
+no_orders (why.Plan f) program names plan has refused other three =
+    let found = refused f refl in (found.0, (names, (has, found.1)))
+no_orders (why.Fault f) program names plan has refused other three = absurd (cc (other f refl, three))

@@ -15,24 +15,17 @@ use Rattle.commands.specs.Outcomes.{IsMostFrequentFirst, report, done_by}
 use Rattle.commands.specs.Runs.{AreOutcomesFrom, Reports}
 use Rattle.workbench.specs.declared.fault.Fault.{Fault}
 use Rattle.workbench.specs.declared.fault.Fault.TheVariants as fault
-use Rattle.workbench.specs.ProgramFile.{IsProgramFile}
 
--- the report was written of a file's program, or why not
+-- the report was written of a program, or why not
 pub reported : (result : Result Done Fault) (image : Image) (program : Program) (asked : Asked)
-    (outcomes : List (EndState × Outcome)) (file : List ℕ) (before after : Option (List ℕ)) (failed : Bool) → IsProgramFile file image
+    (outcomes : List (EndState × Outcome)) (before after : Option (List ℕ)) (failed : Bool)
     → first_fault image ≡ None → IsProgramOf image program
     → AreOutcomesFrom (first_world program asked.limit) asked outcomes → IsMostFrequentFirst outcomes
     → IfOk result (λ d. d ≡ done_by asked.expected.now outcomes) → OnOk result (Appends before after (report outcomes))
     → IfErr result (λ f. (f ≡ fault.Memory) ⊎ (f ≡ fault.Write)) → (result ≡ Err fault.Memory → after ≡ before)
-    → (result ≡ Err fault.Write → IsTrue failed) → Reports asked file result before after failed
-reported (Ok d) image program asked outcomes file before after failed is_file loads is came sorted by written which same write = (
-  image,
-  (
-    is_file,
-    (
-      first_world program asked.limit,
-      (outcomes, (loads, is_first image program asked.limit is, came, sorted, by, written)),
-    ),
-  ),
+    → (result ≡ Err fault.Write → IsTrue failed) → Reports asked image result before after failed
+reported (Ok d) image program asked outcomes before after failed loads is came sorted by written which same write = (
+  first_world program asked.limit,
+  (outcomes, (loads, is_first image program asked.limit is, came, sorted, by, written)),
 )
-reported result image program asked outcomes file before after failed is_file loads is came sorted by written which same write = grind (arith, is_first)
+reported result image program asked outcomes before after failed loads is came sorted by written which same write = grind (arith, is_first)

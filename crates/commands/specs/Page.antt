@@ -2,12 +2,12 @@
 use Rattle.std.specs.Prelude.{ℕ, if◌then◌else◌, List, []}
 use Rattle.row_code.specs.declared.image.Image.{Image}
 use Rattle.pictures.specs.Page.{IsPageOf}
-use Rattle.workbench.specs.ProgramFile.{IsProgramFile, is_image_file}
+use Rattle.pictures.specs.declared.others.OtherRuns.{OtherRuns}
+use Rattle.workbench.specs.ProgramFile.{is_image_file}
 
 -- what a page tells of a program as it was written: its text, nothing of an image
 abbrev pub source_of : List ℕ → List ℕ
 source_of program = if is_image_file program then [] else program
 
-abbrev pub IsPageIn : (program schedule page : List ℕ) → Type 0
-IsPageIn program schedule page =
-    (image : Image) × (IsProgramFile program image × IsPageOf image (source_of program) schedule page)
+abbrev pub IsPageIn : OtherRuns → Image → (program schedule page : List ℕ) → Type 0
+IsPageIn others image program schedule page = IsPageOf others image (source_of program) schedule page

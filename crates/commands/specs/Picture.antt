@@ -8,21 +8,17 @@ use Rattle.trace_text.specs.Start.{IsRefused}
 use Rattle.workbench.specs.declared.fault.Fault.{Fault}
 use Rattle.workbench.specs.declared.fault.Fault.TheVariants as fault
 use Rattle.workbench.specs.declared.fault.PictureKind.{PictureKind}
-use Rattle.workbench.specs.ProgramFile.{IsNoProgramFor, IsProgramFile}
 
--- the program in a file is loaded
-abbrev pub IsLoadable : List ℕ → Type 0
-IsLoadable program =
-    (image : Image) × (IsProgramFile program image × ((fault : LoadFault) → IsRefused fault image → ⊥))
+-- an image's program is loaded
+abbrev pub IsLoadable : Image → Type 0
+IsLoadable image = (fault : LoadFault) → IsRefused fault image → ⊥
 
--- why a program and a schedule have no picture of a kind, by the fault that is told: the program is none, or isn't loaded; or
--- it is, and the schedule has this fault, or more choices than such a picture shows
-abbrev pub HaveNoPicture : PictureKind → Fault → (program schedule : List ℕ) → Type 0
-HaveNoPicture kind (fault.Load f) program schedule =
-    (image : Image) × (IsProgramFile program image × IsRefused f image)
-HaveNoPicture kind (fault.Schedule f) program schedule =
-    IsLoadable program × ((finished_schedule schedule).fault ≡ Some f)
-HaveNoPicture kind (fault.TooLong k) program schedule =
-    (k ≡ kind) × (IsLoadable program × (((finished_schedule schedule).fault ≡ None)
+-- why a program and a schedule have no picture of a kind, by the fault that is told: the program isn't loaded; or it is, and the
+-- schedule has this fault, or more choices than such a picture shows
+abbrev pub HaveNoPicture : PictureKind → Fault → Image → (schedule : List ℕ) → Type 0
+HaveNoPicture kind (fault.Load f) image schedule = IsRefused f image
+HaveNoPicture kind (fault.Schedule f) image schedule = IsLoadable image × ((finished_schedule schedule).fault ≡ Some f)
+HaveNoPicture kind (fault.TooLong k) image schedule =
+    (k ≡ kind) × (IsLoadable image × (((finished_schedule schedule).fault ≡ None)
     × (most_choices < length (choices_of (finished_schedule schedule).runs))))
-HaveNoPicture kind f program schedule = IsNoProgramFor f program
+HaveNoPicture kind f image schedule = ⊥

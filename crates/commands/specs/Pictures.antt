@@ -1,6 +1,7 @@
--- What the commands read and write, whatever the picture: IsPicture program schedule bytes says which bytes are one.
+-- What the commands read and write, whatever the picture: IsPicture schedule bytes says which bytes are one.
 use Rattle.std.specs.Prelude.{ℕ, if◌then◌else◌, List, [], Option}
 use Rattle.std.specs.Io.KnownBytes.{Appends}
+use Rattle.row_code.specs.declared.image.Image.{Image}
 use Rattle.commands.specs.Picture.{HaveNoPicture}
 use Rattle.workbench.specs.declared.fault.Fault.{Fault}
 use Rattle.workbench.specs.declared.fault.PictureKind.{PictureKind}
@@ -20,16 +21,14 @@ abbrev pub HasWritten : (IsPicture : List ℕ → Type 0) → (output_before out
 HasWritten IsPicture output_before output_after =
     (picture : List ℕ) × (IsPicture picture × Appends output_before output_after picture)
 
--- file and schedule were read to their ends, and their picture was written
-abbrev pub HasMade : (IsPicture : List ℕ → List ℕ → List ℕ → Type 0)
-    → (file_before file_after schedule_before schedule_after output_before output_after : Option (List ℕ)) → Type 0
-HasMade IsPicture file_before file_after schedule_before schedule_after output_before output_after =
-    (file : List ℕ) × ((schedule : List ℕ) × (GivesAll file_before file_after file
-    × GivesAll schedule_before schedule_after schedule
-    × HasWritten (IsPicture file schedule) output_before output_after))
+-- the schedule was read to its end, and the picture was written
+abbrev pub HasMade : (IsPicture : List ℕ → List ℕ → Type 0)
+    → (schedule_before schedule_after output_before output_after : Option (List ℕ)) → Type 0
+HasMade IsPicture schedule_before schedule_after output_before output_after =
+    (schedule : List ℕ) × (GivesAll schedule_before schedule_after schedule
+    × HasWritten (IsPicture schedule) output_before output_after)
 
--- they were read to their ends, and have no picture for this reason
-abbrev pub HaveNone : PictureKind → Fault → (file_before file_after schedule_before schedule_after : Option (List ℕ)) → Type 0
-HaveNone kind fault file_before file_after schedule_before schedule_after =
-    (file : List ℕ) × ((schedule : List ℕ) × (GivesAll file_before file_after file
-    × GivesAll schedule_before schedule_after schedule × HaveNoPicture kind fault file schedule))
+-- it was read to its end, and there is no picture for this reason
+abbrev pub HaveNone : PictureKind → Fault → Image → (schedule_before schedule_after : Option (List ℕ)) → Type 0
+HaveNone kind fault image schedule_before schedule_after =
+    (schedule : List ℕ) × (GivesAll schedule_before schedule_after schedule × HaveNoPicture kind fault image schedule)

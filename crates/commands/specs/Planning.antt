@@ -5,7 +5,8 @@ use Rattle.std.specs.List.{range_with_len}
 use Rattle.assembler.specs.Symbols.{SymbolTable, name_of}
 use Rattle.instruction_table.specs.declared.shape.OperandKind.TheVariants.{Thread}
 use Rattle.loader.specs.Fault.{first_fault}
-use Rattle.loader.specs.Program.{Program, IsProgramOf}
+use Rattle.loader.specs.Program.{IsProgramOf}
+use Rattle.loader.specs.Program.{Program as Loaded}
 use Rattle.row_code.specs.declared.image.Image.{Image}
 use Rattle.plans.specs.Plan.{words_in_plan}
 use Rattle.plans.specs.Tree.{Plan, words_of_plan}
@@ -15,13 +16,10 @@ use Rattle.plans.specs.Progress.{Progress, begun}
 use Rattle.schedule_reader.specs.Schedule.{choices_of}
 use Rattle.schedule_reader.specs.declared.run.Run.{Run}
 use Rattle.trace_text.specs.Start.{IsRefused}
-use Rattle.workbench.specs.Input.{GivesAll}
 use Rattle.workbench.specs.declared.fault.Fault.{Fault}
 use Rattle.workbench.specs.declared.fault.Fault.TheVariants as fault
-use Rattle.workbench.specs.ProgramFile.{IsNoProgramFor, IsProgramFile}
+use Rattle.workbench.specs.declared.program.Program.{Program}
 use Rattle.commands.specs.Choices.{schedule_line}
-use Rattle.commands.specs.Drawing.{IsNamedProgram}
-use Rattle.commands.specs.Pictures.{program_of}
 use Rattle.commands.specs.declared.unplanned.Unplanned.{Unplanned}
 use Rattle.commands.specs.declared.unplanned.Unplanned.TheVariants as why
 
@@ -32,18 +30,19 @@ thread_name symbols thread = unwrap_or (name_of Thread thread symbols) []
 abbrev pub thread_names : SymbolTable → ℕ → List (List ℕ)
 thread_names symbols count = map (thread_name symbols) (range_with_len 0 count)
 
--- the program in a file, which can be loaded, and the names of its threads
-abbrev pub HasThreads : List ℕ → Image → List (List ℕ) → Type 0
-HasThreads file image names =
-    (symbols : SymbolTable) × (IsNamedProgram file image symbols × (first_fault image ≡ None)
-    × (names ≡ thread_names symbols (length image.threads)))
+-- an image's program can be loaded, and its threads have these names
+abbrev pub HasThreads : Image → SymbolTable → List (List ℕ) → Type 0
+HasThreads image symbols names = (first_fault image ≡ None) × (names ≡ thread_names symbols (length image.threads))
 
--- how far the plan in a text comes on the program in a file
-abbrev pub Plays : (file plan : List ℕ) → Progress → Type 0
-Plays file plan progress =
-    (image : Image) × ((names : List (List ℕ)) × ((program : Program) × ((steps : Plan)
-    × (HasThreads file image names × IsProgramOf image program × (words_in_plan names plan ≡ Ok (words_of_plan steps))
-    × (progress ≡ plays steps (begun program))))))
+-- how far the plan in a text comes on a loaded program whose threads have these names
+abbrev pub Plays : Loaded → (names : List (List ℕ)) → (plan : List ℕ) → Progress → Type 0
+Plays loaded names plan progress =
+    (steps : Plan) × ((words_in_plan names plan ≡ Ok (words_of_plan steps)) × (progress ≡ plays steps (begun loaded)))
+
+abbrev pub ComesOfPlan : Program → (plan : List ℕ) → Progress → Type 0
+ComesOfPlan program plan progress =
+    (loaded : Loaded) × ((names : List (List ℕ)) × (HasThreads program.image program.names names
+    × IsProgramOf program.image loaded × Plays loaded names plan progress))
 
 -- what is written is the schedule of the choices that were made, as one line, and it is told whether the plan wanted one more
 abbrev pub Writes : List ℕ → Bool → Progress → Type 0
@@ -51,30 +50,19 @@ Writes text stopped progress =
     (runs : List Run) × (AreRuns runs × (choices_of runs ≡ progress.choices) × (text ≡ schedule_line runs)
     × (stopped ≡ progress.stopped))
 
-abbrev pub IsScheduleIn : (file plan text : List ℕ) → (stopped : Bool) → Type 0
-IsScheduleIn file plan text stopped = (progress : Progress) × (Plays file plan progress × Writes text stopped progress)
+-- why a program isn't loaded, by the fault that is told
+abbrev pub IsUnloadedFor : Fault → Image → Type 0
+IsUnloadedFor (fault.Load f) image = IsRefused f image
+IsUnloadedFor f image = ⊥
 
--- why a file has no program that can be loaded, by the fault that is told
-abbrev pub HasNoProgram : Fault → List ℕ → Type 0
-HasNoProgram (fault.Load f) file = (image : Image) × (IsProgramFile file image × IsRefused f image)
-HasNoProgram f file = IsNoProgramFor f file
+-- why there is no schedule: the program isn't loaded, or it is, and the plan has this fault
+abbrev pub HasNoSchedule : Unplanned → Program → (plan : List ℕ) → Type 0
+HasNoSchedule (why.Plan f) program plan =
+    (names : List (List ℕ)) × (HasThreads program.image program.names names × (words_in_plan names plan ≡ Err f))
+HasNoSchedule (why.Fault f) program plan = IsUnloadedFor f program.image
 
--- why there is no schedule: the file has no program, or it has one, and the plan has this fault
-abbrev pub HasNoSchedule : Unplanned → (file plan : List ℕ) → Type 0
-HasNoSchedule (why.Plan f) file plan =
-    (image : Image) × ((names : List (List ℕ)) × (HasThreads file image names × (words_in_plan names plan ≡ Err f)))
-HasNoSchedule (why.Fault f) file plan = HasNoProgram f file
-
--- file and plan were read to their ends, and the schedule was written; what stands behind the program's line `.run` is left out
-abbrev pub HasPlanned : (stopped : Bool)
-    → (file_before file_after plan_before plan_after output_before output_after : Option (List ℕ)) → Type 0
-HasPlanned stopped file_before file_after plan_before plan_after output_before output_after =
-    (file : List ℕ) × ((plan : List ℕ) × ((text : List ℕ)
-    × (GivesAll file_before file_after file × GivesAll plan_before plan_after plan
-    × IsScheduleIn (program_of file) plan text stopped × Appends output_before output_after text)))
-
--- they were read to their ends, and there is no schedule for this reason
-abbrev pub HasNone : Unplanned → (file_before file_after plan_before plan_after : Option (List ℕ)) → Type 0
-HasNone reason file_before file_after plan_before plan_after =
-    (file : List ℕ) × ((plan : List ℕ) × (GivesAll file_before file_after file × GivesAll plan_before plan_after plan
-    × HasNoSchedule reason (program_of file) plan))
+-- the schedule was written
+abbrev pub HasPlanned : (stopped : Bool) → Program → (plan : List ℕ) → (output_before output_after : Option (List ℕ)) → Type 0
+HasPlanned stopped program plan output_before output_after =
+    (text : List ℕ) × ((progress : Progress) × (ComesOfPlan program plan progress × Writes text stopped progress
+    × Appends output_before output_after text))

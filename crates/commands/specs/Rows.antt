@@ -33,7 +33,7 @@ line_at texts number = slice_index_or texts (number - 1) []
 abbrev pub text_row_words : List (List ℕ) → (row number : ℕ) → List (List ℕ)
 text_row_words texts row number = decimal row ∷ decimal number ∷ trimmed (line_at texts number) ∷ []
 
--- the same where nothing but the row is known
+-- what is listed of a row of an image: its number and its canonical words
 abbrev pub image_row_words : ℕ → Row → List (List ℕ)
 image_row_words n row = decimal n ∷ row_words row
 
@@ -73,4 +73,4 @@ IsRowListing file listing =
 abbrev pub ListsRows : (file : List ℕ) → Result (Unit {0}) Fault → (output_before output_after : Option (List ℕ)) (output_failed : Bool) → Type 0
 ListsRows file (Ok done) output_before output_after output_failed =
     (listing : List ℕ) × (IsRowListing file listing × Appends output_before output_after listing)
-ListsRows file (Err f) output_before output_after output_failed = StopsListing f file output_before output_after output_failed
+ListsRows file (Err f) output_before output_after output_failed = StopsListing f output_before output_after output_failed

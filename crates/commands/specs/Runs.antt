@@ -4,7 +4,7 @@ use Rattle.std.specs.Io.KnownBytes.{Appends}
 use Rattle.row_code.specs.declared.image.Image.{Image}
 use Rattle.loader.specs.Fault.{first_fault}
 use Rattle.thread_machine.specs.World.{World, IsFirstOf}
-use Rattle.workbench.specs.ProgramFile.{IsNoProgramFor, IsProgramFile, IsUnloadedFor}
+use Rattle.trace_text.specs.Start.{IsRefused}
 use Rattle.workbench.specs.declared.fault.Fault.{Fault}
 use Rattle.workbench.specs.declared.fault.Fault.TheVariants as fault
 use Rattle.workbench.specs.declared.done.Done.{Done}
@@ -27,16 +27,15 @@ HasReported image asked done output_before output_after =
     × Appends output_before output_after (report outcomes)))
 
 -- why no report was written: the output failed; or there was no memory, or no thread could be started, or the program isn't loaded,
--- or the file is none, and nothing was
-abbrev pub StopsReporting : Fault → (file : List ℕ) (output_before output_after : Option (List ℕ)) (output_failed : Bool) → Type 0
-StopsReporting fault.Write file output_before output_after output_failed = IsTrue output_failed
-StopsReporting fault.Memory file output_before output_after output_failed = output_after ≡ output_before
-StopsReporting fault.Spawn file output_before output_after output_failed = output_after ≡ output_before
-StopsReporting (fault.Load f) file output_before output_after output_failed = IsUnloadedFor f file × (output_after ≡ output_before)
-StopsReporting f file output_before output_after output_failed = IsNoProgramFor f file × (output_after ≡ output_before)
+-- and nothing was
+abbrev pub StopsReporting : Fault → Image → (output_before output_after : Option (List ℕ)) (output_failed : Bool) → Type 0
+StopsReporting fault.Write image output_before output_after output_failed = IsTrue output_failed
+StopsReporting fault.Memory image output_before output_after output_failed = output_after ≡ output_before
+StopsReporting fault.Spawn image output_before output_after output_failed = output_after ≡ output_before
+StopsReporting (fault.Load f) image output_before output_after output_failed = IsRefused f image × (output_after ≡ output_before)
+StopsReporting f image output_before output_after output_failed = ⊥
 
--- this was done with the program that a file's bytes are
-abbrev pub Reports : Asked → (file : List ℕ) → Result Done Fault → (output_before output_after : Option (List ℕ)) (output_failed : Bool) → Type 0
-Reports asked file (Ok done) output_before output_after output_failed =
-    (image : Image) × (IsProgramFile file image × HasReported image asked done output_before output_after)
-Reports asked file (Err f) output_before output_after output_failed = StopsReporting f file output_before output_after output_failed
+-- this was done with an image's program
+abbrev pub Reports : Asked → Image → Result Done Fault → (output_before output_after : Option (List ℕ)) (output_failed : Bool) → Type 0
+Reports asked image (Ok done) output_before output_after output_failed = HasReported image asked done output_before output_after
+Reports asked image (Err f) output_before output_after output_failed = StopsReporting f image output_before output_after output_failed

@@ -12,13 +12,13 @@ use crate::report::{done_by, report};
 use crate::runs::add_runs;
 use byte_ports::Sink;
 use loader::{LoadFault, Loaded, load};
+use row_code::Image;
 use std::alloc::Global;
 use std::sync::Wait;
 use std::thread::Threads;
 use thread_runner::Gate;
 use workbench::done::Done;
 use workbench::fault::Fault;
-use workbench::program_file::program_in;
 
 /// Which runs are asked for.
 #[derive(Clone, Copy)]
@@ -32,8 +32,7 @@ pub struct Asked<'a> {
     pub expected: &'a [Vec<u8>],
 }
 
-/// Plays the program that a file's bytes are, an image or a text, on real threads as often as it is asked for, and writes to `output` a line
-/// for each state that a run ended in, the most frequent first: how often one did, `all`, `stuck` or `live`, with `+died` where a
+/// Plays an image's program on real threads as often as it is asked for, and writes to `output` a line for each state that a run ended in, the most frequent first: how often one did, `all`, `stuck` or `live`, with `+died` where a
 /// thread died, and the schedule of the first that did. Nothing is written before all runs are over. The threads of each run pass `gate` behind their
 /// pauses, as in `workbench::live::live`.
 pub fn report_runs<R: Threads + Wait + Sync, G: Gate + Sync, K: Sink>(
@@ -41,17 +40,13 @@ pub fn report_runs<R: Threads + Wait + Sync, G: Gate + Sync, K: Sink>(
     alloc: Global,
     asked: &Asked<'_>,
     gate: &G,
-    program: &[u8],
+    image: Image,
     output: &mut K,
 ) -> Result<Done, Fault>
     requires limit { asked.now.limit ≤ 1000000000 }
     requires count { asked.now.runs ≤ 100000 }
-    ensures { Reports asked.now program.now result (K.written output.old) (K.written output.new) (K.has_failed output.new) }
+    ensures { Reports asked.now image result (K.written output.old) (K.written output.new) (K.has_failed output.new) }
 {
-    let image = match program_in(alloc, program) {
-        Ok(image) => image,
-        Err(fault) => return Err(fault),
-    };
     let program = match load(alloc, image) {
         Ok(program) => program,
         Err(LoadFault::Memory) => return Err(Fault::Memory),

@@ -5,43 +5,38 @@ ghost use Rattle.workbench.specs.declared.fault.Fault.{Fault};
 ghost use Rattle.workbench.specs.Compare.{verdict_line};
 ghost use Rattle.commands.specs.Showing.{ShowsComparison};
 
-use crate::lines_seen::LinesSeen;
 use crate::shown::shown;
 use byte_ports::{Sink, Source};
+use row_code::Image;
 use std::alloc::Global;
-use trace_compare::{CompareFault, Verdict, compare_shown};
+use trace_compare::{CompareFault, Judged, Verdict, judge};
 use workbench::compare::push_verdict;
 use workbench::fault::Fault;
-use workbench::program_file::program_in;
 
 /// Compares as `compare_cmd` does, and shows the lines behind a verdict that isn't `same`: behind `differs LINE` the lines `trace
 /// ..` and `run ..`, where a word stands alone if there is no such line; behind `not a trace LINE` the line `trace ..`, and what
 /// a line has to be. Faults and the first line are those of `compare_cmd`. Nothing is written before the lines are known.
 pub fn show_comparison<S: Source, K: Sink>(
     alloc: Global,
-    program: &[u8],
-    trace: &mut LinesSeen<S>,
+    image: Image,
+    trace: &mut S,
     output: &mut K,
-) -> Result<Verdict, Fault>
-    ensures { ShowsComparison program.now result (S.left trace.old) (S.left trace.new) (S.has_failed trace.new)
+) -> Result<Judged, Fault>
+    ensures { ShowsComparison image result (S.left trace.old) (S.left trace.new) (S.has_failed trace.new)
         (K.written output.old) (K.written output.new) (K.has_failed output.new) }
 {
-    let image = match program_in(alloc, program) {
-        Ok(image) => image,
-        Err(fault) => return Err(fault),
-    };
-    let judged = match compare_shown(alloc, image, trace) {
+    let judged = match judge(alloc, image, trace) {
         Ok(judged) => judged,
         Err(CompareFault::Load(fault)) => return Err(Fault::Load(fault)),
         Err(CompareFault::Memory) => return Err(Fault::Memory),
         Err(CompareFault::Read) => return Err(Fault::Read),
     };
-    let shown = match shown(alloc, &judged, trace) {
+    let shown = match shown(alloc, &judged) {
         Ok(shown) => shown,
         Err(_) => return Err(Fault::Memory),
     };
-    match push_shown(output, judged.verdict, shown.as_slice()) {
-        Ok(()) => Ok(judged.verdict),
+    match push_shown(output, judged.verdict(), shown.as_slice()) {
+        Ok(()) => Ok(judged),
         Err(fault) => Err(fault),
     }
 }

@@ -57,7 +57,7 @@ fn behind_first_line(text: &[u8]) -> &[u8]
     &text[end..]
 }
 
-/// The text of a state by its word and its text.
+/// The text that tells one end state from another: its word, and behind it the lines of the state.
 fn text_with(alloc: Global, word: &[u8], state: &[u8]) -> Result<Vec<u8>, AllocError>
     ensures { IfOk result (λ text. text.items ≡ codes "state " ++ (word.now ++ (10 ∷ behind_first_line state.now))) }
 {

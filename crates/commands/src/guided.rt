@@ -9,7 +9,6 @@ ghost use Rattle.plans.specs.Planned.{AreRuns};
 ghost use Rattle.workbench.specs.declared.fault.Fault.{Fault};
 ghost use Rattle.workbench.specs.Debug.{HasNoEnd};
 
-use crate::drawing::named_program;
 use crate::may_go::push_may_go;
 use crate::plan::thread_names;
 use crate::spoken::{in_numbers, near_word};
@@ -33,20 +32,20 @@ const MOST: u64 = 1_000_000_000;
 const MOST_THREADS: usize = 64;
 
 /// What can be written.
-const HELP: &[u8] = b"  s tN      one choice: thread N's turn; `s xN` lets its timed wait run out
+const HELP: &[u8] = b"  s tN      one choice: thread N's turn; `s xN`: its timed wait expires
   s NAME    the same by its name, also NAME alone, or `s xNAME`
   g TOKENS  choices, as in a schedule (`g t0 bob*3`), up to a breakpoint
   b         one choice back
-  k ROW     a breakpoint at a row; `c ROW` takes it away
+  k ROW     set a breakpoint at a row; `c ROW` clears it
   p         the state
   w         the choices so far, as a schedule
-  q         the end
+  q         end the session
   PLAN      words of a plan: `bob.`, `..`, `?7`, `(ann bob)*3`
-  Enter     the last command once more
+  Enter     repeat the last command
 ";
 
 /// What is told of a line that was answered with `?`.
-const NO_COMMAND: &[u8] = b"  no command, or no thread or row of this program: `help` lists them\n";
+const NO_COMMAND: &[u8] = b"  not a command, or no such thread or row: `help` lists the commands\n";
 
 /// Tells something beside the session. Where it can't be told the session goes on.
 fn note(told: Result<(), Failed>) {
@@ -220,17 +219,16 @@ pub struct GuidedCommands<'a, S, K, E> {
 }
 
 impl<'a, S: Source + Drop, K: Sink + Drop, E: Sink + Drop> GuidedCommands<'a, S, K, E> {
-    /// Over a source of lines, which are about a program behind runs of choices, if there are some. `output` gets schedules, `notes`
+    /// Over a source of lines, which are about a program with these names behind runs of choices, if there are some. `output` gets schedules, `notes`
     /// what stands beside the answers.
     pub fn new(
         alloc: Global,
-        program: &'a [u8],
+        symbols: Symbols<'a>,
         runs: Option<&[Run]>,
         source: S,
         output: K,
         notes: E,
     ) -> Result<GuidedCommands<'a, S, K, E>, Fault> {
-        let (_, symbols) = named_program(alloc, program)?;
         let Ok(before) = Vec::from_slice(alloc, runs.unwrap_or(&[])) else {
             return Err(Fault::Memory);
         };
@@ -270,7 +268,7 @@ impl<'a, S: Source + Drop, K: Sink + Drop, E: Sink + Drop> Companion
         let is_ended = match self.person.next_line(debugger) {
             Ok(is_ended) => is_ended,
             Err(fault) => {
-                self.failed = true;
+                self.failed = self.failed || matches!(fault, Fault::Read);
                 return Err(fault);
             }
         };

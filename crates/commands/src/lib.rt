@@ -11,9 +11,9 @@
 pub mod choices;
 pub mod difference;
 mod image_rows;
-pub mod lines_seen;
 pub mod plan;
 pub mod rows;
+mod shown;
 mod text_rows;
 pub mod unplanned;
 
@@ -23,7 +23,6 @@ pub mod making;
 pub mod page;
 pub mod picture;
 pub mod picture_fault;
-mod shown;
 
 // The debugger for a person.
 mod guided;
@@ -49,6 +48,5 @@ pub use law::{
     a_file_has_one_listing, a_line_of_a_schedule_is_the_schedule,
     a_row_is_told_with_the_line_that_says_it,
 };
-pub use lines_seen::LinesSeen;
 pub use pauses::Pauses;
 pub use rows::list_rows;

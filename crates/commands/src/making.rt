@@ -1,5 +1,5 @@
 //! The commands.
-ghost use Rattle.std.specs.Prelude.{◌≡◌, ◌≢◌, ◌⊎◌, ◌≤◌, Err, IfErr, IsTrue, OnOk, length};
+ghost use Rattle.std.specs.Prelude.{◌≡◌, ◌≢◌, ◌⊎◌, ◌≤◌, Err, IfErr, IsTrue, OnOk, false, length};
 ghost use Rattle.commands.specs.Pictures.{HasMade, HasWritten, HaveNone};
 ghost use Rattle.commands.specs.Pictures.{program_of, schedule_behind};
 ghost use Rattle.commands.specs.Picture.{HaveNoPicture};
@@ -11,41 +11,34 @@ use byte_ports::{Sink, Source};
 use row_code::is_image_file;
 use std::alloc::Global;
 use thread_machine::Choice;
+use workbench::Program;
 use workbench::fault::Fault;
 use workbench::input::read_all;
 use workbench::run_line::split_at_run;
 
-/// Writes the picture of the program in `file`, an image or a text, under the schedule in `schedule` to `output`. Both are read
-/// to their ends and the picture is whole before anything is written, so only after `Write` a part of it may stand. Answers the choice of a
-/// thread that isn't there, with its place from 1, if one ended the run.
-pub fn make<P: Picture, F: Source, S: Source, K: Sink>(
+/// Writes the picture of a program under the schedule in `schedule` to `output`. The schedule is read to its end and the picture is
+/// whole before anything is written, so only after `Write` a part of it may stand. Answers the choice of a thread that isn't there,
+/// with its place from 1, if one ended the run.
+pub fn make<P: Picture, S: Source, K: Sink>(
     alloc: Global,
     picture: &P,
-    file: &mut F,
+    program: Program<'_>,
     schedule: &mut S,
     output: &mut K,
 ) -> Result<Option<(u64, Choice)>, Fault>
-    ensures done { OnOk result (HasMade (P.is_picture picture.now) (F.left file.old) (F.left file.new)
+    ensures done { OnOk result (HasMade (P.is_picture picture.now program.entry)
         (S.left schedule.old) (S.left schedule.new) (K.written output.old) (K.written output.new)) }
     ensures refused { IfErr result (λ fault. status_of fault ≡ 3
-        → HaveNone P.kind fault (F.left file.old) (F.left file.new) (S.left schedule.old) (S.left schedule.new)) }
+        → HaveNone P.kind fault program.entry.image (S.left schedule.old) (S.left schedule.new)) }
     ensures unwritten { IfErr result (λ fault. fault ≢ Fault.Write → K.written output.new ≡ K.written output.old) }
-    ensures read { result ≡ Err Fault.Read → (IsTrue (F.has_failed file.new)
-        ⊎ GivesTooMuch (F.left file.old) (F.left file.new))
-        ⊎ (IsTrue (S.has_failed schedule.new)
-        ⊎ GivesTooMuch (S.left schedule.old) (S.left schedule.new)) }
+    ensures read { result ≡ Err Fault.Read → IsTrue (S.has_failed schedule.new)
+        ⊎ GivesTooMuch (S.left schedule.old) (S.left schedule.new) }
+    ensures memory { result ≡ Err Fault.Memory → S.has_failed schedule.new ≡ false }
     ensures spawn { result ≢ Err Fault.Spawn }
     ensures write { result ≡ Err Fault.Write → IsTrue (K.has_failed output.new) }
 {
-    let program = read_all(alloc, file)?;
     let choices = read_all(alloc, schedule)?;
-    write(
-        alloc,
-        picture,
-        program.as_slice(),
-        choices.as_slice(),
-        output,
-    )
+    write(alloc, picture, program, choices.as_slice(), output)
 }
 
 /// The program and the schedule of a file: an image has none, a text has it behind its line `.run`.
@@ -65,14 +58,14 @@ pub fn parts_of(file: &[u8]) -> (&[u8], &[u8])
 fn write<P: Picture, K: Sink>(
     alloc: Global,
     picture: &P,
-    program: &[u8],
+    program: Program<'_>,
     schedule: &[u8],
     output: &mut K,
 ) -> Result<Option<(u64, Choice)>, Fault>
     requires { length schedule.now ≤ most_bytes }
-    ensures done { OnOk result (HasWritten (P.is_picture picture.now program.now schedule.now)
+    ensures done { OnOk result (HasWritten (P.is_picture picture.now program.entry schedule.now)
         (K.written output.old) (K.written output.new)) }
-    ensures refused { IfErr result (λ fault. status_of fault ≡ 3 → HaveNoPicture P.kind fault program.now schedule.now) }
+    ensures refused { IfErr result (λ fault. status_of fault ≡ 3 → HaveNoPicture P.kind fault program.entry.image schedule.now) }
     ensures unwritten { IfErr result (λ fault. fault ≢ Fault.Write → K.written output.new ≡ K.written output.old) }
     ensures read { result ≢ Err Fault.Read }
     ensures spawn { result ≢ Err Fault.Spawn }

@@ -72,7 +72,7 @@ fn may_go(alloc: Global, symbols: &Symbols<'_>, machine: &Machine) -> Result<Vec
     }
     if named == 0 {
         text.extend_from_slice(if machine.stuck() {
-            b"  nobody can go on: stuck\n".as_slice()
+            b"  no thread can continue: stuck\n".as_slice()
         } else {
             b"  all have ended\n".as_slice()
         })?;

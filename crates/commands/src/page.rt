@@ -8,16 +8,19 @@ ghost use Rattle.workbench.specs.Input.{most_bytes};
 
 use crate::picture::Picture;
 use crate::picture_fault::fault_of;
+use pictures::others::OtherRuns;
 use pictures::page::page;
 use pictures::shown::Shown;
 use row_code::is_image_file;
 use std::alloc::Global;
+use workbench::Program;
 use workbench::fault::{Fault, PictureKind};
-use workbench::program_file::program_in;
 
-/// A page that a browser shows: the program, its text and the run.
+/// A page that a browser shows: the program, its text, the run and, where they are asked for, the runs that other choices lead to.
 #[derive(Clone, Copy)]
-pub struct Page;
+pub struct Page {
+    pub others: OtherRuns,
+}
 
 /// What a page tells of a program as it was written.
 fn source_of(program: &[u8]) -> &[u8]
@@ -27,14 +30,24 @@ fn source_of(program: &[u8]) -> &[u8]
 }
 
 /// The page of a program and a schedule.
-fn page_of(alloc: Global, program: &[u8], schedule: &[u8]) -> Result<Shown, Fault>
+fn page_of(
+    alloc: Global,
+    others: OtherRuns,
+    program: Program<'_>,
+    schedule: &[u8],
+) -> Result<Shown, Fault>
     requires { length schedule.now ≤ most_bytes }
-    ensures page { IfOk result (λ shown. IsPageIn program.now schedule.now shown.bytes.items) }
-    ensures refused { IfErr result (λ fault. status_of fault ≡ 3 → HaveNoPicture picture.Page fault program.now schedule.now) }
+    ensures page { IfOk result (λ shown. IsPageIn others program.entry.image program.entry.bytes.now schedule.now shown.bytes.items) }
+    ensures refused { IfErr result (λ fault. status_of fault ≡ 3 → HaveNoPicture picture.Page fault program.entry.image schedule.now) }
     ensures other { (result ≢ Err Fault.Read) × (result ≢ Err Fault.Write) × (result ≢ Err Fault.Spawn) }
 {
-    let image = program_in(alloc, program)?;
-    match page(alloc, image, source_of(program), schedule) {
+    match page(
+        alloc,
+        others,
+        program.image,
+        source_of(program.bytes),
+        schedule,
+    ) {
         Ok(shown) => Ok(shown),
         Err(fault) => Err(fault_of(fault, PictureKind::Page)),
     }
@@ -44,11 +57,11 @@ impl Picture for Page {
     ghost use Rattle.workbench.specs.declared.fault.PictureKind.TheVariants as picture;
     ghost use Rattle.commands.specs.Page.{IsPageIn};
 
-    ghost is_picture = { λ self program schedule page. IsPageIn program schedule page };
+    ghost is_picture = { λ self program schedule page. IsPageIn self.others program.image program.bytes.now schedule page };
 
     ghost kind = { picture.Page };
 
-    fn of(&self, alloc: Global, program: &[u8], schedule: &[u8]) -> Result<Shown, Fault> {
-        page_of(alloc, program, schedule)
+    fn of(&self, alloc: Global, program: Program<'_>, schedule: &[u8]) -> Result<Shown, Fault> {
+        page_of(alloc, self.others, program, schedule)
     }
 }

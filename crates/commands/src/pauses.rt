@@ -1,4 +1,5 @@
 //! The pauses of several runs.
+ghost use Rattle.std.specs.Prelude.{◌≡◌, option_map};
 
 use crate::stirred::Stirred;
 use thread_runner::Gate;
@@ -12,13 +13,16 @@ pub struct Pauses {
 /// The gate of one run, and a gate behind it.
 #[derive(Drop)]
 pub struct RunGate<'a, G> {
-    stirred: Option<Stirred>,
-    behind: &'a G,
+    pub stirred: Option<Stirred>,
+    pub behind: &'a G,
 }
 
 impl Pauses {
     /// The gate of the run of this number: each run has other pauses.
-    pub fn of_run<'a, G>(self, run: u32, behind: &'a G) -> RunGate<'a, G> {
+    pub fn of_run<'a, G>(self, run: u32, behind: &'a G) -> RunGate<'a, G>
+        ensures stirred { result.stirred ≡ option_map (λ seed. record { seed = seed; run = run }) self.seed }
+        ensures behind { result.behind.now ≡ behind.now }
+    {
         RunGate {
             stirred: self.seed.map(|seed| Stirred {
                 seed: u64::from(seed),

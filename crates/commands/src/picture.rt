@@ -2,25 +2,27 @@
 ghost use Rattle.std.specs.Prelude.{◌≡◌, ◌≢◌, ◌≤◌, ℕ, List, Err, IfErr, IfOk, length};
 ghost use Rattle.commands.specs.Picture.{HaveNoPicture};
 ghost use Rattle.workbench.specs.declared.fault.PictureKind.{PictureKind};
+ghost use Rattle.workbench.specs.declared.program.Program.{Program};
 ghost use Rattle.workbench.specs.Fault.{status_of};
 ghost use Rattle.workbench.specs.Input.{most_bytes};
 
 use pictures::shown::Shown;
 use std::alloc::Global;
+use workbench::Program;
 use workbench::fault::Fault;
 
 /// How a picture is made of a program and a schedule.
 pub trait Picture {
-    // A program's bytes, a schedule's, and those of their picture.
-    ghost is_picture: { Self → List ℕ → List ℕ → List ℕ → Type 0 };
+    // A program, a schedule's bytes, and those of their picture.
+    ghost is_picture: { Self → Program → List ℕ → List ℕ → Type 0 };
 
     // Which picture it is.
     ghost kind: { PictureKind };
 
-    /// The picture of a program, an image or a text, and a schedule. It is there as a whole or not at all.
-    fn of(&self, alloc: Global, program: &[u8], schedule: &[u8]) -> Result<Shown, Fault>
+    /// The picture of a program and a schedule. It is there as a whole or not at all.
+    fn of(&self, alloc: Global, program: Program<'_>, schedule: &[u8]) -> Result<Shown, Fault>
         requires { length schedule.now ≤ most_bytes }
-        ensures picture { IfOk result (λ shown. is_picture self.now program.now schedule.now shown.bytes.items) }
-        ensures refused { IfErr result (λ fault. status_of fault ≡ 3 → HaveNoPicture kind fault program.now schedule.now) }
+        ensures picture { IfOk result (λ shown. is_picture self.now program.entry schedule.now shown.bytes.items) }
+        ensures refused { IfErr result (λ fault. status_of fault ≡ 3 → HaveNoPicture kind fault program.entry.image schedule.now) }
         ensures other { (result ≢ Err Fault.Read) × (result ≢ Err Fault.Write) × (result ≢ Err Fault.Spawn) };
 }

@@ -1,8 +1,8 @@
 //! The schedule of a plan.
-ghost use Rattle.std.specs.Prelude.{◌≡◌, ◌≢◌, ◌⊎◌, ◌≤◌, Err, IfErr, IfOk, IsTrue, Ok, false, length, map};
+ghost use Rattle.std.specs.Prelude.{◌≡◌, ◌≢◌, ◌⊎◌, ◌≤◌, Err, IfErr, IfOk, IsTrue, Ok, length, map};
 ghost use Rattle.std.specs.Io.KnownBytes.{Appends};
 ghost use Rattle.commands.specs.Choices.{schedule_line};
-ghost use Rattle.commands.specs.Planning.{HasNoProgram, HasNoSchedule, HasNone, HasPlanned, HasThreads, Plays, thread_name, thread_names};
+ghost use Rattle.commands.specs.Planning.{ComesOfPlan, HasNoSchedule, HasPlanned, HasThreads, IsUnloadedFor, Plays, thread_name, thread_names};
 ghost use Rattle.commands.specs.Unplanned.{unplanned_status};
 ghost use Rattle.commands.specs.declared.unplanned.Unplanned.TheVariants as why;
 ghost use Rattle.line_reader.specs.Seen.{name_seen};
@@ -12,16 +12,12 @@ ghost use Rattle.plans.specs.Tree.{IsPlan};
 ghost use Rattle.plans.specs.declared.fault.PlanFault.{PlanFault};
 ghost use Rattle.plans.specs.Planned.{AreRuns, Shows};
 ghost use Rattle.plans.specs.Progress.{Progress};
-ghost use Rattle.row_code.specs.declared.image.Image.{Image};
 ghost use Rattle.workbench.specs.Fault.{status_of};
-ghost use Rattle.workbench.specs.Input.{GivesTooMuch};
 ghost use Rattle.workbench.specs.declared.fault.Fault.{Fault};
 
-use crate::drawing::named_program;
-use crate::making::parts_of;
 use crate::unplanned::Unplanned;
 use assembler::Symbols;
-use byte_ports::{Sink, Source};
+use byte_ports::Sink;
 use instruction_table::OperandKind;
 use loader::{Loaded, load};
 use plans::fault::{PlanFault, PlanFaultKind};
@@ -29,10 +25,11 @@ use plans::plan_runs::plan_runs;
 use plans::planned::Planned;
 use plans::read_plan;
 use plans::words::Words;
+use row_code::Image;
 use schedule_reader::write_schedule;
 use std::alloc::{AllocError, Global};
+use workbench::Program;
 use workbench::fault::Fault;
-use workbench::input::read_all;
 
 /// The name of a thread, empty where it has none.
 fn thread_name<'a>(symbols: &Symbols<'a>, thread: u32) -> &'a [u8]
@@ -60,22 +57,25 @@ pub(crate) fn thread_names<'a>(
     Ok(names)
 }
 
-/// The program in a file, loaded, and the names of its threads.
-pub fn loaded_program(alloc: Global, file: &[u8]) -> Result<(Loaded, Vec<&[u8]>), Fault>
-    ensures program { IfOk result (λ both. (image : Image) × (HasThreads file.now image (map name_seen both.1.items)
-        × IsProgramOf image both.0)) }
+/// An image's program, loaded, and the names of its threads by the names of a text.
+pub fn loaded_program<'a>(
+    alloc: Global,
+    image: Image,
+    names: &Symbols<'a>,
+) -> Result<(Loaded, Vec<&'a [u8]>), Fault>
+    ensures program { IfOk result (λ both. IsProgramOf image both.0) }
+    ensures names { IfOk result (λ both. HasThreads image names.now (map name_seen both.1.items)) }
     ensures few { IfOk result (λ both. length both.1.items ≤ 64) }
-    ensures refused { IfErr result (λ fault. status_of fault ≡ 3 → HasNoProgram fault file.now) }
+    ensures refused { IfErr result (λ fault. status_of fault ≡ 3 → IsUnloadedFor fault image) }
     ensures other { (result ≢ Err Fault.Read) × (result ≢ Err Fault.Write) × (result ≢ Err Fault.Spawn) }
 {
-    let (image, symbols) = named_program(alloc, file)?;
-    let program = match load(alloc, image) {
-        Ok(program) => program,
+    let loaded = match load(alloc, image) {
+        Ok(loaded) => loaded,
         Err(fault) => return Err(Fault::Load(fault)),
     };
-    program.each_program_is_whole();
-    match thread_names(alloc, &symbols, program.threads().len()) {
-        Ok(names) => Ok((program, names)),
+    loaded.each_program_is_whole();
+    match thread_names(alloc, names, loaded.threads().len()) {
+        Ok(names) => Ok((loaded, names)),
         Err(_) => Err(Fault::Memory),
     }
 }
@@ -101,17 +101,22 @@ fn plan_words(alloc: Global, plan: &[u8], names: &[&[u8]]) -> Result<Words, Unpl
     }
 }
 
-/// What a plan comes to on a program, an image or a text: its runs of choices, and the machine behind them.
-pub fn planned_in(alloc: Global, file: &[u8], plan: &[u8]) -> Result<Planned, Unplanned>
-    ensures planned { IfOk result (λ planned. (progress : Progress) × (Plays file.now plan.now progress
+/// What a plan comes to on a loaded program whose threads have these names: its runs of choices, and the machine behind them.
+pub(crate) fn planned_on(
+    alloc: Global,
+    program: Loaded,
+    names: &[&[u8]],
+    plan: &[u8],
+) -> Result<Planned, Unplanned>
+    requires { length names.now ≤ 64 }
+    ensures planned { IfOk result (λ planned. (progress : Progress) × (Plays program (map name_seen names.now) plan.now progress
         × Shows planned progress)) }
     ensures runs { IfOk result (λ planned. AreRuns planned.runs.items) }
-    ensures refused { IfErr result (λ reason. unplanned_status reason ≡ 3 → HasNoSchedule reason file.now plan.now) }
-    ensures other { (result ≢ Err (why.Fault Fault.Read)) × (result ≢ Err (why.Fault Fault.Write))
-        × (result ≢ Err (why.Fault Fault.Spawn)) }
+    ensures refused { (f : PlanFault) → result ≡ Err (Unplanned.Plan f)
+        → words_in_plan (map name_seen names.now) plan.now ≡ Err f }
+    ensures other { (f : Fault) → result ≡ Err (Unplanned.Fault f) → f ≡ Fault.Memory }
 {
-    let (program, names) = loaded_program(alloc, file)?;
-    let words = match plan_words(alloc, plan, names.as_slice()) {
+    let words = match plan_words(alloc, plan, names) {
         Ok(words) => words,
         Err(reason) => return Err(reason),
     };
@@ -119,6 +124,22 @@ pub fn planned_in(alloc: Global, file: &[u8], plan: &[u8]) -> Result<Planned, Un
         Ok(planned) => Ok(planned),
         Err(_) => Err(Unplanned::Fault(Fault::Memory)),
     }
+}
+
+/// What a plan comes to on a program, which is left as it is: the plan is played on a copy.
+pub fn planned_in(alloc: Global, program: &Program<'_>, plan: &[u8]) -> Result<Planned, Unplanned>
+    ensures planned { IfOk result (λ planned. (progress : Progress) × (ComesOfPlan program.now plan.now progress
+        × Shows planned progress)) }
+    ensures runs { IfOk result (λ planned. AreRuns planned.runs.items) }
+    ensures refused { IfErr result (λ reason. unplanned_status reason ≡ 3 → HasNoSchedule reason program.now plan.now) }
+    ensures other { (result ≢ Err (why.Fault Fault.Read)) × (result ≢ Err (why.Fault Fault.Write))
+        × (result ≢ Err (why.Fault Fault.Spawn)) }
+{
+    let Ok(image) = program.image.copy(alloc) else {
+        return Err(Unplanned::Fault(Fault::Memory));
+    };
+    let (loaded, names) = loaded_program(alloc, image, &program.names)?;
+    planned_on(alloc, loaded, names.as_slice(), plan)
 }
 
 /// Writes what a plan came to. Its answer is whether the plan wanted one more choice than there may be.
@@ -140,34 +161,23 @@ fn push_planned<K: Sink>(alloc: Global, planned: &Planned, output: &mut K) -> Re
     Ok(planned.stopped)
 }
 
-/// Writes the schedule that the plan in `plan` stands for on the program in `file`, as one line: of an image, or of a text, what
-/// stands before its line `.run`. Both are read to their ends, and the schedule is whole before anything is written. Its answer
-/// is whether the plan wanted one more choice than 1,000,000: then what stands so far is written.
-pub fn plan<F: Source, S: Source, K: Sink>(
+/// Writes the schedule that a plan stands for on a program, as one line, which is whole before anything is written. Its answer is
+/// whether the plan wanted one more choice than 1,000,000: then what stands so far is written.
+pub fn plan<K: Sink>(
     alloc: Global,
-    file: &mut F,
-    plan: &mut S,
+    program: Program<'_>,
+    plan: &[u8],
     output: &mut K,
 ) -> Result<bool, Unplanned>
-    ensures done { IfOk result (λ stopped. HasPlanned stopped (F.left file.old) (F.left file.new)
-        (S.left plan.old) (S.left plan.new) (K.written output.old) (K.written output.new)) }
-    ensures refused { IfErr result (λ reason. unplanned_status reason ≡ 3
-        → HasNone reason (F.left file.old) (F.left file.new) (S.left plan.old) (S.left plan.new)) }
+    ensures done { IfOk result (λ stopped. HasPlanned stopped program.entry plan.now (K.written output.old) (K.written output.new)) }
+    ensures refused { IfErr result (λ reason. unplanned_status reason ≡ 3 → HasNoSchedule reason program.entry plan.now) }
     ensures unwritten { IfErr result (λ reason. reason ≢ why.Fault Fault.Write
         → K.written output.new ≡ K.written output.old) }
-    ensures read { result ≡ Err (why.Fault Fault.Read) → (IsTrue (F.has_failed file.new)
-        ⊎ GivesTooMuch (F.left file.old) (F.left file.new))
-        ⊎ (IsTrue (S.has_failed plan.new)
-        ⊎ GivesTooMuch (S.left plan.old) (S.left plan.new)) }
-    ensures memory { result ≡ Err (why.Fault Fault.Memory) → (F.has_failed file.new ≡ false)
-        × ((S.left plan.new ≡ S.left plan.old) ⊎ (S.has_failed plan.new ≡ false)) }
-    ensures spawn { result ≢ Err (why.Fault Fault.Spawn) }
+    ensures other { (result ≢ Err (why.Fault Fault.Read)) × (result ≢ Err (why.Fault Fault.Spawn)) }
     ensures write { result ≡ Err (why.Fault Fault.Write) → IsTrue (K.has_failed output.new) }
 {
-    let bytes = read_all(alloc, file)?;
-    let steps = read_all(alloc, plan)?;
-    let (program, _) = parts_of(bytes.as_slice());
-    let planned = match planned_in(alloc, program, steps.as_slice()) {
+    let (loaded, names) = loaded_program(alloc, program.image, &program.names)?;
+    let planned = match planned_on(alloc, loaded, names.as_slice(), plan) {
         Ok(planned) => planned,
         Err(reason) => return Err(reason),
     };

@@ -1,24 +1,24 @@
-ghost use Rattle.std.specs.Prelude.{◌≡◌, ◌⊎◌, IfErr, IfOk};
+ghost use Rattle.std.specs.Prelude.{IfOk};
 ghost use Rattle.commands.specs.Rows.{IsRowListing, ListsRows};
-ghost use Rattle.workbench.specs.declared.fault.Fault.{Fault};
-ghost use Rattle.workbench.specs.ProgramFile.{IsNoProgramFor};
+ghost use Rattle.workbench.specs.ProgramFile.{IsNamedProgram};
 
 use crate::image_rows::listed_image;
-use crate::text_rows::listed_text;
+use crate::text_rows::rows_in_text;
 use byte_ports::Sink;
 use row_code::is_image_file;
-use std::alloc::Global;
+use std::alloc::{AllocError, Global};
+use workbench::Program;
 use workbench::fault::Fault;
 
-/// Writes the rows of the program that a file's bytes are, an image or a text, to `output`, a line each: the row's number, of a text the
+/// Writes the rows of a program to `output`, a line each: the row's number, of a text the
 /// number of its line and the line without the blanks round it, of an image the row's canonical text. Whether the program
 /// can be loaded is not looked at. The listing is written in one piece.
-pub fn list_rows<K: Sink>(alloc: Global, program: &[u8], output: &mut K) -> Result<(), Fault>
-    ensures { ListsRows program.now result (K.written output.old) (K.written output.new) (K.has_failed output.new) }
+pub fn list_rows<K: Sink>(alloc: Global, program: &Program<'_>, output: &mut K) -> Result<(), Fault>
+    requires { IsNamedProgram program.now.bytes.now program.now.image program.now.names }
+    ensures { ListsRows program.now.bytes.now result (K.written output.old) (K.written output.new) (K.has_failed output.new) }
 {
-    let listing = match listed(alloc, program) {
-        Ok(listing) => listing,
-        Err(fault) => return Err(fault),
+    let Ok(listing) = listed(alloc, program) else {
+        return Err(Fault::Memory);
     };
     match output.push(listing.as_slice()) {
         Ok(()) => Ok(()),
@@ -26,14 +26,14 @@ pub fn list_rows<K: Sink>(alloc: Global, program: &[u8], output: &mut K) -> Resu
     }
 }
 
-/// The rows of the program in a file.
-fn listed(alloc: Global, file: &[u8]) -> Result<Vec<u8>, Fault>
-    ensures listing { IfOk result (λ listing. IsRowListing file.now listing.items) }
-    ensures none { IfErr result (λ fault. (fault ≡ Fault.Memory) ⊎ IsNoProgramFor fault file.now) }
+/// The rows of a program.
+fn listed(alloc: Global, program: &Program<'_>) -> Result<Vec<u8>, AllocError>
+    requires { IsNamedProgram program.now.bytes.now program.now.image program.now.names }
+    ensures { IfOk result (λ listing. IsRowListing program.now.bytes.now listing.items) }
 {
-    if is_image_file(file) {
-        listed_image(alloc, file)
+    if is_image_file(program.bytes) {
+        listed_image(alloc, &program.image)
     } else {
-        listed_text(alloc, file)
+        rows_in_text(alloc, program.bytes, program.names.rows())
     }
 }

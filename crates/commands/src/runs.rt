@@ -17,8 +17,9 @@ use schedule_reader::{joined, read_schedule, write_schedule};
 use std::alloc::Global;
 use std::sync::Wait;
 use std::thread::Threads;
-use thread_runner::{Gate, LiveFault, LiveRun, run_live};
+use thread_runner::{Gate, LiveRun, run_live};
 use workbench::fault::Fault;
+use workbench::live::fault_of_live;
 
 /// One run of a program.
 fn run_once<R: Threads + Wait + Sync, G: Gate + Sync>(
@@ -40,8 +41,7 @@ fn run_once<R: Threads + Wait + Sync, G: Gate + Sync>(
     };
     match run_live(rt, alloc, program, limit, gate) {
         Ok(run) => Ok(run),
-        Err(LiveFault::Memory(_)) => Err(Fault::Memory),
-        Err(LiveFault::Spawn) => Err(Fault::Spawn),
+        Err(fault) => Err(fault_of_live(fault)),
     }
 }
 

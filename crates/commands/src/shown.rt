@@ -1,9 +1,7 @@
 //! What follows a verdict.
 ghost use Rattle.std.specs.Prelude.{◌≡◌, ◌++◌, IfOk, OnOk, codes, option_map};
-ghost use Rattle.trace_compare.specs.Compare.{told};
 ghost use Rattle.commands.specs.Showing.{StandsBehind, line_behind};
 
-use crate::lines_seen::LinesSeen;
 use std::alloc::{AllocError, Global};
 use trace_compare::{Judged, Verdict};
 
@@ -42,16 +40,17 @@ fn not_a_trace(alloc: Global, trace: Option<&[u8]>) -> Result<Vec<u8>, AllocErro
     Ok(text)
 }
 
-/// What follows a verdict on the trace that went by: nothing where it is the run's.
-pub fn shown<S>(alloc: Global, judged: &Judged, trace: &LinesSeen<S>) -> Result<Vec<u8>, AllocError>
-    ensures { IfOk result (λ text. StandsBehind judged.now.verdict (told judged.now).line text.items) }
+/// What follows a verdict: nothing where the trace is the run's.
+pub fn shown(alloc: Global, judged: &Judged) -> Result<Vec<u8>, AllocError>
+    ensures { IfOk result (λ text. StandsBehind judged.now.told.verdict judged.now.trace judged.now.told.line text.items) }
 {
-    match judged.verdict {
+    match judged.verdict() {
         Verdict::Same => Ok(Vec::new(alloc)),
-        Verdict::Differs { line } => {
-            let run = judged.run.as_ref().map(|line| line.as_slice());
-            differing(alloc, trace.line(line), run)
+        Verdict::Differs { .. } => {
+            let run = judged.run_line(alloc)?;
+            let run = run.as_ref().map(|line| line.as_slice());
+            differing(alloc, judged.trace_line(), run)
         }
-        Verdict::NotATrace { line } => not_a_trace(alloc, trace.line(line)),
+        Verdict::NotATrace { .. } => not_a_trace(alloc, judged.trace_line()),
     }
 }

@@ -85,6 +85,11 @@ fn is_before_choices(word: &[u8]) -> bool {
     word == b"s".as_slice() || word == b"g".as_slice()
 }
 
+/// Whether a word is a whole command. It is one even if a thread has that name, so that there is always a way out.
+fn is_whole_command(word: &[u8]) -> bool {
+    matches!(word, b"b" | b"help" | b"p" | b"q" | b"w")
+}
+
 /// The line that the debugger reads, without an end: `s t0` for `s ann` and for `ann` alone. What names nobody stays as it is.
 pub fn in_numbers(
     alloc: Global,
@@ -98,7 +103,10 @@ pub fn in_numbers(
     let Some(first) = words.next() else {
         return Ok(line);
     };
-    if choice_called(symbols, first).is_some() && words.next().is_none() {
+    if choice_called(symbols, first).is_some()
+        && !is_whole_command(first)
+        && words.next().is_none()
+    {
         line.extend_from_slice(b"s ")?;
         push_token(&mut line, symbols, first)?;
     } else if is_before_choices(first) {

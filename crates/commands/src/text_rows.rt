@@ -1,18 +1,14 @@
 //! The rows of a text, each with the line in which it stands.
-ghost use Rattle.std.specs.Prelude.{◌≡◌, ◌⊎◌, ◌≢◌, ◌++◌, ◌∷◌, [], Err, IfErr, IfOk, OnOk, decimal, false, map};
+ghost use Rattle.std.specs.Prelude.{◌≡◌, ◌++◌, ◌∷◌, [], IfOk, OnOk, decimal, map};
 ghost use Rattle.std.specs.List.{flat_map, slice_split};
 ghost use Rattle.line_reader.specs.Seen.{name_seen};
 ghost use Rattle.line_reader.specs.Words.{is_line_end, lines_of};
 ghost use Rattle.line_reader.specs.Listing.{line_text, numbered};
-ghost use Rattle.commands.specs.Rows.{IsRowListing, line_at, text_row_words, trimmed};
-ghost use Rattle.workbench.specs.Fault.{status_of};
-ghost use Rattle.workbench.specs.ProgramFile.{IsNoProgramFor, is_image_file};
+ghost use Rattle.commands.specs.Rows.{line_at, text_row_words, trimmed};
 
-use assembler::assemble_named;
 use itoa::Buffer;
 use line_reader::words::is_line_end;
 use std::alloc::{AllocError, Global};
-use workbench::fault::Fault;
 
 /// What stands between the line ends of a text; behind the last one it may be nothing.
 fn split_lines(alloc: Global, text: &[u8]) -> Result<Vec<&[u8]>, AllocError>
@@ -72,7 +68,7 @@ fn push_text_rows(listing: &mut Vec<u8>, lines: &[&[u8]], numbers: &[u64]) -> Re
 }
 
 /// The rows of a text that stand in the lines of these numbers.
-fn rows_in_text(alloc: Global, text: &[u8], numbers: &[u64]) -> Result<Vec<u8>, AllocError>
+pub fn rows_in_text(alloc: Global, text: &[u8], numbers: &[u64]) -> Result<Vec<u8>, AllocError>
     ensures { IfOk result (λ listing. listing.items
         ≡ flat_map line_text (numbered (text_row_words (lines_of text.now)) 0 numbers.now)) }
 {
@@ -80,20 +76,4 @@ fn rows_in_text(alloc: Global, text: &[u8], numbers: &[u64]) -> Result<Vec<u8>, 
     let mut listing = Vec::new(alloc);
     push_text_rows(&mut listing, lines.as_slice(), numbers)?;
     Ok(listing)
-}
-
-/// The rows of the text in a file.
-pub fn listed_text(alloc: Global, file: &[u8]) -> Result<Vec<u8>, Fault>
-    requires { is_image_file file.now ≡ false }
-    ensures listing { IfOk result (λ listing. IsRowListing file.now listing.items) }
-    ensures none { IfErr result (λ fault. (fault ≡ Fault.Memory) ⊎ IsNoProgramFor fault file.now) }
-{
-    let (_image, symbols) = match assemble_named(alloc, file) {
-        Ok(named) => named,
-        Err(fault) => return Err(Fault::Asm(fault)),
-    };
-    match rows_in_text(alloc, file, symbols.rows()) {
-        Ok(listing) => Ok(listing),
-        Err(_) => Err(Fault::Memory),
-    }
 }

@@ -91,7 +91,7 @@ stands-leave gone b p there out s = record {
 state_of-add :
     (p : PlainBarrier) (thread t : ℕ) →
     state_of t (plain.add_wait thread p).barrier ≡ cond (thread == t) (Some state.Waiting) (state_of t p)
-state_of-add p thread t = elim (thread == t) as (λ b. option_map (state_of_wait p.ends) (cond b (Some (record { thread = thread; generation = length p.ends; index = p.parties - 1 - plain.number_waiting p })) (wait_of t p.waits)) ≡ cond b (Some state.Waiting) (option_map (state_of_wait p.ends) (wait_of t p.waits))) [ true ↦ ap (λ x. Some x) (waiting_now p.ends) | false ↦ refl ]
+state_of-add p thread t = elim (thread == t) as (λ b. option_map (state_of_wait p.ends) (cond b (Some (record { thread = thread; generation = length p.ends })) (wait_of t p.waits)) ≡ cond b (Some state.Waiting) (option_map (state_of_wait p.ends) (wait_of t p.waits))) [ true ↦ ap (λ x. Some x) (waiting_now p.ends) | false ↦ refl ]
 
 absent : (ends : List End) (o : Option Wait) → option_map (state_of_wait ends) o ≡ None → o ≡ None
 absent ends o e = grind arith
@@ -101,7 +101,7 @@ pub stands-add :
     (thread : ℕ) (b : BarrierState) (p : PlainBarrier) → thread < length b.waits → wait_at b.waits thread ≡ None → StandsFor b p →
     Agrees (now.add_wait thread b) (plain.add_wait thread p)
 stands-add thread b p there none s =
-    let wait : Wait = record { thread = thread; generation = length p.ends; index = p.parties - 1 - plain.number_waiting p } in
+    let wait : Wait = record { thread = thread; generation = length p.ends } in
     let counted : is_unreleased p.ends wait ≡ true = le-leb _ _ (omega arith) in
     record {
       barrier = record {
@@ -182,7 +182,7 @@ generation_of state.Broken = 1
 generation_of state.Waiting = 2
 
 abbrev some_wait : ℕ → WaitState → Wait
-some_wait thread s = record { thread = thread; generation = generation_of s; index = 0 }
+some_wait thread s = record { thread = thread; generation = generation_of s }
 
 abbrev past_from : ℕ → List (Option WaitState) → List Wait
 past_from k [] = []

@@ -9,11 +9,10 @@ pub data End : Type 0 where
   tripped : End
   broken : End
 
--- a thread waits for the end of a generation, numbered from 0; the index is what its entry answered
+-- a thread waits for the end of a generation, numbered from 0
 pub record Wait : Type 0 where
   pub thread : ℕ
   pub generation : ℕ
-  pub index : ℕ
 
 -- a barrier with its whole past: how each finished generation ended, in order, and each wait that
 -- its thread has not left yet. The runner is the thread that now runs the action
@@ -79,7 +78,7 @@ pub record Entry : Type 0 where
 abbrev pub add_wait : ℕ → PlainBarrier → Entry
 add_wait thread b =
     let index = b.parties - 1 - number_waiting b in
-    let wait : Wait = record { thread = thread; generation = length b.ends; index = index } in
+    let wait : Wait = record { thread = thread; generation = length b.ends } in
     record { barrier = record b { waits = wait ∷ b.waits }; answer = entered.Wait index }
 
 -- the last arrival runs the action, or ends the generation where there is none

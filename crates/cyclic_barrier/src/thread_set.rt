@@ -11,6 +11,7 @@ pub struct ThreadSet {
 impl ThreadSet {
     pub const EMPTY: ThreadSet = ThreadSet { bits: 0 };
 
+    /// Whether the thread is in the set.
     pub fn contains(self, thread: u8) -> bool
         requires { thread < 64 }
         ensures { result ≡ has self.bits thread }
@@ -18,6 +19,7 @@ impl ThreadSet {
         (self.bits >> thread) & 1 == 1
     }
 
+    /// The set with this thread, whether it was in it or not.
     pub fn with(self, thread: u8) -> ThreadSet
         requires { thread < 64 }
         ensures { IsWith thread self.bits result.bits }
@@ -27,6 +29,7 @@ impl ThreadSet {
         }
     }
 
+    /// The set without this thread, whether it was in it or not.
     pub fn without(self, thread: u8) -> ThreadSet
         requires { thread < 64 }
         ensures { IsWithout thread self.bits result.bits }
@@ -36,6 +39,7 @@ impl ThreadSet {
         }
     }
 
+    /// The threads of both sets.
     pub fn union(self, other: ThreadSet) -> ThreadSet
         ensures { IsUnion self.bits other.bits result.bits }
     {
@@ -44,6 +48,7 @@ impl ThreadSet {
         }
     }
 
+    /// The number of threads in the set.
     pub fn count(self) -> u32
         ensures { result ≡ count_ones self.bits }
     {

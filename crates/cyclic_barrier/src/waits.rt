@@ -45,6 +45,7 @@ impl Model for Waits {
 
 #[tactic(auto, using(crate::proofs::WaitsLemmas::shown_waits))]
 impl Waits {
+    /// No thread has a wait.
     pub fn none() -> Waits
         ensures waits { result ≡ replicate 64 None }
         ensures none { count_by is_waiting result ≡ 0 }
@@ -56,6 +57,7 @@ impl Waits {
         }
     }
 
+    /// The state of the thread's wait, `None` where it has none.
     pub fn get(&self, thread: u8) -> Option<WaitState>
         requires { thread < 64 }
         ensures { result ≡ wait_at self.now thread }

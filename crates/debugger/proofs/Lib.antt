@@ -6,4 +6,5 @@ pub mod Goes
 pub mod Places
 pub mod Unmarked
 pub mod PlayedRuns
+pub mod Replies
 pub mod Runs

@@ -1,11 +1,13 @@
 -- What the debugger does and writes in reply to a command.
-use Rattle.std.specs.Prelude.{◌≡◌, ℕ, nat_lt, if◌then◌else◌, true, false, List, [], ◌∷◌, ◌++◌, length, slice_set, codes, Option, Some, None, Result, OnOk}
+use Rattle.std.specs.Prelude.{◌≡◌, ℕ, nat_lt, if◌then◌else◌, Bool, IsTrue, true, false, List, [], ◌∷◌, ◌++◌, length, slice_set, codes, Option, Some, None, Result, Ok, Err}
 use Rattle.std.specs.Fmt.{decimal}
 use Rattle.std.specs.Io.KnownBytes.{Appends}
 use Rattle.schedule_reader.specs.Schedule.{choices_of}
 use Rattle.thread_machine.specs.declared.choice.Choice.{Choice}
 use Rattle.thread_machine.specs.declared.fault.StepFault.{StepFault}
-use Rattle.thread_machine.specs.declared.fault.StepFault.TheVariants as fault
+use Rattle.thread_machine.specs.declared.fault.StepFault.TheVariants as step
+use Rattle.debugger.specs.declared.session.reply.CommandFault.{CommandFault}
+use Rattle.debugger.specs.declared.session.reply.CommandFault.TheVariants as fault
 use Rattle.thread_machine.specs.World.{StoredWorld, world_of}
 use Rattle.thread_machine.specs.Step.{refusal_of}
 use Rattle.trace_text.specs.State.{state_text}
@@ -32,9 +34,9 @@ row_text word row session = if nat_lt row (length session.breaks) then number_li
 
 -- why `g` was refused a choice
 abbrev pub fault_text : StepFault → List ℕ
-fault_text fault.NoSuchThread = codes " none\n"
-fault_text fault.StepLimit = codes " limit\n"
-fault_text fault.Memory = codes " memory\n"
+fault_text step.NoSuchThread = codes " none\n"
+fault_text step.StepLimit = codes " limit\n"
+fault_text step.Memory = codes " memory\n"
 
 -- `g`
 abbrev pub stop_text : Stop → List ℕ
@@ -63,7 +65,13 @@ Replies session Print after text = (after ≡ session) × (text ≡ state_text (
 Replies session Quit after text = (after ≡ session) × (text ≡ [])
 Replies session Unknown after text = (after ≡ session) × (text ≡ codes "?\n")
 
--- a command was carried out, and its reply was written if the result is Ok
-abbrev pub IsCarriedOut : {A E : Type 0} → Result A E → Session → Order → Session → Option (List ℕ) → Option (List ℕ) → Type 0
-IsCarriedOut result session order after output_before output_after =
-    (text : List ℕ) × (Replies session order after text × OnOk result (Appends output_before output_after text))
+-- a command was carried out, and its reply was written; or it was carried out, and the output has failed; or it was not, since it
+-- wants memory, and nothing was written
+abbrev pub IsCarriedOut : {A : Type 0} → (wants : Type 0) → Result A CommandFault → Session → Order → Session
+    → (output_before output_after : Option (List ℕ)) (failed : Bool) → Type 0
+IsCarriedOut wants (Ok answer) session order after output_before output_after failed =
+    (text : List ℕ) × (Replies session order after text × Appends output_before output_after text)
+IsCarriedOut wants (Err fault.Write) session order after output_before output_after failed =
+    ((text : List ℕ) × Replies session order after text) × IsTrue failed
+IsCarriedOut wants (Err fault.Memory) session order after output_before output_after failed =
+    wants × (after ≡ session) × (output_after ≡ output_before)

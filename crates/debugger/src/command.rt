@@ -114,12 +114,14 @@ fn letter_of(word: &[u8]) -> u8
     }
 }
 
+/// Whether these bytes are all blank.
 fn are_blank(rest: &[u8]) -> bool
     ensures { result ≡ list_all is_blank rest.now }
 {
     rest.iter().all(|byte| is_blank(*byte))
 }
 
+/// Whether a star is among these bytes.
 fn has_star(rest: &[u8]) -> bool
     ensures { result ≡ list_any (λ byte. byte == 42) rest.now }
 {
@@ -154,6 +156,7 @@ fn runs_in(room: Vec<Run>, rest: &[u8]) -> Result<Option<Vec<Run>>, AllocError>
     }
 }
 
+/// The command `g` over these runs, if the tokens had no fault.
 fn go_of(runs: Option<Vec<Run>>) -> Command
     ensures { order_of result ≡ go_by (option_map (λ r. r.items) runs) }
 {
@@ -163,6 +166,7 @@ fn go_of(runs: Option<Vec<Run>>) -> Command
     }
 }
 
+/// The command `s` over one run, whose token has no star.
 fn only_run(runs: &[Run], rest: &[u8]) -> Command
     ensures { order_of result ≡ step_by (Some runs.now) rest.now }
 {
@@ -178,6 +182,7 @@ fn only_run(runs: &[Run], rest: &[u8]) -> Command
     }
 }
 
+/// The command `s` over these runs, if the tokens had no fault.
 fn step_of(runs: Option<Vec<Run>>, rest: &[u8]) -> Command
     ensures { order_of result ≡ step_by (option_map (λ r. r.items) runs) rest.now }
 {
@@ -198,12 +203,14 @@ fn alone(command: Command, rest: &[u8]) -> Command
     }
 }
 
+/// Whether these bytes are all digits.
 fn are_digits(word: &[u8]) -> bool
     ensures { result ≡ list_all is_ascii_digit word.now }
 {
     word.iter().all(|byte| byte.is_ascii_digit())
 }
 
+/// Whether a word is a row's number: one to five digits.
 fn is_row(word: &[u8]) -> bool
     ensures { result ≡ is_row word.now }
 {
@@ -235,6 +242,7 @@ fn row_in(rest: &[u8]) -> Option<usize>
     }
 }
 
+/// The command `k` at this row, if one was named.
 fn break_of(row: Option<usize>) -> Command
     ensures { order_of result ≡ by_row Break row }
 {
@@ -244,6 +252,7 @@ fn break_of(row: Option<usize>) -> Command
     }
 }
 
+/// The command `c` at this row, if one was named.
 fn clear_of(row: Option<usize>) -> Command
     ensures { order_of result ≡ by_row Clear row }
 {
@@ -288,7 +297,7 @@ pub fn lone_turn(line: &[u8]) -> Option<Run>
     }
 }
 
-/// Reads a line, its runs into a list of which only the room is used.
+/// Reads what a line asks for, its runs into a list of which only the room is used. It fails where memory for them runs out.
 pub fn command_of(room: Vec<Run>, line: &[u8]) -> Result<Command, AllocError>
     ensures order { IfOk result (λ command. order_of command ≡ line_order line.now) }
     ensures wants { OnErr result (has_tokens (letter_of (word_of line.now)) ≡ true) }

@@ -43,7 +43,7 @@ fn joined(last: Run, run: Run) -> Option<Run>
 }
 
 impl Played {
-    /// None.
+    /// The choices of a session that has played none.
     pub fn new(alloc: Global) -> Played
         ensures { result ≡ [] }
     {
@@ -52,7 +52,7 @@ impl Played {
         }
     }
 
-    /// They, the first first.
+    /// The choices as runs, the first first.
     pub fn runs(&self) -> &[Run]
         ensures { result.now ≡ self.now }
     {
@@ -81,7 +81,7 @@ impl Played {
         Ok(())
     }
 
-    /// So many of the first choices of these runs, all where there are no more.
+    /// Adds so many of the first choices of these runs, all where there are no more. It fails where memory runs out.
     pub fn push_first(&mut self, runs: &[Run], count: u64) -> Result<(), AllocError>
         ensures choices { OnOk result (choices_of self.new ≡ choices_of self.old ++ take count (choices_of runs.now)) }
         ensures runs { All IsRun runs.now → All IsRun self.old → All IsRun self.new }
@@ -98,7 +98,7 @@ impl Played {
         Ok(())
     }
 
-    /// All but the last choice.
+    /// Drops the last choice, if there is one.
     pub fn pop(&mut self)
         ensures choices { choices_of self.new ≡ take (length (choices_of self.old) - 1) (choices_of self.old) }
         ensures runs { All IsRun self.old → All IsRun self.new }

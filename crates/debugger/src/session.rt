@@ -45,8 +45,8 @@ impl Model for Debugger {
 }
 
 impl Debugger {
-    /// A debugger that keeps what it needs to take back so many of the last choices. It has no breakpoints yet. Only this
-    /// takes memory, and a value put out.
+    /// A debugger that keeps what it needs to take back so many of the last choices. It has no breakpoints yet. Only this takes
+    /// memory, and a value put out: it fails where that runs out.
     pub fn new(alloc: Global, machine: Machine, kept: u16) -> Result<Debugger, AllocError>
         requires some { 0 < kept }
         requires few { kept ≤ 4096 }
@@ -75,7 +75,8 @@ impl Debugger {
         &self.played
     }
 
-    /// Plays one choice, and keeps what is needed to take it back.
+    /// Plays one choice, keeps what is needed to take it back, and answers its event. It fails where the machine refuses the
+    /// choice: then the debugger is as before.
     #[inline(always)]
     pub fn step(&mut self, choice: Choice) -> Result<Event, StepFault>
         ensures played { IfOk result (λ event. record { world = world_of (self.new).machine; event = event }
@@ -99,7 +100,8 @@ impl Debugger {
         Ok(event)
     }
 
-    /// Takes back the last choice: the machine is the one before it, word for word. The breakpoints stay.
+    /// Takes back the last choice: the machine is the one before it, word for word. The breakpoints stay. It fails where no
+    /// record is kept.
     pub fn back(&mut self) -> Result<(), NoHistory>
         ensures session { self.new ≡ went_back self.old }
         ensures none { IsErr result ↔ (self.old.past ≡ []) }

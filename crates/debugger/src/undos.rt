@@ -39,7 +39,8 @@ fn boxes(alloc: Global, count: usize) -> Result<HeapCircularBuffer<Box<Undo>>, A
 }
 
 impl Undos {
-    /// Of no choice, with room for so many. Only this takes memory.
+    /// A ring with room to undo so many choices, of which none was made yet. Only this takes memory: it fails where that runs
+    /// out.
     pub fn new(alloc: Global, most: u16) -> Result<Undos, AllocError>
         requires { 0 < most }
         ensures { IfOk result (λ undos. undos ≡ record { notes = []; most = most }) }
@@ -65,7 +66,7 @@ impl Undos {
         }
     }
 
-    /// What undoes the last choice, if it is kept.
+    /// What undoes the last choice; `None` where that isn't kept.
     pub fn newest(&self) -> Option<&Undo>
         ensures { option_copied result ≡ slice_get self.now.notes 0 }
     {

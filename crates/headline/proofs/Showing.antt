@@ -14,7 +14,9 @@ use Rattle.schedule_reader.specs.declared.run.Run.{Run}
 use Rattle.schedule_reader.specs.Schedule.{finished_schedule, choices_of}
 use Rattle.thread_machine.specs.declared.choice.Choice.{Choice}
 use Rattle.thread_machine.specs.World.{World}
+use Rattle.trace_text.specs.declared.run.RunFault.{RunFault}
 use Rattle.trace_text.specs.declared.run_end.RunEnd.{RunEnd}
+use Rattle.trace_text.specs.Outcome.{ComesTo}
 use Rattle.trace_text.specs.Start.{Begins}
 use Rattle.trace_text.specs.Trace.{trace_of}
 use Rattle.trace_compare.proofs.OneTrace.{trace-first}
@@ -23,7 +25,6 @@ use Rattle.workbench.specs.declared.done.Done.{Done}
 use Rattle.workbench.specs.declared.done.Done.TheVariants as done
 use Rattle.workbench.specs.Debug.{Debugs, DebugsAt, IsBegun}
 use Rattle.workbench.specs.Live.{Lives}
-use Rattle.workbench.specs.Outcome.{PlaysFile, PlaysText}
 use Rattle.workbench.specs.ProgramFile.{IsProgramFile}
 use Rattle.workbench.specs.RunLine.{program_part, schedule_part}
 use Rattle.headline.specs.Headline.{start}
@@ -39,8 +40,9 @@ file_image file image (inl (is, read, fits)) = fits
 file_image file image (inr (is, stands)) = text_image file image stands
 
 -- what a known schedule's bytes are that were all read
-whole : (schedule bytes : List ℕ) (rest : Option (List ℕ)) → Consumes (Some schedule) rest bytes → IsAtEnd rest → bytes ≡ schedule
-whole schedule bytes rest consumed end = grind (arith, append-nil)
+whole : (schedule bytes : List ℕ) (before rest : Option (List ℕ)) → before ≡ Some schedule → Consumes before rest bytes → IsAtEnd rest
+    → bytes ≡ schedule
+whole schedule bytes before rest known consumed end = grind (arith, append-nil)
 
 -- the trace of the choices that a schedule makes is that from the image's first world on
 rows : (image : Image) (world : World) (schedule : List ℕ) (runs : List Run) → Begins image world
@@ -52,11 +54,14 @@ first_trace : (image : Image) (world : World) (choices : List Choice) (before af
     → Appends before after (trace_of world choices) → Appends before after (trace_of (start image) choices)
 first_trace image world choices before after given appends = grind (arith, trace-first)
 
-pub text-shown : (result : Result RunEnd Fault) (text : List ℕ) (before after : Option (List ℕ)) (failed : Bool)
-    → PlaysText text result before after failed → OnOk result (HasShownText text before after)
-text-shown (Ok end) text before after failed
-    (rest, (image, (stands, (world, ((loads, first), sound, (bytes, (runs, (consumed, at_end, is, (ends, appends))))))))) =
-    let all = whole (schedule_part text) bytes rest consumed at_end in (
+pub text-shown : (result : Result RunEnd RunFault) (image : Image) (schedule_before schedule_after : Option (List ℕ)) (schedule_failed : Bool)
+    (before after : Option (List ℕ)) (failed : Bool)
+    → ComesTo image result schedule_before schedule_after schedule_failed before after failed
+    → OnOk result ((text : List ℕ) → StandsFor (program_part text) image → schedule_before ≡ Some (schedule_part text)
+    → HasShownText text before after)
+text-shown (Ok end) image schedule_before schedule_after schedule_failed before after failed
+    (world, ((loads, first), sound, (bytes, (runs, (consumed, at_end, is, (ends, appends)))))) = λ text stands known.
+    let all = whole (schedule_part text) bytes schedule_before schedule_after known consumed at_end in (
       image,
       (
         trace_of (start image) (choices_of runs),
@@ -68,14 +73,14 @@ text-shown (Ok end) text before after failed
         ),
       ),
     )
-text-shown (Err f) text before after failed plays = tt
+text-shown (Err f) image schedule_before schedule_after schedule_failed before after failed comes = tt
 
-pub file-shown : (result : Result RunEnd Fault) (file : List ℕ) (schedule_before schedule_after : Option (List ℕ)) (schedule_failed : Bool)
+pub file-shown : (result : Result RunEnd RunFault) (image : Image) (schedule_before schedule_after : Option (List ℕ)) (schedule_failed : Bool)
     (before after : Option (List ℕ)) (failed : Bool)
-    → PlaysFile file result schedule_before schedule_after schedule_failed before after failed
-    → OnOk result (HasShownFile file schedule_before schedule_after before after)
-file-shown (Ok end) file schedule_before schedule_after schedule_failed before after failed
-    (image, (is_file, (world, ((loads, first), sound, (bytes, (runs, (consumed, at_end, is, (ends, appends)))))))) = (
+    → ComesTo image result schedule_before schedule_after schedule_failed before after failed
+    → OnOk result ((file : List ℕ) → IsProgramFile file image → HasShownFile file schedule_before schedule_after before after)
+file-shown (Ok end) image schedule_before schedule_after schedule_failed before after failed
+    (world, ((loads, first), sound, (bytes, (runs, (consumed, at_end, is, (ends, appends)))))) = λ file is_file. (
       image,
       (
         bytes,
@@ -91,14 +96,14 @@ file-shown (Ok end) file schedule_before schedule_after schedule_failed before a
         ),
       ),
     )
-file-shown (Err f) file schedule_before schedule_after schedule_failed before after failed plays = tt
+file-shown (Err f) image schedule_before schedule_after schedule_failed before after failed comes = tt
 
-pub file-debugged : (result : Result (Unit {0}) Fault) (runs : Option (List Run)) (file : List ℕ)
+pub file-debugged : (result : Result (Unit {0}) Fault) (runs : Option (List Run)) (image : Image)
     (commands_before commands_after : Option (List ℕ)) (commands_failed : Bool) (before after : Option (List ℕ)) (failed : Bool)
-    → Debugs runs file result commands_before commands_after commands_failed before after failed
-    → OnOk result (HasDebuggedFile runs file commands_before commands_after before after)
-file-debugged (Ok done) runs file commands_before commands_after commands_failed before after failed
-    (session, (now, (output_then, ((image, (world, (is, (loads, first), same))), begun, held)))) = (
+    → Debugs runs image result commands_before commands_after commands_failed before after failed
+    → OnOk result ((file : List ℕ) → IsProgramFile file image → HasDebuggedFile runs file commands_before commands_after before after)
+file-debugged (Ok done) runs image commands_before commands_after commands_failed before after failed
+    (session, (now, (output_then, ((world, ((loads, first), same)), begun, held)))) = λ file is. (
       image,
       (
         world,
@@ -116,22 +121,25 @@ file-debugged (Ok done) runs file commands_before commands_after commands_failed
         ),
       ),
     )
-file-debugged (Err f) runs file commands_before commands_after commands_failed before after failed debugs = tt
+file-debugged (Err f) runs image commands_before commands_after commands_failed before after failed debugs = tt
 
-pub file-debugged-at : (result : Result Done Fault) (file : List ℕ) (trace_before trace_after : Option (List ℕ)) (trace_failed : Bool)
+pub file-debugged-at : (result : Result Done Fault) (image : Image) (trace_before trace_after : Option (List ℕ)) (trace_failed : Bool)
     (commands_before commands_after : Option (List ℕ)) (commands_failed : Bool) (before after : Option (List ℕ)) (failed : Bool)
-    → DebugsAt file result trace_before trace_after trace_failed commands_before commands_after commands_failed before after failed
-    → result ≡ Ok done.AsAsked → HasDebuggedFileAt file trace_before trace_after commands_before commands_after before after
-file-debugged-at result file trace_before trace_after trace_failed commands_before commands_after commands_failed before after failed debugs is =
+    → DebugsAt image result trace_before trace_after trace_failed commands_before commands_after commands_failed before after failed
+    → result ≡ Ok done.AsAsked → (file : List ℕ) → IsProgramFile file image
+    → HasDebuggedFileAt file trace_before trace_after commands_before commands_after before after
+file-debugged-at result image trace_before trace_after trace_failed commands_before commands_after commands_failed before after failed debugs is =
     let (runs, (named, held)) = subst
-    (λ r. DebugsAt file r trace_before trace_after trace_failed commands_before commands_after commands_failed before after failed)
+    (λ r. DebugsAt image r trace_before trace_after trace_failed commands_before commands_after commands_failed before after failed)
     is debugs in
-    (runs, (named, file-debugged (Ok tt) (Some runs) file commands_before commands_after commands_failed before after failed held))
+    λ file is_file.
+    (runs, (named, file-debugged (Ok tt) (Some runs) image commands_before commands_after commands_failed before after failed held file is_file))
 
-pub live-shown : (result : Result RunEnd Fault) (limit : ℕ) (file : List ℕ) (before after : Option (List ℕ)) (failed : Bool)
-    → Lives limit file result before after failed → OnOk result (HasShownLive limit file before after)
-live-shown (Ok end) limit file before after failed
-    (image, (runs, (world, (is, are, (first, (last, (ending, (loads, begun, replay, over)))), begins, (ends, appends))))) = (
+pub live-shown : (result : Result RunEnd Fault) (limit : ℕ) (image : Image) (before after : Option (List ℕ)) (failed : Bool)
+    → Lives limit image result before after failed
+    → OnOk result ((file : List ℕ) → IsProgramFile file image → HasShownLive limit file before after)
+live-shown (Ok end) limit image before after failed
+    (runs, (world, (are, (first, (last, (ending, (loads, begun, replay, over)))), begins, (ends, appends)))) = λ file is. (
       image,
       (
         choices_of runs,
@@ -142,7 +150,7 @@ live-shown (Ok end) limit file before after failed
         ),
       ),
     )
-live-shown (Err f) limit file before after failed lives = tt
+live-shown (Err f) limit image before after failed lives = tt
 
 -- a text whose program has a fault isn't shown
 pub never-shown : (text : List ℕ) (image : Image) (why : LoadFault) (before after : Option (List ℕ))

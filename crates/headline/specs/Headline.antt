@@ -17,8 +17,9 @@
 --      (BarriersHavePasts).
 -- 1 is what `play` leaves (src/machine.rt); 2 and 4 are laws (src/law.rt); 3 is what `step` and `step_and_back` do to a machine, and
 -- `steps_and_backs` to a debugging session (src/back.rt). Behind each name of a `use` line stands the file that defines it: who
--- believes this page has to read those too. Beside it stands what lies below: a tree whose words lag, and the word that real
--- threads share. That commands show this of what they read is said by EndToEnd.antt, beside this file.
+-- believes this page has to read those too. Beside it stands what lies below: a tree whose words lag, the record that lies under
+-- a live run's lock, and the word that real threads share (src/beneath.rt). That commands show this of what they read is said by
+-- EndToEnd.antt, beside this file.
 --
 -- The program calls none of these four functions, but those of src/shown.rt. Its runs step by `Machine::step` and `Machine::idle`, its debugger by
 -- `Machine::step_into` and `Debugger::back`: their contracts say the same of each choice (thread_machine/src/machine.rt, debugger/src/session.rt).
@@ -149,7 +150,7 @@ StoredAlike =
 
 -- Below: what a caller of the word that threads share knows after a call. There are calls of others, perhaps, such that all
 -- that it had seen, then these, then its own call are one legal history (linearizable), which has of its own calls just those
--- that it made. That all callers see one history is said where they are joined and the phaser is closed (`close`).
+-- that it made. That all callers see one history is said where they are joined (`join`) and the phaser is closed (`close`).
 abbrev pub MakesLegalCall : Known → Call → Answer → Known → Type 0
 MakesLegalCall before call answer after =
     ((others : List Entry) × (after ≡ making before (before.seen ++ others) call answer))

@@ -1,10 +1,17 @@
--- One choice of those that are played.
-use Rattle.std.specs.Prelude.{◌≡◌, Bool, true, false, is_some, None}
+-- One choice of those that are played, and some of them.
+use Rattle.std.specs.Prelude.{◌≡◌, Bool, true, false, List, ◌++◌, is_some, None}
 use Rattle.thread_machine.specs.declared.choice.Choice.{Choice}
 use Rattle.thread_machine.specs.World.{World}
 use Rattle.thread_machine.specs.Step.{played, refusal_of}
+use Rattle.debugger.specs.Session.{Session}
+use Rattle.debugger.specs.Moves.{AreSteps}
 
 -- it was accepted and leaves this world, or it was refused and the world is as before
 abbrev pub Leaves : World → Choice → Bool → World → Type 0
 Leaves before choice true after = (refusal_of before choice ≡ None) × (after ≡ (played before choice).world)
 Leaves before choice false after = (is_some (refusal_of before choice) ≡ true) × (after ≡ before)
+
+-- the first of these choices were played, and stay
+abbrev pub LeavesSteps : Session → List Choice → Session → Type 0
+LeavesSteps before choices after =
+    (done : List Choice) × ((rest : List Choice) × ((choices ≡ done ++ rest) × AreSteps before done after))

@@ -7,6 +7,7 @@ ghost use Rattle.thread_machine.specs.declared.fault.StepFault.TheVariants as fa
 ghost use Rattle.thread_machine.specs.Undo.{CanUndo};
 ghost use Rattle.debugger.specs.Moves.{AreSteps, backs};
 ghost use Rattle.headline.specs.Headline.{BackRestores, StepsAndReturns};
+ghost use Rattle.headline.specs.Playing.{LeavesSteps};
 
 use debugger::Debugger;
 use std::alloc::Global;
@@ -46,6 +47,7 @@ fn steps(
     ensures steps { IfOk result (λ events. AreSteps debugger.old choices.now debugger.new) }
     ensures accepted { IfOk result (λ events. (execution (world_of debugger.old.machine) choices.now).refusal ≡ None) }
     ensures events { IfOk result (λ events. (execution (world_of debugger.old.machine) choices.now).events ≡ events.items) }
+    ensures err { OnErr result (LeavesSteps debugger.old choices.now debugger.new) }
     ensures no_thread { result ≡ Err fault.NoSuchThread
         → (execution (world_of debugger.old.machine) choices.now).refusal ≡ Some fault.NoSuchThread }
     ensures limit { result ≡ Err fault.StepLimit
@@ -71,7 +73,8 @@ fn backs(debugger: &mut Debugger, count: usize)
     }
 }
 
-/// Plays these choices in a session, at most as many as it can keep, and takes as many back.
+/// Plays these choices in a session, at most as many as it can keep, and takes as many back. Where one can't be played, those
+/// before it stay.
 pub fn steps_and_backs(
     alloc: Global,
     debugger: &mut Debugger,
@@ -80,6 +83,7 @@ pub fn steps_and_backs(
     requires { length choices.now ≤ debugger.old.kept }
     ensures restores { IfOk result (λ events.
         BackRestores debugger.old.machine choices.now events.items debugger.new.machine) }
+    ensures err { OnErr result (LeavesSteps debugger.old choices.now debugger.new) }
     ensures no_thread { result ≡ Err fault.NoSuchThread
         → (execution (world_of debugger.old.machine) choices.now).refusal ≡ Some fault.NoSuchThread }
     ensures limit { result ≡ Err fault.StepLimit

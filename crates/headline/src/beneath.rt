@@ -1,9 +1,11 @@
-//! What the machine and the shared phaser promise, each by the call in which it is seen.
-ghost use Rattle.std.specs.Prelude.{◌≡◌, Err, IfOk, Some, false, true};
+//! What the machine, a live run's record and the shared phaser promise, each by the call in which it is seen.
+ghost use Rattle.std.specs.Prelude.{◌≡◌, ◌↔◌, Err, IfOk, OnErr, OnOk, None, Some, false, true};
 ghost use Rattle.thread_machine.specs.Step.{puts_out, refusal_of};
 ghost use Rattle.thread_machine.specs.World.{world_of};
 ghost use Rattle.thread_machine.specs.declared.fault.StepFault.TheVariants as fault;
-ghost use Rattle.shared_phaser.specs.Known.{EndsAs, phaser_of};
+ghost use Rattle.thread_runner.specs.Recording.{world_after};
+ghost use Rattle.thread_runner.specs.Replay.{IsReplay};
+ghost use Rattle.shared_phaser.specs.Known.{EndsAs, JoinsCaller, phaser_of};
 ghost use Rattle.shared_phaser.specs.declared.history.Call.TheVariants.{Arrive};
 ghost use Rattle.shared_phaser.specs.declared.history.Answer.TheVariants.{Replied};
 ghost use Rattle.headline.specs.Headline.{MakesLegalCall, StepGivesTheRow};
@@ -12,23 +14,45 @@ use packed_phaser::Word;
 use shared_phaser::{Party, Reply, SharedPhaser};
 use std::sync::Wait;
 use thread_machine::{Choice, Event, Machine, StepFault};
+use thread_runner::Journaled;
 
-/// A step of a machine, whose trees' words may lag behind their roots.
+/// A step of a machine, whose trees' words may lag behind their roots. One that isn't taken leaves it as it was.
 pub fn step(machine: &mut Machine, choice: Choice) -> Result<Event, StepFault>
     ensures row { IfOk result (λ event. StepGivesTheRow machine.old choice event machine.new) }
-    ensures no_thread { result ≡ Err fault.NoSuchThread → refusal_of (world_of machine.old) choice ≡ Some fault.NoSuchThread }
-    ensures limit { result ≡ Err fault.StepLimit → refusal_of (world_of machine.old) choice ≡ Some fault.StepLimit }
+    ensures accepted { OnOk result (refusal_of (world_of machine.old) choice ≡ None) }
+    ensures no_thread { (result ≡ Err fault.NoSuchThread) ↔ (refusal_of (world_of machine.old) choice ≡ Some fault.NoSuchThread) }
+    ensures limit { (result ≡ Err fault.StepLimit) ↔ (refusal_of (world_of machine.old) choice ≡ Some fault.StepLimit) }
     ensures memory { result ≡ Err fault.Memory → puts_out (world_of machine.old) choice ≡ true }
+    ensures refused { OnErr result (machine.new ≡ machine.old) }
 {
     machine.step(choice)
+}
+
+/// What lies under the lock of a live run: a machine, with the choices that led to it.
+pub fn record(journaled: &Journaled)
+    ensures { IsReplay journaled.now (world_after journaled.now) }
+{
+    journaled.each_record_is_a_replay();
 }
 
 /// A call on the word that threads share, an arrival: the others are the same in this.
 pub fn arrive<R: Wait>(rt: &R, phaser: &SharedPhaser, party: &mut Party) -> Reply
     requires { phaser_of party.old ≡ phaser.now }
-    ensures { MakesLegalCall party.old.known (Arrive false) (Replied result) party.new.known }
+    ensures phaser { phaser_of party.new ≡ phaser.now }
+    ensures made { MakesLegalCall party.old.known (Arrive false) (Replied result) party.new.known }
 {
     phaser.arrive(rt, party)
+}
+
+/// The first caller stands for another too, and has seen one legal history that goes on from what either had seen.
+pub fn join(phaser: &SharedPhaser, first: &mut Party, other: Party)
+    requires first { first.old.known.number ≡ 0 }
+    requires phaser { phaser_of first.old ≡ phaser.now }
+    requires other { phaser_of other ≡ phaser.now }
+    ensures phaser { phaser_of first.new ≡ phaser.now }
+    ensures joined { JoinsCaller first.old.known other.known first.new.known }
+{
+    phaser.join(first, other)
 }
 
 /// The word that is left: that of the phaser after one legal history, which has the calls of all who were joined, each once

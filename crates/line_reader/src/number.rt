@@ -22,7 +22,8 @@ fn digits_in(word: &[u8]) -> &[u8]
     }
 }
 
-fn are_digits(bytes: &[u8]) -> bool
+/// Whether each byte is a decimal digit.
+pub fn are_digits(bytes: &[u8]) -> bool
     ensures { result ≡ list_all is_ascii_digit bytes.now }
 {
     bytes.iter().all(|byte| byte.is_ascii_digit())
@@ -35,8 +36,8 @@ fn is_number(word: &[u8]) -> bool
     !digits.is_empty() && are_digits(digits)
 }
 
-/// The number that at most ten digits spell.
-fn digits_value(digits: &[u8]) -> u64
+/// The number that at most ten digits spell, 0 where there is none.
+pub fn digits_value(digits: &[u8]) -> u64
     requires few { length digits.now ≤ 10 }
     requires digits { AllPass is_ascii_digit digits.now }
     ensures value { result ≡ digits_value 10 digits.now }

@@ -2,6 +2,8 @@
 // ---- the elements of a picture
 const LANES = ["off", "run", "held", "wait", "free", "throw"], HUES = 8, LETTERS = 12;
 const hueOf = t => "var(--h" + t % HUES + ")";
+// threads of one colour differ by a pattern
+const isSecond = t => t % (2 * HUES) >= HUES;
 // a thread's name in a place for so many letters: a longer one is cut, with its number behind it
 const shortName = (t, most) => threadName(t).length <= most ? threadName(t) : threadName(t).slice(0, most - 5) + "\u2026 t" + t;
 // the whole of it, with its number
@@ -24,6 +26,7 @@ function chip(parent, t, s, most) {
   const status = s && s.threads[t].status, over = status === "ended" || status === "died";
   const element = add(parent, "span", "who" + (over ? " over" : status === "waits" ? " wait" : ""), shortName(t, most || LETTERS));
   element.style.setProperty("--hue", hueOf(t));
+  element.classList.toggle("second", isSecond(t));
   element.title = threadTitle(t);
   return element;
 }
@@ -41,13 +44,16 @@ function readColours() {
 // ---- the timeline: a column for each thread, a line for each choice; idle choices behind one another may have one line
 // together. Where the columns are wide, a choice's words stand in its thread's column; where they are narrow, in one column
 // behind all, on a phone together with what ended for all. Of a long run only the lines in view are there.
-const WIDE = 6, WHOLE = 3000, MARGIN = 20;
+const WIDE = 6, WHOLE = 600, MARGIN = 12;
 let isNarrow = false, isNarrowest = false, lineOf = new Map(), drawn = { from: 0, to: 0 };
 // the moments that have a line, each the last of its line, and the number of each moment's line
 let shown = [], lineNumber = [];
 
-const isWhole = () => moments.length * threads.length <= WHOLE;
+// below one another the panes have lines that need more room than one, where all of them are there
+const isWhole = () => moments.length * threads.length <= (isWide() ? WHOLE : 2 * WHOLE);
 const timeBox = () => id("time").querySelector(".scroll");
+// behind this moment the moments aren't those of the first run
+const forkAt = () => run ? runs[run].fork : Infinity;
 const isIdle = i => i > 0 && i < moments.length && moments[i].event.what === "idle";
 const firstOf = k => k ? shown[k - 1] + 1 : 0;
 
@@ -104,21 +110,33 @@ function drawInView() {
   const box = timeBox(), top = box.scrollTop / linePitch(), foot = (box.scrollTop + box.clientHeight) / linePitch(), count = shown.length;
   if (drawn.to && (top >= drawn.from || !drawn.from) && (foot <= drawn.to || drawn.to === count)) return;
   drawLines(Math.max(0, Math.floor(top) - MARGIN), Math.min(count, Math.ceil(foot) + MARGIN));
-  markLines();
 }
-// how wide the widest of some texts is as it is drawn; the longest are tried
-function widest(texts, kind) {
-  const ruler = add(id("time"), "div", "unseen"), longest = [...new Set(texts)].sort((a, b) => b.length - a.length).slice(0, 6);
-  const wide = longest.map(text => add(ruler, "span", kind, text)).reduce((most, span) => Math.max(most, span.offsetWidth), 0);
+// how wide the widest of some texts is as it is drawn, of each such list of texts; the longest are tried
+function widest(...lists) {
+  const ruler = add(id("time"), "div", "unseen");
+  const spans = lists.map(({ texts, kind }) => [...new Set(texts)].sort((a, b) => b.length - a.length).slice(0, 6).map(text => add(ruler, "span", kind, text)));
+  const wide = spans.map(list => list.reduce((most, span) => Math.max(most, span.offsetWidth), 0));
   ruler.remove();
   return wide;
+}
+// what all choices ended for several threads, in words
+const allMarks = () => moments.map((_, i) => [wordsForAll(i), strays[i] ? shortStray(strays[i]) : ""].filter(text => text).join(" \u2014 "));
+// what a line says of a thread's turns, of which it may have several
+const turnText = (e, count) => tagText(e) + (count > 1 ? ", " + count + " times" : "");
+
+// wide columns of a long run, whose lines aren't all there, have room for the words of each
+function widenColumns() {
+  const texts = threads.map((_, t) => closingRuns().map(k => closingWord(k, t))), marks = allMarks().concat(closingRuns().map(closingWords));
+  for (let k = 1; k < shown.length; k++) turnsOf(k).forEach((count, t) => { if (texts[t]) texts[t].push(turnText(moments[shown[k]].event, count)); });
+  const wide = widest(...texts.map(list => ({ texts: list, kind: "tag" })), { texts: marks, kind: "mark" }), more = 2 * rem();
+  id("lanes").tHead.querySelectorAll(".t, .m").forEach((cell, k) => { cell.style.minWidth = wide[k] + more + "px"; });
 }
 // the width of narrow columns: they share what the words behind them leave. `--need` is what the timeline asks for
 function narrowColumn() {
   const em = rem(), events = moments.filter(m => m.event && m.event.thread < threads.length).map(m => m.event), named = threads.map((_, t) => shortName(t, LETTERS));
-  const marks = moments.map((_, i) => [wordsForAll(i), strays[i] ? shortStray(strays[i]) : ""].filter(text => text).join(" \u2014 "));
-  const words = widest(named, "who in-line") + widest(events.map(tagText), "tag") + widest(marks, "mark") + 5.6 * em;
-  const name = widest(named, "who brief") + 2, most = isCrowd() ? 1.2 * em : Math.max(2.4 * em, name + .4 * em);
+  const [who, tag, mark, brief] = widest({ texts: named, kind: "who in-line" }, { texts: events.map(tagText), kind: "tag" },
+    { texts: allMarks(), kind: "mark" }, { texts: named, kind: "who brief" });
+  const words = who + tag + mark + 5.6 * em, name = brief + 2, most = isCrowd() ? 1.2 * em : Math.max(2.4 * em, name + .4 * em);
   const least = em * (isCrowd() ? Math.max(.5, Math.min(.8, 32 / threads.length)) : name < 2.6 * em ? Math.max(1.5, name / em) : 1.5);
   id("panes").style.setProperty("--need", Math.ceil(words + least * threads.length + 2.4 * em + id("map").offsetWidth) + "px");
   column = Math.floor(Math.max((isCrowd() ? .5 : 1.5) * em, Math.min(most, (timeBox().clientWidth - words) / threads.length)));
@@ -130,21 +148,22 @@ function drawColumns() {
   isNarrowest = isNarrow && !isWide();
   table.className = (isNarrow ? "narrow" : "") + (isNarrowest && isWhole() ? " folds" : "");
   table.style.removeProperty("--column");
-  id("panes").style.removeProperty("--need");
-  if (isNarrow) {
+  if (!isNarrow) id("panes").style.removeProperty("--need");
+  else {
     table.classList.toggle("brief", narrowColumn());
     table.style.setProperty("--column", column + "px");
   }
   pitch = 0;
   drawHead(table);
+  if (!isNarrow && !isWhole()) widenColumns();
   drawn = { from: 0, to: 0 };
-  drawLines(0, isWhole() ? shown.length : Math.min(shown.length, 2 * MARGIN));
+  const now = Math.max(0, lineNumber[at]);
+  drawLines(isWhole() ? 0 : Math.max(0, now - 2 * MARGIN), isWhole() ? shown.length : Math.min(shown.length, now + 2 * MARGIN));
 }
 // with wide columns where they fit, or would with more room, else with narrow ones
 function drawTimeline(isWideTried) {
-  readColours();
   fold();
-  drawMap();
+  sizeMap();
   isNarrow = !isWideTried || threads.length > WIDE;
   drawColumns();
   if (!isNarrow && isWider(timeBox())) {
@@ -155,7 +174,6 @@ function drawTimeline(isWideTried) {
     }
   }
   drawNames();
-  drawMap();
 }
 // the names of all threads, where a head isn't there for each, or is short
 function drawNames() {
@@ -168,12 +186,13 @@ function drawLane(line, k, t, took, turns) {
   const i = shown[k], first = firstOf(k), e = moments[i].event, up = first ? laneOf(first - 1, t) : OVER, low = laneOf(i, t);
   const waits = lane => lane === WAITS || lane === FREE, cell = add(line, "td", "t u-" + LANES[up] + " l-" + LANES[low]);
   cell.style.setProperty("--hue", hueOf(t));
+  if (isSecond(t)) cell.className += " second";
   if (!waits(up) && waits(low)) cell.className += " starts";
   if (waits(up) && !waits(low)) cell.className += " stops";
   if (took) drawAcross(cell, e, t, took);
   if (turns.has(t)) {
     add(cell, "span", "dot " + e.what);
-    if (!isNarrow) add(cell, "span", "tag " + e.what, tagText(e) + (turns.get(t) > 1 ? ", " + turns.get(t) + " times" : ""));
+    if (!isNarrow) add(cell, "span", "tag " + e.what, turnText(e, turns.get(t)));
   } else if (i === moments.length - 1 && waits(low) && !isNarrow && stateAt(i).word === "stuck") add(cell, "span", "tag wait", "stuck");
   else if (waits(low)) add(cell, "span", "unseen", low === WAITS ? "waits" : "may go on");
 }
@@ -223,7 +242,11 @@ function paintLane(pen, inks, lane, t, top, height) {
   const middle = (t + .5) * column, wide = Math.min(12, column - 2);
   if (lane === OVER) return;
   pen.fillStyle = inks.hues[t % HUES];
-  if (lane === RUNS) pen.fillRect(middle - 1.5, top, 3, height);
+  if (lane === RUNS) {
+    pen.fillRect(middle - 1.5, top, 3, height);
+    pen.fillStyle = inks.ink;
+    for (let y = top; isSecond(t) && y < top + height; y += 6) pen.fillRect(middle - 2.5, y, 5, 2);
+  }
   else if (lane === HELD) for (let y = top; y < top + height; y += 6) pen.fillRect(middle - 1.5, y, 3, 3);
   else if (lane === THROWS) for (const x of [-2.5, 1.5]) pen.fillRect(middle + x, top, 1, height);
   else {
@@ -287,7 +310,7 @@ function drawWords(line, k, took, turns) {
   if (took) add(cell, "span", "across lead ends");
   if (!e || e.thread >= threads.length) return;
   if (turns.size === 1) chip(cell, e.thread).classList.add("in-line");
-  add(cell, "span", "tag " + e.what, count > 1 ? tagText(e) + ", " + count + " times" : tagText(e));
+  add(cell, "span", "tag " + e.what, turnText(e, count));
 }
 // what a choice ended for several threads, or why it is refused
 function wordsForAll(i) {
@@ -299,54 +322,78 @@ function drawMoment(body, k) {
   const i = shown[k], line = add(body, "tr"), e = moments[i].event, took = parts[i], turns = e ? turnsOf(k) : new Map();
   lineOf.set(i, line);
   line.setAttribute("data-i", i);
-  if (i === moments.length - 1) line.className = "final";
-  head(line, "row", "n", !e ? "start" : isFolded(k) ? moments[firstOf(k)].event.step + "-" + e.step : "" + e.step);
-  if (isCrowd()) paintCrowd(add(add(line, "td", "crowd"), "canvas"), k, colours);
+  line.className = (i === moments.length - 1 ? "final" : "") + (i > forkAt() ? " other" : "");
+  const isFork = i > forkAt() && firstOf(k) <= forkAt() + 1;
+  if (isFork) line.className += " fork";
+  const number = head(line, "row", "n", !e ? "start" : isFolded(k) ? moments[firstOf(k)].event.step + "-" + e.step : "" + e.step);
+  if (isFork) add(number, "span", "unseen", " here the other run begins");
+  if (isCrowd()) paintCrowd(add(add(line, "td", "crowd"), "canvas"), k, isLater(i) ? pale : colours);
   else threads.forEach((_, t) => drawLane(line, k, t, took, turns));
   if (isNarrow) drawWords(line, k, took, turns);
   const cell = isNarrowest ? line.lastChild : add(line, "td", "m"), words = wordsForAll(i);
   if (took && !isNarrowest) add(cell, "span", "across lead ends");
   if (words) add(cell, "span", "mark", words);
   if (strays[i]) add(cell, "span", "mark stray", shortStray(strays[i]));
+  markLine(line, i);
 }
 // what is said behind the last line
-function closingWords() {
-  const final = moments.length - 1;
-  return moments[final].refused ? "" : { all: "all are over", stuck: "stuck", live: "the schedule ends here" }[stateAt(final).word];
+function closingWords(k) {
+  return endOf(k).refused ? "" : { all: "all are over", stuck: "stuck", live: k ? "it would go on" : "the schedule ends here" }[stateOf(endOf(k).of).word];
 }
+// what is said there of a thread
+function closingWord(k, t) {
+  const s = stateOf(endOf(k).of), thread = s.threads[t], word = { ended: "ended", died: "died of " + thread.code, runs: "not ended", throws: "throws " + thread.code,
+    waits: s.word === "stuck" ? "waits for ever" : "waits" }[thread.status];
+  return word + (run && thread.out.length ? ", out " + outText(thread.out) : "");
+}
+// of another run also how the one ends that it forks from, above its own end
+const closingRuns = () => run ? [0, run] : [0];
+
 function drawClose(body) {
-  const count = moments.length, line = add(body, "tr", "close"), s = stateAt(count - 1);
-  lineOf.set(count, line);
-  head(line, "row", "n", "end");
-  if (isCrowd()) add(line, "td", "crowd");
-  else threads.forEach((_, t) => {
-    const thread = s.threads[t], word = { ended: "ended", died: "died of " + thread.code, runs: "not ended", throws: "throws " + thread.code,
-      waits: s.word === "stuck" ? "waits for ever" : "waits" }[thread.status];
-    add(add(line, "td", "t u-off l-off"), "span", isNarrow ? "unseen" : "", word);
+  closingRuns().forEach((k, place) => {
+    const line = add(body, "tr", "close" + (k ? " other" : ""));
+    lineOf.set(moments.length + place, line);
+    markLine(line, moments.length + place);
+    head(line, "row", "n", !run ? "end" : k === run ? "here" : "there");
+    if (run && isNarrow) {
+      add(line, "td", "all", endText(k)).colSpan = threads.length + 2;
+      return;
+    }
+    if (isCrowd()) add(line, "td", "crowd");
+    else threads.forEach((_, t) => add(add(line, "td", "t u-off l-off"), "span", isNarrow ? "unseen" : "", closingWord(k, t)));
+    const cell = add(line, "td", isNarrow ? "w" : "m", closingWords(k));
+    if (isNarrow && !isNarrowest) cell.colSpan = 2;
   });
-  const cell = add(line, "td", isNarrow ? "w" : "m", closingWords());
-  if (isNarrow && !isNarrowest) cell.colSpan = 2;
 }
-// which lines are later than the one that is shown
+// whether a line is later than the one that is shown
+const isLater = i => i > at && at < moments.length - 1;
+
+function markLine(line, i) {
+  line.classList.toggle("later", isLater(i));
+  line.classList.toggle("now", i === at);
+  if (i === at) line.setAttribute("aria-current", "step");
+  else line.removeAttribute("aria-current");
+}
 function markLines() {
-  const final = moments.length - 1;
   for (const [i, line] of lineOf) {
-    const isLater = i > at && !(i > final && at === final), canvas = line.querySelector("canvas");
-    if (canvas && line.classList.contains("later") !== isLater) paintCrowd(canvas, lineNumber[i], isLater ? pale : colours);
-    line.classList.toggle("later", isLater);
-    line.classList.toggle("now", i === at);
-    if (i === at) line.setAttribute("aria-current", "step");
-    else line.removeAttribute("aria-current");
+    const canvas = line.querySelector("canvas");
+    if (canvas && line.classList.contains("later") !== isLater(i)) paintCrowd(canvas, lineNumber[i], isLater(i) ? pale : colours);
+    markLine(line, i);
   }
 }
 
 // ---- the overview of a long run: a column for each thread, and all lines from top to foot
+const mapLane = () => Math.max(2, Math.min(8, Math.floor(120 / threads.length)));
+
+// its width, before it is painted
+function sizeMap() {
+  id("map").hidden = isWhole();
+  id("map").querySelector("canvas").width = mapLane() * threads.length;
+}
 function drawMap() {
-  const map = id("map"), canvas = map.querySelector("canvas"), count = shown.length, all = threads.length;
-  map.hidden = isWhole();
+  const map = id("map"), canvas = map.querySelector("canvas"), count = shown.length, lane = mapLane();
   if (map.hidden) return;
-  const lane = Math.max(2, Math.min(8, Math.floor(120 / all))), height = Math.max(1, Math.min(count * 4, map.clientHeight));
-  canvas.width = lane * all;
+  const height = Math.max(1, Math.min(count * 4, map.clientHeight));
   canvas.height = height;
   const pen = canvas.getContext("2d"), laneAt = (t, y) => laneOf(shown[Math.floor(y * count / height)], t);
   threads.forEach((_, t) => {
@@ -531,4 +578,4 @@ function drawState(box, i) {
   if (uses.stack) drawOf(box, s, was, "Stacks, the top last", thread => thread.stack, (cell, list) => list.forEach(entry => add(cell, "span", "chip", entryText(entry))));
   if (uses.out) drawOf(box, s, was, "Output", thread => thread.out, (cell, list) => cell.appendChild(document.createTextNode(list.join(" "))));
 }
-const stateTitle = i => moments[i].event ? "After choice " + stateAt(i).choices : "At the start";
+const stateTitle = i => moments[i].event ? "After choice " + moments[i].step : "At the start";

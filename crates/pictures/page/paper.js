@@ -1,10 +1,10 @@
 
 // ---- what is printed: the page as it stands, the states after all choices, or a worksheet, whose lines are empty from the
 // next choice on. What is hidden isn't printed. Of a long run there are only the lines near the one that is shown.
-const NEAR = 200;
+const NEAR = 200, PRINTED = 3000, MANY = 10;
 
 function linesOnPaper() {
-  const near = isWhole() ? shown.length : NEAR, k = lineNumber[at];
+  const near = moments.length * threads.length <= PRINTED ? shown.length : NEAR, k = lineNumber[at];
   return { from: Math.max(0, k - near), to: Math.min(shown.length, k + near + 1) };
 }
 function drawHandout() {
@@ -22,17 +22,38 @@ function print(kind) {
   document.body.classList.add(kind);
   window.print();
 }
+// About how many sheets all states take, where a line of words takes 4.4 mm of 273: each state its sentence, its tables beside
+// one another, of which the longest counts, and the lines of the program and the timeline
+function sheetsOf() {
+  const lines = linesOnPaper(), to = id("hide").checked ? lineNumber[at] + 1 : lines.to, tables = id("things").querySelectorAll("table");
+  const tallest = Array.from(tables).reduce((most, table) => Math.max(most, table.rows.length), 0), beside = Math.max(1, Math.ceil(tables.length / 3));
+  const all = (to - lines.from) * (4 + tallest + 2 * (beside - 1)) * 4.4 + (rows.length + to - lines.from) * 6;
+  return Math.ceil(all / 273);
+}
+// many sheets are told before they are printed
+let isTold = false;
+
+function printStates() {
+  const sheets = sheetsOf();
+  if (sheets > MANY && !isTold) {
+    isTold = true;
+    id("states").textContent = "Print about " + sheets + " sheets";
+    return;
+  }
+  print("states");
+}
 // paper is light
 function beforePrint() {
   const lines = linesOnPaper();
   document.documentElement.classList.add("paper");
   readColours();
   drawLines(lines.from, lines.to);
-  markLines();
 }
 function afterPrint() {
   document.documentElement.classList.remove("paper");
   document.body.classList.remove("states", "sheet");
   id("handout").textContent = "";
+  id("states").textContent = "Print all states";
+  isTold = false;
   arrange();
 }

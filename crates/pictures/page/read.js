@@ -1,11 +1,11 @@
 // Draws the text of this page. Nothing here plays a program: each picture is read off the states that the text holds.
 
-// ---- the three texts
+// ---- the texts
 const id = name => document.getElementById(name);
 
 function linesOf(name) {
   const lines = id(name).textContent.split("\n");
-  need(lines.pop() === "", "the " + name + " doesn't end with a line");
+  need(lines.pop() === "", "the text of " + name + " doesn't end with a line");
   return lines;
 }
 function need(is, why) { if (!is) throw new Error(why); }
@@ -90,9 +90,11 @@ function readSource() {
 const nameOf = (kind, n) => names[kind][n] || { P: "p", B: "b", T: "t", C: "c" }[kind] + n;
 const threadName = t => nameOf("T", t);
 
-// ---- the run: moments, each the choice that led there and where its state stands
-const EVENT = /^(\d+) ([tx])(\d+) (\d+|-) (idle|ok|wait|enter|unwind|end|none|limit|(=|out|throw|catch|die) (-?\d+))(?: ([+-])([pb])(\d+)(?: (-?\d+))?)?$/;
-const STATE = /^state (\d+) (\d+) (all|stuck|live)$/;
+// ---- the run: moments, each the choice that led there and the number of its state
+const EVENT = /^(\d+ )?([tx])(\d+) (\d+|-) (idle|ok|wait|enter|unwind|end|none|limit|(=|out|throw|catch|die) (-?\d+))(?: ([+-])([pb])(\d+)(?: (-?\d+))?)?$/;
+const STATE = /^state (?:(\d+) \d+ )?(all|stuck|live)$/;
+const OTHER = /^other (\d+)$/;
+const STEP_TO = /^([tx]\d+) (\d+)$/;
 const THREAD = /^t(\d+) (\d+) (runs|waits|ended|throws:-?\d+|died:-?\d+) ([01]) regs((?: -?\d+){8}) stack((?: [CHAX]\d+)*) out((?: -?\d+)*)$/;
 const PHASER = /^p(\d+) (-?\d+) (\d+) (\d+) (\d+)$/;
 const BARRIER = /^b(\d+) (\d+) ([01])$/;
@@ -101,100 +103,194 @@ const NEXT = "next ";
 
 // what a thread does in a moment: it is over, runs, runs where it can't go on, waits, waits where it can go on, throws
 const OVER = 0, RUNS = 1, HELD = 2, WAITS = 3, FREE = 4, THROWS = 5;
-const moments = [];
-let lines = [], lanes, places;
+// The states of all runs, each once, by where its lines stand; and the runs: the first is the one that was written down, and each
+// other one forks from it, at a moment by a choice. `moments` are those of the run that is shown.
+const states = [], runs = [], forks = {};
+let moments = [], run = 0, lines = [], lanes, places;
 
 function eventOf(line) {
   const m = EVENT.exec(line);
   need(m, "no line of a choice: " + line);
-  return { step: +m[1], expiry: m[2] === "x", thread: +m[3], row: m[4] === "-" ? -1 : +m[4], what: m[6] || m[5],
+  return { step: parseInt(m[1]), expiry: m[2] === "x", thread: +m[3], row: m[4] === "-" ? -1 : +m[4], what: m[6] || m[5],
     value: m[7] === undefined ? null : +m[7],
     mark: m[8] ? { kind: m[8] + m[9], on: +m[10], view: m[11] === undefined ? null : +m[11] } : null };
 }
-const laneOf = (i, t) => lanes[i * threads.length + t];
-const placeOf = (i, t) => places[i * threads.length + t];
+const laneOf = (i, t) => lanes[moments[i].of * threads.length + t];
+const placeOf = (i, t) => places[moments[i].of * threads.length + t];
+const stateLines = i => states[moments[i].of];
+// a choice as a schedule has it
+const tokenOf = e => (e.expiry ? "x" : "t") + e.thread;
 
 // what could be next: each choice that would take a step, with the line that it would have
 function readNext(at, step, put) {
   for (; (lines[at] || "").startsWith(NEXT); at++) {
     const event = eventOf(lines[at].slice(NEXT.length));
-    need(event.step === step && event.thread < threads.length, "no next choice of its state: " + lines[at]);
+    need((event.step === step || step === undefined) && event.thread < threads.length, "no next choice of its state: " + lines[at]);
     put(event, lines[at]);
   }
   return at;
 }
-// the lines of a moment's state, from this one on; answers the line behind them
-function readMoment(i, at, event, last) {
-  const count = threads.length, take = (form, n) => {
+// what a thread may do behind a choice that did this; else it runs
+const BEHIND = { wait: [WAITS, FREE], end: [OVER], die: [OVER], throw: [THROWS], unwind: [THROWS] }, GOES = [RUNS, HELD];
+
+// A choice changes its own thread, and of others at most the interrupted status. Its own thread then does what the choice says, and
+// stands at the row where it was, or at the next one, but where it jumps, calls or comes back
+function checkThreads(e, before, behind) {
+  const was = states[before].from + 1, is = states[behind].from + 1, own = behind * threads.length + e.thread;
+  for (let t = 0; t < threads.length; t++) {
+    const old = lines[was + t], line = lines[is + t];
+    need(line === old || t === e.thread || line.replace(/ [01] regs/, "") === old.replace(/ [01] regs/, ""), "a thread changed whose turn it wasn't: " + line);
+  }
+  if (e.what === "idle") return;
+  const stays = /^(wait|end|die|throw)$/.test(e.what), isNext = /^(=|ok|out)$/.test(e.what) && !rows[e.row].kinds.includes("L") && rows[e.row].word !== "ret";
+  need((BEHIND[e.what] || GOES).includes(lanes[own]) && (stays ? places[own] === e.row : !isNext || places[own] === e.row + 1),
+    "a thread isn't where its choice leads: " + lines[is + e.thread]);
+}
+// the lines of a state, from this one on, to which this choice leads; answers the line behind them
+function readMoment(at, event) {
+  const i = states.length, count = threads.length, take = (form, n) => {
     const m = form.exec(lines[at] || "");
     need(m && (n === undefined || +m[1] === n), "no line of a state: " + (lines[at] || "the end"));
     at++;
     return m;
   };
-  const state = take(STATE), begins = at, doing = [];
-  need(+state[1] === (event ? event.step : +state[1]), "the states' numbers don't follow one another: " + state[0]);
+  const from = at, state = take(STATE), doing = [];
+  need(!state[1] || !event || +state[1] === event.step, "the states' numbers don't follow one another: " + state[0]);
   for (let t = 0; t < count; t++) {
-    const m = take(THREAD, t), was = i ? lines[last + t] : m[0];
+    const m = take(THREAD, t);
     need(+m[2] < rows.length, "a thread stands at no row: " + m[0]);
     places[i * count + t] = +m[2];
     doing.push(m[3][0] === "e" || m[3][0] === "d" ? OVER : m[3][0] === "t" ? THROWS : m[3] === "waits" ? WAITS : RUNS);
-    // a choice changes its own thread, and of others at most the interrupted status
-    if (i && t !== event.thread && m[0] !== was) {
-      need(m[0].replace(/ [01] regs/, "") === was.replace(/ [01] regs/, ""), "a thread changed whose turn it wasn't: " + m[0]);
-    }
   }
   phasers.forEach((_, n) => take(PHASER, n));
   barriers.forEach((_, n) => take(BARRIER, n));
   while (/^c/.test(lines[at])) take(CELL);
   const next = {};
-  at = readNext(at, +state[1] + 1, (choice, line) => {
-    need(choice.row === placeOf(i, choice.thread), "no thread stands at this row: " + line);
+  at = readNext(at, state[1] && +state[1] + 1, (choice, line) => {
+    need(choice.row === places[i * count + choice.thread], "no thread stands at this row: " + line);
     if (!choice.expiry) next[choice.thread] = true;
   });
   doing.forEach((lane, t) => {
     lanes[i * count + t] = lane === RUNS && !next[t] ? HELD : lane === WAITS && next[t] ? FREE : lane;
   });
-  return { at: at, threads: begins };
+  states.push({ from: from, to: at });
+  return at;
 }
+// a state's text without the numbers of its place
+const bareText = state => lines.slice(state.from, state.to).join("\n").replace(/^state \d+ \d+ /, "state ").replace(/^next \d+ /gm, NEXT);
+
 function readRun() {
   lines = linesOf("run");
-  const most = lines.reduce((count, line) => count + (/^\d/.test(line) ? 1 : 0), 1), count = threads.length;
-  lanes = new Uint8Array(most * count);
-  places = new Uint16Array(most * count);
-  let at = 0, last = 0;
+  const most = lines.reduce((count, line) => count + (/^\d/.test(line) ? 1 : 0), 1), end = lines.length, count = threads.length, numbers = new Map();
+  lines = lines.concat(linesOf("others"));
+  const all = most + lines.reduce((count, line) => count + (line.startsWith("state") ? 1 : 0), 0), isAlone = end === lines.length;
+  lanes = new Uint8Array(all * count);
+  places = new Uint16Array(all * count);
+  let at = 0;
   for (let i = 0; i < most; i++) {
+    const last = i ? moments[i - 1] : null;
     let event = null;
     if (i) {
       event = eventOf(lines[at++]);
-      need(i < 2 || event.step === moments[i - 1].event.step + 1, "the choices' numbers don't follow one another: " + lines[at - 1]);
+      need(i < 2 || event.step === last.event.step + 1, "the choices' numbers don't follow one another: " + lines[at - 1]);
       need(event.row === (event.thread < count ? placeOf(i - 1, event.thread) : -1), "no thread stood at this row: " + lines[at - 1]);
+      if (i === most - 1 && at === end) {
+        moments.push({ event: event, of: last.of, refused: true, step: last.step });
+        break;
+      }
     }
-    moments.push({ event: event, from: at, refused: i === most - 1 && i > 0 && at === lines.length });
-    if (moments[i].refused) {
-      lanes.copyWithin(i * count, (i - 1) * count, i * count);
-      places.copyWithin(i * count, (i - 1) * count, i * count);
-    } else {
-      const read = readMoment(i, at, event, last);
-      at = read.at;
-      last = read.threads;
+    moments.push({ event: event, of: states.length, refused: false, step: i ? last.step + 1 : +(STATE.exec(lines[at]) || [])[1] });
+    at = readMoment(at, event);
+    if (event) checkThreads(event, last.of, moments[i].of);
+    if (isAlone) continue;
+    // a state that was there before has the number of the first
+    const text = bareText(states[states.length - 1]);
+    if (numbers.has(text)) {
+      states.pop();
+      moments[i].of = numbers.get(text);
+    } else numbers.set(text, moments[i].of);
+  }
+  need(at === end, "there are lines behind the run's end: " + lines[at]);
+  runs.push({ fork: -1, moments: moments });
+  while (at < lines.length) at = readOther(at);
+}
+
+// ---- the other runs: behind which choice each forks, and its choices with the numbers of the states to which they lead; a
+// state that wasn't there yet stands behind the choice that leads to it
+const runMoments = () => runs[0].moments;
+
+function readOther(at) {
+  const m = OTHER.exec(lines[at]), fork = m ? +m[1] - runMoments()[0].step : -1, steps = [], before = runs[runs.length - 1].fork, begins = lines[at];
+  need(fork >= 0 && fork < runMoments().length && !runMoments()[fork].refused, "no other run forks here: " + begins);
+  need(fork >= before, "the other runs don't follow one another: " + begins);
+  let last = runMoments()[fork].of;
+  for (at++; at < lines.length && !OTHER.test(lines[at]); ) {
+    const step = STEP_TO.exec(lines[at]);
+    need(step, "no line of another run: " + lines[at]);
+    const token = step[1], of = +step[2], next = nextLine(last, token);
+    need(next, "this choice can't be next there: " + lines[at]);
+    need(of <= states.length, "there is no such state: " + lines[at]);
+    at++;
+    if (of === states.length) at = readMoment(at, null);
+    checkThreads(eventOf(next.slice(NEXT.length)), last, of);
+    steps.push({ token: token, of: of });
+    last = of;
+  }
+  need(steps.length, "another run has no choice: " + begins);
+  need(!lines[states[last].to - 1].startsWith(NEXT) || steps.length >= ownCount() - fork, "another run ends before its end: " + begins);
+  const name = fork + " " + steps[0].token, next = runMoments()[fork + 1];
+  need(!forks[name] && !(next && !next.refused && tokenOf(next.event) === steps[0].token), "this run is there already: " + begins);
+  forks[name] = runs.length;
+  runs.push({ fork: fork, steps: steps, moments: null });
+  return at;
+}
+// how many choices of the run were made
+const ownCount = () => runMoments().filter(moment => !moment.refused).length - 1;
+
+// the line that a choice has as the next one in a state, nothing where it can't be
+function nextLine(of, token) {
+  for (let at = states[of].to - 1; lines[at].startsWith(NEXT); at--) {
+    const line = lines[at], from = line[NEXT.length] === "t" || line[NEXT.length] === "x" ? NEXT.length : line.indexOf(" ", NEXT.length) + 1;
+    if (line.startsWith(token + " ", from)) return line;
+  }
+  return null;
+}
+// the moments of a run: those of the first up to its fork, and its own
+function momentsOf(k) {
+  const one = runs[k];
+  if (!one.moments) {
+    one.moments = runMoments().slice(0, one.fork + 1);
+    for (const step of one.steps) {
+      const last = one.moments[one.moments.length - 1], event = eventOf(nextLine(last.of, step.token).slice(NEXT.length));
+      event.step = last.step + 1;
+      one.moments.push({ event: event, of: step.of, refused: false, step: event.step });
     }
   }
-  need(at === lines.length, "there are lines behind the run's end: " + lines[at]);
+  return one.moments;
+}
+const makes = (moment, token) => Boolean(moment && moment.event) && !moment.refused && tokenOf(moment.event) === token;
+
+// the run that makes a choice behind moment i of this one, -1 where there is none
+function runBy(k, i, token) {
+  if (makes(momentsOf(k)[i + 1], token)) return k;
+  if (k && i > runs[k].fork) return -1;
+  if (makes(runMoments()[i + 1], token)) return 0;
+  return forks[i + " " + token] || -1;
 }
 
 // a moment's text
-const stateText = i => lines.slice(moments[i].from, i + 1 < moments.length ? moments[i + 1].from - 1 : lines.length).join("\n");
+const stateText = i => lines.slice(stateLines(i).from, stateLines(i).to).join("\n");
 
 // ---- a moment's state in full; some are kept
 let kept = new Map();
 
-function readState(i) {
+function readState(of) {
   const s = { threads: [], phasers: [], barriers: [], cells: {}, next: {}, expire: {} };
   const words = text => text.split(" ").slice(1);
-  let at = moments[i].from;
+  let at = states[of].from;
   for (; /^[stpbc]/.test(lines[at] || ""); at++) {
     const line = lines[at], m = { s: STATE, t: THREAD, p: PHASER, b: BARRIER, c: CELL }[line[0]].exec(line);
-    if (line[0] === "s") Object.assign(s, { choices: +m[1], word: m[3] });
+    if (line[0] === "s") s.word = m[2];
     else if (line[0] === "t") {
       const status = m[3].split(":");
       s.threads.push({ row: +m[2], status: status[0], code: +status[1], flag: m[4] === "1", regs: words(m[5]).map(Number),
@@ -203,27 +299,27 @@ function readState(i) {
     else if (line[0] === "b") s.barriers.push({ waiting: +m[2], broken: m[3] === "1" });
     else s.cells[+m[1]] = +m[2];
   }
-  readNext(at, s.choices + 1, choice => { (choice.expiry ? s.expire : s.next)[choice.thread] = choice; });
+  readNext(at, undefined, choice => { (choice.expiry ? s.expire : s.next)[choice.thread] = choice; });
   return s;
 }
-function stateAt(i) {
-  if (moments[i].refused) i--;
-  if (!kept.has(i)) {
+function stateOf(of) {
+  if (!kept.has(of)) {
     if (kept.size > 64) kept = new Map();
-    kept.set(i, readState(i));
+    kept.set(of, readState(of));
   }
-  return kept.get(i);
+  return kept.get(of);
 }
+const stateAt = i => stateOf(moments[i].of);
 
 // ---- who took part in what each choice ended: who arrived on that tree since its last end, by the lines up to it, and who
 // waits there. And where more arrive than are registered: an arrival that finds no party still to arrive, which is refused,
 // and one by which more threads have arrived at a phaser than parties were registered there.
 const ARRIVES = { parr: true, pdereg: true, paaa: true };
-const parts = [], strays = [];
+let parts = [], strays = [];
 
 // a phaser's parties in a moment, and those of them that haven't arrived
 function partiesAt(i, p) {
-  const m = PHASER.exec(lines[moments[i].from + 1 + threads.length + p]);
+  const m = PHASER.exec(lines[stateLines(i).from + 1 + threads.length + p]);
   return { all: +m[3], missing: +m[5] };
 }
 // whether a choice is an arrival that its phaser counted
@@ -232,6 +328,7 @@ function isCounted(e, i) {
     && (e.what === "wait" || e.what === "enter" || (e.what === "=" && (e.value >= 0 || e.mark !== null)));
 }
 function readStrays() {
+  strays = [];
   const came = phasers.map(() => new Set()), registered = phasers.map((_, p) => partiesAt(0, p).all);
   for (let i = 1; i < moments.length && !moments[i].refused; i++) {
     const e = moments[i].event, row = rows[e.row], p = operandOf(row, "P");
@@ -243,10 +340,11 @@ function readStrays() {
   }
 }
 // whether a thread is inside an advance routine or an action
-const isInside = (i, t) => /[AX]/.test(THREAD.exec(lines[moments[i].from + 1 + t])[6]);
+const isInside = (i, t) => /[AX]/.test(THREAD.exec(lines[stateLines(i).from + 1 + t])[6]);
 
 function readParts() {
   const arrived = {};
+  parts = [];
   for (let i = 1; i < moments.length; i++) {
     const e = moments[i].event, row = e.row < 0 ? null : rows[e.row], took = new Set();
     if (row && isCounted(e, i)) {
@@ -256,7 +354,7 @@ function readParts() {
     if (!e.mark) continue;
     took.add(e.thread);
     const isPhaser = e.mark.kind[1] === "p", on = e.mark.on;
-    need(isPhaser ? on < phasers.length : on < barriers.length, "no such phaser or barrier: " + lines[moments[i].from - 1]);
+    need(isPhaser ? on < phasers.length : on < barriers.length, "no such phaser or barrier: choice " + e.step);
     threads.forEach((_, t) => {
       const lane = laneOf(i - 1, t), at = rows[placeOf(i - 1, t)], p = operandOf(at, "P");
       if ((lane === WAITS || lane === FREE) && (isPhaser ? p >= 0 && rootOf(p) === on : operandOf(at, "B") === on)) took.add(t);

@@ -14,24 +14,28 @@ function fillTalk(box, text) {
   box.textContent = "";
   text.split("`").forEach((part, k) => { if (part) add(box, k % 2 ? "code" : "span", "", part); });
 }
-// scrolls a box so that what stands from `top` to `foot` is in view, below its head; or its top, where there is no room for all
-function scrollTo(box, top, foot, cover) {
-  const highest = Math.max(0, top - cover - 4);
-  if (top - cover < box.scrollTop) box.scrollTop = highest;
+// scrolls a box so that what stands from `top` to `foot` is in view, below its head; or its top, where there is no room for all.
+// What came before it stays in view: where it would be above the middle, and what comes later is hidden, or where it was out of
+// view, it stands in the middle
+function scrollTo(box, top, foot, cover, isLate) {
+  const highest = Math.max(0, top - cover - 4), middle = Math.max(0, Math.min(highest, (top + foot - cover - box.clientHeight) / 2));
+  if (isLate && (id("hide").checked ? middle : top - cover) < box.scrollTop) box.scrollTop = middle;
+  else if (top - cover < box.scrollTop) box.scrollTop = highest;
   else if (foot > box.scrollTop + box.clientHeight) box.scrollTop = Math.min(highest, foot - box.clientHeight + 4);
 }
 // the same of an element in it, wherever it is nested
-function bring(box, element, cover, more) {
+function bring(box, element, cover, more, isLate) {
   const outer = box.getBoundingClientRect(), inner = element.getBoundingClientRect(), top = inner.top - outer.top - box.clientTop + box.scrollTop;
-  scrollTo(box, top, top + inner.height * (1 + (more || 0)), cover);
+  scrollTo(box, top, top + inner.height * (1 + (more || 0)), cover, isLate);
 }
 function bringTimeline(i) {
   const box = timeBox(), cover = id("lanes").tHead.offsetHeight, k = lineNumber[i];
-  if (isWhole()) bring(box, lineOf.get(i), cover, i === moments.length - 1 ? 1.5 : .5);
+  if (isWhole()) bring(box, lineOf.get(i), cover, .5, true);
   else {
-    scrollTo(box, cover + k * linePitch(), cover + (k + 3) * linePitch(), cover);
+    scrollTo(box, cover + k * linePitch(), cover + (k + 3) * linePitch(), cover, true);
     drawInView();
   }
+  if (i === moments.length - 1) box.scrollTop = box.scrollHeight;
   if (isCrowd()) return;
   const line = lineOf.get(i), dot = line && line.querySelector(".dot"), cell = dot && dot.parentNode, side = line ? line.cells[0].offsetWidth : 0;
   if (!cell) return;
@@ -58,41 +62,106 @@ function fillNext(i, isWhole) {
 }
 function drawChoice(box, e) {
   const button = add(box, "button", "choice", threadName(e.thread));
+  let isTold = true;
   button.style.setProperty("--hue", hueOf(e.thread));
-  button.title = "What it would do: " + threadTitle(e.thread);
-  button.onfocus = button.onclick = button.onpointerenter = () => whatIf(button, e);
+  button.classList.toggle("second", isSecond(e.thread));
+  button.setAttribute("data-choice", tokenOf(e));
+  button.title = threadTitle(e.thread) + ": what it would do, and a click goes on with it";
+  button.onfocus = () => whatIf(button, e);
+  button.onpointerenter = event => { if (event.pointerType !== "touch") whatIf(button, e); };
+  // a finger can't point, so its first touch tells
+  button.addEventListener("pointerdown", event => { isTold = event.pointerType !== "touch" || chosen === e; }, true);
+  button.onclick = event => {
+    if (isTold) goWith(e, event);
+    else whatIf(button, e);
+  };
 }
+// what the choices that could be next would do. Where what comes later is hidden, it isn't told before a click
 function whatIf(button, e) {
-  const old = id("next").querySelector(".asked");
+  const old = id("next").querySelector(".asked"), isThere = e && runBy(run, at, tokenOf(e)) >= 0, isHidden = id("hide").checked;
+  const asks = matchMedia("(hover: none)").matches ? "Tap a name." : "Point at a name; a click goes on with it.";
   if (old) old.classList.remove("asked");
   if (button) button.classList.add("asked");
   chosen = e;
-  fill(id("would"), e ? whatIfText(at, e) : ["What if another went? Point at a name, or go to it by Tab."]);
+  fill(id("would"), (e ? isHidden ? [] : whatIfText(at, e) : ["What if another went? " + asks]).concat(e && !isThere ? " How it would go on isn't in this page." : []));
   id("if").className = e ? "" : "note";
   id("branch").hidden = !e;
+  id("goon").hidden = !isThere;
+  id("goon").textContent = e ? "Go on" : "";
+  if (e) add(id("goon"), "span", "word", " with " + chosenText(e));
+}
+
+// ---- other runs: each goes on with another choice than the first run, and comes to its own end. Who went there by a key has
+// the focus at the way back, and then again at the name
+function goWith(e, event) {
+  const k = runBy(run, at, tokenOf(e)), isOther = k >= 0 && k !== run;
+  if (k < 0) return;
+  go(at + 1, k);
+  if (isOther && !event.detail) id("crumbs").querySelector(".leave").focus();
+}
+// back to the moment at which this run forks from the first
+function leave(event) {
+  const token = tokenOf(forkOf(run)), isByKey = !(event && event.detail) && id("crumbs").contains(document.activeElement);
+  go(runs[run].fork, 0);
+  const name = isByKey && id("next").querySelector("[data-choice=" + token + "]");
+  if (name) name.focus();
+}
+function take(k) {
+  run = k;
+  moments = momentsOf(k);
+  readParts();
+  readStrays();
+  id("slider").max = moments.length - 1;
+  document.body.classList.toggle("other", run > 0);
+}
+// which run is shown, and how it and the first one end; what stands there stays, and so does the focus
+function drawCrumbs() {
+  const box = id("crumbs"), isLast = at === moments.length - 1, isOver = isLast || !id("hide").checked;
+  box.hidden = !run;
+  if (box.getAttribute("data-run") !== "" + run) drawWay(box);
+  if (!run) return;
+  const ends = box.querySelector(".ends");
+  ends.classList.toggle("over", isLast);
+  if (isOver !== ends.hasChildNodes()) fill(ends, isOver ? bothEnds() : []);
+}
+function drawWay(box) {
+  box.setAttribute("data-run", run);
+  box.textContent = "";
+  if (!run) return;
+  add(box, "button", "", "The run").onclick = leave;
+  add(box, "span", "", " \u203A ");
+  const crumb = add(box, "b", "crumb", momentsOf(run)[runs[run].fork].step + 1 + ": " + chosenText(forkOf(run)));
+  crumb.setAttribute("aria-current", "true");
+  add(crumb, "span", "instead", insteadText(run));
+  const back = add(box, "button", "leave", "Back to the fork ");
+  add(back, "kbd", "", "Esc");
+  back.onclick = leave;
+  add(box, "span", "ends");
 }
 // a schedule of these choices
 function scheduleOf(events) {
   const runs = [];
   for (const e of events) {
-    const word = (e.expiry ? "x" : "t") + e.thread, last = runs[runs.length - 1];
+    const word = tokenOf(e), last = runs[runs.length - 1];
     if (last && last.word === word) last.times++;
     else runs.push({ word: word, times: 1 });
   }
   return runs.map(run => run.word + (run.times > 1 ? "*" + run.times : "")).join(" ");
 }
-// copies a schedule, and shows it; where the browser doesn't copy it is marked, to copy by hand
-function copy(schedule) {
+// the command that makes the page of a schedule
+const commandOf = schedule => "./vuthgal show PROGRAM - <<< '" + schedule + "' > page.html";
+// copies a text, and shows it; where the browser doesn't copy it is marked, to copy by hand
+function copy(text) {
   const box = id("copied"), mark = () => box.select();
-  box.value = schedule;
+  box.value = text;
   box.hidden = false;
-  try { navigator.clipboard.writeText(schedule).catch(mark); } catch (error) { mark(); }
+  try { navigator.clipboard.writeText(text).catch(mark); } catch (error) { mark(); }
 }
 // what a moment's line says
 const saidOf = i => isFolded(lineNumber[i]) ? foldedText(lineNumber[i]) : sentence(i);
 const eventsTo = i => moments.slice(1, i + 1).map(moment => moment.event);
 
-function show(i) {
+function show(i, isTried) {
   i = shown[lineNumber[Math.max(0, Math.min(moments.length - 1, i))]];
   if (i === at) return;
   const s = stateAt(i), e = moments[i].event, final = moments.length - 1;
@@ -102,6 +171,7 @@ function show(i) {
   id("where").textContent = e ? "choice " + e.step + " of " + moments[final].event.step : "start";
   id("back").disabled = id("first").disabled = i === 0;
   id("forth").disabled = id("last").disabled = i === final;
+  drawCrumbs();
   fill(id("what"), saidOf(i));
   fillNext(i, false);
   id("next").className = s.word === "stuck" ? "halt" : "";
@@ -110,12 +180,13 @@ function show(i) {
   drawState(id("things"), i);
   id("things").classList.remove("slim");
   id("things").classList.toggle("slim", layout.isSlim && isWider(id("things")));
-  bringTimeline(i);
   markLines();
+  if (isTried) return;
+  bringTimeline(i);
   markMap();
   bringThread();
   if (e && e.row >= 0) bring(codeBox(), lineOfRow[e.row], 0);
-  try { history.replaceState(null, "", "#" + (e ? e.step : 0)); } catch (error) { /* a page in a frame may not */ }
+  try { history.replaceState(null, "", address()); } catch (error) { /* a page in a frame may not */ }
 }
 function stop() {
   clearInterval(timer);
@@ -136,18 +207,37 @@ function play() {
 // the moment of the next line, or of the one before
 const next = by => shown[Math.max(0, Math.min(shown.length - 1, lineNumber[at] + by))];
 
-function go(i) {
+// what is in view of the past that two runs have stays there
+function goTo(k, i) {
   stop();
+  if (k !== run) {
+    const top = timeBox().scrollTop;
+    take(k);
+    at = Math.max(0, Math.min(moments.length - 1, i));
+    drawTimeline(hasWideColumns);
+    drawMap();
+    timeBox().scrollTop = top;
+    at = -1;
+  }
   show(i);
 }
-// the moment that the page's address names, the start where it names none
+// goes to a moment of this run, or of another, from which the browser comes back
+function go(i, k) {
+  if (k !== undefined && k !== run) try { history.pushState(null, "", "#"); } catch (error) { /* a page in a frame may not */ }
+  goTo(k === undefined ? run : k, i);
+}
+// an address names a choice by its number; in another run the choice at which it forks stands before it, as `7t2.9`
+const address = () => "#" + (run ? momentsOf(run)[runs[run].fork].step + 1 + tokenOf(forkOf(run)) + "." : "") + (at ? moments[at].event.step : 0);
+// the run and the moment that the page's address names, as far as they are there; the start where it names none
 function fromAddress() {
-  const wanted = +location.hash.slice(1), first = moments.length > 1 ? moments[1].event.step : 1;
-  return /^#\d+$/.test(location.hash) && wanted >= first ? wanted - first + 1 : 0;
+  const m = /^#(?:(\d+)([tx]\d+)\.)?(\d+)$/.exec(location.hash), first = runMoments()[0].step;
+  if (!m) return { run: 0, at: 0 };
+  const fork = m[1] - 1 - first, k = m[1] ? Math.max(0, runBy(0, fork, m[2])) : 0;
+  return { run: k, at: m[1] && !k && !makes(runMoments()[fork + 1], m[2]) ? fork : m[3] - first };
 }
 // ---- size and layout. The reader's size is remembered, where the browser has a place for it. Without one, the text grows in a
 // wide window while all has room.
-const SIZE = "vuthgal-size", STEP = 1.1, GROWTH = 1.05, GROWN = 1.8, LINES = 14;
+const SIZE = "vuthgal-size", STEP = 1.1, GROWTH = 1.05, GROWN = 12, LINES = 14;
 let size = 1, chosenSize = 0, fullest = 0;
 
 function remembered() {
@@ -178,45 +268,57 @@ const LAYOUTS = [
   { columns: 3, isWide: true, isSlim: false }, { columns: 3, isWide: false, isSlim: false }, { columns: 2, isWide: true, isSlim: false },
   { columns: 3, isWide: false, isSlim: true }, { columns: 2, isWide: true, isSlim: true }, { columns: 1, isWide: true, isSlim: true }
 ];
-let layout = LAYOUTS[0];
+let layout = LAYOUTS[0], hasWideColumns = true;
 
-function draw() {
+// draws it all, as far as its size depends on it
+function draw(isWideTried) {
   document.body.classList.toggle("wide", layout.columns > 1);
   id("panes").classList.toggle("two", layout.columns === 2);
   drawProgram();
-  drawTimeline(layout.isWide);
+  at = Math.min(fullest, moments.length - 1);
+  drawTimeline(isWideTried && layout.isWide);
   at = -1;
-  show(fullest);
+  show(fullest, true);
 }
 // draws in the first of the layouts that the window has room for in which nothing is wider than its box
 function layOut() {
   const wide = innerWidth / rem(), tall = innerHeight / rem(), boxes = [codeBox(), id("things")].concat(isCrowd() ? [] : timeBox());
   const hasRoom = columns => columns === 1 || (wide >= 56 && tall >= 34 && (isCrowd() ? columns === 2 : columns === 3 || tall >= 46));
   for (layout of LAYOUTS.filter(one => hasRoom(one.columns))) {
-    draw();
+    draw(layout.isWide);
     if (!boxes.some(isWider)) return;
   }
 }
-// makes the text larger as long as the panes hold all of it, of a long timeline some lines, and its columns stay as they are
+// makes the text as large as it may be while the panes hold all of it, of a long timeline some lines, and its columns stay as
+// they are
 function grow() {
   const time = timeBox(), rest = [codeBox(), id("things")], wasNarrow = isNarrow, least = isTaller(time) ? LINES : Infinity;
   const hasRoom = () => !rest.some(isTaller) && !rest.concat(time).some(isWider) && isNarrow === wasNarrow
     && time.clientHeight >= Math.min(time.scrollHeight, least * linePitch());
-  const drawAt = to => {
-    setSize(to);
-    draw();
+  const drawAt = steps => {
+    setSize(Math.pow(GROWTH, drawn = steps));
+    draw(!wasNarrow);
   };
-  while (size < GROWN && hasRoom()) drawAt(size * GROWTH);
-  if (size > 1 && !hasRoom()) drawAt(size / GROWTH);
+  let low = 0, high = hasRoom() ? GROWN : 0, drawn = 0;
+  while (low < high) {
+    drawAt(Math.ceil((low + high) / 2));
+    if (hasRoom()) low = drawn;
+    else high = drawn - 1;
+  }
+  if (drawn !== low) drawAt(low);
 }
 // all of it is drawn anew
 function arrange() {
-  const now = at < 0 ? fromAddress() : at;
+  const now = at < 0 ? fromAddress() : { run: run, at: at };
+  if (now.run !== run) take(now.run);
+  readColours();
   setSize(chosenSize || 1);
   layOut();
   if (!chosenSize && isWide()) grow();
+  hasWideColumns = !isNarrow;
+  drawMap();
   at = -1;
-  show(now);
+  show(now.at);
 }
 function standAlone() {
   document.body.classList.toggle("alone", id("alone").checked);
@@ -231,6 +333,7 @@ function actionOf(key, on) {
   if (key === "ArrowRight" || (key === (slides ? "ArrowUp" : "ArrowDown") && !scrolls)) return () => go(next(1));
   if (key === "ArrowLeft" || (key === (slides ? "ArrowDown" : "ArrowUp") && !scrolls)) return () => go(next(-1));
   if (key === " ") return slides || !/^(INPUT|BUTTON|SUMMARY)$/.test(on.tagName) ? play : null;
+  if (key === "Escape") return run ? leave : null;
   return { Home: () => go(0), End: () => go(moments.length - 1), "+": () => choose(size * STEP), "=": () => choose(size * STEP), "-": () => choose(size / STEP),
     0: () => choose(0), f: () => id("alone").click() }[key];
 }
@@ -248,14 +351,18 @@ function listen() {
   id("play").onclick = play;
   id("speed").onchange = () => { if (timer !== null) { stop(); play(); } };
   id("branch").onclick = () => copy(scheduleOf(eventsTo(at).concat(chosen)));
+  id("goon").onclick = event => goWith(chosen, event);
   id("whole").onclick = () => copy(scheduleOf(eventsTo(moments.length - 1)));
+  id("command").onclick = () => copy(commandOf(scheduleOf(eventsTo(moments.length - 1))));
   id("slider").oninput = () => go(+id("slider").value);
   id("fold").onchange = id("java").onchange = arrange;
   id("alone").onchange = standAlone;
-  id("states").onclick = () => print("states");
+  id("states").onclick = printStates;
   id("sheet").onclick = () => print("sheet");
   id("hide").onchange = () => {
     document.body.classList.toggle("hiding", id("hide").checked);
+    drawCrumbs();
+    whatIf(null, null);
     markMap();
   };
   id("lanes").onclick = event => {
@@ -283,7 +390,10 @@ function listen() {
     arrange();
   };
   for (const way of ["(prefers-color-scheme: dark)", "(forced-colors: active)"]) matchMedia(way).onchange = arrange;
-  window.onhashchange = () => go(fromAddress());
+  window.onhashchange = () => {
+    const to = fromAddress();
+    goTo(to.run, to.at);
+  };
   window.onbeforeprint = beforePrint;
   window.onafterprint = afterPrint;
   document.addEventListener("keydown", pressed);

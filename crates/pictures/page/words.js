@@ -168,7 +168,7 @@ function eventText(e, row, before, after, who) {
 }
 function sentence(i) {
   const e = moments[i].event, s = stateAt(i);
-  if (!e) return ["Before choice " + (s.choices + 1) + ": " + (threads.length > 1 ? threads.length + " threads, each" : "one thread,") + " at its first row."];
+  if (!e) return ["Before choice " + (moments[i].step + 1) + ": " + (threads.length > 1 ? threads.length + " threads, each" : "one thread,") + " at its first row."];
   if (e.what === "none") return ["There is no thread " + e.thread + ": choice " + e.step + " is refused, and the run stops here."];
   if (e.what === "limit") return ["No more choices or steps are allowed: choice " + e.step + " is refused, and the run stops here."];
   const was = stateAt(i - 1), row = rows[e.row], before = was.threads[e.thread];
@@ -202,6 +202,64 @@ function nextText(i, isWhole) {
   if (s.word === "all") return ["All threads are over."];
   if (s.word === "stuck") return ["Stuck: no thread can ever go on."];
   return ["May go next: "].concat(who.length ? some(who) : "nobody", late.length ? ["; the wait" + (late.length > 1 ? "s" : "") + " of "].concat(some(late), " may time out") : [], ".");
+}
+// ---- other runs, in words
+const endOf = k => momentsOf(k)[momentsOf(k).length - 1];
+const forkOf = k => momentsOf(k)[runs[k].fork + 1].event;
+const chosenText = e => threadName(e.thread) + (e.expiry ? "'s time-out" : "");
+// whose choice the other run's is made in place of
+function insteadText(k) {
+  const old = runMoments()[runs[k].fork + 1];
+  return old && !old.refused ? " instead of " + chosenText(old.event) : "";
+}
+// how the first run ends, and this one
+function bothEnds() {
+  const there = endText(0), here = endText(run);
+  if (endOf(0).of === endOf(run).of) return ["Both end alike: ", [here], "."];
+  if (there !== here) return ["There: ", [there], ". Here: ", [here], "."];
+  return ["There and here: ", [here], ". But " + differences(stateOf(endOf(0).of), stateOf(endOf(run).of)) + "."];
+}
+// what is there and what is here, of two states that differ: the first three
+function differences(there, here) {
+  const list = [], differ = (what, a, b) => { if (a !== b) list.push(what + " is " + a + " there and " + b + " here"); };
+  threads.forEach((_, t) => {
+    const a = there.threads[t], b = here.threads[t], name = threadName(t), doing = ({ status, code }) => status + (isNaN(code) ? "" : (status === "died" ? " of " : " ") + code);
+    if (doing(a) !== doing(b)) list.push(name + " " + doing(a) + " there and " + doing(b) + " here");
+    else if (a.row !== b.row) list.push(name + " stands at another row");
+    differ("the output of " + name, outText(a.out) || "nothing", outText(b.out) || "nothing");
+    a.regs.forEach((value, r) => differ("r" + r + " of " + name, value, b.regs[r]));
+    if (a.flag !== b.flag) list.push(name + " is interrupted only " + (a.flag ? "there" : "here"));
+    if (a.stack.join() !== b.stack.join()) list.push("the stack of " + name + " is another");
+  });
+  phasers.forEach((_, p) => {
+    const a = there.phasers[p], b = here.phasers[p], name = nameOf("P", p);
+    if ((a.view < 0) !== (b.view < 0)) list.push(name + " is terminated only " + (a.view < 0 ? "there" : "here"));
+    else differ("the phase of " + name, a.view, b.view);
+    differ("the number of parties of " + name, a.parties, b.parties);
+    differ("how many arrived at " + name, a.arrived, b.arrived);
+  });
+  barriers.forEach((_, n) => {
+    const a = there.barriers[n], b = here.barriers[n], name = nameOf("B", n);
+    if (a.broken !== b.broken) list.push(name + " is broken only " + (a.broken ? "there" : "here"));
+    differ("how many wait at " + name, a.waiting, b.waiting);
+  });
+  for (const c of new Set(Object.keys(there.cells).concat(Object.keys(here.cells)))) differ(nameOf("C", c), there.cells[c] || 0, here.cells[c] || 0);
+  if (!list.length) return "what could be next isn't the same";
+  return list.slice(0, 3).join("; ") + (list.length > 3 ? "; and " + (list.length - 3) + " more" : "");
+}
+// what a thread put out; of much the last
+const outText = list => (list.length > 6 ? "\u2026 " : "") + list.slice(list.length > 6 ? -3 : 0).join(" ");
+
+// how a run ends
+function endText(k) {
+  const end = endOf(k), s = stateOf(end.of), who = (status, text) => {
+    const list = s.threads.map((_, t) => t).filter(t => s.threads[t].status === status), few = list.slice(0, list.length > 4 ? 3 : 4).map(threadName);
+    return list.length ? [listed(few.concat(list.length > few.length ? [list.length - few.length + " more"] : [])) + (list.length > 1 ? text.replace("waits", "wait") : text)] : [];
+  };
+  if (end.refused) return "choice " + end.event.step + " is refused";
+  const out = threads.map((_, t) => t).filter(t => s.threads[t].out.length).map(t => threadName(t) + " " + outText(s.threads[t].out)).join(", ");
+  const last = { all: ["all are over"], stuck: who("waits", " waits for ever"), live: [k ? "it would go on" : "the schedule ends"] }[s.word];
+  return last.concat(who("died", " died")).join(", ") + (out && out.length < 60 ? " (out: " + out + ")" : "");
 }
 // what a thread does in a moment
 function doing(s, t) {

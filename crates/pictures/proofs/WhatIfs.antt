@@ -1,25 +1,25 @@
 -- What one thread more could do is shown.
 use Rattle.std.proofs.Common.{◌≡◌, ◌∙◌, ℕ, ◌+◌, ◌<◌, List, ◌++◌, ap, length, drop}
 use Rattle.machine_scene.specs.Scene.{scene_of, thread_at, no_thread}
-use Rattle.pictures.specs.Page.{what_if_of}
-use Rattle.thread_machine.specs.World.{StoredWorld, world_of}
+use Rattle.thread_machine.specs.World.{StoredWorld, World, world_of}
+use Rattle.thread_state.specs.Thread.{ThreadState}
 use Rattle.trace_text.proofs.Traces.{numbered_texts-drop, one_text_more}
 use Rattle.trace_text.specs.State.{numbered_texts}
 
 -- the machine stays the first one, and the text has what this thread could do
-pub one_thread_more : (first now next : StoredWorld) (t : ℕ) (start text more : List ℕ) → now ≡ first
+pub one_thread_more : (what : World → ℕ → ThreadState → List ℕ) (first now next : StoredWorld) (t : ℕ) (start text more : List ℕ) → now ≡ first
     → t < length first.scene.threads
-    → more ≡ text ++ what_if_of (world_of now) t (thread_at (scene_of now.scene) t) → next ≡ now
-    → text ++ numbered_texts (what_if_of (world_of first)) t (drop t first.scene.threads)
-    ≡ start ++ numbered_texts (what_if_of (world_of first)) 0 first.scene.threads
-    → (more ++ numbered_texts (what_if_of (world_of first)) (t + 1) (drop (t + 1) first.scene.threads)
-    ≡ start ++ numbered_texts (what_if_of (world_of first)) 0 first.scene.threads) × (next ≡ first)
-one_thread_more first now next t start text more same there is stays before =
-    let lines = what_if_of (world_of first) in
+    → more ≡ text ++ what (world_of now) t (thread_at (scene_of now.scene) t) → next ≡ now
+    → text ++ numbered_texts (what (world_of first)) t (drop t first.scene.threads)
+    ≡ start ++ numbered_texts (what (world_of first)) 0 first.scene.threads
+    → (more ++ numbered_texts (what (world_of first)) (t + 1) (drop (t + 1) first.scene.threads)
+    ≡ start ++ numbered_texts (what (world_of first)) 0 first.scene.threads) × (next ≡ first)
+one_thread_more what first now next t start text more same there is stays before =
+    let lines = what (world_of first) in
     let threads = first.scene.threads in
     let one = lines t (thread_at (scene_of first.scene) t) in
     let added : more ≡ text ++ one =
-    is ∙ ap (λ (w : StoredWorld). text ++ what_if_of (world_of w) t (thread_at (scene_of w.scene) t)) same in (
+    is ∙ ap (λ (w : StoredWorld). text ++ what (world_of w) t (thread_at (scene_of w.scene) t)) same in (
       one_text_more text more start one (numbered_texts lines t (drop t threads)) (numbered_texts lines (t + 1) (drop (t + 1) threads))
           (numbered_texts lines 0 threads) added (numbered_texts-drop lines threads t no_thread there) before,
       stays ∙ same,

@@ -3,5 +3,7 @@ pub mod Caption
 pub mod Turn
 pub mod Picture
 pub mod Drawing
+pub mod Others
+pub mod Knowing
 pub mod Page
 pub mod Showing

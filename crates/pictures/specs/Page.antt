@@ -1,9 +1,13 @@
--- The page that shows a run: four fixed parts, and between them the program, its text, and the run moment by moment.
+-- The page that shows a run: five fixed parts, and between them the program, its text, the run moment by moment, and what other
+-- choices lead to.
 use Rattle.std.specs.Prelude.{◌≡◌, ◌≤◌, ℕ, ◌==◌, ◌||◌, not, Bool, false, true, if◌then◌else◌, List, [], ◌∷◌, ◌++◌, length, codes, flat_map, is_none, None}
 use Rattle.line_reader.specs.Listing.{canonical}
 use Rattle.row_code.specs.declared.image.Image.{Image}
-use Rattle.pictures.specs.declared.fixed.TheConstants.{BEFORE_RUN, BEFORE_SOURCE, HEAD, TAIL}
+use Rattle.pictures.specs.declared.fixed.TheConstants.{BEFORE_OTHERS, BEFORE_RUN, BEFORE_SOURCE, HEAD, TAIL}
 use Rattle.pictures.specs.declared.frame.Frame.{Frame}
+use Rattle.pictures.specs.Others.{others_text}
+pub use Rattle.pictures.specs.Others.{most_choices}
+use Rattle.pictures.specs.declared.others.OtherRuns.{OtherRuns}
 use Rattle.schedule_reader.specs.declared.run.Run.{Run}
 use Rattle.schedule_reader.specs.Schedule.{choice_of, choices_of, finished_schedule}
 use Rattle.thread_machine.specs.declared.choice.Choice.{Choice}
@@ -57,6 +61,7 @@ pub record Parts : Type 0 where
   pub head : List ℕ
   pub before_source : List ℕ
   pub before_run : List ℕ
+  pub before_others : List ℕ
   pub tail : List ℕ
 
 abbrev pub parts_of : Frame → Parts
@@ -64,31 +69,36 @@ parts_of frame = record {
   head = frame.head.now;
   before_source = frame.before_source.now;
   before_run = frame.before_run.now;
+  before_others = frame.before_others.now;
   tail = frame.tail.now;
 }
 
 abbrev pub fixed_parts : Parts
-fixed_parts = record { head = HEAD.now; before_source = BEFORE_SOURCE.now; before_run = BEFORE_RUN.now; tail = TAIL.now }
+fixed_parts = record {
+  head = HEAD.now;
+  before_source = BEFORE_SOURCE.now;
+  before_run = BEFORE_RUN.now;
+  before_others = BEFORE_OTHERS.now;
+  tail = TAIL.now;
+}
 
--- these parts, and between them the listing of a program, its text and a run
-abbrev pub page_text : Parts → List ℕ → List ℕ → List ℕ → List ℕ
-page_text parts listing source run =
-    parts.head ++ (escaped listing ++ (parts.before_source ++ (escaped source ++ (parts.before_run ++ (escaped run ++ parts.tail)))))
+-- these parts, and between them the listing of a program, its text, a run and what else is told
+abbrev pub page_text : Parts → List ℕ → List ℕ → List ℕ → List ℕ → List ℕ
+page_text parts listing source run others =
+    parts.head ++ (escaped listing ++ (parts.before_source ++ (escaped source ++ (parts.before_run ++ (escaped run
+    ++ (parts.before_others ++ (escaped others ++ parts.tail)))))))
 
 -- the choices of a faultless schedule
 abbrev pub AreChoicesOf : List ℕ → List Choice → Type 0
 AreChoicesOf schedule choices =
     (runs : List Run) × ((finished_schedule schedule ≡ record { runs = runs; fault = None }) × (choices ≡ choices_of runs))
 
--- how many choices a page shows at most
-abbrev pub most_choices : ℕ
-most_choices = 2000
-
--- the page of an image's program, its text, and its run from the beginning under this schedule
-abbrev pub IsPageIn : Parts → Image → List ℕ → List ℕ → List ℕ → Type 0
-IsPageIn parts image source schedule page =
+-- the page of an image's program, its text, its run from the beginning under this schedule, and its other runs
+abbrev pub IsPageIn : Parts → OtherRuns → Image → List ℕ → List ℕ → List ℕ → Type 0
+IsPageIn parts others image source schedule page =
     (world : World) × ((choices : List Choice) × (Begins image world × AreChoicesOf schedule choices
-    × (length choices ≤ most_choices) × (page ≡ page_text parts (canonical image) source (run_shown world choices))))
+    × (length choices ≤ most_choices)
+    × (page ≡ page_text parts (canonical image) source (run_shown world choices) (others_text others world choices))))
 
-abbrev pub IsPageOf : Image → List ℕ → List ℕ → List ℕ → Type 0
-IsPageOf image source schedule page = IsPageIn fixed_parts image source schedule page
+abbrev pub IsPageOf : OtherRuns → Image → List ℕ → List ℕ → List ℕ → Type 0
+IsPageOf others image source schedule page = IsPageIn fixed_parts others image source schedule page

@@ -8,6 +8,8 @@ pub struct Frame<'a> {
     pub before_source: &'a [u8],
     /// Between the program's text and the run.
     pub before_run: &'a [u8],
-    /// After the run.
+    /// Between the run and the other runs.
+    pub before_others: &'a [u8],
+    /// After the other runs.
     pub tail: &'a [u8],
 }

@@ -1,6 +1,7 @@
 ghost use Rattle.std.specs.Prelude.{◌≡◌, ◌≢◌, ◌++◌, ◌<◌, ◌⊎◌, false, length, IfOk, OnOk, Err, Some, None};
 ghost use Rattle.loader.specs.declared.load_fault.LoadFault.{LoadFault};
 ghost use Rattle.pictures.specs.Page.{IsPageIn, IsPageOf, escaped, moment, moments, most_choices, page_text, parts_of, run_shown};
+ghost use Rattle.pictures.specs.Others.{others_text};
 ghost use Rattle.pictures.specs.Showing.{Shows};
 ghost use Rattle.schedule_reader.specs.declared.fault.ScheduleFault.{ScheduleFault};
 ghost use Rattle.schedule_reader.specs.Schedule.{choices_of, finished_schedule};
@@ -9,9 +10,10 @@ ghost use Rattle.trace_text.specs.Start.{IsRefused, is_want_of_memory};
 
 use crate::choices::choices_in;
 use crate::escape::add_escaped;
-use crate::fixed::{BEFORE_RUN, BEFORE_SOURCE, HEAD, TAIL};
+use crate::fixed::{BEFORE_OTHERS, BEFORE_RUN, BEFORE_SOURCE, HEAD, TAIL};
 use crate::frame::Frame;
 use crate::moment;
+use crate::others::{OtherRuns, others_text};
 use crate::shown::{Shown, missing};
 use line_reader::disassemble;
 use loader::LoadFault;
@@ -110,11 +112,12 @@ fn page_in(
     frame: Frame,
     listing: &[u8],
     source: &[u8],
+    others: &[u8],
     machine: &mut Machine,
     choices: &[Choice],
 ) -> Result<Vec<u8>, AllocError>
     ensures { IfOk result (λ page. page.items ≡ page_text (parts_of frame.entry)
-        listing.now source.now (run_shown (world_of machine.old) choices.now)) }
+        listing.now source.now (run_shown (world_of machine.old) choices.now) others.now) }
 {
     let mut page = Vec::new(alloc);
     page.extend_from_slice(frame.head)?;
@@ -123,6 +126,8 @@ fn page_in(
     add_escaped(&mut page, source)?;
     page.extend_from_slice(frame.before_run)?;
     add_run(alloc, &mut page, machine, choices)?;
+    page.extend_from_slice(frame.before_others)?;
+    add_escaped(&mut page, others)?;
     page.extend_from_slice(frame.tail)?;
     Ok(page)
 }
@@ -142,12 +147,13 @@ fn fault_of(fault: StartFault) -> PageFault
 fn page_with(
     alloc: Global,
     frame: Frame,
+    others: OtherRuns,
     image: Image,
     source: &[u8],
     schedule: &[u8],
 ) -> Result<Shown, PageFault>
     requires { length schedule.now < 9223372036854775807 }
-    ensures page { IfOk result (λ shown. IsPageIn (parts_of frame.entry) image
+    ensures page { IfOk result (λ shown. IsPageIn (parts_of frame.entry) others image
         source.now schedule.now shown.bytes.items) }
     ensures load { (fault : LoadFault) → result ≡ Err (PageFault.Load fault)
         → IsRefused fault image × (is_want_of_memory fault ≡ false) }
@@ -166,11 +172,13 @@ fn page_with(
         Err(fault) => return Err(fault_of(fault)),
     };
     let choices = choices_in(alloc, schedule)?;
+    let others = others_text(alloc, others, &machine, choices.as_slice())?;
     let page = page_in(
         alloc,
         frame,
         listing.as_slice(),
         source,
+        others.as_slice(),
         &mut machine,
         choices.as_slice(),
     )?;
@@ -180,11 +188,17 @@ fn page_with(
     })
 }
 
-/// The page of an image's program, of the text that it was written as, and of its run under a schedule. The source may be
-/// empty, as where the program is an image; whatever it is, it is told as it stands.
-pub fn page(alloc: Global, image: Image, source: &[u8], schedule: &[u8]) -> Result<Shown, PageFault>
+/// The page of an image's program, of the text that it was written as, of its run under a schedule, and of its other runs. The
+/// source may be empty, as where the program is an image; whatever it is, it is told as it stands.
+pub fn page(
+    alloc: Global,
+    others: OtherRuns,
+    image: Image,
+    source: &[u8],
+    schedule: &[u8],
+) -> Result<Shown, PageFault>
     requires { length schedule.now < 9223372036854775807 }
-    ensures page { IfOk result (λ shown. IsPageOf image source.now schedule.now shown.bytes.items) }
+    ensures page { IfOk result (λ shown. IsPageOf others image source.now schedule.now shown.bytes.items) }
     ensures load { (fault : LoadFault) → result ≡ Err (PageFault.Load fault)
         → IsRefused fault image × (is_want_of_memory fault ≡ false) }
     ensures schedule { (fault : ScheduleFault) → result ≡ Err (PageFault.Schedule fault)
@@ -198,7 +212,8 @@ pub fn page(alloc: Global, image: Image, source: &[u8], schedule: &[u8]) -> Resu
         head: HEAD,
         before_source: BEFORE_SOURCE,
         before_run: BEFORE_RUN,
+        before_others: BEFORE_OTHERS,
         tail: TAIL,
     };
-    page_with(alloc, frame, image, source, schedule)
+    page_with(alloc, frame, others, image, source, schedule)
 }

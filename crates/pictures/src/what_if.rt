@@ -11,7 +11,7 @@ use thread_machine::{Choice, Machine, StepFault, Undo};
 use trace_text::line::{event_line, refusal_line};
 
 /// Whether a choice may take a step.
-fn is_ready(machine: &Machine, choice: Choice) -> bool
+pub fn is_ready(machine: &Machine, choice: Choice) -> bool
     requires { choice.thread < length machine.now.scene.threads }
     ensures { result ≡ is_choice_ready machine.now.program choice (scene_of machine.now.scene) }
 {
@@ -23,7 +23,7 @@ fn is_ready(machine: &Machine, choice: Choice) -> bool
 }
 
 /// Adds the line that a choice would have as the next one. It is played and taken back.
-fn add_line(
+pub fn add_line(
     text: &mut Vec<u8>,
     machine: &mut Machine,
     choice: Choice,

@@ -9,3 +9,4 @@ pub mod Threads
 pub mod Repeats
 pub mod Groups
 pub mod Choosing
+mod Kept

@@ -12,3 +12,4 @@ pub mod Rules
 pub mod Play
 pub mod Groups
 pub mod Planned
+pub mod Others

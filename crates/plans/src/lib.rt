@@ -15,6 +15,9 @@ mod reading;
 pub mod word;
 pub mod words;
 
+// What another choice than a run's own leads to.
+pub mod others;
+
 // A plan that is played: the schedule that it stands for.
 pub mod plan_runs;
 pub mod planned;

@@ -1,4 +1,5 @@
 ghost use Rattle.std.specs.Prelude.{◌≡◌, ◌<◌, ◌≤◌, ◌==◌, ◌&&◌, IfOk, OnOk, true};
+ghost use Rattle.thread_machine.specs.Ready.{is_choice_ready};
 ghost use Rattle.thread_machine.specs.World.{world_of};
 ghost use Rattle.thread_machine.specs.Step.{refusal_of};
 ghost use Rattle.schedule_reader.specs.Schedule.{choices_of};
@@ -59,6 +60,21 @@ impl Player {
             runs: Vec::new(alloc),
             next: 0,
             left: MOST_CHOICES,
+            stopped: false,
+        }
+    }
+
+    /// The same with room for so many choices at most.
+    #[tactic(auto, unfolding(crate::specs::Progress::begun_at))]
+    pub fn with_room(alloc: Global, machine: Machine, most: u32) -> Player
+        requires { most ≤ 1000000 }
+        ensures { result ≡ record (begun_at (world_of machine)) { left = most } }
+    {
+        Player {
+            machine,
+            runs: Vec::new(alloc),
+            next: 0,
+            left: most,
             stopped: false,
         }
     }
@@ -124,6 +140,18 @@ impl Player {
         ensures { result ≡ can_expire_in self.now.world thread }
     {
         self.machine.can_expire(thread)
+    }
+
+    /// Whether a choice of a thread may take a step.
+    pub fn is_choice_ready(&self, choice: Choice) -> bool
+        requires { choice.thread < thread_count self.now.world }
+        ensures { result ≡ is_choice_ready self.now.world.program choice self.now.world.scene }
+    {
+        if choice.expiry {
+            self.machine.can_expire(choice.thread)
+        } else {
+            self.machine.is_ready(choice.thread)
+        }
     }
 
     /// The number behind the thread that was chosen last.

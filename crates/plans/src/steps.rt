@@ -31,7 +31,7 @@ impl Player {
     }
 
     /// Makes the choices of a rule, so many at most.
-    fn follow(&mut self, alloc: Global, rule: Rule, most: u32) -> Result<(), AllocError>
+    pub fn follow(&mut self, alloc: Global, rule: Rule, most: u32) -> Result<(), AllocError>
         ensures { OnOk result (self.new ≡ followed rule most 0 self.old) }
     {
         for k in 0..most {

@@ -16,12 +16,17 @@ pub fn entered(answer: Entered) -> Option<u16> {
 }
 
 /// The entries of a thread, of which the second is that of a copy.
-pub fn enter(barrier: &mut Barrier, thread: u8, interrupted: bool) -> (Entered, Entered)
+pub fn enter(
+    barrier: &mut Barrier,
+    thread: u8,
+    interrupted: bool,
+    is_over: bool,
+) -> (Entered, Entered)
     requires thread { thread < 64 }
     requires no_wait { wait_at barrier.old.waits thread ≡ None }
 {
     let mut before: Barrier = *barrier;
-    let timed = before.enter_timed(thread, interrupted, true);
+    let timed = before.enter_timed(thread, interrupted, is_over);
     (barrier.enter(thread, interrupted), timed)
 }
 
@@ -51,10 +56,10 @@ pub fn leave(barrier: &mut Barrier, thread: u8) -> Option<bool>
 }
 
 /// A barrier, the end of its action, its reset, and what is read off it.
-pub fn barrier(parties: u16, action: bool) -> Option<(u16, bool, u16)> {
+pub fn barrier(parties: u16, action: bool, returned: bool) -> Option<(u16, bool, u16)> {
     let mut barrier: Barrier = Barrier::new(parties, action)?;
     match barrier.runner() {
-        Some(_) => barrier.end_action(true),
+        Some(_) => barrier.end_action(returned),
         None => barrier.reset(),
     }
     Some((

@@ -26,13 +26,19 @@ pub fn number_of(reply: Reply) -> Option<i32> {
 }
 
 /// The calls that wait for nobody.
-pub fn within(phaser: &SharedPhaser, party: &mut Party, tries: u32) -> Result<Word, Raced>
+pub fn within(
+    phaser: &SharedPhaser,
+    party: &mut Party,
+    count: u32,
+    leaves: bool,
+    tries: u32,
+) -> Result<Word, Raced>
     requires tries { 0 < tries }
     requires phaser { phaser_of party.old ≡ phaser.now }
     ensures { phaser_of party.new ≡ phaser.now }
 {
-    let _: Result<Reply, Raced> = phaser.register_within(party, 1u32, tries);
-    let _: Result<Reply, Raced> = phaser.arrive_within(party, true, tries);
+    let _: Result<Reply, Raced> = phaser.register_within(party, count, tries);
+    let _: Result<Reply, Raced> = phaser.arrive_within(party, leaves, tries);
     let forced: Result<Reply, Raced> = phaser.force_within(party, tries);
     if let Err(Raced { tries, word }) = forced {
         return Err(Raced { tries, word });
@@ -41,15 +47,21 @@ pub fn within(phaser: &SharedPhaser, party: &mut Party, tries: u32) -> Result<Wo
 }
 
 /// Those that may wait.
-pub fn waiting<R: Wait>(rt: &R, phaser: &SharedPhaser, party: &mut Party) -> Result<i32, NotThere>
+pub fn waiting<R: Wait>(
+    rt: &R,
+    phaser: &SharedPhaser,
+    party: &mut Party,
+    count: u32,
+    phase: i32,
+) -> Result<i32, NotThere>
     requires { phaser_of party.old ≡ phaser.now }
     ensures { phaser_of party.new ≡ phaser.now }
 {
-    let _: Reply = phaser.register(rt, party, 1u32);
+    let _: Reply = phaser.register(rt, party, count);
     let _: Reply = phaser.arrive(rt, party);
     let _: Reply = phaser.arrive_and_deregister(rt, party);
     let _: Reply = phaser.force(rt, party);
-    let _: i32 = phaser.await_advance(rt, party, 0i32);
+    let _: i32 = phaser.await_advance(rt, party, phase);
     phaser.arrive_and_await_advance(rt, party)
 }
 
@@ -57,13 +69,16 @@ pub fn waiting<R: Wait>(rt: &R, phaser: &SharedPhaser, party: &mut Party) -> Res
 pub fn closed<R: Wait>(
     rt: &R,
     alloc: Global,
+    parties: u16,
     policy: Policy,
     phase: Phase,
 ) -> Result<Word, NewFault> {
-    let (phaser, mut first): (SharedPhaser, Party) = SharedPhaser::new(alloc, 2u16, policy, phase)?;
+    let (phaser, mut first): (SharedPhaser, Party) = SharedPhaser::new(
+        alloc, parties, policy, phase,
+    )?;
     let mut second: Party = phaser.split(&mut first);
-    let _: Result<Word, Raced> = within(&phaser, &mut second, 1);
-    let _: Result<i32, NotThere> = waiting(rt, &phaser, &mut second);
+    let _: Result<Word, Raced> = within(&phaser, &mut second, 1, true, 1);
+    let _: Result<i32, NotThere> = waiting(rt, &phaser, &mut second, 1, 0);
     phaser.join(&mut first, second);
     Ok(phaser.close(first))
 }

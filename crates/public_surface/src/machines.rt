@@ -75,18 +75,18 @@ pub fn steps(
 }
 
 /// What is read off a thread.
-pub fn thread(machine: &Machine, t: u8) -> (Status, u16, i32, bool)
+pub fn thread(machine: &Machine, t: u8, number: usize, reg: Reg) -> (Status, u16, i32, bool)
     requires { t < length machine.now.scene.threads }
 {
     let _: &[i32] = machine.output(t);
     let depth: usize = machine.depth(t);
-    if depth > 0 {
-        let _: Entry = machine.entry(t, 0);
+    if number < depth {
+        let _: Entry = machine.entry(t, number);
     }
     (
         machine.status(t),
         machine.pc(t),
-        machine.reg(t, Reg::R7),
+        machine.reg(t, reg),
         machine.interrupted(t),
     )
 }
@@ -108,10 +108,11 @@ pub fn counts(machine: &Machine) -> (u32, u64, u32) {
 }
 
 /// What its threads share beside phasers.
-pub fn shared(machine: &Machine, number: u8) -> (i32, &Barrier)
-    requires { number < length machine.now.scene.barriers }
+pub fn shared(machine: &Machine, cell: u8, number: u8) -> (i32, &Barrier)
+    requires cell { cell < 32 }
+    requires number { number < length machine.now.scene.barriers }
 {
-    (machine.cell(31), machine.barrier(number))
+    (machine.cell(cell), machine.barrier(number))
 }
 
 /// The machine of a program.

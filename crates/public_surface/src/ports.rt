@@ -51,10 +51,12 @@ pub fn ports<R: Read + Drop, W: Write + Drop>(
     reader: R,
     writer: W,
     bytes: &[u8],
+    room: usize,
+    fail_at: Option<u32>,
     buffer: &mut [u8],
 ) -> Result<(), AllocError> {
-    let mut source: MemorySource = MemorySource::new(bytes, Some(3u32));
-    let mut sink: MemorySink = MemorySink::new(alloc, 64usize, Some(3u32))?;
+    let mut source: MemorySource = MemorySource::new(bytes, fail_at);
+    let mut sink: MemorySink = MemorySink::new(alloc, room, fail_at)?;
     let mut input: ReadPort<R> = ReadPort::new(reader);
     let mut output: WritePort<W> = WritePort::new(writer);
     let _: Result<usize, Failed> = moved(&mut source, &mut output, buffer);

@@ -40,8 +40,10 @@ pub fn left(fault: LiveFault) -> Option<Vec<u8>> {
 }
 
 /// A machine that keeps a record.
-pub fn recorded(alloc: Global, program: Loaded, thread: u8) -> Result<usize, AllocError> {
-    let mut journaled: Journaled = Journaled::new(alloc, program, 1000u32)?;
+pub fn recorded(alloc: Global, program: Loaded, limit: u32, thread: u8) -> Result<usize, AllocError>
+    requires { limit ≤ 1000000000 }
+{
+    let mut journaled: Journaled = Journaled::new(alloc, program, limit)?;
     if usize::from(thread) < journaled.machine().thread_count() {
         let _: Result<Event, TakeFault> = journaled.take_step(thread);
         let _: Result<Event, TakeFault> = journaled.take_expiry(thread);

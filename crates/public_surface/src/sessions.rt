@@ -1,5 +1,5 @@
 //! The calls of `debugger`.
-ghost use Rattle.std.specs.Prelude.{◌≤◌, ◌<◌};
+ghost use Rattle.std.specs.Prelude.{◌≡◌, ◌≤◌, ◌<◌, ℕ};
 
 use byte_ports::{Failed, Sink};
 use debugger::{CommandFault, Debugger, NoHistory, Stop, say_stop};
@@ -36,18 +36,22 @@ pub fn session<K: Sink>(
     debugger: &mut Debugger,
     choice: Choice,
     runs: &[Run],
+    row: u16,
+    stop: Stop,
     line: &[u8],
     output: &mut K,
-) -> Result<bool, CommandFault> {
+) -> Result<bool, CommandFault>
+    requires { (played : ℕ) → stop ≡ Stop.End played → played ≤ 1000000000000 }
+{
     let _: &Machine = debugger.machine();
     let _: Result<Event, StepFault> = debugger.step(choice);
     if let Err(NoHistory) = debugger.back() {
         return Ok(true);
     }
-    let _: bool = debugger.set_break(0u16);
-    let _: bool = debugger.clear_break(0u16);
+    let _: bool = debugger.set_break(row);
+    let _: bool = debugger.clear_break(row);
     let _: Stop = debugger.go(runs);
-    let stop: Stop = debugger.go_on(Stop::End(0), choice);
+    let stop: Stop = debugger.go_on(stop, choice);
     let _: Result<(), Failed> = say_stop(output, stop);
     debugger.command(line, output)
 }

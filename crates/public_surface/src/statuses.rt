@@ -41,6 +41,8 @@ pub fn of_threads<R: Threads + Wait + Sync, F: Source, K: Sink, E: Sink>(
     rt: &R,
     alloc: Global,
     limit: u32,
+    parties: u16,
+    rounds: u32,
     file: &mut F,
     output: &mut K,
     errors: &mut E,
@@ -49,6 +51,6 @@ pub fn of_threads<R: Threads + Wait + Sync, F: Source, K: Sink, E: Sink>(
 {
     [
         live_cmd(rt, alloc, limit, file, output, errors),
-        race_cmd(rt, alloc, 2u16, 1000u32, output, errors),
+        race_cmd(rt, alloc, parties, rounds, output, errors),
     ]
 }

@@ -39,13 +39,15 @@ pub fn lines(
     alloc: Global,
     text: &mut Vec<u8>,
     choice: Choice,
+    row: Option<u16>,
     event: &Event,
     machine: &Machine,
 ) -> Result<Vec<u8>, AllocError> {
     let step: u64 = machine.choices();
-    event_line(text, step, choice, 0u16, event)?;
-    refusal_line(text, step, choice, Some(0u16))?;
-    refusal_line(text, step, choice, None)?;
+    if let Some(row) = row {
+        event_line(text, step, choice, row, event)?;
+    }
+    refusal_line(text, step, choice, row)?;
     state_text(alloc, machine)
 }
 

@@ -76,21 +76,32 @@ pub fn place(forest: &Forest, id: PhaserId) -> (Option<PhaserId>, PhaserId, Poli
 }
 
 /// A root and a child.
-pub fn forest(alloc: Global, parties: i32, policy: Policy) -> Result<Forest, DeclareFault> {
+pub fn forest(
+    alloc: Global,
+    parties: i32,
+    of_child: i32,
+    policy: Policy,
+    view: i32,
+) -> Result<Forest, DeclareFault> {
     let mut forest: Forest = Forest::new(alloc).map_err(|_| DeclareFault::Memory)?;
-    let phase: Phase = Phase::prevailing(0);
+    let phase: Phase = Phase::prevailing(view);
     let PhaserId(number) = forest.declare(None, parties, policy, phase)?;
-    forest.declare(Some(PhaserId(number)), 1i32, policy, phase)?;
+    forest.declare(Some(PhaserId(number)), of_child, policy, phase)?;
     Ok(forest)
 }
 
 /// A registration that is taken back, and a termination of a copy.
-pub fn changed(alloc: Global, forest: &mut Forest, id: PhaserId) -> Result<(), AllocError>
+pub fn changed(
+    alloc: Global,
+    forest: &mut Forest,
+    id: PhaserId,
+    count: u32,
+) -> Result<(), AllocError>
     requires { id.0 < length forest.old }
 {
     forest.is_forest();
     let saved: Saved = forest.save(id);
-    let _: Registered = forest.register(id, 1u32);
+    let _: Registered = forest.register(id, count);
     forest.restore(saved);
     let mut copy: Forest = forest.copy(alloc)?;
     copy.force(id);

@@ -47,16 +47,23 @@ pub fn ends(policy: Policy, phase: Phase, parties: u16) -> Option<bool> {
 }
 
 /// The calls that make a word, and those that change it.
-pub fn words(phase: Phase, parties: u16, bits: u64) -> Option<Word> {
+pub fn words(
+    phase: Phase,
+    parties: u16,
+    bits: u64,
+    count: u32,
+    leaves: bool,
+    ends: bool,
+) -> Option<Word> {
     let fresh: Word = Word::fresh(phase, parties);
     let _: u64 = fresh.raw();
     let word: Word = Word::from_raw(bits)?;
-    let (word, _): (Word, i32) = registered(word, word.register(1u32));
-    let (word, _): (Word, i32) = arrived(word, word.arrive(true));
+    let (word, _): (Word, i32) = registered(word, word.register(count));
+    let (word, _): (Word, i32) = arrived(word, word.arrive(leaves));
     Some(if !word.is_turned() {
         word.renew(phase).force()
     } else if word.parties() > 0 {
-        word.advance(false)
+        word.advance(ends)
     } else {
         word.vacate()
     })

@@ -62,8 +62,8 @@ AreNoWord _ = ⊤
 -- where the documents say more of a word
 abbrev pub more_of : List ℕ → List ℕ
 more_of word =
-    if bytes_eq word (codes ".run") then codes "docs/FORMATS.md, \"Program text\""
-    else (if is_directive word then codes "docs/FORMATS.md, \"Directives\"" else codes "docs/FORMATS.md, \"Instruction table\"")
+    if bytes_eq word (codes ".run") then codes "docs/LANGUAGE.md, \"Program text\""
+    else (if is_directive word then codes "docs/LANGUAGE.md, \"Directives\"" else codes "docs/LANGUAGE.md, \"Instruction table\"")
 
 -- an entry as it is written
 abbrev pub word_text : WordEntry → List ℕ

@@ -12,7 +12,7 @@ use crate::word::{WordEntry, word_entry};
 use byte_ports::{Failed, Sink};
 
 /// What can be asked.
-const QUESTIONS: &str = "\
+pub const QUESTIONS: &str = "\
 explain asm 1 .. asm 13             a program text that is refused
 explain image 1 .. image 8          an image that is refused
 explain load 1 .. load 9            a program that isn't loaded
@@ -20,18 +20,19 @@ explain declare 1 .. declare 6      why a phaser can't be declared (load 7)
 explain schedule 1 .. schedule 3    a schedule that is refused
 explain plan 1 .. plan 8            a plan that is refused
 explain show, draw                  more choices than a picture shows
-explain memory, spawn, read, write  what else ends the program
-explain not a trace, differs        what `compare` finds
+explain memory, spawn, read, write  other errors that end the program
+explain not a trace, differs        what `compare` reports
 explain expected, stopped           what `--expect` and `plan` say with status 1
 explain none, limit                 a choice that is refused, in a trace
-explain ?, no history               answers of `debug`
+explain stuck, live                 how a run ends
+explain ?, no history               replies of `debug`
 explain status 0 .. status 5        an exit status
-explain exception 1 .. exception 8  the number of an exception
-explain paaa, .thread, ..           a row of a program, or what begins with a dot
+explain exception 1 .. exception 8  an exception, or by name: TimeoutException
+explain paaa, .thread, ..           an instruction or a directive
 ";
 
 /// What is told where no line has the words, before what can be asked.
-const NO_LINE: &[u8] = b"error: no line on standard error has these words. What can be asked:\n\n";
+pub const NO_LINE: &[u8] = b"error: `explain` doesn't know these words. You can ask:\n\n";
 
 /// Writes what can be asked.
 fn push_questions<W: Sink>(output: &mut W) -> Result<(), Failed>

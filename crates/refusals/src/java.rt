@@ -1,10 +1,10 @@
-//! Java's methods, and the rows that stand for them.
+//! Java's methods and other words that people write, and the words of the language for them.
 
 use crate::names::in_small_letters;
 use std::alloc::{AllocError, Global};
 
-/// A method, in small letters, and its row.
-static METHODS: [(&str, &str); 23] = [
+/// A method or another word, in small letters, and the word of the language for it.
+static METHODS: [(&str, &str); 31] = [
     ("register", "preg"),
     ("bulkregister", "pbulk"),
     ("arrive", "parr"),
@@ -28,9 +28,17 @@ static METHODS: [(&str, &str); 23] = [
     ("interrupt", "intr"),
     ("interrupted", "intrd"),
     ("isinterrupted", "intrd"),
+    ("cyclicbarrier", ".barrier"),
+    ("print", "out"),
+    ("println", "out"),
+    ("catch", "try"),
+    ("end", "halt"),
+    ("if", "beq"),
+    ("inc", "add"),
+    ("sleep", "cawaitt"),
 ];
 
-/// What stands before the first of these bytes, or all.
+/// What is before the first of these bytes, or all.
 fn before(word: &[u8], end: u8) -> &[u8] {
     match word.iter().position(|byte| *byte == end) {
         Some(at) => word.get(..at).unwrap_or(word),
@@ -47,7 +55,7 @@ fn method_in(word: &[u8]) -> &[u8] {
     }
 }
 
-/// The row that stands for the method that a word calls.
+/// The word of the language for the method that a word calls.
 pub fn row_of(alloc: Global, word: &[u8]) -> Result<Option<&'static str>, AllocError> {
     let small = in_small_letters(alloc, method_in(word))?;
     for (method, row) in &METHODS {

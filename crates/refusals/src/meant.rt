@@ -7,7 +7,7 @@ use schedule_reader::read_schedule;
 use std::alloc::Global;
 
 /// What helps where operands are parted by commas.
-const AT_COMMA: &str = "no commas: blanks part operands, as in `paaa r0 p`";
+const AT_COMMA: &str = "no commas: put blanks between operands, as in `paaa r0 p`";
 
 /// What helps where a comment begins as in other languages.
 pub const AT_COMMENT: &str = "a comment begins with `;`";
@@ -95,17 +95,17 @@ fn is_label_alone(text: &[u8], line: &[u8], word: &[u8]) -> bool {
 fn helps_at_word(text: &[u8], line: &[u8], word: &[u8]) -> Option<&'static str> {
     if word == b".run".as_slice() {
         Some(
-            "this file is a text with its schedule: `run FILE` plays it, `show FILE` shows it; \
-             `debug` and `live` take what stands above `.run`",
+            "this file also has a schedule: `run FILE` plays it, `show FILE` shows it; \
+             `debug` and `live` need the part above `.run`",
         )
     } else if has_comment_sign(word) {
         Some(AT_COMMENT)
     } else if word_assigned(line).is_some() {
-        Some("the instruction comes first, and behind it where its result goes, as `ldi r0 5`")
+        Some("the instruction is first, then the register of its result, as in `ldi r0 5`")
     } else if is_label_alone(text, line, word) {
-        Some("a label is written with its colon, as `main:`")
+        Some("a label needs a colon, as in `main:`")
     } else if has_statement_behind(line, word) {
-        Some("a label ends with its colon, as in `main: paaa r0 p`")
+        Some("a label needs a colon, as in `main: paaa r0 p`")
     } else {
         None
     }
@@ -115,12 +115,12 @@ fn helps_at_word(text: &[u8], line: &[u8], word: &[u8]) -> Option<&'static str> 
 pub fn helps_at_encoding(bytes: &[u8]) -> Option<&'static str> {
     match bytes {
         [0xef, 0xbb, 0xbf, ..] => Some(
-            "the file begins with a UTF-8 byte order mark (EF BB BF): saved without one it can be read",
+            "the file begins with a UTF-8 byte order mark (EF BB BF): save it without one",
         ),
         [0xff, 0xfe, ..]
         | [0xfe, 0xff, ..]
         | [1..=126, 0, 1..=126, 0, ..]
-        | [0, 1..=126, 0, 1..=126, ..] => Some("the file is UTF-16: saved as ASCII it can be read"),
+        | [0, 1..=126, 0, 1..=126, ..] => Some("the file is UTF-16: save it as ASCII"),
         _ => None,
     }
 }
@@ -145,10 +145,10 @@ pub fn helps_at(
         AsmFaultKind::OperandCount if has_other_comment(line) => Some(AT_COMMENT),
         AsmFaultKind::OperandCount if before_comment(line).contains(&b',') => Some(AT_COMMA),
         AsmFaultKind::BadRegister if is_number(word) => Some(
-            "a number goes into a register first, as by `ldi r1 1`",
+            "put the number into a register first, as in `ldi r1 1`",
         ),
         AsmFaultKind::BadName if is_number(word) => Some(
-            "a name stands here, or a number behind `#`, such as #1",
+            "a declaration begins with its name; an operand is a name, or # and a number: #1",
         ),
         _ => None,
     }

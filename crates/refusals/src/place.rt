@@ -79,7 +79,7 @@ fn push_name<E: Sink>(
         errors.push(called(given).as_bytes())?;
         errors.push(b", ")?;
         errors.push(called(wanted).as_bytes())?;
-        errors.push(b" is wanted\n")?;
+        errors.push(b" is needed\n")?;
         return Ok(());
     }
     if let Some(name) = nearest_name(alloc, text, word)? {
@@ -430,9 +430,9 @@ fn helps_at_schedule(
     } else if is_trace(bytes) {
         Some("this looks like a trace: `vuthgal choices TRACE` writes its schedule")
     } else if bytes.trim_ascii_start().starts_with(b";") {
-        Some("a schedule has no comments: a text may have some above its line `.run`")
+        Some("a schedule can't have comments; a program text can, above its line `.run`")
     } else if !bytes.is_empty() && is_plan(alloc, program.text, bytes) {
-        Some("this looks like a plan: `vuthgal plan FILE PLAN` writes its schedule")
+        Some("this looks like a plan: `--plan-file FILE` plays the plan in a file")
     } else {
         None
     }

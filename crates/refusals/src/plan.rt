@@ -14,6 +14,7 @@ use plans::cutting::word_length;
 use plans::fault::{PlanFault, PlanFaultKind};
 use plans::read_plan;
 use std::alloc::{AllocError, Global};
+use workbench::program::program_in;
 
 /// The places of a line's words.
 fn word_places(alloc: Global, line: &[u8]) -> Result<Vec<WordPlace>, AllocError> {
@@ -230,8 +231,10 @@ pub fn push_plan_place<E: Sink>(
 ) -> Result<(), Unshown> {
     let mut helps = None;
     if !plan.bytes.is_empty() {
-        if let Ok((_, names)) = loaded_program(alloc, program.text) {
-            helps = push_shown_place(alloc, errors, fault, names.as_slice(), plan)?;
+        if let Ok(program) = program_in(alloc, program.text) {
+            if let Ok((_, names)) = loaded_program(alloc, program.image, &program.names) {
+                helps = push_shown_place(alloc, errors, fault, names.as_slice(), plan)?;
+            }
         }
     }
     push_meaning(alloc, errors, Unplanned::Plan(fault), helps)

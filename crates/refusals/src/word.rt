@@ -22,11 +22,11 @@ fn more_of(word: &str) -> &'static str
     ensures { result.now ≡ more_of word.now }
 {
     if is_word(word, ".run") {
-        "docs/FORMATS.md, \"Program text\""
+        "docs/LANGUAGE.md, \"Program text\""
     } else if is_directive(word.as_bytes()) {
-        "docs/FORMATS.md, \"Directives\""
+        "docs/LANGUAGE.md, \"Directives\""
     } else {
-        "docs/FORMATS.md, \"Instruction table\""
+        "docs/LANGUAGE.md, \"Instruction table\""
     }
 }
 

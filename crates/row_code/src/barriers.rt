@@ -1,6 +1,7 @@
 ghost use Rattle.std.specs.Prelude.{◌≡◌, ◌↔◌, ◌≤◌, length, IsOk, IfOk, IfErr, List};
 ghost use Rattle.row_code.specs.declared.barriers.DeclaredBarrier.{DeclaredBarrier};
 
+use std::alloc::{AllocError, Global};
 use std::marker::Model;
 
 /// A barrier as a program declares it.
@@ -38,11 +39,21 @@ impl Barriers {
         Ok(Barriers { entries: barriers })
     }
 
+    /// The barriers, by number.
     pub fn as_slice(&self) -> &[DeclaredBarrier]
         ensures barriers { result.now ≡ self.now }
         ensures fits { length self.now ≤ 64 }
     {
         &self.entries
+    }
+
+    /// The same barriers in memory of their own.
+    pub fn copy(&self, alloc: Global) -> Result<Barriers, AllocError>
+        ensures { IfOk result (λ copy. copy ≡ self.now) }
+    {
+        Ok(Barriers {
+            entries: Vec::from_slice(alloc, self.entries.as_slice())?,
+        })
     }
 
     /// The barriers in the memory that was taken for them.

@@ -1,7 +1,10 @@
+ghost use Rattle.std.specs.Prelude.{◌≡◌, IfOk};
+
 use crate::barriers::Barriers;
 use crate::phasers::Phasers;
 use crate::rows::Rows;
 use crate::threads::Threads;
+use std::alloc::{AllocError, Global};
 
 /// A whole program: what it declares, and its rows. A name in it need not lead to anything yet.
 #[derive(Drop)]
@@ -10,6 +13,20 @@ pub struct Image {
     pub barriers: Barriers,
     pub threads: Threads,
     pub rows: Rows,
+}
+
+impl Image {
+    /// The same program in memory of its own: whoever loads an image takes it, so a program that is loaded twice is copied.
+    pub fn copy(&self, alloc: Global) -> Result<Image, AllocError>
+        ensures { IfOk result (λ copy. copy ≡ self.now) }
+    {
+        Ok(Image {
+            phasers: self.phasers.copy(alloc)?,
+            barriers: self.barriers.copy(alloc)?,
+            threads: self.threads.copy(alloc)?,
+            rows: self.rows.copy(alloc)?,
+        })
+    }
 }
 
 /// How many of each an image has.

@@ -2,6 +2,7 @@ ghost use Rattle.std.specs.Prelude.{◌≡◌, ◌↔◌, ◌<◌, ℕ, slice_in
 ghost use Rattle.row_code.specs.declared.phasers.DeclaredPhaser.{DeclaredPhaser};
 ghost use Rattle.row_code.specs.Phasers.{IsPolicy, IsPhaser, ArePhasers};
 
+use std::alloc::{AllocError, Global};
 use std::marker::Model;
 
 /// What a phaser's `onAdvance` answers.
@@ -88,11 +89,21 @@ impl Phasers {
         }
     }
 
+    /// The phasers, by number.
     pub fn as_slice(&self) -> &[DeclaredPhaser]
         ensures phasers { result.now ≡ self.now }
         ensures fits { ArePhasers self.now }
     {
         &self.entries
+    }
+
+    /// The same phasers in memory of their own.
+    pub fn copy(&self, alloc: Global) -> Result<Phasers, AllocError>
+        ensures { IfOk result (λ copy. copy ≡ self.now) }
+    {
+        Ok(Phasers {
+            entries: Vec::from_slice(alloc, self.entries.as_slice())?,
+        })
     }
 
     /// The phasers in the memory that was taken for them.

@@ -3,6 +3,7 @@ ghost use Rattle.instruction_table.specs.declared.row.Row.{Row};
 ghost use Rattle.row_code.specs.Rows.{has_timed_row};
 
 use instruction_table::{Row, is_timed};
+use std::alloc::{AllocError, Global};
 use std::marker::Model;
 
 /// The most rows that an image has: its count of them is a number of two bytes.
@@ -42,11 +43,21 @@ impl Rows {
         self.entries.iter().any(|row| is_timed(*row))
     }
 
+    /// The rows, by number.
     pub fn as_slice(&self) -> &[Row]
         ensures rows { result.now ≡ self.now }
         ensures fits { length self.now ≤ 65535 }
     {
         &self.entries
+    }
+
+    /// The same rows in memory of their own.
+    pub fn copy(&self, alloc: Global) -> Result<Rows, AllocError>
+        ensures { IfOk result (λ copy. copy ≡ self.now) }
+    {
+        Ok(Rows {
+            entries: Vec::from_slice(alloc, self.entries.as_slice())?,
+        })
     }
 
     /// The rows in the memory that was taken for them.

@@ -1,6 +1,7 @@
 ghost use Rattle.std.specs.Prelude.{◌≡◌, ◌↔◌, ◌≤◌, length, IsOk, IfOk, IfErr, List};
 ghost use Rattle.row_code.specs.declared.threads.DeclaredThread.{DeclaredThread};
 
+use std::alloc::{AllocError, Global};
 use std::marker::Model;
 
 /// A thread as a program declares it.
@@ -37,11 +38,21 @@ impl Threads {
         Ok(Threads { entries: threads })
     }
 
+    /// The threads, by number.
     pub fn as_slice(&self) -> &[DeclaredThread]
         ensures threads { result.now ≡ self.now }
         ensures fits { length self.now ≤ 64 }
     {
         &self.entries
+    }
+
+    /// The same threads in memory of their own.
+    pub fn copy(&self, alloc: Global) -> Result<Threads, AllocError>
+        ensures { IfOk result (λ copy. copy ≡ self.now) }
+    {
+        Ok(Threads {
+            entries: Vec::from_slice(alloc, self.entries.as_slice())?,
+        })
     }
 
     /// The threads in the memory that was taken for them.

@@ -1,9 +1,11 @@
 //! Tests of runs by public calls, of what no command of the program shows: streams cut anywhere, threads in a forced order,
-//! replies that can't be written, the calls of the closing page.
+//! replies that can't be written, ports that fail at any call, the calls of the closing page.
 #![tactic(auto)]
 
 #[cfg(test)]
 mod closing_page;
+#[cfg(test)]
+mod failing_ports;
 #[cfg(test)]
 mod limits;
 #[cfg(test)]

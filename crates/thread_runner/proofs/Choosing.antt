@@ -1,14 +1,15 @@
 -- Where a run isn't over, some thread has a choice to make.
-use Rattle.std.proofs.Common.{◌≡◌, ◌⊎◌, ◌<◌, ℕ, true, false, arith, length}
-use Rattle.std.specs.Prelude.{Option, None}
+use Rattle.std.proofs.Common.{◌≡◌, ◌⊎◌, ◌<◌, ℕ, Bool, true, false, refl, sym, ap, arith, length}
+use Rattle.std.specs.Prelude.{Option, None, ◌&&◌, ◌||◌, not}
 use Rattle.std.proofs.lemmas.Bool.Decides.{nat_tests}
+use Rattle.thread_machine.specs.declared.choice.Choice.{Choice}
 use Rattle.thread_machine.specs.World.{World}
 use Rattle.thread_machine.specs.Ready.{some_ready}
 use Rattle.thread_runner.specs.declared.live.Break.{Break}
-use Rattle.thread_runner.specs.Turns.{is_ready_in, can_expire_in, may_choose}
+use Rattle.thread_runner.specs.Turns.{expiry_of, is_ready_in, can_expire_in, some_turn, some_lower, is_due, may_choose, IsDue}
 use Rattle.thread_runner.specs.Endings.{ending_of}
 use Rattle.thread_runner.specs.Waiting.{waits}
-use Rattle.thread_runner.proofs.Threads.{Lowest, lowest, none_passes}
+use Rattle.thread_runner.proofs.Threads.{Lowest, lowest, none_passes, one_passes}
 
 -- and there is a step left
 pub step_left : (world : World) → ending_of world ≡ None → world.steps < world.limit
@@ -43,3 +44,38 @@ pub not_all_wait : (broken : Option Break) (world : World) → 0 < length world.
 not_all_wait broken world some all =
     let found = chooser world (waits_not_over broken world 0 (all 0 some)) in
     grind arith
+
+-- no time passes while a thread is ready
+none_ready : (can turn lower : Bool) → (can && (not turn && not lower)) ≡ true → turn ≡ false
+none_ready true true lower is = absurd (cc is)
+none_ready true false lower is = refl
+none_ready false turn lower is = absurd (cc is)
+
+isnt_ready : (ready : Bool) (world : World) (t : ℕ) → is_ready_in world t ≡ ready → t < length world.scene.threads
+    → some_turn world ≡ false → ready ≡ false
+isnt_ready true world t is there none =
+    absurd (cc (none, one_passes (is_ready_in world) (length world.scene.threads) t there is))
+isnt_ready false world t is there none = refl
+
+due_by : (ready due : Bool) → ready ≡ false → due ≡ true → (ready || due) ≡ true
+due_by true due waits is = absurd (cc waits)
+due_by false due waits is = is
+
+pub due_by_expiry : (world : World) (t : ℕ) → t < length world.scene.threads → is_due world t ≡ true → IsDue world (expiry_of t)
+due_by_expiry world t there is =
+    let waits = isnt_ready (is_ready_in world t) world t refl there
+    (none_ready (can_expire_in world t) (some_turn world) (some_lower world t) is) in
+    let made : Bool → Choice = λ ready. record { thread = t; expiry = not ready } in
+    (due_by (is_ready_in world t) (is_due world t) waits is, ap made (sym waits))
+
+-- so where the time of a wait is over no thread is ready
+waits_by : (ready due : Bool) → (ready || due) ≡ true → true ≡ not ready → due ≡ true
+waits_by true due may is = absurd (cc is)
+waits_by false due may is = may
+
+pub none_is_ready : (world : World) (waiting t : ℕ) → IsDue world (expiry_of waiting) → t < length world.scene.threads
+    → is_ready_in world t ≡ false
+none_is_ready world waiting t due there =
+    let is = waits_by (is_ready_in world waiting) (is_due world waiting) due.0 (ap (λ (c : Choice). c.expiry) due.1) in
+    isnt_ready (is_ready_in world t) world t refl there
+    (none_ready (can_expire_in world waiting) (some_turn world) (some_lower world waiting) is)

@@ -1,9 +1,11 @@
 -- A replay of one choice more.
-use Rattle.std.proofs.Common.{◌≡◌, ◌+◌, ◌*◌, ◌<◌, ◌≤◌, ℕ, true, List, [], ◌∷◌, ◌++◌, length, arith, length-append}
-use Rattle.std.specs.Prelude.{All, None}
+use Rattle.std.proofs.Common.{◌≡◌, ◌+◌, ◌*◌, ◌<◌, ◌≤◌, ℕ, true, List, [], ◌∷◌, ◌++◌, length, sym, subst, arith, length-append}
+use Rattle.std.specs.Prelude.{All, Option, Some, None}
 use Rattle.std.proofs.lemmas.List.Elements.{All-push}
 use Rattle.loader.specs.Program.{Program}
 use Rattle.thread_machine.specs.declared.choice.Choice.{Choice}
+use Rattle.thread_machine.specs.declared.fault.StepFault.{StepFault}
+use Rattle.thread_machine.specs.Execution.{Execution, execution, execution_by}
 use Rattle.thread_machine.specs.World.{World, first_world}
 use Rattle.thread_machine.specs.Ready.{is_choice_ready}
 use Rattle.thread_machine.specs.Step.{played, refusal_of}
@@ -13,6 +15,7 @@ use Rattle.schedule_reader.specs.Record.{IsNamed, record_text}
 use Rattle.schedule_reader.proofs.Records.{choices-once, record-few, record-read}
 use Rattle.thread_runner.specs.Recording.{Recording, recording_of, with_choice}
 use Rattle.thread_runner.specs.Replay.{IsReplay, IsRecordOf}
+use Rattle.thread_runner.specs.Turns.{IsDue, AreDue}
 
 -- what a choice leaves as it was, and what it counts
 abbrev pub Counts : World → World → Type 0
@@ -24,12 +27,30 @@ pub counts : (world : World) (choice : Choice) → is_choice_ready world.program
     → Counts world (played world choice).world
 counts world choice ready = grind arith
 
+-- a choice behind the first is due where all are accepted
+due_by : (refusal : Option StepFault) (world : World) (first : Choice) (choices : List Choice) (choice : Choice)
+    → (execution_by refusal world first (λ after. execution after choices)).refusal ≡ None
+    → IsDue (execution_by refusal world first (λ after. execution after choices)).world choice
+    → (let later : Execution = execution (played world first).world choices in (later.refusal ≡ None) × IsDue later.world choice)
+due_by (Some fault) world first choices choice accepted due = absurd (cc accepted)
+due_by None world first choices choice accepted due = (accepted, due)
+
+due_more : (choices : List Choice) (world : World) (choice : Choice) → (execution world choices).refusal ≡ None
+    → IsDue (execution world choices).world choice → AreDue world choices → AreDue world (choices ++ choice ∷ [])
+due_more [] world choice accepted due before = (due, tt)
+due_more (first ∷ choices) world choice accepted due before =
+    let later = due_by (refusal_of world first) world first choices choice accepted due in
+    (before.0, due_more choices (played world first).world choice later.0 later.1 before.1)
+
 -- an execution without a refusal, and one accepted choice more
 pub replay_more : (recording : Recording) (choice : Choice) (before after : World) → IsReplay recording before
     → is_choice_ready before.program choice before.scene ≡ true → refusal_of before choice ≡ None → before.steps < before.limit
-    → after ≡ (played before choice).world → length after.scene.threads ≡ length before.scene.threads
+    → after ≡ (played before choice).world → length after.scene.threads ≡ length before.scene.threads → IsDue before choice
     → IsReplay (with_choice choice recording) after
-replay_more recording choice before after replay ready accepted below is threads = grind (arith, execution-snoc, counts, length-append)
+replay_more recording choice before after replay ready accepted below is threads due =
+    let due = due_more recording.choices recording.first choice replay.accepted
+    (subst (λ (w : World). IsDue w choice) (sym replay.leads) due) replay.due in
+    grind (arith, execution-snoc, counts, length-append)
 
 -- the program and the limit stay, so that the first world does
 pub same_first : (before after : World) (choice : Choice) → is_choice_ready before.program choice before.scene ≡ true
@@ -63,3 +84,19 @@ recorded_few first text world recorded = grind (arith, record-few)
 
 pub recorded_within : (first : World) (text : List ℕ) (world : World) → IsRecordOf first text world → length text ≤ 4 * first.limit
 recorded_within first text world recorded = omega (arith, recorded_few first text world recorded, recorded.replay.replay.within)
+
+-- each choice of a replay is due where those before it lead
+at_by : (refusal : Option StepFault) (world : World) (first : Choice) (before choices : List Choice) (choice : Choice)
+    → (execution_by refusal world first (λ after. execution after choices)).refusal ≡ None
+    → ((execution (played world first).world choices).refusal ≡ None → IsDue (execution (played world first).world before).world choice)
+    → IsDue (execution_by refusal world first (λ after. execution after before)).world choice
+at_by (Some fault) world first before choices choice accepted due = absurd (cc accepted)
+at_by None world first before choices choice accepted due = due accepted
+
+pub due_at : (before : List Choice) (world : World) (choice : Choice) (rest : List Choice)
+    → (execution world (before ++ choice ∷ rest)).refusal ≡ None → AreDue world (before ++ choice ∷ rest)
+    → IsDue (execution world before).world choice
+due_at [] world choice rest accepted due = due.0
+due_at (first ∷ before) world choice rest accepted due =
+    at_by (refusal_of world first) world first before (before ++ choice ∷ rest) choice accepted
+    (λ later. due_at before (played world first).world choice rest later due.1)

@@ -1,11 +1,12 @@
 -- Which choice a thread may make by itself: its turn where it is ready. Where no thread is, the wait of the lowest thread
 -- whose wait may run out does.
-use Rattle.std.specs.Prelude.{ℕ, Bool, true, false, not, ◌&&◌, ◌||◌, length}
+use Rattle.std.specs.Prelude.{◌≡◌, ℕ, Bool, true, false, not, ◌&&◌, ◌||◌, List, [], ◌∷◌, length}
 use Rattle.std.specs.List.{list_any, range_with_len}
 use Rattle.machine_scene.specs.Outcomes.{is_ready}
 use Rattle.thread_machine.specs.declared.choice.Choice.{Choice}
 use Rattle.thread_machine.specs.World.{World}
 use Rattle.thread_machine.specs.Ready.{can_expire}
+use Rattle.thread_machine.specs.Step.{played}
 
 -- the turn of thread t, and the expiry of its wait
 abbrev pub turn_of : ℕ → Choice
@@ -41,3 +42,12 @@ may_choose world t = is_ready_in world t || is_due world t
 -- it
 abbrev pub choice_in : World → ℕ → Choice
 choice_in world t = record { thread = t; expiry = not (is_ready_in world t) }
+
+-- the choice is one that its thread has to make: no time passes while a thread is ready
+abbrev pub IsDue : World → Choice → Type 0
+IsDue world choice = (may_choose world choice.thread ≡ true) × (choice ≡ choice_in world choice.thread)
+
+-- each of these is, in the world that those before it lead to
+abbrev pub AreDue : World → List Choice → Type 0
+AreDue world [] = Unit {0}
+AreDue world (choice ∷ choices) = IsDue world choice × AreDue (played world choice).world choices

@@ -5,7 +5,7 @@ ghost use Rattle.thread_machine.specs.Step.{played};
 ghost use Rattle.schedule_reader.specs.Schedule.{choices_of, finished_schedule};
 ghost use Rattle.schedule_reader.specs.Record.{record_text};
 ghost use Rattle.thread_runner.specs.Recording.{world_after, begun, recording_of, with_choice};
-ghost use Rattle.thread_runner.specs.Turns.{turn_of, expiry_of, choice_in, is_ready_in, can_expire_in, is_due, may_choose, some_turn, some_lower};
+ghost use Rattle.thread_runner.specs.Turns.{turn_of, expiry_of, choice_in, is_ready_in, can_expire_in, is_due, may_choose, some_turn, some_lower, IsDue};
 ghost use Rattle.thread_runner.specs.Replay.{IsRecordOf, IsReplay};
 ghost use Rattle.thread_runner.specs.Endings.{ending_of};
 ghost use Rattle.thread_runner.specs.Waiting.{has_finished};
@@ -86,6 +86,7 @@ impl Journaled {
             × ((world_after self.old).limit ≤ (world_after self.old).steps)) }
         ensures err { OnErr result (self.new ≡ self.old) }
     {
+        self.has_few_threads();
         if !self.is_due(thread) {
             return Err(TakeFault::NotReady);
         }
@@ -99,6 +100,7 @@ impl Journaled {
     fn take(&mut self, choice: Choice) -> Result<Event, TakeFault>
         requires thread { choice.thread < length self.old.first.scene.threads }
         requires ready { is_choice_ready (world_after self.old).program choice (world_after self.old).scene ≡ true }
+        requires due { IsDue (world_after self.old) choice }
         ensures played { IfOk result (λ event. record { world = world_after self.new; event = event }
             ≡ played (world_after self.old) choice) }
         ensures recorded { OnOk result (self.new ≡ with_choice choice self.old) }
@@ -132,9 +134,10 @@ impl Journaled {
         self.machine.thread_count()
     }
 
-    /// A law: there are at most 64 threads. Nothing of it is used.
+    /// A law: there are at most 64 threads, and as many as at first. Nothing of it is used.
     fn has_few_threads(&self)
-        ensures { length self.now.first.scene.threads ≤ 64 }
+        ensures few { length self.now.first.scene.threads ≤ 64 }
+        ensures now { length (world_after self.now).scene.threads ≡ length self.now.first.scene.threads }
     {
         let _ = self.thread_count();
     }

@@ -1,8 +1,11 @@
-ghost use Rattle.std.specs.Prelude.{◌≡◌, ◌<◌, ℕ, true, Option, None, length};
+ghost use Rattle.std.specs.Prelude.{◌≡◌, ◌<◌, ◌++◌, ◌∷◌, ℕ, List, true, false, Option, None, length};
 ghost use Rattle.thread_machine.specs.World.{World};
+ghost use Rattle.thread_machine.specs.Execution.{execution};
+ghost use Rattle.thread_machine.specs.declared.choice.Choice.{Choice};
 ghost use Rattle.thread_runner.specs.declared.live.Break.{Break};
 ghost use Rattle.thread_runner.specs.Endings.{ending_of};
-ghost use Rattle.thread_runner.specs.Turns.{may_choose};
+ghost use Rattle.thread_runner.specs.Replay.{IsReplay};
+ghost use Rattle.thread_runner.specs.Turns.{expiry_of, is_ready_in, may_choose};
 ghost use Rattle.thread_runner.specs.Waiting.{waits};
 
 /// Where a run isn't over, some thread has a choice to make.
@@ -15,4 +18,12 @@ pub fn a_run_goes_on_or_is_over()
 pub fn some_worker_does_not_wait()
     ensures { (broken : Option Break) (world : World) → 0 < length world.scene.threads
         → ((t : ℕ) → t < length world.scene.threads → waits broken world t ≡ true) → ⊥ }
+{}
+
+/// In the record of a run no time passes while a thread is ready.
+pub fn no_time_passes_while_a_thread_is_ready()
+    ensures { (first last : World) (before rest : List Choice) (waiting t : ℕ)
+        → IsReplay (record { first = first; choices = before ++ expiry_of waiting ∷ rest }) last
+        → t < length (execution first before).world.scene.threads
+        → is_ready_in (execution first before).world t ≡ false }
 {}

@@ -16,5 +16,7 @@ pub use ending::Ending;
 pub use fault::{LiveFault, TakeFault};
 pub use gate::{Gate, NoGate};
 pub use journaled::Journaled;
-pub use law::{a_run_goes_on_or_is_over, some_worker_does_not_wait};
+pub use law::{
+    a_run_goes_on_or_is_over, no_time_passes_while_a_thread_is_ready, some_worker_does_not_wait,
+};
 pub use runner::{LiveRun, run_live};

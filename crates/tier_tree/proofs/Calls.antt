@@ -9,7 +9,8 @@ use Rattle.tier_tree.specs.Registration.{registration, after_registration}
 use Rattle.tier_tree.specs.Arrival.{Arrives, arrival}
 use Rattle.tier_tree.specs.PhaseEnd.{after_phase_end, after_force}
 use Rattle.tier_tree.specs.Sound.{places_of}
-use Rattle.tier_tree.specs.Stored.{Stored, stored_at, shown, phasers_of, place_in, IsStored}
+use Rattle.tier_tree.specs.Call.{IsCall}
+use Rattle.tier_tree.specs.Stored.{Stored, stored_at, shown, phasers_of, place_in, IsStored, ChangedAt, ChangedOnly}
 use Rattle.tier_tree.specs.Answer.{IfTurning, MakesPending, KeepsPlaces, KeepsEnds, HaveOnePhase}
 use Rattle.tier_tree.specs.Origin.{Origin, AreTallied, Carries, origin_after_registration, origin_after_arrival, origin_after_phase_end}
 use Rattle.tier_tree.specs.declared.id.PhaserId.{PhaserId}
@@ -27,7 +28,7 @@ use Rattle.tier_tree.proofs.Stands.{stands_after_arrival}
 use Rattle.tier_tree.proofs.Joined.{stands_registered}
 use Rattle.tier_tree.proofs.Turned.{stands_after_phase_end, stands_after_force}
 use Rattle.tier_tree.proofs.Shown.{top_at, length-shown, flat_shown, root_shown, top_there, top-top, present-phase, present-ended}
-use Rattle.tier_tree.proofs.Changed.{there_shown}
+use Rattle.tier_tree.proofs.Changed.{only_root, there_shown}
 use Rattle.tier_tree.proofs.Kept.{keeps_places, registration-ends, arrival-ends, force-ends}
 use Rattle.tier_tree.proofs.Turning.{IsFull, turning}
 
@@ -36,52 +37,60 @@ pub written_back : (P : List Stored → List Stored → Type 0) (items given now
     → length given ≡ n → length written ≡ length given → P given written → P now (take n (written ++ drop (length written) items))
 written_back P items given now written n value view len many p = grind (arith, take_at)
 
--- what every call keeps
-pub record Keeps (next : Origin → Origin) (before after : List PhaserState) : Type 0 where
-  pub places : KeepsPlaces before after
-  pub ends : KeepsEnds before after
-  pub origin : Carries next before after
+-- a call that ends no phase
+pub record Keeps (id : ℕ) (next : Origin → Origin) (before after : List Stored) : Type 0 where
+  pub call : IsCall id next before after
+  pub ends : KeepsEnds (phasers_of before) (phasers_of after)
 
 there_given : (given now : List Stored) (id : ℕ) → given ≡ now → id < length now → id < length (phasers_of given)
 there_given given now id is there = there_shown given id (subst (λ (ss : List Stored). id < length ss) (sym is) there)
 
 pub registered : (items given now written : List Stored) (id count : ℕ) (answer : Registered) → given ≡ items → items ≡ now → IsStored items
     → id < length now → answer ≡ registration id count (phasers_of given) → phasers_of written ≡ after_registration id count (phasers_of given)
-    → Keeps (origin_after_registration answer id count) (phasers_of given) (phasers_of written)
-registered items given now written id count answer value view stored there is forest = record {
-  places = keeps_places (phasers_of given) (phasers_of written) (ap places_of forest ∙ registration-places id count (phasers_of given));
+    → ChangedAt id given written → Keeps id (origin_after_registration answer id count) given written
+registered items given now written id count answer value view stored there is forest only = record {
+  call = record {
+    only = only;
+    places = keeps_places (phasers_of given) (phasers_of written) (ap places_of forest ∙ registration-places id count (phasers_of given));
+    origin = λ origin stands. stands_registered id count (phasers_of given) (phasers_of written) origin answer
+        (subst IsStored (sym value) stored).places (there_given given now id (value ∙ view) there) is forest stands;
+  };
   ends = λ n. ap (λ (ps : List PhaserState). (phaser_at ps n).ends) forest ∙ registration-ends id count (phasers_of given) n;
-  origin = λ origin stands. stands_registered id count (phasers_of given) (phasers_of written) origin answer
-      (subst IsStored (sym value) stored).places (there_given given now id (value ∙ view) there) is forest stands;
 }
 
 pub arrived : (items given now written : List Stored) (id : ℕ) (leave : Bool) (answer : Arrived) → given ≡ items → items ≡ now → IsStored items
     → id < length now → record { phasers = phasers_of written; answer = answer } ≡ arrival id leave (phasers_of given)
-    → Keeps (origin_after_arrival answer id (root_at (phasers_of given) id) leave) (phasers_of given) (phasers_of written)
-arrived items given now written id leave answer value view stored there is = record {
-  places = keeps_places (phasers_of given) (phasers_of written)
-      (ap (λ (a : Arrives). places_of a.phasers) is ∙ arrival-places id leave (phasers_of given));
+    → ChangedAt id given written → Keeps id (origin_after_arrival answer id (root_at (phasers_of given) id) leave) given written
+arrived items given now written id leave answer value view stored there is only = record {
+  call = record {
+    only = only;
+    places = keeps_places (phasers_of given) (phasers_of written)
+        (ap (λ (a : Arrives). places_of a.phasers) is ∙ arrival-places id leave (phasers_of given));
+    origin = λ origin stands. stands_after_arrival (phasers_of given) origin id leave (record { phasers = phasers_of written; answer = answer })
+        (subst IsStored (sym value) stored).places (there_given given now id (value ∙ view) there) is stands;
+  };
   ends = λ n. ap (λ (a : Arrives). (phaser_at a.phasers n).ends) is ∙ arrival-ends id leave (phasers_of given) n;
-  origin = λ origin stands. stands_after_arrival (phasers_of given) origin id leave (record { phasers = phasers_of written; answer = answer })
-      (subst IsStored (sym value) stored).places (there_given given now id (value ∙ view) there) is stands;
 }
 
 pub forced : (items given now written : List Stored) (id : ℕ) → given ≡ items → items ≡ now → IsStored items
     → id < length now → phasers_of written ≡ after_force id (phasers_of given)
-    → Keeps (λ origin. origin) (phasers_of given) (phasers_of written)
-forced items given now written id value view stored there forest = record {
-  places = keeps_places (phasers_of given) (phasers_of written) (ap places_of forest ∙ force-places id (phasers_of given));
+    → ChangedAt id given written → Keeps id (λ origin. origin) given written
+forced items given now written id value view stored there forest only = record {
+  call = record {
+    only = only;
+    places = keeps_places (phasers_of given) (phasers_of written) (ap places_of forest ∙ force-places id (phasers_of given));
+    origin = λ origin stands. stands_after_force id (phasers_of given) (phasers_of written) origin
+        (subst IsStored (sym value) stored).places (there_given given now id (value ∙ view) there) forest stands;
+  };
   ends = λ n. ap (λ (ps : List PhaserState). (phaser_at ps n).ends) forest ∙ force-ends id (phasers_of given) n;
-  origin = λ origin stands. stands_after_force id (phasers_of given) (phasers_of written) origin
-      (subst IsStored (sym value) stored).places (there_given given now id (value ∙ view) there) forest stands;
 }
 
-pub turned_places : (given written : List Stored) (root : ℕ) (ends : Bool) → phasers_of written ≡ after_phase_end root ends (phasers_of given)
+turned_places : (given written : List Stored) (root : ℕ) (ends : Bool) → phasers_of written ≡ after_phase_end root ends (phasers_of given)
     → KeepsPlaces (phasers_of given) (phasers_of written)
 turned_places given written root ends forest =
     keeps_places (phasers_of given) (phasers_of written) (ap places_of forest ∙ turn-places root ends (phasers_of given))
 
-pub turned_origin : (items given now written : List Stored) (root : ℕ) (ends : Bool) → given ≡ items → items ≡ now → IsStored items
+turned_origin : (items given now written : List Stored) (root : ℕ) (ends : Bool) → given ≡ items → items ≡ now → IsStored items
     → root < length now → root_at (phasers_of now) root ≡ root → (flat_at (phasers_of now) root).ended ≡ false
     → phasers_of written ≡ after_phase_end root ends (phasers_of given)
     → Carries (origin_after_phase_end root (phasers_of given)) (phasers_of given) (phasers_of written)
@@ -90,6 +99,21 @@ turned_origin items given now written root ends value view stored there top live
     λ origin stands. stands_after_phase_end root ends (phasers_of given) (phasers_of written) origin (subst IsStored (sym value) stored).places
     (there_given given now root same there) (subst (λ (ss : List Stored). root_at (phasers_of ss) root ≡ root) (sym same) top)
     (subst (λ (ss : List Stored). (flat_at (phasers_of ss) root).ended ≡ false) (sym same) live) forest stands
+
+-- a phase end writes the root's word alone
+pub turned : (items given now written : List Stored) (root : ℕ) (ends : Bool) → given ≡ items → items ≡ now → IsStored items
+    → root < length now → root_at (phasers_of now) root ≡ root → (flat_at (phasers_of now) root).ended ≡ false
+    → phasers_of written ≡ after_phase_end root ends (phasers_of given) → ChangedOnly (root ∷ []) given written
+    → IsCall root (origin_after_phase_end root (phasers_of given)) given written
+turned items given now written root ends value view stored there top live forest only =
+    let same = value ∙ view in
+    let within = subst (λ (ss : List Stored). root < length ss) (sym same) there in
+    record {
+      only = only_root given written root root (subst IsStored (sym value) stored) within
+          (sym (subst (λ (ss : List Stored). root_at (phasers_of ss) root ≡ root) (sym same) top) ∙ root_shown given root within) only;
+      places = turned_places given written root ends forest;
+      origin = turned_origin items given now written root ends value view stored there top live forest;
+    }
 
 -- of a turned root all have arrived: its word says so
 pub all_full : (forest : List Stored) (id : ℕ) → id < length forest → IsFull (flat_at (phasers_of forest) id)

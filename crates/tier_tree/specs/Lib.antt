@@ -12,5 +12,6 @@ pub mod Stored
 pub mod Answer
 pub mod Undo
 pub mod Origin
+pub mod Call
 pub mod Law
 pub mod Trees

@@ -97,12 +97,12 @@ origin_after_registration (registered.Dead view) id count origin = origin
 origin_after_registration registered.Held id count origin = origin
 origin_after_registration registered.TooMany id count origin = origin
 
--- a phaser is declared with these parties; a root's tree has had no stray
-abbrev pub declared_at : ℕ → ℕ → Bool → Origin → Origin
-declared_at id count top origin = record {
+-- a phaser is declared with these parties; where it is a root, its tree has had no stray
+abbrev pub declared_at : (id : ℕ) → (count : ℕ) → (is_top : Bool) → Origin → Origin
+declared_at id count is_top origin = record {
   registered = λ n. if n == id then count else origin.registered n;
   unarrived = λ n. if n == id then count else origin.unarrived n;
-  stray = λ n. if top && (n == id) then false else origin.stray n;
+  stray = λ n. if is_top && (n == id) then false else origin.stray n;
 }
 
 -- whatever counts the one forest stands for, the other stands for what is made of them here

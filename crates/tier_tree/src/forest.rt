@@ -2,10 +2,11 @@ ghost use Rattle.std.specs.Prelude.{◌≡◌, ℕ, ◌<◌, List, [], length, t
 ghost use Rattle.tier_tree.specs.Answer.{DoesntJoin, DoesntArrive, IfTurning, MakesPending};
 ghost use Rattle.tier_tree.specs.Answer.{KeepsPlaces, KeepsEnds, HaveOnePhase};
 ghost use Rattle.tier_tree.specs.Arrival.{arrival};
+ghost use Rattle.tier_tree.specs.Call.{IsCall};
 ghost use Rattle.tier_tree.specs.Declaration.{AreAllFresh};
 ghost use Rattle.tier_tree.specs.Forest.{phaser_at, flat_at, root_at};
 ghost use Rattle.tier_tree.specs.Law.{NobodyComesBetween};
-ghost use Rattle.tier_tree.specs.Origin.{Origin, AreTallied, Carries, HaveAllArrived};
+ghost use Rattle.tier_tree.specs.Origin.{Origin, AreTallied, HaveAllArrived};
 ghost use Rattle.tier_tree.specs.Origin.{origin_after_registration, origin_after_arrival, origin_after_phase_end};
 ghost use Rattle.tier_tree.specs.PhaseEnd.{most_ends, after_phase_end, after_force};
 ghost use Rattle.tier_tree.specs.Registration.{registration, after_registration};
@@ -39,7 +40,7 @@ fn copy_of(alloc: Global, nodes: &[Node]) -> Result<Vec<Node>, AllocError>
 /// A forest is stored as one word a phaser, and contracts see these words. A phase end writes the
 /// root's word alone, so that the word of a child may be that of an earlier phase; `phasers_of` in
 /// `specs/Stored.antt` says what the words mean at present, and all answers, counts and changes are
-/// promised of that. `only` says beside it whose words may differ after a call.
+/// promised of that. `IsCall` says beside it whose words may differ after a call.
 #[derive(Drop)]
 pub struct Forest {
     nodes: Vec<Node>,
@@ -94,12 +95,8 @@ impl Forest {
         ensures forest { phasers_of self.new
             ≡ after_registration id.0 count (phasers_of self.old) }
         ensures refused { DoesntJoin result count → self.new ≡ self.old }
-        ensures only { ChangedAt id.0 self.old self.new }
-        ensures many { length self.new ≡ length self.old }
-        ensures places { KeepsPlaces (phasers_of self.old) (phasers_of self.new) }
+        ensures call { IsCall id.0 (origin_after_registration result id.0 count) self.old self.new }
         ensures ends { KeepsEnds (phasers_of self.old) (phasers_of self.new) }
-        ensures origin { Carries (origin_after_registration result id.0 count)
-            (phasers_of self.old) (phasers_of self.new) }
     {
         join::register(self.nodes.as_mut_slice(), id.0 as usize, count)
     }
@@ -115,13 +112,10 @@ impl Forest {
             × (root.0 ≡ root_at (phasers_of self.old) id.0)
             × MakesPending root.0 (phasers_of self.old) (phasers_of self.new)) }
         ensures refused { DoesntArrive result → self.new ≡ self.old }
-        ensures only { ChangedAt id.0 self.old self.new }
-        ensures many { length self.new ≡ length self.old }
-        ensures places { KeepsPlaces (phasers_of self.old) (phasers_of self.new) }
-        ensures ends { KeepsEnds (phasers_of self.old) (phasers_of self.new) }
-        ensures origin { Carries
+        ensures call { IsCall id.0
             (origin_after_arrival result id.0 (root_at (phasers_of self.old) id.0) leave)
-            (phasers_of self.old) (phasers_of self.new) }
+            self.old self.new }
+        ensures ends { KeepsEnds (phasers_of self.old) (phasers_of self.new) }
     {
         climb::arrive(self.nodes.as_mut_slice(), id.0 as usize, leave)
     }
@@ -138,14 +132,10 @@ impl Forest {
         requires live { (flat_at (phasers_of self.old) root.0).ended ≡ false }
         requires ends { (phaser_at (phasers_of self.old) root.0).ends < most_ends }
         ensures forest { phasers_of self.new ≡ after_phase_end root.0 ends (phasers_of self.old) }
-        ensures only { ChangedAt root.0 self.old self.new }
-        ensures many { length self.new ≡ length self.old }
-        ensures places { KeepsPlaces (phasers_of self.old) (phasers_of self.new) }
+        ensures call { IsCall root.0 (origin_after_phase_end root.0 (phasers_of self.old)) self.old self.new }
         ensures safe { (origin : Origin) → AreTallied (phasers_of self.old) origin
             → origin.stray root.0 ≡ false
             → HaveAllArrived origin root.0 (phasers_of self.old) }
-        ensures origin { Carries (origin_after_phase_end root.0 (phasers_of self.old))
-            (phasers_of self.old) (phasers_of self.new) }
     {
         phase_end::end_phase(self.nodes.as_mut_slice(), root.0 as usize, ends);
     }
@@ -155,11 +145,8 @@ impl Forest {
     pub fn force(&mut self, id: PhaserId)
         requires { id.0 < length self.old }
         ensures forest { phasers_of self.new ≡ after_force id.0 (phasers_of self.old) }
-        ensures only { ChangedAt id.0 self.old self.new }
-        ensures many { length self.new ≡ length self.old }
-        ensures places { KeepsPlaces (phasers_of self.old) (phasers_of self.new) }
+        ensures call { IsCall id.0 (λ origin. origin) self.old self.new }
         ensures ends { KeepsEnds (phasers_of self.old) (phasers_of self.new) }
-        ensures origin { Carries (λ origin. origin) (phasers_of self.old) (phasers_of self.new) }
     {
         phase_end::force_tree(self.nodes.as_mut_slice(), id.0 as usize);
     }

@@ -33,6 +33,7 @@ impl Line {
         }
     }
 
+    /// An equal line.
     pub fn copy(&self) -> Line
         ensures { result ≡ self.now }
     {
@@ -42,6 +43,7 @@ impl Line {
         }
     }
 
+    /// The numbers of the phasers, from this one up to its root.
     pub fn as_slice(&self) -> &[u8]
         ensures { result.now ≡ self.now }
     {

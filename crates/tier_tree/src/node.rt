@@ -42,6 +42,7 @@ impl Node {
         }
     }
 
+    /// An equal phaser.
     pub fn copy(&self) -> Node
         ensures { result ≡ self.now }
     {
@@ -53,6 +54,7 @@ impl Node {
         }
     }
 
+    /// The way from the phaser up to its root.
     pub fn line(&self) -> Line
         ensures { result ≡ self.now.line }
     {
@@ -66,6 +68,7 @@ impl Node {
         self.line.root()
     }
 
+    /// What `onAdvance` returns, where the phaser is a root.
     pub fn policy(&self) -> Policy
         ensures { result ≡ self.now.policy }
     {
@@ -86,6 +89,7 @@ impl Node {
         self.ended_phases
     }
 
+    /// Replaces the word alone.
     pub fn set_word(&mut self, word: Word)
         ensures { self.new ≡ record self.old { word = word } }
     {

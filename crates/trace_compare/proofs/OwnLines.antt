@@ -1,6 +1,5 @@
 -- The run's own lines at the beginning of bytes of a trace, and another line there that names a choice.
 use Rattle.std.proofs.Common.{◌≡◌, ◌≢◌, ◌∙◌, ◌+◌, ◌<◌, ◌≤◌, ◌^◌, ◌&&◌, ◌⊎◌, ℕ, true, false, zero, suc, List, [], ◌∷◌, ◌++◌, length, drop, take, cond, Some, refl, ap, sym, subst, arith, append_assoc, append-nil, length-append, length-drop, take-append-drop, inl, inr, decimal}
-use Rattle.std.specs.Prelude.{IfOk, Result}
 use Rattle.std.specs.List.{join_with_byte, slice_split}
 use Rattle.std.specs.Str.{bytes_eq}
 use Rattle.std.proofs.lemmas.Bool.{false_from_ne_true}
@@ -71,10 +70,6 @@ Goes-more a b c bytes rest done count is one two = record {
   text = two.text ∙ one.text;
   at = two.at ∙ one.at;
 }
-
-pub Goes-after : {E : Type 0} (result : Result ℕ E) (a b c : Comparison) (bytes : List ℕ) (none : ℕ) → none ≡ 0
-    → GoesOver a b bytes none → IfOk result (λ count. GoesOver b c bytes count) → IfOk result (λ count. GoesOver a c bytes count)
-Goes-after result a b c bytes none is one two = grind arith
 
 -- the bytes begin with the run's line of the choice
 pub met : (before after : Comparison) (choice : Choice) (text bytes : List ℕ) (count : ℕ) → IsReading before → IsReading after

@@ -1,5 +1,5 @@
 -- The verdict on lines that are the run's.
-use Rattle.std.proofs.Common.{◌≡◌, ◌∙◌, ◌+◌, ◌<◌, ◌≤◌, ◌&&◌, ◌⊎◌, ℕ, Bool, true, false, List, [], ◌∷◌, ◌++◌, length, drop, Option, Some, None, ◌==◌, zero, suc, refl, ap, sym, arith, cond, take, min, length-append, take-append-drop}
+use Rattle.std.proofs.Common.{◌≡◌, ◌∙◌, ◌+◌, ◌<◌, ◌≤◌, ◌&&◌, ◌⊎◌, ℕ, Bool, true, false, List, [], ◌∷◌, ◌++◌, length, drop, Option, Some, None, ◌==◌, zero, suc, refl, ap, sym, arith, cond, take, min, length-append, take-append-drop, subst}
 use Rattle.std.specs.Prelude.{Result, Ok, Err, IfOk}
 use Rattle.trace_compare.specs.declared.comparison.Comparison.{Comparison}
 use Rattle.trace_compare.specs.Comparing.{HasCounted, HasJudged, HasLeft, IsOpen, MeetsText, StandsFrom, bytes_left, decided, lines_left, text_left, told_by, told_left}
@@ -19,9 +19,8 @@ use Rattle.line_reader.specs.Words.{is_line_end}
 use Rattle.thread_machine.specs.declared.choice.Choice.{Choice}
 use Rattle.thread_machine.specs.World.{StoredWorld, World, world_of}
 use Rattle.trace_compare.specs.declared.comparison.Verdict.{Verdict}
-use Rattle.trace_compare.specs.declared.comparison.Judged.{Judged}
 use Rattle.trace_compare.specs.declared.comparison.Verdict.TheVariants as verdict
-use Rattle.trace_compare.specs.Compare.{HasCompared, HasShown, HasTold, Told, choice_verdict, line_by, lines_verdict, otherwise, state_verdict, told, told_of}
+use Rattle.trace_compare.specs.Compare.{HasCompared, HasShown, HasTold, IsReadNoFurther, Told, choice_verdict, line_by, lines_verdict, otherwise, state_verdict, told_of}
 use Rattle.trace_text.specs.Reading.{HasNoLongLine, first_line, after_line, is_state_line, choice_in}
 use Rattle.trace_text.specs.State.{state_text}
 use Rattle.trace_text.specs.Trace.{Plays, lines_of}
@@ -215,26 +214,28 @@ told-first : (now : Comparison) (machine : StoredWorld) (bytes : List ℕ) (left
 told-first now machine bytes left told same given = grind arith
 
 -- of an image whose program begins in that world
-pub told-all : {E : Type 0} (result : Result Verdict E) (image : Image) (now last : Comparison) (machine : StoredWorld)
-    (before after : Option (List ℕ)) → Begins image (world_of machine) → now.machine ≡ machine
+pub told-all : (image : Image) (now last : Comparison) (machine : StoredWorld) (v : Verdict) (before after : Option (List ℕ))
+    → Begins image (world_of machine) → now.machine ≡ machine
     → (now.accepted ≡ true) × (now.is_state ≡ false) → now.number ≡ 1
-    → IfOk result (λ v. (bytes : List ℕ) × (Consumes before after bytes × HasLeft now bytes after (told_by v last)))
-    → IfOk result (λ v. HasShown image before after (told_by v last))
-told-all (Ok v) image now last machine before after begins machine_is start number_is (bytes, (consumed, left)) =
+    → (bytes : List ℕ) × (Consumes before after bytes × HasLeft now bytes after (told_by v last))
+    → HasShown image before after (told_by v last)
+told-all image now last machine v before after begins machine_is start number_is (bytes, (consumed, left)) =
     let same = λ (rest : List ℕ). left-first now machine rest machine_is start.0 start.1 number_is in
     (world_of machine, (bytes, (begins, consumed, told-first now machine bytes after (told_by v last) same left)))
-told-all (Err e) image now last machine before after begins machine_is start number_is p = p
+
+-- its verdict is the one that was found
+verdict-by : (v : Verdict) (last : Comparison) → (told_by v last).verdict ≡ v
+verdict-by verdict.Same last = refl
+verdict-by (verdict.Differs n) last = refl
+verdict-by (verdict.NotATrace n) last = refl
+
+pub judged-so : (image : Image) (v : Verdict) (last : Comparison) (before after : Option (List ℕ))
+    → HasShown image before after (told_by v last) → IsReadNoFurther before after v
+    → HasShown image before after (told_by v last) × IsReadNoFurther before after (told_by v last).verdict
+judged-so image v last before after shown far = (shown, subst (IsReadNoFurther before after) (sym (verdict-by v last)) far)
 
 -- the verdict alone
-pub compared : {E : Type 0} (result : Result Verdict E) (image : Image) (last : Comparison) (before after : Option (List ℕ))
-    → IfOk result (λ v. HasShown image before after (told_by v last)) → IfOk result (λ v. HasCompared image before after v)
-compared result image last before after p = grind arith
-
--- what is told by one who copies the line
-pub with_line : {E : Type 0} (P : Told → Type 0) (result : Result Judged E) (v : Verdict) (last : Comparison) → P (told_by v last)
-    → IfOk result (λ judged. told judged ≡ told_by v last) → IfOk result (λ judged. P (told judged))
-with_line P result v last holds is = grind arith
-
-pub with_verdict : {E : Type 0} (P : Verdict → Type 0) (result : Result Judged E) (v : Verdict) (last : Comparison) → P v
-    → IfOk result (λ judged. told judged ≡ told_by v last) → IfOk result (λ judged. P judged.verdict)
-with_verdict P result v last holds is = grind arith
+pub compared : (image : Image) (told : Told) (v : Verdict) (before after : Option (List ℕ)) → v ≡ told.verdict
+    → HasShown image before after told × IsReadNoFurther before after told.verdict
+    → HasCompared image before after v × IsReadNoFurther before after v
+compared image told v before after is given = grind arith

@@ -1,5 +1,5 @@
 -- What a comparison of a trace with the run that it names says.
-use Rattle.std.specs.Prelude.{◌≡◌, ◌⊎◌, ℕ, ◌+◌, ◌-◌, ◌&&◌, ◌≤◌, ◌<◌, if◌then◌else◌, Bool, true, List, [], ◌∷◌, ◌++◌, length, Option, Some, None, is_none, option_map, zero, suc}
+use Rattle.std.specs.Prelude.{◌≡◌, ◌⊎◌, ℕ, ◌+◌, ◌-◌, ◌&&◌, ◌≤◌, ◌<◌, if◌then◌else◌, Bool, true, false, IsTrue, List, [], ◌∷◌, ◌++◌, length, Option, Some, None, Result, Ok, Err, is_none, zero, suc}
 use Rattle.std.specs.Io.KnownBytes.{Appends, Consumes, IsAtEnd}
 use Rattle.std.specs.List.{before_first, count_by, slice_split}
 use Rattle.std.specs.Str.{bytes_eq}
@@ -8,11 +8,14 @@ use Rattle.row_code.specs.declared.image.Image.{Image}
 use Rattle.thread_machine.specs.declared.choice.Choice.{Choice}
 use Rattle.thread_machine.specs.World.{World}
 use Rattle.thread_machine.specs.Execution.{execution}
-use Rattle.trace_compare.specs.declared.comparison.Judged.{Judged}
+use Rattle.loader.specs.Fault.{first_fault}
+use Rattle.trace_compare.specs.declared.comparison.CompareFault.{CompareFault}
+use Rattle.trace_compare.specs.declared.comparison.CompareFault.TheVariants as fault
 use Rattle.trace_compare.specs.declared.comparison.Verdict.{Verdict}
 use Rattle.trace_compare.specs.declared.comparison.Verdict.TheVariants as verdict
 use Rattle.trace_text.specs.Reading.{after_line, choice_in, first_line, is_state_line, is_too_long}
-use Rattle.trace_text.specs.Start.{Begins}
+use Rattle.trace_text.specs.RunText.{GivesOnAndOn}
+use Rattle.trace_text.specs.Start.{Begins, IsRefused, is_want_of_memory}
 use Rattle.trace_text.specs.State.{state_text}
 use Rattle.trace_text.specs.Trace.{lines_of, trace_of}
 
@@ -83,9 +86,6 @@ pub record Told : Type 0 where
   pub verdict : Verdict
   pub line : Option (List ℕ)
 
-abbrev pub told : Judged → Told
-told judged = record { verdict = judged.verdict; line = option_map (λ line. line.items) judged.run }
-
 -- of a whole trace: that line of the trace of the choices which its lines name
 abbrev pub told_of : World → List ℕ → Told
 told_of world trace =
@@ -124,6 +124,29 @@ abbrev pub IsReadNoFurther : Option (List ℕ) → Option (List ℕ) → Verdict
 IsReadNoFurther before after verdict.Same = IsAtEnd after
 IsReadNoFurther before after (verdict.Differs line) = IsReadUpTo line before after
 IsReadNoFurther before after (verdict.NotATrace line) = IsReadUpTo line before after
+
+-- what is told, and the line of the trace that the verdict names, if it has one
+pub record Judgement : Type 0 where
+  pub told : Told
+  pub trace : Option (List ℕ)
+
+-- why there is no verdict: the image isn't loaded, for a reason that isn't want of memory, and nothing was read; there was no
+-- memory; or the trace of an image that is loaded can't be read
+abbrev pub StopsFor : CompareFault → Image → (before after : Option (List ℕ)) (failed : Bool) → Type 0
+StopsFor (fault.Load f) image before after failed = IsRefused f image × (is_want_of_memory f ≡ false) × (after ≡ before)
+StopsFor fault.Memory image before after failed = Unit {0}
+StopsFor fault.Read image before after failed = (first_fault image ≡ None) × (IsTrue failed ⊎ GivesOnAndOn before after)
+
+-- a comparison came to this verdict, or stopped
+abbrev pub Compares : Image → Result Verdict CompareFault → (before after : Option (List ℕ)) (failed : Bool) → Type 0
+Compares image (Ok v) before after failed = HasCompared image before after v × IsReadNoFurther before after v
+Compares image (Err f) before after failed = StopsFor f image before after failed
+
+-- a comparison came to a verdict of which this is told, or stopped
+abbrev pub Judges : Image → Result Judgement CompareFault → (before after : Option (List ℕ)) (failed : Bool) → Type 0
+Judges image (Ok judged) before after failed =
+    HasShown image before after judged.told × IsReadNoFurther before after judged.told.verdict
+Judges image (Err f) before after failed = StopsFor f image before after failed
 
 -- whatever a comparison with this program answers on a trace, it is `Same`
 abbrev pub IsFoundTheSame : Image → List ℕ → Type 0

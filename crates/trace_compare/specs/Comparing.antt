@@ -1,5 +1,5 @@
 -- What the lines that are left make of a comparison. Nobody has to believe this: it is what proofs go by, from line to line.
-use Rattle.std.specs.Prelude.{◌≡◌, ◌⊎◌, [], ◌∷◌, ◌+◌, ◌-◌, ◌<◌, ◌≤◌, ◌++◌, ◌&&◌, ◌||◌, not, ℕ, Bool, false, true, List, decimal, drop, length, take, if◌then◌else◌, Option, Some, None}
+use Rattle.std.specs.Prelude.{◌≡◌, ◌⊎◌, ◌==◌, [], ◌∷◌, ◌+◌, ◌-◌, ◌<◌, ◌≤◌, ◌++◌, ◌&&◌, ◌||◌, not, ℕ, Bool, false, true, List, decimal, drop, length, take, if◌then◌else◌, Option, Some, None}
 use Rattle.std.specs.Io.KnownBytes.{IsAtEnd}
 use Rattle.std.specs.List.{count_by, slice_split}
 use Rattle.byte_ports.specs.SourceLines.{Lines}
@@ -58,6 +58,17 @@ line_kept now =
 abbrev pub told_by : Verdict → Comparison → Told
 told_by (verdict.Differs n) now = record { verdict = verdict.Differs n; line = line_kept now }
 told_by v now = record { verdict = v; line = None }
+
+-- whether a line that has come so is one: behind the last LF no bytes are none
+abbrev pub is_one : LineEnded → List ℕ → Bool
+is_one how.AtEnd line = not (length line == 0)
+is_one ended line = true
+
+-- whether a verdict names the line of this number
+abbrev pub names_line : Verdict → ℕ → Bool
+names_line verdict.Same n = false
+names_line (verdict.Differs at) n = at == n
+names_line (verdict.NotATrace at) n = at == n
 
 -- a line was the run's, or it differs and is kept
 abbrev pub MeetsText : Comparison → Comparison → List ℕ → List (List ℕ) → Option Verdict → Type 0

@@ -1,27 +1,24 @@
-ghost use Rattle.std.specs.Prelude.{◌≡◌, ◌≢◌, ◌⊎◌, IsTrue, IfErr, Err, false, true, ◌==◌, ◌&&◌, ◌<◌, ◌≤◌, ◌+◌, ◌-◌, ◌++◌, ◌∷◌, [], List, ℕ, Option, None, Ok, IfOk, OnOk, decimal, drop, length, option_map, take};
+ghost use Rattle.std.specs.Prelude.{◌≡◌, ◌≢◌, ◌⊎◌, IsTrue, Err, false, true, ◌==◌, ◌&&◌, ◌<◌, ◌≤◌, ◌+◌, ◌-◌, ◌++◌, ◌∷◌, [], List, ℕ, Option, None, Ok, IfOk, OnOk, decimal, drop, length, option_map, take};
 ghost use Rattle.std.specs.Io.KnownBytes.{Consumes};
 ghost use Rattle.std.specs.Str.{bytes_eq};
 ghost use Rattle.byte_ports.specs.SourceLines.{HasCome, IsOneLine};
 ghost use Rattle.thread_machine.specs.World.{world_of};
 ghost use Rattle.trace_text.specs.RunText.{GivesOnAndOn};
-ghost use Rattle.trace_text.specs.Start.{IsRefused, is_want_of_memory};
 ghost use Rattle.trace_text.specs.Reading.{HasNoLongLine, choice_in, is_state_line};
-ghost use Rattle.trace_compare.specs.Compare.{HasCompared, HasShown, IsReadNoFurther, choice_verdict, line_at, lines_verdict, state_verdict, told};
-ghost use Rattle.trace_compare.specs.Comparing.{GoesOver, HasCounted, HasEndedBehind, HasJudged, HasLeft, IsOpen, IsReading, MeetsText, StandsBehind, StandsFrom, decided, line_kept, line_played, lines_left, told_by, told_left};
+ghost use Rattle.trace_compare.specs.Compare.{IsReadNoFurther, choice_verdict, line_at, lines_verdict, state_verdict};
+ghost use Rattle.trace_compare.specs.Comparing.{GoesOver, HasCounted, HasEndedBehind, HasJudged, HasLeft, IsOpen, IsReading, MeetsText, StandsBehind, StandsFrom, decided, is_one, line_kept, line_played, lines_left, names_line, told_by, told_left};
+ghost use Rattle.trace_compare.specs.NamedLines.{none_read};
 
 use crate::naming::MOST_LINES;
 use byte_ports::{LineEnded, Source, SourceLines};
 use line_reader::words::length_before;
 use loader::LoadFault;
-use row_code::Image;
 use std::alloc::{AllocError, Global};
-use thread_machine::{Choice, Machine};
+use thread_machine::Machine;
 use trace_text::digits::Digits;
-use trace_text::kept_line::{KeptLine, are_same};
 use trace_text::line_end::LineEnd;
 use trace_text::next_choice::{begins_with, choice_behind, first_bytes, rest_of};
 use trace_text::play::{line_of_choice, own_line_of_choice};
-use trace_text::start::{StartFault, first_machine};
 use trace_text::state::state_text;
 use trace_text::trace_line::{choice_in, is_state_line};
 
@@ -52,18 +49,12 @@ pub enum CompareFault {
 
 /// A run, as far as the lines of a trace name it.
 #[derive(Drop)]
-struct Comparison {
+pub(crate) struct Comparison {
     machine: Machine,
     /// The run's line of the last choice that was played; where that was the trace's, without its number.
     expected: LineEnd,
     /// The number of the next choice, as of the last line that was looked at where it lies.
     next: Digits,
-    /// The last choice that was played for such a line, after how many effective steps, and whether it was idle before: then
-    /// it may be idle again, and `kept` is its line, which is counted up.
-    last: Choice,
-    steps: u32,
-    again: bool,
-    kept: KeptLine,
     /// Whether all choices so far were accepted.
     accepted: bool,
     /// Whether the last one was played for the line that comes, which isn't its own: then none counts as accepted any more.
@@ -85,8 +76,8 @@ fn is_line(line: &[u8], text: &[u8]) -> bool
 }
 
 impl Comparison {
-    /// Before the first line.
-    fn new(alloc: Global, machine: Machine) -> Comparison
+    /// A comparison before the trace's first line.
+    pub(crate) fn new(alloc: Global, machine: Machine) -> Comparison
         ensures machine { result.machine ≡ machine }
         ensures start { (result.accepted ≡ true) × (result.is_state ≡ false) }
         ensures text { (result.text.items ≡ []) × (result.at ≡ 0) }
@@ -97,13 +88,6 @@ impl Comparison {
             machine,
             expected: LineEnd::new(),
             next: Digits::new(),
-            last: Choice {
-                thread: 0,
-                expiry: false,
-            },
-            steps: 0,
-            again: false,
-            kept: KeptLine::new(),
             accepted: true,
             missed: false,
             is_state: false,
@@ -230,33 +214,6 @@ impl Comparison {
         0
     }
 
-    /// Goes on over the line that these bytes begin with, where it is that of the last choice again, which is idle again.
-    /// Answers how many bytes it has, 0 where it is left.
-    #[inline(never)]
-    fn take_idle_line(&mut self, bytes: &[u8]) -> usize
-        requires room { 120 ≤ length bytes.now }
-        requires number { self.old.number < 9223372036854775807 }
-        requires reading { IsReading self.old }
-        ensures over { GoesOver self.old self.new bytes.now result }
-        ensures reading { IsReading self.new }
-    {
-        let choice = self.last;
-        if usize::from(choice.thread) >= self.machine.thread_count() {
-            return 0;
-        }
-        let pc = self.machine.pc(choice.thread);
-        self.kept.put_idle(self.machine.choices() + 1, choice, pc);
-        let length = self.kept.as_slice().len();
-        if !begins_with::<16>(bytes, self.kept.as_slice()) {
-            return 0;
-        }
-        if self.machine.idle(choice, 1) == 0 {
-            return 0;
-        }
-        self.number += 1;
-        length
-    }
-
     /// Goes on over the line that these bytes begin with, where it is the run's own. Answers how many bytes it has, 0 where
     /// it is left to be read whole. The choice that stands where the next line names its own is played first, and its line
     /// held against all these bytes at once: where they differ, none counts as accepted any more, since this isn't the line
@@ -276,53 +233,11 @@ impl Comparison {
         if usize::from(choice.thread) >= self.machine.thread_count() {
             return Ok(0);
         }
-        self.again = self.is_again(choice);
-        self.steps = self.machine.steps();
-        self.last = choice;
         match own_line_of_choice(&mut self.machine, choice, &mut self.expected) {
             Ok(true) => Ok(self.meet(bytes)),
             Ok(false) => Ok(0),
             Err(error) => Err(error),
         }
-    }
-
-    /// Whether this choice is the last one again, and that was idle.
-    #[inline(always)]
-    fn is_again(&self, choice: Choice) -> bool {
-        self.machine.steps() == self.steps && are_same(choice, self.last)
-    }
-
-    /// `take_idle_line`, where the last choice was made twice, and idle the first time.
-    #[inline(always)]
-    fn take_line_again(&mut self, bytes: &[u8]) -> usize
-        requires room { 120 ≤ length bytes.now }
-        requires number { self.old.number < 9223372036854775807 }
-        requires reading { IsReading self.old }
-        ensures over { GoesOver self.old self.new bytes.now result }
-        ensures reading { IsReading self.new }
-    {
-        if !self.again || self.machine.steps() != self.steps {
-            return 0;
-        }
-        let count = self.take_idle_line(bytes);
-        self.again = count > 0;
-        count
-    }
-
-    /// Goes on over one line by the shortest way there is.
-    #[inline(always)]
-    fn take_next_line(&mut self, bytes: &[u8]) -> Result<usize, AllocError>
-        requires room { 120 ≤ length bytes.now }
-        requires number { self.old.number < 9223372036854775807 }
-        requires reading { IsReading self.old }
-        ensures over { IfOk result (λ count. GoesOver self.old self.new bytes.now count) }
-        ensures reading { IfOk result (λ count. count ≢ 0 → IsReading self.new) }
-    {
-        let count = self.take_line_again(bytes);
-        if count > 0 {
-            return Ok(count);
-        }
-        self.take_own_line(bytes)
     }
 
     /// Goes on over the run's own lines, as many as these bytes begin with. The last bytes, in which a line may not lie whole,
@@ -336,7 +251,7 @@ impl Comparison {
         }
         let mut done = 0;
         while bytes.len() - done >= MOST_OWN {
-            match self.take_next_line(rest_of(bytes, done)) {
+            match self.take_own_line(rest_of(bytes, done)) {
                 Ok(0) => return Ok(done),
                 Ok(count) => done += count,
                 Err(error) => return Err(error),
@@ -441,7 +356,7 @@ fn first_line(alloc: Global, bytes: &[u8]) -> Result<Option<Vec<u8>>, AllocError
 impl Comparison {
     /// The run's line where the trace's differs, if the run has one there. No choice is played for it: it is the line of the
     /// choice that was played last, or one of the state text.
-    fn run_line(&self, alloc: Global) -> Result<Option<Vec<u8>>, AllocError>
+    pub(crate) fn run_line(&self, alloc: Global) -> Result<Option<Vec<u8>>, AllocError>
         requires { self.now.at ≤ length self.now.text.items }
         ensures { IfOk result (λ line. option_map (λ l. l.items) line ≡ line_kept self.now) }
     {
@@ -455,30 +370,57 @@ impl Comparison {
     }
 }
 
-/// Compares a trace with the run from the world in which the comparison stands. The run's own lines are taken where they lie,
-/// any other line is read.
-fn compare_lines<S: Source>(
+/// Whether a line that has come so is one: behind the last LF no bytes are none.
+fn is_one(ended: LineEnded, line: &[u8]) -> bool
+    ensures { result ≡ is_one ended line.now }
+{
+    match ended {
+        LineEnded::AtEnd => !line.is_empty(),
+        LineEnded::Whole | LineEnded::TooLong => true,
+    }
+}
+
+/// Whether a verdict names the line of this number.
+fn names_line(verdict: Verdict, number: u64) -> bool
+    ensures { result ≡ names_line verdict number }
+{
+    match verdict {
+        Verdict::Same => false,
+        Verdict::Differs { line } | Verdict::NotATrace { line } => line == number,
+    }
+}
+
+/// Whether the line that was read last, of this number, is the one that a verdict names.
+fn is_read(verdict: Verdict, number: u64, ended: LineEnded, line: &[u8]) -> bool
+    ensures { result ≡ (names_line verdict number && is_one ended line.now) }
+{
+    names_line(verdict, number) && is_one(ended, line)
+}
+
+/// Compares a trace with the run from the world in which the comparison stands, and answers the verdict, and whether the line
+/// of the trace that it names is the one that was read last. The run's own lines are taken where they lie, any other line is
+/// read.
+pub(crate) fn compare_lines<S: Source>(
     alloc: Global,
     now: &mut Comparison,
+    lines: &mut SourceLines,
     trace: &mut S,
-) -> Result<Verdict, CompareFault>
+) -> Result<(Verdict, bool), CompareFault>
     requires number { now.old.number ≡ 1 }
     requires at { now.old.at ≤ length now.old.text.items }
     requires short { HasNoLongLine now.old.text.items }
-    ensures verdict { IfOk result (λ verdict. (bytes : List ℕ)
+    requires lines { lines.old ≡ none_read }
+    ensures verdict { IfOk result (λ found. (bytes : List ℕ)
         × (Consumes (S.left trace.old) (S.left trace.new) bytes
-        × HasLeft now.old bytes (S.left trace.new) (told_by verdict now.new))) }
+        × HasLeft now.old bytes (S.left trace.new) (told_by found.0 now.new))) }
     ensures at { OnOk result (now.new.at ≤ length now.new.text.items) }
-    ensures far { IfOk result (λ verdict. IsReadNoFurther (S.left trace.old) (S.left trace.new) verdict) }
+    ensures far { IfOk result (λ found. IsReadNoFurther (S.left trace.old) (S.left trace.new) found.0) }
     ensures read { result ≡ Err CompareFault.Read → IsTrue (S.has_failed trace.new)
         ⊎ GivesOnAndOn (S.left trace.old) (S.left trace.new) }
     ensures reads { S.reads trace.new ≤ S.reads trace.old + 1000000000 }
     ensures sound { result ≢ Err CompareFault.Read → S.has_failed trace.old ≡ false → S.has_failed trace.new ≡ false }
     ensures load { (fault : LoadFault) → result ≢ Err (CompareFault.Load fault) }
 {
-    let Ok(mut lines) = SourceLines::new(alloc) else {
-        return Err(CompareFault::Memory);
-    };
     for _ in 0..MOST_LINES {
         let count = match now.take_own_lines(lines.held()) {
             Ok(count) => count,
@@ -489,95 +431,14 @@ fn compare_lines<S: Source>(
             Ok(ended) => ended,
             Err(_) => return Err(CompareFault::Read),
         };
+        let number = now.number;
         match now.take_ended(alloc, lines.line(), ended) {
             Ok(None) => {}
-            Ok(Some(verdict)) => return Ok(verdict),
+            Ok(Some(verdict)) => {
+                return Ok((verdict, is_read(verdict, number, ended, lines.line())));
+            }
             Err(_) => return Err(CompareFault::Memory),
         }
     }
     Err(CompareFault::Read)
-}
-
-/// A verdict, and the run's line where the trace's differs.
-#[derive(Drop)]
-pub struct Judged {
-    pub verdict: Verdict,
-    /// Without its LF. None where the run has no line of that number.
-    pub run: Option<Vec<u8>>,
-}
-
-/// Compares a trace with the run of an image's program that the trace's lines name, byte for byte, the state too. The verdict
-/// stands at the first line that is no line of a trace, or isn't the run's; no line behind that one is read whole, but for those
-/// that came in one piece with its end. A line of the trace and a line of the run are held at a time, and the state text at
-/// the end.
-pub fn compare<S: Source>(
-    alloc: Global,
-    image: Image,
-    trace: &mut S,
-) -> Result<Verdict, CompareFault>
-    ensures verdict { IfOk result (λ verdict.
-        HasCompared image (S.left trace.old) (S.left trace.new) verdict) }
-    ensures far { IfOk result (λ verdict. IsReadNoFurther (S.left trace.old) (S.left trace.new) verdict) }
-    ensures load { (fault : LoadFault) → result ≡ Err (CompareFault.Load fault)
-        → IsRefused fault image × (S.left trace.new ≡ S.left trace.old) }
-    ensures refused { (fault : LoadFault) → IsRefused fault image
-        → (result ≡ Err (CompareFault.Load fault)) ⊎ (result ≡ Err CompareFault.Memory) }
-    ensures wants { (fault : LoadFault) → result ≡ Err (CompareFault.Load fault) → is_want_of_memory fault ≡ false }
-    ensures read { result ≡ Err CompareFault.Read → IsTrue (S.has_failed trace.new)
-        ⊎ GivesOnAndOn (S.left trace.old) (S.left trace.new) }
-    ensures reads { S.reads trace.new ≤ S.reads trace.old + 1000000000 }
-    ensures sound { result ≢ Err CompareFault.Read → S.has_failed trace.old ≡ false → S.has_failed trace.new ≡ false }
-{
-    match first_machine(alloc, image) {
-        Ok(machine) => {
-            let mut now = Comparison::new(alloc, machine);
-            compare_lines(alloc, &mut now, trace)
-        }
-        Err(StartFault::Load(fault)) => Err(CompareFault::Load(fault)),
-        Err(StartFault::Memory) => Err(CompareFault::Memory),
-    }
-}
-
-/// As `compare` does, with the run's line beside a verdict that a line differs. Only that line is copied.
-pub fn compare_shown<S: Source>(
-    alloc: Global,
-    image: Image,
-    trace: &mut S,
-) -> Result<Judged, CompareFault>
-    ensures shown { IfOk result (λ judged. HasShown image (S.left trace.old) (S.left trace.new) (told judged)) }
-    ensures far { IfOk result (λ judged. IsReadNoFurther (S.left trace.old) (S.left trace.new) judged.verdict) }
-    ensures load { (fault : LoadFault) → result ≡ Err (CompareFault.Load fault)
-        → IsRefused fault image × (S.left trace.new ≡ S.left trace.old) }
-    ensures refused { (fault : LoadFault) → IsRefused fault image
-        → (result ≡ Err (CompareFault.Load fault)) ⊎ (result ≡ Err CompareFault.Memory) }
-    ensures wants { (fault : LoadFault) → result ≡ Err (CompareFault.Load fault) → is_want_of_memory fault ≡ false }
-    ensures read { result ≡ Err CompareFault.Read → IsTrue (S.has_failed trace.new)
-        ⊎ GivesOnAndOn (S.left trace.old) (S.left trace.new) }
-    ensures reads { S.reads trace.new ≤ S.reads trace.old + 1000000000 }
-    ensures sound { result ≢ Err CompareFault.Read → S.has_failed trace.old ≡ false → S.has_failed trace.new ≡ false }
-{
-    match first_machine(alloc, image) {
-        Ok(machine) => {
-            let mut now = Comparison::new(alloc, machine);
-            let verdict = compare_lines(alloc, &mut now, trace)?;
-            with_run_line(alloc, &now, verdict)
-        }
-        Err(StartFault::Load(fault)) => Err(CompareFault::Load(fault)),
-        Err(StartFault::Memory) => Err(CompareFault::Memory),
-    }
-}
-
-/// A verdict with the line that a comparison has for it.
-fn with_run_line(alloc: Global, now: &Comparison, verdict: Verdict) -> Result<Judged, CompareFault>
-    requires { now.now.at ≤ length now.now.text.items }
-    ensures told { IfOk result (λ judged. told judged ≡ told_by verdict now.now) }
-    ensures fault { IfErr result (λ fault. fault ≡ CompareFault.Memory) }
-{
-    let Verdict::Differs { .. } = verdict else {
-        return Ok(Judged { verdict, run: None });
-    };
-    match now.run_line(alloc) {
-        Ok(run) => Ok(Judged { verdict, run }),
-        Err(_) => Err(CompareFault::Memory),
-    }
 }

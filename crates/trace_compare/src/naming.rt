@@ -61,7 +61,7 @@ fn next_by(named: LineNames, ended: LineEnded) -> NextName
     }
 }
 
-/// Reads the next line and answers what it names.
+/// Reads the next line and answers what it names. It fails where the trace can't be read.
 pub fn next_name<S: Source>(lines: &mut SourceLines, trace: &mut S) -> Result<NextName, Failed>
     ensures thread { (choice : Choice) → (result ≡ Ok (NextName.Made choice)) ⊎ (result ≡ Ok (NextName.CutOff choice))
         → choice.thread ≤ 63 }

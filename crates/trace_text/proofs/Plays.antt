@@ -1,6 +1,7 @@
 -- Choices that are played one list after another.
-use Rattle.std.proofs.Common.{◌≡◌, ◌∙◌, ◌↔◌, ◌+◌, ◌<◌, ◌≤◌, ℕ, zero, suc, Bool, true, false, List, [], ◌∷◌, ◌++◌, Option, Some, None, IsTrue, refl, sym, ap, subst, append_assoc, append-nil, length, if◌then◌else◌, Result, Ok, Err, ◌-◌, replicate, drop, get_or, arith, min}
-use Rattle.std.proofs.lemmas.List.{drop_all, replicate-append-replicate}
+use Rattle.std.proofs.Common.{◌≡◌, ◌∙◌, ◌↔◌, ◌+◌, ◌<◌, ◌≤◌, ℕ, List, [], ◌∷◌, ◌++◌, Option, Some, None, true, refl, sym, ap, subst, append_assoc, append-nil, length, Result, Ok, Err, ◌-◌, replicate, drop, get_or, arith}
+use Rattle.std.specs.Prelude.{option_map}
+use Rattle.std.proofs.lemmas.List.{drop_all}
 use Rattle.std.proofs.KnownBytes.{Appends-nil, Appends-trans}
 use Rattle.std.specs.Io.KnownBytes.{Appends}
 use Rattle.thread_machine.specs.declared.choice.Choice.{Choice}
@@ -9,19 +10,19 @@ use Rattle.thread_machine.specs.declared.fault.StepFault.{StepFault}
 use Rattle.thread_machine.specs.declared.fault.StepFault.TheVariants.{NoSuchThread, StepLimit}
 use Rattle.thread_machine.specs.World.{World}
 use Rattle.machine_scene.specs.Scene.{Outcome, thread_at}
-use Rattle.thread_machine.specs.Step.{Played, played, played_by, idled, refusal_of}
-use Rattle.thread_machine.specs.Ready.{is_choice_ready}
+use Rattle.thread_machine.specs.Step.{Played, played, played_by, refusal_of}
 use Rattle.thread_machine.specs.Execution.{execution, execution_by}
-use Rattle.thread_machine.specs.Idle.{idle_event, idle_times}
-use Rattle.thread_machine.proofs.Readiness.{idle_choice}
-use Rattle.thread_machine.proofs.Idling.{idle_accepted}
 use Rattle.schedule_reader.specs.declared.run.Run.{Run}
 use Rattle.schedule_reader.specs.Schedule.{choices_of}
+use Rattle.trace_text.specs.declared.play.Refused.{Refused}
 use Rattle.trace_text.proofs.Traces.{flat_map-drop}
 use Rattle.trace_text.specs.Lines.{event_text}
-use Rattle.trace_text.specs.NumberedLine.{NumberedLine, IsBehindNumber, text_of}
-use Rattle.trace_text.specs.Playing.{idle_lines}
-use Rattle.trace_text.specs.Trace.{AppendsPartOf, Plays, lines_of, lines_by}
+use Rattle.trace_text.specs.Playing.{PlaysTo}
+use Rattle.trace_text.specs.Trace.{AppendsPartOf, Plays, lines_of, lines_by, refused_by, refused_of}
+
+-- why a choice was refused
+abbrev why_of : Refused → StepFault
+why_of refused = refused.why
 
 -- after a first choice, where the others go on from the world that it leaves
 goes_on_by : (refusal : Option StepFault) (world : World) (choice : Choice) (xs ys : List Choice)
@@ -72,40 +73,95 @@ stops [] world ys fault some = let no : ⊥ = cc in absurd no
 stops (x ∷ xs) world ys fault some =
     stops_by (refusal_of world x) world x xs ys fault (λ after. stops xs after ys fault) some
 
+-- ---- which choice is refused
+
+-- it is the one for whose reason the execution ends
+refusal_by : (refusal : Option StepFault) (world : World) (choice : Choice) (xs : List Choice)
+    → ((after : World) → (execution after xs).refusal ≡ option_map why_of (refused_of after xs))
+    → (execution_by refusal world choice (λ after. execution after xs)).refusal
+    ≡ option_map why_of (refused_by refusal world choice (λ after. refused_of after xs))
+refusal_by refusal world choice xs rest = grind arith
+
+pub refusal_is : (xs : List Choice) (world : World) → (execution world xs).refusal ≡ option_map why_of (refused_of world xs)
+refusal_is [] world = refl
+refusal_is (x ∷ xs) world = refusal_by (refusal_of world x) world x xs (λ after. refusal_is xs after)
+
+none_refused : (xs : List Choice) (world : World) → None ≡ refused_of world xs → (execution world xs).refusal ≡ None
+none_refused xs world none = refusal_is xs world ∙ ap (option_map why_of) (sym none)
+
+some_refused : (xs : List Choice) (world : World) (refused : Refused) → Some refused ≡ refused_of world xs
+    → (execution world xs).refusal ≡ Some refused.why
+some_refused xs world refused some = refusal_is xs world ∙ ap (option_map why_of) (sym some)
+
+-- in the world that it leaves
+refused_there_by : (refusal : Option StepFault) (world : World) (choice : Choice) (xs : List Choice) (refused : Refused)
+    → refusal_of world choice ≡ refusal
+    → ((after : World) → Some refused ≡ refused_of after xs
+    → refusal_of (execution after xs).world refused.choice ≡ Some refused.why)
+    → Some refused ≡ refused_by refusal world choice (λ after. refused_of after xs)
+    → refusal_of (execution_by refusal world choice (λ after. execution after xs)).world refused.choice ≡ Some refused.why
+refused_there_by refusal world choice xs refused is rest some = grind arith
+
+pub refused_there : (xs : List Choice) (world : World) (refused : Refused) → Some refused ≡ refused_of world xs
+    → refusal_of (execution world xs).world refused.choice ≡ Some refused.why
+refused_there [] world refused some = let no : ⊥ = cc in absurd no
+refused_there (x ∷ xs) world refused some =
+    refused_there_by (refusal_of world x) world x xs refused refl (λ after. refused_there xs after refused) some
+
+-- with choices before it that are all accepted, or behind it
+later_by : (refusal : Option StepFault) (world : World) (choice : Choice) (xs ys : List Choice)
+    → ((after : World) → None ≡ refused_of after xs → refused_of after (xs ++ ys) ≡ refused_of (execution after xs).world ys)
+    → None ≡ refused_by refusal world choice (λ after. refused_of after xs)
+    → refused_by refusal world choice (λ after. refused_of after (xs ++ ys))
+    ≡ refused_of (execution_by refusal world choice (λ after. execution after xs)).world ys
+later_by refusal world choice xs ys rest none = grind arith
+
+pub refused_later : (xs : List Choice) (world : World) (ys : List Choice) → None ≡ refused_of world xs
+    → refused_of world (xs ++ ys) ≡ refused_of (execution world xs).world ys
+refused_later [] world ys none = refl
+refused_later (x ∷ xs) world ys none =
+    later_by (refusal_of world x) world x xs ys (λ after. refused_later xs after ys) none
+
+before_by : (refusal : Option StepFault) (world : World) (choice : Choice) (xs ys : List Choice) (refused : Refused)
+    → ((after : World) → Some refused ≡ refused_of after xs → Some refused ≡ refused_of after (xs ++ ys))
+    → Some refused ≡ refused_by refusal world choice (λ after. refused_of after xs)
+    → Some refused ≡ refused_by refusal world choice (λ after. refused_of after (xs ++ ys))
+before_by refusal world choice xs ys refused rest some = grind arith
+
+pub refused_before : (xs : List Choice) (world : World) (ys : List Choice) (refused : Refused) → Some refused ≡ refused_of world xs
+    → Some refused ≡ refused_of world (xs ++ ys)
+refused_before [] world ys refused some = let no : ⊥ = cc in absurd no
+refused_before (x ∷ xs) world ys refused some =
+    before_by (refusal_of world x) world x xs ys refused (λ after. refused_before xs after ys refused) some
+
+-- ---- choices that are played
+
 -- no choices
-pub Plays-nil : (world : World) (known : Option (List ℕ)) → Plays world world [] true known known
-Plays-nil world known = record { lines = Appends-nil known; world = refl; answer = (λ _. refl, λ _. refl) }
+pub Plays-nil : (world : World) (known : Option (List ℕ)) → PlaysTo world world [] None known known
+Plays-nil world known = record { lines = Appends-nil known; world = refl; answer = refl }
 
 -- after choices that were all accepted, more are played
-pub Plays-append : (first middle last : World) (xs ys : List Choice) (all : Bool) (old now new : Option (List ℕ))
-    → Plays first middle xs true old now → Plays middle last ys all now new → Plays first last (xs ++ ys) all old new
-Plays-append first middle last xs ys all old now new p q =
-    let on = goes_on xs first ys (p.answer.0 refl) in
-    let q' = subst (λ world. Plays world last ys all now new) p.world q in
+pub Plays-append : (first middle last : World) (xs ys : List Choice) (refused : Option Refused) (old now new : Option (List ℕ))
+    → PlaysTo first middle xs None old now → PlaysTo middle last ys refused now new → PlaysTo first last (xs ++ ys) refused old new
+Plays-append first middle last xs ys refused old now new p q =
+    let on = goes_on xs first ys (none_refused xs first p.answer) in
+    let q' = subst (λ world. PlaysTo world last ys refused now new) p.world q in
     record {
       lines = subst (λ text. Appends old new text) (sym on.0) (Appends-trans old now new _ _ p.lines q'.lines);
       world = q'.world ∙ sym on.1;
-      answer = subst (λ (refusal : Option StepFault). IsTrue all ↔ (refusal ≡ None)) (sym on.2) q'.answer;
-    }
-
--- by the refusal, if there is one
-refused_by : (first last : World) (xs ys : List Choice) (old new : Option (List ℕ)) (refusal : Option StepFault)
-    → (execution first xs).refusal ≡ refusal
-    → Plays first last xs false old new → Plays first last (xs ++ ys) false old new
-refused_by first last xs ys old new None is p = let no : false ≡ true = p.answer.1 is in cc
-refused_by first last xs ys old new (Some fault) is p =
-    let end = stops xs first ys fault is in
-    record {
-      lines = subst (λ text. Appends old new text) (sym end.0) p.lines;
-      world = p.world ∙ sym end.1;
-      answer = (λ no. cc, λ none. let no : ⊥ = cc in absurd no);
+      answer = q'.answer ∙ sym (refused_later xs first ys p.answer);
     }
 
 -- after a refusal, nothing more is played
-pub Plays-refused : (first last : World) (xs ys : List Choice) (old new : Option (List ℕ))
-    → Plays first last xs false old new → Plays first last (xs ++ ys) false old new
-Plays-refused first last xs ys old new p =
-    refused_by first last xs ys old new (execution first xs).refusal refl p
+pub Plays-refused : (first last : World) (xs ys : List Choice) (refused : Refused) (old new : Option (List ℕ))
+    → PlaysTo first last xs (Some refused) old new → PlaysTo first last (xs ++ ys) (Some refused) old new
+Plays-refused first last xs ys refused old new p =
+    let end = stops xs first ys refused.why (some_refused xs first refused p.answer) in
+    record {
+      lines = subst (λ text. Appends old new text) (sym end.0) p.lines;
+      world = p.world ∙ sym end.1;
+      answer = refused_before xs first ys refused p.answer;
+    }
 
 -- a choice that is no choice of a missing thread and has a step left
 pub refusal_of-accepted : (event : Event) (world : World) (choice : Choice)
@@ -129,6 +185,21 @@ pub Plays-played : (world after : World) (choice : Choice) (event : Event) (step
     → Appends old new (event_text step choice pc event)
     → Plays world after (choice ∷ []) true old new
 Plays-played world after choice event step pc old new accepted both step_is pc_is line = grind (arith, played-choices, append-nil)
+
+-- which is one that was played, where none was refused
+pub Plays-one : (world after : World) (choice : Choice) (event : Event) (step pc : ℕ) (old new : Option (List ℕ))
+    → refusal_of world choice ≡ None
+    → (let both : Played = record { world = after; event = event } in both ≡ played world choice)
+    → step ≡ after.choices
+    → pc ≡ (thread_at world.scene choice.thread).pc
+    → Appends old new (event_text step choice pc event)
+    → PlaysTo world after (choice ∷ []) None old new
+Plays-one world after choice event step pc old new accepted both step_is pc_is line = grind (arith, played-choices, append-nil)
+
+-- a choice that is refused
+pub Plays-none : (world : World) (choice : Choice) (why : StepFault) (old new : Option (List ℕ)) → refusal_of world choice ≡ Some why
+    → Appends old new (lines_of world (choice ∷ [])) → PlaysTo world world (choice ∷ []) (Some (record { choice = choice; why = why })) old new
+Plays-none world choice why old new refused line = grind arith
 
 -- nothing is a part of a text
 pub Part-none : (old : Option (List ℕ)) (text : List ℕ) → AppendsPartOf old old text
@@ -156,10 +227,10 @@ Part-after old now new text more whole (part, (rest, (is, appends))) = (
 
 -- after choices that were all accepted, a part of the lines of others
 pub Part-append : (first middle : World) (xs ys : List Choice) (old now new : Option (List ℕ))
-    → Plays first middle xs true old now → AppendsPartOf now new (lines_of middle ys)
+    → PlaysTo first middle xs None old now → AppendsPartOf now new (lines_of middle ys)
     → AppendsPartOf old new (lines_of first (xs ++ ys))
 Part-append first middle xs ys old now new p q =
-    let on = goes_on xs first ys (p.answer.0 refl) in
+    let on = goes_on xs first ys (none_refused xs first p.answer) in
     subst (λ text. AppendsPartOf old new text) (sym on.0)
     (Part-after old now new _ _ p.lines
     (subst (λ (world : World). AppendsPartOf now new (lines_of world ys)) p.world q))
@@ -176,8 +247,8 @@ part_by first xs ys old new (Some fault) is p =
 -- what is still to play completes the whole: whoever plays the rest has played it all, and a part of the rest's lines
 -- makes a part of all lines
 pub record Continues (first now : World) (whole rest : List Choice) (old known : Option (List ℕ)) : Type 0 where
-  pub completed : (all : Bool) (last : World) (new : Option (List ℕ)) → Plays now last rest all known new
-      → Plays first last whole all old new
+  pub completed : (refused : Option Refused) (last : World) (new : Option (List ℕ)) → PlaysTo now last rest refused known new
+      → PlaysTo first last whole refused old new
   pub partly : (new : Option (List ℕ)) → AppendsPartOf known new (lines_of now rest)
       → AppendsPartOf old new (lines_of first whole)
 
@@ -190,34 +261,33 @@ Continues-part first now whole rest xs ys old known new is on p =
     (part_by now xs ys known new (execution now xs).refusal refl p))
 
 -- one part more
-pub Continues-next : (first now next : World) (whole rest xs ys : List Choice) (all : Bool)
-    (old known new : Option (List ℕ)) → rest ≡ xs ++ ys → Continues first now whole rest old known
-    → Plays now next xs all known new → all ≡ true → Continues first next whole ys old new
-Continues-next first now next whole rest xs ys all old known new is on p all_is = record {
-  completed = λ later last end q.
-      let p' = subst (λ b. Plays now next xs b known new) all_is p in
-      on.completed later last end (subst (λ choices. Plays now last choices later known end) (sym is)
-      (Plays-append now next last xs ys later known new end p' q));
-  partly = λ end q.
-      let p' = subst (λ b. Plays now next xs b known new) all_is p in
-      on.partly end (subst (λ choices. AppendsPartOf known end (lines_of now choices)) (sym is)
-      (Part-append now next xs ys known new end p' q));
-}
+pub Continues-next : (first now next : World) (whole rest xs ys : List Choice) (refused : Option Refused) (old known new : Option (List ℕ))
+    → rest ≡ xs ++ ys → Continues first now whole rest old known
+    → PlaysTo now next xs refused known new → refused ≡ None → Continues first next whole ys old new
+Continues-next first now next whole rest xs ys refused old known new is on played none =
+    let p = subst (λ r. PlaysTo now next xs r known new) none played in record {
+      completed = λ later last end q.
+          on.completed later last end (subst (λ choices. PlaysTo now last choices later known end) (sym is)
+          (Plays-append now next last xs ys later known new end p q));
+      partly = λ end q.
+          on.partly end (subst (λ choices. AppendsPartOf known end (lines_of now choices)) (sym is)
+          (Part-append now next xs ys known new end p q));
+    }
 
 -- a part with a refusal
-pub Continues-refused : (first now last : World) (whole rest xs ys : List Choice) (all : Bool)
+pub Continues-refused : (first now last : World) (whole rest xs ys : List Choice) (answer : Option Refused) (refused : Refused)
     (old known new : Option (List ℕ)) → rest ≡ xs ++ ys → Continues first now whole rest old known
-    → Plays now last xs all known new → all ≡ false → Plays first last whole false old new
-Continues-refused first now last whole rest xs ys all old known new is on p all_is =
-    let p' = subst (λ b. Plays now last xs b known new) all_is p in
-    on.completed false last new (subst (λ choices. Plays now last choices false known new) (sym is)
-    (Plays-refused now last xs ys known new p'))
+    → PlaysTo now last xs answer known new → answer ≡ Some refused → PlaysTo first last whole (Some refused) old new
+Continues-refused first now last whole rest xs ys answer refused old known new is on played some =
+    let p = subst (λ r. PlaysTo now last xs r known new) some played in
+    on.completed (Some refused) last new (subst (λ choices. PlaysTo now last choices (Some refused) known new) (sym is)
+    (Plays-refused now last xs ys refused known new p))
 
 -- nothing more is to play
 pub Continues-end : (first now : World) (whole rest : List Choice) (old known : Option (List ℕ)) → rest ≡ []
-    → Continues first now whole rest old known → Plays first now whole true old known
+    → Continues first now whole rest old known → PlaysTo first now whole None old known
 Continues-end first now whole rest old known is on =
-    on.completed true now known (subst (λ choices. Plays now now choices true known known) (sym is) (Plays-nil now known))
+    on.completed None now known (subst (λ choices. PlaysTo now now choices None known known) (sym is) (Plays-nil now known))
 
 -- one of the same choices, and the others
 pub replicate-first : (n : ℕ) (choice : Choice) → 0 < n
@@ -242,57 +312,6 @@ Part-longer first xs ys old new p = part_by first xs ys old new (execution first
 -- the whole text is a part
 pub Part-whole : (old new : Option (List ℕ)) (text : List ℕ) → Appends old new text → AppendsPartOf old new text
 Part-whole old new text whole = (text, ([], (sym (append-nil text), whole)))
-
--- the lines of one idle choice more
-more_idle_lines : (n before : ℕ) (choice : Choice) (pc : ℕ)
-    → idle_lines (suc n) before choice pc ≡ idle_lines n before choice pc ++ event_text (before + n + 1) choice pc idle_event
-more_idle_lines zero before choice pc = grind (arith, append-nil)
-more_idle_lines (suc n) before choice pc = grind (arith, append_assoc, more_idle_lines n (before + 1) choice pc)
-
-pub idle_lines-next : (n before : ℕ) (choice : Choice) (pc : ℕ) (line : NumberedLine) (old now new : Option (List ℕ))
-    → line.step ≡ before + (n + 1) → IsBehindNumber line.behind choice pc idle_event
-    → Appends old now (idle_lines n before choice pc) → Appends now new (text_of line)
-    → Appends old new (idle_lines (n + 1) before choice pc)
-idle_lines-next n before choice pc line old now new is behind lines next = grind (arith, more_idle_lines, Appends-trans)
-
--- the lines of idle choices in a row
-lines_of-idle : (n : ℕ) (world : World) (choice : Choice) → choice.thread < length world.scene.threads
-    → is_choice_ready world.program choice world.scene ≡ false → world.choices + n ≤ 1000000000000
-    → lines_of world (replicate n choice) ≡ idle_lines n world.choices choice (thread_at world.scene choice.thread).pc
-lines_of-idle zero world choice there idle few = refl
-lines_of-idle (suc n) world choice there idle few =
-    grind (arith, idle_accepted, idle_choice, lines_of-idle n (idled world).world choice there idle (omega (arith, few)))
-
--- a choice is played as long as it is idle
-pub Plays-idle : (world after : World) (choice : Choice) (most n before pc : ℕ) (old new : Option (List ℕ))
-    → n ≡ idle_times world choice most
-    → execution world (replicate n choice) ≡ record { world = after; events = replicate n idle_event; refusal = None }
-    → choice.thread < length world.scene.threads → before ≤ 1000000000000 → before ≡ world.choices
-    → pc ≡ (thread_at world.scene choice.thread).pc
-    → Appends old new (idle_lines n before choice pc)
-    → Plays world after (replicate n choice) true old new
-Plays-idle world after choice most n before pc old new times played there few before_is pc_is lines = grind (arith, lines_of-idle)
-
--- one such choice, and its line as it is kept
-one_time : (ready : Bool) (left n : ℕ) → n ≡ (if ready then 0 else min 1 left) → (n ≡ 0 → ⊥) → n ≡ 1
-one_time true left n times some = absurd (some times)
-one_time false left n times some = omega (arith, times, some)
-
-pub Plays-idle_again : (world after : World) (choice : Choice) (n pc : ℕ) (line : NumberedLine)
-    → n ≡ idle_times world choice 1 → (n ≡ 0 → ⊥)
-    → execution world (replicate n choice) ≡ record { world = after; events = replicate n idle_event; refusal = None }
-    → choice.thread < length world.scene.threads → world.choices ≤ 1000000000000
-    → pc ≡ (thread_at world.scene choice.thread).pc
-    → line.step ≡ world.choices + 1 → IsBehindNumber line.behind choice pc idle_event
-    → Plays world after (choice ∷ []) true (Some []) (Some (text_of line))
-Plays-idle_again world after choice n pc line times some played there few row number behind =
-    let one : n ≡ 1 = one_time (is_choice_ready world.program choice world.scene) (1000000000000 - world.choices) n times some in
-    grind (arith, Plays-idle, append-nil)
-
--- some of the same choices, and the others
-pub replicate-some : (n times : ℕ) (choice : Choice) → times ≤ n
-    → replicate n choice ≡ replicate times choice ++ replicate (n - times) choice
-replicate-some n times choice few = grind (arith, replicate-append-replicate)
 
 -- and the number of the choices tells it
 pub played-counted : (world after : World) (choice : Choice) (event : Event)

@@ -10,12 +10,13 @@ use Rattle.schedule_reader.specs.Places.{Progress, HasRead}
 use Rattle.schedule_reader.specs.Reading.{Adds, answer_of}
 use Rattle.schedule_reader.specs.Schedule.{Schedule, open_schedule, finished_schedule, choices_of}
 use Rattle.thread_machine.specs.World.{World}
+use Rattle.trace_text.specs.declared.play.Refused.{Refused}
 use Rattle.trace_text.specs.declared.run.RunFault.{RunFault}
 use Rattle.trace_text.specs.declared.run.RunFault.TheVariants as fault
 use Rattle.trace_text.specs.Outcome.{StopsFrom}
-use Rattle.trace_text.specs.Playing.{IsUpTo, PlaysOn, StopsAt, WritesOn, WritesPartOn}
+use Rattle.trace_text.specs.Playing.{IsUpTo, PlaysOn, PlaysTo, StopsAt, WritesOn, WritesPartOn}
 use Rattle.trace_text.specs.RunText.{HasFault, HasNoEarlierFault, faulty_after}
-use Rattle.trace_text.specs.Trace.{AppendsPartOf, Plays, lines_of}
+use Rattle.trace_text.specs.Trace.{AppendsPartOf, lines_of}
 use Rattle.trace_text.proofs.Plays.{Part-longer}
 
 -- what a call added to an empty list stands between the shorter stream's runs and what was missing
@@ -36,25 +37,25 @@ all_added told shorter longer before after empty enough adds =
     ]
 
 -- all is played
-added-plays : (told : Result (Unit {0}) ScheduleFault) (shorter longer : Schedule) (first before after : World) (was all : Bool)
+added-plays : (told : Result (Unit {0}) ScheduleFault) (shorter longer : Schedule) (first before after : World) (was all : Option Refused)
     (old known new : Option (List ℕ)) (start runs : List Run) → start ≡ [] → told ≢ Err Memory
-    → Adds told shorter longer start runs → Plays first before (choices_of shorter.runs) was old known
-    → PlaysOn before after was all (choices_of runs) known new → Plays first after (choices_of longer.runs) all old new
+    → Adds told shorter longer start runs → PlaysTo first before (choices_of shorter.runs) was old known
+    → PlaysOn before after was all (choices_of runs) known new → PlaysTo first after (choices_of longer.runs) all old new
 added-plays told shorter longer first before after was all old known new start runs empty enough adds plays on =
-    subst (λ choices. Plays first after choices all old new) (sym (all_added told shorter longer start runs empty enough adds))
+    subst (λ choices. PlaysTo first after choices all old new) (sym (all_added told shorter longer start runs empty enough adds))
     (on first (choices_of shorter.runs) old plays)
 
-pub added-writes : (told : Result (Unit {0}) ScheduleFault) (shorter longer : Schedule) (first before : World) (was : Bool)
+pub added-writes : (told : Result (Unit {0}) ScheduleFault) (shorter longer : Schedule) (first before : World) (was : Option Refused)
     (old known new : Option (List ℕ)) (start runs : List Run) → start ≡ [] → told ≢ Err Memory
-    → Adds told shorter longer start runs → Plays first before (choices_of shorter.runs) was old known
+    → Adds told shorter longer start runs → PlaysTo first before (choices_of shorter.runs) was old known
     → WritesOn before was (choices_of runs) known new → Appends old new (lines_of first (choices_of longer.runs))
 added-writes told shorter longer first before was old known new start runs empty enough adds plays on =
     subst (λ choices. Appends old new (lines_of first choices)) (sym (all_added told shorter longer start runs empty enough adds))
     (on first (choices_of shorter.runs) old plays)
 
-pub added-writes_part : (told : Result (Unit {0}) ScheduleFault) (shorter longer : Schedule) (first before : World) (was : Bool)
+pub added-writes_part : (told : Result (Unit {0}) ScheduleFault) (shorter longer : Schedule) (first before : World) (was : Option Refused)
     (old known new : Option (List ℕ)) (start runs : List Run) → start ≡ []
-    → Adds told shorter longer start runs → Plays first before (choices_of shorter.runs) was old known
+    → Adds told shorter longer start runs → PlaysTo first before (choices_of shorter.runs) was old known
     → WritesPartOn before was (choices_of runs) known new → AppendsPartOf old new (lines_of first (choices_of longer.runs))
 added-writes_part told shorter longer first before was old known new start runs empty adds plays on =
     subst (λ choices. AppendsPartOf old new (lines_of first choices)) (sym (added_first told shorter longer start runs empty adds))
@@ -71,8 +72,8 @@ end_without_fault : (told : Result (Unit {0}) ScheduleFault) (schedule : Schedul
 end_without_fault told schedule is given = grind arith
 
 -- a piece's tokens are played
-pub piece-plays : {E : Type 0} (result : Result Bool E) (told : Result (Unit {0}) ScheduleFault) (bytes longer : List ℕ)
-    (first before after : World) (was : Bool) (old known new : Option (List ℕ)) (start runs : List Run) (now next : Progress)
+pub piece-plays : {E : Type 0} (result : Result (Option Refused) E) (told : Result (Unit {0}) ScheduleFault) (bytes longer : List ℕ)
+    (first before after : World) (was : Option Refused) (old known new : Option (List ℕ)) (start runs : List Run) (now next : Progress)
     → start ≡ [] → IsUpTo first before bytes now was old known → OnOk result (told ≡ Ok tt)
     → Adds told (open_schedule bytes) (open_schedule longer) start runs
     → (told ≡ Err Memory) ⊎ (told ≡ answer_of (open_schedule longer))
@@ -113,14 +114,14 @@ told_none : (told : Result (Unit {0}) ScheduleFault) → told ≡ Ok tt → told
 told_none told is = λ memory. let no : ⊥ = cc in no
 
 -- the last token was played, where there is no fault
-pub end-plays : {E : Type 0} (result : Result Bool E) (told : Result (Unit {0}) ScheduleFault) (bytes : List ℕ)
-    (first before after : World) (was : Bool) (old known new : Option (List ℕ)) (start runs : List Run) (now : Progress)
+pub end-plays : {E : Type 0} (result : Result (Option Refused) E) (told : Result (Unit {0}) ScheduleFault) (bytes : List ℕ)
+    (first before after : World) (was : Option Refused) (old known new : Option (List ℕ)) (start runs : List Run) (now : Progress)
     → start ≡ [] → IsUpTo first before bytes now was old known
     → Adds told (open_schedule bytes) (finished_schedule bytes) start runs
     → (told ≡ Err Memory) ⊎ (told ≡ answer_of (finished_schedule bytes)) → OnOk result (told ≡ Ok tt)
     → IfOk result (λ all. PlaysOn before after was all (choices_of runs) known new)
     → IfOk result (λ all. ((finished_schedule bytes).fault ≡ None)
-    × Plays first after (choices_of (finished_schedule bytes).runs) all old new)
+    × PlaysTo first after (choices_of (finished_schedule bytes).runs) all old new)
 end-plays (Ok all) told bytes first before after was old known new start runs now empty up adds answer is on = (
   end_without_fault told (finished_schedule bytes) is answer,
   added-plays told (open_schedule bytes) (finished_schedule bytes) first before after was all old known new start runs empty
@@ -135,8 +136,8 @@ schedule_by_fault schedule fault is = grind arith
 
 -- what stops a run whose reader has gone on from one schedule to a longer one
 stops-behind : (f : RunFault) (told : Result (Unit {0}) ScheduleFault) (shorter longer : Schedule) (bytes : List ℕ) (first before : World)
-    (was : Bool) (schedule_before schedule_after old known new : Option (List ℕ)) (failed other : Bool) (start runs : List Run)
-    → start ≡ [] → Plays first before (choices_of shorter.runs) was old known → Consumes schedule_before schedule_after bytes
+    (was : Option Refused) (schedule_before schedule_after old known new : Option (List ℕ)) (failed other : Bool) (start runs : List Run)
+    → start ≡ [] → PlaysTo first before (choices_of shorter.runs) was old known → Consumes schedule_before schedule_after bytes
     → failed ≡ false → Adds told shorter longer start runs
     → ((e : ScheduleFault) → told ≡ Err e → told ≢ Err Memory → HasNoEarlierFault bytes × HasFault bytes schedule_after longer.runs e)
     → (longer ≡ open_schedule bytes) ⊎ (IsAtEnd schedule_after × (longer ≡ finished_schedule bytes))
@@ -157,7 +158,7 @@ stops-behind fault.Write told shorter longer bytes first before was schedule_bef
 stops-behind _ told shorter longer bytes first before was schedule_before schedule_after old known new failed other start runs empty plays consumed sound adds faulty at never = absurd never
 
 -- behind a piece of its schedule
-pub piece-stops : (f : RunFault) (told : Result (Unit {0}) ScheduleFault) (bytes piece : List ℕ) (first before : World) (was : Bool)
+pub piece-stops : (f : RunFault) (told : Result (Unit {0}) ScheduleFault) (bytes piece : List ℕ) (first before : World) (was : Option Refused)
     (schedule_before schedule_after old known new : Option (List ℕ)) (failed other : Bool) (start runs : List Run) (now next : Progress)
     → start ≡ [] → IsUpTo first before bytes now was old known → Consumes schedule_before schedule_after (bytes ++ piece)
     → length piece ≤ 4096 → failed ≡ false
@@ -176,7 +177,7 @@ piece-stops f told bytes piece first before was schedule_before schedule_after o
     )) (inl refl) stops
 
 -- and behind its last token
-pub end-stopped : {A : Type 0} (result : Result A RunFault) (told : Result (Unit {0}) ScheduleFault) (bytes : List ℕ) (first before : World) (was : Bool)
+pub end-stopped : {A : Type 0} (result : Result A RunFault) (told : Result (Unit {0}) ScheduleFault) (bytes : List ℕ) (first before : World) (was : Option Refused)
     (schedule_before schedule_after old known new : Option (List ℕ)) (failed other : Bool) (start runs : List Run) (now : Progress)
     → start ≡ [] → IsUpTo first before bytes now was old known → Consumes schedule_before schedule_after bytes → IsAtEnd schedule_after
     → failed ≡ false → Adds told (open_schedule bytes) (finished_schedule bytes) start runs

@@ -1,27 +1,31 @@
 -- Bytes that are read one piece after another.
-use Rattle.std.proofs.Common.{◌≡◌, inr, refl, ◌+◌, ◌<◌, ◌≤◌, ◌++◌, ℕ, Bool, true, false, not, IsTrue, List, Option, length, take, ap, sym, subst, length-append, arith}
+use Rattle.std.proofs.Common.{◌≡◌, ◌∙◌, inr, refl, ◌+◌, ◌<◌, ◌≤◌, ◌++◌, [], ◌∷◌, ℕ, Bool, true, false, IsTrue, List, Option, Some, length, take, ap, sym, subst, length-append, arith}
 use Rattle.std.proofs.lemmas.List.{length-take}
 use Rattle.std.proofs.KnownBytes.{Appends-trans, Consumes-trans}
 use Rattle.std.specs.Io.KnownBytes.{Appends, Consumes, IsAtEnd}
-use Rattle.std.specs.Prelude.{Result, Ok, Err, IfOk, OnOk, None, is_some}
+use Rattle.std.specs.Prelude.{Result, Ok, Err, IfOk, OnOk, None, option_map}
 use Rattle.byte_ports.specs.Port.{FailsForGood}
 use Rattle.schedule_reader.specs.Schedule.{Schedule, finished_schedule, choices_of}
 use Rattle.thread_machine.specs.Standing.{standing_of}
 use Rattle.thread_machine.specs.World.{World}
 use Rattle.thread_machine.specs.declared.choice.Choice.{Choice}
-use Rattle.trace_text.specs.NumberedLine.{NumberedLine}
+use Rattle.thread_machine.specs.declared.fault.StepFault.{StepFault}
+use Rattle.thread_machine.specs.Execution.{execution}
+use Rattle.thread_machine.specs.Step.{refusal_of}
+use Rattle.trace_text.specs.declared.play.Refused.{Refused}
+use Rattle.trace_text.specs.Lines.{refusal_text}
 use Rattle.trace_text.specs.declared.run.RunFault.{RunFault}
 use Rattle.trace_text.specs.declared.run.RunFault.TheVariants as fault
 use Rattle.trace_text.specs.Outcome.{EndsFrom, Stops, StopsFrom}
 use Rattle.trace_text.specs.declared.play.PlayFault.{PlayFault}
 use Rattle.trace_text.specs.declared.play.PlayFault.TheVariants as play
-use Rattle.trace_text.specs.Playing.{HasPlayedAll, played_fault}
-use Rattle.trace_text.specs.RunText.{AreTraced}
+use Rattle.trace_text.specs.Playing.{HasPlayedAll, PlaysTo, played_fault, row_of, told_as}
+use Rattle.trace_text.specs.RunText.{AreTraced, refusal_in}
 use Rattle.trace_text.specs.Start.{Begins}
 use Rattle.row_code.specs.declared.image.Image.{Image}
 use Rattle.trace_text.specs.State.{state_text}
-use Rattle.trace_text.specs.Trace.{AppendsPartOf, Plays, lines_of}
-use Rattle.trace_text.proofs.Plays.{Part-whole}
+use Rattle.trace_text.specs.Trace.{AppendsPartOf, lines_of, refused_of}
+use Rattle.trace_text.proofs.Plays.{Part-whole, refused_there}
 use Rattle.trace_text.proofs.Schedules.{schedule_by_fault}
 use Rattle.trace_text.specs.declared.run_end.RunEnd.{RunEnd}
 
@@ -36,9 +40,9 @@ pub longer_by_piece : (bytes buffer piece : List ℕ) (n turns : ℕ) → piece 
 longer_by_piece bytes buffer piece n turns is within some many = grind (arith, length-append, length-take)
 
 -- a schedule was played to its end
-pub played-all : {E : Type 0} (result : Result Bool E) (first last : World) (bytes : List ℕ) (schedule_before schedule_after old new : Option (List ℕ))
+pub played-all : {E : Type 0} (result : Result (Option Refused) E) (first last : World) (bytes : List ℕ) (schedule_before schedule_after old new : Option (List ℕ))
     → Consumes schedule_before schedule_after bytes → IsAtEnd schedule_after
-    → IfOk result (λ all. ((finished_schedule bytes).fault ≡ None) × Plays first last (choices_of (finished_schedule bytes).runs) all old new)
+    → IfOk result (λ all. ((finished_schedule bytes).fault ≡ None) × PlaysTo first last (choices_of (finished_schedule bytes).runs) all old new)
     → IfOk result (λ all. HasPlayedAll first last all schedule_before schedule_after old new)
 played-all result first last bytes schedule_before schedule_after old new consumed end p = grind (arith, schedule_by_fault)
 
@@ -53,32 +57,48 @@ has_answered x before false result is fails = refl
 has_answered x before true result is fails = grind arith
 
 -- what is told of a run's end, beside the world that it leaves
-abbrev pub TellsEnd : World → Bool → RunEnd → Type 0
-TellsEnd last all end =
-    (end.standing ≡ standing_of last) × (end.state.items ≡ state_text last) × (is_some end.refused ≡ not all)
+abbrev pub TellsEnd : World → Option Refused → RunEnd → Type 0
+TellsEnd last refused end =
+    (end.standing ≡ standing_of last) × (end.state.items ≡ state_text last) × (end.refused ≡ option_map (told_as last) refused)
 
-pub tells_end : {E : Type 0} (result : Result RunEnd E) (last : World) (all : Bool) (refused : Option NumberedLine)
-    → is_some refused ≡ not all
-    → IfOk result (λ end. (end.standing ≡ standing_of last) × (end.state.items ≡ state_text last) × (end.refused ≡ refused))
-    → IfOk result (TellsEnd last all)
-tells_end result last all refused is told = grind arith
+-- the line of a choice that is refused
+refused_line : (world : World) (choice : Choice) (why : StepFault) → refusal_of world choice ≡ Some why
+    → refusal_text (world.choices + 1) choice (row_of world choice) ≡ lines_of world (choice ∷ [])
+refused_line world choice why is = grind arith
+
+told_so : (first last : World) (choices : List Choice) (refused : Option Refused) → last ≡ (execution first choices).world
+    → refused ≡ refused_of first choices → option_map (told_as last) refused ≡ option_map (refusal_in last) (refused_of first choices)
+told_so first last choices None world_is is = ap (option_map (refusal_in last)) is
+told_so first last choices (Some refused) world_is is =
+    let there = refused_there choices first refused is in
+    let line = refused_line last refused.choice refused.why (ap (λ (w : World). refusal_of w refused.choice) world_is ∙ there) in
+    ap (λ text. Some (record { line = text; choice = refused.choice; why = refused.why })) line ∙ ap (option_map (refusal_in last)) is
 
 -- the lines, and then the state that they leave
-traced_by : (end : RunEnd) (first last : World) (choices : List Choice) (all : Bool) (old between new : Option (List ℕ))
-    → Plays first last choices all old between → TellsEnd last all end → Appends between new (state_text last)
+traced_by : (end : RunEnd) (first last : World) (choices : List Choice) (refused : Option Refused) (old between new : Option (List ℕ))
+    → PlaysTo first last choices refused old between → TellsEnd last refused end → Appends between new (state_text last)
     → AreTraced first choices end old new
-traced_by end first last choices all old between new plays tells appends = grind (arith, Appends-trans)
+traced_by end first last choices refused old between new plays tells appends =
+    let is = plays.world in (
+      (
+        tells.0 ∙ ap standing_of is,
+        tells.1 ∙ ap state_text is,
+        tells.2 ∙ told_so first last choices refused is plays.answer
+            ∙ ap (λ w. option_map (refusal_in w) (refused_of first choices)) is,
+      ),
+      Appends-trans old between new _ _ plays.lines (subst (λ w. Appends between new (state_text w)) is appends),
+    )
 
-pub are_traced : {E : Type 0} (result : Result RunEnd E) (first last : World) (choices : List Choice) (all : Bool)
-    (old between new : Option (List ℕ)) → Plays first last choices all old between
-    → IfOk result (TellsEnd last all) → OnOk result (Appends between new (state_text last))
+pub are_traced : {E : Type 0} (result : Result RunEnd E) (first last : World) (choices : List Choice) (refused : Option Refused)
+    (old between new : Option (List ℕ)) → PlaysTo first last choices refused old between
+    → IfOk result (TellsEnd last refused) → OnOk result (Appends between new (state_text last))
     → IfOk result (λ end. AreTraced first choices end old new)
-are_traced (Ok end) first last choices all old between new plays tells appends =
-    traced_by end first last choices all old between new plays tells appends
-are_traced (Err e) first last choices all old between new plays tells appends = appends
+are_traced (Ok end) first last choices refused old between new plays tells appends =
+    traced_by end first last choices refused old between new plays tells appends
+are_traced (Err e) first last choices refused old between new plays tells appends = appends
 
 -- of a whole schedule
-pub ended : {E : Type 0} (result : Result RunEnd E) (first last : World) (all : Bool)
+pub ended : {E : Type 0} (result : Result RunEnd E) (first last : World) (all : Option Refused)
     (schedule_before schedule_after old between new : Option (List ℕ))
     → HasPlayedAll first last all schedule_before schedule_after old between
     → IfOk result (TellsEnd last all) → OnOk result (Appends between new (state_text last))
@@ -89,7 +109,7 @@ ended (Ok end) first last all schedule_before schedule_after old between new
 ended (Err e) first last all schedule_before schedule_after old between new played tells appends = appends
 
 -- a part of the trace was written, where its state was not
-pub broken_off : (first last : World) (all : Bool) (schedule_before schedule_after old between new : Option (List ℕ)) (failed other : Bool)
+pub broken_off : (first last : World) (all : Option Refused) (schedule_before schedule_after old between new : Option (List ℕ)) (failed other : Bool)
     → HasPlayedAll first last all schedule_before schedule_after old between → failed ≡ false → new ≡ between
     → StopsFrom first fault.Memory schedule_before schedule_after failed old new other
 broken_off first last all schedule_before schedule_after old between new failed other (bytes, (runs, (consumed, at_end, is, plays))) sound same =
@@ -112,7 +132,7 @@ pub stops : (f : RunFault) (image : Image) (world : World) (schedule_before sche
 stops f image world schedule_before schedule_after old new failed other begins from = grind arith
 
 -- a run stops whose state can't be written
-pub unfinished : (f : PlayFault) (image : Image) (first last : World) (all : Bool) (schedule_before schedule_after old between new : Option (List ℕ))
+pub unfinished : (f : PlayFault) (image : Image) (first last : World) (all : Option Refused) (schedule_before schedule_after old between new : Option (List ℕ))
     (failed other : Bool) → Begins image first → HasPlayedAll first last all schedule_before schedule_after old between
     → failed ≡ false → (f ≡ play.Memory → new ≡ between) → (f ≡ play.Write → IsTrue other)
     → Stops image (played_fault f) schedule_before schedule_after failed old new other

@@ -8,5 +8,4 @@ pub mod Reading
 pub mod RunText
 pub mod Outcome
 pub mod Brief
-pub mod NumberedLine
 pub mod Playing

@@ -1,5 +1,5 @@
 -- How one part of a schedule after another is played. Nobody has to believe this: it is what proofs go by, from call to call.
-use Rattle.std.specs.Prelude.{◌≡◌, ◌≢◌, ◌+◌, ℕ, zero, suc, Bool, IsTrue, List, [], ◌++◌, Option, None, Result, Err}
+use Rattle.std.specs.Prelude.{◌≡◌, ◌≢◌, ◌+◌, ℕ, Bool, IsTrue, List, ◌++◌, Option, Some, None, Result, Err, if◌then◌else◌, length, nat_lt}
 use Rattle.std.specs.Io.KnownBytes.{Appends, Consumes, IsAtEnd}
 use Rattle.schedule_reader.specs.declared.fault.ScheduleFault.{ScheduleFault}
 use Rattle.schedule_reader.specs.declared.fault.ScheduleFault.TheVariants as schedule
@@ -7,50 +7,65 @@ use Rattle.schedule_reader.specs.declared.run.Run.{Run}
 use Rattle.schedule_reader.specs.Places.{Progress, HasRead}
 use Rattle.schedule_reader.specs.Schedule.{open_schedule, finished_schedule, choices_of}
 use Rattle.thread_machine.specs.declared.choice.Choice.{Choice}
-use Rattle.thread_machine.specs.Idle.{idle_event}
 use Rattle.thread_machine.specs.World.{World}
+use Rattle.thread_machine.specs.Execution.{execution}
+use Rattle.machine_scene.specs.Scene.{thread_at}
 use Rattle.trace_text.specs.declared.play.PlayFault.{PlayFault}
 use Rattle.trace_text.specs.declared.play.PlayFault.TheVariants as play
 use Rattle.trace_text.specs.declared.run.RunFault.{RunFault}
 use Rattle.trace_text.specs.declared.run.RunFault.TheVariants as fault
-use Rattle.trace_text.specs.Lines.{event_text}
-use Rattle.trace_text.specs.Trace.{AppendsPartOf, Plays, lines_of}
+use Rattle.trace_text.specs.declared.play.Refused.{Refused}
+use Rattle.trace_text.specs.declared.run_end.Refusal.{Refusal}
+use Rattle.trace_text.specs.Lines.{refusal_text}
+use Rattle.trace_text.specs.Trace.{AppendsPartOf, lines_of, refused_of}
 
--- the lines of so many idle choices of a thread at this row, behind that many choices
-abbrev pub idle_lines : ℕ → ℕ → Choice → ℕ → List ℕ
-idle_lines zero before choice pc = []
-idle_lines (suc n) before choice pc = event_text (before + 1) choice pc idle_event ++ idle_lines n (before + 1) choice pc
+-- choices were played: their lines were written, the world is the one that their execution leaves, and this is the one that was
+-- refused, if one was
+pub record PlaysTo (before after : World) (choices : List Choice) (refused : Option Refused) (old new : Option (List ℕ)) : Type 0 where
+  pub lines : Appends old new (lines_of before choices)
+  pub world : after ≡ (execution before choices).world
+  pub answer : refused ≡ refused_of before choices
+
+-- the row at which a choice's thread stands, if there is such a thread
+abbrev pub row_of : World → Choice → Option ℕ
+row_of world choice =
+    if nat_lt choice.thread (length world.scene.threads) then Some (thread_at world.scene choice.thread).pc else None
+
+-- what is told of a choice, where it is refused in this world
+abbrev pub told_as : World → Refused → Refusal
+told_as world refused =
+    record { line = refusal_text (world.choices + 1) refused.choice (row_of world refused.choice); choice = refused.choice; why = refused.why }
 
 -- whatever was played before, with these choices it is all played
-abbrev pub PlaysOn : World → World → Bool → Bool → List Choice → Option (List ℕ) → Option (List ℕ) → Type 0
+abbrev pub PlaysOn : World → World → Option Refused → Option Refused → List Choice → Option (List ℕ) → Option (List ℕ) → Type 0
 PlaysOn before after was all choices known new =
-    (first : World) (earlier : List Choice) (old : Option (List ℕ)) → Plays first before earlier was old known
-    → Plays first after (earlier ++ choices) all old new
+    (first : World) (earlier : List Choice) (old : Option (List ℕ)) → PlaysTo first before earlier was old known
+    → PlaysTo first after (earlier ++ choices) all old new
 
 -- their lines were written
-abbrev pub WritesOn : World → Bool → List Choice → Option (List ℕ) → Option (List ℕ) → Type 0
+abbrev pub WritesOn : World → Option Refused → List Choice → Option (List ℕ) → Option (List ℕ) → Type 0
 WritesOn before was choices known new =
-    (first : World) (earlier : List Choice) (old : Option (List ℕ)) → Plays first before earlier was old known
+    (first : World) (earlier : List Choice) (old : Option (List ℕ)) → PlaysTo first before earlier was old known
     → Appends old new (lines_of first (earlier ++ choices))
 
 -- a part of all lines was written
-abbrev pub WritesPartOn : World → Bool → List Choice → Option (List ℕ) → Option (List ℕ) → Type 0
+abbrev pub WritesPartOn : World → Option Refused → List Choice → Option (List ℕ) → Option (List ℕ) → Type 0
 WritesPartOn before was choices known new =
-    (first : World) (earlier : List Choice) (old : Option (List ℕ)) → Plays first before earlier was old known
+    (first : World) (earlier : List Choice) (old : Option (List ℕ)) → PlaysTo first before earlier was old known
     → AppendsPartOf old new (lines_of first (earlier ++ choices))
 
 -- a reader stands behind these bytes of a schedule, which have no fault, and the choices of their whole tokens are played
-pub record IsUpTo (first now : World) (bytes : List ℕ) (reader : Progress) (accepted : Bool) (old new : Option (List ℕ)) : Type 0 where
+pub record IsUpTo (first now : World) (bytes : List ℕ) (reader : Progress) (refused : Option Refused) (old new : Option (List ℕ)) : Type 0 where
   pub reads : HasRead reader bytes
   pub free : (open_schedule bytes).fault ≡ None
-  pub plays : Plays first now (choices_of (open_schedule bytes).runs) accepted old new
+  pub plays : PlaysTo first now (choices_of (open_schedule bytes).runs) refused old new
 
 -- a schedule was read to its end, and its choices were played
-abbrev pub HasPlayedAll : World → World → Bool → Option (List ℕ) → Option (List ℕ) → Option (List ℕ) → Option (List ℕ) → Type 0
+abbrev pub HasPlayedAll : World → World → Option Refused → Option (List ℕ) → Option (List ℕ) → Option (List ℕ) → Option (List ℕ) → Type 0
 HasPlayedAll first last all schedule_before schedule_after old new =
     (bytes : List ℕ) × ((runs : List Run)
     × (Consumes schedule_before schedule_after bytes × IsAtEnd schedule_after
-    × (finished_schedule bytes ≡ record { runs = runs; fault = None }) × Plays first last (choices_of runs) all old new))
+    × (finished_schedule bytes ≡ record { runs = runs; fault = None }) × PlaysTo first last (choices_of runs) all old new))
 
 -- what a run stops for whose reader told this
 abbrev pub IsToldOf : RunFault → Result (Unit {0}) ScheduleFault → Type 0
@@ -64,7 +79,7 @@ played_fault play.Memory = fault.Memory
 played_fault play.Write = fault.Write
 
 -- a run stopped for this fault with these choices, or behind them because its reader told one
-abbrev pub StopsAt : RunFault → Result (Unit {0}) ScheduleFault → World → Bool → List Choice → Option (List ℕ) → Option (List ℕ) → Bool → Type 0
+abbrev pub StopsAt : RunFault → Result (Unit {0}) ScheduleFault → World → Option Refused → List Choice → Option (List ℕ) → Option (List ℕ) → Bool → Type 0
 StopsAt (fault.Schedule f) told before was choices known new failed =
     (told ≡ Err f) × (f ≢ schedule.Memory) × WritesOn before was choices known new
 StopsAt fault.Memory told before was choices known new failed = WritesPartOn before was choices known new

@@ -1,5 +1,5 @@
 -- What becomes of an image and a schedule that comes as a stream.
-use Rattle.std.specs.Prelude.{◌≡◌, ◌⊎◌, ◌≤◌, ℕ, List, ◌++◌, length, Option, Some, None, is_some}
+use Rattle.std.specs.Prelude.{◌≡◌, ◌⊎◌, ◌≤◌, ℕ, List, [], ◌∷◌, ◌++◌, length, Option, Some, None, option_map}
 use Rattle.std.specs.Io.KnownBytes.{Appends, Consumes, IsAtEnd}
 use Rattle.schedule_reader.specs.declared.fault.ScheduleFault.{ScheduleFault}
 use Rattle.schedule_reader.specs.declared.run.Run.{Run}
@@ -7,21 +7,29 @@ use Rattle.schedule_reader.specs.Schedule.{Schedule, finished_schedule, open_sch
 use Rattle.thread_machine.specs.declared.choice.Choice.{Choice}
 use Rattle.thread_machine.specs.World.{World}
 use Rattle.thread_machine.specs.Standing.{standing_of}
-use Rattle.thread_machine.specs.Execution.{Execution, execution}
+use Rattle.thread_machine.specs.Execution.{execution}
+use Rattle.trace_text.specs.declared.play.Refused.{Refused}
+use Rattle.trace_text.specs.declared.run_end.Refusal.{Refusal}
 use Rattle.trace_text.specs.declared.run_end.RunEnd.{RunEnd}
 use Rattle.trace_text.specs.State.{state_text}
-use Rattle.trace_text.specs.Trace.{trace_of}
+use Rattle.trace_text.specs.Trace.{lines_of, refused_of, trace_of}
 
--- choices were executed to this end: how the program stands then, the text of its state, and whether a choice was refused
-abbrev pub IsEndOf : Execution → RunEnd → Type 0
-IsEndOf done end =
-    (end.standing ≡ standing_of done.world) × (end.state.items ≡ state_text done.world)
-    × (is_some end.refused ≡ is_some done.refusal)
+-- what is told of a choice that is refused in this world: its line too
+abbrev pub refusal_in : World → Refused → Refusal
+refusal_in world refused =
+    record { line = lines_of world (refused.choice ∷ []); choice = refused.choice; why = refused.why }
+
+-- choices were executed to this end: how the program stands then, the text of its state, and which choice was refused, if one was
+abbrev pub IsEndOf : World → List Choice → RunEnd → Type 0
+IsEndOf first choices end =
+    let last : World = (execution first choices).world in
+    (end.standing ≡ standing_of last) × (end.state.items ≡ state_text last)
+    × (end.refused ≡ option_map (refusal_in last) (refused_of first choices))
 
 -- the trace of these choices was written, and this is its end
 abbrev pub AreTraced : World → List Choice → RunEnd → Option (List ℕ) → Option (List ℕ) → Type 0
 AreTraced first choices end old new =
-    IsEndOf (execution first choices) end × Appends old new (trace_of first choices)
+    IsEndOf first choices end × Appends old new (trace_of first choices)
 
 -- runs, and the fault after them
 abbrev pub faulty_after : List Run → ScheduleFault → Schedule

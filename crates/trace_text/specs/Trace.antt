@@ -8,6 +8,7 @@ use Rattle.thread_machine.specs.World.{World}
 use Rattle.machine_scene.specs.Scene.{thread_at}
 use Rattle.thread_machine.specs.Step.{Played, played, refusal_of}
 use Rattle.thread_machine.specs.Execution.{execution}
+use Rattle.trace_text.specs.declared.play.Refused.{Refused}
 use Rattle.trace_text.specs.Lines.{event_text, refusal_text}
 use Rattle.trace_text.specs.State.{state_text}
 
@@ -30,6 +31,16 @@ lines_of world (choice ∷ choices) =
 -- the lines of the choices, and the state of the world that their execution leaves
 abbrev pub trace_of : World → List Choice → List ℕ
 trace_of world choices = lines_of world choices ++ state_text (execution world choices).world
+
+-- the first of these choices that is refused, if one is, and why
+abbrev pub refused_by : Option StepFault → World → Choice → (World → Option Refused) → Option Refused
+refused_by (Some why) world choice rest = Some (record { choice = choice; why = why })
+refused_by None world choice rest = rest (played world choice).world
+
+abbrev pub refused_of : World → List Choice → Option Refused
+refused_of world [] = None
+refused_of world (choice ∷ choices) =
+    refused_by (refusal_of world choice) world choice (λ after. refused_of after choices)
 
 -- choices were played: their lines were written, the world is the one that their execution leaves, and the answer is
 -- whether all of them were accepted

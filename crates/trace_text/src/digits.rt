@@ -75,15 +75,7 @@ impl Digits {
         self.number = number;
     }
 
-    /// The number.
-    #[inline(always)]
-    pub fn value(&self) -> u64
-        ensures { result ≡ self.now }
-    {
-        self.number
-    }
-
-    /// How many there are.
+    /// How many digits there are.
     #[inline(always)]
     pub fn count(&self) -> usize
         ensures digits { result ≡ length (decimal self.now) }
@@ -92,7 +84,7 @@ impl Digits {
         self.count
     }
 
-    /// They themselves.
+    /// The digits, the first first.
     #[inline(always)]
     pub fn as_slice(&self) -> &[u8]
         ensures { result.now ≡ decimal self.now }
@@ -100,7 +92,7 @@ impl Digits {
         &self.block[MOST_DIGITS - self.count..]
     }
 
-    /// Their block, which ends with them.
+    /// The block that ends with the digits.
     #[inline(always)]
     pub fn block(&self) -> [u8; MOST_DIGITS]
         ensures digits { drop (20 - length (decimal self.now)) result ≡ decimal self.now }

@@ -5,8 +5,8 @@
 #![tactic(auto)]
 
 // The lines of choices, as they are written.
+mod choice_line;
 pub mod digits;
-pub mod kept_line;
 pub mod line;
 pub mod line_end;
 
@@ -28,13 +28,12 @@ pub mod start;
 pub mod next_choice;
 pub mod trace_line;
 
-pub use kept_line::KeptLine;
 pub use line::{event_line, refusal_line};
 pub use line_end::LineEnd;
 pub use loaded::run_loaded;
-pub use play::{PlayFault, line_of_choice};
+pub use play::{PlayFault, Refused, line_of_choice};
 pub use run::{RunFault, run_text, run_to_end};
-pub use run_end::RunEnd;
+pub use run_end::{Refusal, RunEnd};
 pub use start::{StartFault, first_machine};
 pub use state::state_text;
 pub use trace_line::{choice_in, is_state_line};

@@ -142,7 +142,7 @@ fn put_thread(line: &mut LineEnd, choice: Choice)
     }
 }
 
-/// The line of a choice that was played by a thread at this row, from what stands behind its number.
+/// Makes it what stands behind the number in the line of a choice that was played by a thread at this row.
 #[inline(always)]
 pub(super) fn put_played(line: &mut LineEnd, choice: Choice, pc: u16, event: &Event)
     ensures text { (step : ℕ) → decimal step ++ line.new ≡ event_text step choice pc event.now }
@@ -153,7 +153,7 @@ pub(super) fn put_played(line: &mut LineEnd, choice: Choice, pc: u16, event: &Ev
     put_thread(line, choice);
 }
 
-/// The line of a choice that was played by a thread at this row.
+/// Makes it the line of a choice that was played by a thread at this row.
 pub fn put_event(line: &mut LineEnd, step: u64, choice: Choice, pc: u16, event: &Event)
     ensures { line.new ≡ event_text step choice pc event.now }
 {
@@ -161,8 +161,8 @@ pub fn put_event(line: &mut LineEnd, step: u64, choice: Choice, pc: u16, event: 
     line.put_count(step);
 }
 
-/// The line of a choice that was refused, by the row of its thread, or `None` where there is no such thread, from what stands
-/// behind its number.
+/// Makes it what stands behind the number in the line of a choice that was refused, by the row of its thread, or `None` where
+/// there is no such thread.
 pub(super) fn put_refused(line: &mut LineEnd, choice: Choice, pc: Option<u16>)
     ensures text { (step : ℕ) → decimal step ++ line.new ≡ refusal_text step choice pc }
     ensures length { length line.new ≤ 100 }
@@ -178,7 +178,7 @@ pub(super) fn put_refused(line: &mut LineEnd, choice: Choice, pc: Option<u16>)
     put_thread(line, choice);
 }
 
-/// The line of a choice that was refused.
+/// Makes it the line of a choice that was refused, by the row of its thread, or `None` where there is no such thread.
 pub fn put_refusal(line: &mut LineEnd, step: u64, choice: Choice, pc: Option<u16>)
     ensures { line.new ≡ refusal_text step choice pc }
 {
@@ -186,7 +186,8 @@ pub fn put_refusal(line: &mut LineEnd, step: u64, choice: Choice, pc: Option<u16
     line.put_count(step);
 }
 
-/// Appends the line of a choice that was played by a thread at this row.
+/// Appends the line of a choice that was played by a thread at this row. It fails where memory runs out: then the text is as
+/// before.
 pub fn event_line(
     text: &mut Vec<u8>,
     step: u64,
@@ -202,7 +203,8 @@ pub fn event_line(
     text.extend_from_slice(line.as_slice())
 }
 
-/// Appends the line of a choice that was refused, by the row of its thread, or `None` where there is no such thread.
+/// Appends the line of a choice that was refused, by the row of its thread, or `None` where there is no such thread. It fails
+/// where memory runs out: then the text is as before.
 pub fn refusal_line(
     text: &mut Vec<u8>,
     step: u64,

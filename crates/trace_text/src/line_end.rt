@@ -28,7 +28,7 @@ impl Model for LineEnd {
 }
 
 impl LineEnd {
-    /// The end of a line of which nothing is there.
+    /// The end of a line, with nothing there yet.
     #[tactic(auto, using(std::proofs::lemmas::List::drop_all))]
     pub fn new() -> LineEnd
         ensures { result ≡ [] }
@@ -46,7 +46,7 @@ impl LineEnd {
         self.start = ROOM;
     }
 
-    /// What is there.
+    /// The bytes that are there.
     pub fn as_slice(&self) -> &[u8]
         ensures { result.now ≡ self.now }
     {
@@ -64,15 +64,6 @@ impl LineEnd {
         let start = self.start - N;
         self.bytes[start..self.start].copy_from_slice(&word);
         self.start = start;
-    }
-
-    /// Takes so many bytes from its beginning.
-    #[inline(always)]
-    pub fn drop_first(&mut self, count: usize)
-        requires { count ≤ length self.old }
-        ensures { self.new ≡ drop count self.old }
-    {
-        self.start += count;
     }
 
     /// Puts a number that is never below 0 before it.

@@ -5,9 +5,9 @@ ghost use Rattle.thread_machine.specs.World.{first_world, world_of};
 ghost use Rattle.trace_text.specs.RunText.{AreTraced};
 ghost use Rattle.trace_text.specs.Trace.{AppendsPartOf, lines_of};
 
-use crate::kept_line::KeptLine;
+use crate::choice_line::ChoiceLine;
 use crate::play::{PlayFault, play_runs};
-use crate::run_end::{RunEnd, push_end, refused_in};
+use crate::run_end::{RunEnd, push_end};
 use crate::start::begun;
 use byte_ports::Sink;
 use loader::Loaded;
@@ -28,12 +28,10 @@ fn play_known<W: Sink>(
         (lines_of (world_of machine.old) (choices_of runs.now)) }
     ensures write { result ≡ Err PlayFault.Write → IsTrue (W.has_failed output.new) }
 {
-    let mut line = KeptLine::new();
-    let accepted = match play_runs(machine, runs, &mut line, output) {
-        Ok(accepted) => accepted,
-        Err(fault) => return Err(fault),
-    };
-    push_end(alloc, machine, refused_in(accepted, line), output)
+    match play_runs(machine, runs, &mut ChoiceLine::new(), output) {
+        Ok(refused) => push_end(alloc, machine, refused, output),
+        Err(fault) => Err(fault),
+    }
 }
 
 /// Plays runs of choices on a loaded program from its beginning, writes the trace, and answers how the run has ended. After

@@ -4,7 +4,7 @@ ghost use Rattle.trace_text.specs.Reading.{BeginsWithName, NamesBehind};
 
 use thread_machine::Choice;
 
-/// What follows these bytes.
+/// The bytes from a place on.
 pub fn rest_of(text: &[u8], at: usize) -> &[u8]
     requires { at ≤ length text.now }
     ensures rest { result.now ≡ drop at text.now }
@@ -13,7 +13,7 @@ pub fn rest_of(text: &[u8], at: usize) -> &[u8]
     &text[at..]
 }
 
-/// The first of these bytes.
+/// The first of some bytes, so many.
 pub fn first_bytes(text: &[u8], count: usize) -> &[u8]
     requires { count ≤ length text.now }
     ensures { result.now ≡ take count text.now }

@@ -5,9 +5,9 @@ ghost use Rattle.trace_text.specs.declared.run_end.RunEnd.{RunEnd};
 ghost use Rattle.trace_text.specs.Outcome.{ComesTo, Stops, StopsFrom};
 ghost use Rattle.trace_text.specs.Playing.{HasPlayedAll, IsToldOf, PlaysOn, StopsAt, played_fault};
 
-use crate::kept_line::KeptLine;
-use crate::play::{PlayFault, play_runs};
-use crate::run_end::{RunEnd, push_end, refused_in};
+use crate::choice_line::ChoiceLine;
+use crate::play::{PlayFault, Refused, play_runs};
+use crate::run_end::{RunEnd, push_end};
 use crate::start::{StartFault, first_machine};
 use byte_ports::{Sink, Source};
 use loader::LoadFault;
@@ -52,57 +52,59 @@ impl RunFault {
     }
 }
 
-/// What comes of a schedule whose reader told this, where all choices so far were accepted or not.
-fn told_of(told: Result<(), ScheduleFault>, accepted: bool) -> Result<bool, RunFault>
-    ensures ok { IfOk result (λ all. (told ≡ Ok tt) × (all ≡ accepted)) }
+/// What comes of a schedule whose reader told this: the choice that was refused so far, if one was.
+fn told_of(
+    told: Result<(), ScheduleFault>,
+    refused: Option<Refused>,
+) -> Result<Option<Refused>, RunFault>
+    ensures ok { IfOk result (λ last. (told ≡ Ok tt) × (last ≡ refused)) }
     ensures err { IfErr result (λ fault. IsToldOf fault told) }
 {
     match told {
-        Ok(()) => Ok(accepted),
+        Ok(()) => Ok(refused),
         Err(ScheduleFault::Memory) => Err(RunFault::Memory),
         Err(fault) => Err(RunFault::Schedule(fault)),
     }
 }
 
 /// Plays the runs that a reader added to the list, unless a choice was refused before, and empties it; then answers the fault
-/// that the reader told, if it told one. Whether all choices so far were accepted.
+/// that the reader told, if it told one, else the choice that was refused so far.
 fn play_told<W: Sink>(
     machine: &mut Machine,
-    accepted: bool,
+    refused: Option<Refused>,
     told: Result<(), ScheduleFault>,
     runs: &mut Vec<Run>,
-    line: &mut KeptLine,
+    line: &mut ChoiceLine,
     output: &mut W,
-) -> Result<bool, RunFault>
+) -> Result<Option<Refused>, RunFault>
     ensures told { OnOk result (told ≡ Ok tt) }
-    ensures plays { IfOk result (λ all. PlaysOn (world_of machine.old) (world_of machine.new) accepted all
+    ensures plays { IfOk result (λ last. PlaysOn (world_of machine.old) (world_of machine.new) refused last
         (choices_of runs.old.items) (W.written output.old) (W.written output.new)) }
-    ensures stops { IfErr result (λ fault. StopsAt fault told (world_of machine.old) accepted
+    ensures stops { IfErr result (λ fault. StopsAt fault told (world_of machine.old) refused
         (choices_of runs.old.items) (W.written output.old) (W.written output.new) (W.has_failed output.new)) }
     ensures runs { runs.new.items ≡ [] }
 {
-    if !accepted {
+    if refused.is_some() {
         runs.clear();
-        return told_of(told, false);
+        return told_of(told, refused);
     }
     let played = play_runs(machine, runs.as_slice(), line, output);
     runs.clear();
     match played {
-        Ok(all) => told_of(told, all),
+        Ok(refused) => told_of(told, refused),
         Err(fault) => Err(RunFault::of_play(fault)),
     }
 }
 
-/// Plays a schedule to its end; whether all choices were accepted. `line` keeps the last line.
+/// Plays a schedule to its end, and answers the choice that was refused, if one was.
 fn play_stream<S: Source, W: Sink>(
     machine: &mut Machine,
     schedule: &mut S,
     runs: &mut Vec<Run>,
-    line: &mut KeptLine,
     output: &mut W,
-) -> Result<bool, RunFault>
+) -> Result<Option<Refused>, RunFault>
     requires { runs.old.items ≡ [] }
-    ensures done { IfOk result (λ all. HasPlayedAll (world_of machine.old) (world_of machine.new) all
+    ensures done { IfOk result (λ refused. HasPlayedAll (world_of machine.old) (world_of machine.new) refused
         (S.left schedule.old) (S.left schedule.new) (W.written output.old) (W.written output.new)) }
     ensures sound { OnOk result (S.has_failed schedule.new ≡ false) }
     ensures stops { IfErr result (λ fault. StopsFrom (world_of machine.old) fault
@@ -112,7 +114,8 @@ fn play_stream<S: Source, W: Sink>(
 {
     let mut reader = Reader::new();
     let mut piece = [0u8; PIECE];
-    let mut accepted = true;
+    let mut line = ChoiceLine::new();
+    let mut refused = None;
     for _ in 0..MOST_READS {
         let count = match schedule.pull(&mut piece) {
             Ok(count) => count,
@@ -120,11 +123,11 @@ fn play_stream<S: Source, W: Sink>(
         };
         if count == 0 {
             let told = reader.finish(runs);
-            return play_told(machine, accepted, told, runs, line, output);
+            return play_told(machine, refused, told, runs, &mut line, output);
         }
         let told = reader.feed(&piece[..count], runs);
-        match play_told(machine, accepted, told, runs, line, output) {
-            Ok(all) => accepted = all,
+        match play_told(machine, refused, told, runs, &mut line, output) {
+            Ok(last) => refused = last,
             Err(fault) => return Err(fault),
         }
     }
@@ -153,18 +156,18 @@ pub fn run_to_end<S: Source, W: Sink>(
     let Ok(mut runs) = Vec::with_capacity(alloc, MOST_RUNS) else {
         return Err(RunFault::Memory);
     };
-    let mut line = KeptLine::new();
-    let accepted = match play_stream(&mut machine, schedule, &mut runs, &mut line, output) {
-        Ok(accepted) => accepted,
+    let refused = match play_stream(&mut machine, schedule, &mut runs, output) {
+        Ok(refused) => refused,
         Err(fault) => return Err(fault),
     };
-    match push_end(alloc, &machine, refused_in(accepted, line), output) {
+    match push_end(alloc, &machine, refused, output) {
         Ok(end) => Ok(end),
         Err(fault) => Err(RunFault::of_play(fault)),
     }
 }
 
-/// `run_to_end`, where nobody asks how the run has ended.
+/// Plays an image's program under a schedule and writes the trace, as `run_to_end` does, and fails where that does. How the run
+/// has ended is not answered.
 pub fn run_text<S: Source, W: Sink>(
     alloc: Global,
     image: Image,

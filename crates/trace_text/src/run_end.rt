@@ -1,15 +1,28 @@
-ghost use Rattle.std.specs.Prelude.{◌≡◌, IfOk, IsTrue, OnOk, Some, false, is_some, not};
+ghost use Rattle.std.specs.Prelude.{◌≡◌, ◌+◌, IfOk, IsTrue, OnOk, Option, option_map};
 ghost use Rattle.std.specs.Io.KnownBytes.{Appends};
 ghost use Rattle.thread_machine.specs.World.{world_of};
 ghost use Rattle.thread_machine.specs.Standing.{standing_of};
+ghost use Rattle.trace_text.specs.Lines.{refusal_text};
+ghost use Rattle.trace_text.specs.Playing.{row_of, told_as};
 ghost use Rattle.trace_text.specs.State.{state_text};
 
-use crate::kept_line::KeptLine;
-use crate::play::PlayFault;
+use crate::line::put_refusal;
+use crate::line_end::LineEnd;
+use crate::play::{PlayFault, Refused};
 use crate::state::state_text;
 use byte_ports::Sink;
 use std::alloc::Global;
-use thread_machine::{Machine, Standing};
+use thread_machine::{Choice, Machine, Standing, StepFault};
+
+/// The choice that was refused, which ended a run.
+#[derive(Drop)]
+pub struct Refusal {
+    /// Its line, with its LF: the last before the state.
+    pub line: LineEnd,
+    pub choice: Choice,
+    /// `NoSuchThread` or `StepLimit`: the line's word is `none` or `limit`.
+    pub why: StepFault,
+}
 
 /// How a run has ended: what its trace says last.
 #[derive(Drop)]
@@ -17,27 +30,50 @@ pub struct RunEnd {
     pub standing: Standing,
     /// The text of the state, with which the trace ends.
     pub state: Vec<u8>,
-    /// The line of the choice that was refused, if one was: the last before the state.
-    pub refused: Option<KeptLine>,
+    /// The choice that was refused, if one was.
+    pub refused: Option<Refusal>,
 }
 
-/// The last line, where a choice was refused.
-pub fn refused_in(accepted: bool, line: KeptLine) -> Option<KeptLine>
-    ensures is { is_some result ≡ not accepted }
-    ensures kept { accepted ≡ false → result ≡ Some line }
+/// The row at which a choice's thread stands, if there is such a thread.
+fn row_of(machine: &Machine, choice: Choice) -> Option<u16>
+    ensures { result ≡ row_of (world_of machine.now) choice }
 {
-    if accepted { None } else { Some(line) }
+    if usize::from(choice.thread) < machine.thread_count() {
+        Some(machine.pc(choice.thread))
+    } else {
+        None
+    }
 }
 
-/// Writes the text of a machine's state, and answers how its run has ended.
+/// What is told of a choice that this machine has refused.
+fn told(machine: &Machine, refused: Refused) -> Refusal
+    ensures { result ≡ told_as (world_of machine.now) refused }
+{
+    let mut line = LineEnd::new();
+    put_refusal(
+        &mut line,
+        machine.choices() + 1,
+        refused.choice,
+        row_of(machine, refused.choice),
+    );
+    Refusal {
+        line,
+        choice: refused.choice,
+        why: refused.why,
+    }
+}
+
+/// Writes the text of a machine's state, and answers how its run has ended: with this choice refused, if one was. It fails
+/// where memory runs out or the output has failed.
 pub fn push_end<W: Sink>(
     alloc: Global,
     machine: &Machine,
-    refused: Option<KeptLine>,
+    refused: Option<Refused>,
     output: &mut W,
 ) -> Result<RunEnd, PlayFault>
     ensures tells { IfOk result (λ end. (end.standing ≡ standing_of (world_of machine.now))
-        × (end.state.items ≡ state_text (world_of machine.now)) × (end.refused ≡ refused)) }
+        × (end.state.items ≡ state_text (world_of machine.now))
+        × (end.refused ≡ option_map (told_as (world_of machine.now)) refused)) }
     ensures state { OnOk result (Appends (W.written output.old) (W.written output.new)
         (state_text (world_of machine.now))) }
     ensures memory { result ≡ Err PlayFault.Memory → W.written output.new ≡ W.written output.old }
@@ -51,7 +87,10 @@ pub fn push_end<W: Sink>(
         Ok(()) => Ok(RunEnd {
             standing: machine.standing(),
             state,
-            refused,
+            refused: match refused {
+                Some(refused) => Some(told(machine, refused)),
+                None => None,
+            },
         }),
         Err(_) => Err(PlayFault::Write),
     }

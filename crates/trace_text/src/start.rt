@@ -20,14 +20,14 @@ pub enum StartFault {
     Memory,
 }
 
-/// The machine of a loaded program, before its first choice.
+/// The machine of a loaded program, before its first choice. It fails where memory runs out.
 pub(super) fn begun(alloc: Global, program: Loaded) -> Result<Machine, AllocError>
     ensures { IfOk result (λ machine. world_of machine ≡ first_world program 1000000000) }
 {
     Machine::new(alloc, program, MOST_STEPS)
 }
 
-/// The machine of an image, before its first choice.
+/// The machine of an image, before its first choice. It fails where the image isn't loaded, and where memory runs out.
 pub fn first_machine(alloc: Global, image: Image) -> Result<Machine, StartFault>
     ensures machine { IfOk result (λ machine. Begins image (world_of machine)) }
     ensures load { (fault : LoadFault) → result ≡ Err (StartFault.Load fault)

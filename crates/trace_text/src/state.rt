@@ -41,6 +41,7 @@ fn add_counts(text: &mut Vec<u8>, machine: &Machine) -> Result<(), AllocError>
     text.extend_from_slice(b"\n")
 }
 
+/// Appends the word of a status.
 fn add_status(text: &mut Vec<u8>, status: Status) -> Result<(), AllocError>
     ensures { OnOk result (text.new.items ≡ text.old.items ++ status_text status) }
 {
@@ -53,6 +54,7 @@ fn add_status(text: &mut Vec<u8>, status: Status) -> Result<(), AllocError>
     }
 }
 
+/// Appends a stack entry, with the space before it.
 fn add_entry(text: &mut Vec<u8>, entry: Entry) -> Result<(), AllocError>
     ensures { OnOk result (text.new.items ≡ text.old.items ++ entry_text entry) }
 {
@@ -64,6 +66,7 @@ fn add_entry(text: &mut Vec<u8>, entry: Entry) -> Result<(), AllocError>
     }
 }
 
+/// Appends the entries of a thread's stack.
 #[tactic(auto, using(crate::proofs::Traces::stack_steps))]
 fn add_stack(text: &mut Vec<u8>, machine: &Machine, thread: u8) -> Result<(), AllocError>
     requires { thread < length machine.now.scene.threads }
@@ -77,6 +80,7 @@ fn add_stack(text: &mut Vec<u8>, machine: &Machine, thread: u8) -> Result<(), Al
     Ok(())
 }
 
+/// Appends the numbers in a thread's eight registers.
 #[tactic(auto, using(crate::proofs::Traces::text_steps))]
 fn add_registers(
     text: &mut Vec<u8>,
@@ -94,6 +98,7 @@ fn add_registers(
     Ok(())
 }
 
+/// Appends what a thread has put out.
 #[tactic(auto, using(crate::proofs::Traces::text_steps))]
 fn add_values(text: &mut Vec<u8>, values: &[i32]) -> Result<(), AllocError>
     ensures text { OnOk result (text.new.items ≡ text.old.items ++ flat_map value_text values.now) }
@@ -147,6 +152,7 @@ fn add_thread_tail(text: &mut Vec<u8>, machine: &Machine, thread: u8) -> Result<
     text.extend_from_slice(b"\n")
 }
 
+/// Appends the line of a thread.
 fn add_thread(text: &mut Vec<u8>, machine: &Machine, thread: u8) -> Result<(), AllocError>
     requires { thread < length machine.now.scene.threads }
     ensures text { OnOk result (text.new.items
@@ -159,6 +165,7 @@ fn add_thread(text: &mut Vec<u8>, machine: &Machine, thread: u8) -> Result<(), A
     add_thread_tail(text, machine, thread)
 }
 
+/// Appends the lines of all threads.
 #[tactic(auto, using(crate::proofs::Traces::text_steps))]
 fn add_threads(text: &mut Vec<u8>, machine: &Machine) -> Result<(), AllocError>
     ensures text { OnOk result (text.new.items
@@ -184,6 +191,7 @@ fn add_parties(text: &mut Vec<u8>, forest: &Forest, id: PhaserId) -> Result<(), 
     text.extend_from_slice(b"\n")
 }
 
+/// Appends the line of a phaser.
 fn add_phaser(text: &mut Vec<u8>, forest: &Forest, id: PhaserId) -> Result<(), AllocError>
     requires { id.0 < length forest.now }
     ensures { OnOk result (text.new.items
@@ -194,6 +202,7 @@ fn add_phaser(text: &mut Vec<u8>, forest: &Forest, id: PhaserId) -> Result<(), A
     add_parties(text, forest, id)
 }
 
+/// Appends the lines of all phasers.
 #[tactic(auto, using(crate::proofs::Traces::text_steps))]
 fn add_phasers(text: &mut Vec<u8>, forest: &Forest) -> Result<(), AllocError>
     ensures { OnOk result (text.new.items
@@ -206,6 +215,7 @@ fn add_phasers(text: &mut Vec<u8>, forest: &Forest) -> Result<(), AllocError>
     Ok(())
 }
 
+/// Appends the line of a barrier.
 fn add_barrier(text: &mut Vec<u8>, number: u8, barrier: &Barrier) -> Result<(), AllocError>
     ensures { OnOk result (text.new.items ≡ text.old.items ++ barrier_text number barrier.now) }
 {
@@ -218,6 +228,7 @@ fn add_barrier(text: &mut Vec<u8>, number: u8, barrier: &Barrier) -> Result<(), 
     })
 }
 
+/// Appends the lines of all barriers.
 #[tactic(auto, using(crate::proofs::Traces::text_steps))]
 fn add_barriers(text: &mut Vec<u8>, machine: &Machine) -> Result<(), AllocError>
     ensures { OnOk result (text.new.items
@@ -229,6 +240,7 @@ fn add_barriers(text: &mut Vec<u8>, machine: &Machine) -> Result<(), AllocError>
     Ok(())
 }
 
+/// Appends the line of a cell, none where it is 0.
 fn add_cell(text: &mut Vec<u8>, number: usize, value: i32) -> Result<(), AllocError>
     ensures { OnOk result (text.new.items ≡ text.old.items ++ cell_text number value) }
 {
@@ -240,6 +252,7 @@ fn add_cell(text: &mut Vec<u8>, number: usize, value: i32) -> Result<(), AllocEr
     text.extend_from_slice(b"\n")
 }
 
+/// Appends the lines of all cells that aren't 0.
 #[tactic(auto, using(crate::proofs::Traces::text_steps))]
 fn add_cells(text: &mut Vec<u8>, cells: &[i32]) -> Result<(), AllocError>
     ensures { OnOk result (text.new.items
@@ -262,7 +275,7 @@ fn add_objects(text: &mut Vec<u8>, machine: &Machine) -> Result<(), AllocError>
     add_cells(text, machine.cells())
 }
 
-/// The text of a machine's state, which ends a trace. A comparison reads each of its lines.
+/// The text of a machine's state, which ends a trace. A comparison reads each of its lines. It fails where memory runs out.
 pub fn state_text(alloc: Global, machine: &Machine) -> Result<Vec<u8>, AllocError>
     ensures text { IfOk result (λ text. text.items ≡ state_text (world_of machine.now)) }
     ensures lines { OnOk result (HasNoLongLine (state_text (world_of machine.now))) }

@@ -93,7 +93,7 @@ fn later_line<'a>(subject: &[u8], text: &'a [u8]) -> Option<&'a [u8]>
     None
 }
 
-/// The line of a state that begins with this word.
+/// The line of a state that begins with this word, without its LF; `None` where there is none.
 pub fn line_of<'a>(state: &'a [u8], subject: &[u8]) -> Option<&'a [u8]>
     ensures { option_map (λ (line : Bor (List ℕ)). line.now) result ≡ line_of state.now subject.now }
 {

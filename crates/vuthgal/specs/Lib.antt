@@ -1,1 +1,2 @@
 pub mod Expectation
+pub mod Input

@@ -2,14 +2,15 @@
 
 use crate::help;
 use crate::schedule::Schedule;
-use crate::steps::{Steps, opened};
+use crate::steps::{Holds, opened};
 use crate::trouble::{Answer, Trouble};
 use byte_ports::WritePort;
+use command_line::request::Steps;
 use commands::making::make;
 use commands::picture::Picture;
 use workbench::done::Done;
 use workbench::ending::flushed;
-use workbench::slice_source::SliceSource;
+use workbench::program::program_in;
 
 /// Writes the picture of the program in a file. It is written at once, so nothing is kept back.
 pub fn draw<'a, P: Picture>(
@@ -18,12 +19,13 @@ pub fn draw<'a, P: Picture>(
     file: &'a str,
     steps: Steps<'a>,
 ) -> Answer<'a> {
-    let (file, steps) = opened(rt, file, steps)?;
-    let planned = steps.planned(rt, file.as_slice())?;
-    let (program, schedule) = steps.on(rt, file.as_slice(), planned.as_str());
+    let (file, steps) = opened(rt, file, steps, Holds::Schedule)?;
+    let (text, beside) = steps.parts(rt, file.as_slice());
+    let program = program_in(rt.alloc(), text)?;
+    let planned = steps.planned(rt, &program)?;
+    let schedule = steps.schedule(beside, planned.as_str());
     let mut schedule = Schedule::for_picture(rt.alloc(), schedule)?;
     let mut output = WritePort::new(rt.stdout());
-    let program = &mut SliceSource::new(program);
     let made = make(rt.alloc(), picture, program, &mut schedule, &mut output).map_err(
         |fault| Trouble::Fault(fault),
     );

@@ -5,13 +5,11 @@ ghost use Rattle.vuthgal.specs.Expectation.{are_as_expected, done_by};
 
 use crate::explaining::is_explained;
 use crate::printable;
-use assembler::{Symbols, assemble_named};
+use assembler::Symbols;
 use byte_ports::{Failed, Sink, WritePort};
 use instruction_table::OperandKind;
 use itoa::Buffer;
-use line_reader::asm_fault::{AsmFault, AsmFaultKind};
 use refusals::nearest_name;
-use row_code::is_image_file;
 use std::alloc::{AllocError, Global};
 use trace_text::RunEnd;
 use trace_text::form::{end_words, subject_of, words_of};
@@ -59,36 +57,15 @@ fn numbered(alloc: Global, symbols: &Symbols<'_>, text: &[u8]) -> Result<Vec<u8>
     Ok(numbered)
 }
 
-/// The names of a program: an image has none, and what is refused needs none.
-fn names_of(alloc: Global, program: &[u8]) -> Result<Symbols<'_>, AllocError> {
-    if is_image_file(program) {
-        return Ok(Symbols::none(alloc));
-    }
-    match assemble_named(alloc, program) {
-        Ok((_, symbols)) => Ok(symbols),
-        Err(
-            AsmFault {
-                kind: AsmFaultKind::Memory,
-                ..
-            },
-        ) => Err(AllocError),
-        Err(_) => Ok(Symbols::none(alloc)),
-    }
-}
-
-/// What is expected of a run of a program, by the numbers of its things.
+/// What is expected of a run of a program with these names, by the numbers of its things.
 pub fn expectations(
     alloc: Global,
-    program: &[u8],
+    names: &Symbols<'_>,
     texts: &[&str],
 ) -> Result<Vec<Vec<u8>>, AllocError> {
     let mut expected = Vec::new(alloc);
-    if texts.is_empty() {
-        return Ok(expected);
-    }
-    let symbols = names_of(alloc, program)?;
     for text in texts {
-        expected.push(numbered(alloc, &symbols, text.as_bytes())?)?;
+        expected.push(numbered(alloc, names, text.as_bytes())?)?;
     }
     Ok(expected)
 }
@@ -161,7 +138,7 @@ fn push_all_unmet<E: Sink>(
             continue;
         }
         let line = match &end.refused {
-            Some(refused) => without_end(refused.as_slice()),
+            Some(refused) => without_end(refused.line.as_slice()),
             None => line_against(end.state.as_slice(), text).unwrap_or(b"no such line"),
         };
         push_unmet(errors, text, line)?;

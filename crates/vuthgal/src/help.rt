@@ -4,7 +4,7 @@ use crate::explaining::is_explained;
 use crate::files::writes_to_pipe;
 use crate::printable;
 use byte_ports::{Sink, WritePort};
-use command_line::request::Request;
+use command_line::request::{Request, Steps};
 use plans::fault::PlanFault;
 use refusals::place::{Named, ProgramFile, push_place};
 use refusals::push_plan_place;
@@ -37,30 +37,29 @@ fn named(word: &str) -> &str {
     if word == "-" { INPUT } else { word }
 }
 
+/// The file that is named in the place of a schedule, and the plan that is a word itself.
+fn words_of<'a>(steps: Steps<'a>) -> (Option<&'a str>, Option<&'a str>) {
+    match steps {
+        Steps::Beside => (None, None),
+        Steps::Named(word) => (Some(named(word)), None),
+        Steps::Plan(plan) => (None, Some(plan)),
+        Steps::PlanFile(file) => (Some(file), None),
+    }
+}
+
 impl<'a> Files<'a> {
     /// Those that the words name.
     pub fn of(request: &Request<'a>) -> Files<'a> {
         let (program, schedule, plan) = match request {
             Request::Asm { source, .. } => (*source, None, None),
-            Request::Run {
-                file,
-                schedule,
-                plan,
-                ..
+            Request::Run { file, steps, .. }
+            | Request::Show { file, steps, .. }
+            | Request::Draw { file, steps, .. }
+            | Request::Debug { file, steps } => {
+                let (named, plan) = words_of(*steps);
+                (*file, named, plan)
             }
-            | Request::Show {
-                file,
-                schedule,
-                plan,
-            }
-            | Request::Draw {
-                file,
-                schedule,
-                plan,
-                ..
-            } => (*file, schedule.map(|word| named(word)), *plan),
             Request::Plan { file, plan, .. } => (*file, Some(named(plan.unwrap_or(INPUT))), None),
-            Request::Debug { file, trace, plan } => (*file, *trace, *plan),
             Request::List { file, .. }
             | Request::Compare { file, .. }
             | Request::Live { file, .. } => (*file, None, None),
@@ -170,7 +169,7 @@ pub fn push_plan_help(rt: &HostRuntime, fault: PlanFault, files: Files<'_>) {
                 push_text(
                     rt,
                     format!(in rt.alloc();
-                        "{plan} is a file: a file of a plan is named NAME.plan, and stands where SCHEDULE or TRACE does\n"
+                        "{plan} is a file: `--plan-file {plan}` plays the plan in it\n"
                     ),
                 );
             }
@@ -198,7 +197,7 @@ pub fn push_missing(rt: &HostRuntime, missing: Option<(u64, Choice)>) {
         push_text(
             rt,
             format!(in rt.alloc();
-                "{step} {letter}{thread} - none: there is no such thread, and what follows wasn't played\n"
+                "{step} {letter}{thread} - none: the program has no such thread; the rest wasn't played\n"
             ),
         );
     }
@@ -213,10 +212,10 @@ pub fn push_explained(rt: &HostRuntime, text: &str) {
 
 /// How a trace is made.
 pub const NO_TRACE: &str =
-    "that is no line of a trace: `vuthgal run FILE SCHEDULE > TRACE` writes one\n";
+    "this isn't a line of a trace: `vuthgal run FILE SCHEDULE > TRACE` writes a trace\n";
 
 /// How a line differs that looks like the run's.
-pub const CARRIAGE_RETURN: &str = "the trace's line ends with CR LF, a run's with LF alone\n";
+pub const CARRIAGE_RETURN: &str = "the trace's line ends with CR LF, the run's with LF\n";
 
 /// Writes a text to standard error, if there was memory for it.
 pub fn push_text(rt: &HostRuntime, text: Result<String, AllocError>) {
@@ -233,7 +232,7 @@ pub fn push_reason<R: Display>(rt: &HostRuntime, fault: Fault, path: &str, reaso
             push_text(
                 rt,
                 format!(in rt.alloc();
-                    "`-` is standard input where SCHEDULE, TRACE or PLAN stands, FILE is a file; \
+                    "`-` is standard input as SCHEDULE, TRACE or PLAN, but not as FILE; \
                     `vuthgal < FILE` plays a text with its schedule\n"
                 ),
             );
@@ -252,7 +251,7 @@ pub fn push_file_hint(rt: &HostRuntime, path: &str) -> bool {
             rt,
             format!(in rt.alloc();
                 "{path} is a file: `vuthgal run {path}` plays a text with its schedule,\n\
-             `vuthgal run {path} SCHEDULE` a program under a schedule of its own\n"
+             `vuthgal run {path} SCHEDULE` plays a program under this schedule\n"
             ),
         );
     }

@@ -2,7 +2,7 @@
 
 ghost use Rattle.std.specs.Io.{ReadsAtMost};
 ghost use Rattle.std.specs.Io.KnownBytes.{ReadConsumes};
-ghost use Rattle.std.specs.Prelude.{None};
+ghost use Rattle.vuthgal.specs.Input.{left_of};
 
 use crate::files;
 use crate::no_command::NoCommand;
@@ -10,13 +10,17 @@ use std::fs::File;
 use std::io;
 use std::io::{Read, Stdin};
 
-/// A file that a word names, standard input, or what is left of a text.
+/// A file that a word names, standard input, or what is left of a text. What it does is the same for any reader in the place of
+/// the first two, so that it can't rest on whether they tell what is left of them.
 #[derive(Drop)]
-pub enum Input<'a> {
-    File(File),
-    Standard(Stdin),
+pub enum InputOf<'a, F, S> {
+    File(F),
+    Standard(S),
     Text(&'a [u8]),
 }
+
+/// The program's own.
+pub type Input<'a> = InputOf<'a, File, Stdin>;
 
 impl<'a> Input<'a> {
     /// What a word names: standard input where it is `-`.
@@ -36,15 +40,18 @@ impl<'a> Input<'a> {
     }
 }
 
-impl<'a> Read for Input<'a> {
+impl<'a, F: Read, S: Read> Read for InputOf<'a, F, S> {
+    ghost remaining = { left_of F.remaining S.remaining };
+
     fn read(&mut self, buffer: &mut [u8]) -> io::Result<usize>
         ensures bound { ReadsAtMost result buffer.new }
-        ensures bytes { ReadConsumes None None result buffer.new }
+        ensures bytes { ReadConsumes (left_of F.remaining S.remaining self.old)
+            (left_of F.remaining S.remaining self.new) result buffer.new }
     {
         match self {
-            Input::File(file) => file.read(buffer),
-            Input::Standard(input) => input.read(buffer),
-            Input::Text(text) => {
+            InputOf::File(file) => file.read(buffer),
+            InputOf::Standard(input) => input.read(buffer),
+            InputOf::Text(text) => {
                 let count = buffer.len().min(text.len());
                 buffer[..count].copy_from_slice(&text[..count]);
                 *text = &text[count..];

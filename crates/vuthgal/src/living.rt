@@ -11,17 +11,19 @@ use crate::{files, notes};
 use byte_ports::WritePort;
 use commands::{Asked, Pauses, report_runs};
 use headline::shown;
+use row_code::Image;
 use std::sync::Wait;
 use std::thread::Threads;
 use workbench::done::{Done, as_asked};
 use workbench::ending::flushed;
-use workbench::racing;
+use workbench::program::program_in;
+use workbench::{Program, racing};
 
 /// Plays a program on real threads, which pause a little where there is a seed.
 fn live<'a, R: Threads + Wait + Sync>(
     threads: &R,
     rt: &HostRuntime,
-    program: &[u8],
+    program: Program<'_>,
     limit: u32,
     pauses: Pauses,
     expected: &[Vec<u8>],
@@ -31,15 +33,22 @@ fn live<'a, R: Threads + Wait + Sync>(
     let mut output = trace_port(rt)?;
     let shown = Meter::of_live(rt);
     let gate = pauses.of_run(0, &shown);
-    let answer = shown::live(threads, rt.alloc(), limit, &gate, program, &mut output);
+    let answer = shown::live(
+        threads,
+        rt.alloc(),
+        limit,
+        &gate,
+        program.image,
+        &mut output,
+    );
     shown.end();
     ended(
         rt,
         answer,
         output,
-        program,
+        program.bytes,
         expected,
-        "live: some threads could still go on, but as many steps were taken as may be\n",
+        "live: some threads could still continue, but the limit of steps was reached\n",
     )
 }
 
@@ -47,7 +56,7 @@ fn live<'a, R: Threads + Wait + Sync>(
 fn live_often<'a, R: Threads + Wait + Sync>(
     threads: &R,
     rt: &HostRuntime,
-    program: &[u8],
+    image: Image,
     asked: &Asked<'_>,
 ) -> Answer<'a>
     requires limit { asked.now.limit ≤ 1000000000 }
@@ -55,7 +64,7 @@ fn live_often<'a, R: Threads + Wait + Sync>(
 {
     let shown = Meter::of_runs(rt);
     let mut output = WritePort::new(BehindProgress::new(rt.stdout(), &shown));
-    let answer = report_runs(threads, rt.alloc(), asked, &shown, program, &mut output);
+    let answer = report_runs(threads, rt.alloc(), asked, &shown, image, &mut output);
     shown.end();
     let done = flushed(answer, &mut output)?;
     if done == Done::Unlike && is_explained(rt) {
@@ -77,11 +86,12 @@ pub fn play_live<'a, R: Threads + Wait + Sync>(
     requires limit { limit ≤ 1000000000 }
     requires count { IfSome runs (λ n. n ≤ 100000) }
 {
-    let program = files::contents(rt, file)?;
-    let expected = expectations(rt.alloc(), program.as_slice(), expected)?;
+    let file = files::contents(rt, file)?;
+    let program = program_in(rt.alloc(), file.as_slice())?;
+    let expected = expectations(rt.alloc(), &program.names, expected)?;
     let expected = expected.as_slice();
     let Some(runs) = runs else {
-        return live(threads, rt, program.as_slice(), limit, pauses, expected);
+        return live(threads, rt, program, limit, pauses, expected);
     };
     let asked = Asked {
         runs,
@@ -89,7 +99,7 @@ pub fn play_live<'a, R: Threads + Wait + Sync>(
         pauses,
         expected,
     };
-    live_often(threads, rt, program.as_slice(), &asked)
+    live_often(threads, rt, program.image, &asked)
 }
 
 /// Lets real threads meet at a shared phaser.

@@ -40,12 +40,12 @@ use debugging::debug;
 use drawing::draw;
 use help::Files;
 use living::{meet, play_live};
+use pictures::others::OtherRuns;
 use planning::{count_orders, write_plan};
 use running::{play_both, run};
 use std::process::ExitCode;
 use std::sync::Wait;
 use std::thread::Threads;
-use steps::Steps;
 use texts::{explain_words, write_image, write_list};
 use traces::{compare, write_choices};
 use trouble::Answer;
@@ -65,30 +65,29 @@ fn done<'a, R: Threads + Wait + Sync>(
         Request::List { file, has_rows } => write_list(rt, file, has_rows),
         Request::Run {
             file,
-            schedule,
-            plan,
+            steps,
             expected,
-        } => run(rt, file, Steps::of(schedule, plan), expected.as_slice()),
+        } => run(rt, file, steps, expected.as_slice()),
         Request::Compare {
             file,
             trace,
             is_shown,
         } => compare(rt, file, trace, is_shown),
-        Request::Debug { file, trace, plan } => debug(rt, file, Steps::behind(trace, plan)),
+        Request::Debug { file, steps } => debug(rt, file, steps),
         Request::Show {
             file,
-            schedule,
-            plan,
+            steps,
+            is_alone,
         } => {
             notes::push_page_on_terminal(rt);
-            draw(rt, &Page, file, Steps::of(schedule, plan))
+            let others = if is_alone {
+                OtherRuns::LeftOut
+            } else {
+                OtherRuns::Told
+            };
+            draw(rt, &Page { others }, file, steps)
         }
-        Request::Draw {
-            file,
-            schedule,
-            width,
-            plan,
-        } => draw(rt, &Drawing { width }, file, Steps::of(schedule, plan)),
+        Request::Draw { file, steps, width } => draw(rt, &Drawing { width }, file, steps),
         Request::Live {
             file,
             limit,

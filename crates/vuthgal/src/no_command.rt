@@ -16,7 +16,7 @@ use workbench::fault::Fault;
 pub const WRONG_WORDS: u8 = 2;
 
 /// What is told of a word that is no text.
-const NOT_TEXT: &str = "error: a word of the command line isn't UTF-8";
+const NOT_TEXT: &str = "error: an argument isn't UTF-8";
 
 /// Why no command is begun: the words ask for none, or for help; or a file that they name can't be opened.
 #[derive(Debug, Drop, Error)]
@@ -135,11 +135,11 @@ fn is_for_output(word: &str) -> bool {
 /// Tells how what a command doesn't take is asked for.
 fn push_other_way(rt: &HostRuntime, command: &str, words: &[String]) {
     let way = if words.iter().any(|word| is_for_output(word.as_str())) {
-        "`> FILE` writes it to a file"
+        "`> FILE` writes the output to a file"
     } else if command == "live" {
         "`run FILE SCHEDULE` plays a schedule; `live` lets the threads choose"
     } else if command == "debug" {
-        "`--at TRACE` begins behind a trace, `--at NAME.plan` behind a plan; a schedule is a command, `g t0 t1`"
+        "`--at TRACE` begins after a trace, `--plan-file FILE` after a plan; the command `g t0 t1` plays a schedule"
     } else {
         return;
     };
@@ -166,7 +166,7 @@ impl<'a> NoCommand<'a> {
                 rt,
                 Fault::Write,
                 path,
-                &"it is the file that is read",
+                &"SRC and OUT are the same file",
             ),
         }
     }

@@ -5,7 +5,8 @@ use crate::input::Input;
 use crate::printable;
 use byte_ports::{Sink, WritePort};
 use std::io::IsTerminal;
-use trace_text::RunEnd;
+use thread_machine::StepFault;
+use trace_text::{Refusal, RunEnd};
 
 /// Tells a person at a terminal.
 fn push_note(rt: &HostRuntime, text: &[u8]) {
@@ -25,7 +26,7 @@ pub fn push_waiting(rt: &HostRuntime, text: &[u8]) {
 pub fn push_no_schedule(rt: &HostRuntime) {
     push_note(
         rt,
-        b"no line `.run`, so no schedule behind it: nothing is played\n",
+        b"no line `.run`, so no schedule: nothing is played; try `run FILE --plan '..'`\n",
     );
 }
 
@@ -34,7 +35,7 @@ pub fn push_schedule_waited_for(rt: &HostRuntime, word: &str) {
     if word == "-" {
         push_waiting(
             rt,
-            b"reading a schedule from the terminal: its end is Ctrl-D\n",
+            b"reading a schedule from the terminal (Ctrl-D ends it)\n",
         );
     }
 }
@@ -51,24 +52,28 @@ pub fn push_plan_waited_for(rt: &HostRuntime, steps: &Input) {
 
 /// A choice of a thread that isn't there ends a run.
 pub fn push_refused(rt: &HostRuntime, end: &RunEnd) {
-    let Some(refused) = &end.refused else {
+    let Some(
+        Refusal {
+            line,
+            why: StepFault::NoSuchThread,
+            ..
+        },
+    ) = &end.refused
+    else {
         return;
     };
-    if let Some(line) = refused.as_slice().strip_suffix(b"\n") {
-        if line.ends_with(b" - none") {
-            push_note(rt, line);
-            push_note(
-                rt,
-                b": there is no such thread, and what follows wasn't played\n",
-            );
-        }
-    }
+    let line = line.as_slice();
+    push_note(rt, line.strip_suffix(b"\n").unwrap_or(line));
+    push_note(
+        rt,
+        b": the program has no such thread; the rest wasn't played\n",
+    );
 }
 
 /// Not all of several runs ended as they were expected to.
 pub fn push_unlike_runs(rt: &HostRuntime) {
     let _ = WritePort::new(printable::errors(rt)).push(
-        b"some runs ended otherwise than expected: a line above has the schedule of one of each kind\n",
+        b"some runs didn't end as expected: each line above has the schedule of one run\n",
     );
 }
 

@@ -12,9 +12,11 @@ use commands::making::parts_of;
 use commands::plan::{plan, planned_in};
 use commands::seeds::{self, report_seeds};
 use schedule_reader::Run;
+use workbench::Program;
 use workbench::done::{Done, as_asked};
 use workbench::ending::flushed;
 use workbench::input::read_all;
+use workbench::program::program_in;
 
 /// Tells that a plan wanted one more choice than it may make.
 fn push_stopped(rt: &HostRuntime) {
@@ -24,7 +26,7 @@ fn push_stopped(rt: &HostRuntime) {
 /// The choices of a plan on a program, as runs. That it wanted one more than it may make is told.
 pub fn runs_of_plan<'a>(
     rt: &HostRuntime,
-    program: &[u8],
+    program: &Program<'_>,
     plan: &[u8],
 ) -> Result<Vec<Run>, Trouble<'a>>
     ensures { IfOk result (λ runs. AreRuns runs.items) }
@@ -42,19 +44,17 @@ pub fn write_plan<'a>(
     file: &'a str,
     steps: Option<&'a str>,
 ) -> Result<Done, Trouble<'a>> {
-    let mut program = ReadPort::new(files::read(rt, file)?);
+    let program = files::read(rt, file)?;
     let steps = match steps {
         Some(word) => Input::named(rt, word)?,
         None => Input::Standard(rt.stdin()),
     };
     notes::push_plan_waited_for(rt, &steps);
+    let file = read_all(rt.alloc(), &mut ReadPort::new(program))?;
+    let steps = read_all(rt.alloc(), &mut ReadPort::new(steps))?;
+    let program = program_in(rt.alloc(), parts_of(file.as_slice()).0)?;
     let mut output = WritePort::new(rt.stdout());
-    let planned = plan(
-        rt.alloc(),
-        &mut program,
-        &mut ReadPort::new(steps),
-        &mut output,
-    )?;
+    let planned = plan(rt.alloc(), program, steps.as_slice(), &mut output)?;
     if flushed(Ok(planned), &mut output)? {
         push_stopped(rt);
         return Ok(Done::Unlike);
@@ -78,7 +78,7 @@ pub fn count_orders<'a>(
         None => Vec::new(rt.alloc()),
     };
     let file = read_all(rt.alloc(), &mut ReadPort::new(program))?;
-    let (program, _) = parts_of(file.as_slice());
+    let program = program_in(rt.alloc(), parts_of(file.as_slice()).0)?;
     let seeds = seeds::Seeds {
         first: seeds.first,
         count: seeds.last - seeds.first + 1,

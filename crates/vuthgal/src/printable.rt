@@ -1,6 +1,8 @@
 //! What a terminal is shown: no byte of an input is written to it that would steer it.
 
 ghost use Rattle.std.specs.Io.{WritesAtMost};
+ghost use Rattle.std.specs.Io.KnownBytes.{WriteAppends};
+ghost use Rattle.std.specs.Prelude.{None, if◌then◌else◌};
 
 use std::io;
 use std::io::{IsTerminal, Stderr, Stdout, Write};
@@ -42,8 +44,13 @@ fn shown(byte: u8) -> u8 {
 }
 
 impl<W: Write> Write for Printable<W> {
+    // What a terminal is shown isn't told.
+    ghost contents = { λ w. if w.is_terminal then None else W.contents w.writer };
+
     fn write(&mut self, bytes: &[u8]) -> io::Result<usize>
         ensures bound { WritesAtMost result bytes.now }
+        ensures bytes { WriteAppends (if self.old.is_terminal then None else W.contents self.old.writer)
+            (if self.new.is_terminal then None else W.contents self.new.writer) result bytes.now }
     {
         if !self.is_terminal {
             return self.writer.write(bytes);

@@ -109,14 +109,14 @@ impl<'a> Meter<'a> {
         };
     }
 
-    /// Shows the last whole line of a block of a trace, which begins with the number of its choice.
-    fn show_block(&self, block: &[u8], percent: Option<u64>) {
+    /// Counts the lines of a block of a trace, each of which is a choice, up to those of the state.
+    fn count_lines(&self, block: &[u8], percent: Option<u64>) {
         if self.began.is_none() {
             return;
         }
-        if let Some(choices) = last_number(block) {
-            self.show(choices, percent);
-        }
+        let lines = block.iter().filter(|byte| **byte == b'\n').count() as u64;
+        let before = self.done.fetch_add(lines, Ordering::SeqCst);
+        self.show(before.saturating_add(lines), percent);
     }
 
     /// Counts one more.
@@ -150,18 +150,6 @@ impl<'a> Pace for Meter<'a> {
     }
 }
 
-/// The number at the beginning of the last line that ends in a block.
-fn last_number(block: &[u8]) -> Option<u64> {
-    let mut lines = block.rsplit(|byte| *byte == b'\n');
-    let _ = lines.next();
-    let line = lines.next()?;
-    let digits = line.split(|byte| *byte == b' ').next()?;
-    match str::from_utf8(digits) {
-        Ok(digits) => digits.parse::<u64>().ok(),
-        Err(_) => None,
-    }
-}
-
 /// A writer that shows how far the trace has come that passes it in large blocks.
 #[derive(Drop)]
 pub struct ShownWriter<'a, W> {
@@ -170,6 +158,7 @@ pub struct ShownWriter<'a, W> {
 }
 
 impl<'a, W> ShownWriter<'a, W> {
+    /// Over a writer to which nothing was written.
     pub fn new(rt: &'a HostRuntime, writer: W) -> ShownWriter<'a, W> {
         ShownWriter {
             writer,
@@ -185,7 +174,7 @@ impl<'a, W: Write> Write for ShownWriter<'a, W> {
         ensures bound { WritesAtMost result bytes.now }
         ensures bytes { WriteAppends (W.contents self.old.writer) (W.contents self.new.writer) result bytes.now }
     {
-        self.meter.show_block(bytes, None);
+        self.meter.count_lines(bytes, None);
         self.writer.write(bytes)
     }
 
@@ -239,7 +228,7 @@ impl<'a, S> ShownSource<'a, S> {
         if bytes.is_empty() {
             self.meter.end();
         } else {
-            self.meter.show_block(bytes, self.percent());
+            self.meter.count_lines(bytes, self.percent());
         }
     }
 }
@@ -271,6 +260,7 @@ pub struct BehindProgress<'a, W> {
 }
 
 impl<'a, W> BehindProgress<'a, W> {
+    /// Over a writer, with the line that is ended first.
     pub fn new(writer: W, meter: &'a Meter<'a>) -> BehindProgress<'a, W> {
         BehindProgress { writer, meter }
     }

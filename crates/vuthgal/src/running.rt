@@ -5,9 +5,10 @@ use crate::help::push_explained;
 use crate::notes;
 use crate::progress::{ShownWriter, trace_port};
 use crate::schedule::Schedule;
-use crate::steps::{Steps, opened};
+use crate::steps::{Holds, opened};
 use crate::trouble::Answer;
 use byte_ports::{BlockPort, ReadPort, WritePort};
+use command_line::request::Steps;
 use headline::shown;
 use std::io::Stdout;
 use thread_machine::Standing;
@@ -16,14 +17,16 @@ use workbench::done::Done;
 use workbench::ending::handed_on;
 use workbench::fault::Fault;
 use workbench::input::read_all;
+use workbench::program::{program_in, program_of_text};
 use workbench::run_line::split_at_run;
+use workbench::slice_source::SliceSource;
 
 /// Where the trace of a run goes.
 pub type TracePort<'a> = BlockPort<WritePort<ShownWriter<'a, Stdout>>>;
 
 /// What `live` means where the schedule ended the run.
 const SCHEDULE_ENDS: &str =
-    "live: some threads could still go on, but the schedule is at its end\n";
+    "live: some threads could still continue, but the schedule has no more choices\n";
 
 /// What a run comes to whose trace was handed on: whether it ended as it was expected to. What didn't is told, and on a terminal
 /// also a choice of a thread that isn't there, and what `live` means.
@@ -51,42 +54,35 @@ pub fn ended<'a>(
 pub fn play_both<'a>(rt: &HostRuntime, expected: &[&str]) -> Answer<'a> {
     notes::push_waiting(
         rt,
-        b"reading a program text from the terminal (--help tells more)\n",
+        b"reading a program text from the terminal (--help says more)\n",
     );
-    let text = read_all(rt.alloc(), &mut ReadPort::new(rt.stdin()))?;
-    let text = text.as_slice();
-    let (program, _) = split_at_run(text);
-    let expected = expectations(rt.alloc(), program, expected)?;
+    let bytes = read_all(rt.alloc(), &mut ReadPort::new(rt.stdin()))?;
+    let bytes = bytes.as_slice();
+    let (text, schedule) = split_at_run(bytes);
+    let program = program_of_text(rt.alloc(), text)?;
+    let expected = expectations(rt.alloc(), &program.names, expected)?;
+    let mut schedule = SliceSource::new(schedule);
     let mut output = trace_port(rt)?;
-    let answer = shown::both(rt.alloc(), text, &mut output);
-    if answer.is_ok() && program.len() == text.len() {
+    let answer = shown::run(rt.alloc(), program.image, &mut schedule, &mut output).map_err(
+        |fault| Fault::of_run(fault),
+    );
+    if answer.is_ok() && text.len() == bytes.len() {
         notes::push_no_schedule(rt);
     }
-    ended(
-        rt,
-        answer,
-        output,
-        program,
-        expected.as_slice(),
-        SCHEDULE_ENDS,
-    )
+    ended(rt, answer, output, text, expected.as_slice(), SCHEDULE_ENDS)
 }
 
 /// Plays the program in a file.
 pub fn run<'a>(rt: &HostRuntime, file: &'a str, steps: Steps<'a>, expected: &[&str]) -> Answer<'a> {
-    let (file, steps) = opened(rt, file, steps)?;
-    let planned = steps.planned(rt, file.as_slice())?;
-    let (program, schedule) = steps.on(rt, file.as_slice(), planned.as_str());
-    let mut schedule = Schedule::whole(rt.alloc(), schedule);
-    let expected = expectations(rt.alloc(), program, expected)?;
+    let (file, steps) = opened(rt, file, steps, Holds::Schedule)?;
+    let (text, beside) = steps.parts(rt, file.as_slice());
+    let program = program_in(rt.alloc(), text)?;
+    let planned = steps.planned(rt, &program)?;
+    let expected = expectations(rt.alloc(), &program.names, expected)?;
+    let mut schedule = Schedule::whole(rt.alloc(), steps.schedule(beside, planned.as_str()));
     let mut output = trace_port(rt)?;
-    let answer = shown::run(rt.alloc(), program, &mut schedule, &mut output);
-    schedule.told(ended(
-        rt,
-        answer,
-        output,
-        program,
-        expected.as_slice(),
-        SCHEDULE_ENDS,
-    ))
+    let answer = shown::run(rt.alloc(), program.image, &mut schedule, &mut output).map_err(
+        |fault| Fault::of_run(fault),
+    );
+    schedule.told(ended(rt, answer, output, text, expected.as_slice(), SCHEDULE_ENDS))
 }

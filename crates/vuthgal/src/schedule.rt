@@ -1,16 +1,19 @@
 //! The schedule of a run, as it is read.
 
-ghost use Rattle.std.specs.Prelude.{◌≤◌, ◌+◌, if◌then◌else◌, false, IfOk, IfSome, None, length};
+ghost use Rattle.std.specs.Prelude.{◌≡◌, ◌≤◌, ◌+◌, if◌then◌else◌, false, IfOk, IfSome, length};
 ghost use Rattle.std.specs.Io.KnownBytes.{ReadConsumes};
 ghost use Rattle.byte_ports.specs.Port.{FailsForGood};
+ghost use Rattle.vuthgal.specs.Input.{left_of, unless_cut};
 
-use crate::input::Input;
+use crate::input::InputOf;
 use crate::trouble::Trouble;
 use byte_ports::{Failed, ReadPort, Source};
 use line_reader::words::is_blank;
 use pictures::choices::MOST_CHOICES;
 use schedule_reader::{Reader, Run};
 use std::alloc::{AllocError, Global};
+use std::fs::File;
+use std::io::{Read, Stdin};
 use workbench::fault::Fault;
 
 /// How many bytes of standard input are kept at most.
@@ -71,8 +74,8 @@ impl Seen {
 
 /// A schedule. What came by standard input is kept for a person, since it can't be read twice.
 #[derive(Drop)]
-pub struct Schedule<'a> {
-    source: ReadPort<Input<'a>>,
+pub struct ScheduleOf<'a, F, S> {
+    source: ReadPort<InputOf<'a, F, S>>,
     is_kept: bool,
     kept: Vec<u8>,
     /// What a picture has seen of it, where it is for one.
@@ -80,17 +83,23 @@ pub struct Schedule<'a> {
     is_over: bool,
 }
 
+/// The program's own.
+pub type Schedule<'a> = ScheduleOf<'a, File, Stdin>;
+
 /// Keeps as many of these bytes as there is room for.
 fn keep(kept: &mut Vec<u8>, bytes: &[u8]) {
     let room = MOST_KEPT.saturating_sub(kept.len());
     let _ = kept.extend_from_slice(bytes.get(..room).unwrap_or(bytes));
 }
 
-impl<'a> Schedule<'a> {
+impl<'a, F: Read + Drop, S: Read + Drop> ScheduleOf<'a, F, S> {
     /// All that an input holds.
-    pub fn whole(alloc: Global, input: Input<'a>) -> Schedule<'a> {
-        Schedule {
-            is_kept: matches!(input, Input::Standard(_)),
+    pub fn whole(alloc: Global, input: InputOf<'a, F, S>) -> ScheduleOf<'a, F, S>
+        ensures { unless_cut result.is_over result.seen (left_of F.remaining S.remaining result.source.inner)
+            ≡ left_of F.remaining S.remaining input.entry }
+    {
+        ScheduleOf {
+            is_kept: matches!(input, InputOf::Standard(_)),
             source: ReadPort::new(input),
             kept: Vec::new(alloc),
             seen: None,
@@ -100,9 +109,12 @@ impl<'a> Schedule<'a> {
 
     /// As much as a picture needs of what isn't there yet: it ends behind the byte that makes the schedule's fault, or a choice
     /// more than a picture shows. What stands there is refused as the whole schedule would be: nothing behind it is waited for.
-    pub fn for_picture(alloc: Global, input: Input<'a>) -> Result<Schedule<'a>, AllocError> {
-        let is_text = matches!(input, Input::Text(_));
-        let mut schedule = Schedule::whole(alloc, input);
+    pub fn for_picture(
+        alloc: Global,
+        input: InputOf<'a, F, S>,
+    ) -> Result<ScheduleOf<'a, F, S>, AllocError> {
+        let is_text = matches!(input, InputOf::Text(_));
+        let mut schedule = ScheduleOf::whole(alloc, input);
         if !is_text {
             schedule.seen = Some(Seen::new(alloc)?);
         }
@@ -120,8 +132,9 @@ impl<'a> Schedule<'a> {
     }
 }
 
-impl<'a> Source for Schedule<'a> {
-    ghost left = { λ _. None };
+impl<'a, F: Read, S: Read> Source for ScheduleOf<'a, F, S> {
+    // What was read of its input that it didn't hand on is told of none.
+    ghost left = { λ s. unless_cut s.is_over s.seen (left_of F.remaining S.remaining s.source.inner) };
 
     ghost has_failed = { λ s. if s.is_over then false else s.source.failed };
 
@@ -131,7 +144,9 @@ impl<'a> Source for Schedule<'a> {
         ensures failed { FailsForGood (if self.old.is_over then false else self.old.source.failed)
             (if self.new.is_over then false else self.new.source.failed) result }
         ensures bound { IfOk result (λ n. n ≤ length buffer.new) }
-        ensures bytes { ReadConsumes None None result buffer.new }
+        ensures bytes { ReadConsumes
+            (unless_cut self.old.is_over self.old.seen (left_of F.remaining S.remaining self.old.source.inner))
+            (unless_cut self.new.is_over self.new.seen (left_of F.remaining S.remaining self.new.source.inner)) result buffer.new }
         ensures reads { 0 ≤ 0 + 1 }
     {
         if self.is_over {

@@ -12,6 +12,7 @@ use workbench::ending::{flushed, handed_on};
 use workbench::fault::Fault;
 use workbench::input::read_all;
 use workbench::list::list;
+use workbench::program::program_in;
 
 /// Writes the image of the text in one file to another.
 pub fn write_image<'a>(rt: &HostRuntime, source: &'a str, image: &'a str) -> Answer<'a> {
@@ -25,12 +26,13 @@ pub fn write_image<'a>(rt: &HostRuntime, source: &'a str, image: &'a str) -> Ans
 
 /// Writes the canonical text of the program in a file, or its rows.
 pub fn write_list<'a>(rt: &HostRuntime, file: &'a str, has_rows: bool) -> Answer<'a> {
-    let program = files::contents(rt, file)?;
+    let file = files::contents(rt, file)?;
+    let program = program_in(rt.alloc(), file.as_slice())?;
     let mut output = WritePort::new(printable::output(rt));
     let answer = if has_rows {
-        list_rows(rt.alloc(), program.as_slice(), &mut output)
+        list_rows(rt.alloc(), &program, &mut output)
     } else {
-        list(rt.alloc(), program.as_slice(), &mut output)
+        list(rt.alloc(), &program.image, &mut output)
     };
     Ok(as_asked(flushed(answer, &mut output))?)
 }

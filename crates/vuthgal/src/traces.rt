@@ -7,12 +7,13 @@ use crate::trouble::Answer;
 use crate::{files, printable};
 use byte_ports::{BlockPort, ReadPort, WritePort};
 use commands::choices::choices;
-use commands::{LinesSeen, show_comparison};
+use commands::show_comparison;
 use trace_compare::Verdict;
 use workbench::compare::{compared, done_by};
 use workbench::done::Done;
 use workbench::ending::{flushed, handed_on};
 use workbench::input::read_all;
+use workbench::program::program_in;
 
 /// What a verdict comes to. On a terminal it is told how a trace is made, where there is none.
 fn ended(rt: &HostRuntime, verdict: Verdict) -> Done {
@@ -29,19 +30,19 @@ pub fn compare<'a>(rt: &HostRuntime, file: &'a str, trace: &'a str, is_shown: bo
     let size = trace.size();
     let mut trace = ShownSource::new(rt, ReadPort::new(trace), size);
     let program = read_all(rt.alloc(), &mut ReadPort::new(program))?;
-    let program = program.as_slice();
+    let image = program_in(rt.alloc(), program.as_slice())?.image;
     let mut output = WritePort::new(printable::output(rt));
     if !is_shown {
-        let verdict = compared(rt.alloc(), program, &mut trace, &mut output);
+        let verdict = compared(rt.alloc(), image, &mut trace, &mut output);
         return Ok(ended(rt, flushed(verdict, &mut output)?));
     }
-    let mut trace = LinesSeen::new(rt.alloc(), trace)?;
-    let verdict = show_comparison(rt.alloc(), program, &mut trace, &mut output);
-    let verdict = flushed(verdict, &mut output)?;
-    if let Verdict::Differs { line } = verdict {
-        if trace.line(line).unwrap_or(&[]).ends_with(b"\r") {
-            push_explained(rt, CARRIAGE_RETURN);
-        }
+    let judged = show_comparison(rt.alloc(), image, &mut trace, &mut output);
+    let judged = flushed(judged, &mut output)?;
+    let verdict = judged.verdict();
+    if matches!(verdict, Verdict::Differs { .. })
+        && judged.trace_line().unwrap_or(&[]).ends_with(b"\r")
+    {
+        push_explained(rt, CARRIAGE_RETURN);
     }
     Ok(ended(rt, verdict))
 }

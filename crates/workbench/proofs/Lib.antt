@@ -5,4 +5,3 @@ pub mod Traces
 pub mod Lines
 pub mod Lives
 pub mod RunLine
-pub mod Runs

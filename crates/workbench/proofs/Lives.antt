@@ -25,15 +25,15 @@ one_program file a b (inr (is, first)) (inl (other, second, fit)) = absurd (cc (
 one_program file a b (inr (is, first)) (inr (too, second)) = one_image file a b first second
 
 -- a run that was recorded had its trace written, of a copy of its program
-pub lived : (limit : ℕ) (file : List ℕ) (image : Image) (program again : Program) (runs given : List Run) (end : RunEnd) (old new : Option (List ℕ))
-    → given ≡ runs → again ≡ program → IsProgramFile file image → first_fault image ≡ None → IsProgramOf image program → All IsRun runs
+pub lived : (limit : ℕ) (image : Image) (program again : Program) (runs given : List Run) (end : RunEnd) (old new : Option (List ℕ))
+    → given ≡ runs → again ≡ program → first_fault image ≡ None → IsProgramOf image program → All IsRun runs
     → IsRecorded image limit (choices_of runs) → AreTraced (first_world again 1000000000) (choices_of given) end old new
-    → IsLived limit file end old new
-lived limit file image program again runs given end old new same copied is none loaded are recorded traced = grind (arith, is_first)
+    → IsLived limit image end old new
+lived limit image program again runs given end old new same copied none loaded are recorded traced = grind (arith, is_first)
 
 -- or a part of its lines
-pub lived_in_part : (limit : ℕ) (file : List ℕ) (image : Image) (program again : Program) (runs given : List Run) (old new : Option (List ℕ))
-    → given ≡ runs → again ≡ program → IsProgramFile file image → first_fault image ≡ None → IsProgramOf image program
+pub lived_in_part : (limit : ℕ) (image : Image) (program again : Program) (runs given : List Run) (old new : Option (List ℕ))
+    → given ≡ runs → again ≡ program → first_fault image ≡ None → IsProgramOf image program
     → IsRecorded image limit (choices_of runs) → AppendsPartOf old new (lines_of (first_world again 1000000000) (choices_of given))
-    → IsLivedAtMost limit file old new
-lived_in_part limit file image program again runs given old new same copied is none loaded recorded part = grind (arith, is_first)
+    → IsLivedAtMost limit image old new
+lived_in_part limit image program again runs given old new same copied none loaded recorded part = grind (arith, is_first)

@@ -2,6 +2,7 @@
 use Rattle.std.proofs.Common.{◌≡◌, ◌⊎◌, inl, inr, sym, ℕ, Bool, List, [], ◌∷◌, Option, Some, Result, Ok, Err, IsTrue, refl, ap, subst, arith}
 use Rattle.std.specs.Prelude.{IfErr, IfOk, OnOk}
 use Rattle.std.specs.Io.KnownBytes.{Appends}
+use Rattle.row_code.specs.declared.image.Image.{Image}
 use Rattle.thread_machine.specs.declared.choice.Choice.{Choice}
 use Rattle.schedule_reader.specs.declared.run.Run.{Run}
 use Rattle.schedule_reader.specs.Schedule.{choices_of, run_of}
@@ -39,33 +40,33 @@ named_at : (choices : List Choice) (t u : Option (List ℕ)) → HasNamed t u (O
 named_at choices t u named = subst (λ cs. HasNamed t u (Ok cs)) (sym (their_choices choices)) named
 
 -- the trace is none, and that was told, or couldn't be
-pub untraced_at : (result : Result Done Fault) (file : List ℕ) (session : Session) (line : ℕ) (t0 t1 c0 c1 o0 o1 : Option (List ℕ)) (tf cf of : Bool)
+pub untraced_at : (result : Result Done Fault) (image : Image) (session : Session) (line : ℕ) (t0 t1 c0 c1 o0 o1 : Option (List ℕ)) (tf cf of : Bool)
     → OnOk result (Appends o0 o1 (verdict_line (verdict.NotATrace line))) → IfOk result (λ d. d ≡ done.Unlike)
-    → IfErr result (λ f. (f ≡ fault.Write) × IsTrue of) → IsFirstSession file session → HasNamed t0 t1 (Err line) → c1 ≡ c0
-    → DebugsAt file result t0 t1 tf c0 c1 cf o0 o1 of
-untraced_at (Ok d) file session line t0 t1 c0 c1 o0 o1 tf cf of told unlike failed first named same =
-    subst (λ e. DebugsAt file (Ok e) t0 t1 tf c0 c1 cf o0 o1 of) (sym unlike) (line, (named, (session, first), same, told))
-untraced_at (Err f) file session line t0 t1 c0 c1 o0 o1 tf cf of told unlike failed first named same =
-    subst (λ e. DebugsAt file (Err e) t0 t1 tf c0 c1 cf o0 o1 of) (sym failed.0)
+    → IfErr result (λ f. (f ≡ fault.Write) × IsTrue of) → IsFirstSession image session → HasNamed t0 t1 (Err line) → c1 ≡ c0
+    → DebugsAt image result t0 t1 tf c0 c1 cf o0 o1 of
+untraced_at (Ok d) image session line t0 t1 c0 c1 o0 o1 tf cf of told unlike failed first named same =
+    subst (λ e. DebugsAt image (Ok e) t0 t1 tf c0 c1 cf o0 o1 of) (sym unlike) (line, (named, (session, first), same, told))
+untraced_at (Err f) image session line t0 t1 c0 c1 o0 o1 tf cf of told unlike failed first named same =
+    subst (λ e. DebugsAt image (Err e) t0 t1 tf c0 c1 cf o0 o1 of) (sym failed.0)
     (inr ((session, first), (Err line, named), failed.1, same))
 
 -- a session was held behind the trace, and came to this
-pub answered_at : (answer : Result (Unit {0}) Fault) (result : Result Done Fault) (file : List ℕ) (session now : Session) (choices : List Choice)
+pub answered_at : (answer : Result (Unit {0}) Fault) (result : Result Done Fault) (image : Image) (session now : Session) (choices : List Choice)
     (t0 t1 c0 c1 o0 om o1 : Option (List ℕ)) (tf cf of : Bool)
-    → OnOk answer (result ≡ Ok done.AsAsked) → IfErr answer (λ f. result ≡ Err f) → IsFirstSession file session
+    → OnOk answer (result ≡ Ok done.AsAsked) → IfErr answer (λ f. result ≡ Err f) → IsFirstSession image session
     → HasNamed t0 t1 (Ok choices) → IsBegun (Some (runs_of choices)) session now o0 om
-    → Converses (GivesOnAndOn c0 c1) answer now c0 c1 cf om o1 of → DebugsAt file result t0 t1 tf c0 c1 cf o0 o1 of
-answered_at answer result file session now choices t0 t1 c0 c1 o0 om o1 tf cf of asked told first named begun came = grind (arith, runs_of, named_at)
+    → Converses (GivesOnAndOn c0 c1) answer now c0 c1 cf om o1 of → DebugsAt image result t0 t1 tf c0 c1 cf o0 o1 of
+answered_at answer result image session now choices t0 t1 c0 c1 o0 om o1 tf cf of asked told first named begun came = grind (arith, runs_of, named_at)
 
 -- there is no session, and nothing was looked at
-pub not_begun_at : (f : Fault) (file : List ℕ) (t0 t1 c0 c1 o0 o1 : Option (List ℕ)) (tf of : Bool) → HasNoSession f file → t1 ≡ t0
-    → IsUntouched c0 c1 o0 o1 → IsNotBegunAt f file t0 t1 tf c0 c1 o0 o1 of
-not_begun_at f file t0 t1 c0 c1 o0 o1 tf of none same untouched = grind arith
+pub not_begun_at : (f : Fault) (image : Image) (t0 t1 c0 c1 o0 o1 : Option (List ℕ)) (tf of : Bool) → HasNoSession f image → t1 ≡ t0
+    → IsUntouched c0 c1 o0 o1 → IsNotBegunAt f image t0 t1 tf c0 c1 o0 o1 of
+not_begun_at f image t0 t1 c0 c1 o0 o1 tf of none same untouched = grind arith
 
 -- the trace couldn't be read
-pub unread_at : (f : Fault) (file : List ℕ) (session : Session) (t0 t1 c0 c1 o0 o1 : Option (List ℕ)) (tf of : Bool)
-    → ((f ≡ fault.Memory) × (t1 ≡ t0)) ⊎ ((f ≡ fault.Read) × (IsTrue tf ⊎ GivesOnAndOn t0 t1)) → IsFirstSession file session
-    → IsUntouched c0 c1 o0 o1 → IsNotBegunAt f file t0 t1 tf c0 c1 o0 o1 of
-unread_at f file session t0 t1 c0 c1 o0 o1 tf of (inl (is, same)) first untouched = grind arith
-unread_at f file session t0 t1 c0 c1 o0 o1 tf of (inr (is, why)) first untouched =
-    subst (λ e. IsNotBegunAt e file t0 t1 tf c0 c1 o0 o1 of) (sym is) ((session, first), why, untouched)
+pub unread_at : (f : Fault) (image : Image) (session : Session) (t0 t1 c0 c1 o0 o1 : Option (List ℕ)) (tf of : Bool)
+    → ((f ≡ fault.Memory) × (t1 ≡ t0)) ⊎ ((f ≡ fault.Read) × (IsTrue tf ⊎ GivesOnAndOn t0 t1)) → IsFirstSession image session
+    → IsUntouched c0 c1 o0 o1 → IsNotBegunAt f image t0 t1 tf c0 c1 o0 o1 of
+unread_at f image session t0 t1 c0 c1 o0 o1 tf of (inl (is, same)) first untouched = grind arith
+unread_at f image session t0 t1 c0 c1 o0 o1 tf of (inr (is, why)) first untouched =
+    subst (λ e. IsNotBegunAt e image t0 t1 tf c0 c1 o0 o1 of) (sym is) ((session, first), why, untouched)

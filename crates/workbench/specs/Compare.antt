@@ -1,4 +1,4 @@
--- What `compare` makes of a program's file and a trace, by its answer.
+-- What `compare` makes of a program and a trace, by its answer.
 use Rattle.std.specs.Prelude.{◌≡◌, ◌⊎◌, ℕ, Bool, IsTrue, List, Option, Result, Ok, Err, codes}
 use Rattle.std.specs.Io.KnownBytes.{Appends}
 use Rattle.row_code.specs.declared.image.Image.{Image}
@@ -7,12 +7,12 @@ use Rattle.trace_compare.specs.declared.comparison.Verdict.TheVariants as verdic
 use Rattle.trace_compare.specs.Compare.{HasCompared, IsReadNoFurther}
 use Rattle.trace_text.specs.Outcome.{IsUntouched}
 use Rattle.trace_text.specs.RunText.{GivesOnAndOn}
+use Rattle.trace_text.specs.Start.{IsRefused}
 use Rattle.workbench.specs.declared.done.Done.{Done}
 use Rattle.workbench.specs.declared.done.Done.TheVariants as done
 use Rattle.workbench.specs.declared.fault.Fault.{Fault}
 use Rattle.workbench.specs.declared.fault.Fault.TheVariants as fault
 use Rattle.workbench.specs.Fault.{counted_line}
-use Rattle.workbench.specs.ProgramFile.{IsNoProgramFor, IsProgramFile, IsUnloadedFor}
 
 -- the line that tells a verdict
 abbrev pub verdict_line : Verdict → List ℕ
@@ -20,27 +20,26 @@ verdict_line verdict.Same = codes "same\n"
 verdict_line (verdict.Differs line) = counted_line (codes "differs ") line
 verdict_line (verdict.NotATrace line) = counted_line (codes "not a trace ") line
 
--- why there is no verdict: the output failed; or the trace couldn't be read, or there was no memory, or the program isn't loaded, or
--- the file is none, and nothing was written
-abbrev pub StopsComparing : Fault → (file : List ℕ) (trace_before trace_after : Option (List ℕ)) (trace_failed : Bool)
+-- why there is no verdict: the output failed; or the trace couldn't be read, or there was no memory, or the program isn't loaded, and
+-- nothing was written
+abbrev pub StopsComparing : Fault → Image → (trace_before trace_after : Option (List ℕ)) (trace_failed : Bool)
     (output_before output_after : Option (List ℕ)) (output_failed : Bool) → Type 0
-StopsComparing fault.Write file trace_before trace_after trace_failed output_before output_after output_failed = IsTrue output_failed
-StopsComparing fault.Read file trace_before trace_after trace_failed output_before output_after output_failed =
+StopsComparing fault.Write image trace_before trace_after trace_failed output_before output_after output_failed = IsTrue output_failed
+StopsComparing fault.Read image trace_before trace_after trace_failed output_before output_after output_failed =
     (IsTrue trace_failed ⊎ GivesOnAndOn trace_before trace_after) × (output_after ≡ output_before)
-StopsComparing fault.Memory file trace_before trace_after trace_failed output_before output_after output_failed = output_after ≡ output_before
-StopsComparing (fault.Load f) file trace_before trace_after trace_failed output_before output_after output_failed =
-    IsUnloadedFor f file × IsUntouched trace_before trace_after output_before output_after
-StopsComparing f file trace_before trace_after trace_failed output_before output_after output_failed =
-    IsNoProgramFor f file × IsUntouched trace_before trace_after output_before output_after
+StopsComparing fault.Memory image trace_before trace_after trace_failed output_before output_after output_failed = output_after ≡ output_before
+StopsComparing (fault.Load f) image trace_before trace_after trace_failed output_before output_after output_failed =
+    IsRefused f image × IsUntouched trace_before trace_after output_before output_after
+StopsComparing f image trace_before trace_after trace_failed output_before output_after output_failed = ⊥
 
 -- the trace was read up to the piece with the line that decides, and the line of the verdict was written; or why not
-abbrev pub ComparesFile : (file : List ℕ) → Result Verdict Fault → (trace_before trace_after : Option (List ℕ)) (trace_failed : Bool)
+abbrev pub WritesVerdict : Image → Result Verdict Fault → (trace_before trace_after : Option (List ℕ)) (trace_failed : Bool)
     (output_before output_after : Option (List ℕ)) (output_failed : Bool) → Type 0
-ComparesFile file (Ok v) trace_before trace_after trace_failed output_before output_after output_failed =
-    (image : Image) × (IsProgramFile file image × HasCompared image trace_before trace_after v
-    × IsReadNoFurther trace_before trace_after v × Appends output_before output_after (verdict_line v))
-ComparesFile file (Err f) trace_before trace_after trace_failed output_before output_after output_failed =
-    StopsComparing f file trace_before trace_after trace_failed output_before output_after output_failed
+WritesVerdict image (Ok v) trace_before trace_after trace_failed output_before output_after output_failed =
+    HasCompared image trace_before trace_after v × IsReadNoFurther trace_before trace_after v
+    × Appends output_before output_after (verdict_line v)
+WritesVerdict image (Err f) trace_before trace_after trace_failed output_before output_after output_failed =
+    StopsComparing f image trace_before trace_after trace_failed output_before output_after output_failed
 
 -- how a verdict is done
 abbrev pub done_by : Verdict → Done

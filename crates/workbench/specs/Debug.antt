@@ -1,10 +1,10 @@
--- What `debug` makes of a program's file and of lines of commands, by its answer.
+-- What `debug` makes of a program and of lines of commands, by its answer.
 use Rattle.std.specs.Prelude.{◌≡◌, ◌≢◌, ◌≤◌, ◌⊎◌, ℕ, Bool, true, false, IsTrue, All, List, [], ◌∷◌, ◌++◌, length, replicate, Option, Some, None, Result, Ok, Err}
 use Rattle.std.specs.List.{flat_map}
 use Rattle.std.specs.Io.KnownBytes.{Appends, Consumes, IsAtEnd}
 use Rattle.row_code.specs.declared.image.Image.{Image}
 use Rattle.thread_machine.specs.World.{StoredWorld, world_of}
-use Rattle.trace_text.specs.Start.{Begins}
+use Rattle.trace_text.specs.Start.{Begins, IsRefused}
 use Rattle.debugger.specs.Session.{Session}
 use Rattle.schedule_reader.specs.declared.run.Run.{Run}
 use Rattle.debugger.specs.Command.{Go, Quit, line_order}
@@ -22,7 +22,6 @@ use Rattle.workbench.specs.declared.fault.Fault.TheVariants as fault
 use Rattle.workbench.specs.declared.done.Done.{Done}
 use Rattle.workbench.specs.declared.done.Done.TheVariants as done
 use Rattle.workbench.specs.Compare.{verdict_line}
-use Rattle.workbench.specs.ProgramFile.{IsNoProgramFor, IsProgramFile, IsUnloadedFor}
 
 -- the session of a machine that nothing was done with: it has no breakpoints, and keeps 4096 choices at most
 abbrev pub first_session : StoredWorld → Session
@@ -102,17 +101,15 @@ Converses TooMuch (Err fault.Write) session commands_before commands_after comma
     IsTrue output_failed × HasReadLines commands_before commands_after
 Converses TooMuch (Err f) session commands_before commands_after commands_failed output_before output_after output_failed = ⊥
 
--- the session of a file's program before anything is done
-abbrev pub IsFirstSession : (file : List ℕ) → Session → Type 0
-IsFirstSession file session =
-    (image : Image) × ((world : StoredWorld) × (IsProgramFile file image × Begins image (world_of world)
-    × (session ≡ first_session world)))
+-- the session of an image's program before anything is done
+abbrev pub IsFirstSession : Image → Session → Type 0
+IsFirstSession image session = (world : StoredWorld) × (Begins image (world_of world) × (session ≡ first_session world))
 
--- why there is none: no memory for it; or the program isn't loaded, or the file is none
-abbrev pub HasNoSession : Fault → (file : List ℕ) → Type 0
-HasNoSession fault.Memory file = Unit {0}
-HasNoSession (fault.Load f) file = IsUnloadedFor f file
-HasNoSession f file = IsNoProgramFor f file
+-- why there is none: no memory for it; or the program isn't loaded
+abbrev pub HasNoSession : Fault → Image → Type 0
+HasNoSession fault.Memory image = Unit {0}
+HasNoSession (fault.Load f) image = IsRefused f image
+HasNoSession f image = ⊥
 
 -- a session begins as it is; or behind runs, which were played first and told as `g` tells them
 abbrev pub IsBegun : Option (List Run) → Session → Session → (output_before output_after : Option (List ℕ)) → Type 0
@@ -120,33 +117,33 @@ IsBegun None session now output_before output_after = (now ≡ session) × (outp
 IsBegun (Some runs) session now output_before output_after =
     (reply : List ℕ) × (Replies session (Go runs) now reply × Appends output_before output_after reply)
 
--- a session of a file's program was held, and came to this
-abbrev pub HasDebugged : Result (Unit {0}) Fault → Option (List Run) → (file : List ℕ)
-    (commands_before commands_after : Option (List ℕ)) (commands_failed : Bool)
+-- a session of an image's program was held, and came to this
+abbrev pub HasDebugged : Result (Unit {0}) Fault → Option (List Run) → Image
+    → (commands_before commands_after : Option (List ℕ)) (commands_failed : Bool)
     (output_before output_after : Option (List ℕ)) (output_failed : Bool) → Type 0
-HasDebugged answer runs file commands_before commands_after commands_failed output_before output_after output_failed =
+HasDebugged answer runs image commands_before commands_after commands_failed output_before output_after output_failed =
     (session : Session) × ((now : Session) × ((output_then : Option (List ℕ))
-    × (IsFirstSession file session × IsBegun runs session now output_before output_then
+    × (IsFirstSession image session × IsBegun runs session now output_before output_then
     × Converses (GivesOnAndOn commands_before commands_after) answer now commands_before commands_after commands_failed
     output_then output_after output_failed)))
 
 -- why none was held, and no command read: the reply to the runs couldn't be written; or there is none, and nothing was written
-abbrev pub IsNotBegun : Fault → Option (List Run) → (file : List ℕ)
-    (commands_before commands_after output_before output_after : Option (List ℕ)) (output_failed : Bool) → Type 0
-IsNotBegun fault.Write (Some runs) file commands_before commands_after output_before output_after output_failed =
+abbrev pub IsNotBegun : Fault → Option (List Run) → Image
+    → (commands_before commands_after output_before output_after : Option (List ℕ)) (output_failed : Bool) → Type 0
+IsNotBegun fault.Write (Some runs) image commands_before commands_after output_before output_after output_failed =
     IsTrue output_failed × (commands_after ≡ commands_before)
-IsNotBegun f runs file commands_before commands_after output_before output_after output_failed =
-    HasNoSession f file × IsUntouched commands_before commands_after output_before output_after
+IsNotBegun f runs image commands_before commands_after output_before output_after output_failed =
+    HasNoSession f image × IsUntouched commands_before commands_after output_before output_after
 
 -- a session was held to its end; or it wasn't, or none was begun
-abbrev pub Debugs : Option (List Run) → (file : List ℕ) → Result (Unit {0}) Fault
+abbrev pub Debugs : Option (List Run) → Image → Result (Unit {0}) Fault
     → (commands_before commands_after : Option (List ℕ)) (commands_failed : Bool)
     (output_before output_after : Option (List ℕ)) (output_failed : Bool) → Type 0
-Debugs runs file (Ok done) commands_before commands_after commands_failed output_before output_after output_failed =
-    HasDebugged (Ok done) runs file commands_before commands_after commands_failed output_before output_after output_failed
-Debugs runs file (Err f) commands_before commands_after commands_failed output_before output_after output_failed =
-    HasDebugged (Err f) runs file commands_before commands_after commands_failed output_before output_after output_failed
-    ⊎ IsNotBegun f runs file commands_before commands_after output_before output_after output_failed
+Debugs runs image (Ok done) commands_before commands_after commands_failed output_before output_after output_failed =
+    HasDebugged (Ok done) runs image commands_before commands_after commands_failed output_before output_after output_failed
+Debugs runs image (Err f) commands_before commands_after commands_failed output_before output_after output_failed =
+    HasDebugged (Err f) runs image commands_before commands_after commands_failed output_before output_after output_failed
+    ⊎ IsNotBegun f runs image commands_before commands_after output_before output_after output_failed
 
 -- choices were played up to where they stopped: all that a trace names, which was read up to its state
 abbrev pub IsPlayedTo : Stop → (session now : Session) (trace_before trace_after : Option (List ℕ)) → Type 0
@@ -160,30 +157,30 @@ IsBehindTrace Holds trace_before trace_after =
 
 -- why no session was held behind a trace, and no command read: what was to be told of the trace couldn't be written; or it couldn't
 -- be read; or there is no session, and then it wasn't looked at
-abbrev pub IsNotBegunAt : Fault → (file : List ℕ) (trace_before trace_after : Option (List ℕ)) (trace_failed : Bool)
+abbrev pub IsNotBegunAt : Fault → Image → (trace_before trace_after : Option (List ℕ)) (trace_failed : Bool)
     (commands_before commands_after output_before output_after : Option (List ℕ)) (output_failed : Bool) → Type 0
-IsNotBegunAt fault.Write file trace_before trace_after trace_failed commands_before commands_after output_before output_after output_failed =
-    ((session : Session) × IsFirstSession file session)
+IsNotBegunAt fault.Write image trace_before trace_after trace_failed commands_before commands_after output_before output_after output_failed =
+    ((session : Session) × IsFirstSession image session)
     × ((named : Result (List Choice) ℕ) × HasNamed trace_before trace_after named)
     × IsTrue output_failed × (commands_after ≡ commands_before)
-IsNotBegunAt fault.Read file trace_before trace_after trace_failed commands_before commands_after output_before output_after output_failed =
-    ((session : Session) × IsFirstSession file session) × (IsTrue trace_failed ⊎ GivesOnAndOn trace_before trace_after)
+IsNotBegunAt fault.Read image trace_before trace_after trace_failed commands_before commands_after output_before output_after output_failed =
+    ((session : Session) × IsFirstSession image session) × (IsTrue trace_failed ⊎ GivesOnAndOn trace_before trace_after)
     × IsUntouched commands_before commands_after output_before output_after
-IsNotBegunAt f file trace_before trace_after trace_failed commands_before commands_after output_before output_after output_failed =
-    HasNoSession f file × (trace_after ≡ trace_before) × IsUntouched commands_before commands_after output_before output_after
+IsNotBegunAt f image trace_before trace_after trace_failed commands_before commands_after output_before output_after output_failed =
+    HasNoSession f image × (trace_after ≡ trace_before) × IsUntouched commands_before commands_after output_before output_after
 
 -- a session was held to its end behind a trace; or it is none, and its line was told and no command read; or the session wasn't
 -- held to its end, or none was begun
-abbrev pub DebugsAt : (file : List ℕ) → Result Done Fault → (trace_before trace_after : Option (List ℕ)) (trace_failed : Bool)
+abbrev pub DebugsAt : Image → Result Done Fault → (trace_before trace_after : Option (List ℕ)) (trace_failed : Bool)
     (commands_before commands_after : Option (List ℕ)) (commands_failed : Bool)
     (output_before output_after : Option (List ℕ)) (output_failed : Bool) → Type 0
-DebugsAt file (Ok done.AsAsked) trace_before trace_after trace_failed commands_before commands_after commands_failed output_before output_after output_failed =
-    IsBehindTrace (λ runs. HasDebugged (Ok tt) (Some runs) file commands_before commands_after commands_failed output_before output_after output_failed)
+DebugsAt image (Ok done.AsAsked) trace_before trace_after trace_failed commands_before commands_after commands_failed output_before output_after output_failed =
+    IsBehindTrace (λ runs. HasDebugged (Ok tt) (Some runs) image commands_before commands_after commands_failed output_before output_after output_failed)
     trace_before trace_after
-DebugsAt file (Ok done.Unlike) trace_before trace_after trace_failed commands_before commands_after commands_failed output_before output_after output_failed =
-    (line : ℕ) × (HasNamed trace_before trace_after (Err line) × ((session : Session) × IsFirstSession file session)
+DebugsAt image (Ok done.Unlike) trace_before trace_after trace_failed commands_before commands_after commands_failed output_before output_after output_failed =
+    (line : ℕ) × (HasNamed trace_before trace_after (Err line) × ((session : Session) × IsFirstSession image session)
     × (commands_after ≡ commands_before) × Appends output_before output_after (verdict_line (verdict.NotATrace line)))
-DebugsAt file (Err f) trace_before trace_after trace_failed commands_before commands_after commands_failed output_before output_after output_failed =
-    IsBehindTrace (λ runs. HasDebugged (Err f) (Some runs) file commands_before commands_after commands_failed output_before output_after output_failed)
+DebugsAt image (Err f) trace_before trace_after trace_failed commands_before commands_after commands_failed output_before output_after output_failed =
+    IsBehindTrace (λ runs. HasDebugged (Err f) (Some runs) image commands_before commands_after commands_failed output_before output_after output_failed)
     trace_before trace_after
-    ⊎ IsNotBegunAt f file trace_before trace_after trace_failed commands_before commands_after output_before output_after output_failed
+    ⊎ IsNotBegunAt f image trace_before trace_after trace_failed commands_before commands_after output_before output_after output_failed

@@ -1,4 +1,4 @@
--- What `live` makes of a program's file, by its answer.
+-- What `live` makes of a program, by its answer.
 use Rattle.std.specs.Prelude.{◌≡◌, ◌⊎◌, ℕ, All, Bool, IsTrue, List, Option, Some, None, Result, Ok, Err}
 use Rattle.row_code.specs.declared.image.Image.{Image}
 use Rattle.loader.specs.Fault.{first_fault}
@@ -7,15 +7,16 @@ use Rattle.schedule_reader.specs.Schedule.{IsRun, choices_of}
 use Rattle.thread_machine.specs.declared.choice.Choice.{Choice}
 use Rattle.thread_machine.specs.World.{World, IsFirstOf}
 use Rattle.thread_runner.specs.declared.ending.Ending.{Ending}
+use Rattle.thread_runner.specs.declared.fault.LiveFault.{LiveFault}
+use Rattle.thread_runner.specs.declared.fault.LiveFault.TheVariants as live
 use Rattle.thread_runner.specs.Endings.{ending_of}
 use Rattle.thread_runner.specs.Replay.{IsReplay}
 use Rattle.trace_text.specs.declared.run_end.RunEnd.{RunEnd}
 use Rattle.trace_text.specs.RunText.{AreTraced}
-use Rattle.trace_text.specs.Start.{Begins}
+use Rattle.trace_text.specs.Start.{Begins, IsRefused}
 use Rattle.trace_text.specs.Trace.{AppendsPartOf, lines_of}
 use Rattle.workbench.specs.declared.fault.Fault.{Fault}
 use Rattle.workbench.specs.declared.fault.Fault.TheVariants as fault
-use Rattle.workbench.specs.ProgramFile.{IsNoProgramFor, IsProgramFile, IsUnloadedFor}
 
 -- the image has no fault, and the choices are the record of a run from its first world that came to an end, of at most so
 -- many steps: each of them was accepted, and none was idle
@@ -25,31 +26,35 @@ IsRecorded image limit choices =
     × ((first_fault image ≡ None) × IsFirstOf image limit first × IsReplay (record { first = first; choices = choices }) world
     × (ending_of world ≡ Some ending))))
 
--- a run of the program in a file was recorded, the trace of its choices was written, and it ends so
-abbrev pub IsLived : ℕ → List ℕ → RunEnd → (output_before output_after : Option (List ℕ)) → Type 0
-IsLived limit file end output_before output_after =
-    (image : Image) × ((runs : List Run) × ((world : World)
-    × (IsProgramFile file image × All IsRun runs × IsRecorded image limit (choices_of runs) × Begins image world
-    × AreTraced world (choices_of runs) end output_before output_after)))
+-- a run of the program was recorded, the trace of its choices was written, and it ends so
+abbrev pub IsLived : ℕ → Image → RunEnd → (output_before output_after : Option (List ℕ)) → Type 0
+IsLived limit image end output_before output_after =
+    (runs : List Run) × ((world : World)
+    × (All IsRun runs × IsRecorded image limit (choices_of runs) × Begins image world
+    × AreTraced world (choices_of runs) end output_before output_after))
 
 -- nothing was written; or the run was recorded, and a part of the lines of its choices was written
-abbrev pub IsLivedAtMost : ℕ → List ℕ → (output_before output_after : Option (List ℕ)) → Type 0
-IsLivedAtMost limit file output_before output_after =
+abbrev pub IsLivedAtMost : ℕ → Image → (output_before output_after : Option (List ℕ)) → Type 0
+IsLivedAtMost limit image output_before output_after =
     (output_after ≡ output_before)
-    ⊎ ((image : Image) × ((choices : List Choice) × ((world : World)
-    × (IsProgramFile file image × IsRecorded image limit choices × Begins image world
-    × AppendsPartOf output_before output_after (lines_of world choices)))))
+    ⊎ ((choices : List Choice) × ((world : World) × (IsRecorded image limit choices × Begins image world
+    × AppendsPartOf output_before output_after (lines_of world choices))))
 
 -- why no whole trace was written: the output failed; a part of it was, where there was no memory; or no thread could be started,
--- or the program isn't loaded, or the file is none, and nothing was
-abbrev pub StopsLiving : ℕ → Fault → (file : List ℕ) (output_before output_after : Option (List ℕ)) (output_failed : Bool) → Type 0
-StopsLiving limit fault.Write file output_before output_after output_failed = IsTrue output_failed
-StopsLiving limit fault.Memory file output_before output_after output_failed = IsLivedAtMost limit file output_before output_after
-StopsLiving limit fault.Spawn file output_before output_after output_failed = output_after ≡ output_before
-StopsLiving limit (fault.Load f) file output_before output_after output_failed = IsUnloadedFor f file × (output_after ≡ output_before)
-StopsLiving limit f file output_before output_after output_failed = IsNoProgramFor f file × (output_after ≡ output_before)
+-- or the program isn't loaded, and nothing was
+abbrev pub StopsLiving : ℕ → Fault → Image → (output_before output_after : Option (List ℕ)) (output_failed : Bool) → Type 0
+StopsLiving limit fault.Write image output_before output_after output_failed = IsTrue output_failed
+StopsLiving limit fault.Memory image output_before output_after output_failed = IsLivedAtMost limit image output_before output_after
+StopsLiving limit fault.Spawn image output_before output_after output_failed = output_after ≡ output_before
+StopsLiving limit (fault.Load f) image output_before output_after output_failed = IsRefused f image × (output_after ≡ output_before)
+StopsLiving limit f image output_before output_after output_failed = ⊥
 
 -- a live run's trace was written, or why not
-abbrev pub Lives : ℕ → (file : List ℕ) → Result RunEnd Fault → (output_before output_after : Option (List ℕ)) (output_failed : Bool) → Type 0
-Lives limit file (Ok end) output_before output_after output_failed = IsLived limit file end output_before output_after
-Lives limit file (Err f) output_before output_after output_failed = StopsLiving limit f file output_before output_after output_failed
+abbrev pub Lives : ℕ → Image → Result RunEnd Fault → (output_before output_after : Option (List ℕ)) (output_failed : Bool) → Type 0
+Lives limit image (Ok end) output_before output_after output_failed = IsLived limit image end output_before output_after
+Lives limit image (Err f) output_before output_after output_failed = StopsLiving limit f image output_before output_after output_failed
+
+-- why a live run was broken off, as a command tells it
+abbrev pub fault_of_live : LiveFault → Fault
+fault_of_live (live.Memory schedule) = fault.Memory
+fault_of_live live.Spawn = fault.Spawn

@@ -1,12 +1,11 @@
 -- A program in a file: an image, or a text.
-use Rattle.std.specs.Prelude.{◌≡◌, ◌⊎◌, ℕ, Bool, true, false, List, take, Ok, Err}
+use Rattle.std.specs.Prelude.{◌≡◌, ◌⊎◌, ℕ, Bool, true, false, List, [], take, Ok, Err}
 use Rattle.assembler.specs.Meaning.{StandsFor}
 use Rattle.assembler.specs.Passes.{assembled}
-use Rattle.loader.specs.declared.load_fault.LoadFault.{LoadFault}
+use Rattle.assembler.specs.Symbols.{SymbolTable, symbols_in}
 use Rattle.row_code.specs.Image.{IsImage}
 use Rattle.row_code.specs.Reading.{image_of, is_magic}
 use Rattle.row_code.specs.declared.image.Image.{Image}
-use Rattle.trace_text.specs.Start.{IsRefused}
 use Rattle.workbench.specs.declared.fault.Fault.{Fault}
 use Rattle.workbench.specs.declared.fault.Fault.TheVariants as fault
 use Rattle.workbench.specs.Fault.{status_of}
@@ -21,6 +20,15 @@ IsProgramFile file image =
     ((is_image_file file ≡ true) × (image_of file ≡ Ok image) × IsImage image)
     ⊎ ((is_image_file file ≡ false) × StandsFor file image)
 
+-- with its names, of which an image has none
+abbrev pub no_names : SymbolTable
+no_names = record { names = []; rows = [] }
+
+abbrev pub IsNamedProgram : List ℕ → Image → SymbolTable → Type 0
+IsNamedProgram file image names =
+    ((is_image_file file ≡ true) × (((image_of file ≡ Ok image) × IsImage image) × (names ≡ no_names)))
+    ⊎ ((is_image_file file ≡ false) × (StandsFor file image × (symbols_in file ≡ Ok names)))
+
 -- why a text has no image: its first fault, unless that is want of memory (status 4)
 abbrev pub IsNoTextFor : Fault → List ℕ → Type 0
 IsNoTextFor (fault.Asm f) text = status_of (fault.Asm f) ≡ 3 → assembled text ≡ Err f
@@ -31,7 +39,3 @@ abbrev pub IsNoProgramFor : Fault → List ℕ → Type 0
 IsNoProgramFor (fault.Image f) file = (is_image_file file ≡ true) × (status_of (fault.Image f) ≡ 3 → image_of file ≡ Err f)
 IsNoProgramFor (fault.Asm f) file = (is_image_file file ≡ false) × IsNoTextFor (fault.Asm f) file
 IsNoProgramFor _ file = ⊥
-
--- a file's program isn't loaded, for this reason
-abbrev pub IsUnloadedFor : LoadFault → List ℕ → Type 0
-IsUnloadedFor f file = (image : Image) × (IsProgramFile file image × IsRefused f image)

@@ -13,21 +13,21 @@ are_run _ = false
 abbrev pub is_run_line : List ℕ → Bool
 is_run_line line = are_run (words_of line)
 
--- the lines that follow the first such line
+-- the lines that follow the first line whose only word is `.run`
 abbrev pub after_run : List (List ℕ) → List (List ℕ)
 after_run [] = []
 after_run (line ∷ lines) = if is_run_line line then lines else after_run lines
 
--- what follows the first such line and its LF, nothing where there is no such line
+-- the schedule in a text: what follows the first line `.run` and its LF, nothing where there is none
 abbrev pub schedule_part : List ℕ → List ℕ
 schedule_part bytes = join_with_byte 10 (after_run (slice_split is_line_end bytes))
 
--- the lines before the first such line, each with its LF; all bytes where there is no such line
+-- the lines before the first line `.run`, each with its LF; all bytes where there is none
 abbrev pub before_run : List (List ℕ) → List ℕ
 before_run [] = []
 before_run (line ∷ []) = if is_run_line line then [] else line
 before_run (line ∷ next ∷ lines) = if is_run_line line then [] else line ++ (10 ∷ before_run (next ∷ lines))
 
--- what stands before the first such line
+-- the program in a text: what stands before the first line `.run`
 abbrev pub program_part : List ℕ → List ℕ
 program_part bytes = before_run (slice_split is_line_end bytes)

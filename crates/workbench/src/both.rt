@@ -7,12 +7,13 @@ ghost use Rattle.workbench.specs.Outcome.{ComesOf, PlaysText};
 use crate::done::{settled, settled_as_asked};
 use crate::fault::Fault;
 use crate::input::read_all;
+use crate::run::run;
 use crate::run_line::split_at_run;
 use crate::slice_source::SliceSource;
 use assembler::assemble;
 use byte_ports::{Sink, Source};
 use std::alloc::Global;
-use trace_text::{RunEnd, run_to_end};
+use trace_text::RunEnd;
 
 /// Reads a program text, a line `.run` and a schedule from `input`, plays the program under the schedule and writes the
 /// trace to `output`. Answers the exit status, 0 where all went well. For any other status one line stands on `errors`:
@@ -38,17 +39,15 @@ pub fn both_cmd<S: Source, K: Sink, E: Sink>(
 
 /// Plays the program of a text under the schedule that stands behind its line `.run`, writes the trace, and answers how the run
 /// has ended.
-pub fn both<K: Sink>(alloc: Global, text: &[u8], output: &mut K) -> Result<RunEnd, Fault>
+fn both<K: Sink>(alloc: Global, text: &[u8], output: &mut K) -> Result<RunEnd, Fault>
     ensures { PlaysText text.now result (K.written output.old) (K.written output.new) (K.has_failed output.new) }
 {
     let (program, schedule) = split_at_run(text);
-    let image = match assemble(alloc, program) {
-        Ok(image) => image,
-        Err(fault) => return Err(Fault::Asm(fault)),
-    };
-    let mut schedule = SliceSource::new(schedule);
-    match run_to_end(alloc, image, &mut schedule, output) {
-        Ok(end) => Ok(end),
-        Err(fault) => Err(Fault::of_run(fault)),
+    match assemble(alloc, program) {
+        Ok(image) => {
+            let mut schedule = SliceSource::new(schedule);
+            run(alloc, image, &mut schedule, output)
+        }
+        Err(fault) => Err(Fault::Asm(fault)),
     }
 }

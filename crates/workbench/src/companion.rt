@@ -1,4 +1,4 @@
-ghost use Rattle.std.specs.Prelude.{◌≡◌, ◌⊎◌, ◌+◌, ◌≤◌, ◌∷◌, ◌++◌, [], true, false, ℕ, Bool, length, All, List, Option, Some, None, Ok, Err, IsTrue, IfErr};
+ghost use Rattle.std.specs.Prelude.{◌≡◌, ◌⊎◌, ◌+◌, ◌≤◌, ◌∷◌, ◌++◌, [], true, false, ℕ, Bool, length, All, List, Option, Some, None, Ok, Err, IsTrue, IfErr, OnOk};
 ghost use Rattle.std.specs.Io.KnownBytes.{Consumes, IsAtEnd};
 ghost use Rattle.workbench.specs.declared.fault.Fault.{Fault};
 ghost use Rattle.workbench.specs.Debug.{HasNoEnd};
@@ -38,6 +38,7 @@ pub trait Companion {
             × Consumes (left self.old) (left self.new) line.new.items }
         ensures memory { result ≡ Err Fault.Memory → (part : List ℕ) × (HasNoEnd part
             × Consumes (left self.old) (left self.new) part) }
+        ensures sound { result ≡ Err Fault.Memory → has_failed self.old ≡ false → has_failed self.new ≡ false }
         ensures fault { IfErr result (λ fault. (fault ≡ Fault.Memory) ⊎ (fault ≡ Fault.Read)) }
         ensures few { IsCounted reads.old reads.new (left self.old) (left self.new) };
 }
@@ -48,6 +49,7 @@ fn next_byte<S: Source>(source: &mut S) -> Result<Option<u8>, Fault>
     ensures end { result ≡ Ok None → Consumes (S.left source.old) (S.left source.new) [] × IsAtEnd (S.left source.new) }
     ensures read { IfErr result (λ fault. (fault ≡ Fault.Read) × IsTrue (S.has_failed source.new)
         × Consumes (S.left source.old) (S.left source.new) []) }
+    ensures sound { OnOk result (S.has_failed source.new ≡ false) }
 {
     let mut byte = [0u8; 1];
     match pull(source, &mut byte) {

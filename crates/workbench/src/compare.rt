@@ -1,21 +1,21 @@
-ghost use Rattle.std.specs.Prelude.{◌≡◌, IsTrue, IfErr, OnOk, Result};
+ghost use Rattle.std.specs.Prelude.{◌≡◌, IsTrue, IfErr, OnOk, Result, false};
 ghost use Rattle.std.specs.Io.KnownBytes.{Appends};
 ghost use Rattle.trace_compare.specs.declared.comparison.Verdict.{Verdict};
 ghost use Rattle.trace_text.specs.Outcome.{IsUntouched};
 ghost use Rattle.workbench.specs.declared.fault.Fault.{Fault};
-ghost use Rattle.workbench.specs.Compare.{ComparesFile, done_by, verdict_line};
+ghost use Rattle.workbench.specs.Compare.{WritesVerdict, done_by, verdict_line};
 ghost use Rattle.workbench.specs.Done.{IsSettledBy};
-ghost use Rattle.workbench.specs.Outcome.{ComesOf};
+ghost use Rattle.workbench.specs.Outcome.{ComesOfProgram};
 
 use crate::done::{Done, settled};
 use crate::fault::{Fault, push_counted_line};
-use crate::input::read_all;
-use crate::program_file::program_in;
+use crate::program::image_from;
 use byte_ports::{Failed, Sink, Source};
+use row_code::Image;
 use std::alloc::Global;
 use trace_compare::{CompareFault, Verdict, compare};
 
-/// Compares the trace in `trace` with the run of the program in `file`, an image or a text, under the choices that the
+/// WritesVerdict the trace in `trace` with the run of the program in `file`, an image or a text, under the choices that the
 /// trace names, and writes one line to `output`: `same`, `differs LINE` or `not a trace LINE`. Answers the exit status: 0
 /// for `same` and 1 for the other two. For any other status one line stands on `errors`: `refused asm LINE KIND`, `refused
 /// image KIND [PLACE]` or `refused load KIND [PLACE]` (3), `memory` (4), or `read` or `write` (5). What `errors` makes of
@@ -28,17 +28,17 @@ pub fn compare_cmd<F: Source, S: Source, K: Sink, E: Sink>(
     errors: &mut E,
 ) -> u8
     ensures { (answer : Result Verdict Fault)
-        × (ComesOf (λ program came. ComparesFile program came (S.left trace.old) (S.left trace.new) (S.has_failed trace.new)
+        × (ComesOfProgram (λ image came. WritesVerdict image came (S.left trace.old) (S.left trace.new) (S.has_failed trace.new)
         (K.written output.old) (K.written output.new) (K.has_failed output.new))
         (IsUntouched (S.left trace.old) (S.left trace.new) (K.written output.old) (K.written output.new))
         answer (F.left file.old) (F.left file.new) (F.has_failed file.new)
         × IsSettledBy done_by answer result (E.has_failed errors.new) (E.written errors.old) (E.written errors.new)) }
 {
-    let program = match read_all(alloc, file) {
-        Ok(program) => program,
+    let image = match image_from(alloc, file) {
+        Ok(image) => image,
         Err(fault) => return settled(Err(fault), errors),
     };
-    match compared(alloc, program.as_slice(), trace, output) {
+    match compared(alloc, image, trace, output) {
         Ok(verdict) => settled(Ok(done_by(verdict)), errors),
         Err(fault) => settled(Err(fault), errors),
     }
@@ -54,20 +54,17 @@ pub fn done_by(verdict: Verdict) -> Done
     }
 }
 
-/// Compares a trace with the run of the program that a file's bytes are, and writes the line of the verdict.
+/// WritesVerdict a trace with the run of an image's program, and writes the line of the verdict.
 pub fn compared<S: Source, K: Sink>(
     alloc: Global,
-    program: &[u8],
+    image: Image,
     trace: &mut S,
     output: &mut K,
 ) -> Result<Verdict, Fault>
-    ensures { ComparesFile program.now result (S.left trace.old) (S.left trace.new) (S.has_failed trace.new)
+    ensures outcome { WritesVerdict image result (S.left trace.old) (S.left trace.new) (S.has_failed trace.new)
         (K.written output.old) (K.written output.new) (K.has_failed output.new) }
+    ensures sound { result ≡ Err Fault.Memory → S.has_failed trace.old ≡ false → S.has_failed trace.new ≡ false }
 {
-    let image = match program_in(alloc, program) {
-        Ok(image) => image,
-        Err(fault) => return Err(fault),
-    };
     let verdict = match compare(alloc, image, trace) {
         Ok(verdict) => verdict,
         Err(CompareFault::Load(fault)) => return Err(Fault::Load(fault)),
@@ -80,7 +77,7 @@ pub fn compared<S: Source, K: Sink>(
     }
 }
 
-/// The line of a verdict.
+/// Writes the line of a verdict: `same`, `differs LINE` or `not a trace LINE`. It fails where the output does.
 pub fn push_verdict<K: Sink>(output: &mut K, verdict: Verdict) -> Result<(), Failed>
     ensures bytes { OnOk result (Appends (K.written output.old) (K.written output.new)
         (verdict_line verdict)) }

@@ -13,16 +13,16 @@ ghost use Rattle.workbench.specs.Compare.{verdict_line};
 ghost use Rattle.trace_compare.specs.declared.comparison.Verdict.TheVariants as verdict;
 ghost use Rattle.workbench.specs.Done.{IsSettledBy, as_asked};
 ghost use Rattle.workbench.specs.Input.{GivesInEach, IsCounted};
-ghost use Rattle.workbench.specs.Outcome.{ComesOf};
+ghost use Rattle.workbench.specs.Outcome.{ComesOfProgram};
 
 use crate::companion::Companion;
 use crate::compare::push_verdict;
 use crate::done::{Done, as_asked, settled, settled_as_asked};
 use crate::fault::Fault;
-use crate::input::read_all;
-use crate::program_file::program_in;
+use crate::program::image_from;
 use byte_ports::{Sink, Source, SourceLines};
 use debugger::{CommandFault, Debugger, Stop, say_stop};
+use row_code::Image;
 use schedule_reader::Run;
 use std::alloc::Global;
 use trace_compare::Verdict;
@@ -50,32 +50,32 @@ pub fn debug_cmd<F: Source, S: Source, K: Sink, E: Sink>(
     errors: &mut E,
 ) -> u8
     ensures outcome { (answer : Result (Unit {0}) Fault)
-        × (ComesOf (λ program came. Debugs None program came (S.left commands.old) (S.left commands.new) (S.has_failed commands.new)
+        × (ComesOfProgram (λ image came. Debugs None image came (S.left commands.old) (S.left commands.new) (S.has_failed commands.new)
         (K.written output.old) (K.written output.new) (K.has_failed output.new))
         (IsUntouched (S.left commands.old) (S.left commands.new) (K.written output.old) (K.written output.new))
         answer (F.left file.old) (F.left file.new) (F.has_failed file.new)
         × IsSettledBy as_asked answer result (E.has_failed errors.new) (E.written errors.old) (E.written errors.new)) }
     ensures few { GivesFew (S.left commands.old) (S.left commands.new) }
 {
-    match read_all(alloc, file) {
-        Ok(program) => settled_as_asked(debug(alloc, program.as_slice(), commands, output), errors),
+    match image_from(alloc, file) {
+        Ok(image) => settled_as_asked(debug(alloc, image, commands, output), errors),
         Err(fault) => settled(Err(fault), errors),
     }
 }
 
-/// Debugs the program that a file's bytes are: reads a line of commands, carries it out, writes its reply, and reads on, up to the
+/// Debugs an image's program: reads a line of commands, carries it out, writes its reply, and reads on, up to the
 /// line `q` or to the end.
 pub fn debug<C: Companion, K: Sink>(
     alloc: Global,
-    program: &[u8],
+    image: Image,
     commands: &mut C,
     output: &mut K,
 ) -> Result<(), Fault>
-    ensures outcome { Debugs None program.now result (C.left commands.old) (C.left commands.new) (C.has_failed commands.new)
+    ensures outcome { Debugs None image result (C.left commands.old) (C.left commands.new) (C.has_failed commands.new)
         (K.written output.old) (K.written output.new) (K.has_failed output.new) }
     ensures few { GivesFew (C.left commands.old) (C.left commands.new) }
 {
-    let mut debugger = match first_debugger(alloc, program) {
+    let mut debugger = match first_debugger(alloc, image) {
         Ok(debugger) => debugger,
         Err(fault) => return Err(fault),
     };
@@ -85,17 +85,17 @@ pub fn debug<C: Companion, K: Sink>(
 /// `debug` behind runs of choices, which are played first and told as the command `g` tells them.
 pub fn debug_behind<C: Companion, K: Sink>(
     alloc: Global,
-    program: &[u8],
+    image: Image,
     runs: &[Run],
     commands: &mut C,
     output: &mut K,
 ) -> Result<(), Fault>
-    ensures outcome { Debugs (Some runs.now) program.now result
+    ensures outcome { Debugs (Some runs.now) image result
         (C.left commands.old) (C.left commands.new) (C.has_failed commands.new)
         (K.written output.old) (K.written output.new) (K.has_failed output.new) }
     ensures few { GivesFew (C.left commands.old) (C.left commands.new) }
 {
-    let mut debugger = match first_debugger(alloc, program) {
+    let mut debugger = match first_debugger(alloc, image) {
         Ok(debugger) => debugger,
         Err(fault) => return Err(fault),
     };
@@ -110,17 +110,17 @@ pub fn debug_behind<C: Companion, K: Sink>(
 /// read. The program is loaded before the trace is looked at.
 pub fn debug_at<T: Source, C: Companion, K: Sink>(
     alloc: Global,
-    program: &[u8],
+    image: Image,
     trace: &mut T,
     commands: &mut C,
     output: &mut K,
 ) -> Result<Done, Fault>
-    ensures outcome { DebugsAt program.now result (T.left trace.old) (T.left trace.new) (T.has_failed trace.new)
+    ensures outcome { DebugsAt image result (T.left trace.old) (T.left trace.new) (T.has_failed trace.new)
         (C.left commands.old) (C.left commands.new) (C.has_failed commands.new)
         (K.written output.old) (K.written output.new) (K.has_failed output.new) }
     ensures few { GivesFew (C.left commands.old) (C.left commands.new) }
 {
-    let mut debugger = match first_debugger(alloc, program) {
+    let mut debugger = match first_debugger(alloc, image) {
         Ok(debugger) => debugger,
         Err(fault) => return Err(fault),
     };
@@ -186,15 +186,11 @@ fn not_a_trace<K: Sink>(output: &mut K, line: u64) -> Result<Done, Fault>
     }
 }
 
-/// A debugger of a file's program before its first choice.
-fn first_debugger(alloc: Global, program: &[u8]) -> Result<Debugger, Fault>
-    ensures first { IfOk result (λ debugger. IsFirstSession program.now debugger) }
-    ensures none { IfErr result (λ fault. HasNoSession fault program.now) }
+/// A debugger of an image's program before its first choice.
+fn first_debugger(alloc: Global, image: Image) -> Result<Debugger, Fault>
+    ensures first { IfOk result (λ debugger. IsFirstSession image debugger) }
+    ensures none { IfErr result (λ fault. HasNoSession fault image) }
 {
-    let image = match program_in(alloc, program) {
-        Ok(image) => image,
-        Err(fault) => return Err(fault),
-    };
     let machine = match first_machine(alloc, image) {
         Ok(machine) => machine,
         Err(StartFault::Load(fault)) => return Err(Fault::Load(fault)),

@@ -8,13 +8,12 @@ ghost use Rattle.trace_text.specs.Start.{IsRefused};
 ghost use Rattle.trace_text.specs.declared.run_end.RunEnd.{RunEnd};
 ghost use Rattle.workbench.specs.declared.fault.Fault.{Fault};
 ghost use Rattle.workbench.specs.Done.{IsSettledBy, as_asked};
-ghost use Rattle.workbench.specs.Live.{IsRecorded, Lives};
-ghost use Rattle.workbench.specs.Outcome.{ComesOf};
+ghost use Rattle.workbench.specs.Live.{IsRecorded, Lives, fault_of_live};
+ghost use Rattle.workbench.specs.Outcome.{ComesOfProgram};
 
 use crate::done::{settled, settled_as_asked};
 use crate::fault::Fault;
-use crate::input::read_all;
-use crate::program_file::program_in;
+use crate::program::image_from;
 use byte_ports::{Sink, Source};
 use loader::{LoadFault, Loaded, load};
 use row_code::Image;
@@ -41,20 +40,17 @@ pub fn live_cmd<R: Threads + Wait + Sync, F: Source, K: Sink, E: Sink>(
 ) -> u8
     requires { limit ≤ 1000000000 }
     ensures { (answer : Result RunEnd Fault)
-        × (ComesOf (λ program came. Lives limit program came (K.written output.old) (K.written output.new) (K.has_failed output.new))
+        × (ComesOfProgram (λ image came. Lives limit image came (K.written output.old) (K.written output.new) (K.has_failed output.new))
         (K.written output.new ≡ K.written output.old) answer (F.left file.old) (F.left file.new) (F.has_failed file.new)
         × IsSettledBy as_asked answer result (E.has_failed errors.new) (E.written errors.old) (E.written errors.new)) }
 {
-    match read_all(alloc, file) {
-        Ok(program) => settled_as_asked(
-            live(threads, alloc, limit, &NoGate, program.as_slice(), output),
-            errors,
-        ),
+    match image_from(alloc, file) {
+        Ok(image) => settled_as_asked(live(threads, alloc, limit, &NoGate, image, output), errors),
         Err(fault) => settled(Err(fault), errors),
     }
 }
 
-/// Plays the program that a file's bytes are on real threads, writes the trace of the choices that they made, and answers how the
+/// Plays an image's program on real threads, writes the trace of the choices that they made, and answers how the
 /// run has ended. Each thread passes a gate before each time that it takes the lock: whom the gate lets go first decides which run
 /// it is, and nothing else.
 pub fn live<R: Threads + Wait + Sync, G: Gate + Sync, K: Sink>(
@@ -62,16 +58,12 @@ pub fn live<R: Threads + Wait + Sync, G: Gate + Sync, K: Sink>(
     alloc: Global,
     limit: u32,
     gate: &G,
-    file: &[u8],
+    image: Image,
     output: &mut K,
 ) -> Result<RunEnd, Fault>
     requires { limit ≤ 1000000000 }
-    ensures { Lives limit file.now result (K.written output.old) (K.written output.new) (K.has_failed output.new) }
+    ensures { Lives limit image result (K.written output.old) (K.written output.new) (K.has_failed output.new) }
 {
-    let image = match program_in(alloc, file) {
-        Ok(image) => image,
-        Err(fault) => return Err(fault),
-    };
     let program = match loaded(alloc, image) {
         Ok(program) => program,
         Err(fault) => return Err(fault),
@@ -105,6 +97,17 @@ fn loaded(alloc: Global, image: Image) -> Result<Loaded, Fault>
     }
 }
 
+/// Why a live run was broken off, as a command tells it.
+pub fn fault_of_live(fault: LiveFault) -> Fault
+    ensures fault { result ≡ fault_of_live fault }
+    ensures either { (result ≡ Fault.Memory) ⊎ (result ≡ Fault.Spawn) }
+{
+    match fault {
+        LiveFault::Memory(_) => Fault::Memory,
+        LiveFault::Spawn => Fault::Spawn,
+    }
+}
+
 /// The choices that were recorded of a run of a loaded program on real threads.
 fn recorded<R: Threads + Wait + Sync, G: Gate + Sync>(
     rt: &R,
@@ -121,8 +124,7 @@ fn recorded<R: Threads + Wait + Sync, G: Gate + Sync>(
 {
     let run = match run_live(rt, alloc, program, limit, gate) {
         Ok(run) => run,
-        Err(LiveFault::Memory(_)) => return Err(Fault::Memory),
-        Err(LiveFault::Spawn) => return Err(Fault::Spawn),
+        Err(fault) => return Err(fault_of_live(fault)),
     };
     match read_schedule(alloc, run.schedule.as_slice()) {
         Ok(runs) => Ok(runs),

@@ -3,13 +3,13 @@ ghost use Rattle.trace_text.specs.declared.run_end.RunEnd.{RunEnd};
 ghost use Rattle.trace_text.specs.Outcome.{IsUntouched};
 ghost use Rattle.workbench.specs.declared.fault.Fault.{Fault};
 ghost use Rattle.workbench.specs.Done.{IsSettledBy, as_asked};
-ghost use Rattle.workbench.specs.Outcome.{ComesOf, PlaysFile};
+ghost use Rattle.workbench.specs.Outcome.{ComesOfProgram, Plays};
 
 use crate::done::{settled, settled_as_asked};
 use crate::fault::Fault;
-use crate::input::read_all;
-use crate::program_file::program_in;
+use crate::program::image_from;
 use byte_ports::{Sink, Source};
+use row_code::Image;
 use std::alloc::Global;
 use trace_text::{RunEnd, run_to_end};
 
@@ -26,33 +26,28 @@ pub fn run_cmd<F: Source, S: Source, K: Sink, E: Sink>(
     errors: &mut E,
 ) -> u8
     ensures { (answer : Result RunEnd Fault)
-        × (ComesOf (λ program came. PlaysFile program came (S.left schedule.old) (S.left schedule.new) (S.has_failed schedule.new)
+        × (ComesOfProgram (λ image came. Plays image came (S.left schedule.old) (S.left schedule.new) (S.has_failed schedule.new)
         (K.written output.old) (K.written output.new) (K.has_failed output.new))
         (IsUntouched (S.left schedule.old) (S.left schedule.new) (K.written output.old) (K.written output.new))
         answer (F.left file.old) (F.left file.new) (F.has_failed file.new)
         × IsSettledBy as_asked answer result (E.has_failed errors.new) (E.written errors.old) (E.written errors.new)) }
 {
-    match read_all(alloc, file) {
-        Ok(program) => settled_as_asked(run(alloc, program.as_slice(), schedule, output), errors),
+    match image_from(alloc, file) {
+        Ok(image) => settled_as_asked(run(alloc, image, schedule, output), errors),
         Err(fault) => settled(Err(fault), errors),
     }
 }
 
-/// Plays the program that a file's bytes are, an image or a text, under a schedule, writes the trace, and answers how the run has
-/// ended.
-pub fn run<S: Source, K: Sink>(
+/// `run_to_end` in the words of the commands.
+pub(crate) fn run<S: Source, K: Sink>(
     alloc: Global,
-    program: &[u8],
+    image: Image,
     schedule: &mut S,
     output: &mut K,
 ) -> Result<RunEnd, Fault>
-    ensures { PlaysFile program.now result (S.left schedule.old) (S.left schedule.new) (S.has_failed schedule.new)
+    ensures { Plays image result (S.left schedule.old) (S.left schedule.new) (S.has_failed schedule.new)
         (K.written output.old) (K.written output.new) (K.has_failed output.new) }
 {
-    let image = match program_in(alloc, program) {
-        Ok(image) => image,
-        Err(fault) => return Err(fault),
-    };
     match run_to_end(alloc, image, schedule, output) {
         Ok(end) => Ok(end),
         Err(fault) => Err(Fault::of_run(fault)),

@@ -10,7 +10,7 @@ CyclicBarrier::CyclicBarrier(int parties, std::function<void()> action) : partie
 
 int CyclicBarrier::await(const Time& time) {
   {
-    std::unique_lock<std::mutex> lock(monitor_->mutex);
+    std::unique_lock<points::Mutex> lock(monitor_->mutex);
     let_in(lock);
     refuse_inside_action();
     if (generation_->broken) {
@@ -31,7 +31,7 @@ int CyclicBarrier::await(const Time& time) {
 }
 
 /// Waits for the end of this generation: how that ended counts before an interrupt, and that before the time.
-int CyclicBarrier::wait(std::unique_lock<std::mutex>& lock, int index, const Time& time) {
+int CyclicBarrier::wait(std::unique_lock<points::Mutex>& lock, int index, const Time& time) {
   const std::shared_ptr<Generation> mine = generation_;
   waiting_ += 1;
   while (!mine->tripped && !mine->broken) {
@@ -53,12 +53,12 @@ int CyclicBarrier::run_action() {
   try {
     action_();
   } catch (...) {
-    std::lock_guard<std::mutex> lock(monitor_->mutex);
+    std::lock_guard<points::Mutex> lock(monitor_->mutex);
     runner_ = nullptr;
     break_barrier();
     throw;
   }
-  std::lock_guard<std::mutex> lock(monitor_->mutex);
+  std::lock_guard<points::Mutex> lock(monitor_->mutex);
   runner_ = nullptr;
   return trip();
 }
@@ -96,12 +96,12 @@ void CyclicBarrier::break_if_late(const Time& time) {
 }
 
 /// While another thread runs the action nobody is let in.
-void CyclicBarrier::let_in(std::unique_lock<std::mutex>& lock) {
+void CyclicBarrier::let_in(std::unique_lock<points::Mutex>& lock) {
   monitor_->changed.wait(lock, [this] { return !runner_ || runner_ == &Thread::current(); });
 }
 
 void CyclicBarrier::reset() {
-  std::unique_lock<std::mutex> lock(monitor_->mutex);
+  std::unique_lock<points::Mutex> lock(monitor_->mutex);
   let_in(lock);
   refuse_inside_action();
   if (waiting_ > 0) {
@@ -111,13 +111,13 @@ void CyclicBarrier::reset() {
 }
 
 bool CyclicBarrier::is_broken() {
-  std::unique_lock<std::mutex> lock(monitor_->mutex);
+  std::unique_lock<points::Mutex> lock(monitor_->mutex);
   let_in(lock);
   return generation_->broken;
 }
 
 int CyclicBarrier::number_waiting() {
-  std::unique_lock<std::mutex> lock(monitor_->mutex);
+  std::unique_lock<points::Mutex> lock(monitor_->mutex);
   let_in(lock);
   refuse_inside_action();
   return waiting_;

@@ -28,14 +28,14 @@ class CyclicBarrier {
     bool broken = false;
   };
 
-  int wait(std::unique_lock<std::mutex>& lock, int index, const Time& time);
+  int wait(std::unique_lock<points::Mutex>& lock, int index, const Time& time);
   int run_action();
   int trip();
   void break_barrier();
   void renew();
   void break_if_interrupted();
   void break_if_late(const Time& time);
-  void let_in(std::unique_lock<std::mutex>& lock);
+  void let_in(std::unique_lock<points::Mutex>& lock);
   void refuse_inside_action() const;
 
   const int parties_;

@@ -21,7 +21,7 @@ struct Phaser::Tree {
 
   explicit Tree(int first_phase) : phase(first_phase) {}
 
-  std::unique_lock<std::mutex> lock() { return std::unique_lock<std::mutex>(monitor->mutex); }
+  std::unique_lock<points::Mutex> lock() { return std::unique_lock<points::Mutex>(monitor->mutex); }
 
   int view() const { return terminated ? phase - kLastPhase - 1 : phase; }
 

@@ -1,4 +1,4 @@
-// Speaks the port protocol (docs/FORMATS.md, "Port protocol") for the Phaser and the CyclicBarrier of this folder.
+// Speaks the port protocol (kit/PROTOCOL.md, "Port protocol") for the Phaser and the CyclicBarrier of this folder.
 //
 //     g++ -std=c++17 -O2 -pthread -o port kit/ports/cpp/*.cpp
 //     kit/play --port ./port kit/cases
@@ -25,6 +25,7 @@
 
 #include "barrier.hpp"
 #include "phaser.hpp"
+#include "points.hpp"
 #include "threads.hpp"
 
 namespace {
@@ -128,6 +129,7 @@ class Actor : public Thread {
 
   /// One more step of its list. It has no other list then.
   void give(int number, Nanoseconds pause_before, Call call) {
+    std::lock_guard<std::mutex> lock(mutex_);  // a race detector doesn't see that the last list's end was told
     list_.emplace_back();
     list_.back().number = number;
     list_.back().pause_before = pause_before;
@@ -155,6 +157,7 @@ class Actor : public Thread {
  private:
   /// The clock is read outside two fences: what a call has done is seen by whoever begins after its end.
   void make_list() {
+    points::list();
     gate_->pass();
     for (Step& step : list_) {
       pause(step.pause_before);
@@ -510,6 +513,8 @@ class Reader : public Thread {
       say(make(word, words));
     } else if (word == "lists" || word == "so-far") {
       say((word == "lists" ? "" : so_far()) + "ok");
+    } else if (word == "live") {
+      say("no there is no collector");
     } else if (word == "advance" || word == "action") {
       plan(word == "advance" ? advances : actions, words);
     } else if (word == "list") {
@@ -523,6 +528,7 @@ class Reader : public Thread {
 };
 
 int main() {
+  points::start();
   std::cin.tie(nullptr);  // else each read flushes the output, in the middle of another thread's line
   Reader().run();
   std::_Exit(0);  // whatever the threads do

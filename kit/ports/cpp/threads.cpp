@@ -13,17 +13,17 @@ void Thread::interrupt() {
   interrupted_ = true;
   std::shared_ptr<Monitor> at;
   {
-    std::lock_guard<std::mutex> lock(own_);
+    std::lock_guard<points::Mutex> lock(own_);
     at = waits_at_;
   }
   if (at) {
     // the lock is free only once the thread sleeps, so this can't come too early for it
-    std::lock_guard<std::mutex> lock(at->mutex);
+    std::lock_guard<points::Mutex> lock(at->mutex);
     at->changed.notify_all();
   }
 }
 
-void Thread::wait(const std::shared_ptr<Monitor>& at, std::unique_lock<std::mutex>& lock, const Time& time) {
+void Thread::wait(const std::shared_ptr<Monitor>& at, std::unique_lock<points::Mutex>& lock, const Time& time) {
   wait_at(at);  // before the look at the status, since `interrupt` sets that one first
   if (!interrupted_) {
     at->changed.wait_for(lock, time.left());
@@ -32,6 +32,6 @@ void Thread::wait(const std::shared_ptr<Monitor>& at, std::unique_lock<std::mute
 }
 
 void Thread::wait_at(std::shared_ptr<Monitor> monitor) {
-  std::lock_guard<std::mutex> lock(own_);
+  std::lock_guard<points::Mutex> lock(own_);
   waits_at_ = std::move(monitor);
 }

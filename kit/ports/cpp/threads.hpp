@@ -1,11 +1,11 @@
 // Threads with an interrupted status, which C++'s own don't have, times, and what the calls of a port throw.
 #pragma once
 
-#include <atomic>
 #include <chrono>
-#include <condition_variable>
 #include <memory>
 #include <mutex>
+
+#include "points.hpp"
 
 /// The state of the object doesn't allow the call.
 struct IllegalState {};
@@ -29,8 +29,8 @@ struct Missing {
 
 /// A lock, and the condition that is notified whenever something changes that somebody may wait for.
 struct Monitor {
-  std::mutex mutex;
-  std::condition_variable changed;
+  points::Mutex mutex;
+  points::Condition changed;
 };
 
 /// How long a wait may take. No sum is made of the present and the time, so that the longest one doesn't overflow.
@@ -68,7 +68,7 @@ class Thread {
   bool clear_interrupted() { return interrupted_.exchange(false); }
 
   /// Waits at a monitor whose lock this thread holds: until it is notified, interrupted, or out of time, or for no reason.
-  void wait(const std::shared_ptr<Monitor>& at, std::unique_lock<std::mutex>& lock, const Time& time);
+  void wait(const std::shared_ptr<Monitor>& at, std::unique_lock<points::Mutex>& lock, const Time& time);
 
   /// The thread that calls this.
   static Thread& current() { return *current_; }
@@ -82,7 +82,7 @@ class Thread {
 
   static thread_local Thread* current_;
 
-  std::atomic<bool> interrupted_{false};
-  std::mutex own_;
+  points::Atomic<bool> interrupted_{false};
+  points::Mutex own_;
   std::shared_ptr<Monitor> waits_at_;  // under own_
 };

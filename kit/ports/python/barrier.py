@@ -1,8 +1,8 @@
 """A CyclicBarrier over one `threading.Condition`, as docs/BEHAVIOUR.md has it, heading "Cyclic barrier"."""
 
-import threading
 import time
 
+import points
 from threads import BrokenBarrier, IllegalArgument, IllegalState, Interrupted, TimedOut, current
 
 
@@ -20,7 +20,7 @@ class CyclicBarrier:
             raise IllegalArgument
         self._parties = parties
         self._action = action
-        self._changed = threading.Condition()
+        self._changed = points.Condition()
         self._generation = _Generation()
         self._waiting = 0
         self._runner = None         # the thread inside the action

@@ -4,9 +4,9 @@ The trees are small and the rules plain, so nothing here is clever: a call takes
 follows from it, and notifies everybody where a phase has ended. `onAdvance` alone runs without the lock.
 """
 
-import threading
 import time
 
+import points
 from threads import IllegalArgument, IllegalState, Interrupted, TimedOut, current
 
 MAX_PARTIES = 65535
@@ -17,7 +17,7 @@ class _Tree:
     """What the phasers of a tree have in common: the phase, whether it is terminated, the lock."""
 
     def __init__(self, first_phase):
-        self.changed = threading.Condition()
+        self.changed = points.Condition()
         self.phase = first_phase
         self.terminated = False
         self.turned = False         # the root: all have arrived, or the last has left, and the phase hasn't ended

@@ -1,5 +1,5 @@
 #!/usr/bin/env python3
-"""Speaks the port protocol (docs/FORMATS.md, "Port protocol") for the Phaser and the CyclicBarrier of this folder.
+"""Speaks the port protocol (kit/PROTOCOL.md, "Port protocol") for the Phaser and the CyclicBarrier of this folder.
 
     kit/play --port 'python3 kit/ports/python/port.py' kit/cases
 
@@ -11,6 +11,7 @@ import threading
 import time
 from queue import SimpleQueue
 
+import points
 from barrier import CyclicBarrier
 from phaser import Phaser
 from threads import BrokenBarrier, IllegalArgument, IllegalState, Interrupted, Thread, TimedOut, current
@@ -69,6 +70,7 @@ class Actor(Thread):
         return True
 
     def make_list(self, gate):
+        points.begin_list()
         gate.wait()
         for number, before, call in self.list:
             pause(before)
@@ -226,6 +228,9 @@ LISTS = {
 def main():
     for line in sys.stdin:
         word, *operands = line.split()
+        if word == "live":
+            say("no its memory has its size at once")
+            continue
         if word in MAKES:
             say(became(MAKES[word], operands))
             continue

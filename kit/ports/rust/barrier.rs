@@ -1,8 +1,9 @@
 //! A cyclic barrier over one monitor, as docs/BEHAVIOUR.md has it, heading "Cyclic barrier".
 
+use crate::points::{AtomicBool, MutexGuard};
 use crate::threads::{Answer, Monitor, Thread, Thrown, Time};
-use std::sync::atomic::{AtomicBool, Ordering::SeqCst};
-use std::sync::{Arc, MutexGuard};
+use std::sync::atomic::Ordering::SeqCst;
+use std::sync::Arc;
 use std::thread::{self, ThreadId};
 
 pub type Action = Box<dyn Fn() -> Answer<()> + Send + Sync>;

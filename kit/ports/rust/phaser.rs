@@ -3,8 +3,9 @@
 //! The trees are small and the rules plain, so nothing here is clever: a call takes the tree's lock, does all that follows from
 //! it, and notifies everybody where a phase has ended. `on_advance` alone runs without the lock.
 
+use crate::points::MutexGuard;
 use crate::threads::{Answer, Monitor, Thread, Thrown, Time};
-use std::sync::{Arc, MutexGuard};
+use std::sync::Arc;
 use std::thread::{self, ThreadId};
 
 const MOST_PARTIES: i32 = 65535;

@@ -1,4 +1,4 @@
-//! Speaks the port protocol (docs/FORMATS.md, "Port protocol") for the phaser and the barrier of this folder.
+//! Speaks the port protocol (kit/PROTOCOL.md, "Port protocol") for the phaser and the barrier of this folder.
 //!
 //!     rustc -O --edition 2021 -o port kit/ports/rust/port.rs
 //!     kit/play --port ./port kit/cases
@@ -7,6 +7,7 @@
 
 mod barrier;
 mod phaser;
+mod points;
 mod threads;
 
 use barrier::{Action, CyclicBarrier};
@@ -162,6 +163,7 @@ impl Actor {
     /// The clock is read outside two fences: what a call has done is seen by whoever begins after its end.
     fn make_list(&self, gate: &Gate) {
         let steps = std::mem::take(&mut self.list.lock().unwrap().steps);
+        points::list();
         gate.pass();
         for step in steps {
             pause(step.pause_before);
@@ -361,6 +363,7 @@ fn carry_out(command: &str, words: &[&str]) {
         }
         "phaser" | "barrier" => say(&words_of(world.make(command, words).map(|()| None))),
         "lists" => say("ok"),
+        "live" => say("no there is no collector"),
         "so-far" => say(&(world.actors.values().map(|actor| actor.so_far()).collect::<String>() + "ok")),
         "advance" | "action" => {
             let plans = if command == "advance" { &mut world.advances } else { &mut world.actions };
@@ -389,6 +392,7 @@ fn carry_out(command: &str, words: &[&str]) {
 }
 
 fn main() {
+    points::start();
     for line in io::stdin().lines() {
         let line = line.unwrap();
         let words: Vec<&str> = line.split(' ').collect();

@@ -1,8 +1,9 @@
 //! Threads with an interrupted status, which Rust's own don't have, times, and what the calls of a port throw.
 
+use crate::points::{AtomicBool, Condvar, Mutex, MutexGuard};
 use std::cell::RefCell;
-use std::sync::atomic::{AtomicBool, Ordering::SeqCst};
-use std::sync::{Arc, Condvar, Mutex, MutexGuard};
+use std::sync::atomic::Ordering::SeqCst;
+use std::sync::Arc;
 use std::time::{Duration, Instant};
 
 /// What a call throws.

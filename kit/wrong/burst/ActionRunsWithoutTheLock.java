@@ -3,9 +3,9 @@ package kit.wrong.burst;
 import java.util.concurrent.BrokenBarrierException;
 
 /**
- * The action runs without the lock: nobody else comes in, but whose time is over meanwhile leaves.
+ * The action runs without the lock. Nobody else enters, but a waiter whose time is over leaves meanwhile.
  *
- * <p>Found by time-during-the-action; in lock-step where others come in too.
+ * <p>Found by time-during-the-action; in lock-step where others enter too.
  */
 public final class ActionRunsWithoutTheLock extends LockedFactory {
     @Override

@@ -1,7 +1,7 @@
 package kit.wrong.burst;
 
 /**
- * An arrival that doesn't end its phase answers the phase that it reads when it has given the lock back.
+ * An arrival that doesn't end its phase returns the phase that it reads after it has released the lock.
  *
  * <p>Found by meetings.
  */

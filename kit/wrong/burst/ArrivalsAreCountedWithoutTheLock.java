@@ -1,7 +1,7 @@
 package kit.wrong.burst;
 
 /**
- * Arrivals are counted by reading and writing, without the lock: one of two at once may be lost.
+ * Arrivals are counted by a read and a write, without the lock: one of two at once may be lost.
  *
  * <p>Found by meetings.
  */

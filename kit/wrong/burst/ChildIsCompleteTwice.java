@@ -3,7 +3,8 @@ package kit.wrong.burst;
 import kit.player.PhaserUnderTest;
 
 /**
- * Who arrives at a child looks only behind the lock whether it is complete: two see it, and it arrives at its parent twice.
+ * An arrival at a child checks only after it has released the lock whether the child is complete: two see it, and the
+ * child arrives at its parent twice.
  *
  * <p>Found by tree-meetings.
  */

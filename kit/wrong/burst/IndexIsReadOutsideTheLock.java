@@ -4,7 +4,7 @@ import java.util.concurrent.BrokenBarrierException;
 import java.util.concurrent.TimeoutException;
 
 /**
- * The arrival index is read before the lock is taken: two who come at once get the same.
+ * The arrival index is read before the lock is taken: two threads that arrive at once get the same.
  *
  * <p>Found by trips.
  */

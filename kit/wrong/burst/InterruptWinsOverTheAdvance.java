@@ -1,7 +1,7 @@
 package kit.wrong.burst;
 
 /**
- * Who wakes up looks at its interrupted status first, though its phase has ended before the interrupt.
+ * A thread that wakes up looks at its interrupted status first, although its phase ended before the interrupt.
  *
  * <p>Found by interrupt-behind-the-advance.
  */

@@ -1,7 +1,7 @@
 package kit.wrong.burst;
 
 /**
- * Who wakes up looks at its interrupted status first, though its generation has tripped before the interrupt.
+ * A thread that wakes up looks at its interrupted status first, although its generation tripped before the interrupt.
  *
  * <p>Found by interrupt-behind-the-trip; in lock-step where an action runs.
  */

@@ -3,7 +3,7 @@ package kit.wrong.burst;
 import java.util.concurrent.BrokenBarrierException;
 
 /**
- * A generation is renewed when the last of its waiters has left: who is back sooner trips it once more, alone.
+ * A generation is renewed when the last of its waiters has left: a thread that is back sooner trips it again, alone.
  *
  * <p>Found by barging; in lock-step where an action runs.
  */

@@ -1,7 +1,7 @@
 package kit.wrong.burst;
 
 /**
- * arriveAndDeregister arrives, and takes the party away under the lock once more: a phase may have ended between.
+ * arriveAndDeregister arrives, takes the lock again, and removes the party: a phase may have ended in between.
  *
  * <p>Found by meetings-and-departures.
  */

@@ -3,7 +3,7 @@ package kit.wrong.burst;
 import java.util.concurrent.TimeoutException;
 
 /**
- * The end of a time is now and the time, which overflows where that is the longest.
+ * The deadline is now plus the time, which overflows if the time is the longest.
  *
  * <p>Found by the-longest-time.
  */

@@ -24,6 +24,19 @@ class TieredChild implements PhaserUnderTest {
         return left == 0;
     }
 
+    /** A registration begins, which the lock doesn't guard yet; whether it has joined the parent by now. */
+    boolean joinsBefore() {
+        return false;
+    }
+
+    final PhaserUnderTest parent() {
+        return parent;
+    }
+
+    final synchronized boolean isEmpty() {
+        return parties == 0;
+    }
+
     final int unarrived() {
         return unarrived;
     }
@@ -46,6 +59,7 @@ class TieredChild implements PhaserUnderTest {
         if (count < 0) {
             throw new IllegalArgumentException();
         }
+        boolean joined = count > 0 && joinsBefore();
         for (;;) {
             int turnedIn;
             synchronized (this) {
@@ -57,7 +71,7 @@ class TieredChild implements PhaserUnderTest {
                     throw new IllegalStateException();
                 }
                 if (parties == 0 || unarrived > 0) {
-                    seen = parties == 0 ? parent.register() : seen;
+                    seen = parties == 0 && !joined ? parent.register() : seen;
                     parties += count;
                     unarrived += count;
                     return seen;

@@ -3,6 +3,7 @@
 #include <algorithm>
 #include <cstdlib>
 #include <cstring>
+#include <iterator>
 #include <limits>
 #include <vector>
 
@@ -32,8 +33,9 @@ Fault fault_of_environment() {
   const char* name = std::getenv("FAULT");
   const char* names[] = {"", "check-push-park", "park-once", "register-by-adding", "arrive-by-subtracting",
                          "advance-in-two-steps", "force-by-storing", "stale-answer", "sixteen-are-woken",
-                         "nodes-used-again"};
-  for (int at = 1; name && at < 10; at++) {
+                         "nodes-used-again", "phase-before-counts", "end-by-storing",
+                         "taken-off-by-comparing"};
+  for (int at = 1; name && at < static_cast<int>(std::size(names)); at++) {
     if (std::strcmp(name, names[at]) == 0) {
       return static_cast<Fault>(at);
     }
@@ -42,19 +44,20 @@ Fault fault_of_environment() {
 }
 
 const Fault fault = fault_of_environment();
+const bool uses_nodes_again = fault == Fault::kNodesUsedAgain || fault == Fault::kTakenOffByComparing;
 
 /// A permit to go on: `unpark` gives it, and `park` takes it, or waits for it.
 class Parker {
  public:
   void unpark() {
-    std::lock_guard<std::mutex> lock(monitor_->mutex);
+    std::lock_guard<points::Mutex> lock(monitor_->mutex);
     permit_ = true;
     monitor_->changed.notify_all();
   }
 
   /// Returns with the permit, for an interrupt where `interruptibly`, when the time is over, or for no reason.
   void park(bool interruptibly, const Time& time) {
-    std::unique_lock<std::mutex> lock(monitor_->mutex);
+    std::unique_lock<points::Mutex> lock(monitor_->mutex);
     if (!permit_) {
       interruptibly ? Thread::current().wait(monitor_, lock, time) : monitor_->changed.wait(lock);
     }
@@ -76,12 +79,12 @@ Parker& own_parker() {
 /// A waiter. It is the waiter's and the stack's, and the one that lets it go last deletes it.
 struct Phaser::Node {
   Parker& parker = own_parker();
-  std::atomic<bool> queued{false};
-  std::atomic<int> owners{1};
-  std::atomic<int> phase{0};
-  std::atomic<Node*> next{nullptr};
+  points::Atomic<bool> queued{false};
+  points::Atomic<int> owners{1};
+  points::Atomic<int> phase{0};
+  points::Atomic<Node*> next{nullptr};
 
-  /// As `kNodesUsedAgain` has it: one of this thread's own that is on no stack.
+  /// Where nodes are used again: one of this thread's own that is on no stack.
   static Node* of_own() {
     static thread_local std::vector<Node*> own;
     auto free = std::find_if(own.begin(), own.end(), [](Node* node) { return !node->queued; });
@@ -192,6 +195,15 @@ void Phaser::end_phase(Word turned, bool terminates) {
     word_ += next - fresh(phase_of(turned), parties_of(turned));
     return;
   }
+  if (fault == Fault::kPhaseBeforeCounts && !terminated(turned)) {
+    word_ += next - fresh(phase_of(turned), parties_of(turned));
+    word_ += fresh(phase_of(turned), parties_of(turned)) - turned;
+    return;
+  }
+  if (fault == Fault::kEndByStoring && !terminated(turned)) {
+    word_ = next;
+    return;
+  }
   while (!terminated(turned) && !word_.compare_exchange_weak(turned, next)) {
   }
 }
@@ -216,17 +228,17 @@ int Phaser::await_advance_interruptibly(int phase, const Time& time) {
 
 /// Until the phase has ended. It has a node on the stack whenever it parks.
 void Phaser::wait(int phase, bool interruptibly, const Time& time) {
-  if (fault == Fault::kNodesUsedAgain) {
+  if (uses_nodes_again) {
     release_one_by_one();  // so nobody of a phase before is left below
   }
-  Node* node = fault == Fault::kNodesUsedAgain ? Node::of_own() : new Node();
+  Node* node = uses_nodes_again ? Node::of_own() : new Node();
   node->phase = phase;
   while (view_of(word_) == phase) {
     if (interruptibly && Thread::current().clear_interrupted()) {
       node->let_go();
       throw Interrupted();
     }
-    if (time.is_over()) {
+    if (time.is_over() && view_of(word_) == phase) {  // else the phase ended in time, behind the look above
       node->let_go();
       throw TimedOut();
     }
@@ -242,7 +254,7 @@ void Phaser::wait(int phase, bool interruptibly, const Time& time) {
     }
   }
   node->let_go();
-  if (fault == Fault::kNodesUsedAgain) {
+  if (uses_nodes_again) {
     release_one_by_one();
   }
 }
@@ -258,7 +270,7 @@ void Phaser::push(Node* node) {
 
 /// Wakes all. A node is its waiter's again once it isn't queued: its successor is read before.
 void Phaser::release_all() {
-  if (fault == Fault::kNodesUsedAgain) {
+  if (uses_nodes_again) {
     return release_one_by_one();
   }
   const int most = fault == Fault::kSixteenAreWoken ? 16 : kMostParties;
@@ -274,14 +286,20 @@ void Phaser::release_all() {
   }
 }
 
-/// As `kNodesUsedAgain` has it: who ends a phase, and all who go on, wake whoever is first and then take it off. By then it may
-/// be the first anew, for the next phase, and above others than before.
+/// Where nodes are used again: who ends a phase, and all who go on, take off whoever is first, as long as that is first. It may
+/// be the first anew, for the next phase, and above others than before. Where it is woken before, that is much more likely.
 void Phaser::release_one_by_one() {
   for (Node* node = waiters_; node && node->phase != view_of(word_); node = waiters_) {
-    Node* next = node->next;
-    node->parker.unpark();
-    if (waiters_.compare_exchange_strong(node, next)) {
+    Node* const next = node->next;
+    Node* first = node;
+    if (fault == Fault::kNodesUsedAgain) {
+      node->parker.unpark();
+    }
+    if (waiters_.compare_exchange_strong(first, next)) {
       node->queued = false;
+      if (fault == Fault::kTakenOffByComparing) {
+        node->parker.unpark();
+      }
       node->let_go();
     }
   }

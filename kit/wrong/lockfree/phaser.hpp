@@ -2,10 +2,10 @@
 // one of the faults that such a phaser comes to.
 #pragma once
 
-#include <atomic>
 #include <cstdint>
 #include <memory>
 
+#include "points.hpp"
 #include "threads.hpp"
 
 /// What is wrong with it.
@@ -20,6 +20,9 @@ enum class Fault {
   kStaleAnswer,
   kSixteenAreWoken,
   kNodesUsedAgain,
+  kPhaseBeforeCounts,
+  kEndByStoring,
+  kTakenOffByComparing,
 };
 
 /// All its numbers are one word (docs/FORMATS.md, "Packed word"), which calls exchange by comparing. Who waits pushes a node
@@ -68,7 +71,7 @@ class Phaser {
   void release_one_by_one();
   void refuse_inside_on_advance() const;
 
-  std::atomic<Word> word_;
-  std::atomic<Node*> waiters_{nullptr};
-  std::atomic<Thread*> runner_{nullptr};  // the thread inside `on_advance`
+  points::Atomic<Word> word_;
+  points::Atomic<Node*> waiters_{nullptr};
+  points::Atomic<Thread*> runner_{nullptr};  // the thread inside `on_advance`
 };

@@ -54,6 +54,7 @@ impl Debugger {
         }
     }
 
+    /// Plays the choices of some runs, as `go` does.
     fn go_runs(&mut self, runs: &[Run]) -> Went
         ensures { Goes self.old (choices_of runs.now) result self.new }
     {
@@ -67,6 +68,7 @@ impl Debugger {
         Went::On
     }
 
+    /// Plays the choices of one run, as `go` does.
     fn go_run(&mut self, run: Run) -> Went
         ensures { Goes self.old (replicate run.times run.choice) result self.new }
     {

@@ -1,13 +1,9 @@
-ghost use Rattle.std.specs.Prelude.{◌≡◌, ◌≢◌, ◌+◌, ◌≤◌, ◌∷◌, [], ◌++◌, length, codes, if◌then◌else◌, true, IsTrue, IfOk, OnOk, OnErr, Err};
+ghost use Rattle.std.specs.Prelude.{◌≡◌, ◌+◌, ◌≤◌, ◌∷◌, [], ◌++◌, length, codes, if◌then◌else◌, true, IsTrue, IfErr, IfOk, Ok, Err, OnOk, OnErr};
 ghost use Rattle.std.specs.Fmt.{decimal};
 ghost use Rattle.std.specs.Io.KnownBytes.{Appends};
-ghost use Rattle.thread_machine.specs.World.{world_of};
-ghost use Rattle.thread_machine.specs.Step.{refusal_of};
-ghost use Rattle.trace_text.specs.State.{state_text};
-ghost use Rattle.trace_text.specs.Trace.{lines_of};
 ghost use Rattle.debugger.specs.declared.stop.Stop.{Stop};
-ghost use Rattle.debugger.specs.Command.{MayWantMemory, Back, Break, Clear, Go, Step, goes_on, line_order, order_of, wants_memory};
-ghost use Rattle.debugger.specs.Reply.{IsCarriedOut, IsStepUnless, number_line, stop_text};
+ghost use Rattle.debugger.specs.Command.{MayWantMemory, Back, Break, Clear, Go, Print, Step, Unknown, goes_on, has_tokens, letter_of, line_order, order_of, wants_memory, word_of};
+ghost use Rattle.debugger.specs.Reply.{IsCarriedOut, number_line, stop_text};
 
 use crate::command::{Command, command_of, lone_turn};
 use crate::number_line::{ROOM, put_number_line};
@@ -18,7 +14,8 @@ use schedule_reader::Run;
 use std::alloc::AllocError;
 use std::mem::replace;
 use thread_machine::{Choice, StepFault};
-use trace_text::line::{event_line, refusal_line};
+use trace_text::line::{put_event, put_refusal};
+use trace_text::line_end::LineEnd;
 use trace_text::state::state_text;
 
 /// Why a command was not carried out, or its reply not written.
@@ -78,7 +75,7 @@ fn say_fault<W: Sink>(output: &mut W, number: u64, fault: StepFault) -> Result<(
     }
 }
 
-/// Writes how far `go` went: the reply of the command `g`.
+/// Writes how far `go` went: the reply of the command `g`. It fails where the output has failed.
 pub fn say_stop<W: Sink>(output: &mut W, stop: Stop) -> Result<(), Failed>
     ensures line { OnOk result (Appends (W.written output.old) (W.written output.new) (stop_text stop)) }
     ensures failed { OnErr result (IsTrue (W.has_failed output.new)) }
@@ -104,65 +101,60 @@ fn say_row<W: Sink>(output: &mut W, is_there: bool, word: &[u8], row: usize) -> 
     }
 }
 
-/// The reply to a line that is no command.
-fn say_unknown<W: Sink>(output: &mut W) -> Result<(), CommandFault>
-    ensures line { OnOk result (Appends (W.written output.old) (W.written output.new) (codes "?\n")) }
-    ensures write { OnErr result (IsTrue (W.has_failed output.new)) }
-    ensures fault { result ≢ Err CommandFault.Memory }
+/// Writes a line that is made.
+fn say_line<W: Sink>(output: &mut W, line: &LineEnd) -> Result<(), CommandFault>
+    ensures line { OnOk result (Appends (W.written output.old) (W.written output.new) line.now) }
+    ensures fault { IfErr result (λ fault. (fault ≡ CommandFault.Write) × IsTrue (W.has_failed output.new)) }
 {
-    output.push(b"?\n")?;
-    Ok(())
+    match output.push(line.as_slice()) {
+        Ok(()) => Ok(()),
+        Err(_) => Err(CommandFault::Write),
+    }
+}
+
+/// The session goes on behind a command that is done so, unless it has failed.
+fn going_on(done: Result<(), CommandFault>) -> Result<bool, CommandFault>
+    ensures more { IfOk result (λ more. (more ≡ true) × (done ≡ Ok tt)) }
+    ensures fault { IfErr result (λ fault. done ≡ Err fault) }
+{
+    match done {
+        Ok(()) => Ok(true),
+        Err(fault) => Err(fault),
+    }
 }
 
 impl Debugger {
-    /// Plays a choice and puts its line at the end of the text. Where the line finds no memory, the choice is taken back.
-    fn step_line(&mut self, line: &mut Vec<u8>, choice: Choice) -> Result<(), AllocError>
-        ensures session { OnOk result
-            (IsStepUnless (refusal_of (world_of self.old.machine) choice) self.old choice self.new) }
-        ensures line { OnOk result (line.new.items
-            ≡ line.old.items ++ lines_of (world_of self.old.machine) (choice ∷ [])) }
-        ensures err { OnErr result (self.new ≡ self.old) }
+    /// Plays a choice as the command `s` does, and writes its line. It takes no memory but for what is put out.
+    fn step_command<W: Sink>(&mut self, choice: Choice, output: &mut W) -> Result<(), CommandFault>
+        ensures { IsCarriedOut (wants_memory (Step choice) ≡ true) result self.old (Step choice) self.new
+            (W.written output.old) (W.written output.new) (W.has_failed output.new) }
     {
         let number = self.played.choices() + 1;
-        if choice.thread as usize >= self.played.thread_count() {
-            return refusal_line(line, number, choice, None);
+        let mut line = LineEnd::new();
+        if usize::from(choice.thread) >= self.played.thread_count() {
+            put_refusal(&mut line, number, choice, None);
+            return say_line(output, &line);
         }
         let pc = self.played.pc(choice.thread);
         match self.played.step_into(choice, &mut self.spare) {
-            Ok(event) => match event_line(line, number, choice, pc, &event) {
-                Ok(()) => {
-                    self.undos.push(&mut self.spare);
-                    Ok(())
-                }
-                Err(error) => {
-                    self.played.take_back(&self.spare);
-                    Err(error)
-                }
-            },
-            Err(StepFault::Memory) => Err(AllocError),
-            Err(_) => refusal_line(line, number, choice, Some(pc)),
+            Ok(event) => {
+                self.undos.push(&mut self.spare);
+                put_event(&mut line, number, choice, pc, &event);
+                say_line(output, &line)
+            }
+            Err(StepFault::Memory) => Err(CommandFault::Memory),
+            Err(_) => {
+                put_refusal(&mut line, number, choice, Some(pc));
+                say_line(output, &line)
+            }
         }
     }
 
-    fn step_command<W: Sink>(&mut self, choice: Choice, output: &mut W) -> Result<(), CommandFault>
-        ensures replies { result ≢ Err CommandFault.Memory → IsCarriedOut result self.old (Step choice) self.new
-            (W.written output.old) (W.written output.new) }
-        ensures memory { result ≡ Err CommandFault.Memory
-            → (self.new ≡ self.old) × (W.written output.new ≡ W.written output.old) }
-        ensures write { result ≡ Err CommandFault.Write → IsTrue (W.has_failed output.new) }
-    {
-        let mut line = Vec::new(self.alloc);
-        self.step_line(&mut line, choice)?;
-        output.push(line.as_slice())?;
-        Ok(())
-    }
-
-    /// Plays the choices of runs as the command `g` does, and writes its reply. It takes no memory.
+    /// Plays the choices of runs as the command `g` does, and writes its reply. It takes no memory but for what is put out, and
+    /// fails only where the reply can't be written.
     pub fn go_command<W: Sink>(&mut self, runs: &[Run], output: &mut W) -> Result<(), CommandFault>
-        ensures replies { IsCarriedOut result self.old (Go runs.now) self.new
-            (W.written output.old) (W.written output.new) }
-        ensures write { OnErr result (IsTrue (W.has_failed output.new)) }
-        ensures fault { result ≢ Err CommandFault.Memory }
+        ensures { IsCarriedOut ⊥ result self.old (Go runs.now) self.new
+            (W.written output.old) (W.written output.new) (W.has_failed output.new) }
     {
         let stop = self.go(runs);
         match say_stop(output, stop) {
@@ -171,10 +163,10 @@ impl Debugger {
         }
     }
 
+    /// Takes back the last choice as the command `b` does, and writes its reply.
     fn back_command<W: Sink>(&mut self, output: &mut W) -> Result<(), CommandFault>
-        ensures replies { IsCarriedOut result self.old Back self.new (W.written output.old) (W.written output.new) }
-        ensures write { OnErr result (IsTrue (W.has_failed output.new)) }
-        ensures fault { result ≢ Err CommandFault.Memory }
+        ensures { IsCarriedOut ⊥ result self.old Back self.new
+            (W.written output.old) (W.written output.new) (W.has_failed output.new) }
     {
         match self.back() {
             Ok(()) => say(output, b"back ", self.machine().choices(), b"\n")?,
@@ -183,113 +175,81 @@ impl Debugger {
         Ok(())
     }
 
+    /// Sets a breakpoint as the command `k` does, and writes its reply.
     fn break_command<W: Sink>(&mut self, row: usize, output: &mut W) -> Result<(), CommandFault>
-        ensures replies { IsCarriedOut result self.old (Break row) self.new
-            (W.written output.old) (W.written output.new) }
-        ensures write { OnErr result (IsTrue (W.has_failed output.new)) }
-        ensures fault { result ≢ Err CommandFault.Memory }
+        ensures { IsCarriedOut ⊥ result self.old (Break row) self.new
+            (W.written output.old) (W.written output.new) (W.has_failed output.new) }
     {
         let is_there = self.marks.put(row, true);
         say_row(output, is_there, b"break ", row)?;
         Ok(())
     }
 
+    /// Clears a breakpoint as the command `c` does, and writes its reply.
     fn clear_command<W: Sink>(&mut self, row: usize, output: &mut W) -> Result<(), CommandFault>
-        ensures replies { IsCarriedOut result self.old (Clear row) self.new
-            (W.written output.old) (W.written output.new) }
-        ensures write { OnErr result (IsTrue (W.has_failed output.new)) }
-        ensures fault { result ≢ Err CommandFault.Memory }
+        ensures { IsCarriedOut ⊥ result self.old (Clear row) self.new
+            (W.written output.old) (W.written output.new) (W.has_failed output.new) }
     {
         let is_there = self.marks.put(row, false);
         say_row(output, is_there, b"clear ", row)?;
         Ok(())
     }
 
+    /// Writes the machine's state.
     fn print_command<W: Sink>(&self, output: &mut W) -> Result<(), CommandFault>
-        ensures text { OnOk result (Appends (W.written output.old) (W.written output.new)
-            (state_text (world_of self.now.machine))) }
-        ensures memory { result ≡ Err CommandFault.Memory → W.written output.new ≡ W.written output.old }
-        ensures write { result ≡ Err CommandFault.Write → IsTrue (W.has_failed output.new) }
+        ensures { IsCarriedOut (wants_memory Print ≡ true) result self.now Print self.now
+            (W.written output.old) (W.written output.new) (W.has_failed output.new) }
     {
         let text = state_text(self.alloc, self.machine())?;
         output.push(text.as_slice())?;
         Ok(())
     }
 
-    /// Carries out a command and writes its reply.
-    fn carry_out<W: Sink>(&mut self, command: Command, output: &mut W) -> Result<(), CommandFault>
-        ensures replies { result ≢ Err CommandFault.Memory → IsCarriedOut result self.old (order_of command) self.new
-            (W.written output.old) (W.written output.new) }
-        ensures memory { result ≡ Err CommandFault.Memory
-            → (self.new ≡ self.old) × (W.written output.new ≡ W.written output.old) }
-        ensures write { result ≡ Err CommandFault.Write → IsTrue (W.has_failed output.new) }
-        ensures wants { result ≡ Err CommandFault.Memory → wants_memory (order_of command) ≡ true }
+    /// Writes `?`, the reply to a line that is no command.
+    fn unknown_command<W: Sink>(&self, output: &mut W) -> Result<(), CommandFault>
+        ensures { IsCarriedOut ⊥ result self.now Unknown self.now
+            (W.written output.old) (W.written output.new) (W.has_failed output.new) }
     {
-        match command {
-            Command::Step(choice) => self.step_command(choice, output),
-            Command::Go(runs) => {
-                let done = self.go_command(runs.as_slice(), output);
-                self.room = runs;
-                done
-            }
-            Command::Back => self.back_command(output),
-            Command::Break(row) => self.break_command(row, output),
-            Command::Clear(row) => self.clear_command(row, output),
-            Command::Print => self.print_command(output),
-            Command::Quit => Ok(()),
-            Command::Unknown => say_unknown(output),
-        }
+        output.push(b"?\n")?;
+        Ok(())
     }
 
-    /// The room for the runs of a line. `go` puts it back.
-    fn take_room(&mut self) -> Vec<Run>
-        ensures { self.new ≡ self.old }
-    {
-        replace(&mut self.room, Vec::new(self.alloc))
-    }
-
-    /// `command`, of a line that isn't `g` and one turn. It stands apart, so that such a line doesn't pay for its room.
+    /// Reads a line. The runs of its tokens stand in the room that the debugger keeps for them; `g` puts it back.
     #[inline(never)]
-    fn command_of_words<W: Sink>(
-        &mut self,
-        line: &[u8],
-        output: &mut W,
-    ) -> Result<bool, CommandFault>
-        ensures replies { result ≢ Err CommandFault.Memory → IsCarriedOut result self.old (line_order line.now) self.new
-            (W.written output.old) (W.written output.new) }
-        ensures goes_on { IfOk result (λ more. more ≡ goes_on (line_order line.now)) }
-        ensures memory { result ≡ Err CommandFault.Memory
-            → (self.new ≡ self.old) × (W.written output.new ≡ W.written output.old) }
-        ensures write { result ≡ Err CommandFault.Write → IsTrue (W.has_failed output.new) }
-        ensures wants { result ≡ Err CommandFault.Memory → MayWantMemory line.now }
+    fn read(&mut self, line: &[u8]) -> Result<Command, AllocError>
+        ensures session { self.new ≡ self.old }
+        ensures order { IfOk result (λ command. order_of command ≡ line_order line.now) }
+        ensures wants { OnErr result (has_tokens (letter_of (word_of line.now)) ≡ true) }
     {
-        let room = self.take_room();
-        let command = command_of(room, line)?;
-        let goes_on = command.goes_on();
-        match self.carry_out(command, output) {
-            Ok(()) => Ok(goes_on),
-            Err(fault) => Err(fault),
-        }
+        let room = replace(&mut self.room, Vec::new(self.alloc));
+        command_of(room, line)
     }
 
     /// Carries out the command of a line and writes its reply; false after `q`. The line is read whole before anything is
     /// done, so one that is no command leaves the debugger as before. After `Write` the command was carried out, and how much
     /// of its reply went out is left open; after `Memory` it was not, and nothing was written.
     pub fn command<W: Sink>(&mut self, line: &[u8], output: &mut W) -> Result<bool, CommandFault>
-        ensures replies { result ≢ Err CommandFault.Memory → IsCarriedOut result self.old (line_order line.now) self.new
-            (W.written output.old) (W.written output.new) }
+        ensures outcome { IsCarriedOut (MayWantMemory line.now) result self.old (line_order line.now) self.new
+            (W.written output.old) (W.written output.new) (W.has_failed output.new) }
         ensures goes_on { IfOk result (λ more. more ≡ goes_on (line_order line.now)) }
-        ensures memory { result ≡ Err CommandFault.Memory
-            → (self.new ≡ self.old) × (W.written output.new ≡ W.written output.old) }
-        ensures write { result ≡ Err CommandFault.Write → IsTrue (W.has_failed output.new) }
-        ensures wants { result ≡ Err CommandFault.Memory → MayWantMemory line.now }
     {
-        let Some(run) = lone_turn(line) else {
-            return self.command_of_words(line, output);
-        };
-        match self.go_command(&[run], output) {
-            Ok(()) => Ok(true),
-            Err(fault) => Err(fault),
+        if let Some(run) = lone_turn(line) {
+            self.go_command(&[run], output)?;
+            return Ok(true);
+        }
+        match self.read(line)? {
+            Command::Step(choice) => going_on(self.step_command(choice, output)),
+            Command::Go(runs) => {
+                let done = self.go_command(runs.as_slice(), output);
+                self.room = runs;
+                going_on(done)
+            }
+            Command::Back => going_on(self.back_command(output)),
+            Command::Break(row) => going_on(self.break_command(row, output)),
+            Command::Clear(row) => going_on(self.clear_command(row, output)),
+            Command::Print => going_on(self.print_command(output)),
+            Command::Quit => Ok(false),
+            Command::Unknown => going_on(self.unknown_command(output)),
         }
     }
 }

@@ -54,6 +54,7 @@ pub fn push_row(text: &mut Vec<u8>, row: Row) -> Result<(), AllocError>
     text.extend_from_slice(line.as_slice())
 }
 
+/// Appends a line for each row, in order. It fails where no memory is left.
 #[tactic(auto, using(crate::proofs::ListedTexts::text_steps))]
 pub(crate) fn push_rows(text: &mut Vec<u8>, rows: &[Row]) -> Result<(), AllocError>
     ensures text { OnOk result (text.new.items

@@ -10,9 +10,9 @@ pub const DIRECTIVES: [&str; 5] = [".phaser", ".barrier", ".thread", ".cell", ".
 const PHASER: WordEntry = WordEntry {
     word: ".phaser",
     form: ".phaser NAME PARTIES [parent P] [phase N] [never | until N | onadvance L]",
-    operands: "NAME: its name; PARTIES: 0 to 65535, children not counted; [..] may be left out, and stands in this order",
+    operands: "NAME: its name; PARTIES: 0 to 65535, without children; [..]: optional, in this order",
     java: "new Phaser(parent, parties)",
-    means: "makes the next phaser; `never`, `until N` and `onadvance L` say when a phase's end terminates it",
+    means: "makes the next phaser; `never`, `until N` and `onadvance L` say when it terminates at the end of a phase",
     event: "none",
     example: ".phaser house 1 phase 3 until 9\n.phaser room 1 parent house\n.thread ann main\nmain: parr r0 room\nhalt\n.run\nt0*2",
 };
@@ -20,7 +20,7 @@ const PHASER: WordEntry = WordEntry {
 const BARRIER: WordEntry = WordEntry {
     word: ".barrier",
     form: ".barrier NAME PARTIES [action L]",
-    operands: "NAME: its name; PARTIES: 1 to 65535; [action L]: the last to come plays the rows from L on, to their `ret`",
+    operands: "NAME: its name; PARTIES: 1 to 65535; [action L]: the last to arrive runs the rows from L to their `ret`",
     java: "new CyclicBarrier(parties, action)",
     means: "makes the next cyclic barrier",
     event: "none",
@@ -30,7 +30,7 @@ const BARRIER: WordEntry = WordEntry {
 const THREAD: WordEntry = WordEntry {
     word: ".thread",
     form: ".thread NAME L",
-    operands: "NAME: its name; L: the row that it begins at, a label or # and a number",
+    operands: "NAME: its name; L: its first row, a label or # and a number",
     java: "new Thread(..).start()",
     means: "makes the next thread; the first is t0",
     event: "none",
@@ -42,7 +42,7 @@ const CELL: WordEntry = WordEntry {
     form: ".cell NAME",
     operands: "NAME: its name",
     java: "a field that threads share",
-    means: "makes the next shared cell, which holds 0",
+    means: "makes the next shared cell, with the value 0",
     event: "none",
     example: ".thread ann main\n.cell total\nmain: ldi r0 5\nsts r0 total\nhalt\n.run\nt0*3",
 };
@@ -50,9 +50,9 @@ const CELL: WordEntry = WordEntry {
 const RUN: WordEntry = WordEntry {
     word: ".run",
     form: ".run",
-    operands: "none; it stands alone in its line",
+    operands: "none; it is alone on its line",
     java: "none",
-    means: "ends the program; what follows is its schedule: `t0` a turn of thread 0, `t0*3` three, `x0` the end of its time",
+    means: "ends the program; its schedule follows: `t0` is a turn of thread 0, `t0*3` three turns, `x0` its timeout",
     event: "none",
     example: ".thread ann main\nmain: halt\n.run\nt0",
 };

@@ -5,7 +5,7 @@ use Rattle.line_reader.specs.FirstLine.{after_line, first_line}
 use Rattle.line_reader.specs.Words.{lines_of}
 use Rattle.assembler.specs.Passes.{lines_read, behind}
 use Rattle.assembler.specs.Reading.{line_behind}
-use Rattle.assembler.proofs.FirstPass.{next_line, no_lines, one_left, one_more, one_less, all_read, some_text}
+use Rattle.assembler.proofs.FirstPass.{next_line, no_lines, one_left, none_left, one_more, one_less, all_read, some_text}
 use Rattle.assembler.proofs.ReadLines.{fails_then}
 use Rattle.line_reader.proofs.FirstLines.{lines_first}
 use Rattle.assembler.proofs.first_pass.lines_read.Goals as goal
@@ -19,8 +19,8 @@ loop-rest-init c = record {
   room = omega arith;
 }
 
-pub returns-in-Err : goal.returns-in-Err
-returns-in-Err c =
+pub returns-in-Err-clause-read : goal.returns-in-Err-clause-read
+returns-in-Err-clause-read c =
     let before = c.loop-rest.invariant in
     let rest = c.loop-rest.rest.now in
     let k = c.loop-rest.number in
@@ -31,11 +31,17 @@ returns-in-Err c =
     next_line (lines_of c.args.text.now) k draft line more before.met
     (sym before.left ∙ lines_first rest (some_text rest c.loop-rest-test.ensures)) in
     let fault : AsmFault = record { line = k + 1; kind = c.in-Err.kind } in
-    record {
-      read = subst (λ r. FailsAt fault.kind fault r) (sym next)
-          (fails_then fault.kind fault (behind draft (k + 1) (line_behind draft line))
-          (λ lines. lines_read (k + 1 + 1) lines more) c.in-Err.ensures.read);
-    }
+    subst (λ r. FailsAt fault.kind fault r) (sym next)
+    (fails_then fault.kind fault (behind draft (k + 1) (line_behind draft line))
+    (λ lines. lines_read (k + 1 + 1) lines more) c.in-Err.ensures.read)
+
+pub returns-in-Err-clause-line : goal.returns-in-Err-clause-line
+returns-in-Err-clause-line c =
+    let before = c.loop-rest.invariant in
+    let rest = c.loop-rest.rest.now in
+    let within = one_left (lines_of c.args.text.now) c.loop-rest.number (first_line rest) (lines_of (after_line rest))
+    (sym before.left ∙ lines_first rest (some_text rest c.loop-rest-test.ensures)) in
+    (omega arith, omega (arith, within))
 
 pub loop-rest-preserved : goal.loop-rest-preserved
 loop-rest-preserved c =
@@ -53,10 +59,14 @@ loop-rest-preserved c =
       room = omega (arith, before.room, c.in-Ok.ensures.shorter);
     }
 
-pub returns : goal.returns
-returns c =
+pub returns-clause-read : goal.returns-clause-read
+returns-clause-read c =
     let before = c.loop-rest.invariant in
-    record {
-      read = all_read (lines_of c.args.text.now) c.loop-rest.number c.loop-rest.draft before.met
-          (sym before.left ∙ no_lines c.loop-rest.rest.now c.loop-rest-test.ensures);
-    }
+    all_read (lines_of c.args.text.now) c.loop-rest.number c.loop-rest.draft before.met
+    (sym before.left ∙ no_lines c.loop-rest.rest.now c.loop-rest-test.ensures)
+
+pub returns-clause-lines : goal.returns-clause-lines
+returns-clause-lines c =
+    let before = c.loop-rest.invariant in
+    none_left (lines_of c.args.text.now) c.loop-rest.number before.count
+    (sym before.left ∙ no_lines c.loop-rest.rest.now c.loop-rest-test.ensures)

@@ -1,23 +1,11 @@
-use Rattle.std.proofs.Common.{rules, ◌≡◌}
-use Rattle.commands.specs.Pictures.{program_of}
-use Rattle.commands.proofs.PlanParts.{none_planned, plan_written}
+use Rattle.std.proofs.Common.{refl}
+use Rattle.std.specs.Prelude.{Ok}
+use Rattle.commands.proofs.PlanParts.{comes_of_plan, plan_written}
 use Rattle.commands.proofs.plan.plan.Goals as goal
-
-pub returns-in-Err-clause-refused : goal.returns-in-Err-clause-refused
-returns-in-Err-clause-refused g c =
-    let is : c.parts_of.result.0.now ≡ program_of c.in_ok-bytes.bytes.items = search rules in
-    let also : c.as_slice-2.result.now ≡ c.in_ok-steps.steps.items = search rules in
-    λ three.
-    none_planned c.in-Err.reason c.in_ok-bytes.bytes.items c.in_ok-steps.steps.items c.parts_of.result.0.now c.as_slice-2.result.now
-    _ _ _ _ (c.in_ok-bytes.ensures.bytes, c.in_ok-bytes.ensures.end, c.in_ok-bytes.ensures.few)
-    (c.in_ok-steps.ensures.bytes, c.in_ok-steps.ensures.end, c.in_ok-steps.ensures.few) is also (c.in-Err.ensures.refused three)
 
 pub returns-clause-done : goal.returns-clause-done
 returns-clause-done g c =
-    let is : c.parts_of.result.0.now ≡ program_of c.in_ok-bytes.bytes.items = search rules in
-    let also : c.as_slice-2.result.now ≡ c.in_ok-steps.steps.items = search rules in
-    plan_written c.in_ok-push_planned.field-0 c.in-Ok.planned c.in_ok-bytes.bytes.items c.in_ok-steps.steps.items
-    c.parts_of.result.0.now c.as_slice-2.result.now _ _ _ _ _ _
-    (c.in_ok-bytes.ensures.bytes, c.in_ok-bytes.ensures.end, c.in_ok-bytes.ensures.few)
-    (c.in_ok-steps.ensures.bytes, c.in_ok-steps.ensures.end, c.in_ok-steps.ensures.few) is also c.in-Ok.ensures.planned c.in-Ok.ensures.runs
-    c.in_ok-push_planned.ensures.stopped c.in_ok-push_planned.ensures.bytes
+    plan_written c.in_ok-push_planned.field-0 c.in-Ok.planned c.args.program c.args.plan.now _ _
+    (comes_of_plan c.args.program c.args.program.image c.in_ok-loaded.loaded c.in_ok-loaded.names.items c.as_slice.result.now c.args.plan.now
+    (Ok c.in-Ok.planned) refl c.as_slice.ensures.value c.in_ok-loaded.ensures.program c.in_ok-loaded.ensures.names c.in-Ok.ensures.planned)
+    c.in-Ok.ensures.runs c.in_ok-push_planned.ensures.stopped c.in_ok-push_planned.ensures.bytes

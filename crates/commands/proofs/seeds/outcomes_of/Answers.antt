@@ -1,4 +1,5 @@
-use Rattle.std.proofs.Common.{◌∷◌, [], ◌++◌, arith, refl, subst, sym}
+use Rattle.std.proofs.Common.{◌∷◌, [], ◌++◌, arith, map, refl, subst, sym}
+use Rattle.line_reader.specs.Seen.{name_seen}
 use Rattle.std.proofs.lemmas.List.{length-append}
 use Rattle.commands.specs.Outcomes.{AreOutcomes, is_state}
 use Rattle.commands.specs.Seeds.{IsEndBy}
@@ -10,11 +11,11 @@ use Rattle.commands.proofs.seeds.outcomes_of.Goals as goal
 pub loop-number-init : goal.loop-number-init
 loop-number-init c = ([], (refl, tt, subst (AreOutcomes []) (sym c.new-outcomes.ensures.empty) nothing))
 
-pub add_order-requires : goal.add_order-requires
-add_order-requires c = λ other.
+pub add_order-requires-clause-few : goal.add_order-requires-clause-few
+add_order-requires-clause-few c = λ other.
     let so = c.loop-number.invariant in
     few so.0 (get is_state c.loop-number.outcomes other) other.text.items (so.1.2.1 other)
-    (omega (arith, so.1.0, c.loop-number-test.true, c.requires))
+    (omega (arith, so.1.0, c.loop-number-test.true, c.requires.few))
 
 pub loop-number-preserved : goal.loop-number-preserved
 loop-number-preserved c =
@@ -24,8 +25,8 @@ loop-number-preserved c =
       so.0 ++ more.0 ∷ [],
       (
         omega (arith, count, so.1.0),
-        one_more c.args.program.now c.args.plan.now c.args.seeds.first so.0 more.0 so.1.1
-            (subst (λ n. IsEndBy c.args.program.now c.args.plan.now n more.0) (omega (arith, so.1.0, c.from.ensures, c.from-in-loop-number.ensures)) more.1.0),
+        one_more c.args.program.now (map name_seen c.args.names.now) c.args.plan.now c.args.seeds.first so.0 more.0 so.1.1
+            (subst (λ n. IsEndBy c.args.program.now (map name_seen c.args.names.now) c.args.plan.now n more.0) (omega (arith, so.1.0, c.from.ensures, c.from-in-loop-number.ensures)) more.1.0),
         more.1.1,
       ),
     )

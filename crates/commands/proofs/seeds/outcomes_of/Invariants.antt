@@ -1,4 +1,5 @@
-use Rattle.std.proofs.Common.{◌≡◌, List, length}
+use Rattle.std.proofs.Common.{◌≡◌, List, length, map}
+use Rattle.line_reader.specs.Seen.{name_seen}
 use Rattle.commands.specs.Outcomes.{AreOutcomes, Ended}
 use Rattle.commands.specs.Seeds.{AreEndsBy}
 use Rattle.commands.proofs.seeds.outcomes_of.Given as goal
@@ -7,4 +8,4 @@ use Rattle.commands.proofs.seeds.outcomes_of.Given as goal
 abbrev pub invariant-loop-number : goal.invariant-loop-number
 invariant-loop-number l =
     (runs : List Ended) × ((length runs ≡ l.number)
-    × AreEndsBy l.fn.program l.fn.plan l.fn.seeds.first runs × AreOutcomes runs l.outcomes.entries)
+    × AreEndsBy l.fn.program (map name_seen l.fn.names) l.fn.plan l.fn.seeds.first runs × AreOutcomes runs l.outcomes.entries)

@@ -12,21 +12,21 @@ loop-init g c =
     let now = c.args.now.now in
     let left = g.S.Source.left c.args.trace.now in
     record {
-      come = subst (λ (lines : Lines). HasComeTo now now lines 0 left left) (sym c.in-Ok.ensures) (come-first now left c.requires.number);
+      come = subst (λ (lines : Lines). HasComeTo now now lines 0 left left) (sym c.requires.lines) (come-first now left c.requires.number);
       number = omega (arith, c.requires.number);
       at = c.requires.at;
       short = c.requires.short;
       reads = omega arith;
-      within = omega (arith, ap (λ (lines : Lines). lines.reads) c.in-Ok.ensures);
+      within = omega (arith, ap (λ (lines : Lines). lines.reads) c.requires.lines);
       sound = λ sound. sound;
     }
 
 pub returns-in-Err-read_line-clause-read : goal.returns-in-Err-read_line-clause-read
 returns-in-Err-read_line-clause-read g c = λ _.
     let own =
-    come-over c.args.now.now c.loop.now c.take_own_lines.new.self c.loop.lines c.skip.new.self c.loop.counter c.in-Ok-take_own_lines.count
+    come-over c.args.now.now c.loop.now c.take_own_lines.new.self c.loop.lines c.skip.new.self c.loop.counter c.in-Ok.count
     (g.S.Source.left c.args.trace.now) (g.S.Source.left c.loop.trace) c.held.result.now c.loop.invariant.come c.held.ensures.value
-    c.in-Ok-take_own_lines.ensures c.skip.ensures.held c.skip.ensures.reads in
+    c.in-Ok.ensures c.skip.ensures.held c.skip.ensures.reads in
     or_else c.in-Err-read_line.ensures.failed (λ p.
     gone-on own.bytes c.skip.new.self c.read_line.new.self (g.S.Source.left c.args.trace.now) (g.S.Source.left c.loop.trace)
     (g.S.Source.left c.read_line.new.source) own.gone (c.in-Err-read_line.ensures.bytes, p.1) p.0)
@@ -34,9 +34,9 @@ returns-in-Err-read_line-clause-read g c = λ _.
 pub returns-in-Ok-Some-clause-verdict : goal.returns-in-Ok-Some-clause-verdict
 returns-in-Ok-Some-clause-verdict g c =
     let own =
-    come-over c.args.now.now c.loop.now c.take_own_lines.new.self c.loop.lines c.skip.new.self c.loop.counter c.in-Ok-take_own_lines.count
+    come-over c.args.now.now c.loop.now c.take_own_lines.new.self c.loop.lines c.skip.new.self c.loop.counter c.in-Ok.count
     (g.S.Source.left c.args.trace.now) (g.S.Source.left c.loop.trace) c.held.result.now c.loop.invariant.come c.held.ensures.value
-    c.in-Ok-take_own_lines.ensures c.skip.ensures.held c.skip.ensures.reads in
+    c.in-Ok.ensures c.skip.ensures.held c.skip.ensures.reads in
     let judged =
     subst (λ (v : Option Verdict). HasJudged c.take_own_lines.new.self c.take_ended.new.self c.in-Ok-read_line.ended c.read_line.new.self.line v)
     c.in-Ok-Some.field-0-is
@@ -50,9 +50,9 @@ returns-in-Ok-Some-clause-verdict g c =
 pub returns-in-Ok-Some-clause-far : goal.returns-in-Ok-Some-clause-far
 returns-in-Ok-Some-clause-far g c =
     let own =
-    come-over c.args.now.now c.loop.now c.take_own_lines.new.self c.loop.lines c.skip.new.self c.loop.counter c.in-Ok-take_own_lines.count
+    come-over c.args.now.now c.loop.now c.take_own_lines.new.self c.loop.lines c.skip.new.self c.loop.counter c.in-Ok.count
     (g.S.Source.left c.args.trace.now) (g.S.Source.left c.loop.trace) c.held.result.now c.loop.invariant.come c.held.ensures.value
-    c.in-Ok-take_own_lines.ensures c.skip.ensures.held c.skip.ensures.reads in
+    c.in-Ok.ensures c.skip.ensures.held c.skip.ensures.reads in
     let far =
     read-behind c.args.now.now c.take_own_lines.new.self c.skip.new.self c.read_line.new.self c.loop.counter
     (g.S.Source.left c.args.trace.now) (g.S.Source.left c.loop.trace) (g.S.Source.left c.read_line.new.source) _ own
@@ -69,11 +69,11 @@ returns-in-Ok-Some-clause-far g c =
 pub loop-preserved : goal.loop-preserved
 loop-preserved g c =
     let inv = c.loop.invariant in
-    let over = c.in-Ok-take_own_lines.ensures in
+    let over = c.in-Ok.ensures in
     let own =
-    come-over c.args.now.now c.loop.now c.take_own_lines.new.self c.loop.lines c.skip.new.self c.loop.counter c.in-Ok-take_own_lines.count
+    come-over c.args.now.now c.loop.now c.take_own_lines.new.self c.loop.lines c.skip.new.self c.loop.counter c.in-Ok.count
     (g.S.Source.left c.args.trace.now) (g.S.Source.left c.loop.trace) c.held.result.now c.loop.invariant.come c.held.ensures.value
-    c.in-Ok-take_own_lines.ensures c.skip.ensures.held c.skip.ensures.reads in
+    c.in-Ok.ensures c.skip.ensures.held c.skip.ensures.reads in
     let far =
     read-behind c.args.now.now c.take_own_lines.new.self c.skip.new.self c.read_line.new.self c.loop.counter
     (g.S.Source.left c.args.trace.now) (g.S.Source.left c.loop.trace) (g.S.Source.left c.read_line.new.source) _ own

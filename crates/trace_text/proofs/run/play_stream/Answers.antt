@@ -1,4 +1,5 @@
-use Rattle.std.proofs.Common.{◌≡◌, ◌++◌, ◌<◌, ◌≤◌, Bool, Result, Ok, take, length, refl, arith, rules}
+use Rattle.std.proofs.Common.{◌≡◌, ◌++◌, ◌<◌, ◌≤◌, Option, Result, Ok, take, length, refl, arith, rules}
+use Rattle.trace_text.specs.declared.play.Refused.{Refused}
 use Rattle.trace_text.specs.declared.run.RunFault.{RunFault}
 use Rattle.std.proofs.lemmas.List.{length-take}
 use Rattle.std.proofs.KnownBytes.{Consumes-trans}
@@ -58,7 +59,7 @@ loop-preserved g c =
     let consumed = Consumes-trans _ _ _ bytes _ stream.1.0 c.in-Ok.ensures.bytes.0 in
     let some : 0 < c.in-Ok.count = omega (arith, c.if-count-eq0.false) in
     let size : length c.pull.new.buffer ≡ 4096 = search rules in
-    let played : Result Bool RunFault = Ok c.in-Ok-play_told.all in
+    let played : Result (Option Refused) RunFault = Ok c.in-Ok-play_told.last in
     record {
       empty = c.play_told-in-loop.ensures.runs;
       few = omega (arith, f.read, c.loop.invariant.few, size, length-take c.in-Ok.count c.pull.new.buffer, c.in-Ok.ensures.bound);

@@ -12,5 +12,5 @@ invariant-loop g l = record {
   reads : g.S.Source.reads l.schedule ≤ g.S.Source.reads l.fn.schedule + l.counter;
   stream : (bytes : List ℕ) × (Consumes (g.S.Source.left l.fn.schedule) (g.S.Source.left l.schedule) bytes
       × (l.counter ≤ length bytes)
-      × IsUpTo (world_of l.fn.machine) (world_of l.machine) bytes l.reader l.accepted (g.W.Sink.written l.fn.output) (g.W.Sink.written l.output));
+      × IsUpTo (world_of l.fn.machine) (world_of l.machine) bytes l.reader l.refused (g.W.Sink.written l.fn.output) (g.W.Sink.written l.output));
 }

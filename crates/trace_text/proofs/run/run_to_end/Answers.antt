@@ -3,7 +3,7 @@ use Rattle.thread_machine.specs.World.{world_of}
 use Rattle.trace_text.specs.declared.play.PlayFault.{PlayFault}
 use Rattle.trace_text.specs.declared.run_end.RunEnd.{RunEnd}
 use Rattle.trace_text.specs.Outcome.{Stops}
-use Rattle.trace_text.proofs.Streams.{ended, stops, tells_end, unfinished}
+use Rattle.trace_text.proofs.Streams.{ended, stops, unfinished}
 use Rattle.trace_text.proofs.run.run_to_end.Goals as goal
 
 pub returns-in-Err-clause-outcome : goal.returns-in-Err-clause-outcome
@@ -13,14 +13,13 @@ returns-in-Err-clause-outcome g c =
 pub returns-in-Ok-push_end-clause-outcome : goal.returns-in-Ok-push_end-clause-outcome
 returns-in-Ok-push_end-clause-outcome g c =
     let result : Result RunEnd PlayFault = Ok c.in-Ok-push_end.end in
-    let last = world_of c.play_stream.new.machine in
-    let all = c.in-Ok-play_stream.accepted in (
+    let last = world_of c.play_stream.new.machine in (
       world_of c.in-Ok.machine,
       (
         c.in-Ok.ensures.machine,
         c.in-Ok-play_stream.ensures.sound,
-        ended result (world_of c.in-Ok.machine) last all _ _ _ _ _ c.in-Ok-play_stream.ensures.done
-            (tells_end result last all _ c.refused_in.ensures.is c.in-Ok-push_end.ensures.tells) c.in-Ok-push_end.ensures.state,
+        ended result (world_of c.in-Ok.machine) last c.in-Ok-play_stream.refused _ _ _ _ _ c.in-Ok-play_stream.ensures.done
+            c.in-Ok-push_end.ensures.tells c.in-Ok-push_end.ensures.state,
       ),
     )
 
@@ -30,5 +29,5 @@ returns-clause-outcome g c =
     (g.S.Source.has_failed c.play_stream.new.schedule) (g.W.Sink.written c.args.output.now) (g.W.Sink.written c.push_end.new.output)
     (g.W.Sink.has_failed c.push_end.new.output)) (sym c.of_play.ensures)
     (unfinished c.in-Err-push_end.fault c.args.image (world_of c.in-Ok.machine) (world_of c.play_stream.new.machine)
-    c.in-Ok-play_stream.accepted _ _ _ _ _ _ _ c.in-Ok.ensures.machine c.in-Ok-play_stream.ensures.done
+    c.in-Ok-play_stream.refused _ _ _ _ _ _ _ c.in-Ok.ensures.machine c.in-Ok-play_stream.ensures.done
     c.in-Ok-play_stream.ensures.sound (λ is. c.in-Err-push_end.ensures.memory (ap Err is)) (λ is. c.in-Err-push_end.ensures.write (ap Err is)))

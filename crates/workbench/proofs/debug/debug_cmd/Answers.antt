@@ -1,16 +1,9 @@
-use Rattle.std.proofs.Common.{Err, ap, inr, refl}
+use Rattle.std.proofs.Common.{Err, inr, refl}
 use Rattle.workbench.proofs.Conversations.{none_given}
-use Rattle.workbench.proofs.Inputs.{unread}
 use Rattle.workbench.proofs.debug.debug_cmd.Goals as goal
 
 pub returns-in-Err-clause-outcome : goal.returns-in-Err-clause-outcome
-returns-in-Err-clause-outcome g c = (
-  Err c.in-Err.fault,
-  (
-    inr (unread c.in-Err.fault _ _ _ c.in-Err.ensures.fault (λ is. c.in-Err.ensures.read (ap Err is)), (refl, refl)),
-    c.settled.ensures,
-  ),
-)
+returns-in-Err-clause-outcome g c = (Err c.in-Err.fault, (inr (c.in-Err.ensures, (refl, refl)), c.settled.ensures))
 
 pub returns-in-Err-clause-few : goal.returns-in-Err-clause-few
 returns-in-Err-clause-few g c = none_given _ _ refl

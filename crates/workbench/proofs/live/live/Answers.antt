@@ -4,17 +4,17 @@ use Rattle.workbench.proofs.live.live.Goals as goal
 
 pub returns-in-Ok-run_loaded : goal.returns-in-Ok-run_loaded
 returns-in-Ok-run_loaded g c =
-    let none = c.in-Ok-loaded.ensures.none in
-    let loaded = c.in-Ok-loaded.ensures.loaded in
-    lived c.args.limit c.args.file.now c.in-Ok.image c.in-Ok-loaded.program _ c.in-Ok-recorded.runs.items c.as_slice.result.now
-    c.in-Ok-run_loaded.end _ _ c.as_slice.ensures.value c.in-Ok-copy.ensures c.in-Ok.ensures.program none loaded
-    c.in-Ok-recorded.ensures.runs (c.in-Ok-recorded.ensures.recorded c.in-Ok.image none loaded) c.in-Ok-run_loaded.ensures.traced
+    let none = c.in-Ok.ensures.none in
+    let loaded = c.in-Ok.ensures.loaded in
+    lived c.args.limit c.args.image c.in-Ok.program _ c.in-Ok-recorded.runs.items c.as_slice.result.now
+    c.in-Ok-run_loaded.end _ _ c.as_slice.ensures.value c.in-Ok-copy.ensures none loaded
+    c.in-Ok-recorded.ensures.runs (c.in-Ok-recorded.ensures.recorded c.args.image none loaded) c.in-Ok-run_loaded.ensures.traced
 
 pub returns-in-Err-Memory : goal.returns-in-Err-Memory
 returns-in-Err-Memory g c =
-    let none = c.in-Ok-loaded.ensures.none in
-    let loaded = c.in-Ok-loaded.ensures.loaded in
-    lived_in_part c.args.limit c.args.file.now c.in-Ok.image c.in-Ok-loaded.program _ c.in-Ok-recorded.runs.items c.as_slice.result.now
+    let none = c.in-Ok.ensures.none in
+    let loaded = c.in-Ok.ensures.loaded in
+    lived_in_part c.args.limit c.args.image c.in-Ok.program _ c.in-Ok-recorded.runs.items c.as_slice.result.now
     (g.K.Sink.written c.args.output.now) (g.K.Sink.written c.run_loaded.new.output) c.as_slice.ensures.value c.in-Ok-copy.ensures
-    c.in-Ok.ensures.program none loaded (c.in-Ok-recorded.ensures.recorded c.in-Ok.image none loaded)
+    none loaded (c.in-Ok-recorded.ensures.recorded c.args.image none loaded)
     (c.run_loaded.ensures.memory (c.in-Err-Memory.is ∙ ap Err c.in-Err-Memory.field-0-is))

@@ -18,7 +18,7 @@ pending_end-requires-clause-room c none =
     room_left (seen (phasers_of inside.phasers)) (seen (phasers_of c.arrive.new.self)) c.args.phaser c.in-Turning.root.0 c.args.t
     (subst (λ (s : StoredScene). (has_routine c.args.phaser (scene_of s) && is_full (thread_at (scene_of s) c.args.t)) ≡ false)
     (sym c.self.view_is) c.requires.room)
-    c.arrive.ensures.places c.in-Turning.ensures.turning.1 refl none
+    c.arrive.ensures.call.places c.in-Turning.ensures.turning.1 refl none
 
 pub returns-in-Turning-clause-phasers : goal.returns-in-Turning-clause-phasers
 returns-in-Turning-clause-phasers c =
@@ -28,4 +28,4 @@ returns-in-Turning-clause-phasers c =
     subst (λ (s : StoredScene). c.args.phaser < length s.phasers) (sym c.self.view_is) c.requires.phaser in
     subst (λ (phasers : List Stored). ChangedAt c.args.phaser phasers after) (ap (λ (s : StoredScene). s.phasers) c.self.view_is)
     (changed_then_root before c.arrive.new.self after c.args.phaser c.in-Turning.root.0 c.is_forest.ensures c.is_forest-in-Turning.ensures there
-    (c.in-Turning.ensures.turning.1 ∙ root_shown before c.args.phaser there) c.in-Turning.ensures.only c.pending_end.ensures.phasers)
+    (c.in-Turning.ensures.turning.1 ∙ root_shown before c.args.phaser there) c.in-Turning.ensures.call.only c.pending_end.ensures.phasers)

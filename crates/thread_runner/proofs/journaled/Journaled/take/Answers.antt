@@ -3,6 +3,7 @@ use Rattle.thread_machine.specs.World.{World, world_of, first_world}
 use Rattle.thread_machine.specs.Ready.{is_choice_ready}
 use Rattle.thread_machine.specs.Step.{Played, played}
 use Rattle.thread_runner.specs.Recording.{recording_of, world_after, with_choice}
+use Rattle.thread_runner.specs.Turns.{IsDue}
 use Rattle.thread_runner.proofs.Replays.{recorded_more, replay_more, same_first}
 use Rattle.thread_runner.proofs.journaled.Journaled.take.Goals as goal
 
@@ -15,12 +16,13 @@ invariant_of-self-in-Ok c =
     let here : world_after c.args.self.now ≡ world_of m = ap world_after (sym c.self.view_is) ∙ c.self.invariant.replay.replay.leads in
     let ready : is_choice_ready m.program c.args.choice (world_of m).scene ≡ true =
     subst (λ (w : World). is_choice_ready w.program c.args.choice w.scene ≡ true) here c.requires.ready in
+    let due : IsDue (world_of m) c.args.choice = subst (λ (w : World). IsDue w c.args.choice) here c.requires.due in
     let is : world_of after ≡ (played (world_of m) c.args.choice).world = ap (λ (p : Played). p.world) c.in-Ok.ensures.played in
     let replay = replay_more (recording_of first old) c.args.choice (world_of m) (world_of after) c.self.invariant.replay.replay ready
-    c.in-Ok.ensures.accepted (search (rules, arith)) is c.step.ensures.threads in
+    c.in-Ok.ensures.accepted (search (rules, arith)) is c.step.ensures.threads due in
     let noted = c.push_choice.ensures (recording_of first old).choices (c.reserve.ensures.items ∙ c.self.invariant.text_is) in
     (recorded_more first (first_world after.program after.limit) old c.push_choice.new.text.items c.args.choice (world_of m) (world_of after)
-    c.self.invariant (omega (arith, c.requires.thread, c.has_few_threads.ensures))
+    c.self.invariant (omega (arith, c.requires.thread, c.has_few_threads.ensures.few))
     (same_first (world_of m) (world_of after) c.args.choice ready is) noted replay).0
 
 pub returns-in-Ok-clause-recorded : goal.returns-in-Ok-clause-recorded
@@ -32,12 +34,13 @@ returns-in-Ok-clause-recorded c =
     let here : world_after c.args.self.now ≡ world_of m = ap world_after (sym c.self.view_is) ∙ c.self.invariant.replay.replay.leads in
     let ready : is_choice_ready m.program c.args.choice (world_of m).scene ≡ true =
     subst (λ (w : World). is_choice_ready w.program c.args.choice w.scene ≡ true) here c.requires.ready in
+    let due : IsDue (world_of m) c.args.choice = subst (λ (w : World). IsDue w c.args.choice) here c.requires.due in
     let is : world_of after ≡ (played (world_of m) c.args.choice).world = ap (λ (p : Played). p.world) c.in-Ok.ensures.played in
     let replay = replay_more (recording_of first old) c.args.choice (world_of m) (world_of after) c.self.invariant.replay.replay ready
-    c.in-Ok.ensures.accepted (search (rules, arith)) is c.step.ensures.threads in
+    c.in-Ok.ensures.accepted (search (rules, arith)) is c.step.ensures.threads due in
     let noted = c.push_choice.ensures (recording_of first old).choices (c.reserve.ensures.items ∙ c.self.invariant.text_is) in
     (recorded_more first (first_world after.program after.limit) old c.push_choice.new.text.items c.args.choice (world_of m) (world_of after)
-    c.self.invariant (omega (arith, c.requires.thread, c.has_few_threads.ensures))
+    c.self.invariant (omega (arith, c.requires.thread, c.has_few_threads.ensures.few))
     (same_first (world_of m) (world_of after) c.args.choice ready is) noted replay).1
     ∙ ap (with_choice c.args.choice) c.self.view_is
 

@@ -2,8 +2,9 @@ use Rattle.std.proofs.Common.{◌≡◌, List}
 use Rattle.tier_tree.specs.Stored.{Stored, phasers_of}
 use Rattle.std.proofs.Common.{◌<◌, length}
 use Rattle.tier_tree.specs.Forest.{root_at}
-use Rattle.tier_tree.specs.Answer.{DoesntArrive, IfTurning, MakesPending, KeepsPlaces, KeepsEnds}
-use Rattle.tier_tree.specs.Origin.{Carries, origin_after_arrival}
+use Rattle.tier_tree.specs.Answer.{DoesntArrive, IfTurning, MakesPending, KeepsEnds}
+use Rattle.tier_tree.specs.Call.{IsCall}
+use Rattle.tier_tree.specs.Origin.{origin_after_arrival}
 use Rattle.tier_tree.proofs.Calls.{written_back, arrived, arrived_turning}
 use Rattle.tier_tree.proofs.forest.Forest.arrive.Goals as goal
 
@@ -20,20 +21,16 @@ returns-clause-turning c =
     (arrived_turning c.self.inside.nodes.items c.as_mut_slice.result.now c.args.self.now c.arrive.new.nodes c.args.id.0 c.args.leave c.arrive.result c.as_mut_slice.ensures.value c.self.view_is c.self.invariant c.requires c.arrive.ensures.only.many
     c.arrive.ensures.arrival)
 
-pub returns-clause-places : goal.returns-clause-places
-returns-clause-places c =
-    written_back (λ (before after : List Stored). KeepsPlaces (phasers_of before) (phasers_of after)) c.self.inside.nodes.items c.as_mut_slice.result.now
+pub returns-clause-call : goal.returns-clause-call
+returns-clause-call c =
+    written_back (λ (before after : List Stored). IsCall c.args.id.0 (origin_after_arrival c.arrive.result c.args.id.0 (root_at (phasers_of before) c.args.id.0) c.args.leave) before after) c.self.inside.nodes.items c.as_mut_slice.result.now
     c.args.self.now c.arrive.new.nodes c.self.inside.nodes.len c.as_mut_slice.ensures.value c.self.view_is c.as_mut_slice.ensures.len c.arrive.ensures.only.many
-    (arrived c.self.inside.nodes.items c.as_mut_slice.result.now c.args.self.now c.arrive.new.nodes c.args.id.0 c.args.leave c.arrive.result c.as_mut_slice.ensures.value c.self.view_is c.self.invariant c.requires c.arrive.ensures.arrival).places
+    (arrived c.self.inside.nodes.items c.as_mut_slice.result.now c.args.self.now c.arrive.new.nodes c.args.id.0 c.args.leave c.arrive.result c.as_mut_slice.ensures.value c.self.view_is c.self.invariant c.requires c.arrive.ensures.arrival
+    c.arrive.ensures.only).call
 
 pub returns-clause-ends : goal.returns-clause-ends
 returns-clause-ends c =
     written_back (λ (before after : List Stored). KeepsEnds (phasers_of before) (phasers_of after)) c.self.inside.nodes.items c.as_mut_slice.result.now
     c.args.self.now c.arrive.new.nodes c.self.inside.nodes.len c.as_mut_slice.ensures.value c.self.view_is c.as_mut_slice.ensures.len c.arrive.ensures.only.many
-    (arrived c.self.inside.nodes.items c.as_mut_slice.result.now c.args.self.now c.arrive.new.nodes c.args.id.0 c.args.leave c.arrive.result c.as_mut_slice.ensures.value c.self.view_is c.self.invariant c.requires c.arrive.ensures.arrival).ends
-
-pub returns-clause-origin : goal.returns-clause-origin
-returns-clause-origin c =
-    written_back (λ (before after : List Stored). Carries (origin_after_arrival c.arrive.result c.args.id.0 (root_at (phasers_of before) c.args.id.0) c.args.leave) (phasers_of before) (phasers_of after)) c.self.inside.nodes.items c.as_mut_slice.result.now
-    c.args.self.now c.arrive.new.nodes c.self.inside.nodes.len c.as_mut_slice.ensures.value c.self.view_is c.as_mut_slice.ensures.len c.arrive.ensures.only.many
-    (arrived c.self.inside.nodes.items c.as_mut_slice.result.now c.args.self.now c.arrive.new.nodes c.args.id.0 c.args.leave c.arrive.result c.as_mut_slice.ensures.value c.self.view_is c.self.invariant c.requires c.arrive.ensures.arrival).origin
+    (arrived c.self.inside.nodes.items c.as_mut_slice.result.now c.args.self.now c.arrive.new.nodes c.args.id.0 c.args.leave c.arrive.result c.as_mut_slice.ensures.value c.self.view_is c.self.invariant c.requires c.arrive.ensures.arrival
+    c.arrive.ensures.only).ends

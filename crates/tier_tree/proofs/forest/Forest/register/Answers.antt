@@ -1,7 +1,8 @@
 use Rattle.std.proofs.Common.{◌≡◌, List}
 use Rattle.tier_tree.specs.Stored.{Stored, phasers_of}
-use Rattle.tier_tree.specs.Answer.{DoesntJoin, KeepsPlaces, KeepsEnds}
-use Rattle.tier_tree.specs.Origin.{Carries, origin_after_registration}
+use Rattle.tier_tree.specs.Answer.{DoesntJoin, KeepsEnds}
+use Rattle.tier_tree.specs.Call.{IsCall}
+use Rattle.tier_tree.specs.Origin.{origin_after_registration}
 use Rattle.tier_tree.proofs.Calls.{written_back, registered}
 use Rattle.tier_tree.proofs.forest.Forest.register.Goals as goal
 
@@ -11,23 +12,16 @@ returns-clause-refused c =
     c.args.self.now c.register.new.nodes c.self.inside.nodes.len c.as_mut_slice.ensures.value c.self.view_is c.as_mut_slice.ensures.len c.register.ensures.only.many
     c.register.ensures.refused
 
-pub returns-clause-places : goal.returns-clause-places
-returns-clause-places c =
-    written_back (λ (before after : List Stored). KeepsPlaces (phasers_of before) (phasers_of after)) c.self.inside.nodes.items c.as_mut_slice.result.now
+pub returns-clause-call : goal.returns-clause-call
+returns-clause-call c =
+    written_back (λ (before after : List Stored). IsCall c.args.id.0 (origin_after_registration c.register.result c.args.id.0 c.args.count) before after) c.self.inside.nodes.items c.as_mut_slice.result.now
     c.args.self.now c.register.new.nodes c.self.inside.nodes.len c.as_mut_slice.ensures.value c.self.view_is c.as_mut_slice.ensures.len c.register.ensures.only.many
     (registered c.self.inside.nodes.items c.as_mut_slice.result.now c.args.self.now c.register.new.nodes c.args.id.0 c.args.count c.register.result c.as_mut_slice.ensures.value c.self.view_is c.self.invariant c.requires
-    c.register.ensures.answer c.register.ensures.forest).places
+    c.register.ensures.answer c.register.ensures.forest c.register.ensures.only).call
 
 pub returns-clause-ends : goal.returns-clause-ends
 returns-clause-ends c =
     written_back (λ (before after : List Stored). KeepsEnds (phasers_of before) (phasers_of after)) c.self.inside.nodes.items c.as_mut_slice.result.now
     c.args.self.now c.register.new.nodes c.self.inside.nodes.len c.as_mut_slice.ensures.value c.self.view_is c.as_mut_slice.ensures.len c.register.ensures.only.many
     (registered c.self.inside.nodes.items c.as_mut_slice.result.now c.args.self.now c.register.new.nodes c.args.id.0 c.args.count c.register.result c.as_mut_slice.ensures.value c.self.view_is c.self.invariant c.requires
-    c.register.ensures.answer c.register.ensures.forest).ends
-
-pub returns-clause-origin : goal.returns-clause-origin
-returns-clause-origin c =
-    written_back (λ (before after : List Stored). Carries (origin_after_registration c.register.result c.args.id.0 c.args.count) (phasers_of before) (phasers_of after)) c.self.inside.nodes.items c.as_mut_slice.result.now
-    c.args.self.now c.register.new.nodes c.self.inside.nodes.len c.as_mut_slice.ensures.value c.self.view_is c.as_mut_slice.ensures.len c.register.ensures.only.many
-    (registered c.self.inside.nodes.items c.as_mut_slice.result.now c.args.self.now c.register.new.nodes c.args.id.0 c.args.count c.register.result c.as_mut_slice.ensures.value c.self.view_is c.self.invariant c.requires
-    c.register.ensures.answer c.register.ensures.forest).origin
+    c.register.ensures.answer c.register.ensures.forest c.register.ensures.only).ends

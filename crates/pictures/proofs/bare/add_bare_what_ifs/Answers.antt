@@ -1,0 +1,10 @@
+use Rattle.std.proofs.Common.{rules, ◌<◌, length}
+use Rattle.pictures.specs.Others.{bare_what_if_of}
+use Rattle.pictures.proofs.WhatIfs.{one_thread_more}
+use Rattle.pictures.proofs.bare.add_bare_what_ifs.Goals as goal
+
+pub loop-thread-preserved : goal.loop-thread-preserved
+loop-thread-preserved c =
+    let there : c.loop-thread.thread < length c.args.machine.now.scene.threads = search rules in
+    one_thread_more bare_what_if_of c.args.machine.now c.loop-thread.machine _ c.loop-thread.thread _ _ _ c.loop-thread.invariant.1
+    there c.in_ok-add_bare_what_if_of.ensures.text c.in_ok-add_bare_what_if_of.ensures.machine c.loop-thread.invariant.0

@@ -1,0 +1,379 @@
+//! The other runs of a page.
+ghost use Rattle.std.specs.Prelude.{◌≡◌, ◌<◌, ◌≤◌, ◌++◌, ◌==◌, not, replicate, codes, decimal, drop, if◌then◌else◌, is_none, length, nat_le, take, IfOk, OnOk};
+ghost use Rattle.machine_scene.specs.Scene.{scene_of};
+ghost use Rattle.pictures.specs.Others.{is_next, is_other, left_behind, most_choices, nothing_told, others_text, room_for, step_line, told_along, told_choice, told_here, told_text, told_thread, with_fork, with_moment, with_moments, with_other, with_step, with_steps};
+ghost use Rattle.plans.specs.Others.{other_choices};
+ghost use Rattle.schedule_reader.specs.Schedule.{choices_of};
+ghost use Rattle.thread_machine.specs.Step.{played, refusal_of};
+ghost use Rattle.thread_machine.specs.World.{world_of};
+
+use crate::bare::bare;
+use crate::choices::MOST_CHOICES;
+use crate::known::{Known, Moment};
+use crate::what_if::is_ready;
+use itoa::Buffer;
+use plans::others::other_choices;
+use schedule_reader::Run;
+use std::alloc::{AllocError, Global};
+use std::marker::Model;
+use thread_machine::{Choice, Machine, StepFault};
+
+/// How many bytes the other runs of a page have at most.
+const MOST_BYTES: usize = 1_000_000;
+/// How many choices are played before the last of them begins.
+const MOST_PLAYED: u32 = 20_000;
+/// How many bytes a moment has at most behind which more is told.
+const MOST_MOMENT: usize = 6000;
+/// How many choices another run has at most more than the page's own.
+const MORE_CHOICES: u32 = 100;
+
+/// Whether a page tells of other runs than its own.
+#[derive(Clone, Copy, Debug, PartialEq, Eq)]
+pub enum OtherRuns {
+    Told,
+    LeftOut,
+}
+
+/// Plays a choice, unless it is refused; whether it was played.
+fn play(machine: &mut Machine, choice: Choice) -> Result<bool, AllocError>
+    ensures played { IfOk result (λ is_played. is_played ≡ is_none (refusal_of (world_of machine.old) choice)) }
+    ensures world { IfOk result (λ is_played. world_of machine.new
+        ≡ (if is_played then (played (world_of machine.old) choice).world else world_of machine.old)) }
+{
+    match machine.step(choice) {
+        Ok(_) => Ok(true),
+        Err(StepFault::Memory) => Err(AllocError),
+        Err(_) => Ok(false),
+    }
+}
+
+/// Adds the choices of a run.
+fn add_times(choices: &mut Vec<Choice>, run: Run) -> Result<(), AllocError>
+    ensures { OnOk result (choices.new.items ≡ choices.old.items ++ replicate run.times run.choice) }
+{
+    match choices.len().checked_add(run.times as usize) {
+        Some(count) => choices.resize(count, run.choice),
+        None => Err(AllocError),
+    }
+}
+
+/// The choices of these runs.
+#[tactic(auto, using(trace_text::proofs::Traces::text_steps))]
+fn choices_of(alloc: Global, runs: &[Run]) -> Result<Vec<Choice>, AllocError>
+    ensures { IfOk result (λ choices. choices.items ≡ choices_of runs.now) }
+{
+    let mut choices = Vec::new(alloc);
+    for run in runs {
+        add_times(&mut choices, *run)?;
+    }
+    Ok(choices)
+}
+
+/// Whether this choice is the next of a run's own.
+fn is_next(own: &[Choice], choice: Choice) -> bool
+    ensures { result ≡ is_next own.now choice }
+{
+    match own.first() {
+        Some(next) => next.thread == choice.thread && next.expiry == choice.expiry,
+        None => false,
+    }
+}
+
+/// Whether a choice could be next and isn't the run's own next one.
+fn is_other(machine: &Machine, own: &[Choice], choice: Choice) -> bool
+    requires { choice.thread < length machine.now.scene.threads }
+    ensures { result ≡ is_other (world_of machine.now) own.now choice }
+{
+    is_ready(machine, choice) && !is_next(own, choice)
+}
+
+/// How many choices another run may have from where a machine stands.
+fn room_for(machine: &Machine, own: &[Choice]) -> u32
+    requires { length own.now ≤ most_choices }
+    ensures { result ≡ room_for (world_of machine.now) own.now }
+{
+    let longer = own.len() as u32 + MORE_CHOICES;
+    let left = (MOST_CHOICES as u64).saturating_sub(machine.choices());
+    longer.min(left as u32)
+}
+
+/// How many choices may be played for more behind a moment.
+fn left_behind(moment: &Moment, left: u32) -> u32
+    ensures { result ≡ left_behind moment.now.text.items left }
+{
+    if moment.text.len() <= MOST_MOMENT {
+        left
+    } else {
+        0
+    }
+}
+
+/// What is told so far: the moments that are known, the text, and how many choices may be played for more.
+#[derive(Drop)]
+struct Teller {
+    known: Known,
+    text: Vec<u8>,
+    left: u32,
+}
+
+impl Model for Teller {
+    ghost use Rattle.pictures.specs.Others.{Told};
+
+    ghost Value = { Told };
+
+    ghost view = { λ teller. record { known = teller.known; text = teller.text.items; left = teller.left } };
+
+    ghost invariant = { λ teller. Unit {0} };
+}
+
+impl Teller {
+    /// Nothing is told yet.
+    fn new(alloc: Global) -> Teller
+        ensures { result ≡ nothing_told }
+    {
+        Teller {
+            known: Known::new(alloc),
+            text: Vec::new(alloc),
+            left: MOST_PLAYED,
+        }
+    }
+
+    /// The text.
+    fn into_text(self) -> Vec<u8>
+        ensures { result.items ≡ self.text }
+    {
+        self.text
+    }
+
+    /// Adds a word and a number.
+    fn add(&mut self, word: &[u8], number: u64) -> Result<(), AllocError>
+        ensures { OnOk result (self.new ≡ record self.old { text = self.old.text ++ (word.now ++ decimal number) }) }
+    {
+        self.text.extend_from_slice(word)?;
+        self.text
+            .extend_from_slice(Buffer::new().format(number).as_bytes())
+    }
+
+    /// Adds the line of a choice that leads to the moment of this number.
+    fn add_line(&mut self, choice: Choice, number: usize) -> Result<(), AllocError>
+        ensures { OnOk result (self.new ≡ record self.old { text = self.old.text ++ step_line choice number }) }
+    {
+        let word: &[u8] = if choice.expiry { b"x" } else { b"t" };
+        self.add(word, u64::from(choice.thread))?;
+        self.add(b" ", number as u64)?;
+        self.text.extend_from_slice(b"\n")
+    }
+
+    /// Adds a choice, and the moment that it leads to where that is new.
+    fn add_step(&mut self, choice: Choice, moment: Moment) -> Result<(), AllocError>
+        ensures { OnOk result (self.new ≡ with_step choice moment.text.items self.old) }
+    {
+        let number = self.known.number_of(&moment);
+        self.add_line(choice, number)?;
+        self.left = left_behind(&moment, self.left.saturating_sub(1));
+        if number == self.known.len() {
+            self.text.extend_from_slice(moment.text.as_slice())?;
+            self.known.add(moment)?;
+        }
+        Ok(())
+    }
+
+    /// Makes the moment of a machine known.
+    fn know(&mut self, alloc: Global, machine: &mut Machine) -> Result<(), AllocError>
+        ensures told { OnOk result (self.new ≡ with_moment (world_of machine.old) self.old) }
+        ensures machine { machine.new ≡ machine.old }
+    {
+        let moment = bare(alloc, machine)?;
+        self.left = left_behind(&moment, self.left);
+        self.known.add(moment)
+    }
+
+    /// Makes the moments of a run known.
+    fn know_all(
+        &mut self,
+        alloc: Global,
+        machine: &mut Machine,
+        choices: &[Choice],
+    ) -> Result<(), AllocError>
+        ensures { OnOk result (self.new ≡ with_moments (world_of machine.old) choices.now self.old) }
+    {
+        for choice in choices {
+            self.know(alloc, machine)?;
+            if !play(machine, *choice)? {
+                return Ok(());
+            }
+        }
+        self.know(alloc, machine)
+    }
+
+    /// Adds choices that are played one after another.
+    fn add_steps(
+        &mut self,
+        alloc: Global,
+        machine: &mut Machine,
+        choices: &[Choice],
+    ) -> Result<(), AllocError>
+        ensures { OnOk result (self.new ≡ with_steps (world_of machine.old) choices.now self.old) }
+    {
+        for choice in choices {
+            if !play(machine, *choice)? {
+                return Ok(());
+            }
+            let moment = bare(alloc, machine)?;
+            self.add_step(*choice, moment)?;
+        }
+        Ok(())
+    }
+
+    /// Adds another run from where a machine stands.
+    fn add_other(
+        &mut self,
+        alloc: Global,
+        machine: &Machine,
+        choices: &[Choice],
+    ) -> Result<(), AllocError>
+        ensures { OnOk result (self.new ≡ with_other (world_of machine.now) choices.now self.old) }
+    {
+        self.add(b"other ", machine.choices())?;
+        self.text.extend_from_slice(b"\n")?;
+        let mut copy = machine.copy(alloc)?;
+        self.add_steps(alloc, &mut copy, choices)
+    }
+
+    /// Leaves out what stands behind so many bytes, where the text is too long.
+    fn cut_at(&mut self, end: usize)
+        ensures { self.new ≡ (if nat_le (length self.old.text) 1000000 then self.old
+            else record self.old { text = take end self.old.text; left = 0 }) }
+    {
+        if self.text.len() > MOST_BYTES {
+            self.text.truncate(end);
+            self.left = 0;
+        }
+    }
+
+    /// Adds what a choice leads to, where there is room for it.
+    fn add_fork(
+        &mut self,
+        alloc: Global,
+        machine: &Machine,
+        own: &[Choice],
+        choice: Choice,
+    ) -> Result<(), AllocError>
+        requires { length own.now ≤ most_choices }
+        ensures { OnOk result (self.new ≡ with_fork (world_of machine.now) own.now choice self.old) }
+    {
+        let end = self.text.len();
+        let most = room_for(machine, own);
+        let planned = other_choices(alloc, machine.copy(alloc)?, most, choice, own)?;
+        let choices = choices_of(alloc, planned.runs.as_slice())?;
+        self.add_other(alloc, machine, choices.as_slice())?;
+        self.cut_at(end);
+        Ok(())
+    }
+
+    /// Tells what a choice leads to, where it isn't the run's own next one.
+    #[tactic(auto, unfolding(crate::specs::Others::told_choice))]
+    fn tell_choice(
+        &mut self,
+        alloc: Global,
+        machine: &Machine,
+        own: &[Choice],
+        choice: Choice,
+    ) -> Result<(), AllocError>
+        requires few { length own.now ≤ most_choices }
+        requires thread { choice.thread < length machine.now.scene.threads }
+        ensures { OnOk result (self.new ≡ told_choice (world_of machine.now) own.now choice self.old) }
+    {
+        if self.left == 0 || room_for(machine, own) == 0 || !is_other(machine, own, choice) {
+            return Ok(());
+        }
+        self.add_fork(alloc, machine, own, choice)
+    }
+
+    /// The same of a thread's turn, and of the expiry of its wait.
+    #[tactic(auto, unfolding(crate::specs::Others::told_thread))]
+    fn tell_thread(
+        &mut self,
+        alloc: Global,
+        machine: &Machine,
+        own: &[Choice],
+        thread: u8,
+    ) -> Result<(), AllocError>
+        requires few { length own.now ≤ most_choices }
+        requires thread { thread < length machine.now.scene.threads }
+        ensures { OnOk result (self.new ≡ told_thread (world_of machine.now) own.now self.old thread) }
+    {
+        let turn = Choice {
+            thread,
+            expiry: false,
+        };
+        let expiry = Choice {
+            thread,
+            expiry: true,
+        };
+        self.tell_choice(alloc, machine, own, turn)?;
+        self.tell_choice(alloc, machine, own, expiry)
+    }
+
+    /// The same of all threads.
+    fn tell_here(
+        &mut self,
+        alloc: Global,
+        machine: &Machine,
+        own: &[Choice],
+    ) -> Result<(), AllocError>
+        requires { length own.now ≤ most_choices }
+        ensures { OnOk result (self.new ≡ told_here (world_of machine.now) own.now self.old) }
+    {
+        for thread in 0..machine.thread_count() {
+            self.tell_thread(alloc, machine, own, thread as u8)?;
+        }
+        Ok(())
+    }
+
+    /// The same moment by moment.
+    fn tell_along(
+        &mut self,
+        alloc: Global,
+        machine: &mut Machine,
+        choices: &[Choice],
+    ) -> Result<(), AllocError>
+        requires { length choices.now ≤ most_choices }
+        ensures { OnOk result (self.new ≡ told_along (world_of machine.old) choices.now self.old) }
+    {
+        for at in 0..choices.len() {
+            self.tell_here(alloc, machine, &choices[at..])?;
+            if !play(machine, choices[at])? {
+                return Ok(());
+            }
+        }
+        self.tell_here(alloc, machine, &[])
+    }
+}
+
+/// The text of the other runs of a run from where a machine stands.
+fn told_text(alloc: Global, machine: &Machine, choices: &[Choice]) -> Result<Vec<u8>, AllocError>
+    requires { length choices.now ≤ most_choices }
+    ensures { IfOk result (λ text. text.items ≡ told_text (world_of machine.now) choices.now) }
+{
+    let mut teller = Teller::new(alloc);
+    teller.know_all(alloc, &mut machine.copy(alloc)?, choices)?;
+    teller.tell_along(alloc, &mut machine.copy(alloc)?, choices)?;
+    Ok(teller.into_text())
+}
+
+/// The same, or nothing where they are left out.
+pub fn others_text(
+    alloc: Global,
+    others: OtherRuns,
+    machine: &Machine,
+    choices: &[Choice],
+) -> Result<Vec<u8>, AllocError>
+    requires { length choices.now ≤ most_choices }
+    ensures { IfOk result (λ text. text.items ≡ others_text others (world_of machine.now) choices.now) }
+{
+    match others {
+        OtherRuns::Told => told_text(alloc, machine, choices),
+        OtherRuns::LeftOut => Ok(Vec::new(alloc)),
+    }
+}

@@ -1,0 +1,85 @@
+ghost use Rattle.std.specs.Prelude.{◌≡◌, ◌<◌, ◌≤◌, IfOk, OnOk};
+ghost use Rattle.plans.specs.Others.{all_kept, gone_ahead, is_step_in, kept, other_choices, turned_about};
+ghost use Rattle.plans.specs.Planned.{AreRuns};
+ghost use Rattle.schedule_reader.specs.Schedule.{choices_of};
+ghost use Rattle.thread_machine.specs.World.{world_of};
+
+use crate::planned::Planned;
+use crate::player::Player;
+use crate::word::Rule;
+use std::alloc::{AllocError, Global};
+use thread_machine::{Choice, Machine};
+
+/// How many turns the chosen thread has at most behind its first choice.
+const MOST_TURNS: u32 = 99;
+
+impl Player {
+    /// Whether a choice would be a step.
+    #[tactic(auto, unfolding(crate::specs::Others::is_step_in))]
+    fn is_step(&self, choice: Choice) -> bool
+        ensures { result ≡ is_step_in self.now.world choice }
+    {
+        (choice.thread as usize) < self.thread_count() && self.is_choice_ready(choice)
+    }
+
+    /// Makes a choice, and then its thread's turns until it waits or ends.
+    #[tactic(auto, unfolding(crate::specs::Others::gone_ahead))]
+    fn go_ahead(&mut self, alloc: Global, choice: Choice) -> Result<(), AllocError>
+        ensures { OnOk result (self.new ≡ gone_ahead choice self.old) }
+    {
+        self.choose(choice)?;
+        self.follow(alloc, Rule::Alone(choice.thread), MOST_TURNS)
+    }
+
+    /// Makes a choice of the run, unless it would do nothing.
+    #[tactic(auto, unfolding(crate::specs::Others::kept))]
+    fn keep(&mut self, choice: Choice) -> Result<(), AllocError>
+        ensures { OnOk result (self.new ≡ kept choice self.old) }
+    {
+        if self.is_step(choice) {
+            self.choose(choice)
+        } else {
+            Ok(())
+        }
+    }
+
+    /// Makes those of the run's choices that do something.
+    fn keep_all(&mut self, choices: &[Choice]) -> Result<(), AllocError>
+        ensures { OnOk result (self.new ≡ all_kept choices.now self.old) }
+    {
+        for choice in choices {
+            self.keep(*choice)?;
+        }
+        Ok(())
+    }
+
+    /// Has the threads turn about, as long as choices are left.
+    #[tactic(auto, unfolding(crate::specs::Others::turned_about))]
+    fn turn_all_about(&mut self, alloc: Global) -> Result<(), AllocError>
+        ensures { OnOk result (self.new ≡ turned_about self.old) }
+    {
+        let most = self.left();
+        self.follow(alloc, Rule::TurnAbout, most)
+    }
+}
+
+/// What a choice leads to from where a machine stands in a run, in the place of the run's own choices: that choice and its
+/// thread's turns, the run's own choices that still do something, and then turns of all threads, `most` choices at most.
+pub fn other_choices(
+    alloc: Global,
+    machine: Machine,
+    most: u32,
+    choice: Choice,
+    own: &[Choice],
+) -> Result<Planned, AllocError>
+    requires { most ≤ 1000000 }
+    ensures choices { IfOk result (λ planned. choices_of planned.runs.items
+        ≡ other_choices (world_of machine) most choice own.now) }
+    ensures runs { IfOk result (λ planned. AreRuns planned.runs.items) }
+{
+    let mut player = Player::with_room(alloc, machine, most);
+    player.go_ahead(alloc, choice)?;
+    player.keep_all(own)?;
+    player.turn_all_about(alloc)?;
+    Ok(player.into_planned())
+}

@@ -1,0 +1,12 @@
+-- What every call at a phaser leaves of its forest, whatever it answers.
+use Rattle.std.specs.Prelude.{ℕ, List}
+use Rattle.tier_tree.specs.Answer.{KeepsPlaces}
+use Rattle.tier_tree.specs.Origin.{Origin, Carries}
+use Rattle.tier_tree.specs.Stored.{Stored, ChangedAt, phasers_of}
+
+-- only words from this phaser up to its root may differ; each phaser has its line and its policy; and whatever counts the
+-- forest stood for, it stands for what is made of them here
+pub record IsCall (id : ℕ) (next : Origin → Origin) (before : List Stored) (after : List Stored) : Type 0 where
+  pub only : ChangedAt id before after
+  pub places : KeepsPlaces (phasers_of before) (phasers_of after)
+  pub origin : Carries next (phasers_of before) (phasers_of after)

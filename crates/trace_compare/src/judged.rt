@@ -1,0 +1,112 @@
+ghost use Rattle.std.specs.Prelude.{◌≡◌, ◌≢◌, ◌+◌, ◌≤◌, Err, IfOk, List, false, option_map, ℕ};
+ghost use Rattle.std.specs.Borrow.{Bor};
+ghost use Rattle.trace_compare.specs.Compare.{Compares, Judges};
+
+use crate::comparison::{CompareFault, Comparison, Verdict, compare_lines};
+use byte_ports::{Source, SourceLines};
+use row_code::Image;
+use std::alloc::{AllocError, Global};
+use std::marker::Model;
+use trace_text::start::{StartFault, first_machine};
+
+/// What a comparison has come to: the verdict, and the line of the trace and of the run that it names.
+#[derive(Drop)]
+pub struct Judged {
+    verdict: Verdict,
+    run: Comparison,
+    lines: SourceLines,
+    /// Whether the trace's line is the one that was read last.
+    is_read: bool,
+}
+
+impl Model for Judged {
+    ghost use Rattle.std.specs.Prelude.{◌≤◌, None, Some, if◌then◌else◌, length};
+    ghost use Rattle.trace_compare.specs.Compare.{Judgement};
+    ghost use Rattle.trace_compare.specs.Comparing.{told_by};
+
+    ghost Value = { Judgement };
+
+    ghost view = { λ judged. record {
+      told = told_by judged.verdict judged.run;
+      trace = if judged.is_read then Some judged.lines.line else None;
+    } };
+
+    ghost invariant = { λ judged. judged.run.at ≤ length judged.run.text.items };
+}
+
+impl Judged {
+    /// What the comparison says of the trace.
+    pub fn verdict(&self) -> Verdict
+        ensures { result ≡ self.now.told.verdict }
+    {
+        self.verdict
+    }
+
+    /// The run's line, without its LF, where the verdict is that a line differs; `None` where the run has no such line, and
+    /// with any other verdict. Only this takes memory, and no choice is played for it.
+    pub fn run_line(&self, alloc: Global) -> Result<Option<Vec<u8>>, AllocError>
+        ensures { IfOk result (λ line. option_map (λ l. l.items) line ≡ self.now.told.line) }
+    {
+        match self.verdict {
+            Verdict::Differs { .. } => self.run.run_line(alloc),
+            _ => Ok(None),
+        }
+    }
+
+    /// The trace's line that the verdict names, without its LF, and of one that is too long the first 65,537 bytes. `None` where
+    /// the trace has no such line, or is the run's.
+    pub fn trace_line(&self) -> Option<&[u8]>
+        ensures { option_map (λ (line : Bor (List ℕ)). line.now) result ≡ self.now.trace }
+    {
+        if self.is_read {
+            Some(self.lines.line())
+        } else {
+            None
+        }
+    }
+}
+
+/// Compares a trace with the run of an image's program that the trace's lines name, byte for byte, the state too. The verdict
+/// stands at the first line that is no line of a trace, or isn't the run's; no line behind that one is read whole, but for those
+/// that came in one piece with its end. A line of the trace and a line of the run are held at a time, and the state text at
+/// the end. It fails where the image isn't loaded, where memory runs out, and where the trace can't be read.
+pub fn judge<S: Source>(alloc: Global, image: Image, trace: &mut S) -> Result<Judged, CompareFault>
+    ensures outcome { Judges image result (S.left trace.old) (S.left trace.new) (S.has_failed trace.new) }
+    ensures reads { S.reads trace.new ≤ S.reads trace.old + 1000000000 }
+    ensures sound { result ≢ Err CompareFault.Read → S.has_failed trace.old ≡ false → S.has_failed trace.new ≡ false }
+{
+    let machine = match first_machine(alloc, image) {
+        Ok(machine) => machine,
+        Err(StartFault::Load(fault)) => return Err(CompareFault::Load(fault)),
+        Err(StartFault::Memory) => return Err(CompareFault::Memory),
+    };
+    let mut run = Comparison::new(alloc, machine);
+    let Ok(mut lines) = SourceLines::new(alloc) else {
+        return Err(CompareFault::Memory);
+    };
+    match compare_lines(alloc, &mut run, &mut lines, trace) {
+        Ok((verdict, is_read)) => Ok(Judged {
+            verdict,
+            run,
+            lines,
+            is_read,
+        }),
+        Err(fault) => Err(fault),
+    }
+}
+
+/// The verdict of `judge`, where nobody asks for a line. It takes no more memory, and fails where `judge` does.
+pub fn compare<S: Source>(
+    alloc: Global,
+    image: Image,
+    trace: &mut S,
+) -> Result<Verdict, CompareFault>
+    ensures outcome { Compares image result (S.left trace.old) (S.left trace.new) (S.has_failed trace.new) }
+    ensures reads { S.reads trace.new ≤ S.reads trace.old + 1000000000 }
+    ensures sound { result ≢ Err CompareFault.Read → S.has_failed trace.old ≡ false → S.has_failed trace.new ≡ false }
+{
+    match judge(alloc, image, trace) {
+        Ok(judged) => Ok(judged.verdict()),
+        Err(fault) => Err(fault),
+    }
+}

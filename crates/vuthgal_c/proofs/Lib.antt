@@ -1,0 +1,3 @@
+mod ProgramPlans
+mod Words
+mod Faults

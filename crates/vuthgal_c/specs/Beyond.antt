@@ -1,0 +1,101 @@
+-- What the calls promise whose commands stand beyond `workbench`: plans, pictures, schedules of traces.
+use Rattle.std.specs.Prelude.{◌≡◌, ◌≢◌, ◌⊎◌, ◌<◌, ℕ, Bool, true, false, IsTrue, List, [], length, Option, Some, Result, Ok, Err, IfOk, IfErr, OnOk, is_none, codes}
+use Rattle.std.specs.Io.KnownBytes.{Appends}
+use Rattle.commands.specs.Picture.{HaveNoPicture}
+use Rattle.commands.specs.Pictures.{HasWritten, program_of}
+use Rattle.commands.specs.Planning.{HasNoSchedule, HasPlanned}
+use Rattle.commands.specs.Unplanned.{unplanned_line, unplanned_status}
+use Rattle.commands.specs.declared.unplanned.Unplanned.{Unplanned}
+use Rattle.commands.specs.declared.unplanned.Unplanned.TheVariants as why
+use Rattle.workbench.specs.declared.fault.Fault.{Fault}
+use Rattle.workbench.specs.declared.fault.Fault.TheVariants as fault
+use Rattle.workbench.specs.declared.fault.PictureKind.{PictureKind}
+use Rattle.workbench.specs.declared.program.Program.{Program}
+use Rattle.workbench.specs.Done.{as_asked}
+use Rattle.workbench.specs.Fault.{status_of}
+use Rattle.workbench.specs.Input.{GivesTooMuch, most_bytes}
+use Rattle.workbench.specs.ProgramFile.{IsNamedProgram, IsNoProgramFor}
+use Rattle.commands.specs.Choices.{HasToldChoices}
+use Rattle.trace_compare.specs.Naming.{Naming}
+use Rattle.trace_text.specs.RunText.{GivesOnAndOn}
+use Rattle.trace_compare.specs.Writing.{HasWrittenPart}
+use Rattle.workbench.specs.declared.done.Done.{Done}
+use Rattle.workbench.specs.declared.done.Done.TheVariants as done
+use Rattle.vuthgal_c.specs.Calls.{Settles}
+
+-- whether a trace is one
+abbrev pub done_by_trace : Bool → Done
+done_by_trace true = done.AsAsked
+done_by_trace false = done.Unlike
+
+-- the schedule of a trace was written, and where it is none; or a part of it, where the trace is too long to be read
+pub record ToldChoices (answer : Result Bool Fault) (trace_before trace_after output_before output_after : Option (List ℕ)) : Type 0 where
+  pub done : IfOk answer (λ is_trace. (naming : Naming) × ((is_trace ≡ is_none naming.no_line)
+      × HasToldChoices naming trace_before trace_after output_before output_after))
+  pub unchanged : answer ≡ Err fault.Memory → output_after ≡ output_before
+  pub part : answer ≡ Err fault.Read → HasWrittenPart trace_before trace_after output_before output_after
+  pub read : answer ≡ Err fault.Read → GivesOnAndOn trace_before trace_after
+  pub fault : IfErr answer (λ f. (f ≡ fault.Memory) ⊎ (f ≡ fault.Read))
+
+abbrev pub NamesChoices : (trace : List ℕ) (status : ℕ) (schedule line : List ℕ) → Type 0
+NamesChoices trace status schedule line =
+    (answer : Result Bool Fault) × ((left : Option (List ℕ))
+    × (ToldChoices answer (Some trace) left (Some []) (Some schedule) × Settles done_by_trace answer status line))
+
+-- the program that a file holds
+abbrev pub IsProgramIn : (file : List ℕ) → Program → Type 0
+IsProgramIn file program = (program.bytes.now ≡ file) × IsNamedProgram file program.image program.names
+
+-- why there is no program: an input has more bytes than one may have; or the file holds none
+abbrev pub IsTooMuch : (a b : List ℕ) → Type 0
+IsTooMuch a b = (most_bytes < length a) ⊎ (most_bytes < length b)
+
+-- why a plan is refused on a program: the file holds none; or the program or the plan has this fault
+abbrev pub IsUnplannedFor : Unplanned → (file steps : List ℕ) → Type 0
+IsUnplannedFor reason file steps =
+    ((f : Fault) × ((reason ≡ why.Fault f) × IsNoProgramFor f (program_of file)))
+    ⊎ ((program : Program) × (IsProgramIn (program_of file) program × HasNoSchedule reason program steps))
+
+-- the schedule of a plan was written; or why not, and then nothing was, unless the output failed
+pub record PlansSteps (file steps : List ℕ) (answer : Result Bool Unplanned) (output_before output_after : Option (List ℕ)) : Type 0 where
+  pub done : IfOk answer (λ stopped. (program : Program) × (IsProgramIn (program_of file) program
+      × HasPlanned stopped program steps output_before output_after))
+  pub refused : IfErr answer (λ reason. unplanned_status reason ≡ 3 → IsUnplannedFor reason file steps)
+  pub unwritten : IfErr answer (λ reason. reason ≢ why.Fault fault.Write → output_after ≡ output_before)
+  pub read : answer ≡ Err (why.Fault fault.Read) → IsTooMuch file steps
+  pub spawn : answer ≢ Err (why.Fault fault.Spawn)
+
+-- the status of what a plan came to, and its line, which also tells where it was stopped
+abbrev pub SettlesPlan : Result Bool Unplanned → (status : ℕ) (line_failed : Bool) (line_before line_after : Option (List ℕ)) → Type 0
+SettlesPlan (Ok false) status line_failed line_before line_after = (status ≡ 0) × (line_after ≡ line_before)
+SettlesPlan (Ok true) status line_failed line_before line_after =
+    (status ≡ 1) × (IsTrue line_failed ⊎ Appends line_before line_after (codes "stopped at 1000000 choices\n"))
+SettlesPlan (Err reason) status line_failed line_before line_after =
+    (status ≡ unplanned_status reason) × (IsTrue line_failed ⊎ Appends line_before line_after (unplanned_line reason))
+
+abbrev pub Plans : (file steps : List ℕ) (status : ℕ) (schedule line : List ℕ) → Type 0
+Plans file steps status schedule line =
+    (answer : Result Bool Unplanned) × (PlansSteps file steps answer (Some []) (Some schedule)
+    × SettlesPlan answer status false (Some []) (Some line))
+
+-- why a program and a schedule are refused a picture: the file holds no program; or they have none
+abbrev pub IsUnmadeFor : PictureKind → Fault → (file schedule : List ℕ) → Type 0
+IsUnmadeFor kind f file schedule =
+    IsNoProgramFor f file ⊎ ((program : Program) × (IsProgramIn file program × HaveNoPicture kind f program.image schedule))
+
+-- the picture of a program and a schedule was written; or why not, and then nothing was, unless the output failed
+pub record MakesPicture (IsPicture : Program → List ℕ → List ℕ → Type 0) (kind : PictureKind) (file schedule : List ℕ)
+    (answer : Result (Unit {0}) Fault) (output_before output_after : Option (List ℕ)) : Type 0 where
+  pub done : OnOk answer ((program : Program) × (IsProgramIn file program
+      × HasWritten (IsPicture program schedule) output_before output_after))
+  pub refused : IfErr answer (λ f. status_of f ≡ 3 → IsUnmadeFor kind f file schedule)
+  pub unwritten : IfErr answer (λ f. f ≢ fault.Write → output_after ≡ output_before)
+  pub read : answer ≡ Err fault.Read
+      → (most_bytes < length file) ⊎ ((left : Option (List ℕ)) × GivesTooMuch (Some schedule) left)
+  pub spawn : answer ≢ Err fault.Spawn
+
+abbrev pub Makes : (IsPicture : Program → List ℕ → List ℕ → Type 0) → PictureKind → (file schedule : List ℕ)
+    (status : ℕ) (picture line : List ℕ) → Type 0
+Makes IsPicture kind file schedule status picture line =
+    (answer : Result (Unit {0}) Fault) × (MakesPicture IsPicture kind file schedule answer (Some []) (Some picture)
+    × Settles as_asked answer status line)

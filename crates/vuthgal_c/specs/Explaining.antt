@@ -1,0 +1,44 @@
+-- What the call promises that explains words.
+use Rattle.std.specs.Prelude.{◌≡◌, ◌⊎◌, ℕ, Bool, true, false, IsTrue, IfErr, List, [], ◌++◌, Option, Some, Result, Ok, Err}
+use Rattle.std.specs.Borrow.{Bor}
+use Rattle.std.specs.Str.{IsUtf8}
+use Rattle.std.specs.Io.KnownBytes.{Appends}
+use Rattle.refusals.specs.Explained.{HasExplained}
+use Rattle.refusals.specs.Question.{AsksFor}
+use Rattle.refusals.specs.Word.{AreNoWord}
+use Rattle.refusals.specs.declared.entry.Entry.{Entry}
+use Rattle.refusals.specs.declared.question.Question.{Question}
+use Rattle.workbench.specs.declared.fault.Fault.{Fault}
+use Rattle.workbench.specs.declared.fault.Fault.TheVariants as fault
+use Rattle.workbench.specs.Done.{IsSettled}
+use Rattle.vuthgal_c.specs.Words.{AreWordsOf}
+
+-- a text means nothing: it isn't UTF-8, or no line has its words, nor has the language its word
+abbrev pub MeansNothing : List (Bor (List Entry)) → (text : List ℕ) → Type 0
+MeansNothing tables text =
+    (IsUtf8 text → ⊥)
+    ⊎ ((words : List (List ℕ)) × AreWordsOf text words × ((q : Question) → AsksFor tables words q → ⊥) × AreNoWord words)
+
+-- what a text's words mean, by some tables of entries, was written; or they mean nothing, and nothing was; or there was no memory,
+-- or the output has failed
+pub record ExplainsText (questions text : List ℕ) (answer : Result Bool Fault)
+    (output_before output_after : Option (List ℕ)) (output_failed : Bool) : Type 0 where
+  pub tables : List (Bor (List Entry))
+  pub told : answer ≡ Ok true
+      → (words : List (List ℕ)) × AreWordsOf text words × HasExplained questions tables words output_before output_after
+  pub none : answer ≡ Ok false → MeansNothing tables text × (output_after ≡ output_before)
+  pub fault : IfErr answer (λ f. ((f ≡ fault.Memory) × (output_after ≡ output_before)) ⊎ ((f ≡ fault.Write) × IsTrue output_failed))
+
+-- the status of what came of words, and its line, which says what can be asked where they mean nothing
+abbrev pub SettlesExplaining : (questions no_line : List ℕ) → Result Bool Fault → (status : ℕ) (line_failed : Bool)
+    (line_before line_after : Option (List ℕ)) → Type 0
+SettlesExplaining questions no_line (Ok true) status line_failed line_before line_after = (status ≡ 0) × (line_after ≡ line_before)
+SettlesExplaining questions no_line (Ok false) status line_failed line_before line_after =
+    (status ≡ 2) × (IsTrue line_failed ⊎ Appends line_before line_after (no_line ++ questions))
+SettlesExplaining questions no_line (Err f) status line_failed line_before line_after =
+    IsSettled (Err f) status line_failed line_before line_after
+
+abbrev pub Explains : (questions no_line text : List ℕ) → (status : ℕ) (told line : List ℕ) → Type 0
+Explains questions no_line text status told line =
+    (answer : Result Bool Fault) × (ExplainsText questions text answer (Some []) (Some told) false
+    × SettlesExplaining questions no_line answer status false (Some []) (Some line))

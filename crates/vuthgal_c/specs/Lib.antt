@@ -1,0 +1,6 @@
+pub mod Counting
+pub mod Words
+pub mod Shows
+pub mod Calls
+pub mod Beyond
+pub mod Explaining

@@ -1,0 +1,31 @@
+//! What came to a sink, which only proofs read.
+ghost use Rattle.std.specs.Prelude.{◌≡◌, ◌++◌, ℕ, List, []};
+ghost use Rattle.std.specs.Borrow.{ftrue};
+
+use std::marker::Model;
+
+/// All bytes that came. It takes no memory, and its methods do nothing when they run.
+#[derive(Drop)]
+pub struct Came {
+    pub ghost bytes: { List ℕ },
+}
+
+impl Model for Came {
+    ghost also_owns = { λ _. ftrue };
+}
+
+impl Came {
+    /// None so far.
+    pub fn none() -> Came
+        ensures { result.bytes ≡ [] }
+    {
+        Came {}
+    }
+
+    /// And these.
+    pub fn and(&self, bytes: &[u8]) -> Came
+        ensures { result.bytes ≡ self.now.bytes ++ bytes.now }
+    {
+        Came {}
+    }
+}

@@ -1,0 +1,50 @@
+//! The schedules of traces.
+ghost use Rattle.std.specs.Prelude.{◌≡◌};
+ghost use Rattle.vuthgal_c.specs.Beyond.{NamesChoices, done_by_trace};
+ghost use Rattle.vuthgal_c.specs.Shows.{Shows};
+ghost use Rattle.workbench.specs.Done.{IsSettledBy};
+
+use crate::counting_sink::CountingSink;
+use crate::handing::{hand_over, no_memory};
+use byte_ports::Sink;
+use commands::choices::choices;
+use std::alloc::Global;
+use workbench::done::{self, Done};
+use workbench::fault::Fault;
+use workbench::slice_source::SliceSource;
+
+/// The status of what was told of a trace, and the line of its fault.
+fn settled<E: Sink>(answer: Result<bool, Fault>, line: &mut E) -> u8
+    ensures { IsSettledBy done_by_trace answer result (E.has_failed line.new) (E.written line.old) (E.written line.new) }
+{
+    match answer {
+        Ok(true) => done::settled(Ok(Done::AsAsked), line),
+        Ok(false) => done::settled(Ok(Done::Unlike), line),
+        Err(fault) => done::settled(Err(fault), line),
+    }
+}
+
+/// Names the choices of a trace. The output is its schedule.
+#[unsafe(no_mangle)]
+pub extern "C" fn vuthgal_choices(
+    alloc: Global,
+    trace: &[u8],
+    output: &mut [u8],
+    output_length: &mut usize,
+    line: &mut [u8],
+    line_length: &mut usize,
+) -> u8
+    ensures { Shows (NamesChoices trace.now) result output.old output.new output_length.new line.old line.new line_length.new }
+{
+    let mut trace = SliceSource::new(trace);
+    let mut shown = CountingSink::new(alloc, output.len());
+    let mut told = CountingSink::new(alloc, line.len());
+    let answer = choices(alloc, &mut trace, &mut shown);
+    let status = settled(answer, &mut told);
+    if !shown.has_kept(output.len()) || !told.has_kept(line.len()) {
+        return no_memory(output, output_length, line, line_length);
+    }
+    hand_over(&shown, output, output_length);
+    hand_over(&told, line, line_length);
+    status
+}

@@ -1,0 +1,91 @@
+//! A sink into memory that counts on where it can't keep.
+ghost use Rattle.std.specs.Prelude.{◌≡◌, ◌≤◌, ◌+◌, ◌++◌, [], ℕ, List, Some, IsTrue, false, length, min};
+ghost use Rattle.std.specs.Io.KnownBytes.{Appends};
+ghost use Rattle.byte_ports.specs.Port.{FailsForGood};
+ghost use Rattle.vuthgal_c.specs.Counting.{AreFirst, Tally, most_counted};
+
+use crate::came::Came;
+use byte_ports::{Failed, Sink};
+use std::alloc::Global;
+use std::marker::Model;
+
+/// Keeps the first bytes, as many as there may be and there is memory for, counts all, and never fails.
+#[derive(Drop)]
+pub struct CountingSink {
+    kept: Vec<u8>,
+    most: usize,
+    count: usize,
+    came: Came,
+}
+
+impl Model for CountingSink {
+    ghost Value = { Tally };
+
+    ghost view = { λ s. record { written = s.came.bytes; kept = s.kept.items } };
+
+    ghost invariant = { λ s. AreFirst s.kept.items s.came.bytes
+        × (s.count ≡ min (length s.came.bytes) most_counted) };
+}
+
+impl CountingSink {
+    /// Keeps `most` bytes at most. It takes memory as they come.
+    pub fn new(alloc: Global, most: usize) -> CountingSink
+        ensures { result ≡ record { written = []; kept = [] } }
+    {
+        CountingSink {
+            kept: Vec::new(alloc),
+            most,
+            count: 0,
+            came: Came::none(),
+        }
+    }
+
+    /// What it has kept.
+    pub fn kept(&self) -> &[u8]
+        ensures kept { result.now ≡ self.now.kept }
+        ensures first { AreFirst result.now self.now.written }
+    {
+        self.kept.as_slice()
+    }
+
+    /// How many bytes came.
+    pub fn count(&self) -> usize
+        ensures { result ≡ min (length self.now.written) most_counted }
+    {
+        self.count
+    }
+
+    /// Whether it has kept all that fits a room.
+    pub fn has_kept(&self, room: usize) -> bool
+        ensures { IsTrue result → min (length self.now.written) room ≤ length self.now.kept }
+    {
+        self.kept.len() >= self.count.min(room)
+    }
+}
+
+/// Keeps the first of these bytes, where all that came was kept, so many, and more may be.
+fn keep(kept: &mut Vec<u8>, most: usize, count: usize, bytes: &[u8])
+    ensures { (came : List ℕ) → AreFirst kept.old.items came → count ≡ min (length came) most_counted
+        → AreFirst kept.new.items (came ++ bytes.now) }
+{
+    if kept.len() == count && kept.len() < most {
+        let fits = bytes.len().min(most - kept.len());
+        let _ = kept.extend_from_slice(&bytes[..fits]);
+    }
+}
+
+impl Sink for CountingSink {
+    ghost written = { λ s. Some s.written };
+
+    ghost has_failed = { λ _. false };
+
+    fn push(&mut self, bytes: &[u8]) -> Result<(), Failed>
+        ensures failed { FailsForGood false false result }
+        ensures bytes { Appends (Some self.old.written) (Some self.new.written) bytes.now }
+    {
+        keep(&mut self.kept, self.most, self.count, bytes);
+        self.count = self.count.saturating_add(bytes.len());
+        self.came = self.came.and(bytes);
+        Ok(())
+    }
+}

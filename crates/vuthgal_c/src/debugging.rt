@@ -1,0 +1,35 @@
+//! Sessions of the debugger.
+ghost use Rattle.vuthgal_c.specs.Calls.{DebugsProgram};
+ghost use Rattle.vuthgal_c.specs.Shows.{Shows};
+
+use crate::counting_sink::CountingSink;
+use crate::handing::{hand_over, no_memory};
+use std::alloc::Global;
+use workbench::debug_cmd;
+use workbench::slice_source::SliceSource;
+
+/// Carries out lines of commands on a program. The output is the replies.
+#[unsafe(no_mangle)]
+pub extern "C" fn vuthgal_debug(
+    alloc: Global,
+    program: &[u8],
+    commands: &[u8],
+    output: &mut [u8],
+    output_length: &mut usize,
+    line: &mut [u8],
+    line_length: &mut usize,
+) -> u8
+    ensures { Shows (DebugsProgram program.now commands.now) result output.old output.new output_length.new line.old line.new line_length.new }
+{
+    let mut program = SliceSource::new(program);
+    let mut commands = SliceSource::new(commands);
+    let mut shown = CountingSink::new(alloc, output.len());
+    let mut told = CountingSink::new(alloc, line.len());
+    let status = debug_cmd(alloc, &mut program, &mut commands, &mut shown, &mut told);
+    if !shown.has_kept(output.len()) || !told.has_kept(line.len()) {
+        return no_memory(output, output_length, line, line_length);
+    }
+    hand_over(&shown, output, output_length);
+    hand_over(&told, line, line_length);
+    status
+}

@@ -1,0 +1,79 @@
+//! What words mean.
+ghost use Rattle.std.specs.Prelude.{[], ◌≡◌, IfOk, Some, false, map};
+ghost use Rattle.vuthgal_c.specs.Explaining.{Explains, ExplainsText, SettlesExplaining};
+ghost use Rattle.vuthgal_c.specs.Shows.{Shows};
+ghost use Rattle.vuthgal_c.specs.Words.{AreWordsOf};
+
+use crate::counting_sink::CountingSink;
+use crate::handing::{hand_over, no_memory};
+use byte_ports::Sink;
+use refusals::entries::tables;
+use refusals::explain::{NO_LINE, QUESTIONS, explain, push_no_line};
+use std::alloc::{AllocError, Global};
+use workbench::done;
+use workbench::fault::Fault;
+
+/// The words of a text.
+fn words_of(alloc: Global, text: &str) -> Result<Vec<&str>, AllocError>
+    ensures { IfOk result (λ words. AreWordsOf text.now (map (λ w. w.now) words.items)) }
+{
+    let mut words = Vec::new(alloc);
+    for word in text.split_ascii_whitespace() {
+        words.push(word)?;
+    }
+    Ok(words)
+}
+
+/// Writes what the words of a text mean, and returns whether they mean something.
+fn explained<K: Sink>(alloc: Global, text: &[u8], output: &mut K) -> Result<bool, Fault>
+    ensures { ExplainsText QUESTIONS.now text.now result (K.written output.old) (K.written output.new) (K.has_failed output.new) }
+{
+    let Ok(text) = str::from_utf8(text) else {
+        return Ok(false);
+    };
+    let Ok(words) = words_of(alloc, text) else {
+        return Err(Fault::Memory);
+    };
+    match explain(&tables(), words.as_slice(), output) {
+        Ok(means) => Ok(means),
+        Err(_) => Err(Fault::Write),
+    }
+}
+
+/// The status of what came of words, and its line.
+fn settled<E: Sink>(answer: Result<bool, Fault>, line: &mut E) -> u8
+    ensures { SettlesExplaining QUESTIONS.now NO_LINE.now answer result (E.has_failed line.new) (E.written line.old) (E.written line.new) }
+{
+    match answer {
+        Ok(true) => 0,
+        Ok(false) => {
+            let _ = push_no_line(line);
+            2
+        }
+        Err(fault) => done::settled(Err(fault), line),
+    }
+}
+
+/// Explains the words of a line. The output is what they mean.
+#[unsafe(no_mangle)]
+pub extern "C" fn vuthgal_explain(
+    alloc: Global,
+    words: &[u8],
+    output: &mut [u8],
+    output_length: &mut usize,
+    line: &mut [u8],
+    line_length: &mut usize,
+) -> u8
+    ensures { Shows (Explains QUESTIONS.now NO_LINE.now words.now) result output.old output.new output_length.new line.old line.new line_length.new }
+{
+    let mut shown = CountingSink::new(alloc, output.len());
+    let mut told = CountingSink::new(alloc, line.len());
+    let answer = explained(alloc, words, &mut shown);
+    let status = settled(answer, &mut told);
+    if !shown.has_kept(output.len()) || !told.has_kept(line.len()) {
+        return no_memory(output, output_length, line, line_length);
+    }
+    hand_over(&shown, output, output_length);
+    hand_over(&told, line, line_length);
+    status
+}

@@ -1,0 +1,28 @@
+//! The program in a file, and how much of one is read.
+ghost use Rattle.std.specs.Prelude.{◌≡◌, ◌≤◌, ◌↔◌, IsTrue, IfErr, IfOk, length};
+ghost use Rattle.workbench.specs.Input.{most_bytes};
+ghost use Rattle.workbench.specs.ProgramFile.{IsNoProgramFor};
+ghost use Rattle.vuthgal_c.specs.Beyond.{IsProgramIn};
+
+use std::alloc::Global;
+use workbench::Program;
+use workbench::fault::Fault;
+use workbench::program::program_in;
+
+/// How many bytes an input may have.
+const MOST_BYTES: usize = 16_777_216;
+
+/// Whether an input has no more bytes than one may have.
+pub fn is_within(bytes: &[u8]) -> bool
+    ensures { IsTrue result ↔ (length bytes.now ≤ most_bytes) }
+{
+    bytes.len() <= MOST_BYTES
+}
+
+/// `program_in`, with what it says of a program in one clause.
+pub fn whole_program(alloc: Global, file: &[u8]) -> Result<Program<'_>, Fault>
+    ensures program { IfOk result (λ program. IsProgramIn file.now program) }
+    ensures none { IfErr result (λ fault. IsNoProgramFor fault file.now) }
+{
+    program_in(alloc, file)
+}

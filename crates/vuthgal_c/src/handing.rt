@@ -1,0 +1,51 @@
+//! What a command wrote, in the memory of the caller.
+ghost use Rattle.std.specs.Prelude.{◌≡◌, ◌≤◌, ℕ, List, [], IsTrue, length, min, codes};
+ghost use Rattle.vuthgal_c.specs.Counting.{AreFirst, most_counted};
+ghost use Rattle.vuthgal_c.specs.Shows.{Holds};
+
+use crate::counting_sink::CountingSink;
+
+/// The line where there is no memory.
+const NO_MEMORY: &[u8] = b"memory\n";
+
+/// Copies the first bytes, as many as there is room for, and tells how many all are.
+fn hand(first: &[u8], count: usize, room: &mut [u8], told: &mut usize)
+    requires { min count (length room.old) ≤ length first.now }
+    ensures { (bytes : List ℕ) → AreFirst first.now bytes → count ≡ min (length bytes) most_counted
+        → Holds room.old room.new told.new bytes }
+{
+    let n = count.min(room.len());
+    room[..n].copy_from_slice(&first[..n]);
+    *told = count;
+}
+
+/// Hands over these bytes.
+pub fn hand_all(bytes: &[u8], room: &mut [u8], told: &mut usize)
+    ensures { Holds room.old room.new told.new bytes.now }
+{
+    hand(bytes, bytes.len(), room, told);
+}
+
+/// Hands over what came to a sink.
+pub fn hand_over(sink: &CountingSink, room: &mut [u8], told: &mut usize)
+    requires { min (length sink.now.written) (length room.old) ≤ length sink.now.kept }
+    ensures { Holds room.old room.new told.new sink.now.written }
+{
+    hand(sink.kept(), sink.count(), room, told);
+}
+
+/// Tells that there was no memory, and answers the status.
+pub fn no_memory(
+    shown: &mut [u8],
+    shown_count: &mut usize,
+    line: &mut [u8],
+    line_count: &mut usize,
+) -> u8
+    ensures status { result ≡ 4 }
+    ensures shown { Holds shown.old shown.new shown_count.new [] }
+    ensures line { Holds line.old line.new line_count.new (codes "memory\n") }
+{
+    hand_all(&[], shown, shown_count);
+    hand_all(NO_MEMORY, line, line_count);
+    4
+}

@@ -1,0 +1,26 @@
+//! The commands that need no threads, as calls for C and for what calls C.
+//!
+//! A call takes bytes, and writes to memory of its caller as `snprintf` does: the bytes that fit, and the count of all. Output,
+//! status and line are those that its command promises of ports in memory. Nothing is kept between calls. `include/vuthgal.h`
+//! declares them.
+#![tactic(auto)]
+
+// A sink that counts on where it can't keep, and what it hands over.
+pub mod came;
+pub mod counting_sink;
+pub mod handing;
+
+// The program in a file.
+pub mod files;
+
+// The calls.
+pub mod choices;
+pub mod debugging;
+pub mod explaining;
+mod origin;
+pub mod planning;
+pub mod playing;
+pub mod showing;
+pub mod texts;
+pub mod traces;
+pub mod version;

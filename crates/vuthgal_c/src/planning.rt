@@ -1,0 +1,75 @@
+//! The schedules of plans.
+ghost use Rattle.std.specs.Prelude.{[], Some, false};
+ghost use Rattle.vuthgal_c.specs.Beyond.{Plans, PlansSteps, SettlesPlan};
+ghost use Rattle.vuthgal_c.specs.Shows.{Shows};
+ghost use Rattle.commands.specs.declared.unplanned.Unplanned.{Unplanned};
+
+use crate::counting_sink::CountingSink;
+use crate::files::{is_within, whole_program};
+use crate::handing::{hand_over, no_memory};
+use byte_ports::Sink;
+use commands::making::parts_of;
+use commands::plan::plan;
+use commands::unplanned::Unplanned;
+use std::alloc::Global;
+use workbench::fault::Fault;
+
+/// Writes the schedule that a plan stands for on the program in a file.
+fn planned<K: Sink>(
+    alloc: Global,
+    file: &[u8],
+    steps: &[u8],
+    output: &mut K,
+) -> Result<bool, Unplanned>
+    ensures { PlansSteps file.now steps.now result (K.written output.old) (K.written output.new) }
+{
+    if !is_within(file) || !is_within(steps) {
+        return Err(Unplanned::Fault(Fault::Read));
+    }
+    match whole_program(alloc, parts_of(file).0) {
+        Ok(program) => plan(alloc, program, steps, output),
+        Err(fault) => Err(Unplanned::Fault(fault)),
+    }
+}
+
+/// The status of what a plan came to, and its line.
+fn settled<E: Sink>(answer: Result<bool, Unplanned>, line: &mut E) -> u8
+    ensures { SettlesPlan answer result (E.has_failed line.new) (E.written line.old) (E.written line.new) }
+{
+    match answer {
+        Ok(false) => 0,
+        Ok(true) => {
+            let _ = line.push(b"stopped at 1000000 choices\n");
+            1
+        }
+        Err(why) => {
+            let _ = why.tell(line);
+            why.status()
+        }
+    }
+}
+
+/// Plans a program, an image or a text with or without a schedule behind it. The output is the schedule.
+#[unsafe(no_mangle)]
+pub extern "C" fn vuthgal_plan(
+    alloc: Global,
+    program: &[u8],
+    plan: &[u8],
+    output: &mut [u8],
+    output_length: &mut usize,
+    line: &mut [u8],
+    line_length: &mut usize,
+) -> u8
+    ensures { Shows (Plans program.now plan.now) result output.old output.new output_length.new line.old line.new line_length.new }
+{
+    let mut shown = CountingSink::new(alloc, output.len());
+    let mut told = CountingSink::new(alloc, line.len());
+    let answer = planned(alloc, program, plan, &mut shown);
+    let status = settled(answer, &mut told);
+    if !shown.has_kept(output.len()) || !told.has_kept(line.len()) {
+        return no_memory(output, output_length, line, line_length);
+    }
+    hand_over(&shown, output, output_length);
+    hand_over(&told, line, line_length);
+    status
+}

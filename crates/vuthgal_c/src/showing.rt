@@ -1,0 +1,103 @@
+//! Pictures of a run.
+ghost use Rattle.std.specs.Prelude.{[], Some, false};
+ghost use Rattle.commands.specs.Drawing.{IsDrawingIn};
+ghost use Rattle.commands.specs.Page.{IsPageIn};
+ghost use Rattle.vuthgal_c.specs.Beyond.{Makes, MakesPicture};
+ghost use Rattle.vuthgal_c.specs.Shows.{Shows};
+ghost use Rattle.pictures.specs.declared.others.OtherRuns.TheVariants as others;
+ghost use Rattle.workbench.specs.declared.fault.PictureKind.TheVariants as picture;
+
+use crate::counting_sink::CountingSink;
+use crate::files::{is_within, whole_program};
+use crate::handing::{hand_over, no_memory};
+use byte_ports::Sink;
+use commands::drawing::Drawing;
+use commands::making::make;
+use commands::page::Page;
+use commands::picture::Picture;
+use pictures::others::OtherRuns;
+use std::alloc::Global;
+use workbench::done::settled_as_asked;
+use workbench::fault::Fault;
+use workbench::slice_source::SliceSource;
+
+/// Writes the picture of a program under a schedule.
+fn made<P: Picture, K: Sink>(
+    alloc: Global,
+    picture: &P,
+    file: &[u8],
+    schedule: &[u8],
+    output: &mut K,
+) -> Result<(), Fault>
+    ensures { MakesPicture (P.is_picture picture.now) P.kind file.now schedule.now result (K.written output.old) (K.written output.new) }
+{
+    if !is_within(file) {
+        return Err(Fault::Read);
+    }
+    let mut schedule = SliceSource::new(schedule);
+    let program = match whole_program(alloc, file) {
+        Ok(program) => program,
+        Err(fault) => return Err(fault),
+    };
+    match make(alloc, picture, program, &mut schedule, output) {
+        Ok(_) => Ok(()),
+        Err(fault) => Err(fault),
+    }
+}
+
+/// Shows the run of a program under a schedule. The output is a page for a browser.
+#[unsafe(no_mangle)]
+pub extern "C" fn vuthgal_show(
+    alloc: Global,
+    program: &[u8],
+    schedule: &[u8],
+    output: &mut [u8],
+    output_length: &mut usize,
+    line: &mut [u8],
+    line_length: &mut usize,
+) -> u8
+    ensures { Shows (Makes (λ program schedule page. IsPageIn others.Told program.image program.bytes.now schedule page) picture.Page program.now schedule.now)
+        result output.old output.new output_length.new line.old line.new line_length.new }
+{
+    let mut shown = CountingSink::new(alloc, output.len());
+    let mut told = CountingSink::new(alloc, line.len());
+    let page = Page {
+        others: OtherRuns::Told,
+    };
+    let answer = made(alloc, &page, program, schedule, &mut shown);
+    let status = settled_as_asked(answer, &mut told);
+    if !shown.has_kept(output.len()) || !told.has_kept(line.len()) {
+        return no_memory(output, output_length, line, line_length);
+    }
+    hand_over(&shown, output, output_length);
+    hand_over(&told, line, line_length);
+    status
+}
+
+/// Draws the run of a program under a schedule, in lines of at most `width` columns. The output is the drawing.
+#[unsafe(no_mangle)]
+pub extern "C" fn vuthgal_draw(
+    alloc: Global,
+    program: &[u8],
+    schedule: &[u8],
+    width: u16,
+    output: &mut [u8],
+    output_length: &mut usize,
+    line: &mut [u8],
+    line_length: &mut usize,
+) -> u8
+    ensures { Shows (Makes (λ program schedule text. IsDrawingIn width program.image program.names schedule text) picture.Drawing program.now schedule.now)
+        result output.old output.new output_length.new line.old line.new line_length.new }
+{
+    let mut shown = CountingSink::new(alloc, output.len());
+    let mut told = CountingSink::new(alloc, line.len());
+    let drawing = Drawing { width };
+    let answer = made(alloc, &drawing, program, schedule, &mut shown);
+    let status = settled_as_asked(answer, &mut told);
+    if !shown.has_kept(output.len()) || !told.has_kept(line.len()) {
+        return no_memory(output, output_length, line, line_length);
+    }
+    hand_over(&shown, output, output_length);
+    hand_over(&told, line, line_length);
+    status
+}

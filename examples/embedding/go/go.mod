@@ -1,0 +1,3 @@
+module vuthgal.example/once
+
+go 1.19

@@ -1,0 +1,85 @@
+package kit.player;
+
+import java.io.IOException;
+import java.io.InputStream;
+
+/** A port's standard error. It is passed on as it comes, and the first warning of a race detector is kept. */
+final class PortErrors {
+    private static final String OF_GO = "WARNING: DATA RACE";
+    private static final String OF_THREAD_SANITIZER = "WARNING: ThreadSanitizer:";
+    /** What begins and ends a warning of either. */
+    private static final String RULE = "====";
+    private static final int MOST_LINES = 80;
+    private static final int CHUNK = 8_192;
+    private static final int LONGEST = 1_000;
+    private static final long MILLISECONDS_TO_THE_END = 1_000;
+
+    private final InputStream from;
+    private final Thread reader = new Thread(this::read, "errors of the port");
+    private final StringBuilder line = new StringBuilder();
+    private StringBuilder warning;
+    private int lines;
+    private volatile String whole;
+
+    PortErrors(Process process) {
+        from = process.getErrorStream();
+        reader.setDaemon(true);
+        reader.start();
+    }
+
+    /** The lines of a warning that has come to its end; null where there is none. */
+    String warning() {
+        return whole;
+    }
+
+    /** The same once the port has ended, and with it all that it had to say. */
+    String lastWarning() {
+        try {
+            reader.join(MILLISECONDS_TO_THE_END);
+        } catch (InterruptedException never) {
+            throw new IllegalStateException(never);
+        }
+        return whole;
+    }
+
+    private void read() {
+        byte[] chunk = new byte[CHUNK];
+        try {
+            for (int count = from.read(chunk); count >= 0; count = from.read(chunk)) {
+                System.err.write(chunk, 0, count);
+                System.err.flush();
+                for (int at = 0; at < count; at++) {
+                    take((char) (chunk[at] & 0xff));
+                }
+            }
+        } catch (IOException closed) {
+            // the port has ended
+        }
+        end();
+    }
+
+    private void take(char letter) {
+        if (letter != '\n') {
+            if (line.length() < LONGEST) {
+                line.append(letter);
+            }
+            return;
+        }
+        String told = line.toString();
+        line.setLength(0);
+        if (warning == null && (told.contains(OF_GO) || told.contains(OF_THREAD_SANITIZER))) {
+            warning = new StringBuilder();
+        }
+        if (warning != null && told.startsWith(RULE)) {
+            end();
+        } else if (warning != null && lines++ < MOST_LINES) {
+            warning.append("    ").append(told).append('\n');
+        }
+    }
+
+    private void end() {
+        if (warning != null && whole == null) {
+            whole = warning.toString().stripTrailing();
+        }
+    }
+}

@@ -1,0 +1,86 @@
+"""Points: places at which a thread may stand still until others have gone some steps, so that races of two steps come about
+(docs/PORTING.md, "Points"). Without POINTS=SEED in the environment a point is one look at a global.
+
+Put Lock and Condition in place of those of threading, and point() before and after whatever else others can see. The adapter
+calls begin_list() when a thread begins a list. An interpreter with one lock changes threads every 5 ms, so without points hardly
+anything overlaps at all.
+"""
+
+import os
+import random
+import threading
+import time
+
+SEED = os.environ.get("POINTS")
+MOST_PASSED = 7             # who stands lets so many points of all threads go by: two to this power at most
+LONGEST = 0.02              # seconds: all others may be waiting for the one that stands
+
+passed = 0                  # a count that is lost does no harm
+threads = 0
+own = threading.local()     # chances; left: so many points before it stands; more: so often it stands after that
+
+
+def chances():
+    global threads
+    if not hasattr(own, "chances"):
+        threads += 1
+        own.chances, own.left, own.more = random.Random(f"{SEED} {threads}"), 0, 0
+    return own.chances
+
+
+def some(power):
+    """A random number from 1 up to two to this power; of two sizes each comes as often."""
+    return chances().randint(1, 2 << chances().randrange(power))
+
+
+def begin_list():
+    """In every other list the thread stands once to three times."""
+    if SEED is not None:
+        own.left, own.more = some(6) if chances().randrange(2) else 0, chances().randrange(3)
+
+
+def stand():
+    """Until others have passed some points. That isn't a time, so it works on a quiet machine and on a busy one."""
+    until, end = passed + some(MOST_PASSED), time.monotonic() + LONGEST
+    while passed < until and time.monotonic() < end:
+        time.sleep(20e-6)
+
+
+def point():
+    global passed
+    if SEED is None:
+        return
+    chances()
+    passed += 1
+    if own.left > 0:
+        own.left -= 1
+        if own.left == 0:
+            stand()
+            own.left, own.more = some(5) if own.more else 0, max(0, own.more - 1)
+
+
+class Lock:
+    def __init__(self):
+        self._lock = threading.Lock()
+
+    def acquire(self, *how):
+        point()
+        got = self._lock.acquire(*how)
+        point()
+        return got
+
+    def release(self):
+        point()
+        self._lock.release()
+        point()
+
+    def __enter__(self):
+        self.acquire()
+
+    def __exit__(self, *why):
+        self.release()
+
+
+def Condition():
+    """Its waits give the lock back, and take it, and so have their points."""
+    return threading.Condition() if SEED is None else threading.Condition(Lock())

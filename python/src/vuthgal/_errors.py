@@ -1,0 +1,66 @@
+"""What ends a call that doesn't do as it was asked."""
+from typing import Optional, Tuple
+
+
+class Refused(ValueError):
+    """An input is refused. `str()` is the line of it, and what it means."""
+
+    def __init__(self, told: str, output: bytes = b"") -> None:
+        super().__init__(told)
+        words = told.split()
+        #: the line, as the program writes it
+        self.told: str = told
+        #: which input is refused: asm, image, load, schedule, plan, show or draw
+        self.group: str = words[1]
+        numbers = words[2:]
+        #: the line of the text, from 1, of a program's text and of a plan; else None
+        self.line: Optional[int] = int(numbers.pop(0)) if self.group in ("asm", "plan") else None
+        #: the number of the kind
+        self.kind: int = int(numbers.pop(0))
+        #: where it is, in words: a row, a thread, a byte of the schedule
+        self.place: Tuple[str, ...] = tuple(numbers)
+        #: what was written before: of a schedule, the lines of the choices before its fault
+        self.output: bytes = output
+
+    @property
+    def meaning(self) -> str:
+        """What the line means and what helps, as `vuthgal explain` says it."""
+        from ._calls import explain
+
+        return explain(self.told)
+
+    def __str__(self) -> str:
+        return f"{self.told}\n{self.meaning}"
+
+
+class Differs(AssertionError):
+    """A trace isn't that of the run."""
+
+    def __init__(self, told: str, line: int) -> None:
+        super().__init__(told)
+        #: the first line that differs, from 1
+        self.line: int = line
+
+
+class NotATrace(Differs):
+    """It is no trace: `line` is the first that is no line of one. `before` is the schedule of the lines before it."""
+
+    def __init__(self, told: str, line: int, before: str = "") -> None:
+        super().__init__(told, line)
+        self.before: str = before
+
+
+class NoLine(LookupError):
+    """Words to be explained are those of no line."""
+
+
+class OutOfMemory(MemoryError):
+    """There is no memory for a call. `output` is a beginning of what it would have written."""
+
+    def __init__(self, output: bytes) -> None:
+        super().__init__("memory")
+        self.output: bytes = output
+
+
+class TooLong(ValueError):
+    """An input has more bytes than it may have."""

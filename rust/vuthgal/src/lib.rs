@@ -1,0 +1,204 @@
+//! Vuthgal's commands as functions in this process: the proved code of the program, and the standard library alone.
+//!
+//! ```
+//! let trace = vuthgal::run(b".phaser p 1\n.thread a main\nmain: parr r0 p\nhalt\n", b"t0*2").unwrap();
+//! assert!(trace.starts_with("1 t0 0 = 0 +p0 1\n"));
+//! ```
+//!
+//! A program is the bytes of a text or of an image. docs/README.md lists the formats.
+
+use std::cell::RefCell;
+use std::error::Error;
+use std::fmt;
+use vuthgal_sys as sys;
+
+/// What ends a call that doesn't do as it was asked.
+#[derive(Clone, Debug, PartialEq, Eq)]
+pub enum Fault {
+    /// An input is refused: the line of it, and what was written before.
+    Refused { line: String, output: Vec<u8> },
+    /// There is no memory: what stands there is a beginning of the whole.
+    Memory { output: Vec<u8> },
+    /// An input has more than 16,777,216 bytes.
+    TooLong,
+}
+
+impl fmt::Display for Fault {
+    fn fmt(&self, f: &mut fmt::Formatter<'_>) -> fmt::Result {
+        match self {
+            Fault::Refused { line, .. } => match explain(line) {
+                Some(meaning) => write!(f, "{line}\n{meaning}"),
+                None => f.write_str(line),
+            },
+            Fault::Memory { .. } => f.write_str("memory"),
+            Fault::TooLong => f.write_str("an input has more than 16,777,216 bytes"),
+        }
+    }
+}
+
+impl Error for Fault {}
+
+/// What a comparison comes to. Lines count from 1.
+#[derive(Clone, Copy, Debug, PartialEq, Eq)]
+pub enum Verdict {
+    Same,
+    Differs { line: u64 },
+    NotATrace { line: u64 },
+}
+
+/// The schedule of a trace, or of the lines before the first that is no line of one.
+#[derive(Clone, Debug, PartialEq, Eq)]
+pub struct Choices {
+    pub schedule: String,
+    pub no_line: Option<u64>,
+}
+
+/// The schedule of a plan, and whether it wanted one more choice than 1,000,000.
+#[derive(Clone, Debug, PartialEq, Eq)]
+pub struct Planned {
+    pub schedule: String,
+    pub stopped: bool,
+}
+
+/// Where a thread's calls write.
+struct Room {
+    output: Vec<u8>,
+    line: [u8; 4096],
+}
+
+thread_local! {
+    static ROOM: RefCell<Room> = const { RefCell::new(Room { output: Vec::new(), line: [0; 4096] }) };
+}
+
+/// A call, by what it is handed: output, room, length; line, room, length.
+type Call<'a> = &'a dyn Fn(*mut u8, usize, *mut usize, *mut u8, usize, *mut usize) -> u8;
+
+/// The status, the output and the line of a call, which is made again where there was too little room.
+fn called(call: Call<'_>) -> (u8, Vec<u8>, Vec<u8>) {
+    ROOM.with_borrow_mut(|room| {
+        if room.output.is_empty() {
+            room.output.resize(1 << 16, 0);
+        }
+        loop {
+            let (mut length, mut line_length) = (0, 0);
+            let status = call(
+                room.output.as_mut_ptr(),
+                room.output.len(),
+                &mut length,
+                room.line.as_mut_ptr(),
+                room.line.len(),
+                &mut line_length,
+            );
+            if length <= room.output.len() {
+                let line = &room.line[..line_length.min(room.line.len())];
+                return (status, room.output[..length].to_vec(), line.to_vec());
+            }
+            room.output.resize(length, 0);
+        }
+    })
+}
+
+fn text(bytes: Vec<u8>) -> String {
+    String::from_utf8_lossy(&bytes).into_owned()
+}
+
+/// Whether the status is 1, and the output; or the fault.
+fn answer((status, output, line): (u8, Vec<u8>, Vec<u8>)) -> Result<(bool, Vec<u8>), Fault> {
+    match status {
+        0 | 1 => Ok((status == 1, output)),
+        3 => Err(Fault::Refused { line: text(line).trim_end().to_owned(), output }),
+        4 => Err(Fault::Memory { output }),
+        _ => Err(Fault::TooLong),
+    }
+}
+
+macro_rules! call {
+    ($name:ident, $($input:expr),+ $(; $more:expr)?) => {
+        // The slices are valid for their lengths, the outputs are the room's own, and nothing overlaps.
+        answer(called(&|output, room, length, line, line_room, line_length| unsafe {
+            sys::$name($($input.as_ptr(), $input.len(),)+ $($more,)? output, room, length, line, line_room, line_length)
+        }))
+    };
+}
+
+/// Plays a program under a schedule: the trace.
+pub fn run(program: &[u8], schedule: &[u8]) -> Result<String, Fault> {
+    Ok(text(call!(vuthgal_run, program, schedule)?.1))
+}
+
+/// Plays a program's text under the schedule behind its line `.run`: the trace.
+pub fn run_text(program_and_schedule: &[u8]) -> Result<String, Fault> {
+    Ok(text(call!(vuthgal_both, program_and_schedule)?.1))
+}
+
+/// The image of a program's text.
+pub fn assemble(program: &[u8]) -> Result<Vec<u8>, Fault> {
+    Ok(call!(vuthgal_asm, program)?.1)
+}
+
+/// The canonical text of a program.
+pub fn list(program: &[u8]) -> Result<String, Fault> {
+    Ok(text(call!(vuthgal_list, program)?.1))
+}
+
+/// The number at the end of a line.
+fn number_in(line: &str) -> u64 {
+    line.rsplit(' ').next().and_then(|word| word.trim_end().parse().ok()).unwrap_or(0)
+}
+
+/// Compares a trace with the run that it names.
+pub fn compare(program: &[u8], trace: &[u8]) -> Result<Verdict, Fault> {
+    let told = text(call!(vuthgal_compare, program, trace)?.1);
+    let line = number_in(&told);
+    Ok(match told.as_bytes().first() {
+        Some(b's') => Verdict::Same,
+        Some(b'd') => Verdict::Differs { line },
+        _ => Verdict::NotATrace { line },
+    })
+}
+
+/// The schedule of a trace.
+pub fn choices(trace: &[u8]) -> Result<Choices, Fault> {
+    let (is_none, output) = call!(vuthgal_choices, trace)?;
+    let told = text(output);
+    let mut lines: Vec<&str> = told.lines().collect();
+    let no_line = if is_none { lines.pop().map(number_in) } else { None };
+    Ok(Choices { schedule: lines.concat(), no_line })
+}
+
+/// The schedule that a plan stands for on a program.
+pub fn plan(program: &[u8], plan: &[u8]) -> Result<Planned, Fault> {
+    let (stopped, output) = call!(vuthgal_plan, program, plan)?;
+    Ok(Planned { schedule: text(output).trim_end().to_owned(), stopped })
+}
+
+/// The page that shows a run, for a browser.
+pub fn page(program: &[u8], schedule: &[u8]) -> Result<String, Fault> {
+    Ok(text(call!(vuthgal_show, program, schedule)?.1))
+}
+
+/// A run drawn as text, in lines of at most `width` bytes, from 60 to 1000.
+pub fn draw(program: &[u8], schedule: &[u8], width: u16) -> Result<String, Fault> {
+    Ok(text(call!(vuthgal_draw, program, schedule; width)?.1))
+}
+
+/// The replies of the debugger to lines of commands.
+pub fn debug(program: &[u8], commands: &[u8]) -> Result<String, Fault> {
+    Ok(text(call!(vuthgal_debug, program, commands)?.1))
+}
+
+/// What the words of a line mean; without words, what can be asked. None where no line has them.
+pub fn explain(words: &str) -> Option<String> {
+    let (status, output, _) = called(&|output, room, length, line, line_room, line_length| unsafe {
+        sys::vuthgal_explain(words.as_ptr(), words.len(), output, room, length, line, line_room, line_length)
+    });
+    (status == 0).then(|| text(output))
+}
+
+/// The version of the library, the kit that proved it, and the sum of its sources, a line each.
+pub fn version() -> String {
+    let mut output = [0; 512];
+    let mut length = 0;
+    unsafe { sys::vuthgal_version(output.as_mut_ptr(), output.len(), &mut length) };
+    text(output[..length.min(output.len())].to_vec())
+}

@@ -1,9 +1,0 @@
-.phaser P_name_of_thirty_two_letters_abc 3
-.barrier B_name_of_thirty_two_letters_abc 2
-.thread T_name_of_thirty_two_letters_abc main
-.thread U_name_of_thirty_two_letters_abc other
-.thread short main
-main: paaa r0 P_name_of_thirty_two_letters_abc
- halt
-other: cawait r0 B_name_of_thirty_two_letters_abc
- L_name_of_thirty_two_letters_abc: jmp L_name_of_thirty_two_letters_abc
