@@ -1,24 +1,24 @@
--- What a call answers, held against what is read: memory can be missing in place of anything.
+-- The result of a call, compared with what is read. Any call may be out of memory instead.
 use Rattle.std.specs.Prelude.{ℕ, Bool, true, false, Result, Ok, Err}
 use Rattle.row_code.specs.Answers.{Answers, FailsUnless}
 use Rattle.line_reader.specs.declared.asm_fault.AsmFault.{AsmFault}
 use Rattle.line_reader.specs.declared.asm_fault.AsmFaultKind.{AsmFaultKind}
 use Rattle.line_reader.specs.declared.asm_fault.AsmFaultKind.TheVariants as fault
 
--- whether a fault is want of memory, which can stand in place of any answer
+-- whether a fault is out of memory, which any call may return instead of its result
 abbrev pub is_memory : AsmFaultKind → Bool
 is_memory fault.Memory = true
 is_memory _ = false
 
--- a fault of this kind is the one that is read, unless it is want of memory
+-- a fault of this kind is the one that is read, unless it is out of memory
 abbrev pub FailsAt : {Y : Type 0} → AsmFaultKind → AsmFault → Result Y AsmFault → Type 0
 FailsAt kind e read = FailsUnless (is_memory kind) e read
 
--- what was answered of the line of this number
+-- the result for the line of this number
 abbrev pub at_line : {X : Type 0} → ℕ → Result X AsmFaultKind → Result X AsmFault
 at_line number (Ok x) = Ok x
 at_line number (Err kind) = Err (record { line = number; kind = kind })
 
--- what was answered, seen by view, is what is read, unless memory was refused
+-- the result, seen through view, is what is read, unless the call is out of memory
 abbrev pub AnswersAt : {X Y : Type 0} → (X → Y) → Result X AsmFault → Result Y AsmFault → Type 0
 AnswersAt view answered read = Answers (λ e. is_memory e.kind) view answered read

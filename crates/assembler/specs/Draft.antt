@@ -1,5 +1,4 @@
--- What the assembler keeps of the lines read so far, beside the lines. It carries the proof alone: no
--- public contract and no theorem names it, and nobody has to believe it.
+-- What the assembler stores of the lines read so far, besides the lines. Only proofs use this: no promise depends on it.
 use Rattle.std.specs.Prelude.{◌≡◌, ℕ, if◌then◌else◌, Bool, bytes_eq, List, Option, Some, None, is_some}
 use Rattle.indexmap.specs.IndexMap.{IndexMap, get}
 use Rattle.instruction_table.specs.declared.shape.OperandKind.{OperandKind}
@@ -23,7 +22,7 @@ counted counts kind.Thread = counts.threads
 counted counts kind.Cell = counts.cells
 counted counts _ = 0
 
--- the number at a place that was looked up, where it is of this kind
+-- the number at a place that was looked up, if it is of this kind
 abbrev pub number_there : OperandKind → Option Place → Option ℕ
 number_there k None = None
 number_there k (Some place) = if is_kind k place.kind then Some place.number else None
@@ -48,7 +47,7 @@ pub record IsKept (lines : List (Line Name)) (names : Borrowed → Option Place)
   pub number : (k : OperandKind) → counted counts k ≡ count k lines
   pub any_code : code ≡ has_code lines
 
--- places by name, and one name more where there is one
+-- places by name, and one more if there is a name
 abbrev pub named_with : Option Name → Place → (Borrowed → Option Place) → Borrowed → Option Place
 named_with None place names name = names name
 named_with (Some given) place names name =

@@ -1,5 +1,4 @@
--- A line as it is kept until its names are looked up, seen as what it says. It carries the proof alone:
--- no public contract and no theorem names it, and nobody has to believe it.
+-- A line as it is stored until its names are looked up, and what it says. Only proofs use this: no promise depends on it.
 use Rattle.std.specs.Prelude.{ℕ, Bool, true, false, Some, None}
 use Rattle.assembler.specs.declared.kept_line.KeptLine.{KeptLine}
 use Rattle.assembler.specs.declared.kept_line.KeptLine.TheVariants as line

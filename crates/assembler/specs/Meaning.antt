@@ -31,7 +31,7 @@ use Rattle.line_reader.specs.Symbols.{Name, operands_in}
 use Rattle.line_reader.specs.Spelling.{Says, SaysNothing}
 use Rattle.assembler.specs.Statements.{number_named, EachFollows}
 
--- the number of the row or the object of a kind that is referred to, where there is one
+-- the number of the row or the object of a kind that is referred to, if there is one
 abbrev pub referent : List (Line Name) → OperandKind → Reference Name → Option ℕ
 referent lines k (Numbered n) = Some n
 referent lines k (Named name) = number_named k name lines
@@ -52,7 +52,7 @@ abbrev pub is_operand_known : List (Line Name) → Operand Name → Bool
 is_operand_known lines (operand.Object k reference) = is_known lines k reference
 is_operand_known lines _ = true
 
--- whether each name that a statement refers to is the name of something of the kind that it wants
+-- whether each name that a statement refers to is the name of something of the required kind
 abbrev pub are_known : List (Line Name) → Statement Name → Bool
 are_known lines (statement.Phaser p) =
     is_known_or_none lines kind.Phaser p.parent && is_policy_known lines p.policy
@@ -61,7 +61,7 @@ are_known lines (statement.Thread t) = is_known lines kind.Target t.first_row
 are_known lines (statement.Row label row) = list_all (is_operand_known lines) (operands_in row)
 are_known lines _ = true
 
--- names read as numbers; what is not known reads as 0, but where all are known there is no such name
+-- names read as numbers; an unknown name reads as 0, but if all are known there is none
 abbrev pub number_or_0 : Option ℕ → ℕ
 number_or_0 None = 0
 number_or_0 (Some n) = n
@@ -140,8 +140,7 @@ image_of lines = record {
   rows = flat_map (λ line. rows_in lines line.statement) lines;
 }
 
--- the lines from a number on say this, in their order; a line that says nothing is left out, and the
--- numbers are there for the faults alone
+-- the lines from a number on say this, in order; a line that says nothing is left out, and the numbers are only used for faults
 abbrev pub SayInOrder : ℕ → List (List ℕ) → List (Line Name) → Type 0
 SayInOrder n [] lines = lines ≡ []
 SayInOrder n (text ∷ texts) lines =
@@ -150,8 +149,8 @@ SayInOrder n (text ∷ texts) lines =
     × (lines ≡ record { number = n; statement = said } ∷ others)
     × Says text said × SayInOrder (n + 1) texts others)
 
--- what a text stands for: its lines say, in order, what the image consists of, each line may stand
--- behind the lines before it, and each name that is referred to is known
+-- the image that a text stands for: its lines say, in order, what the image has; each line may follow the lines before it; and
+-- each name that is referred to is known
 abbrev pub StandsFor : List ℕ → Image → Type 0
 StandsFor text image =
     (lines : List (Line Name)) × SayInOrder 1 (lines_of text) lines × EachFollows [] lines

@@ -1,4 +1,4 @@
--- The first fault of a text, or else its image: every line is read, and then every name is looked up.
+-- The first fault of a text, or else its image: first every line is read, and then every name is looked up.
 use Rattle.std.specs.Prelude.{ℕ, ◌+◌, not, List, [], ◌∷◌, ◌++◌, find, Option, Some, None, Result, Ok, Err}
 use Rattle.row_code.specs.declared.image.Image.{Image}
 use Rattle.line_reader.specs.declared.asm_fault.AsmFault.{AsmFault}
@@ -12,15 +12,15 @@ use Rattle.assembler.specs.Meaning.{are_known, image_of}
 use Rattle.row_code.specs.Answers.{◌>>=◌}
 use Rattle.assembler.specs.Reading.{line_behind}
 
--- the lines before, and what the line of this number says behind them
+-- the lines before, and then what the line of this number says
 abbrev pub behind : List (Line Name) → ℕ → Result (Option (Statement Name)) AsmFaultKind →
     Result (List (Line Name)) AsmFault
 behind before n (Ok None) = Ok before
 behind before n (Ok (Some said)) = Ok (before ++ (record { number = n; statement = said } ∷ []))
 behind before n (Err kind) = Err (record { line = n; kind = kind })
 
--- the first pass: the lines before, and behind them what the lines from this number on say; or the
--- fault of the first line that has one
+-- the first pass: the lines before, and then what the lines from this number on say; or the fault of the first line that has
+-- one
 unfoldable pub lines_read : ℕ → List (Line Name) → List (List ℕ) →
     Result (List (Line Name)) AsmFault
 lines_read n before [] = Ok before

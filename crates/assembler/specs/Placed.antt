@@ -8,7 +8,7 @@ use Rattle.line_reader.specs.Words.{begins_comment, is_allowed, lines_of, words_
 use Rattle.assembler.specs.declared.placed.PlacedFault.{PlacedFault}
 use Rattle.assembler.specs.declared.word_place.WordPlace.{WordPlace}
 
--- the word of this number, from 0, stands at this place
+-- the word of this number, from 0, is at this place
 abbrev pub IsWordAt : List ℕ → ℕ → WordPlace → Type 0
 IsWordAt text number place =
     (place.at + place.length ≤ length text)

@@ -1,5 +1,5 @@
--- How a line is read behind those before it, and what is wrong with it: the first of the checks, in
--- the order in which they stand here.
+-- How a line is read after the lines before it, and what is wrong with it: the first check that fails, in the order in which
+-- they are written here.
 use Rattle.std.specs.Prelude.{ℕ, not, if◌then◌else◌, List, [], ◌∷◌, Option, Some, None, Result, Ok, Err}
 use Rattle.line_reader.specs.declared.asm_fault.AsmFaultKind.{AsmFaultKind}
 use Rattle.line_reader.specs.declared.asm_fault.AsmFaultKind.TheVariants as fault
@@ -11,7 +11,7 @@ use Rattle.row_code.specs.Answers.{◌>>=◌}
 use Rattle.line_reader.specs.Reading.{check, line_words, name_at, row_at, is_directive, directive_at, is_label, before_last}
 use Rattle.assembler.specs.Statements.{name_in, is_new, has_code, has_room}
 
--- a directive behind these lines: it comes before all code, with a new name, while there is room
+-- a directive after these lines: it comes before all code, with a new name, if there is room
 unfoldable pub directive_behind : List (Line Name) → List ℕ → List (List ℕ) →
     Result (Statement Name) AsmFaultKind
 directive_behind before word words = do
@@ -49,14 +49,14 @@ statement_behind before word words =
     else (if is_directive word then directive_behind before word words
     else row_behind before None word words)
 
--- the words of a line behind these lines
+-- the words of a line after these lines
 unfoldable pub words_behind : List (Line Name) → List (List ℕ) →
     Result (Option (Statement Name)) AsmFaultKind
 words_behind before [] = Ok None
 words_behind before (word ∷ words) =
     statement_behind before word words >>= (λ said. Ok (Some said))
 
--- a line behind these lines
+-- a line after these lines
 unfoldable pub line_behind : List (Line Name) → List ℕ →
     Result (Option (Statement Name)) AsmFaultKind
 line_behind before text = line_words text >>= words_behind before

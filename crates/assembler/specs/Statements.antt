@@ -1,4 +1,4 @@
--- What statements give to the lines behind them: names, and things of each kind.
+-- What statements give to the lines after them: names, and objects of each kind.
 use Rattle.std.specs.Prelude.{◌≡◌, ℕ, ◌+◌, nat_lt, ◌||◌, not, if◌then◌else◌, Bool, true, false, List, [], ◌∷◌, ◌++◌, bytes_eq, Option, Some, None, option_map}
 use Rattle.std.specs.List.{list_any}
 use Rattle.instruction_table.specs.declared.shape.OperandKind.{OperandKind}
@@ -42,11 +42,11 @@ abbrev pub is_named : Name → Option Name → Bool
 is_named name None = false
 is_named name (Some given) = bytes_eq given name
 
--- whether a statement gives a name, to whatever it is
+-- whether a statement gives this name to something
 abbrev pub gives : Name → Statement Name → Bool
 gives name statement = is_named name (name_in statement)
 
--- whether a statement gives a name to a thing of this kind
+-- whether a statement gives this name to something of this kind
 abbrev pub gives_to : OperandKind → Name → Statement Name → Bool
 gives_to k name statement = if is_kind k (kind_named statement) then gives name statement else false
 
@@ -64,14 +64,14 @@ count k (line ∷ lines) = adds k line.statement + count k lines
 abbrev pub is_given : Name → List (Line Name) → Bool
 is_given name lines = list_any (λ line. gives name line.statement) lines
 
--- the number of the thing of a kind that a name names: how many of its kind stand before it
+-- the number of what a name refers to, if it is of this kind: how many of its kind come before it
 abbrev pub number_named : OperandKind → Name → List (Line Name) → Option ℕ
 number_named k name [] = None
 number_named k name (line ∷ lines) =
     if gives_to k name line.statement then Some 0
     else option_map (λ n. adds k line.statement + n) (number_named k name lines)
 
--- a label or a row, behind which no directive may come
+-- a label or a row, after which no directive may come
 abbrev pub is_code : Statement Name → Bool
 is_code (statement.Label name) = true
 is_code (statement.Row label row) = true
@@ -91,12 +91,12 @@ abbrev pub has_room : List (Line Name) → Statement Name → Bool
 has_room before (statement.Label name) = true
 has_room before statement = let k = kind_named statement in nat_lt (count k before) (most k)
 
--- whether the name that a statement gives, if any, is new
+-- whether the name that a statement gives is new, if it gives one
 abbrev pub is_new : List (Line Name) → Option Name → Bool
 is_new before None = true
 is_new before (Some name) = not (is_given name before)
 
--- a statement may follow these: its name is new, no directive stands behind code, and there is room
+-- a statement may follow these: its name is new, it is no directive after code, and there is room
 pub record Follows (before : List (Line Name)) (s : Statement Name) : Type 0 where
   pub name : is_new before (name_in s) ≡ true
   pub place : (is_code s || not (has_code before)) ≡ true

@@ -14,18 +14,18 @@ use Rattle.assembler.specs.declared.symbols.Symbol.{Symbol}
 use Rattle.assembler.specs.Passes.{lines_read}
 use Rattle.assembler.specs.Statements.{is_kind, kind_named, name_in, number_named}
 
--- the names of a text in their order, each with the kind and the number of the thing that it names (a label names a row);
--- and of each row the line that it stands in
+-- the names of a text in order, each with the kind and number of what it refers to (a label refers to a row), and the line of
+-- each row
 pub record SymbolTable : Type 0 where
   pub names : List (Symbol Name)
   pub rows : List ℕ
 
--- a name and the number that it stands for, where there are both
+-- a name and the number that it stands for, if there are both
 abbrev pub symbol_by : OperandKind → Option Name → Option ℕ → List (Symbol Name)
 symbol_by k (Some name) (Some number) = record { kind = k; number = number; name = name } ∷ []
 symbol_by k _ _ = []
 
--- the number that a name stands for, where there is a name
+-- the number that a name stands for, if there is a name
 abbrev pub number_by : List (Line Name) → OperandKind → Option Name → Option ℕ
 number_by lines k None = None
 number_by lines k (Some name) = number_named k name lines

@@ -14,26 +14,25 @@ use line_reader::asm_fault::{AsmFault, AsmFaultKind};
 use row_code::Image;
 use std::alloc::Global;
 
-/// The image of a program's text.
+/// Returns the image of a program's text.
 ///
-/// The text is read line by line, and the first line that has a fault ends the reading; then every
-/// name is looked up, and the first line that refers to an unknown one has the fault `UnknownName`.
-/// The expected time is linear in the length of the text, whatever its names are. Whether a row or
-/// an object is there that the text names by its number is not looked at. `Memory` names the line
-/// that was being read, or the last line while names are looked up.
+/// It reads the text line by line and stops at the first line with a fault. Then it looks up every name. The first line that
+/// refers to an unknown one has the fault `UnknownName`. The expected time is linear in the length of the text, whatever its
+/// names are. It doesn't check whether a row or an object that the text names by its number exists. `Memory` has the line that
+/// was being read, or the last line if names were being looked up.
 #[tactic(auto, unfolding(crate::specs::Passes::assembled))]
 pub fn assemble(alloc: Global, text: &[u8]) -> Result<Image, AsmFault>
-    // What is answered is what the text stands for.
+    // The returned image is the one that the text stands for.
     ensures found { IfOk result (λ image. StandsFor text.now image) }
 
-    // What a text stands for is answered, unless memory is refused.
+    // The image that a text stands for is returned, unless memory runs out.
     ensures only { (image : Image) → StandsFor text.now image →
         AnswersAt (λ answered. answered) result (Ok image) }
 
     // Which fault it is, and at which line.
     ensures exact { AnswersAt (λ image. image) result (assembled text.now) }
 
-    // Want of memory, too, is told with a line of the text, or with the first where it has none.
+    // Out of memory is also reported with a line of the text, or with the first if the text has none.
     ensures memory { IfErr result (λ e. e.kind ≡ fault.Memory
         → (1 ≤ e.line) × (e.line ≤ max (length (lines_of text.now)) 1)) }
 {

@@ -20,14 +20,14 @@ use line_reader::statement::Statement;
 use std::alloc::{AllocError, Global};
 use std::marker::Model;
 
-/// What a name names: the row or the object of this kind and this number.
+/// What a name refers to: the row or the object of this kind and number.
 #[derive(Clone, Copy)]
 pub struct Place {
     pub kind: OperandKind,
     pub number: u16,
 }
 
-/// How many things of each kind there are.
+/// How many objects of each kind there are.
 #[derive(Clone, Copy)]
 pub struct Counts {
     pub rows: u16,
@@ -37,7 +37,7 @@ pub struct Counts {
     pub cells: u16,
 }
 
-/// The lines of a text read so far that say something, with each name that they give.
+/// The lines read so far that say something, with each name that they give.
 #[derive(Drop)]
 pub struct Draft<'a> {
     alloc: Global,
@@ -56,7 +56,7 @@ impl<'a> Model for Draft<'a> {
         (places d.names) (map symbol_there d.names.entries) d.counts d.has_code };
 }
 
-/// The name that a statement gives.
+/// Returns the name that a statement gives.
 pub fn name_in<'a>(statement: &Statement<&'a [u8]>) -> Option<&'a [u8]>
     ensures { option_map name_seen result ≡ name_in (statement_seen statement.now) }
 {
@@ -69,7 +69,7 @@ pub fn name_in<'a>(statement: &Statement<&'a [u8]>) -> Option<&'a [u8]>
     }
 }
 
-/// What that name names.
+/// Returns the kind of what that name refers to.
 pub fn kind_named(statement: &Statement<&[u8]>) -> OperandKind
     ensures { result ≡ kind_named (statement_seen statement.now) }
 {
@@ -82,7 +82,7 @@ pub fn kind_named(statement: &Statement<&[u8]>) -> OperandKind
     }
 }
 
-/// How many things of a kind a program may have.
+/// Returns the most objects of a kind that a program may have.
 fn most(kind: OperandKind) -> u16
     ensures { result ≡ most kind }
 {
@@ -138,14 +138,14 @@ fn counted_with(counts: Counts, line: &KeptLine<'_>) -> Counts
     }
 }
 
-/// Whether there is code with a line more.
+/// Returns whether there is code after one more line.
 fn code_with(has_code: bool, line: &KeptLine<'_>) -> bool
     ensures { result ≡ (has_code || is_code (statement_kept line.now)) }
 {
     has_code || line.is_code()
 }
 
-/// What the name of a line names behind things of these counts.
+/// Returns what the name of a line refers to, after objects with these counts.
 fn place_behind(counts: &Counts, line: &KeptLine<'_>) -> Place
     ensures { let kind = kind_named (statement_kept line.now) in
         result ≡ record { kind = kind; number = counted counts.now kind } }
@@ -157,7 +157,7 @@ fn place_behind(counts: &Counts, line: &KeptLine<'_>) -> Place
     }
 }
 
-/// Adds a name, where there is one, behind those that are there: none where memory is refused.
+/// Adds a name, if there is one, to those that are there. Returns `None` if it is out of memory.
 #[inline(always)]
 fn add_name<'a>(
     names: &mut IndexMap<NameKey<'a>, Place, NameHash>,
@@ -177,7 +177,7 @@ fn add_name<'a>(
     Ok(())
 }
 
-/// The number of a place that is of this kind.
+/// Returns the number of a place, if it is of this kind.
 #[inline(always)]
 pub fn number_there(kind: OperandKind, place: Option<Place>) -> Option<u16>
     ensures { result ≡ number_there kind place }
@@ -228,21 +228,21 @@ impl<'a> Draft<'a> {
         self.names
     }
 
-    /// Whether a label or a row was read.
+    /// Returns whether a label or a row was read.
     pub fn has_code(&self) -> bool
         ensures { result ≡ has_code self.now }
     {
         self.has_code
     }
 
-    /// Whether a line gives this name.
+    /// Returns whether a line gives this name.
     pub fn is_given(&self, name: &[u8]) -> bool
         ensures { result ≡ is_given name.now self.now }
     {
         self.names.get(&NameKey { bytes: name }).is_some()
     }
 
-    /// What a name names, where it names anything.
+    /// Returns what a name refers to, if it is given.
     pub fn place_named(&self, name: &[u8]) -> Option<Place>
         ensures given { is_some result ≡ is_given name.now self.now }
         ensures number { (kind : OperandKind) →
@@ -251,7 +251,7 @@ impl<'a> Draft<'a> {
         self.names.get(&NameKey { bytes: name }).copied()
     }
 
-    /// Whether there is room for what a statement adds.
+    /// Returns whether there is room for what a statement adds.
     pub fn has_room(&self, statement: &Statement<&'a [u8]>) -> bool
         ensures { result ≡ has_room self.now (statement_seen statement.now) }
     {
@@ -264,7 +264,7 @@ impl<'a> Draft<'a> {
         }
     }
 
-    /// Whether there is room for a row more.
+    /// Returns whether there is room for one more row.
     pub fn has_room_for_row(&self) -> bool
         ensures { (label : Option Name) → (row : SymbolicRow Name) →
             result ≡ has_room self.now (statement.Row label row) }
@@ -272,14 +272,14 @@ impl<'a> Draft<'a> {
         self.counts.rows < most(OperandKind::Target)
     }
 
-    /// The number of the row or the object of this kind that has this name, where there is one.
+    /// Returns the number of the row or the object of this kind with this name, if there is one.
     pub fn number_named(&self, kind: OperandKind, name: &[u8]) -> Option<u16>
         ensures { result ≡ number_named kind name.now self.now }
     {
         number_there(kind, self.place_named(name))
     }
 
-    /// The number of the row or the object of this kind that is referred to, where there is one.
+    /// Returns the number of the row or the object of this kind that is referred to, if there is one.
     pub fn referent(&self, kind: OperandKind, reference: &Reference<&'a [u8]>) -> Option<u16>
         ensures { result ≡ referent self.now kind (reference_seen reference.now) }
     {
@@ -289,7 +289,7 @@ impl<'a> Draft<'a> {
         }
     }
 
-    /// Adds a directive, which may follow those so far: none where memory is refused.
+    /// Appends a directive that may follow the lines so far. Returns `None` if it is out of memory.
     pub fn push_directive(
         &mut self,
         number: u64,
@@ -304,7 +304,7 @@ impl<'a> Draft<'a> {
         self.push(line)
     }
 
-    /// Adds a line, which may follow those so far: none where memory is refused.
+    /// Appends a line that may follow the lines so far. Returns `None` if it is out of memory.
     #[inline(always)]
     pub fn push(&mut self, line: KeptLine<'a>) -> Result<(), AllocError>
         requires { Follows self.old (statement_kept line) }

@@ -18,7 +18,7 @@ use line_reader::first_line::put_line;
 use line_reader::label::is_label;
 use std::alloc::{AllocError, Global};
 
-/// Whether a line was added: it is read, so only memory can be missing.
+/// Returns whether a line was added: it is read already, so only memory can be missing.
 #[inline(always)]
 fn pushed(added: Result<(), AllocError>) -> Result<(), AsmFaultKind>
     ensures ok { OnOk result (added ≡ Ok tt) }
@@ -104,7 +104,7 @@ fn add_words<'a>(draft: &mut Draft<'a>, number: u64, words: &[&'a [u8]]) -> Resu
     }
 }
 
-/// Adds what the first line of a text says, which has this number, and answers what follows it. The list is only a place to put
+/// Adds what the first line of a text says, which has this number, and returns what follows it. The list is only a buffer for
 /// its words.
 #[inline(always)]
 #[tactic(auto, unfolding(crate::specs::Reading::line_behind))]

@@ -11,10 +11,10 @@ use line_reader::symbolic_phaser::SymbolicPhaser;
 use line_reader::symbolic_thread::SymbolicThread;
 use std::alloc::{AllocError, Global};
 
-/// A line that says something, with its number from 1, as it is kept until the names are looked up.
+/// A line that says something, with its number from 1, as it is stored until its names are looked up.
 ///
-/// It takes 64 bytes, since a text may have 65,535 rows: the parts of phasers and barriers, which
-/// are few, lie elsewhere.
+/// It takes 64 bytes, because a text may have 65,535 rows. The parts of phasers and barriers, which are few, are stored
+/// elsewhere.
 #[derive(Drop)]
 pub enum KeptLine<'a> {
     Phaser(u64, Box<SymbolicPhaser<&'a [u8]>>),
@@ -27,7 +27,7 @@ pub enum KeptLine<'a> {
 }
 
 impl<'a> KeptLine<'a> {
-    /// A directive: none where memory is refused.
+    /// Makes the line of a directive. Returns `None` if it is out of memory.
     pub fn of_directive(
         alloc: Global,
         number: u64,
@@ -46,7 +46,7 @@ impl<'a> KeptLine<'a> {
         }
     }
 
-    /// The number of the line in its text.
+    /// Returns the number of the line in its text.
     pub fn number(&self) -> u64
         ensures { result ≡ number_kept self.now }
     {
@@ -60,7 +60,7 @@ impl<'a> KeptLine<'a> {
         }
     }
 
-    /// The name that the line gives.
+    /// Returns the name that the line gives.
     pub fn name(&self) -> Option<&'a [u8]>
         ensures { option_map name_seen result ≡ name_in (statement_kept self.now) }
     {
@@ -74,7 +74,7 @@ impl<'a> KeptLine<'a> {
         }
     }
 
-    /// What that name names.
+    /// Returns the kind of what that name refers to.
     pub fn kind_named(&self) -> OperandKind
         ensures { result ≡ kind_named (statement_kept self.now) }
     {
@@ -87,7 +87,7 @@ impl<'a> KeptLine<'a> {
         }
     }
 
-    /// Whether it is a label or a row.
+    /// Returns whether it is a label or a row.
     pub fn is_code(&self) -> bool
         ensures { result ≡ is_code (statement_kept self.now) }
     {
@@ -97,7 +97,7 @@ impl<'a> KeptLine<'a> {
         )
     }
 
-    /// Whether it is a row.
+    /// Returns whether it is a row.
     pub fn is_row(&self) -> bool
         ensures { result ≡ is_row (statement_kept self.now) }
     {

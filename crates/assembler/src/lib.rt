@@ -1,11 +1,11 @@
 //! The assembler: from a program's text to its image, and back.
 //!
-//! `assemble` answers the image that a text stands for, or the text's first fault with its line. What a text stands for is a
+//! `assemble` returns the image that a text stands for, or the text's first fault and its line. What a text stands for is a
 //! relation that knows nothing of how it is read. `disassemble` writes the canonical text of an image, which stands for no
-//! other. No choice of names makes `assemble` slow (`name_hash` says why).
+//! other image. No choice of names makes `assemble` slow (`name_hash` says why).
 #![tactic(auto)]
 
-// How a line is read behind the lines before it.
+// How a line is read after the lines before it.
 mod draft;
 mod kept_line;
 pub mod name_hash;
@@ -20,7 +20,7 @@ mod resolution;
 pub mod symbols;
 pub mod word_place;
 
-// What texts mean, and that what was listed is assembled again.
+// What texts mean, and that the canonical text of an image is assembled to it.
 pub mod meaning;
 
 pub use assembling::{assemble, assemble_named};

@@ -1,11 +1,11 @@
-//! Which line makes what a refused program names by a number.
+//! Which line makes the row or the object of a number.
 
 use crate::first_pass::lines_read;
 use crate::kept_line::KeptLine;
 use instruction_table::OperandKind;
 use std::alloc::Global;
 
-/// Whether a line makes a row, or an object of this kind.
+/// Returns whether a line makes a row, or an object of this kind.
 fn makes(line: &KeptLine<'_>, kind: OperandKind) -> bool {
     match kind {
         OperandKind::Target => line.is_row(),
@@ -13,8 +13,8 @@ fn makes(line: &KeptLine<'_>, kind: OperandKind) -> bool {
     }
 }
 
-/// The number of the line, from 1, that makes the row or the object of this number, from 0; none where the text has a fault in
-/// a line, or no so many.
+/// Returns the number of the line, from 1, that makes the row or the object of this number, from 0. Returns `None` if a line of
+/// the text has a fault, or if there are fewer.
 pub fn line_that_makes(alloc: Global, text: &[u8], kind: OperandKind, number: u64) -> Option<u64> {
     let Ok((draft, _)) = lines_read(alloc, text) else {
         return None;

@@ -1,4 +1,4 @@
-// What texts mean: laws over the definitions, each the contract of a function that does nothing.
+// What texts mean. Each law is the contract of a function that does nothing.
 ghost use Rattle.std.specs.Prelude.{◌≡◌, ℕ, List, Ok};
 ghost use Rattle.row_code.specs.declared.image.Image.{Image};
 ghost use Rattle.row_code.specs.Image.{IsImage};
@@ -16,7 +16,7 @@ pub fn canonical_means_image()
     ensures { (i : Image) → IsImage i → StandsFor (canonical i) i }
 {}
 
-/// What was listed is assembled again: the same image.
+/// The canonical text of an image is assembled to this image.
 pub fn canonical_is_assembled()
     ensures { (i : Image) → IsImage i → assembled (canonical i) ≡ Ok i }
 {}

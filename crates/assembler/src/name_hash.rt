@@ -5,11 +5,10 @@ ghost use Rattle.std.specs.Hash.DefaultHasher.{initial, write};
 
 use std::hash::{BuildHasher, DefaultHasher, Hash, Hasher};
 
-/// Hashes each name behind the whole text that it stands in.
+/// Hashes each name together with the whole text that it is in.
 ///
-/// A map of names whose hash is fixed is slow for a text whose labels were chosen to collide in it.
-/// Here whoever changes a label changes the text, and with it the hash of each name: which names
-/// collide can't be told before the text is written.
+/// A map of names with a fixed hash is slow for a text whose labels were chosen to collide in it. Here a changed label changes
+/// the text, and so the hash of each name. Nobody can tell which names collide before the text is written.
 #[derive(Clone, Copy)]
 pub struct NameHash {
     behind_text: DefaultHasher,
@@ -36,7 +35,7 @@ impl BuildHasher for NameHash {
     }
 }
 
-/// A name as the map of names has it: its bytes are hashed in one piece.
+/// A name in the map of names. Its bytes are hashed in one piece.
 #[derive(Clone, Copy)]
 pub struct NameKey<'a> {
     pub bytes: &'a [u8],

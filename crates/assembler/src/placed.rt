@@ -1,4 +1,4 @@
-//! A text's fault with the place of the word that makes it. Only where a text has a fault is its line read once more.
+//! The fault of a text, and the place of the word that makes it. The line is read again only if the text has a fault.
 ghost use Rattle.std.specs.Prelude.{◌≡◌, ◌<◌, IfErr, IfOk, IfSome, None, length};
 ghost use Rattle.line_reader.specs.declared.asm_fault.AsmFaultKind.TheVariants as kinds;
 ghost use Rattle.std.specs.List.{before_first};
@@ -28,20 +28,20 @@ use line_reader::wrong_word::wrong_word;
 use row_code::Image;
 use std::alloc::Global;
 
-/// A name that nothing of the wanted kind has, and the kind of what has it, if anything does.
+/// A name that nothing of the required kind has, and the kind of what has it, if there is something.
 #[derive(Clone, Copy, Debug, PartialEq, Eq)]
 pub struct UnknownName {
     pub wanted: OperandKind,
     pub given: Option<OperandKind>,
 }
 
-/// A text's fault, and where in its line it is.
+/// The fault of a text, and where in its line it is.
 #[derive(Clone, Copy, Debug, PartialEq, Eq)]
 pub struct PlacedFault {
     pub fault: AsmFault,
-    /// The word that makes it, of `BadByte` the byte; none of a line that is too long, and where memory is missing.
+    /// The word that makes the fault, or the byte for `BadByte`. `None` if the line is too long, or out of memory.
     pub at: Option<WordPlace>,
-    /// Of `UnknownName`: which name.
+    /// For `UnknownName`, which name.
     pub unknown: Option<UnknownName>,
 }
 
@@ -58,7 +58,7 @@ fn word_of_statement(words: &[&[u8]], kind: AsmFaultKind) -> Option<usize>
     }
 }
 
-/// Whether the label of a line is what makes this fault.
+/// Returns whether the label of a line makes this fault.
 fn is_wrong_label(word: &[u8], kind: AsmFaultKind) -> bool {
     kind == AsmFaultKind::NameTwice || name_at(before_last(word)).is_err()
 }
@@ -82,7 +82,7 @@ fn word_of_line(words: &[&[u8]], kind: AsmFaultKind) -> Option<usize>
     }
 }
 
-/// Whether a reference is a name that nothing of this kind has.
+/// Returns whether a reference is a name that nothing of this kind has.
 fn is_unknown(draft: &Draft<'_>, kind: OperandKind, reference: &Reference<&[u8]>) -> bool {
     match reference {
         Reference::Named(name) => draft.number_named(kind, *name).is_none(),
@@ -139,7 +139,7 @@ fn unknown_in_line(draft: &Draft<'_>, words: &[&[u8]]) -> Option<(usize, Operand
     }
 }
 
-/// A fault of which no word is known.
+/// Returns a fault whose word isn't known.
 fn without_place(fault: AsmFault) -> PlacedFault
     ensures fault { result.fault ≡ fault }
     ensures place { result.at ≡ None }
@@ -227,9 +227,9 @@ fn placed(alloc: Global, text: &[u8], fault: AsmFault) -> PlacedFault
     }
 }
 
-/// The image of a program's text, as `assemble` answers it; a fault comes with the place of the word that makes it.
+/// Returns the image of a program's text, like `assemble`. A fault has the place of the word that makes it.
 pub fn assemble_placed(alloc: Global, text: &[u8]) -> Result<Image, PlacedFault>
-    // What is answered is what the text stands for.
+    // The returned image is the one that the text stands for.
     ensures found { IfOk result (λ image. StandsFor text.now image) }
 
     // Which fault it is, and at which line.

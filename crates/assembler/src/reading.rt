@@ -18,7 +18,7 @@ use line_reader::label::before_last;
 use line_reader::name::name_at;
 use line_reader::statement::Statement;
 
-/// Whether the name that a statement gives, if any, is new.
+/// Returns whether the name that a statement gives is new, if it gives one.
 fn is_new(draft: &Draft, name: Option<&[u8]>) -> bool
     ensures { result ≡ is_new draft.now (option_map name_seen name.entry) }
 {
@@ -28,7 +28,7 @@ fn is_new(draft: &Draft, name: Option<&[u8]>) -> bool
     }
 }
 
-/// Reads a directive behind the lines so far.
+/// Reads a directive after the lines so far.
 #[tactic(auto, unfolding(crate::specs::Reading::directive_behind))]
 pub fn directive_behind<'a>(
     draft: &Draft<'a>,
@@ -52,7 +52,7 @@ pub fn directive_behind<'a>(
     Ok(said)
 }
 
-/// Reads a row behind the lines so far; its label was looked at before.
+/// Reads a row after the lines so far. Its label was checked before.
 #[inline(always)]
 #[tactic(auto, unfolding(crate::specs::Reading::row_behind))]
 pub fn row_behind<'a>(
@@ -94,7 +94,7 @@ fn labelled_behind<'a>(
     }
 }
 
-/// Reads a label in the line of this number, and what follows it, behind the lines so far.
+/// Reads a label in the line of this number, and what follows it, after the lines so far.
 #[tactic(auto, unfolding(crate::specs::Reading::statement_behind))]
 pub fn label_behind<'a>(
     draft: &Draft<'a>,

@@ -50,8 +50,8 @@ fn parts_of<'a>(
     Ok(parts)
 }
 
-/// Looks every name up and gives the image of all lines. `last` is the number of the text's last
-/// line, which a want of memory is told with.
+/// Looks up every name, and returns the image of all lines. `last` is the number of the text's last line, which is reported if
+/// it is out of memory.
 pub fn image_of(alloc: Global, draft: &Draft, last: u64) -> Result<Image, AsmFault>
     requires fits { IsImage (image_of draft.now) }
     ensures found { AnswersAt (λ image. image) result

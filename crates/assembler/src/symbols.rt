@@ -13,7 +13,7 @@ use instruction_table::OperandKind;
 use std::alloc::{AllocError, Global};
 use std::marker::Model;
 
-/// A name of a program's text, and what it names: the thing of this kind and this number. A label names a row.
+/// A name of a program's text, and the kind and number of what it refers to. A label refers to a row.
 #[derive(Clone, Copy)]
 pub struct Symbol<N> {
     pub kind: OperandKind,
@@ -21,7 +21,7 @@ pub struct Symbol<N> {
     pub name: N,
 }
 
-/// The names of a program's text in order of declaration, and of each row the line that it stands in.
+/// The names of a program's text in the order of declaration, and the line of each row.
 #[derive(Drop)]
 pub struct Symbols<'a> {
     names: IndexMap<NameKey<'a>, Place, NameHash>,
@@ -50,7 +50,7 @@ fn row_lines(alloc: Global, lines: &[KeptLine<'_>]) -> Result<Vec<u64>, AllocErr
     Ok(rows)
 }
 
-/// The names that the lines of a draft give, and the lines of its rows.
+/// Returns the names that the lines of a draft give, and the lines of its rows.
 pub(crate) fn symbols_of<'a>(alloc: Global, draft: Draft<'a>) -> Result<Symbols<'a>, AllocError>
     ensures { IfOk result (λ symbols. symbols ≡ symbols_of draft.entry) }
 {
@@ -59,7 +59,7 @@ pub(crate) fn symbols_of<'a>(alloc: Global, draft: Draft<'a>) -> Result<Symbols<
     Ok(Symbols { names, rows })
 }
 
-/// Whether a symbol is the name of this thing.
+/// Returns whether a symbol is the name of this object.
 fn is_symbol_of(kind: OperandKind, number: u32, symbol: &Symbol<&[u8]>) -> bool
     ensures { result ≡ is_symbol_of kind number (symbol_seen symbol.now) }
 {
@@ -77,14 +77,14 @@ impl<'a> Symbols<'a> {
         }
     }
 
-    /// How many names there are.
+    /// Returns how many names there are.
     pub fn len(&self) -> usize
         ensures { result ≡ length self.now.names }
     {
         self.names.len()
     }
 
-    /// The name of this place in the order of declaration, from 0, where there are so many.
+    /// Returns the name at this place in the order of declaration, from 0, if there are so many.
     pub fn get(&self, index: usize) -> Option<Symbol<&'a [u8]>>
         ensures { option_map symbol_seen result ≡ slice_get self.now.names index }
     {
@@ -96,14 +96,14 @@ impl<'a> Symbols<'a> {
         })
     }
 
-    /// The line of each row, from 1.
+    /// Returns the line of each row, from 1.
     pub fn rows(&self) -> &[u64]
         ensures { result.now ≡ self.now.rows }
     {
         self.rows.as_slice()
     }
 
-    /// The name of the thing of this kind and this number, where it has one: of a row its first label.
+    /// Returns the name of what has this kind and number, if it has one. For a row it is its first label.
     pub fn name_of(&self, kind: OperandKind, number: u32) -> Option<&'a [u8]>
         ensures { option_map name_seen result ≡ name_of kind number self.now }
     {

@@ -1,4 +1,4 @@
-//! Where a word stands in its line.
+//! Where a word is in its line.
 ghost use Rattle.std.specs.Prelude.{◌≡◌, ◌-◌, ◌<◌, ◌≤◌, ◌++◌, IfSome, Some, drop, length, slice_get, take};
 ghost use Rattle.std.specs.List.{position};
 ghost use Rattle.line_reader.specs.FirstLine.{word_alone};
@@ -8,14 +8,14 @@ ghost use Rattle.assembler.specs.Placed.{IsWordAt};
 use line_reader::first_line::first_line;
 use line_reader::words::is_blank;
 
-/// A word of a line: the place of its first byte, from 0, and how many bytes it has.
+/// A word of a line: the place of its first byte, from 0, and its length in bytes.
 #[derive(Clone, Copy, Debug, PartialEq, Eq)]
 pub struct WordPlace {
     pub at: usize,
     pub length: usize,
 }
 
-/// The line of this number, from 1.
+/// Returns the line of this number, from 1.
 pub fn line_at(text: &[u8], number: u64) -> Option<&[u8]>
     ensures { IfSome result (λ line. slice_get (lines_of text.now) (number - 1) ≡ Some line.now) }
 {
@@ -39,7 +39,7 @@ fn place_of_blank(bytes: &[u8]) -> Option<usize>
     bytes.iter().position(|byte| is_blank(*byte))
 }
 
-/// What stands before the first blank, and what follows it.
+/// Returns what precedes the first blank, and what follows it.
 fn first_piece(text: &[u8]) -> (&[u8], &[u8])
     requires { 0 < length text.now }
     ensures words { words_in text.now ≡ word_alone result.0.now ++ words_in result.1.now }

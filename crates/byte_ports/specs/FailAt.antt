@@ -1,4 +1,4 @@
--- The call at which a port in memory is to fail, from 0 for the next one; None: no call.
+-- The call at which a port in memory is to fail, counted from 0 for the next one. With None no call fails.
 use Rattle.std.specs.Prelude.{ℕ, ◌-◌, ◌==◌, Bool, false, Option, None, Some}
 
 -- it is the next call

@@ -1,4 +1,4 @@
--- A sink into memory as its callers see it.
+-- A sink in memory, as its callers see it.
 use Rattle.std.specs.Prelude.{ℕ, ◌+◌, Bool, ◌||◌, nat_lt, List, length, Option}
 use Rattle.byte_ports.specs.FailAt.{is_due}
 

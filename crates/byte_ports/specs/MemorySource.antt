@@ -1,4 +1,4 @@
--- A source in memory as its callers see it.
+-- A source in memory, as its callers see it.
 use Rattle.std.specs.Prelude.{ℕ, Bool, ◌||◌, List, Option}
 use Rattle.byte_ports.specs.FailAt.{is_due}
 

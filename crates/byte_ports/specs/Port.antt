@@ -1,7 +1,7 @@
--- How every port fails, and what a port round a reader or a writer is.
+-- How every port fails, and what a port over a reader or a writer is.
 use Rattle.std.specs.Prelude.{Bool, Result, IsErr, IsTrue, ◌↔◌}
 
--- an error is answered exactly where the port has failed by then, and once failed it stays so
+-- a call returns an error exactly if the port has failed, and a port that has failed stays so
 pub record FailsForGood {T E : Type 0} (before after : Bool) (r : Result T E) : Type 0 where
   pub answer : IsErr r ↔ IsTrue after
   pub for_good : IsTrue before → IsTrue after

@@ -26,17 +26,17 @@ taken (Ok ended.AtEnd) line = line
 taken (Ok ended.TooLong) line = line
 taken (Err failed) line = []
 
--- a line has come as this says; these bytes are left behind it
+-- a line was read and ended in this way, and these bytes are left after it
 abbrev pub HasCome : LineEnded → List ℕ → Option (List ℕ) → Type 0
 HasCome ended.Whole line left = length line ≤ 65536
 HasCome ended.AtEnd line left = (length line ≤ 65536) × IsAtEnd left
 HasCome ended.TooLong line left = length line ≡ 65537
 
--- these are bytes of one line, and behind them a piece of a source
+-- the bytes of one line, and after them a piece of a source
 abbrev pub EndsInAPiece : List ℕ → Type 0
 EndsInAPiece bytes =
     (front : List ℕ) × ((piece : List ℕ) × ((bytes ≡ front ++ piece) × IsOneLine front × (length piece ≤ 16384)))
 
--- each read gave a byte at least, where so many bytes were taken
+-- each read returned at least one byte, and so many bytes were taken
 abbrev pub Gave : Lines → Lines → ℕ → Type 0
 Gave before after count = after.reads + length before.held ≤ before.reads + (count + length after.held)

@@ -11,9 +11,9 @@ use std::marker::Model;
 /// How many bytes a block has.
 const BLOCK: usize = 65_536;
 
-/// A sink that hands another one whole blocks, for long output in short pieces: most of its calls
-/// copy their bytes and do nothing else. What it holds is handed on by `into_inner` alone, and is
-/// lost where it is dropped.
+/// A sink that collects bytes in a block, and passes whole blocks on to another sink. Use it for long output in short pieces:
+/// most calls only copy their bytes. Only `into_inner` passes on what is left in the block. If you drop the port instead, those
+/// bytes are lost.
 #[derive(Drop)]
 pub struct BlockPort<K> {
     port: K,
@@ -38,7 +38,7 @@ impl<K> Model for BlockPort<K> {
 }
 
 impl<K: Sink + Drop> BlockPort<K> {
-    /// Round a sink. This alone takes memory.
+    /// Makes a port over a sink. Only this call allocates.
     pub fn new(alloc: Global, port: K) -> Result<BlockPort<K>, AllocError>
         ensures { IfOk result (λ p. p ≡ record { inner = port; held = []; failed = false }) }
     {
@@ -50,7 +50,7 @@ impl<K: Sink + Drop> BlockPort<K> {
         })
     }
 
-    /// The sink, which has got all by then. It fails where a call has failed, or the last one does.
+    /// Passes on what is left in the block, and returns the sink. Fails if this or an earlier call failed.
     pub fn into_inner(mut self) -> Result<K, Failed>
         ensures bytes { IfOk result
             (λ port. Keeps (append_known (K.written self.inner) self.held) (K.written port)) }
@@ -80,8 +80,8 @@ impl<K: Sink + Drop> BlockPort<K> {
         Ok(())
     }
 
-    /// The same call where a block is full, or a call has failed. It stands apart, so that `push`
-    /// is short where it is inlined.
+    /// The slow path of `push`: a block is full, or a call has failed. It is separate, so that `push` is short when it is
+    /// inlined.
     #[inline(never)]
     fn push_far(&mut self, bytes: &[u8]) -> Result<(), Failed>
         ensures failed { FailsForGood self.old.failed self.new.failed result }
@@ -104,7 +104,7 @@ impl<K: Sink + Drop> BlockPort<K> {
         Ok(())
     }
 
-    /// Holds bytes for which there is room.
+    /// Copies bytes into the block. There is room for them.
     #[inline(always)]
     fn hold(&mut self, bytes: &[u8])
         requires { length self.old.held + length bytes.now ≤ 65536 }
@@ -127,7 +127,7 @@ impl<K: Sink + Drop> Sink for BlockPort<K> {
         ensures bytes { OnOk result (Appends (append_known (K.written self.old.inner) self.old.held)
             (append_known (K.written self.new.inner) self.new.held) bytes.now) }
 
-        // Once it has failed, the sink inside is left alone.
+        // Once it has failed, it doesn't use the sink any more.
         ensures idle { IsTrue self.old.failed → self.new ≡ self.old }
     {
         if self.failed || BLOCK - self.held < bytes.len() {

@@ -10,9 +10,8 @@ use std::marker::Model;
 /// How many bytes a block has.
 const BLOCK: usize = 4096;
 
-/// A source over another one, from which it takes what is there, up to a block at a time, and only
-/// where it holds nothing: it never waits for a byte while it has one to give. So whoever takes a
-/// dialogue's lines from it a byte at a time can answer each before the next one is there.
+/// A source that reads from another one, at most a block at a time, and only if it has no bytes left. So it never waits for a
+/// byte while it has one to return, and a program can answer each line of a dialogue before the next one exists.
 #[derive(Drop)]
 pub struct BlockSource<S> {
     source: S,
@@ -38,7 +37,7 @@ impl<S> Model for BlockSource<S> {
 }
 
 impl<S: Source + Drop> BlockSource<S> {
-    /// Over a source. This alone takes memory.
+    /// Makes a port over a source. Only this call allocates.
     pub fn new(alloc: Global, source: S) -> Result<BlockSource<S>, AllocError>
         ensures { IfOk result (λ s. s ≡ record { inner = source; held = []; failed = false }) }
     {
@@ -51,7 +50,7 @@ impl<S: Source + Drop> BlockSource<S> {
         })
     }
 
-    /// Takes what is there, where nothing is held.
+    /// Reads what is there, if no bytes are left.
     #[inline(never)]
     fn refill(&mut self) -> Result<(), Failed>
         requires held { self.old.held ≡ [] }
@@ -88,7 +87,7 @@ impl<S: Source + Drop> BlockSource<S> {
     {
         let held = self.held();
         let count = buffer.len().min(held.len());
-        // A dialogue is read a byte at a time. Where this is inlined, that is a load and a store.
+        // A dialogue is read a byte at a time. Inlined, this is a load and a store.
         if count == 1 {
             buffer[0] = held[0];
             self.next += 1;
@@ -99,7 +98,7 @@ impl<S: Source + Drop> BlockSource<S> {
         count
     }
 
-    /// What is held.
+    /// Returns the bytes that are left.
     #[inline(always)]
     fn held(&self) -> &[u8]
         ensures { result.now ≡ self.now.held }

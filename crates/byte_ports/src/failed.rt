@@ -3,9 +3,9 @@ ghost use Rattle.std.specs.Prelude.{Some, codes};
 use std::error::Error;
 use std::fmt;
 
-/// The one error of a port. Once a call has answered it, every later call on that port does too.
+/// The only error of a port. Once a call has returned it, every later call on that port returns it, too.
 ///
-/// It carries no cause: a program that meets it prints which side failed, and no more.
+/// It has no cause: a program that gets it prints which side failed, and nothing else.
 #[derive(Clone, Copy, Debug, PartialEq, Eq)]
 pub struct Failed;
 

@@ -4,10 +4,10 @@ ghost use Rattle.std.specs.IoError.{error_kind};
 use std::io;
 use std::io::ErrorKind;
 
-/// How often a read or a flush that a signal interrupted is tried, before its port has failed.
+/// How often a read or a flush is tried if a signal interrupts it, before the port fails.
 pub const MOST_TRIES: u32 = 1000;
 
-/// Whether a signal interrupted the call, so that it is made again (`ErrorKind::Interrupted`).
+/// Returns whether a signal interrupted the call (`ErrorKind::Interrupted`), so that it is made again.
 pub(crate) fn is_interruption(error: &io::Error) -> bool
     ensures { IsTrue result ↔ (error_kind error.now ≡ ErrorKind.Interrupted) }
 {

@@ -1,14 +1,14 @@
-//! Where the bytes come from and where they go.
+//! Where bytes come from, and where they go.
 //!
-//! The workbench reads from a `Source` and writes to a `Sink`, and never sees a file or a
-//! terminal; a contract above can name the bytes. A port that has failed answers `Failed` for
-//! good: Java's streams, with `Failed` for `IOException`.
+//! The workbench reads from a `Source` and writes to a `Sink`. It never sees a file or a terminal, and the contracts of other
+//! crates can name the bytes. The ports are like Java's streams, with `Failed` for `IOException`. A port that has failed
+//! returns `Failed` for ever.
 #![tactic(auto)]
 
-// How a port fails.
+// The error.
 pub mod failed;
 
-// What a crate above asks for.
+// The traits that other crates use.
 pub mod sink;
 pub mod source;
 

@@ -11,8 +11,7 @@ use crate::sink::Sink;
 use std::alloc::{AllocError, Global};
 use std::marker::Model;
 
-/// A sink into memory, as `ByteArrayOutputStream`, of a fixed room. It can be told at which call to
-/// fail.
+/// A sink in memory with a fixed capacity, like `ByteArrayOutputStream`. A test can choose a call that fails.
 #[derive(Drop)]
 pub struct MemorySink {
     written: Vec<u8>,
@@ -35,8 +34,8 @@ impl Model for MemorySink {
 }
 
 impl MemorySink {
-    /// Takes the memory for `room` bytes, so that no later call needs any. `fail_at` is the number
-    /// of the call that fails, from 0. `None`: a call fails only where the room is too small.
+    /// Allocates `room` bytes, so that no later call allocates. `fail_at` is the number of the call that fails, from 0. With
+    /// `None` a call fails only if the bytes don't fit.
     pub fn new(alloc: Global, room: usize, fail_at: Option<u32>) -> Result<MemorySink, AllocError>
         ensures { IfOk result (λ sink. sink ≡
             record { written = []; room = room; fail_at = fail_at; failed = false }) }
@@ -49,7 +48,7 @@ impl MemorySink {
         })
     }
 
-    /// What was written so far.
+    /// Returns the bytes written so far.
     pub fn bytes(&self) -> &[u8]
         ensures { result.now ≡ self.now.written }
     {
@@ -67,7 +66,7 @@ impl Sink for MemorySink {
         ensures bytes { OnOk result
             (Appends (Some self.old.written) (Some self.new.written) bytes.now) }
 
-        // When it fails, and what a call changes besides.
+        // When it fails, and what else a call changes.
         ensures due { self.new.failed ≡ push_fails self.old bytes.now }
         ensures nearer { OnOk result (self.new.fail_at ≡ one_nearer self.old.fail_at) }
         ensures room { OnOk result (self.new.room ≡ self.old.room) }

@@ -10,7 +10,7 @@ use crate::failed::Failed;
 use crate::source::Source;
 use std::marker::Model;
 
-/// A source over bytes in memory, as `ByteArrayInputStream`. It can be told at which call to fail.
+/// A source of bytes in memory, like `ByteArrayInputStream`. A test can choose a call that fails.
 #[derive(Drop)]
 pub struct MemorySource<'a> {
     rest: &'a [u8],
@@ -54,7 +54,7 @@ impl<'a> Source for MemorySource<'a> {
         ensures bytes { ReadConsumes (Some self.old.left) (Some self.new.left) result buffer.new }
         ensures reads { 0 ≤ 0 + 1 }
 
-        // When it fails, how much it gives, and what a call changes besides.
+        // When it fails, how many bytes it returns, and what else a call changes.
         ensures due { self.new.failed ≡ pull_fails self.old }
         ensures count { IfOk result (λ n. n ≡ min (length buffer.old) (length self.old.left)) }
         ensures buffer { IfOk result (λ n. drop n buffer.new ≡ drop n buffer.old) }

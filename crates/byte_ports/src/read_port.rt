@@ -8,8 +8,8 @@ use crate::source::Source;
 use std::io::Read;
 use std::marker::Model;
 
-/// A source over any reader of std, as a file or standard input. It tells the bytes left where the
-/// reader does: a file and standard input tell none.
+/// A source over any reader of std, such as a file or standard input. It tells its contract the bytes that are left if the
+/// reader does. A file and standard input don't.
 #[derive(Drop)]
 pub struct ReadPort<R> {
     reader: R,
@@ -23,7 +23,7 @@ impl<R> Model for ReadPort<R> {
 }
 
 impl<R: Read> ReadPort<R> {
-    /// A port round a reader, of which no call has failed.
+    /// Makes a port over a reader. No call has failed yet.
     pub fn new(reader: R) -> ReadPort<R>
         ensures { result ≡ record { inner = reader; failed = false } }
     {
@@ -50,7 +50,7 @@ impl<R: Read> Source for ReadPort<R> {
             result buffer.new }
         ensures reads { 0 ≤ 0 + 1 }
 
-        // Once it has failed, the reader is left alone.
+        // Once it has failed, it doesn't use the reader any more.
         ensures idle { IsTrue self.old.failed → self.new ≡ self.old }
     {
         if self.failed {
@@ -62,7 +62,7 @@ impl<R: Read> Source for ReadPort<R> {
     }
 }
 
-/// One read, tried again where a signal interrupts it.
+/// Reads once, and tries again if a signal interrupts it.
 fn read_through_interruptions<R: Read>(reader: &mut R, buffer: &mut [u8]) -> Result<usize, Failed>
     ensures bound { IfOk result (λ n. n ≤ length buffer.new) }
     ensures bytes { ReadConsumes (R.remaining reader.old) (R.remaining reader.new)

@@ -1,6 +1,6 @@
 ghost use Rattle.std.specs.Prelude.{◌≡◌, ◌+◌, ◌≤◌, length};
 
-/// Copies N to 2 N bytes over as many others by two moves, of the first N and of the last, which may overlap.
+/// Copies N to 2 N bytes with two moves, of the first N and of the last N, which may overlap.
 #[inline(always)]
 #[tactic(auto, using(crate::proofs::ShortCopies::both_ends))]
 fn copy_ends<const N: usize>(from: &[u8], to: &mut [u8])

@@ -6,14 +6,13 @@ use crate::failed::Failed;
 
 /// Takes bytes, as `java.io.OutputStream` does.
 pub trait Sink {
-    // The bytes that calls have written. `None`: the port does not tell.
+    // The bytes that calls have written. `None` if the port doesn't tell.
     ghost written: { Self → Option (List ℕ) };
 
     // Whether a call has failed.
     ghost has_failed: { Self → Bool };
 
-    /// Writes all of `bytes`, like `OutputStream.write(byte[])`. How much of them went out in a
-    /// call that failed is left open.
+    /// Writes all of `bytes`, like `OutputStream.write(byte[])`. A call that fails may have written a part of them.
     fn push(&mut self, bytes: &[u8]) -> Result<(), Failed>
         ensures failed { FailsForGood (has_failed self.old) (has_failed self.new) result }
         ensures bytes { OnOk result (Appends (written self.old) (written self.new) bytes.now) };

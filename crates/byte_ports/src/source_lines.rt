@@ -13,25 +13,25 @@ const PIECE: usize = 16_384;
 /// How many bytes a line has at most, without its LF.
 const MOST_BYTES: usize = 65_536;
 
-/// Room for a line that lacks its LF, and a piece behind it.
+/// Room for a line without its LF, and for one more piece.
 const ROOM: usize = 81_920;
 
 /// How often a source is read at most.
 const MOST_READS: u64 = 1_000_000_000;
 
-/// How a line ended.
+/// How a line ends.
 #[derive(Clone, Copy, Debug, PartialEq, Eq)]
 pub enum LineEnded {
     /// By its LF.
     Whole,
     /// By the end of the source.
     AtEnd,
-    /// Not yet: it has more than 65,536 bytes, of which the first 65,537 were read.
+    /// It hasn't ended: it has more than 65,536 bytes, of which the first 65,537 were read.
     TooLong,
 }
 
-/// The lines of a source, each where it lies in a block. A piece of the source ends anywhere: what of it isn't taken yet is
-/// held.
+/// The lines of a source, each returned where it is in a block. A piece of the source may end anywhere; the rest of it is kept
+/// for the next line.
 #[derive(Drop)]
 pub struct SourceLines {
     block: Vec<u8>,
@@ -60,8 +60,8 @@ impl Model for SourceLines {
         × (lines.stop ≤ lines.at) × (lines.at ≤ lines.end) × (lines.end ≤ 81920) × (lines.reads ≤ 1000000000) };
 }
 
-/// Where the first LF stands behind bytes that are none; the end where there is none. Four bytes are looked at with one test
-/// for the end.
+/// Returns the place of the first LF after bytes that aren't one, or the end if there is none. It looks at four bytes with one
+/// test for the end.
 fn place_of_lf(bytes: &[u8], seen: usize) -> usize
     requires seen { seen ≤ length bytes.now }
     requires one { IsOneLine (take seen bytes.now) }
@@ -102,7 +102,7 @@ fn move_front(block: &mut [u8], at: usize, end: usize)
     block.copy_within(at..end, 0);
 }
 
-/// Gets the next piece behind the first of these bytes, and answers how many bytes it has.
+/// Reads the next piece after the first `held` bytes. Returns how many bytes it has.
 fn pull_behind<S: Source>(source: &mut S, block: &mut [u8], held: usize) -> Result<usize, Failed>
     requires { held + 16384 ≤ length block.old }
     ensures length { length block.new ≡ length block.old }
@@ -119,7 +119,7 @@ fn pull_behind<S: Source>(source: &mut S, block: &mut [u8], held: usize) -> Resu
 }
 
 impl SourceLines {
-    /// Before the first line. This alone takes memory.
+    /// Makes a reader that has read no line yet. Only this call allocates.
     pub fn new(alloc: Global) -> Result<SourceLines, AllocError>
         ensures { IfOk result (λ lines. lines ≡ record { line = []; held = []; reads = 0 }) }
     {
@@ -133,7 +133,7 @@ impl SourceLines {
         })
     }
 
-    /// The line that was read last, without its LF.
+    /// Returns the line that was read last, without its LF.
     #[inline(always)]
     pub fn line(&self) -> &[u8]
         ensures { result.now ≡ self.now.line }
@@ -141,7 +141,7 @@ impl SourceLines {
         &self.block.as_slice()[..self.stop][self.start..]
     }
 
-    /// What was read of the lines behind it.
+    /// Returns what is already read of the following lines.
     #[inline(always)]
     pub fn held(&self) -> &[u8]
         ensures value { result.now ≡ self.now.held }
@@ -151,7 +151,7 @@ impl SourceLines {
         &self.block.as_slice()[..self.end][self.at..]
     }
 
-    /// Takes a line of so many bytes, and goes on behind it and what ends it.
+    /// Takes a line of so many bytes, and goes on after it and its end.
     #[inline(always)]
     fn take_line(&mut self, size: usize, count: usize)
         requires size { size ≤ count }
@@ -165,7 +165,7 @@ impl SourceLines {
         self.at += count;
     }
 
-    /// Goes on behind so many bytes of what is held: lines that the caller has seen there.
+    /// Skips so many bytes of what is already read: lines that the caller has looked at there.
     #[inline(always)]
     pub fn skip(&mut self, count: usize)
         requires { count ≤ length self.old.held }
@@ -175,7 +175,7 @@ impl SourceLines {
         self.take_line(count, count);
     }
 
-    /// Gets the next piece behind what is held, and answers how many bytes it has.
+    /// Reads the next piece after what is held, and returns how many bytes it has.
     #[inline(never)]
     fn fill<S: Source>(&mut self, source: &mut S) -> Result<usize, Failed>
         requires { length self.old.held ≤ 65536 }
@@ -206,8 +206,8 @@ impl SourceLines {
         Ok(count)
     }
 
-    /// Reads a line, and asks the source only where no whole line is held: up to its LF, up to the end of the source, or up
-    /// to a byte more than a line may have. A source is read at most 1,000,000,000 times.
+    /// Reads a line: up to its LF, up to the end of the source, or up to one byte more than a line may have. It reads the
+    /// source only if no whole line is there already, and at most 1,000,000,000 times.
     pub fn read_line<S: Source>(&mut self, source: &mut S) -> Result<LineEnded, Failed>
         ensures bytes { Consumes (prepend_known self.old.held (S.left source.old))
             (prepend_known self.new.held (S.left source.new)) (taken result self.new.line) }

@@ -8,12 +8,11 @@ use crate::sink::Sink;
 use std::io::Write;
 use std::marker::Model;
 
-/// A sink over any writer of std, as a file or standard output. It tells the bytes written where
-/// the writer does: a file and standard output tell none.
+/// A sink over any writer of std, such as a file or standard output. It tells its contract the bytes written if the writer
+/// does. A file and standard output don't.
 ///
-/// It keeps no bytes back of its own and flushes in `finish` alone. So the program chooses the
-/// buffering by the writer that it hands in, as a `BufWriter` for long output or a `LineWriter` for
-/// a dialogue.
+/// It keeps no bytes, and flushes only in `finish`. So the program chooses the buffering with the writer: for example a
+/// `BufWriter` for long output, or a `LineWriter` for a dialogue.
 #[derive(Drop)]
 pub struct WritePort<W> {
     writer: W,
@@ -27,7 +26,7 @@ impl<W> Model for WritePort<W> {
 }
 
 impl<W: Write> WritePort<W> {
-    /// A port round a writer, of which no call has failed.
+    /// Makes a port over a writer. No call has failed yet.
     pub fn new(writer: W) -> WritePort<W>
         ensures { result ≡ record { inner = writer; failed = false } }
     {
@@ -37,15 +36,14 @@ impl<W: Write> WritePort<W> {
         }
     }
 
-    /// Flushes the writer, like `OutputStream.flush`, again where a signal interrupts it, up to
-    /// `MOST_TRIES` times in all. A program calls it once, after its last `push`. A failure here is
-    /// one of writing: bytes that an earlier `push` took may not have gone out. That it flushes at
-    /// all is only tested: the standard library's contracts don't tell a flush from none.
+    /// Flushes the writer, like `OutputStream.flush`, and tries again if a signal interrupts it, up to `MOST_TRIES` times in
+    /// all. A program calls it once, after its last `push`. If it fails, bytes that an earlier `push` took may not be written.
+    /// It is only tested that it flushes: the standard library's contracts can't tell a flush from nothing.
     pub fn finish(&mut self) -> Result<(), Failed>
         ensures failed { FailsForGood self.old.failed self.new.failed result }
         ensures bytes { Keeps (W.contents self.old.inner) (W.contents self.new.inner) }
 
-        // Once it has failed, the writer is left alone.
+        // Once it has failed, it doesn't use the writer any more.
         ensures idle { IsTrue self.old.failed → self.new ≡ self.old }
     {
         if self.failed {
@@ -67,7 +65,7 @@ impl<W: Write> Sink for WritePort<W> {
         ensures bytes { OnOk result
             (Appends (W.contents self.old.inner) (W.contents self.new.inner) bytes.now) }
 
-        // Once it has failed, the writer is left alone.
+        // Once it has failed, it doesn't use the writer any more.
         ensures idle { IsTrue self.old.failed → self.new ≡ self.old }
     {
         if self.failed || self.writer.write_all(bytes).is_err() {
@@ -78,7 +76,7 @@ impl<W: Write> Sink for WritePort<W> {
     }
 }
 
-/// One flush, tried again where a signal interrupts it.
+/// Flushes once, and tries again if a signal interrupts it.
 fn flush_through_interruptions<W: Write>(writer: &mut W) -> Result<(), Failed>
     ensures { Keeps (W.contents writer.old) (W.contents writer.new) }
 {

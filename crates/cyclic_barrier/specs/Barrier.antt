@@ -5,8 +5,8 @@ use Rattle.cyclic_barrier.specs.declared.answer.WaitState.{WaitState}
 use Rattle.cyclic_barrier.specs.declared.answer.WaitState.TheVariants as state
 use Rattle.cyclic_barrier.specs.Waits.{wait_at, is_waiting, release}
 
--- a barrier as it now is: the thread that now runs the action, and for each of 64 threads what its
--- wait here has come to, if it has one
+-- a barrier as it is now: the thread that runs the action, if one does, and for each of 64 threads the state of its wait here,
+-- if it has one
 pub record BarrierState : Type 0 where
   pub parties : ℕ
   pub action : Bool
@@ -55,7 +55,7 @@ trip b = record b { waits = release state.Tripped b.waits }
 abbrev pub break : BarrierState → BarrierState
 break b = record b { waits = release state.Broken b.waits; broken = true }
 
--- what an entry leaves and answers
+-- the barrier after an entry, and the entry's result
 pub record Entry : Type 0 where
   pub barrier : BarrierState
   pub answer : Entered
@@ -67,7 +67,7 @@ add_wait thread b = record {
   answer = entered.Wait (b.parties - 1 - number_waiting b);
 }
 
--- the last arrival runs the action, or trips the barrier where there is none
+-- the last thread to arrive runs the action, or trips the barrier if there is none
 abbrev pub arrive_last : ℕ → BarrierState → Entry
 arrive_last thread b =
     if b.action

@@ -29,16 +29,16 @@ pub record StandsFor (b : BarrierState) (past : PlainBarrier) : Type 0 where
 abbrev pub HasPast : BarrierState → Type 0
 HasPast b = (past : PlainBarrier) × StandsFor b past
 
--- the call makes of each past that leads to the one barrier a past that leads to the other
+-- the call turns each past that leads to one barrier into a past that leads to the other
 abbrev pub Becomes : (PlainBarrier → PlainBarrier) → BarrierState → BarrierState → Type 0
 Becomes call before after =
     (past : PlainBarrier) → StandsFor before past → StandsFor after (call past)
 
--- the answer is that of each past that leads to the barrier
+-- the result is the same for each past that leads to the barrier
 abbrev pub Answers : {A : Type 0} → (PlainBarrier → A) → BarrierState → A → Type 0
 Answers call b answer = (past : PlainBarrier) → StandsFor b past → call past ≡ answer
 
--- an entry leaves what it does, and answers what it does, with the past as without
+-- an entry leaves the same barrier, and has the same result, with the past as without it
 pub record Agrees (entry : Entry) (with_past : plain.Entry) : Type 0 where
   pub barrier : StandsFor entry.barrier with_past.barrier
   pub answer : with_past.answer ≡ entry.answer

@@ -41,7 +41,7 @@ state_after None = state.Waiting
 state_after (Some tripped) = state.Tripped
 state_after (Some broken) = state.Broken
 
--- what the wait has come to, given the ends so far: that of its own generation alone counts
+-- the state of the wait, by the ends so far: only the end of its own generation counts
 abbrev pub state_of_wait : List End → Wait → WaitState
 state_of_wait ends wait = state_after (slice_get ends wait.generation)
 
@@ -49,7 +49,7 @@ state_of_wait ends wait = state_after (slice_get ends wait.generation)
 abbrev pub wait_of : ℕ → List Wait → Option Wait
 wait_of thread waits = find (λ wait. wait.thread == thread) waits
 
--- what the thread's wait has come to, if it has one
+-- the state of the thread's wait, if it has one
 abbrev pub state_of : ℕ → PlainBarrier → Option WaitState
 state_of thread b = option_map (state_of_wait b.ends) (wait_of thread b.waits)
 
@@ -69,7 +69,7 @@ end_generation end b = record b { ends = b.ends ++ end ∷ [] }
 abbrev pub break : PlainBarrier → PlainBarrier
 break b = record (end_generation broken b) { broken = true }
 
--- what an entry leaves and answers
+-- the barrier after an entry, and the entry's result
 pub record Entry : Type 0 where
   pub barrier : PlainBarrier
   pub answer : Entered
@@ -81,7 +81,7 @@ add_wait thread b =
     let wait : Wait = record { thread = thread; generation = length b.ends } in
     record { barrier = record b { waits = wait ∷ b.waits }; answer = entered.Wait index }
 
--- the last arrival runs the action, or ends the generation where there is none
+-- the last thread to arrive runs the action, or ends the generation if there is none
 abbrev pub arrive_last : ℕ → PlainBarrier → Entry
 arrive_last thread b =
     if b.action

@@ -1,4 +1,4 @@
--- How three sets of threads show what the waits have come to, for the Model of Waits alone.
+-- How three sets of threads show the states of all waits. Only the model of `Waits` uses this.
 use Rattle.std.proofs.Common.{◌≡◌, ℕ, ◌^◌, ◌<◌, Bool, true, false, cond, ◌||◌, ◌&&◌, ◌==◌, refl, sym, ◌∙◌, ap, arith, List, map, length, Option, Some, None, zero-add}
 use Rattle.std.specs.Prelude.{if◌then◌else◌}
 use Rattle.std.specs.Int.{bit_at}
@@ -25,7 +25,7 @@ unfoldable pub shown : ℕ → ℕ → ℕ → List (Option WaitState)
 shown waiting tripped broken =
     map (λ t. wait_by (has waiting t) (has tripped t) (has broken t)) (range_with_len 0 64)
 
--- the set of the threads whose wait has come to this
+-- the set of the threads whose wait has this state
 unfoldable pub threads_at : WaitState → List (Option WaitState) → ℕ
 threads_at s waits = mask_l (map (is_at s) waits)
 
@@ -40,8 +40,8 @@ pub record AreDisjoint (waiting tripped broken : ℕ) : Type 0 where
   pub broken_fits : broken < 2 ^ 64
   pub disjoint : (t : ℕ) → is_twice (has waiting t) (has tripped t) (has broken t) ≡ false
 
--- Lemmas from here on: the sets can be had back from the waits. They stand here and not in proofs/
--- since a Model's inverse can cite no other place; nobody has to believe them.
+-- Lemmas from here on: the sets can be recovered from the waits. They are here and not in proofs/, because a model's inverse
+-- can name no other place. No promise depends on them.
 
 -- the wait that three sets show for a thread
 pub wait_at-shown :
@@ -89,7 +89,7 @@ set_again s w k r set fits each =
     ∙ ap (is_at s) (wait_at-shown w k r t within) ∙ each t)
     ∙ bit_again (bit_at set t) (bit_at-lt set t))
 
--- the wait that three tests show is at this, where one of them at most holds
+-- the wait that three tests show has this state, if at most one of them holds
 at_waiting : (w k r : Bool) → is_at state.Waiting (wait_by w k r) ≡ w
 at_waiting true k r = refl
 at_waiting false true r = refl

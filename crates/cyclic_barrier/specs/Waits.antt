@@ -2,11 +2,11 @@ use Rattle.std.specs.Prelude.{ℕ, Bool, true, false, List, map, slice_index_or,
 use Rattle.cyclic_barrier.specs.declared.answer.WaitState.{WaitState}
 use Rattle.cyclic_barrier.specs.declared.answer.WaitState.TheVariants as state
 
--- what the thread's wait has come to, if it has one
+-- the state of the thread's wait, if it has one
 abbrev pub wait_at : List (Option WaitState) → ℕ → Option WaitState
 wait_at waits thread = slice_index_or waits thread None
 
--- there is a wait, and it has come to this
+-- there is a wait, and this is its state
 abbrev pub is_at : WaitState → Option WaitState → Bool
 is_at state.Waiting (Some state.Waiting) = true
 is_at state.Tripped (Some state.Tripped) = true
@@ -17,7 +17,7 @@ is_at _ _ = false
 abbrev pub is_waiting : Option WaitState → Bool
 is_waiting wait = is_at state.Waiting wait
 
--- an unreleased wait comes to this; a released one keeps its outcome
+-- a wait that isn't released gets this state; a released one keeps its state
 abbrev pub released : WaitState → Option WaitState → Option WaitState
 released outcome (Some state.Waiting) = Some outcome
 released outcome wait = wait

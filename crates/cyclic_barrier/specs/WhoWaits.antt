@@ -1,7 +1,7 @@
 use Rattle.std.specs.Prelude.{◌≡◌, ℕ, ◌<◌, Bool, not, ◌&&◌, ◌||◌, ◌==◌}
 use Rattle.cyclic_barrier.specs.Barrier.{BarrierState, has_wait, is_wait, runner_after, enter_timed, end_action, leave, interrupt, expire, reset}
 
--- which threads have a wait after each call at this barrier, and who runs the action after an entry
+-- which threads have a wait after each call at this barrier, and which thread runs the action after an entry
 pub record TellsWhoWaits (b : BarrierState) : Type 0 where
   pub enter : (thread u : ℕ) (interrupted no_wait : Bool) → thread < 64 →
       let entry = enter_timed thread interrupted no_wait b in

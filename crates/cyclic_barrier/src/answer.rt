@@ -1,4 +1,4 @@
-/// What a thread that calls `await` meets.
+/// The result of a call of `await`.
 #[derive(Clone, Copy, Debug, PartialEq, Eq)]
 pub enum Entered {
     /// It waits; this is its arrival index, parties - 1 for the first and never 0.
@@ -13,18 +13,18 @@ pub enum Entered {
     Interrupted,
     /// It had no time to wait and broke the barrier: `TimeoutException`.
     TimedOut,
-    /// Another thread runs the action: come again once it is done.
+    /// Another thread runs the action: call again when it is done.
     Busy,
     /// It runs the action itself: `IllegalStateException`.
     Own,
 }
 
-/// What a wait has come to.
+/// The state of a wait.
 #[derive(Clone, Copy, Debug, PartialEq, Eq)]
 pub enum WaitState {
     /// Its generation has not ended.
     Waiting,
-    /// The barrier tripped: `await` answers the arrival index.
+    /// The barrier tripped: `await` returns the arrival index.
     Tripped,
     /// The barrier broke or was reset: `BrokenBarrierException`.
     Broken,

@@ -10,8 +10,8 @@ mod release;
 mod tests;
 mod wait;
 
-/// A cyclic barrier with the threads that wait at it, which are numbers below 64. It has a fixed
-/// size, and a copy of it is a barrier in the same state.
+/// A cyclic barrier with the threads that wait at it. Threads are numbers below 64. A barrier has a fixed size, and a copy of
+/// it is a barrier in the same state.
 #[derive(Clone, Copy)]
 pub struct Barrier {
     parties: u16,
@@ -44,7 +44,7 @@ impl Model for Barrier {
 impl Barrier {
     ghost use Rattle.cyclic_barrier.specs.Barrier.{fresh, number_waiting};
 
-    /// A barrier of so many parties, with an action or without. There is none of 0 parties.
+    /// Makes a barrier with so many parties, with or without an action. Returns `None` for 0 parties.
     pub fn new(parties: u16, action: bool) -> Option<Barrier>
         ensures some { IsSome result ↔ (0 < parties) }
         ensures fresh { IfSome result (λ b. b ≡ fresh parties action) }
@@ -62,35 +62,35 @@ impl Barrier {
         }
     }
 
-    /// Java's `getParties`.
+    /// `getParties`.
     pub fn parties(&self) -> u16
         ensures { result ≡ self.now.parties }
     {
         self.parties
     }
 
-    /// Whether the last to arrive runs an action before the others go on.
+    /// Returns whether the last thread to arrive runs an action before the others go on.
     pub fn has_action(&self) -> bool
         ensures { result ≡ self.now.action }
     {
         self.action
     }
 
-    /// Java's `isBroken`: whether it broke since it was made or last reset.
+    /// `isBroken`: returns whether it broke since it was made or last reset.
     pub fn is_broken(&self) -> bool
         ensures { result ≡ self.now.broken }
     {
         self.broken
     }
 
-    /// The thread that runs the action, if one does. Then all the others wait.
+    /// Returns the thread that runs the action, if one does. Then all the others wait.
     pub fn runner(&self) -> Option<u8>
         ensures { result ≡ self.now.runner }
     {
         self.runner
     }
 
-    /// Java's `getNumberWaiting`: how many threads wait, unreleased. The runner is not among them.
+    /// `getNumberWaiting`: returns how many threads wait, without those that are released and without the runner.
     pub fn number_waiting(&self) -> u16
         ensures { result ≡ number_waiting self.now }
     {

@@ -1,9 +1,8 @@
-//! A cyclic barrier as Java's `CyclicBarrier`, played one call at a time: a value that takes no
-//! memory and is copied like a number.
+//! Java's `CyclicBarrier`, played one call at a time. A barrier is a value that needs no memory from the heap, and is copied
+//! like a number.
 //!
-//! No call waits: a thread that would wait is told its arrival index, and asks later what its
-//! wait has come to. Each call is one equation on a plain record; a law says that the calls do
-//! what Java says of generations.
+//! No call waits: a thread that would wait gets its arrival index, and asks later for the state of its wait. The contract of
+//! each call is one equation on a plain record. A law says that the calls do what Java says about generations.
 #![tactic(auto)]
 
 mod answer;

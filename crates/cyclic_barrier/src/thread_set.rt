@@ -11,7 +11,7 @@ pub struct ThreadSet {
 impl ThreadSet {
     pub const EMPTY: ThreadSet = ThreadSet { bits: 0 };
 
-    /// Whether the thread is in the set.
+    /// Returns whether the thread is in the set.
     pub fn contains(self, thread: u8) -> bool
         requires { thread < 64 }
         ensures { result ≡ has self.bits thread }
@@ -48,7 +48,7 @@ impl ThreadSet {
         }
     }
 
-    /// The number of threads in the set.
+    /// Returns the number of threads in the set.
     pub fn count(self) -> u32
         ensures { result ≡ count_ones self.bits }
     {

@@ -8,8 +8,8 @@ use crate::answer::WaitState;
 use crate::thread_set::ThreadSet;
 use std::marker::Model;
 
-/// For each of 64 threads what its wait has come to, if it has one. Kept as three sets of threads:
-/// who waits, whom a trip released, and whom a breakage or a reset released.
+/// For each of 64 threads the state of its wait, if it has one. It is stored as three sets of threads: those that wait, those
+/// that a trip released, and those that a breakage or a reset released.
 #[derive(Clone, Copy)]
 pub struct Waits {
     waiting: ThreadSet,
@@ -57,7 +57,7 @@ impl Waits {
         }
     }
 
-    /// The state of the thread's wait, `None` where it has none.
+    /// Returns the state of the thread's wait, or `None` if it has none.
     pub fn get(&self, thread: u8) -> Option<WaitState>
         requires { thread < 64 }
         ensures { result ≡ wait_at self.now thread }
@@ -73,14 +73,14 @@ impl Waits {
         }
     }
 
-    /// How many threads wait, unreleased.
+    /// Returns how many threads wait, without those that are released.
     pub fn count(&self) -> u32
         ensures { result ≡ count_by is_waiting self.now }
     {
         self.waiting.count()
     }
 
-    /// The thread waits.
+    /// Begins a wait of the thread.
     pub fn begin(&mut self, thread: u8)
         requires thread { thread < 64 }
         requires none { wait_at self.old thread ≡ None }
@@ -89,7 +89,7 @@ impl Waits {
         self.waiting = self.waiting.with(thread);
     }
 
-    /// The thread's wait is over, whatever it has come to.
+    /// Ends the thread's wait, whatever its state is.
     pub fn end(&mut self, thread: u8)
         requires { thread < 64 }
         ensures waits { self.new ≡ slice_set self.old thread None }

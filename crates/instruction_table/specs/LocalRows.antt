@@ -6,8 +6,7 @@ use Rattle.instruction_table.specs.declared.row.Row.{Row}
 use Rattle.instruction_table.specs.declared.row.Row.TheVariants.{Ldi, Mov, Add, Sub, Jmp, Beq, Bne, Blt}
 use Rattle.instruction_table.specs.Registers.{value_in, with_value}
 
--- the number from -2 ^ 31 to 2 ^ 31 - 1 that differs from z by a multiple of 2 ^ 32: what Java's
--- `int` keeps of z
+-- the number from -2 ^ 31 to 2 ^ 31 - 1 that differs from z by a multiple of 2 ^ 32: what Java's `int` keeps of z
 abbrev pub wrapped : ℤ → ℤ
 wrapped z = int_rem_euclid (z +ℤ pos 2147483648) (pos 4294967296) -ℤ pos 2147483648
 
@@ -23,28 +22,27 @@ is_local_row (Bne _ _ _) = true
 is_local_row (Blt _ _ _) = true
 is_local_row _ = false
 
--- what a local row leaves of its thread: the registers, the number of the row that comes next, and what the row put into a
--- register, where it puts anything
+-- what a local row leaves of its thread: the registers, the number of the next row, and the number that the row put into a
+-- register, if it did
 pub record Local : Type 0 where
   pub registers : List ℤ
   pub pc : ℕ
   pub written : Option ℤ
 
--- a number was put into a register, and the next row comes
+-- a number was put into a register, and the next row follows
 abbrev pub loads : List ℤ → ℕ → Reg → ℤ → Local
 loads regs pc into value =
     record { registers = with_value regs into value; pc = pc + 1; written = Some value }
 
--- the registers stay, and the row at this place comes
+-- the registers stay, and the row with this number follows
 abbrev pub goes_to : List ℤ → ℕ → Local
 goes_to regs place = record { registers = regs; pc = place; written = None }
 
--- a jump that is taken or not: where it isn't, the next row comes
+-- a jump that is taken or not: if it isn't, the next row follows
 abbrev pub branches : List ℤ → ℕ → Bool → ℕ → Local
 branches regs pc taken target = goes_to regs (if taken then target else pc + 1)
 
--- what each local row leaves of the registers and the place; other rows have no such effect, and
--- stand here as leaving both alone
+-- what each local row leaves of the registers and the place; other rows have no such effect, and leave both unchanged here
 abbrev pub local_of : Row → List ℤ → ℕ → Local
 local_of (Ldi into value) regs pc = loads regs pc into value
 local_of (Mov into from) regs pc = loads regs pc into (value_in regs from)

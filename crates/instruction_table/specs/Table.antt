@@ -71,16 +71,16 @@ entry_of shape = entry shape.opcode shape.word.now shape.operands.now
 abbrev pub entry_listed : ℕ × Bor (List ℕ) × Bor (List OperandKind) → Entry
 entry_listed line = entry line.0 line.1.now line.2.now
 
--- the entry with this word, if there is one: the first, where there were more
+-- the entry with this word, if there is one, and the first if there are more
 abbrev pub entry_named : List Entry → List ℕ → Option Entry
 entry_named entries word = find (λ e. bytes_eq e.word word) entries
 
--- an entry that was looked up, where it has this word
+-- an entry that was looked up, if it has this word
 abbrev pub filled_by : List ℕ → Option Entry → Option Entry
 filled_by word None = None
 filled_by word (Some e) = if bytes_eq e.word word then Some e else None
 
--- stands for what lies past the table's end, where no row's entry is looked for
+-- an entry past the end of the table, where no row's entry is looked up
 abbrev pub no_entry : Entry
 no_entry = entry 0 [] []
 

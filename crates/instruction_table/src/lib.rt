@@ -1,21 +1,21 @@
-//! The instruction set of the machine: what each row of a program is, and how it is spelled.
+//! The instruction set of the machine: what each row of a program is, and how it is written.
 //!
-//! One table gives each kind of row its opcode, its word and the kinds of its operands. `local`
-//! is the whole effect of the eight kinds that touch nothing but their own thread's registers.
+//! A table gives each kind of row its opcode, its word, and the kinds of its operands. `local` is the whole effect of the eight
+//! kinds that use only their own thread's registers.
 #![tactic(auto)]
 
 // The rows, and the registers that they name.
 pub mod register;
 pub mod row;
 
-// How each kind of row is spelled.
+// How each kind of row is written.
 pub mod shape;
 pub mod table;
 
-// What a thread's registers hold.
+// The registers of a thread.
 pub mod registers;
 
-// What the rows do that need nothing else.
+// The rows that use only registers.
 pub mod local_rows;
 
 pub use local_rows::{is_local, local, play_local};

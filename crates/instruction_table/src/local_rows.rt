@@ -6,8 +6,7 @@ use crate::register::Reg;
 use crate::registers::{Local, Regs};
 use crate::row::Row;
 
-/// Whether the row touches nothing but its own thread's registers and place: the rows of opcodes
-/// 1 to 8.
+/// Returns whether the row uses only its own thread's registers and place: the rows of opcodes 1 to 8.
 pub fn is_local(row: Row) -> bool
     ensures { result ≡ is_local_row row }
 {
@@ -38,7 +37,7 @@ fn difference(registers: &Regs, left: Reg, right: Reg) -> i32
     registers.get(left).wrapping_sub(registers.get(right))
 }
 
-/// Puts a number into a register, and the next row comes.
+/// Puts a number into a register, and goes to the next row.
 fn load(registers: &mut Regs, pc: &mut u16, into: Reg, value: i32) -> Option<i32>
     requires { pc.old < 65535 }
     ensures { record { registers = registers.new; pc = pc.new; written = result }
@@ -49,7 +48,7 @@ fn load(registers: &mut Regs, pc: &mut u16, into: Reg, value: i32) -> Option<i32
     Some(value)
 }
 
-/// The row at this place comes.
+/// Goes to the row with this number.
 fn go_to(pc: &mut u16, place: u16) -> Option<i32>
     ensures place { pc.new ≡ place }
     ensures written { result ≡ None }
@@ -58,7 +57,7 @@ fn go_to(pc: &mut u16, place: u16) -> Option<i32>
     None
 }
 
-/// A jump that is taken or not.
+/// Jumps, or goes to the next row.
 fn branch(pc: &mut u16, taken: bool, target: u16) -> Option<i32>
     requires { pc.old < 65535 }
     ensures place { pc.new ≡ (if taken then target else pc.old + 1) }
@@ -68,8 +67,8 @@ fn branch(pc: &mut u16, taken: bool, target: u16) -> Option<i32>
     go_to(pc, if taken { target } else { next })
 }
 
-/// What the row at `pc` leaves of these registers and of `pc`. Sums and differences wrap as Java's `int` does. Numbers of rows
-/// end at 65535: no row comes after it.
+/// Returns what the row at `pc` makes of these registers and of `pc`. Sums and differences wrap like Java's `int`. The numbers
+/// of rows end at 65535: no row follows it.
 pub fn local(row: Row, registers: &Regs, pc: u16) -> Local
     requires { IsTrue (is_local_row row) }
     ensures registers { result.registers ≡ (local_of row registers.now pc).registers }
@@ -83,8 +82,8 @@ pub fn local(row: Row, registers: &Regs, pc: u16) -> Local
     left
 }
 
-/// `local`, written over the registers and `pc`. It answers what it put into a register, where it puts anything: its event
-/// shows this number. The number of a program's row is always below 65535.
+/// Does what `local` says, in place. Returns the number that it put into a register, if it did: the row's event shows this
+/// number. The number of a program's row is always below 65535.
 #[inline(always)]
 pub fn play_local(row: Row, registers: &mut Regs, pc: &mut u16) -> Option<i32>
     requires local { IsTrue (is_local_row row) }

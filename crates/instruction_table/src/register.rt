@@ -15,7 +15,7 @@ pub enum Reg {
 }
 
 impl Reg {
-    /// The register's number, which follows the `r` in a program's text.
+    /// Returns the register's number, which follows the `r` in a program's text.
     pub fn number(self) -> u8
         ensures number { result ≡ number_of self }
         ensures small { result < 8 }
@@ -32,7 +32,7 @@ impl Reg {
         }
     }
 
-    /// The register with this number, where there is one.
+    /// Returns the register with this number, if there is one.
     pub fn numbered(number: u8) -> Option<Reg>
         ensures known { IsSome result ↔ (number < 8) }
         ensures number { IfSome result (λ reg. number_of reg ≡ number) }

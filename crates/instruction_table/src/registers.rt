@@ -4,8 +4,7 @@ ghost use Rattle.instruction_table.specs.Registers.{all_zero, value_in, with_val
 use crate::register::Reg;
 use std::marker::Model;
 
-/// A thread's eight registers, each a number as Java's `int`. Contracts see the list of the eight
-/// numbers, that of R0 first.
+/// A thread's eight registers, each a number like Java's `int`. Contracts see a list of eight numbers, with that of R0 first.
 #[derive(Clone, Copy)]
 pub struct Regs {
     values: [i32; 8],
@@ -29,7 +28,7 @@ impl Regs {
         Regs { values: [0; 8] }
     }
 
-    /// The number in a register.
+    /// Returns the number in a register.
     pub fn get(&self, reg: Reg) -> i32
         ensures value { result ≡ value_in self.now reg }
         ensures eight { length self.now ≡ 8 }
@@ -46,7 +45,7 @@ impl Regs {
     }
 }
 
-/// What a row leaves that touches nothing else: the registers, and the number of the row that comes next.
+/// What a row that uses only registers leaves: the registers, and the number of the next row.
 #[derive(Clone, Copy)]
 pub struct Local {
     pub registers: Regs,

@@ -4,12 +4,11 @@ ghost use Rattle.instruction_table.specs.Table.{table};
 
 use crate::register::Reg;
 
-/// One row of a program. The fields stand in the order of the operands in a program's text.
+/// One row of a program. Its fields are in the order of the operands in a program's text.
 ///
-/// `into` is the register that the row's answer goes to. A target or a handler is the number of a
-/// row; rows, phasers, barriers, threads and cells are each numbered from 0, in the order of the
-/// program's declarations, and a field holds any number to 65535, whether such a thing is there or
-/// not. The rows of phasers and barriers are explained by the Java method that they mirror.
+/// `into` is the register for the row's result. A target or a handler is the number of a row. Rows, phasers, barriers, threads
+/// and cells are numbered from 0, in the order of the program's declarations. A field holds any number up to 65535, whether
+/// there is such a thing or not. For the rows of phasers and barriers, the comment names the Java method that they mirror.
 #[derive(Clone, Copy)]
 pub enum Row {
     /// Ends the thread.
@@ -88,7 +87,7 @@ pub enum Row {
         from: Reg,
         cell: u16,
     },
-    /// Loads the thread's own number: the row `self`, whose name is no name for a variant.
+    /// Loads the thread's own number. This is the row `self`, a word that can't name a variant.
     SelfNumber {
         into: Reg,
     },
@@ -167,7 +166,7 @@ pub enum Row {
         into: Reg,
         phaser: u16,
     },
-    /// `getParent`, as the parent's number, or -1 where there is none.
+    /// `getParent`, as the parent's number, or -1 if there is none.
     Pparent {
         into: Reg,
         phaser: u16,
@@ -216,7 +215,7 @@ pub enum Row {
     },
 }
 
-/// The number of the row's kind, by which programs are encoded.
+/// Returns the number of the row's kind, which programs are encoded with.
 pub fn opcode(row: Row) -> u8
     ensures code { result ≡ opcode_of row }
     ensures listed { result < length table }
@@ -267,7 +266,7 @@ pub fn opcode(row: Row) -> u8
     }
 }
 
-/// Whether the row waits no longer than a timeout: the rows of opcodes 40 and 41.
+/// Returns whether the row waits no longer than a timeout: the rows of opcodes 40 and 41.
 pub fn is_timed(row: Row) -> bool
     ensures { result ≡ is_timed_row row }
 {

@@ -1,9 +1,9 @@
-/// What an operand of a row is, and so how it is spelled in a program's text.
+/// What an operand of a row is, and so how a program's text writes it.
 #[derive(Clone, Copy, Debug, PartialEq, Eq)]
 pub enum OperandKind {
     /// `r0` to `r7`.
     Register,
-    /// A number as Java's `int`.
+    /// A number like Java's `int`.
     Number,
     /// The number of a row, or a label.
     Target,
@@ -17,7 +17,7 @@ pub enum OperandKind {
     Cell,
 }
 
-/// How a kind of row is spelled: an entry of the instruction table.
+/// How a kind of row is written: an entry of the instruction table.
 #[derive(Clone, Copy)]
 pub struct Shape {
     /// The entry's place in the table, from 0.

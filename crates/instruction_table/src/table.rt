@@ -66,8 +66,7 @@ fn shape_listed(listed: Listed) -> Shape
     }
 }
 
-/// For each slot the place of the entry whose word has it; 255 where no word has it. Words of two
-/// entries have two slots.
+/// For each slot the place of the entry whose word has it, or 255 if no word does. Words with two entries have two slots.
 const PLACES: [u8; 128] = [
     255, 255, 255, 255, 255, 255, 255, 36, 255, 31, 255, 33, 13, 255, 255, 255, 255, 16, 255, 34,
     255, 27, 255, 255, 255, 2, 255, 6, 255, 255, 17, 14, 255, 255, 255, 22, 255, 23, 255, 255, 19,
@@ -78,8 +77,8 @@ const PLACES: [u8; 128] = [
     255, 255, 255, 29,
 ];
 
-/// The place of the entry that has this word, where there is one. It is found by the word's slot,
-/// which is made of its length and three of its letters.
+/// Returns the place of the entry with this word, if there is one. The slot of a word is made of its length and three of its
+/// letters.
 #[inline(always)]
 fn place_of(word: &[u8]) -> u8
     ensures { (e : Entry) → entry_named table word.now ≡ Some e → result ≡ e.opcode }
@@ -93,7 +92,7 @@ fn place_of(word: &[u8]) -> u8
     }
 }
 
-/// The opcode of the entry at this place, where there is one that has this word.
+/// Returns the opcode of the entry at this place, if it has this word.
 #[inline(always)]
 fn opcode_there(entries: &[Listed], place: u8, word: &[u8]) -> Option<u8>
     ensures { result ≡ option_map (λ e. e.opcode)
@@ -111,7 +110,7 @@ fn opcode_there(entries: &[Listed], place: u8, word: &[u8]) -> Option<u8>
     }
 }
 
-/// The opcode of the rows that begin with this word in a program's text, which counts as `shape_of` has it.
+/// Returns the opcode of the rows that begin with this word in a program's text. The word counts as in `shape_of`.
 #[inline(always)]
 pub fn opcode_named(word: &[u8]) -> Option<u8>
     ensures opcode { result ≡ option_map (λ e. e.opcode) (entry_named table word.now) }
@@ -146,8 +145,8 @@ fn shape_at(entries: &[Listed], place: u8) -> Shape
     shape_listed(entries[usize::from(place)])
 }
 
-/// The shape of the rows that begin with this word in a program's text. The word counts as it is:
-/// in small letters and whole. Any other bytes have no shape.
+/// Returns the shape of the rows that begin with this word in a program's text. The word has to be whole and in small letters.
+/// Any other bytes have no shape.
 pub fn shape_of(word: &[u8]) -> Option<Shape>
     ensures entry { option_map entry_of result ≡ entry_named table word.now }
 
@@ -162,7 +161,7 @@ pub fn shape_of(word: &[u8]) -> Option<Shape>
     }
 }
 
-/// The row's shape: what `shape_of` answers to its word.
+/// Returns the row's shape: what `shape_of` returns for its word.
 pub fn row_shape(row: Row) -> Shape
     ensures entry { entry_of result ≡ entry_for row }
     ensures code { result.opcode ≡ opcode_of row }
@@ -170,7 +169,7 @@ pub fn row_shape(row: Row) -> Shape
     shape_at(&TABLE, opcode(row))
 }
 
-/// The word that begins the row in a program's text.
+/// Returns the word that begins the row in a program's text.
 pub fn mnemonic(row: Row) -> &'static str
     ensures word { result.now ≡ (entry_for row).word }
 

@@ -1,5 +1,4 @@
--- A row as it is kept until its names are looked up, seen as what it says. It carries the proof alone:
--- no public contract of the assembler and no theorem names it, and nobody has to believe it.
+-- A row as it is stored until its names are looked up, and what it says. Only proofs use this: no promise depends on it.
 use Rattle.std.specs.Prelude.{ℕ, ◌&&◌, ◌||◌, not, Bool, true, false, List, Option, Some, None}
 use Rattle.std.specs.List.{slice_get}
 use Rattle.instruction_table.specs.declared.shape.OperandKind.{OperandKind}
@@ -31,7 +30,7 @@ row_kept row = record {
   fourth = operand_kept row.held row.fourth;
 }
 
--- a kind whose operand is held: all but registers
+-- a kind whose operand is held apart: all but registers
 abbrev pub is_other : OperandKind → Bool
 is_other kind.Register = false
 is_other _ = true
@@ -43,7 +42,7 @@ is_other_there kinds place = is_some_other (slice_get kinds place)
     is_some_other None = false
     is_some_other (Some k) = is_other k
 
--- a place that holds by itself what stands there
+-- a place that holds its operand itself
 abbrev pub is_register : KeptOperand → Bool
 is_register kept.Absent = true
 is_register (kept.Register reg) = true

@@ -1,4 +1,4 @@
--- How a number is spelled: digits, and a minus sign before them or none.
+-- How a number is written: digits, perhaps with a minus sign before them.
 use Rattle.std.specs.Prelude.{ℕ, ◌==◌, ◌&&◌, not, if◌then◌else◌, Bool, false, ℤ, pos, neg_ℤ, List, [], ◌∷◌, length}
 use Rattle.std.specs.Char.{is_ascii_digit}
 use Rattle.std.specs.List.{list_all}
@@ -9,7 +9,7 @@ abbrev pub is_negative : List ℕ → Bool
 is_negative [] = false
 is_negative (byte ∷ bytes) = byte == 45
 
--- what follows the minus sign; all of the word where there is none
+-- what follows the minus sign, or the whole word if there is none
 abbrev pub digits_in : List ℕ → List ℕ
 digits_in [] = []
 digits_in (byte ∷ bytes) = if byte == 45 then bytes else byte ∷ bytes

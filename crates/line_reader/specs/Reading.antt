@@ -1,5 +1,5 @@
--- How the words of a line are read, and what is wrong with them: the first of the checks, in the order
--- in which they stand here.
+-- How the words of a line are read, and what is wrong with them: the first check that fails, in the order in which they are
+-- written here.
 use Rattle.std.specs.Prelude.{ℕ, ◌-◌, ◌==◌, ◌||◌, not, nat_lt, int_lt, if◌then◌else◌, Bool, true, false, ℤ, pos, negsuc, List, [], ◌∷◌, length, take, codes, bytes_eq, find, Option, Some, None, Result, Ok, Err}
 use Rattle.std.specs.List.{list_all, slice_get}
 use Rattle.instruction_table.specs.declared.register.Reg.{Reg}
@@ -28,7 +28,7 @@ use Rattle.line_reader.specs.Numbers.{is_number, digits_in, value_in}
 use Rattle.line_reader.specs.Symbols.{Name}
 use Rattle.line_reader.specs.Spelling.{least_int, greatest_int, greatest_number, register_word}
 
--- nothing, where a check is met, else its fault
+-- nothing if a check succeeds, and otherwise its fault
 abbrev pub check : Bool → AsmFaultKind → Result (Unit {0}) AsmFaultKind
 check true kind = Ok tt
 check false kind = Err kind
@@ -61,7 +61,7 @@ count_of (negsuc n) = 0
 unfoldable pub count_at : ℕ → List ℕ → Result ℕ AsmFaultKind
 count_at high word = number_at (pos 0) (pos high) word >>= (λ value. Ok (count_of value))
 
--- a number behind `#`, or a name
+-- a number after `#`, or a name
 unfoldable pub reference_at : ℕ → List ℕ → Result (Reference Name) AsmFaultKind
 reference_at high [] = Err fault.BadName
 reference_at high (byte ∷ bytes) =
@@ -90,7 +90,7 @@ operand_at kind.Number word =
 operand_at k word =
     reference_at greatest_number word >>= (λ reference. Ok (operand.Object k reference))
 
--- the operand at a place, where there are a kind and a word of it
+-- the operand at a place, if there is a kind and a word for it
 abbrev pub operand_or_absent : Option OperandKind → Option (List ℕ) →
     Result (Operand Name) AsmFaultKind
 operand_or_absent (Some k) (Some word) = operand_at k word
@@ -124,14 +124,13 @@ row_at word words = do
   counted ← check (length words == length entry.operands) fault.OperandCount
   row_of_kinds entry.opcode entry.operands words
 
--- an option of a directive: its argument is the next word, whatever it looks like; what follows is
--- still to be read
+-- an option of a directive: its argument is the next word, whatever it is; the words after it are still to be read
 abbrev pub argument_at : {A : Type 0} → (List ℕ → Result A AsmFaultKind) → List (List ℕ) →
     Result (A × List (List ℕ)) AsmFaultKind
 argument_at read [] = Err fault.OperandCount
 argument_at read (word ∷ rest) = read word >>= (λ x. Ok (x, rest))
 
--- an option with a row or an object as its argument, where it comes next
+-- an option with a row or an object as its argument, if it comes next
 unfoldable pub reference_option_at : List ℕ → ℕ → List (List ℕ) →
     Result (Option (Reference Name) × List (List ℕ)) AsmFaultKind
 reference_option_at option high [] = Ok (None, [])
@@ -157,12 +156,12 @@ policy_at (word ∷ rest) =
     then argument_at (reference_at greatest_number) rest >>= (λ x. Ok (policy.Routine x.0, x.1))
     else Ok (policy.Default, word ∷ rest)))
 
--- no word is left: any other can't come here
+-- no word is left; any other word isn't allowed here
 abbrev pub end_at : List (List ℕ) → Result (Unit {0}) AsmFaultKind
 end_at [] = Ok tt
 end_at (word ∷ rest) = Err fault.BadOption
 
--- a phaser from its name, its parties and the words behind them
+-- a phaser with its name, its parties and the words after them
 abbrev pub phaser_with : Name → ℕ → List (List ℕ) → Result (SymbolicPhaser Name) AsmFaultKind
 phaser_with name parties options = do
   parent ← reference_option_at (codes "parent") 63 options
@@ -221,7 +220,7 @@ directive_at word words =
     then thread_at words >>= (λ t. Ok (statement.Thread t))
     else cell_at words >>= (λ name. Ok (statement.Cell name))))
 
--- whether a word ends in a colon, and what stands before its last byte
+-- whether a word ends in a colon, and the word without its last byte
 abbrev pub is_label : List ℕ → Bool
 is_label [] = false
 is_label (byte ∷ []) = byte == 58

@@ -1,5 +1,4 @@
--- What code reads a line as, seen as what the definitions speak of: each name as the bytes that it
--- borrows, wherever they lie.
+-- What the code reads a line as, in terms of the definitions: each name is the bytes that it borrows, wherever they are.
 use Rattle.std.specs.Prelude.{ℕ, List, Result, Ok, Err, option_map}
 use Rattle.std.specs.Borrow.{Bor}
 use Rattle.line_reader.specs.declared.reference.Reference.{Reference}
@@ -79,7 +78,7 @@ statement_seen (statement.Row label row) = statement.Row (option_map name_seen l
 abbrev pub line_seen : Line Borrowed → Line Name
 line_seen line = record { number = line.number; statement = statement_seen line.statement }
 
--- what was answered where no memory is taken, with its names seen as bytes
+-- the result of a call that needs no memory, with its names as bytes
 abbrev pub seen : {X Y : Type 0} → (X → Y) → Result X AsmFaultKind → Result Y AsmFaultKind
 seen view (Ok x) = Ok (view x)
 seen view (Err kind) = Err kind

@@ -1,4 +1,4 @@
--- What the words of a line spell: nothing, a directive, or a label or a row or both.
+-- The meaning of the words of a line: nothing, a directive, or a label or a row or both.
 use Rattle.std.specs.Prelude.{◌≡◌, ◌⊎◌, ℕ, ◌+◌, ◌≤◌, true, ℤ, pos, negsuc, ◌≤ℤ◌, List, [], ◌∷◌, ◌++◌, length, codes, slice_index_or, Option, Some, None}
 use Rattle.std.specs.List.{list_all}
 use Rattle.instruction_table.specs.declared.register.Reg.{Reg}
@@ -38,7 +38,7 @@ pub record SpellsNumber (low : ℤ) (high : ℤ) (word : List ℕ) (number : ℤ
   pub least : low ≤ℤ number
   pub greatest : number ≤ℤ high
 
--- a name stands for itself, and `#` is before a number from 0 to a greatest one
+-- a name stands for itself, and `#` precedes a number from 0 to a maximum
 abbrev pub SpellsReference : ℕ → List ℕ → Reference Name → Type 0
 SpellsReference high word (Named name) = (word ≡ name) × (is_name name ≡ true)
 SpellsReference high word (Numbered n) =

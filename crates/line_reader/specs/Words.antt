@@ -6,7 +6,7 @@ use Rattle.std.specs.List.{slice_split, filter, before_first}
 abbrev pub is_line_end : ℕ → Bool
 is_line_end byte = byte == 10
 
--- tab, CR and the bytes from space to `~`: what may stand in a line
+-- tab, CR and the bytes from space to `~`: the bytes that a line may have
 abbrev pub is_allowed : ℕ → Bool
 is_allowed byte = (byte == 9) || (byte == 13) || (nat_lt 31 byte && nat_lt byte 127)
 
@@ -18,13 +18,13 @@ is_blank byte = (byte == 32) || (byte == 9) || (byte == 13)
 abbrev pub begins_comment : ℕ → Bool
 begins_comment byte = byte == 59
 
--- pieces without the last one where it is empty
+-- pieces without the last one if it is empty
 abbrev pub without_empty_last : List (List ℕ) → List (List ℕ)
 without_empty_last [] = []
 without_empty_last ([] ∷ []) = []
 without_empty_last (piece ∷ pieces) = piece ∷ without_empty_last pieces
 
--- the pieces between line ends, in order: behind the last line end there is no line if nothing is there
+-- the pieces between line ends, in order; after the last line end there is a line only if something follows it
 abbrev pub lines_of : List ℕ → List (List ℕ)
 lines_of text = without_empty_last (slice_split is_line_end text)
 

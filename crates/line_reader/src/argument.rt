@@ -9,7 +9,7 @@ use crate::number::number_at;
 use crate::reference::{Reference, reference_at};
 use crate::words::is_word;
 
-/// Reads the argument of an option, a row or an object, and tells the words behind it.
+/// Reads the argument of an option, a row or an object. Returns it and the words after it.
 pub fn reference_argument<'a, 'w>(
     high: u16,
     words: &'w [&'a [u8]],
@@ -23,8 +23,7 @@ pub fn reference_argument<'a, 'w>(
     }
 }
 
-/// Reads an option whose argument is a row or an object, where it comes next, and tells the words
-/// behind it.
+/// Reads an option whose argument is a row or an object, if it comes next. Returns it and the words after it.
 #[tactic(auto, unfolding(crate::specs::Reading::reference_option_at))]
 pub fn reference_option_at<'a, 'w>(
     option: &str,
@@ -46,7 +45,7 @@ pub fn reference_option_at<'a, 'w>(
     }
 }
 
-/// Reads the argument of an option, a phase, and tells the words behind it.
+/// Reads the argument of an option, a phase. Returns it and the words after it.
 pub fn phase_argument<'a, 'w>(words: &'w [&'a [u8]]) -> Result<(i32, &'w [&'a [u8]]), AsmFaultKind>
     ensures { seen (λ x. (x.0, map name_seen x.1.now)) result
         ≡ argument_at (number_at (pos 0) greatest_int) (map name_seen words.now) }

@@ -7,7 +7,7 @@ use std::alloc::{AllocError, AllocFailed};
 /// What is wrong with a line of a text.
 #[derive(Clone, Copy, Debug, PartialEq, Eq)]
 pub enum AsmFaultKind {
-    /// A byte that no line may hold, in a comment too.
+    /// A byte that no line may have, not even in a comment.
     BadByte,
     /// More than 256 bytes before the line's end, its comment and a CR counted.
     LongLine,
@@ -17,19 +17,19 @@ pub enum AsmFaultKind {
     OperandCount,
     /// Not `r0` to `r7`.
     BadRegister,
-    /// Not spelled as a number, behind `#` too.
+    /// Not written as a number. Also after `#`.
     BadNumber,
-    /// A number out of its range, or of more than ten digits.
+    /// A number out of its range, or with more than ten digits.
     OutOfRange,
     /// Not spelled as a name.
     BadName,
     /// No thing of the kind that is wanted has this name.
     UnknownName,
-    /// The name was given before.
+    /// An earlier line has given the name.
     NameTwice,
-    /// A directive behind the first label or instruction.
+    /// A directive after the first label or instruction.
     MisplacedDirective,
-    /// A word that can't come there in a directive.
+    /// A word that can't be there in a directive.
     BadOption,
     /// One more than there may be of its kind.
     TooMany,
@@ -38,7 +38,7 @@ pub enum AsmFaultKind {
 }
 
 impl AsmFaultKind {
-    /// The number that the fault is told with: missing memory has none.
+    /// Returns the number that the fault is reported with. `Memory` has none.
     pub fn number(self) -> Option<u8>
         ensures { result ≡ asm_number self }
     {
@@ -61,8 +61,7 @@ impl AsmFaultKind {
     }
 }
 
-/// The first fault of a text and its line, counted from 1; for `Memory` the line at hand when it was
-/// refused.
+/// The first fault of a text and its line, counted from 1. For `Memory` it is the line that was being read.
 #[derive(Clone, Copy, Debug, PartialEq, Eq)]
 pub struct AsmFault {
     pub line: u64,

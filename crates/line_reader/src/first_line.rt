@@ -1,4 +1,4 @@
-//! The first line of a text: where it ends, and the words in it.
+//! The first line of a text: its end and its words.
 ghost use Rattle.std.specs.Prelude.{◌≡◌, ◌+◌, ◌<◌, ◌≤◌, ◌⊎◌, ◌++◌, ◌∷◌, Err, IfErr, IfOk, Ok, drop, length, map, not, slice_index_or, true};
 ghost use Rattle.std.specs.List.{list_all, position, position_or_len};
 ghost use Rattle.line_reader.specs.declared.asm_fault.AsmFaultKind.TheVariants as fault;
@@ -22,7 +22,7 @@ fn place_of_end(bytes: &[u8]) -> Option<usize>
     bytes.iter().position(|byte| !is_letter(*byte))
 }
 
-/// How many bytes of a word a text begins with.
+/// Returns how many bytes of a word a text begins with.
 #[inline(always)]
 #[tactic(auto, using(crate::proofs::Places::position_some, crate::proofs::Places::position_none))]
 fn length_of_word(text: &[u8]) -> usize
@@ -35,7 +35,7 @@ fn length_of_word(text: &[u8]) -> usize
     }
 }
 
-/// Adds a piece to the list, where it isn't empty.
+/// Appends a piece to the list, unless it is empty.
 #[inline(always)]
 fn push_piece<'a>(words: &mut Vec<&'a [u8]>, piece: &'a [u8]) -> Result<(), AllocError>
     ensures { IfOk result (λ _. map name_seen words.new.items
@@ -47,7 +47,7 @@ fn push_piece<'a>(words: &mut Vec<&'a [u8]>, piece: &'a [u8]) -> Result<(), Allo
     Ok(())
 }
 
-/// Whether a blank comes next.
+/// Returns whether a blank comes next.
 #[inline(always)]
 fn begins_blank(text: &[u8]) -> bool
     ensures { result ≡ is_blank (slice_index_or text.now 0 10) }
@@ -58,8 +58,8 @@ fn begins_blank(text: &[u8]) -> bool
     }
 }
 
-/// Puts the words that a text begins with in the place of what the list held, up to the first byte that is neither of a word
-/// nor a blank: answers what stands from there on.
+/// Replaces the list by the words that a text begins with, up to the first byte that is neither in a word nor a blank. Returns
+/// what follows from there on.
 #[inline(always)]
 fn put_words<'a>(words: &mut Vec<&'a [u8]>, text: &'a [u8]) -> Result<&'a [u8], AllocError>
     ensures left { IfOk result (λ rest. IsLeft text.now rest.now) }
@@ -79,7 +79,7 @@ fn put_words<'a>(words: &mut Vec<&'a [u8]>, text: &'a [u8]) -> Result<&'a [u8], 
     }
 }
 
-/// How many bytes a text begins with that a line may hold.
+/// Returns how many bytes at the beginning of a text are allowed in a line.
 #[inline(always)]
 #[tactic(auto, using(crate::proofs::Places::position_some, crate::proofs::Places::position_none))]
 fn length_allowed(text: &[u8]) -> usize
@@ -92,7 +92,7 @@ fn length_allowed(text: &[u8]) -> usize
     }
 }
 
-/// Whether a line ends at this place: there is LF, or nothing.
+/// Returns whether a line ends at this place: there is LF, or nothing.
 #[inline(always)]
 fn ends_line(text: &[u8], place: usize) -> bool
     ensures { result ≡ is_line_end (slice_index_or text.now place 10) }
@@ -103,7 +103,7 @@ fn ends_line(text: &[u8], place: usize) -> bool
     }
 }
 
-/// What follows the byte that ends a line at this place, if one does.
+/// Returns what follows the byte that ends a line at this place, if one does.
 #[inline(always)]
 fn behind_end(text: &[u8], end: usize) -> &[u8]
     requires { end ≤ length text.now }
@@ -115,7 +115,7 @@ fn behind_end(text: &[u8], end: usize) -> &[u8]
     }
 }
 
-/// The first line of a text, whatever it holds, and what follows its end.
+/// Returns the first line of a text, whatever it has, and what follows its end.
 #[tactic(auto, using(crate::proofs::FirstLines::lines_first, crate::proofs::FirstLines::shorter_after))]
 pub fn first_line(text: &[u8]) -> (&[u8], &[u8])
     requires { 0 < length text.now }
@@ -126,8 +126,8 @@ pub fn first_line(text: &[u8]) -> (&[u8], &[u8])
     (&text[..length], behind_end(text, length))
 }
 
-/// Puts the words of a text's first line in the place of what the list held, and answers what follows the line's end. Bytes are
-/// looked at up to the line's end, or to the first one that can't stand there.
+/// Replaces the list by the words of a text's first line. Returns what follows the line's end. It looks at the bytes up to the
+/// line's end, or to the first one that isn't allowed.
 #[inline(always)]
 #[tactic(auto, unfolding(crate::specs::Reading::line_words), using(crate::proofs::FirstLines::end_of, crate::proofs::FirstLines::end_at, crate::proofs::FirstLines::first_long, crate::proofs::FirstLines::lines_first, crate::proofs::FirstLines::shorter_after))]
 pub fn put_line<'a>(words: &mut Vec<&'a [u8]>, text: &'a [u8]) -> Result<&'a [u8], AsmFaultKind>

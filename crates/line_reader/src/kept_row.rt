@@ -8,20 +8,20 @@ use crate::number::number_at;
 use crate::reference::{Reference, reference_at};
 use instruction_table::{OperandKind, Reg, opcode_named, operands_of};
 
-/// What stands at one of the four places of a row.
+/// What is at one of the four places of a row.
 #[derive(Clone, Copy)]
 pub enum KeptOperand {
     Absent,
     Register(Reg),
-    /// The number that the row holds.
+    /// The row holds a number.
     Number,
-    /// The object of this kind, or the row, whose number the row holds.
+    /// The row holds the number of an object of this kind, or of a row.
     Numbered(OperandKind),
     /// The object of this kind, or the row, that has the name that the row holds.
     Named(OperandKind),
 }
 
-/// A row's opcode, and its operand that is no register: no row has two of them.
+/// A row's opcode, and its operand that isn't a register. No row has two of them.
 #[derive(Clone, Copy)]
 pub struct Held<'a> {
     pub name: &'a [u8],
@@ -71,7 +71,7 @@ fn register_at(word: &[u8]) -> Result<Reg, AsmFaultKind>
     }
 }
 
-/// Reads an operand of this kind, which is no register, and holds what it is.
+/// Reads an operand of this kind, which isn't a register, and keeps its value.
 #[inline(always)]
 #[tactic(auto, unfolding(crate::specs::Reading::operand_at))]
 fn other_at<'a>(
@@ -101,7 +101,7 @@ fn other_at<'a>(
     }
 }
 
-/// Reads an operand of this kind. What it is is held, where it is no register.
+/// Reads an operand of this kind. If it isn't a register, its value is kept.
 #[inline(always)]
 #[tactic(auto, unfolding(crate::specs::Reading::operand_at))]
 fn operand_at<'a>(
@@ -120,7 +120,7 @@ fn operand_at<'a>(
     }
 }
 
-/// Reads the operand at this place, where there is one.
+/// Reads the operand at this place, if there is one.
 #[inline(always)]
 #[tactic(auto, using(crate::proofs::ByPlace::seen_there))]
 fn operand_there<'a>(
@@ -206,7 +206,7 @@ fn wrong_of_kinds(kinds: &[OperandKind], words: &[&[u8]]) -> Option<usize>
     None
 }
 
-/// The place, from 0, of the first operand that isn't what its kind wants, where the row has as many as it should.
+/// Returns the place, from 0, of the first operand that has the wrong kind, if the row has the right number of operands.
 pub fn wrong_operand(word: &[u8], words: &[&[u8]]) -> Option<usize>
     ensures { IfSome result (λ place. place < length words.now) }
 {

@@ -1,7 +1,7 @@
 ghost use Rattle.std.specs.Prelude.{◌≡◌};
 ghost use Rattle.line_reader.specs.Reading.{before_last, is_label};
 
-/// Whether a word ends in a colon.
+/// Returns whether a word ends in a colon.
 #[tactic(auto, using(crate::proofs::Labels::label_by_last))]
 pub fn is_label(word: &[u8]) -> bool
     ensures { result ≡ is_label word.now }
@@ -9,7 +9,7 @@ pub fn is_label(word: &[u8]) -> bool
     !word.is_empty() && word[word.len() - 1] == b':'
 }
 
-/// What stands before a word's last byte.
+/// Returns a word without its last byte.
 pub fn before_last(word: &[u8]) -> &[u8]
     ensures { result.now ≡ before_last word.now }
 {

@@ -1,10 +1,10 @@
-//! What one line of a program's text says: its words, and what they spell, and the lines that an image is written in.
+//! What one line of a program's text says: its words and their meaning, and the lines that an image is written in.
 //!
-//! A line is read alone: which names there are, and what stood before, is the assembler's matter. `specs/Spelling.antt` is
-//! the grammar, `specs/Reading.antt` says which of a line's faults is reported.
+//! A line is read on its own. Which names exist, and what other lines say, is left to the assembler. `specs/Spelling.antt` is
+//! the grammar, and `specs/Reading.antt` says which of a line's faults is reported.
 #![tactic(auto)]
 
-// What a line consists of.
+// The parts of a line.
 mod byte_kind;
 pub mod first_line;
 pub mod label;
@@ -12,7 +12,7 @@ pub mod name;
 pub mod number;
 pub mod words;
 
-// What a line says: a row or an object that it declares, with names where there may be names.
+// What a line says: a row or a declaration, perhaps with names.
 pub mod kept_row;
 pub mod reference;
 pub mod statement;

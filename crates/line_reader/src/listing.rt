@@ -1,7 +1,7 @@
-//! The canonical text of an image: what `disassemble` writes of it.
+//! The canonical text of an image: what `disassemble` writes.
 //!
-//! It has a line for each phaser, barrier, thread and row. That it stands for the image, and
-//! for no other, are laws of `assembler`.
+//! It has a line for each phaser, barrier, thread and row. Laws of `assembler` say that it stands for this image, and for no
+//! other.
 
 ghost use Rattle.std.specs.Prelude.{◌≡◌, IfOk, OnOk};
 ghost use Rattle.row_code.specs.declared.image.Image.{Image};
@@ -22,12 +22,12 @@ use crate::listing::threads::push_threads;
 use row_code::Image;
 use std::alloc::{AllocError, Global};
 
-/// The canonical text of an image. Phaser `n` is named `pn`, barrier `n` `bn` and thread `n` `tn`;
-/// what an operand or a directive refers to stands there by its number.
+/// Returns the canonical text of an image. Phaser `n` is named `pn`, barrier `n` `bn` and thread `n` `tn`. Operands and
+/// directives refer to objects by number.
 pub fn disassemble(alloc: Global, image: &Image) -> Result<Vec<u8>, AllocError>
     ensures text { IfOk result (λ text. text.items ≡ canonical image.now) }
 
-    // What the laws of canonical texts ask of an image.
+    // What the laws of canonical texts require of an image.
     ensures fits { OnOk result (IsImage image.now) }
 {
     let mut text = Vec::new(alloc);

@@ -22,7 +22,7 @@ fn digits_in(word: &[u8]) -> &[u8]
     }
 }
 
-/// Whether each byte is a decimal digit.
+/// Returns whether each byte is a decimal digit.
 pub fn are_digits(bytes: &[u8]) -> bool
     ensures { result ≡ list_all is_ascii_digit bytes.now }
 {
@@ -36,7 +36,7 @@ fn is_number(word: &[u8]) -> bool
     !digits.is_empty() && are_digits(digits)
 }
 
-/// The number that at most ten digits spell, 0 where there is none.
+/// Returns the number that at most ten digits spell, or 0 if there are none.
 pub fn digits_value(digits: &[u8]) -> u64
     requires few { length digits.now ≤ 10 }
     requires digits { AllPass is_ascii_digit digits.now }
@@ -60,7 +60,7 @@ fn value_in(word: &[u8]) -> i64
     if is_negative(word) { -digits } else { digits }
 }
 
-/// Reads a number from `low` to `high`: a minus sign where it is negative, and one to ten digits.
+/// Reads a number from `low` to `high`: a minus sign if it is negative, and one to ten digits.
 #[inline(never)]
 #[tactic(auto, unfolding(crate::specs::Reading::number_at))]
 pub fn number_at(low: i32, high: i32, word: &[u8]) -> Result<i32, AsmFaultKind>

@@ -7,7 +7,7 @@ use crate::asm_fault::AsmFaultKind;
 use crate::name::name_at;
 use crate::number::count_at;
 
-/// How a program's text names a row or an object: by its name, kept as an `N`, or by its number.
+/// How a program's text refers to a row or an object: by its name, stored as an `N`, or by its number.
 #[derive(Drop)]
 pub enum Reference<N> {
     Named(N),

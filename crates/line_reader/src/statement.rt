@@ -11,9 +11,9 @@ pub enum Statement<N> {
     Thread(SymbolicThread<N>),
     /// The name of the next cell.
     Cell(N),
-    /// A label alone.
+    /// Only a label.
     Label(N),
-    /// A row, and its label where it has one.
+    /// A row, and its label if it has one.
     Row(Option<N>, SymbolicRow<N>),
 }
 

@@ -32,7 +32,7 @@ pub struct SymbolicPhaser<N> {
 /// The greatest number of a phaser.
 pub(crate) const LAST_PHASER: u16 = 63;
 
-/// Reads the option `phase`, where it comes next, and tells the words behind it.
+/// Reads the option `phase`, if it comes next. Returns the phase and the words after it.
 #[tactic(auto, unfolding(crate::specs::Reading::first_phase_at))]
 pub(crate) fn first_phase_at<'a, 'w>(
     words: &'w [&'a [u8]],
@@ -51,7 +51,7 @@ pub(crate) fn first_phase_at<'a, 'w>(
     }
 }
 
-/// Reads the policy, where it comes next, and tells the words behind it.
+/// Reads the policy, if it comes next. Returns it and the words after it.
 #[tactic(auto, unfolding(crate::specs::Reading::policy_at))]
 pub(crate) fn policy_at<'a, 'w>(
     words: &'w [&'a [u8]],
@@ -78,7 +78,7 @@ pub(crate) fn policy_at<'a, 'w>(
     }
 }
 
-/// Reads the options of a phaser of this name and so many parties.
+/// Reads the options of a phaser with this name and so many parties.
 fn phaser_with<'a>(
     name: &'a [u8],
     parties: u16,

@@ -1,7 +1,7 @@
 use crate::reference::Reference;
 use instruction_table::{OperandKind, Reg};
 
-/// An operand as a program's text gives it.
+/// An operand in a program's text.
 #[derive(Drop)]
 pub enum Operand<N> {
     /// There is none: a row has four operands at most.
@@ -12,8 +12,8 @@ pub enum Operand<N> {
     Object(OperandKind, Reference<N>),
 }
 
-/// A row whose operands may still be names. The operands stand in the order of the text; those that
-/// the row doesn't have are `Absent`, behind the others.
+/// A row whose operands may still be names. The operands are in the order of the text. Those that the row doesn't have are
+/// `Absent`, after the others.
 #[derive(Drop)]
 pub struct SymbolicRow<N> {
     pub opcode: u8,

@@ -18,7 +18,7 @@ pub fn is_line_end(byte: u8) -> bool
     byte == b'\n'
 }
 
-/// Where a byte first stands that no line may hold.
+/// Returns the place of the first byte that no line may have.
 pub fn place_of_forbidden(line: &[u8]) -> Option<usize>
     ensures first { result ≡ position (λ byte. not (is_allowed byte)) line.now }
     ensures there { IfSome result (λ place. (place < length line.now) × (is_allowed (slice_index line.now place) ≡ false)) }
@@ -26,14 +26,14 @@ pub fn place_of_forbidden(line: &[u8]) -> Option<usize>
     line.iter().position(|byte| !is_allowed(*byte))
 }
 
-/// Where this byte first stands.
+/// Returns the place of the first byte of this value.
 pub fn place_of(byte: u8, bytes: &[u8]) -> Option<usize>
     ensures { result ≡ position (λ one. one == byte) bytes.now }
 {
     bytes.iter().position(|one| *one == byte)
 }
 
-/// How many bytes stand before the first one that is this byte: all where none is.
+/// Returns how many bytes are before the first one of this value, or all if there is none.
 #[tactic(auto, using(crate::proofs::Places::position_some, crate::proofs::Places::position_none))]
 pub fn length_before(byte: u8, bytes: &[u8]) -> usize
     ensures length { result ≡ position_or_len (λ one. one == byte) bytes.now }
@@ -45,14 +45,14 @@ pub fn length_before(byte: u8, bytes: &[u8]) -> usize
     }
 }
 
-/// What stands before the line's comment.
+/// Returns the line up to its comment.
 pub fn before_comment(line: &[u8]) -> &[u8]
     ensures { result.now ≡ before_first begins_comment line.now }
 {
     &line[..length_before(b';', line)]
 }
 
-/// Whether a word is this one.
+/// Returns whether the two words are equal.
 pub fn is_word(word: &[u8], text: &str) -> bool
     ensures { result ≡ bytes_eq word.now text.now }
 {

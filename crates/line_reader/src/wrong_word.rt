@@ -1,4 +1,4 @@
-//! Which word of a statement makes its fault, found by the readers that refused it: only where there is a fault is it asked.
+//! Which word of a statement makes its fault. The readers that refused it find it, and only if there is a fault.
 ghost use Rattle.std.specs.Prelude.{◌<◌, IfSome, length};
 
 use crate::argument::reference_option_at;
@@ -9,7 +9,7 @@ use crate::reference::reference_at;
 use crate::symbolic_phaser::{LAST_PHASER, first_phase_at, policy_at};
 use crate::words::is_word;
 
-/// The place of the first of the words that are left, which are the last ones.
+/// Returns the place of the first of the words that are left, which are the last ones.
 fn place_of_rest(words: &[&[u8]], rest: &[&[u8]]) -> Option<usize>
     ensures { IfSome result (λ place. place < length words.now) }
 {
@@ -21,7 +21,7 @@ fn place_of_rest(words: &[&[u8]], rest: &[&[u8]]) -> Option<usize>
     }
 }
 
-/// The place of the argument of the option that comes next, or of the option where it has none.
+/// Returns the place of the argument of the option that comes next, or of the option if it has no argument.
 fn place_of_argument(words: &[&[u8]], option: &[&[u8]]) -> Option<usize>
     ensures { IfSome result (λ place. place < length words.now) }
 {
@@ -109,7 +109,7 @@ fn wrong_in_row(word: &[u8], operands: &[&[u8]], words: &[&[u8]]) -> Option<usiz
     }
 }
 
-/// The place of the word that is wrong behind the first one, if one is.
+/// Returns the place of the word after the first one that is wrong, if one is.
 fn wrong_behind(word: &[u8], operands: &[&[u8]], words: &[&[u8]]) -> Option<usize>
     requires { length operands.now < length words.now }
     ensures { IfSome result (λ place. place < length words.now) }
@@ -127,8 +127,8 @@ fn wrong_behind(word: &[u8], operands: &[&[u8]], words: &[&[u8]]) -> Option<usiz
     }
 }
 
-/// The place of the word, from 0, that makes the fault of a statement of these words: the word that isn't what is wanted there,
-/// the option that can't come there or lacks its argument, and else the first.
+/// Returns the place, from 0, of the word that makes the fault of a statement: the word that has the wrong form, or the option
+/// that isn't allowed there or lacks its argument, or else the first word.
 pub fn wrong_word(words: &[&[u8]]) -> Option<usize>
     ensures { IfSome result (λ place. place < length words.now) }
 {

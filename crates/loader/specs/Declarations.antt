@@ -15,14 +15,14 @@ use Rattle.row_code.specs.declared.phasers.DeclaredPolicy.TheVariants as declare
 use Rattle.row_code.specs.declared.phasers.DeclaredPhaser.{DeclaredPhaser}
 use Rattle.row_code.specs.declared.barriers.DeclaredBarrier.{DeclaredBarrier}
 
--- the policy of a phaser; which row its routine begins at is kept beside it
+-- the policy of a phaser; the first row of its routine is stored beside it
 abbrev pub policy_of : DeclaredPolicy → Policy
 policy_of declared.Default = policy.Default
 policy_of declared.Never = policy.Never
 policy_of (declared.Until phase) = policy.Until phase
 policy_of (declared.Routine row) = policy.Routine
 
--- the row that a phaser's routine begins at; 0 where it has none
+-- the first row of a phaser's routine, or 0 if it has none
 abbrev pub row_in : DeclaredPolicy → ℕ
 row_in declared.Default = 0
 row_in declared.Never = 0
@@ -36,7 +36,7 @@ routine_row phaser = row_in phaser.policy
 abbrev pub parent_of : DeclaredPhaser → Option PhaserId
 parent_of phaser = option_map (λ n. record { 0 = n }) phaser.parent
 
--- why a phaser can't be declared behind these, if it can't
+-- why a phaser can't be declared after these, if it can't
 abbrev pub declare_fault : List PhaserState → DeclaredPhaser → Option DeclareFault
 declare_fault forest phaser =
     fault_of (parent_of phaser) (pos phaser.parties) (nat_abs phaser.first_phase) forest
@@ -68,11 +68,11 @@ declared_origin phasers = record {
 abbrev pub new_barrier : DeclaredBarrier → BarrierState
 new_barrier barrier = fresh barrier.parties (is_some barrier.action)
 
--- the row that a barrier's action begins at; 0 where it has none
+-- the first row of a barrier's action, or 0 if it has none
 abbrev pub action_row : DeclaredBarrier → ℕ
 action_row barrier = unwrap_or barrier.action 0
 
--- the forest of the first n of these phasers, as it is before its first use
+-- the forest of the first n of these phasers, before its first use
 pub record AreDeclared (n : ℕ) (phasers : List DeclaredPhaser) (forest : List Stored) : Type 0 where
   pub shown : phasers_of forest ≡ forest_of (take n phasers)
   pub many : length forest ≡ n

@@ -20,7 +20,7 @@ use Rattle.loader.specs.Named.{named_by, stops}
 use Rattle.loader.specs.Declarations.{declare_fault, forest_of}
 use Rattle.loader.specs.Program.{row_at}
 
--- this fault, where the test fails
+-- this fault, if the test fails
 abbrev pub unless : Bool → LoadFault → Option LoadFault
 unless test fault = if test then None else Some fault
 
@@ -43,13 +43,13 @@ abbrev pub routine_fault : ℕ → ℕ → DeclaredPolicy → Option LoadFault
 routine_fault rows n (declared.Routine row) = target_fault rows (place.Phaser n) row
 routine_fault rows n _ = None
 
--- a phaser's own row is looked for, child or not, and then it is declared behind these
+-- a phaser's own row has to exist, child or not, and then it is declared after these
 abbrev pub phaser_fault : ℕ → List PhaserState → ℕ → DeclaredPhaser → Option LoadFault
 phaser_fault rows forest n phaser =
     option_or (routine_fault rows n phaser.policy)
     (option_map (λ why. fault.Declare n why) (declare_fault forest phaser))
 
--- the fault of the phaser of this number in a list, behind those before it
+-- the fault of the phaser of this number in a list, after those before it
 abbrev pub listed_phaser_fault : ℕ → List DeclaredPhaser → ℕ → DeclaredPhaser → Option LoadFault
 listed_phaser_fault rows phasers n phaser = phaser_fault rows (forest_of (take n phasers)) n phaser
 

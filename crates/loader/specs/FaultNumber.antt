@@ -1,4 +1,4 @@
--- The numbers by which it is told why a program isn't loaded.
+-- The numbers that a load fault is reported with.
 use Rattle.std.specs.Prelude.{ℕ, Option, Some, None}
 use Rattle.loader.specs.declared.load_fault.LoadFault.{LoadFault}
 use Rattle.loader.specs.declared.load_fault.LoadFault.TheVariants as fault

@@ -1,4 +1,4 @@
--- What a row names, and from which rows no thread goes on to the next one.
+-- What a row names, and after which rows no thread goes to the next one.
 use Rattle.std.specs.Prelude.{ℕ, nat_abs, Bool, true, false, List, [], ◌∷◌}
 use Rattle.instruction_table.specs.declared.row.Row.{Row}
 use Rattle.instruction_table.specs.declared.row.Row.TheVariants.{Halt, Jmp, Ret, Throw}
@@ -9,7 +9,7 @@ use Rattle.row_code.specs.RowFields.{fields_of}
 use Rattle.loader.specs.declared.named.Named.{Named}
 use Rattle.loader.specs.declared.named.Named.TheVariants as named
 
--- the kind of the operand that is no register; `Register` where there is none
+-- the kind of the operand that isn't a register, or `Register` if there is none
 abbrev pub other_kind : List OperandKind → OperandKind
 other_kind [] = Register
 other_kind (Register ∷ kinds) = other_kind kinds
@@ -24,7 +24,7 @@ thing Phaser n = named.Phaser n
 thing Barrier n = named.Barrier n
 thing _ n = named.Nothing
 
--- the one thing beside registers and numbers that a row names, if it names one
+-- the one object that a row names besides registers and numbers, if it names one
 abbrev pub named_by : Row → Named
 named_by row = thing (other_kind (entry_for row).operands) (nat_abs (fields_of row).imm)
 

@@ -1,4 +1,4 @@
--- A program that was loaded, and what is true of each: no row of it meets a missing thing.
+-- A loaded program, and what is true of each: no row of it uses something that doesn't exist.
 use Rattle.std.specs.Prelude.{◌≡◌, ℕ, ◌-◌, ◌<◌, ◌≤◌, true, false, List, [], length, map, slice_index_or, All}
 use Rattle.instruction_table.specs.declared.row.Row.{Row}
 use Rattle.instruction_table.specs.declared.row.Row.TheVariants.{Halt}
@@ -25,11 +25,11 @@ pub record Program : Type 0 where
   pub barriers : List BarrierState
   pub actions : List ℕ
 
--- a program, but for how its phasers are stored: no row rests on that
+-- a program without how its phasers are stored: no row depends on that
 abbrev pub without_words : Program → Program
 without_words program = record program { phasers = [] }
 
--- the program that an image declares, but for how its phasers are stored
+-- the program that an image declares, without how its phasers are stored
 abbrev pub program_of : Image → Program
 program_of image = record {
   rows = image.rows;
@@ -49,7 +49,7 @@ counts_of program = record {
   barriers = length program.barriers;
 }
 
--- the thing is there
+-- the object exists
 abbrev pub IsThere : Counts → Named → Type 0
 IsThere counts named.Nothing = Unit {0}
 IsThere counts (named.Target row) = row < counts.rows
@@ -58,7 +58,7 @@ IsThere counts (named.Thread thread) = thread < counts.threads
 IsThere counts (named.Phaser phaser) = phaser < counts.phasers
 IsThere counts (named.Barrier barrier) = barrier < counts.barriers
 
--- what the row names is there
+-- what the row names exists
 abbrev pub IsNamed : Counts → Row → Type 0
 IsNamed counts row = IsThere counts (named_by row)
 
@@ -66,8 +66,8 @@ IsNamed counts row = IsThere counts (named_by row)
 abbrev pub row_at : List Row → ℕ → Row
 row_at rows n = slice_index_or rows n Halt
 
--- the rows name what is there, and the last one goes nowhere by itself; each phaser has a row for its
--- routine, and each barrier one for its action
+-- the rows name what exists, and no thread goes on after the last one; each phaser has a row for its routine, and each barrier
+-- one for its action
 pub record IsCode (program : Program) (counts : Counts) : Type 0 where
   pub few : length program.rows < 65536
   pub named : All (IsNamed counts) program.rows

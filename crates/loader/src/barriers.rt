@@ -17,7 +17,7 @@ fn action_row(barrier: &DeclaredBarrier) -> u16
     }
 }
 
-/// The row that each barrier's action begins at; 0 where it has none.
+/// Returns the first row of each barrier's action, or 0 if it has none.
 pub fn action_rows(alloc: Global, barriers: &[DeclaredBarrier]) -> Result<Vec<u16>, AllocError>
     ensures { IfOk result (λ rows. rows.items ≡ map action_row barriers.now) }
 {
@@ -27,7 +27,7 @@ pub fn action_rows(alloc: Global, barriers: &[DeclaredBarrier]) -> Result<Vec<u1
         .collect(alloc)
 }
 
-/// Whether the row of barrier `n`'s action is there.
+/// Checks whether the first row of barrier `n`'s action exists.
 fn action_fault(rows: usize, n: u8, action: Option<u16>) -> Option<LoadFault>
     ensures { result ≡ action_fault rows n action }
 {

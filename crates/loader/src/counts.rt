@@ -1,4 +1,4 @@
-/// How many there are of each thing that a row may name. There are always 32 cells.
+/// How many there are of each kind of object that a row may name. There are always 32 cells.
 #[derive(Clone, Copy)]
 pub struct Counts {
     pub rows: usize,

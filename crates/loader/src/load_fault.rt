@@ -5,7 +5,7 @@ ghost use Rattle.loader.specs.declared.load_fault.LoadFault.TheVariants.{Memory}
 use std::alloc::{AllocError, AllocFailed};
 use tier_tree::DeclareFault;
 
-/// What names a row that isn't there, by its number.
+/// What names a row that doesn't exist, by its number.
 #[derive(Clone, Copy, Debug, PartialEq, Eq)]
 pub enum Place {
     Row(u16),
@@ -23,15 +23,15 @@ pub enum LoadFault {
     Target(Place),
     /// The last row is none of `halt`, `jmp`, `ret` and `throw`: a thread could go on past it.
     FallsOff,
-    /// The row of this number names a phaser that isn't there.
+    /// The row of this number names a phaser that doesn't exist.
     NoSuchPhaser(u16),
-    /// The row of this number names a barrier that isn't there.
+    /// The row of this number names a barrier that doesn't exist.
     NoSuchBarrier(u16),
-    /// The row of this number names a thread that isn't there.
+    /// The row of this number names a thread that doesn't exist.
     NoSuchThread(u16),
     /// The row of this number names a cell above 31.
     NoSuchCell(u16),
-    /// The phaser of this number can't be declared behind those before it.
+    /// The phaser of this number can't be declared after those before it.
     Declare(u8, DeclareFault),
     /// The barrier of this number has no parties.
     BarrierParties(u8),
@@ -42,7 +42,7 @@ pub enum LoadFault {
 }
 
 impl LoadFault {
-    /// The number that the fault is told with: missing memory has none.
+    /// Returns the number that the fault is reported with. `Memory` has none.
     pub fn number(self) -> Option<u8>
         ensures { result ≡ load_number self }
     {

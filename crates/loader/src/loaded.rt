@@ -12,8 +12,8 @@ mod loading;
 
 pub use loading::load;
 
-/// A program that passed all checks, with its phasers and barriers as they are before its first
-/// step. `load` makes it, and nothing changes it.
+/// A program that passed all checks, with its phasers and barriers as they are before its first step. `load` makes it, and
+/// nothing changes it.
 #[derive(Drop)]
 pub struct Loaded {
     rows: Vec<Row>,
@@ -58,21 +58,21 @@ impl Loaded {
         &self.phasers
     }
 
-    /// The row that each phaser's routine begins at; 0 where it has none. A child's is never gone to.
+    /// Returns the first row of each phaser's routine, or 0 if it has none. A child's routine never runs.
     pub fn routines(&self) -> &[u16]
         ensures { result.now ≡ self.now.routines }
     {
         self.routines.as_slice()
     }
 
-    /// The barriers, before anybody has come.
+    /// Returns the barriers as they are at the beginning.
     pub fn barriers(&self) -> &[Barrier]
         ensures { result.now ≡ self.now.barriers }
     {
         self.barriers.as_slice()
     }
 
-    /// The row that each barrier's action begins at; 0 where it has none.
+    /// Returns the first row of each barrier's action, or 0 if it has none.
     pub fn actions(&self) -> &[u16]
         ensures { result.now ≡ self.now.actions }
     {
@@ -97,7 +97,7 @@ impl Loaded {
         Ok((barriers, Vec::from_slice(alloc, self.actions.as_slice())?))
     }
 
-    /// A copy of the program.
+    /// Returns a copy of the program.
     pub fn copy(&self, alloc: Global) -> Result<Loaded, AllocError>
         ensures { IfOk result (λ copy. copy ≡ self.now) }
     {
@@ -115,7 +115,7 @@ impl Loaded {
         })
     }
 
-    /// A law: what is true of every program that was loaded. Nothing runs.
+    /// A law: what is true of every loaded program. Nothing runs.
     pub fn each_program_is_whole(&self)
         ensures { IsProgram self.now }
     {

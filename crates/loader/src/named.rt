@@ -3,11 +3,11 @@ ghost use Rattle.loader.specs.Named.{named_by, stops};
 
 use instruction_table::Row;
 
-/// The one thing beside registers and numbers that a row names, by its number.
+/// The one object that a row names besides registers and numbers, by its number.
 #[derive(Clone, Copy)]
 pub enum Named {
     Nothing,
-    /// A row to go on at.
+    /// A row to go to.
     Target(u16),
     Cell(u16),
     Thread(u16),
@@ -15,7 +15,7 @@ pub enum Named {
     Barrier(u16),
 }
 
-/// What the row names.
+/// Returns what the row names.
 pub fn named_by(row: Row) -> Named
     ensures { result ≡ named_by row }
 {
@@ -65,7 +65,7 @@ pub fn named_by(row: Row) -> Named
     }
 }
 
-/// Whether no thread goes on from the row to the one after it.
+/// Returns whether no thread goes from the row to the next one.
 pub fn stops(row: Row) -> bool
     ensures { result ≡ stops row }
 {

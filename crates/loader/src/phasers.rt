@@ -27,7 +27,7 @@ fn policy_of(policy: DeclaredPolicy) -> Policy
     }
 }
 
-/// Whether the row of phaser `n`'s routine is there.
+/// Checks whether the first row of phaser `n`'s routine exists.
 fn routine_fault(rows: usize, n: u8, policy: DeclaredPolicy) -> Option<LoadFault>
     ensures { result ≡ routine_fault rows n policy }
 {
@@ -46,7 +46,7 @@ fn routine_row(phaser: &DeclaredPhaser) -> u16
     }
 }
 
-/// The row that each phaser's routine begins at; 0 where it has none.
+/// Returns the first row of each phaser's routine, or 0 if it has none.
 pub fn routine_rows(alloc: Global, phasers: &[DeclaredPhaser]) -> Result<Vec<u16>, AllocError>
     ensures { IfOk result (λ rows. rows.items ≡ map routine_row phasers.now) }
 {
@@ -65,7 +65,7 @@ fn parent_of(phaser: DeclaredPhaser) -> Option<PhaserId>
     }
 }
 
-/// Declares a phaser behind those before it.
+/// Declares a phaser after those before it.
 fn declare(forest: &mut Forest, phaser: DeclaredPhaser) -> Result<(), DeclareFault>
     requires fits { IsPhaser phaser }
     requires fresh { AreAllFresh (phasers_of forest.old) }
@@ -87,7 +87,7 @@ fn declare(forest: &mut Forest, phaser: DeclaredPhaser) -> Result<(), DeclareFau
     Ok(())
 }
 
-/// Declares phaser `n` behind those before it, where the row of its routine is there.
+/// Declares phaser `n` after those before it, if the first row of its routine exists.
 fn declare_checked(
     forest: &mut Forest,
     rows: usize,

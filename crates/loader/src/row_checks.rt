@@ -11,7 +11,7 @@ use row_code::DeclaredThread;
 /// How many cells there are.
 const CELLS: u16 = 32;
 
-/// Whether the row is there.
+/// Checks whether the row exists.
 pub fn target_fault(rows: usize, place: Place, row: u16) -> Option<LoadFault>
     ensures { result ≡ target_fault rows place row }
 {
@@ -22,7 +22,7 @@ pub fn target_fault(rows: usize, place: Place, row: u16) -> Option<LoadFault>
     }
 }
 
-/// Whether the thing that row `n` names is there.
+/// Checks whether what row `n` names exists.
 fn named_fault(counts: Counts, n: u16, named: Named) -> Option<LoadFault>
     ensures { result ≡ named_fault counts n named }
 {
@@ -43,7 +43,7 @@ fn named_fault(counts: Counts, n: u16, named: Named) -> Option<LoadFault>
     }
 }
 
-/// The first fault of the threads.
+/// Returns the first fault of the threads.
 pub fn thread_fault(rows: usize, threads: &[DeclaredThread]) -> Option<LoadFault>
     requires { length threads.now ≤ 64 }
     ensures { result ≡ earliest_in (thread_fault rows) 0 threads.now }
@@ -57,7 +57,7 @@ pub fn thread_fault(rows: usize, threads: &[DeclaredThread]) -> Option<LoadFault
     None
 }
 
-/// The first fault of the rows, but for the last one's.
+/// Returns the first fault of the rows, except that of the last one.
 pub fn row_fault(counts: Counts, rows: &[Row]) -> Option<LoadFault>
     requires { length rows.now < 65536 }
     ensures { result ≡ earliest_in (row_fault counts) 0 rows.now }
@@ -71,7 +71,7 @@ pub fn row_fault(counts: Counts, rows: &[Row]) -> Option<LoadFault>
     None
 }
 
-/// Whether a thread could go on past the last row.
+/// Checks whether a thread could go on after the last row.
 pub fn last_fault(rows: &[Row]) -> Option<LoadFault>
     ensures { result ≡ last_fault rows.now }
 {

@@ -22,7 +22,7 @@ abbrev pub is_run_by_another : ℕ → Option ℕ → Bool
 is_run_by_another t (Some runner) = not (runner == t)
 is_run_by_another t None = false
 
--- a row at a barrier whose action another thread runs isn't ready
+-- a row at a barrier isn't ready while another thread runs the barrier's action
 abbrev pub unless_busy : ℕ → ℕ → Scene → Option Outcome → Option Outcome
 unless_busy b t scene outcome = if is_run_by_another t (barrier_at scene b).runner then None else outcome
 
@@ -32,7 +32,7 @@ unless_runner b t scene outcome =
     if is_run_by t (barrier_at scene b).runner then Some (outcome_of_turn (turn_of_throw (pos 1) (thread_at scene t)) t scene)
     else outcome
 
--- an entry, by its answer; one beside another's action isn't ready
+-- the outcome of an entry, by its result; during another thread's action it isn't ready
 abbrev pub outcome_of_entered : Entered → Reg → ℕ → ℕ → Program → Scene → Option Outcome
 outcome_of_entered (entered.Wait index) into b t program scene = Some (alone (turn_of_barrier_wait index) t scene)
 outcome_of_entered entered.Run into b t program scene = Some (alone (turn_of_action b (action_at program b)) t scene)
@@ -52,14 +52,14 @@ outcome_of_entry no_wait into b t program scene =
     let all : Entry = enter_timed t (thread_at scene t).interrupted no_wait (barrier_at scene b) in
     outcome_of_entered all.answer into b t program (with_barrier all.barrier b scene)
 
--- a barrier with an action wants room for one entry more, whatever the entry would come to
+-- a barrier with an action needs room for one more stack entry, whatever the result of the entry would be
 abbrev pub outcome_of_await_at : Bool → Reg → ℕ → ℕ → Program → Scene → Option Outcome
 outcome_of_await_at no_wait into b t program scene =
     if (barrier_at scene b).action && is_full (thread_at scene t)
     then Some (outcome_of_turn (turn_of_throw (pos 6) (thread_at scene t)) t scene)
     else outcome_of_entry no_wait into b t program scene
 
--- thread t resets barrier b, which breaks the generation of those who wait
+-- thread t resets barrier b, which breaks the generation of the waiting threads
 abbrev pub outcome_of_reset : ℕ → ℕ → Scene → Outcome
 outcome_of_reset b t scene =
     outcome_marked (if nat_lt 0 (number_waiting (barrier_at scene b)) then mark.Broke b else mark.Nothing)

@@ -18,8 +18,8 @@ use Rattle.machine_scene.specs.Manner.{manner_of}
 use Rattle.machine_scene.specs.Scene.{Scene, Outcome, thread_at, barrier_at, with_thread, with_barrier, outcome_of_turn, outcome_marked, alone}
 use Rattle.machine_scene.specs.PhaserRows.{outcome_of_phase_end}
 
--- an advance routine has answered, and its thread is back at the arrival: the phase ends, or the tree was terminated
--- meanwhile and no phase ends
+-- a routine has returned, and its thread is back at the arrival: the phase ends, or no phase ends since the tree was terminated
+-- meanwhile
 abbrev pub outcome_of_routine_end : Bool → Manner → ℕ → Bool → ℕ → Scene → Outcome
 outcome_of_routine_end true manner root terminates t scene =
     let flat : Flat = flat_at scene.phasers root in
@@ -34,8 +34,8 @@ outcome_of_action_end manner b t scene =
     outcome_marked (mark.Tripped b) (turn_of_answer manner.into (pos 0) (thread_at scene t)) t
     (with_barrier (end_action true (barrier_at scene b)) b scene)
 
--- `ret`, by the top entry; the first register is a routine's answer, and any number but 0 terminates. Where it isn't that
--- of a call, a routine or an action, that is exception 7
+-- `ret`, by the top entry. The first register is a routine's result: any number but 0 terminates. If the top entry isn't that
+-- of a call, a routine or an action, it is exception 7
 abbrev pub outcome_of_ret : Option Frame → ℕ → Program → Scene → Outcome
 outcome_of_ret None t program scene = alone (turn_of_throw (pos 7)) t scene
 outcome_of_ret (Some (frame.Call row)) t program scene = alone (turn_of_return row) t scene

@@ -36,7 +36,7 @@ abbrev pub runs : Status → Bool
 runs status.Runs = true
 runs _ = false
 
--- whether a turn may want memory: a running thread puts a value out, and has room for it among its 4096
+-- whether a turn may need memory: a running thread puts a value out, and has fewer than 4096
 abbrev pub may_grow : Row → ThreadState → Bool
 may_grow (Out value) thread = runs thread.status && nat_lt (length thread.output) 4096
 may_grow _ thread = false

@@ -1,4 +1,4 @@
--- What a row acts on: the one place that says to which group a row belongs.
+-- What a row acts on. This is the only definition of a row's group.
 use Rattle.std.specs.Prelude.{ℕ, ◌==◌, ◌||◌, nat_lt, if◌then◌else◌}
 use Rattle.instruction_table.specs.declared.row.Row.{Row}
 use Rattle.instruction_table.specs.Row.{opcode_of}

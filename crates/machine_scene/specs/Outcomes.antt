@@ -1,4 +1,4 @@
--- What the turn of a thread comes to, and the expiry of its timed wait: an outcome where it is ready, none where it isn't.
+-- The outcome of a thread's turn, and of the expiry of its timed wait. There is none if it isn't ready.
 use Rattle.std.specs.Prelude.{ℕ, Bool, is_some, Option, Some, None, if◌then◌else◌}
 use Rattle.instruction_table.specs.declared.row.Row.{Row}
 use Rattle.loader.specs.Program.{Program, row_at}
@@ -53,7 +53,7 @@ timeout_in (status.AwaitsPhase phase) row t scene = outcome_of_phase_timeout row
 timeout_in (status.AwaitsBarrier index) row t scene = outcome_of_barrier_timeout row t scene
 timeout_in _ row t scene = None
 
--- the expiry of thread t's wait, which has no outcome where the thread's turn has one
+-- the expiry of thread t's wait; it has no outcome if the thread's turn has one
 abbrev pub outcome_of_expiry : ℕ → Program → Scene → Option Outcome
 outcome_of_expiry t program scene =
     if is_ready t program scene then None

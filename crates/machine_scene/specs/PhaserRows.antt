@@ -37,30 +37,30 @@ abbrev pub is_routine_policy : Policy → Bool
 is_routine_policy policy.Routine = true
 is_routine_policy _ = false
 
--- this phaser's tree has an advance routine: its root's policy alone counts
+-- this phaser's tree has a routine: only its root's policy counts
 abbrev pub has_routine : ℕ → Scene → Bool
 has_routine p scene = is_routine_policy (phaser_at scene.phasers (root_at scene.phasers p)).policy
 
--- what the policy of a root answers; a routine is to be run for its answer
+-- what the policy of a root returns; for a routine there is no result yet
 abbrev pub answer_of_policy : ℕ → Scene → Option Bool
 answer_of_policy root scene =
     let flat : Flat = flat_at scene.phasers root in ends (phaser_at scene.phasers root).policy flat.phase flat.parties
 
--- a phase of this root has just ended: the answer of the arrival that ended it is the number of that phase, or the view
--- where the arrival waits
+-- a phase of this root has just ended: the arrival that ended it returns the number of that phase, or the view if the arrival
+-- waits
 abbrev pub outcome_of_ended_phase : Manner → ℕ → ℤ → ℕ → Scene → Outcome
 outcome_of_ended_phase manner root phase t scene =
     let view = view_of (flat_at scene.phasers root) in
     outcome_marked (mark.Phase root view)
     (turn_of_answer manner.into (if manner.waits then view else phase) (thread_at scene t)) t scene
 
--- the pending phase end of a root comes
+-- the pending phase of a root ends
 abbrev pub outcome_of_phase_end : Manner → ℕ → ℤ → Bool → ℕ → Scene → Outcome
 outcome_of_phase_end manner root phase terminates t scene =
     outcome_of_ended_phase manner root phase t (with_phasers (after_phase_end root terminates scene.phasers) scene)
 
--- an arrival has left a root's phase end pending: what the root's policy answers ends the phase in the same step, and a
--- routine is entered
+-- the end of a root's phase is pending after an arrival: the phase ends in the same step if the root's policy returns a result,
+-- and otherwise the routine is entered
 abbrev pub outcome_of_pending_end : Option Bool → Manner → ℕ → ℤ → ℕ → Program → Scene → Outcome
 outcome_of_pending_end (Some terminates) manner root phase t program scene =
     outcome_of_phase_end manner root phase terminates t scene
@@ -68,7 +68,7 @@ outcome_of_pending_end None manner root phase t program scene =
     outcome_of_turn
     (turn_of_advance root phase (flat_at scene.phasers root).parties (routine_at program root) (thread_at scene t)) t scene
 
--- a counted arrival waits for the phase's end, or answers its phase
+-- a counted arrival waits for the end of the phase, or returns its phase
 abbrev pub turn_of_arrival : Manner → ℤ → ThreadState → Turn
 turn_of_arrival manner phase thread =
     if manner.waits then turn_of_wait phase thread else turn_of_answer manner.into phase thread
@@ -87,21 +87,20 @@ outcome_with_room manner p t program scene =
     let all : Arrives = arrival p manner.leaves scene.phasers in
     outcome_of_arrived all.answer manner t program (with_phasers all.phasers scene)
 
--- a tree with a routine wants room for one entry more, whatever the arrival would come to
+-- in a tree with a routine an arrival needs room for one more stack entry, whatever its result would be
 abbrev pub outcome_of_arrival : Manner → ℕ → ℕ → Program → Scene → Outcome
 outcome_of_arrival manner p t program scene =
     if has_routine p scene && is_full (thread_at scene t)
     then outcome_of_turn (turn_of_throw (pos 6) (thread_at scene t)) t scene
     else outcome_with_room manner p t program scene
 
--- the exception of an arrival at phaser p that doesn't come to it: the thread runs the routine of that tree, or has no room for
--- one
+-- the exception of a refused arrival at phaser p: the thread runs the routine of that tree, or has no room for one on its stack
 abbrev pub refusal_of_arrival : ℕ → ThreadState → Scene → Option ℤ
 refusal_of_arrival p thread scene =
     if is_own_tree p thread scene then Some (pos 1)
     else (if has_routine p scene && is_full thread then Some (pos 6) else None)
 
--- a registration, by its answer; one that would have to wait isn't ready
+-- the outcome of a registration, by its result; one that would have to wait isn't ready
 abbrev pub outcome_of_registered : Registered → Reg → ℕ → Scene → Option Outcome
 outcome_of_registered (registered.At phase) into t scene = Some (alone (turn_of_answer into phase) t scene)
 outcome_of_registered (registered.Dead view) into t scene = Some (alone (turn_of_answer into view) t scene)
@@ -124,7 +123,7 @@ outcome_of_bulk into p count t scene =
 abbrev pub is_past : ℕ → ℤ → Scene → Bool
 is_past p phase scene = not (int_eq (view_of (flat_at scene.phasers p)) phase)
 
--- an interruption is met before the wait begins, where the wait looks for it; then a time of 0 or less is over
+-- an interrupt is noticed before the wait begins, if the wait can be interrupted; then a time of 0 or less is over
 abbrev pub turn_of_patience : Patience → ℤ → ThreadState → Turn
 turn_of_patience patience.Endless phase thread = turn_of_wait phase thread
 turn_of_patience patience.Interruptible phase thread =
@@ -133,8 +132,8 @@ turn_of_patience (patience.Timed time) phase thread =
     if thread.interrupted then turn_of_interruption thread
     else (if int_lt (pos 0) time then turn_of_wait phase thread else turn_of_throw (pos 5) thread)
 
--- a thread asks to wait for the end of a phase, and this is the view: a negative number is its own answer, then the view
--- is, where the phase is another
+-- a thread asks to wait for the end of a phase, and this is the view: a negative number is its own result, and if the phase is
+-- a different one, the view is the result
 abbrev pub turn_of_await : Patience → Reg → ℤ → ℤ → ThreadState → Turn
 turn_of_await patience into phase view thread =
     if int_lt phase (pos 0) then turn_of_answer into phase thread
@@ -145,7 +144,7 @@ abbrev pub outcome_of_await : Patience → Reg → ℕ → ℤ → ℕ → Scene
 outcome_of_await patience into p phase t scene =
     alone (turn_of_await patience into phase (view_of (flat_at scene.phasers p))) t scene
 
--- thread t terminates the tree of phaser p; where it was terminated, nothing changes
+-- thread t terminates the tree of phaser p; if it is terminated already, nothing changes
 abbrev pub outcome_of_force : ℕ → ℕ → Scene → Outcome
 outcome_of_force p t scene =
     let root = root_at scene.phasers p in

@@ -1,5 +1,5 @@
--- Which turns are ready, and which timed waits can run out, listed by status and row: these have an outcome, and no others, as
--- `who_is_ready` says.
+-- Which turns are ready, and which timed waits can expire, listed by status and row. `who_is_ready` says that exactly these
+-- have an outcome.
 use Rattle.std.specs.Prelude.{ℕ, ℤ, pos, nat_abs, int_lt, Bool, true, false, not, ◌&&◌, ◌||◌, is_some, Option, Some, None}
 use Rattle.instruction_table.specs.declared.row.Row.{Row}
 use Rattle.instruction_table.specs.declared.row.Row.TheVariants.{Preg, Pbulk, Paaa, Pawait, Pawaiti, Pawaitt, Cawait, Cawaitt, Creset, Cbroken, Cwaiting}
@@ -23,7 +23,7 @@ is_held (registered.Dead view) = false
 is_held registered.Held = true
 is_held registered.TooMany = false
 
--- thread t would be held as it registers; what is refused before isn't held
+-- a registration by thread t would be held; one that is refused before isn't held
 abbrev pub registration_is_held : ℕ → ℤ → ℕ → Scene → Bool
 registration_is_held p count t scene =
     not (is_own_tree p (thread_at scene t) scene) && (not (int_lt count (pos 0))
@@ -97,7 +97,7 @@ abbrev pub is_timed_barrier_wait : Row → Scene → Bool
 is_timed_barrier_wait (Cawaitt into b time) scene = not (is_some (barrier_at scene b).runner)
 is_timed_barrier_wait _ scene = false
 
--- the timed waits that can run out, by status and row, of threads whose turn isn't ready
+-- the timed waits that can expire, by status and row, of threads whose turn isn't ready
 abbrev pub can_run_out : Status → Row → Scene → Bool
 can_run_out status.Runs row scene = false
 can_run_out (status.Throws code) row scene = false

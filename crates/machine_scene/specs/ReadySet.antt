@@ -1,5 +1,5 @@
--- The threads whose turn is ready, kept as a set, so that whoever asks for one looks at a bit. A step finds anew the bits that it
--- may have changed. Nobody has to believe it: it is what proofs go by.
+-- The threads whose turn is ready, stored as a set, so that a caller who asks for one looks at a bit. A step computes again the
+-- bits that it may have changed. Only proofs use this: no promise depends on it.
 use Rattle.std.specs.Prelude.{◌≡◌, ◌≢◌, ℕ, ◌==◌, ◌&&◌, ◌||◌, not, Bool, true, false, if◌then◌else◌}
 use Rattle.instruction_table.specs.declared.row.Row.{Row}
 use Rattle.instruction_table.specs.declared.row.Row.TheVariants.{Ret, Intr, Preg, Pbulk, Parr, Pdereg, Paaa, Pforce, Creset}
@@ -33,20 +33,20 @@ is_registering_in _ row = false
 abbrev pub is_registering : ℕ → Program → Scene → Bool
 is_registering t program scene = is_registering_in (thread_at scene t).status (row_at program.rows (thread_at scene t).pc)
 
--- the sets are those of the scene: of the threads whose turn is ready, and of those that are about to register
+-- the sets are those of the scene: the threads whose turn is ready, and the threads that are about to register
 pub record AreReady (program : Program) (set : ReadySet) (scene : Scene) : Type 0 where
   pub turns : (u : ℕ) → has set.turns u ≡ is_ready u program scene
   pub registering : (u : ℕ) → has set.registering u ≡ is_registering u program scene
 
--- and they are what is kept of the scene
+-- the stored sets are those of the scene
 abbrev pub KnowsReady : Program → StoredScene → Type 0
 KnowsReady program stored = AreReady program stored.ready (scene_of stored)
 
--- the set is that of before, but for one thread
+-- the set is the same as before, except for one thread
 abbrev pub IsSetAt : ℕ → Bool → ℕ → ℕ → Type 0
 IsSetAt t within before set = (u : ℕ) → has set u ≡ (if t == u then within else has before u)
 
--- the threads of which this is true were looked at anew, of all others the sets are those of before
+-- the threads for which this is true were computed again; for all others the sets are as before
 pub record AreLooked (program : Program) (these : ℕ → Bool) (before set : ReadySet) (scene : Scene) : Type 0 where
   pub turns : (u : ℕ) → has set.turns u ≡ (if these u then is_ready u program scene else has before.turns u)
   pub registering : (u : ℕ) → has set.registering u ≡ (if these u then is_registering u program scene else has before.registering u)
@@ -84,25 +84,25 @@ is_entry _ = false
 abbrev pub is_loud : Event → Bool
 is_loud event = is_marked event.mark || is_entry event.what
 
--- a step at this row, with this event, may have changed whose turn is ready among all threads
+-- a step at this row, with this event, may have changed for any thread whether its turn is ready
 abbrev pub changes_all : Row → Event → Bool
 changes_all (Pforce p) event = true
 changes_all (Creset b) event = true
 changes_all _ event = is_loud event
 
--- after a step of thread t at this row, these sets of before are right still, but perhaps of the thread itself, of one that the
--- row interrupts, and, where the row may change a tree, of those that are about to register
+-- after a step of thread t at this row, these sets of before are still right, except perhaps for the thread itself, for one
+-- that the row interrupts, and, if the row may change a tree, for those that are about to register
 pub record AreOthersReady (program : Program) (t : ℕ) (row : Row) (set : ReadySet) (scene : Scene) : Type 0 where
   pub turns : (u : ℕ) → u ≢ t → interrupts u row ≡ false → (changes_tree row && has set.registering u) ≡ false
       → has set.turns u ≡ is_ready u program scene
   pub registering : (u : ℕ) → u ≢ t → interrupts u row ≡ false → has set.registering u ≡ is_registering u program scene
 
--- thread t, of this status, runs, and its row is one on registers alone
+-- thread t, with this status, runs, and its row uses only registers
 abbrev pub is_local_turn : Status → Row → Bool
 is_local_turn status.Runs row = is_local_row row
 is_local_turn _ row = false
 
--- but for thread t, the sets are those of the scene
+-- the sets are those of the scene, except for thread t
 pub record AreReadyBeside (program : Program) (t : ℕ) (set : ReadySet) (scene : Scene) : Type 0 where
   pub turns : (u : ℕ) → u ≢ t → has set.turns u ≡ is_ready u program scene
   pub registering : (u : ℕ) → u ≢ t → has set.registering u ≡ is_registering u program scene
@@ -113,8 +113,8 @@ is_arrival (Parr into p) = true
 is_arrival (Paaa into p) = true
 is_arrival _ = false
 
--- the turn of a thread of this status at this row is of a kind that most turns are of: a row on registers alone, an arrival, or
--- the end of a wait for a phase
+-- the turn of a thread with this status at this row is a frequent one: a row that uses only registers, an arrival, or the end
+-- of a wait for a phase
 abbrev pub is_common : Status → Row → Bool
 is_common status.Runs row = is_local_row row || is_arrival row
 is_common (status.AwaitsPhase phase) row = true

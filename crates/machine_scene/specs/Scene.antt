@@ -20,8 +20,8 @@ pub record Scene : Type 0 where
   pub phasers : List PhaserState
   pub barriers : List BarrierState
 
--- the same with the phasers as they are stored: the word of a child may be that of an earlier phase; and beside them, as
--- sets, whose turn is ready
+-- the same with the phasers as they are stored: the word of a child may be that of an earlier phase; and besides, as sets, the
+-- threads whose turn is ready
 pub record StoredScene : Type 0 where
   pub cells : List ℤ
   pub threads : List ThreadState
@@ -29,7 +29,7 @@ pub record StoredScene : Type 0 where
   pub barriers : List BarrierState
   pub ready : ReadySet
 
--- what it shows at present: all that is said of a row speaks of that alone
+-- what it shows at present; everything that is said of a row is about this
 abbrev pub scene_of : StoredScene → Scene
 scene_of stored = record {
   cells = stored.cells;
@@ -101,12 +101,12 @@ with_phasers phasers scene = record scene { phasers = phasers }
 abbrev pub with_barrier : BarrierState → ℕ → Scene → Scene
 with_barrier barrier b scene = record scene { barriers = slice_set scene.barriers b barrier }
 
--- a turn of thread t, beside which the step shows this mark
+-- a turn of thread t; the step also shows this mark
 abbrev pub outcome_marked : Mark → Turn → ℕ → Scene → Outcome
 outcome_marked mark turn t scene =
     record { scene = with_thread turn.thread t scene; event = record { what = turn.what; mark = mark } }
 
--- a turn that is its own thread's alone
+-- a turn that changes only its own thread
 abbrev pub outcome_of_turn : Turn → ℕ → Scene → Outcome
 outcome_of_turn turn t scene = outcome_marked mark.Nothing turn t scene
 
@@ -118,8 +118,7 @@ alone turn t scene = outcome_of_turn (turn (thread_at scene t)) t scene
 abbrev pub starting : DeclaredThread → ThreadState
 starting thread = new_thread thread.first_row
 
--- the scene before the first choice: 32 cells of 0, each thread at its first row, and nobody has come to a phaser or a
--- barrier
+-- the scene before the first choice: 32 cells of 0, each thread at its first row, and nobody has come to a phaser or a barrier
 abbrev pub first_scene : Program → Scene
 first_scene program = record {
   cells = replicate 32 (pos 0);

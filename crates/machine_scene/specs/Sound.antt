@@ -1,4 +1,4 @@
--- What a machine keeps true, so that no row meets a missing thing. Nobody has to believe it: it is what proofs go by.
+-- What a machine keeps true, so that no row uses something that doesn't exist. Only proofs use this: no promise depends on it.
 use Rattle.std.specs.Prelude.{◌≡◌, ◌≢◌, ℕ, ◌+◌, ◌<◌, ◌≤◌, ◌==◌, is_some, Option, Some, None, List, [], ◌∷◌, length, All, count_by, Bool, true, false}
 use Rattle.instruction_table.specs.declared.row.Row.{Row}
 use Rattle.instruction_table.specs.declared.row.Row.TheVariants.{Cawait, Cawaitt}
@@ -17,8 +17,8 @@ use Rattle.thread_state.specs.Frame.{is_advance, is_action}
 use Rattle.thread_state.specs.Thread.{ThreadState}
 use Rattle.machine_scene.specs.Scene.{Scene, StoredScene, scene_of, counts_of, counts_in, thread_at, barrier_at}
 
--- a stack entry leads to a row, and names a root or a barrier that is there; past the row at which a routine or an action
--- began comes another
+-- a stack entry leads to a row, and names a root or a barrier that exists; a row follows the one at which a routine or an
+-- action began
 abbrev pub IsFrame : Program → Scene → Frame → Type 0
 IsFrame program scene (frame.Call row) = row < length program.rows
 IsFrame program scene (frame.Handler row) = row < length program.rows
@@ -26,7 +26,7 @@ IsFrame program scene (frame.Advance root registers row) =
     (row + 1 < length program.rows) × ((root < length scene.phasers) × (root_at scene.phasers root ≡ root))
 IsFrame program scene (frame.Action b registers row) = (row + 1 < length program.rows) × (b < length scene.barriers)
 
--- a thread stands at a row, and so do its stack entries
+-- a thread is at a row, and so are its stack entries
 pub record IsPlaced (program : Program) (scene : Scene) (thread : ThreadState) : Type 0 where
   pub pc : thread.pc < length program.rows
   pub stack : All (IsFrame program scene) thread.stack
@@ -58,18 +58,17 @@ awaits b (status.Died code) row = false
 abbrev pub thread_awaits : Program → ℕ → ThreadState → Bool
 thread_awaits program b thread = awaits b thread.status (row_at program.rows thread.pc)
 
--- how many steps may have been taken before a turn, and so after it: each ends at most one phase, and of so many phase ends
--- a forest keeps count
+-- how many steps may have been taken before a turn: each ends at most one phase, and a forest can count so many ends of phases
 abbrev pub most_before : ℕ
 most_before = 2147483646
 
 abbrev pub most_after : ℕ
 most_after = most_ends
 
--- the program fits its scene and each thread stands in it; of each root's advance routine there is at most one entry on
--- all stacks, and none unless the root's phase end is pending or the root is terminated; of each barrier's action there is
--- at most one, and none unless a thread runs it; and the threads that wait at a barrier are those that have a wait there.
--- No tree has ended more phases than steps were taken
+-- the program fits its scene, and each thread is at a row of it; all stacks have at most one entry of each root's routine, and
+-- none unless the end of the root's phase is pending or the root is terminated; they have at most one entry of each barrier's
+-- action, and none unless a thread runs it; and exactly the threads that wait at a barrier have a wait there. No tree has ended
+-- more phases than steps were taken
 pub record IsSound (program : Program) (steps : ℕ) (scene : Scene) : Type 0 where
   pub code : IsCode program (counts_of program scene)
   pub few_threads : length scene.threads ≤ 64
@@ -82,7 +81,7 @@ pub record IsSound (program : Program) (steps : ℕ) (scene : Scene) : Type 0 wh
   pub room : (b : ℕ) → b < length scene.barriers → length (barrier_at scene b).waits ≡ 64
   pub waits : (b t : ℕ) → has_wait t (barrier_at scene b) ≡ thread_awaits program b (thread_at scene t)
 
--- whoever waits at a barrier has a wait at that of its row, and nobody else has one anywhere
+-- a thread that waits at a barrier has a wait at the one that its row names, and no other thread has a wait anywhere
 abbrev pub HasItsWait : Status → Row → ℕ → Scene → Type 0
 HasItsWait status.Runs row t scene = (b : ℕ) → wait_at (barrier_at scene b).waits t ≡ None
 HasItsWait (status.Throws code) row t scene = (b : ℕ) → wait_at (barrier_at scene b).waits t ≡ None
@@ -97,7 +96,7 @@ pub record SeesWait (row : Row) (t : ℕ) (stored : StoredScene) : Type 0 where
   pub named : IsNamed (counts_in stored) row
   pub waits : HasItsWait (thread_at (scene_of stored) t).status row t (scene_of stored)
 
--- thread t is there, and the number of the row behind its own is one that a row can have
+-- thread t exists, and the number of the next row is one that a row can have
 pub record CanPlay (t : ℕ) (stored : StoredScene) : Type 0 where
   pub thread : t < length stored.threads
   pub place : (thread_at (scene_of stored) t).pc < 65535
@@ -110,8 +109,8 @@ pub record StandsAt (program : Program) (row : Row) (t : ℕ) (stored : StoredSc
   pub actions : length program.actions ≡ length stored.barriers
   pub ends : (p : ℕ) → (phaser_at (phasers_of stored.phasers) p).ends < most_after
 
--- what the top entry of a stack may be counted on for: a routine's root is there, its phase end is pending or it is
--- terminated; a thread runs the action; and there is a row past the one at which either began
+-- what is known of the top entry of a stack: a routine's root exists, and the end of its phase is pending or it is terminated;
+-- a thread runs the action; and a row follows the one at which either began
 abbrev pub IsTop : Program → StoredScene → Option Frame → Type 0
 IsTop program stored None = Unit {0}
 IsTop program stored (Some (frame.Call row)) = Unit {0}

@@ -1,4 +1,4 @@
--- What a turn may change beside its own thread, what is kept of a scene before the turn, and the scene that this gives back.
+-- What a turn may change besides its own thread, what is saved of a scene before the turn, and the scene that this restores.
 use Rattle.std.specs.Prelude.{◌≡◌, ℕ, ◌<◌, List, length, slice_set, Option, Some}
 use Rattle.instruction_table.specs.declared.row.Row.{Row}
 use Rattle.instruction_table.specs.declared.row.Row.TheVariants.{Ret, Sts, Intr, Preg, Pbulk, Parr, Pdereg, Paaa, Pforce, Cawait, Cawaitt, Creset}
@@ -60,12 +60,12 @@ reach_in (status.AwaitsBarrier index) row top = reach_of_wait row
 reach_in status.Ended row top = reach.Nothing
 reach_in (status.Died code) row top = reach.Nothing
 
--- what the turn of thread t, or the expiry of its wait, may change beside the thread
+-- what the turn of thread t, or the expiry of its wait, may change besides the thread
 abbrev pub reach_of : ℕ → Program → Scene → Reach
 reach_of t program scene =
     let thread : ThreadState = thread_at scene t in reach_in thread.status (row_at program.rows thread.pc) (top_of thread.stack)
 
--- it is there
+-- it exists
 abbrev pub IsThere : Reach → StoredScene → Type 0
 IsThere reach.Nothing stored = Unit {0}
 IsThere (reach.Cell cell) stored = cell < 32
@@ -73,7 +73,7 @@ IsThere (reach.Thread other) stored = other < length stored.threads
 IsThere (reach.Tree p) stored = p < length stored.phasers
 IsThere (reach.Barrier b) stored = b < length stored.barriers
 
--- phasers that only a turn of this reach came to: beside the words from one phaser up to its root all are the same
+-- the phasers after a turn that reached only this: except for the words from one phaser up to its root, they are the same
 abbrev pub PhasersWithin : Reach → List Stored → List Stored → Type 0
 PhasersWithin reach.Nothing before after = after ≡ before
 PhasersWithin (reach.Cell cell) before after = after ≡ before
@@ -81,7 +81,7 @@ PhasersWithin (reach.Thread other) before after = after ≡ before
 PhasersWithin (reach.Tree p) before after = ChangedAt p before after
 PhasersWithin (reach.Barrier b) before after = after ≡ before
 
--- what is kept of it
+-- what is saved of it
 abbrev pub touched_by : Reach → StoredScene → Touched
 touched_by reach.Nothing stored = touched.Nothing
 touched_by (reach.Cell cell) stored = touched.Cell cell (cell_at (scene_of stored) cell)
@@ -89,7 +89,7 @@ touched_by (reach.Thread other) stored = touched.Thread other (own.note_of (thre
 touched_by (reach.Tree p) stored = touched.Tree (saved_of p stored.phasers)
 touched_by (reach.Barrier b) stored = touched.Barrier b (barrier_at (scene_of stored) b)
 
--- what is kept of a scene before a turn; whose turn was ready is kept whole
+-- what is saved of a scene before a turn; the set of ready threads is saved whole
 pub record Note : Type 0 where
   pub thread : ℕ
   pub before : own.Note
@@ -110,7 +110,7 @@ abbrev pub with_undone : own.Note → ℕ → StoredScene → StoredScene
 with_undone before t stored =
     record stored { threads = slice_set stored.threads t (own.undone before (thread_at (scene_of stored) t)) }
 
--- what was touched, as it was
+-- what was changed, as it was
 abbrev pub with_touched : Touched → StoredScene → StoredScene
 with_touched touched.Nothing stored = stored
 with_touched (touched.Cell cell number) stored = record stored { cells = slice_set stored.cells cell number }

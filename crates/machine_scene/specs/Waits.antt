@@ -14,12 +14,11 @@ use Rattle.thread_state.specs.Thread.{turn_of_answer, turn_of_throw, turn_of_int
 use Rattle.machine_scene.specs.Scene.{Scene, Outcome, thread_at, barrier_at, with_barrier, outcome_of_turn, outcome_marked, alone}
 use Rattle.machine_scene.specs.PhaserRows.{is_past}
 
--- the answer is the view that this step finds
+-- the result is the view that this step finds
 abbrev pub outcome_of_view : Reg → ℕ → ℕ → Scene → Outcome
 outcome_of_view into p t scene = alone (turn_of_answer into (view_of (flat_at scene.phasers p))) t scene
 
--- the wait of thread t for the end of this phase: its end is looked at before an interruption, which ends a wait that
--- looks for it
+-- the wait of thread t for the end of this phase: the end counts before an interrupt, which ends a wait that can be interrupted
 abbrev pub outcome_of_awaited : Bool → Reg → ℕ → ℤ → ℕ → Scene → Option Outcome
 outcome_of_awaited looks into p phase t scene =
     if is_past p phase scene then Some (outcome_of_view into p t scene)
@@ -35,8 +34,8 @@ outcome_of_phase_wait (Pawaiti into p number) phase t scene = outcome_of_awaited
 outcome_of_phase_wait (Pawaitt into p number time) phase t scene = outcome_of_awaited true into p phase t scene
 outcome_of_phase_wait _ phase t scene = None
 
--- the wait of thread t at barrier b, by what it has come to: a released thread takes its outcome first; an interruption
--- before the release breaks the barrier, but not while a thread runs the action
+-- the wait of thread t at barrier b, by its state: a released thread takes its outcome first; an interrupt before the release
+-- breaks the barrier, but not while a thread runs the action
 abbrev pub outcome_of_release : Option WaitState → Reg → ℤ → ℕ → ℕ → Scene → Option Outcome
 outcome_of_release (Some state.Tripped) into index b t scene =
     Some (outcome_of_turn (turn_of_answer into index (thread_at scene t)) t (with_barrier (leave t (barrier_at scene b)) b scene))

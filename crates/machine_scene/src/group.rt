@@ -12,15 +12,15 @@ pub enum Group {
     Calls,
     /// Outputs, cells, interrupted statuses.
     Data,
-    /// A phaser: it registers, arrives, waits or terminates there.
+    /// A phaser: the row registers, arrives, waits or terminates there.
     Phasers,
-    /// A phaser, which it reads.
+    /// A phaser, which the row reads.
     Getters,
     /// A barrier.
     Barriers,
 }
 
-/// The row's group.
+/// Returns the row's group.
 pub fn group_of(row: Row) -> Group
     ensures { result ≡ group_of row }
 {

@@ -7,7 +7,7 @@ ghost use Rattle.machine_scene.specs.Sound.{IsSound};
 
 use loader::Loaded;
 
-/// A turn is ready just where the list of statuses and rows names it, and a wait can run out just where the thread's turn isn't
+/// A turn is ready exactly if the list of statuses and rows names it. A wait can expire exactly if the thread's turn isn't
 /// ready and the list of timed waits names it. Nothing runs.
 #[tactic(auto, using(crate::proofs::ReadyThreads::ready_as_listed, crate::proofs::ReadyThreads::expiry_as_listed))]
 pub fn who_is_ready()
@@ -18,7 +18,7 @@ pub fn who_is_ready()
         && can_run_out (thread_at scene t).status (row_at program.rows (thread_at scene t).pc) scene) }
 {}
 
-/// The first scene of a loaded program is sound, however many steps are granted from there.
+/// The first scene of a loaded program is sound, whatever the limit of steps is.
 #[tactic(auto, using(crate::proofs::Start::first_scene_is_sound))]
 pub fn a_first_scene_is_sound(program: &Loaded)
     ensures { (steps : ℕ) → IsSound program.now steps (first_scene program.now) }

@@ -1,9 +1,10 @@
-//! What the rows of a program act on (its threads, cells, phasers and barriers), and what one turn of a thread makes of it.
+//! What the rows of a program act on (its threads, cells, phasers and barriers), and what one turn of a thread does to it.
 //!
-//! `Stage::turn` is one turn: the row at the thread's place, one stack entry popped while it throws, or one finished wait.
-//! `Stage::expire` is a timed wait that runs out. To read it: `specs/Scene.antt` (what there is), `specs/Outcomes.antt` (what
-//! a turn makes of it, by groups of rows), `specs/Ready.antt` (who may take a turn). Then `stage`, whose `turn` finds the row
-//! and calls the function of its group. Most turns are `common_turns`, played where they are asked for.
+//! `Stage::turn` is one turn: it plays the row that the thread is at, or pops one stack entry of a thread that throws, or ends a
+//! wait. `Stage::expire` is a timed wait that expires. To understand the crate, read `specs/Scene.antt` (what there is),
+//! `specs/Outcomes.antt` (what a turn does to it, by groups of rows), and `specs/Ready.antt` (which threads can take a turn).
+//! Then read `stage`: its `turn` finds the row, and calls the function of the row's group. The most frequent turns are in
+//! `common_turns`.
 #![tactic(auto)]
 
 mod group;

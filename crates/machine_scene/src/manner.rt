@@ -3,8 +3,8 @@ ghost use Rattle.machine_scene.specs.Manner.{manner_of};
 
 use instruction_table::{Reg, Row};
 
-/// How an arrival is made: the register that its answer goes to, whether the party leaves
-/// (`arriveAndDeregister`), and whether it waits for the phase's end (`arriveAndAwaitAdvance`).
+/// How an arrival is made: the register for its result, whether the party leaves (`arriveAndDeregister`), and whether it waits
+/// for the end of the phase (`arriveAndAwaitAdvance`).
 #[derive(Clone, Copy)]
 pub struct Manner {
     pub into: Reg,
@@ -12,7 +12,7 @@ pub struct Manner {
     pub waits: bool,
 }
 
-/// How the arrival at this row is made; nobody arrives at another row, and no routine and no action begins there.
+/// Returns how the row arrives. At any other row nobody arrives, and no routine and no action begins.
 #[inline(always)]
 pub fn manner_of(row: Row) -> Manner
     ensures { result ≡ manner_of row }

@@ -7,7 +7,7 @@ use std::marker::Model;
 use thread_state::ThreadNote;
 use tier_tree::Saved;
 
-/// What is kept of the one thing beside its own thread that a turn may change.
+/// What is saved of the one thing, besides its own thread, that a turn may change.
 #[derive(Drop)]
 pub enum Touched {
     Nothing,
@@ -18,7 +18,8 @@ pub enum Touched {
 }
 
 impl Touched {
-    /// Nothing is kept. Most turns touch nothing and are noted where another such stood: only another is written over.
+    /// Saves nothing. Most turns change nothing else, and are noted over another such note: only a different note is
+    /// overwritten.
     #[inline(always)]
     pub(crate) fn clear(&mut self)
         ensures { self.new ≡ Nothing }
@@ -29,7 +30,7 @@ impl Touched {
     }
 }
 
-/// What is kept of a stage before a turn, or before the expiry of a wait, so that it can be undone. It has a fixed size.
+/// What is saved of a stage before a turn, or before the expiry of a wait, so that it can be undone. It has a fixed size.
 #[derive(Drop)]
 pub struct SceneNote {
     pub(crate) number: u8,

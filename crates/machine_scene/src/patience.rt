@@ -1,10 +1,10 @@
-/// How long a thread is ready to wait for the end of a phase.
+/// How long a thread is willing to wait for the end of a phase.
 #[derive(Clone, Copy)]
 pub enum Patience {
     /// Until the phase ends: `awaitAdvance`.
     Endless,
     /// Until it is interrupted: `awaitAdvanceInterruptibly`.
     Interruptible,
-    /// An interruption ends the wait, and so does this time, which is over at 0 and below.
+    /// An interrupt ends the wait, and so does this time, which is over at 0 and below.
     Timed(i32),
 }

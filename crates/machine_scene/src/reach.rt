@@ -4,12 +4,12 @@ ghost use Rattle.machine_scene.specs.Undo.{reach_of_entry, reach_of_ret, reach_o
 use instruction_table::Row;
 use thread_state::{Frame, Status};
 
-/// What a turn may change beside its own thread.
+/// What a turn may change besides its own thread.
 #[derive(Clone, Copy)]
 pub enum Reach {
     Nothing,
     Cell(u16),
-    /// A thread, another or itself.
+    /// A thread: another one, or the same.
     Thread(u16),
     /// The words of a phaser and of those above it.
     Tree(u16),

@@ -127,7 +127,7 @@ impl Stage {
         stage
     }
 
-    /// A copy of the stage: cells, threads, phasers, barriers and whose turn is ready, word for word.
+    /// Returns a copy of the stage: cells, threads, phasers, barriers and the ready threads, word for word.
     pub fn copy(&self, alloc: Global) -> Result<Stage, AllocError>
         ensures { IfOk result (λ copy. copy ≡ self.now) }
     {
@@ -140,7 +140,7 @@ impl Stage {
         })
     }
 
-    /// How many threads there are.
+    /// Returns how many threads there are.
     pub fn thread_count(&self) -> usize
         ensures count { result ≡ length self.now.threads }
         ensures few { result ≤ 64 }
@@ -148,7 +148,7 @@ impl Stage {
         self.threads.len()
     }
 
-    /// A thread.
+    /// Returns a thread.
     pub fn thread(&self, t: usize) -> &Thread
         requires { t < length self.now.threads }
         ensures { result.now ≡ thread_at (scene_of self.now) t }
@@ -172,7 +172,7 @@ impl Stage {
         PhaserId(phaser as u8)
     }
 
-    /// How many barriers there are.
+    /// Returns how many barriers there are.
     pub fn barrier_count(&self) -> usize
         ensures count { result ≡ length self.now.barriers }
         ensures few { result ≤ 64 }
@@ -180,7 +180,7 @@ impl Stage {
         self.barriers.len()
     }
 
-    /// A barrier.
+    /// Returns a barrier.
     pub fn barrier(&self, b: usize) -> &Barrier
         requires { b < length self.now.barriers }
         ensures { result.now ≡ barrier_at (scene_of self.now) b }
@@ -195,14 +195,14 @@ impl Stage {
         &self.cells
     }
 
-    /// Whether every thread has ended or died.
+    /// Returns whether every thread has ended or died.
     pub fn has_ended(&self) -> bool
         ensures { result ≡ list_all (λ (thread : ThreadState). is_finished thread.status) self.now.threads }
     {
         self.threads.iter().all(|thread| thread.is_finished())
     }
 
-    /// The row that a thread stands at.
+    /// Returns the row that a thread is at.
     #[inline(always)]
     pub(crate) fn row_of(&self, program: &Loaded, t: usize) -> Row
         requires sound { IsSound program.now most_before (scene_of self.now) }
@@ -215,7 +215,7 @@ impl Stage {
         row
     }
 
-    /// The number in a cell.
+    /// Returns the number in a cell.
     pub fn cell(&self, number: usize) -> i32
         requires { number < 32 }
         ensures { result ≡ cell_at (scene_of self.now) number }
@@ -223,7 +223,7 @@ impl Stage {
         self.cells[number]
     }
 
-    /// Whether a thread may take a step.
+    /// Returns whether a thread can take a step.
     #[inline(always)]
     pub fn is_ready(&self, program: &Loaded, t: usize) -> bool
         requires ready { KnowsReady program.now self.now }
@@ -233,7 +233,7 @@ impl Stage {
         ready_set::is_in(self.ready.turns, t)
     }
 
-    /// Whether the time of a thread's wait may run out now.
+    /// Returns whether a thread's timed wait can expire now.
     pub fn can_expire(&self, program: &Loaded, t: usize) -> bool
         requires sound { IsSound program.now most_before (scene_of self.now) }
         requires known { KnowsReady program.now self.now }
@@ -247,7 +247,8 @@ impl Stage {
         self.has_time(row, t)
     }
 
-    /// The turn of a thread that may take a step. `Err` is want of memory for a value put out. Nothing has changed then.
+    /// Plays the turn of a thread that can take a step. An `Err` means that it is out of memory for a value to put out. Then
+    /// nothing has changed.
     #[inline(always)]
     pub fn turn(&mut self, program: &Loaded, t: usize) -> Result<Event, AllocError>
         requires sound { IsSound program.now most_before (scene_of self.old) }
@@ -273,8 +274,8 @@ impl Stage {
         }
     }
 
-    /// The turn of a thread that stands at this row, but for the sets of those whose turn is ready: the turn may have changed
-    /// them, which its caller finds out. That the scene stays sound and can be given back is shown here.
+    /// Plays the turn of a thread that is at this row, without the sets of ready threads: the turn may have changed them, which
+    /// the caller finds out. Its contract shows that the scene stays sound and can be restored.
     #[inline(always)]
     fn play(&mut self, program: &Loaded, row: Row, t: usize) -> Result<Event, AllocError>
         requires sound { IsSound program.now most_before (scene_of self.old) }
@@ -290,14 +291,14 @@ impl Stage {
             → AreOthersReady program.now t row self.old.ready (scene_of self.new)) }
     {
         self.phasers_are_stored();
-        // The answer goes on as it is: each arm names its case for the proof.
+        // The result is passed on unchanged: each arm names its case for the proof.
         match self.play_by_status(program, row, t) {
             Ok(event) => Ok(event),
             Err(refused) => Err(refused),
         }
     }
 
-    /// What the thread is doing decides: it plays its row, pops a stack entry, or finishes its wait.
+    /// Decides by what the thread is doing: it plays its row, pops a stack entry, or ends its wait.
     #[inline(always)]
     #[tactic(auto, using(crate::proofs::Reaches::within_same))]
     fn play_by_status(&mut self, program: &Loaded, row: Row, t: usize) -> Result<Event, AllocError>
@@ -364,7 +365,7 @@ impl Stage {
         event
     }
 
-    /// `expire`, but for the sets of those whose turn is ready.
+    /// Like `expire`, without the sets of ready threads.
     fn run_out(&mut self, program: &Loaded, row: Row, t: usize) -> Event
         requires sound { IsSound program.now most_before (scene_of self.old) }
         requires thread { t < length self.old.threads }
@@ -379,7 +380,7 @@ impl Stage {
         self.run_out_by_status(program, row, t)
     }
 
-    /// What the thread waits for decides: a phase, or a barrier, which breaks.
+    /// Decides by what the thread waits for: a phase, or a barrier, which breaks.
     fn run_out_by_status(&mut self, program: &Loaded, row: Row, t: usize) -> Event
         requires thread { t < length self.old.threads }
         requires at { StandsAt program.now row t self.old }

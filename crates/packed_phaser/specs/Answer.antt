@@ -1,4 +1,4 @@
--- What the answers of a word's calls say of the phasers that the words stand for.
+-- What the results of a word's calls say about the phasers that the words stand for.
 use Rattle.packed_phaser.specs.declared.word.Registered.{Registered}
 use Rattle.packed_phaser.specs.declared.word.Registered.TheVariants as registered
 use Rattle.packed_phaser.specs.declared.word.Arrived.{Arrived}
@@ -7,14 +7,14 @@ use Rattle.packed_phaser.specs.Flat.{Registration, Joins, JoinsLate, MustWait, O
 use Rattle.packed_phaser.specs.Flat.{Arrival, Counts, Turns, ComesLate, IsUnregistered}
 use Rattle.packed_phaser.specs.Word.{record_of}
 
--- what a registration's answer says
+-- what the result of a registration says
 abbrev pub registration_of : Registered → Registration
 registration_of (registered.At word phase) = Joins (record_of word) phase
 registration_of (registered.Dead view) = JoinsLate view
 registration_of registered.Held = MustWait
 registration_of registered.TooMany = Overfull
 
--- what an arrival's answer says
+-- what the result of an arrival says
 abbrev pub arrival_of : Arrived → Arrival
 arrival_of (arrived.Counted word) = Counts (record_of word)
 arrival_of (arrived.Turned word) = Turns (record_of word)

@@ -1,4 +1,4 @@
--- A phaser with neither parent nor children, as plain counts, and what each call makes of it.
+-- A phaser with neither parent nor children as plain counts, and what each call does to it.
 use Rattle.std.specs.Prelude.{◌≡◌, ℕ, ℤ, pos, ◌+◌, ◌-◌, ◌^◌, ◌<◌, ◌≤◌, ◌==◌, nat_lt}
 use Rattle.std.specs.Prelude.{if◌then◌else◌, Bool, true, false}
 use Rattle.phase_number.specs.Phase.{next_phase, phase_view}
@@ -13,7 +13,7 @@ pub record Flat : Type 0 where
   pub arrived : ℕ
   pub turned : Bool
 
--- which of these records are phasers
+-- the records that are phasers
 pub record IsFlat (f : Flat) : Type 0 where
   pub phase_in_range : f.phase < 2 ^ 31
   pub parties_in_range : f.parties ≤ 65535
@@ -44,16 +44,15 @@ unarrived_of f = f.parties - f.arrived
 abbrev pub is_empty : Flat → Bool
 is_empty f = if f.ended then false else (if f.turned then false else f.parties == 0)
 
--- what comes of a registration: the parties join in the phase of this number, it comes after
--- termination and shows the view, it has to wait for the phase's end, or there would be more than
--- 65535 parties
+-- the results of a registration: the parties are registered in the phase of this number; the phaser is terminated and has this
+-- view; the registration has to wait for the end of the phase; or there would be more than 65535 parties
 pub data Registration : Type 0 where
   Joins : Flat → ℤ → Registration
   JoinsLate : ℤ → Registration
   MustWait : Registration
   Overfull : Registration
 
--- k parties register; the first case that holds is the answer
+-- k parties register; the first case that holds is the result
 abbrev pub register : ℕ → Flat → Registration
 register k f =
     if f.ended then JoinsLate (view_of f)
@@ -62,8 +61,8 @@ register k f =
     else (if f.turned then MustWait
     else Joins (record f { parties = f.parties + k }) (pos f.phase))))
 
--- what comes of an arrival: it is counted and others are still to come, it is the last and turns
--- the phaser, it comes after termination and shows the view, or no party is left that could arrive
+-- the results of an arrival: it is counted, and others are still to come; it is the last, and turns the phaser; the phaser is
+-- terminated and has this view; or no party is left that could arrive
 pub data Arrival : Type 0 where
   Counts : Flat → Arrival
   Turns : Flat → Arrival
@@ -74,7 +73,7 @@ pub data Arrival : Type 0 where
 abbrev pub settled : Flat → Arrival
 settled f = if f.arrived == f.parties then Turns (record f { turned = true }) else Counts f
 
--- a party arrives, and leaves where the test says so: it is then no party of this phase either
+-- a party arrives, and also leaves if the flag says so
 abbrev pub arrive : Bool → Flat → Arrival
 arrive leave f =
     if f.ended then ComesLate (view_of f)
@@ -82,7 +81,7 @@ arrive leave f =
     else (if leave then settled (record f { parties = f.parties - 1 })
     else settled (record f { arrived = f.arrived + 1 })))
 
--- the phase of a turned phaser ends, with termination where the test says so
+-- the phase of a turned phaser ends, and the phaser is terminated if the flag says so
 abbrev pub advance : Bool → Flat → Flat
 advance ends f = record {
   phase = next_phase f.phase;

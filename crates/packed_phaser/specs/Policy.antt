@@ -1,4 +1,4 @@
--- What `onAdvance` answers.
+-- What `onAdvance` returns.
 use Rattle.std.specs.Prelude.{ℕ, pos, ◌==◌, ◌||◌, int_le, Bool, false, Option, Some, None}
 use Rattle.packed_phaser.specs.declared.policy.Policy.{Policy}
 use Rattle.packed_phaser.specs.declared.policy.Policy.TheVariants as policy

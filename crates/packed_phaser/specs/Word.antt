@@ -13,13 +13,12 @@ fields_of word = record {
   ended = word / 2 ^ 63 == 1;
 }
 
--- a word stands for a phaser unless more parties are still to arrive than there are; 1 of 0 marks
--- an empty phaser
+-- a word stands for a phaser unless more parties are still to arrive than there are; 1 of 0 marks an empty phaser
 abbrev pub IsWord : ℕ → Type 0
 IsWord word = (word < 2 ^ 64) × ((fields_of word).unarrived ≤ max (fields_of word).parties 1)
 
--- the phaser that the fields tell: nobody to wait for means turned, or that all have arrived once
--- it is terminated
+-- the phaser that the fields describe: if nobody is still to arrive, the phaser is turned, or all have arrived if it is
+-- terminated
 abbrev pub record_of_fields : Fields → Flat
 record_of_fields fields = record {
   phase = fields.phase;

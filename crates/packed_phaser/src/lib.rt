@@ -1,7 +1,6 @@
 //! One `java.util.concurrent.Phaser` without tiers, packed into 64 bits.
 //!
-//! Each call on a `Word` answers a new word, by the flat phaser's rules on plain counts (`specs/Flat.antt`). No call takes
-//! memory.
+//! Each call on a `Word` returns a new word, by the rules of a phaser as plain counts (`specs/Flat.antt`). No call allocates.
 //!
 //! | Bits | Field | What it says |
 //! |---|---|---|
@@ -10,21 +9,21 @@
 //! | 32 to 62 | phase | the number of the phase; 0 comes after 2147483647 |
 //! | 63 | ended | 1 once the phaser is terminated |
 //!
-//! An arrival takes 1 from the word, that of a party that leaves 65537: one from each of the two counts. A registration adds
-//! to both. Four values mean more than their counts say:
+//! An arrival subtracts 1 from the word. The arrival of a party that leaves subtracts 65537: one from each of the two counts. A
+//! registration adds to both. Four values mean more than their counts say:
 //!
-//! - unarrived is 0: nobody is waited for any more. The phaser is turned: its phase is about to end, and until then nobody
-//!   arrives or registers. `advance` ends it, and all parties are still to arrive in the next;
-//! - parties is 0, unarrived 1: nobody is registered. That 1 is no party: no arrival may take it, or an empty phaser would
-//!   turn. The first registration replaces it;
-//! - both are 0: the last party has left, and the phase is about to end. `advance` ends it, and `vacate` makes the phaser
-//!   empty in the phase that it is in;
-//! - ended is 1: unarrived says nothing any more, and all parties count as arrived. From then on the phase stays.
+//! - If unarrived is 0, nobody is still to arrive. The phaser is turned: its phase is about to end, and until then nobody
+//!   arrives or registers. `advance` ends the phase, and then all parties are to arrive again.
+//! - If parties is 0 and unarrived is 1, nobody is registered. This 1 is no party: no arrival may subtract it, or an empty
+//!   phaser would turn. The first registration replaces it.
+//! - If both are 0, the last party has left, and the phase is about to end. `advance` ends it, and `vacate` makes the phaser
+//!   empty in the same phase.
+//! - If ended is 1, unarrived means nothing, and all parties count as arrived. From then on the phase stays.
 //!
-//! *What keeps it true.* Unarrived is never more than parties, or than 1 where there are none (`IsWord`). So an arrival
-//! takes from fields that have something, and none borrows from its neighbour. No more than 65535 parties register, so none
-//! carries over. Every phaser has a word, and only one until it is terminated. `record_of` in `specs/Word.antt` says which,
-//! and contracts see a word as its number. `Policy` says what `onAdvance` answers.
+//! *Why no field changes its neighbour.* Unarrived is never more than parties, or than 1 if there are no parties (`IsWord`). So
+//! an arrival never borrows from the next field. At most 65535 parties register, so no sum carries over. Every phaser has a
+//! word, and only one until it is terminated. `record_of` in `specs/Word.antt` says which, and contracts see a word as its
+//! number. `Policy` says what `onAdvance` returns.
 #![tactic(auto)]
 
 mod law;

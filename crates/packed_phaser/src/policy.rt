@@ -3,22 +3,22 @@ ghost use Rattle.packed_phaser.specs.Policy.{ends};
 
 use phase_number::Phase;
 
-/// When the end of a phase terminates the phaser: the answers of `Phaser.onAdvance`.
+/// When the end of a phase terminates the phaser: what `Phaser.onAdvance` returns.
 #[derive(Clone, Copy, Debug, PartialEq, Eq)]
 pub enum Policy {
     /// Where no party is registered, as in Java's own `onAdvance`.
     Default,
     /// Never.
     Never,
-    /// From the phase of this number on, or where no party is registered.
+    /// It terminates the phaser from the phase of this number on, or if no party is registered.
     Until(i32),
-    /// Where the phaser's routine says so, which is a program's own code.
+    /// The phaser's routine decides, a part of the program.
     Routine,
 }
 
 impl Policy {
-    /// Whether the end of `phase` with this many registered parties terminates the phaser: what
-    /// `onAdvance(phase, registeredParties)` answers. `None` for a routine alone.
+    /// Returns whether the end of `phase` with this many registered parties terminates the phaser: what `onAdvance(phase,
+    /// registeredParties)` returns. Only `Routine` returns `None`.
     pub fn ends(self, phase: Phase, parties: u16) -> Option<bool>
         ensures { result ≡ ends self phase parties }
     {

@@ -8,7 +8,7 @@ ghost use Rattle.packed_phaser.specs.Answer.{registration_of, arrival_of};
 use phase_number::Phase;
 use std::marker::Model;
 
-/// A phaser without tiers in 64 bits: the crate's head has the fields and what they mean.
+/// A phaser without tiers in 64 bits. The head of the crate says what its fields mean.
 #[derive(Clone, Copy, Debug, PartialEq, Eq)]
 pub struct Word {
     bits: u64,
@@ -36,12 +36,12 @@ struct Fields {
     ended: bool,
 }
 
-/// What a registration answers.
+/// The result of a registration.
 #[derive(Clone, Copy)]
 pub enum Registered {
     /// The parties are registered; the number of the phase that they joined.
     At(Word, i32),
-    /// The phaser is terminated; its view.
+    /// The phaser is terminated, and this is its view.
     Dead(i32),
     /// The phase is ending, and a registration waits until it has ended.
     Held,
@@ -49,14 +49,14 @@ pub enum Registered {
     TooMany,
 }
 
-/// What an arrival answers.
+/// The result of an arrival.
 #[derive(Clone, Copy)]
 pub enum Arrived {
     /// Other parties have yet to arrive.
     Counted(Word),
     /// All needed parties have arrived, or the last one has left: the phase is to be ended.
     Turned(Word),
-    /// The phaser is terminated; its view.
+    /// The phaser is terminated, and this is its view.
     Dead(i32),
     /// No party is left that could arrive.
     NotThere,
@@ -89,14 +89,14 @@ fn packed(fields: Fields) -> Word
     Word { bits }
 }
 
-/// The lowest field of a phaser where nobody has arrived.
+/// Returns the lowest field of a phaser at which nobody has arrived.
 fn all_of(parties: u16) -> u16
     ensures { result ≡ max parties 1 }
 {
     parties.max(1)
 }
 
-/// The parties once one has arrived, which is registered no more where it leaves.
+/// Returns the parties after an arrival: one fewer if the party leaves.
 #[inline(always)]
 fn remaining(parties: u16, leave: bool) -> u16
     requires { 0 < parties }
@@ -106,7 +106,7 @@ fn remaining(parties: u16, leave: bool) -> u16
 }
 
 impl Word {
-    /// A phaser at the start of a phase, like `new Phaser(parties)` where the phase is 0.
+    /// Returns a phaser at the start of a phase. With phase 0 it is `new Phaser(parties)`.
     pub fn fresh(phase: Phase, parties: u16) -> Word
         ensures { record_of result ≡ fresh phase parties }
     {
@@ -118,7 +118,7 @@ impl Word {
         })
     }
 
-    /// The word of these bits, `None` where they stand for no phaser: more parties to arrive than
+    /// Returns the word with these bits, or `None` if they stand for no phaser, since more parties are still to arrive than
     /// there are.
     pub fn from_raw(bits: u64) -> Option<Word>
         ensures { SomeIff result (IsWord bits) bits }
@@ -203,7 +203,7 @@ impl Word {
         !fields.ended && fields.unarrived == 0
     }
 
-    /// `register` where `count` is 1, else `bulkRegister(count)`.
+    /// `register` if `count` is 1, and otherwise `bulkRegister(count)`.
     pub fn register(self, count: u32) -> Registered
         ensures { registration_of result ≡ register count (record_of self) }
     {
@@ -234,7 +234,7 @@ impl Word {
         Registered::At(packed(after), self.phase_view())
     }
 
-    /// With one party fewer to arrive, which is registered no more where it leaves.
+    /// Returns the word with one party fewer to arrive, and one fewer registered if it leaves.
     #[inline(always)]
     fn without_one(self, leave: bool) -> Word
         requires awaited { 0 < (fields_of self).unarrived }
@@ -255,8 +255,7 @@ impl Word {
         }
     }
 
-    /// `arrive`, or `arriveAndDeregister` where the party leaves. The word of `Turned` waits for
-    /// `advance`.
+    /// `arrive`, or `arriveAndDeregister` if the party leaves. After `Turned` the word needs an `advance`.
     pub fn arrive(self, leave: bool) -> Arrived
         ensures { arrival_of result ≡ arrive leave (record_of self) }
     {
@@ -298,8 +297,8 @@ impl Word {
         }
     }
 
-    /// Ends the phase of a turned phaser, and terminates the phaser where `ends` says so. Nobody is
-    /// counted as still to arrive in a word that this terminates.
+    /// Ends the phase of a turned phaser, and terminates the phaser if `ends` is true. In a word that this terminates, nobody
+    /// counts as still to arrive.
     pub fn advance(self, ends: bool) -> Word
         requires { (record_of self).turned ≡ true }
         ensures record { record_of result ≡ advance ends (record_of self) }
@@ -314,8 +313,7 @@ impl Word {
         })
     }
 
-    /// Empties a turned phaser whose last party has left: nobody is registered, and no phase end is
-    /// pending.
+    /// Makes a turned phaser empty after its last party has left: nobody is registered, and no end of a phase is pending.
     pub fn vacate(self) -> Word
         requires turned { (record_of self).turned ≡ true }
         requires no_parties { (record_of self).parties ≡ 0 }
@@ -334,7 +332,7 @@ impl Word {
         Word::fresh(phase, self.parties())
     }
 
-    /// `forceTermination`. The lowest field stays as it was.
+    /// `forceTermination`. The lowest field stays as it is.
     pub fn force(self) -> Word
         ensures record { record_of result ≡ force (record_of self) }
         ensures fields { fields_of result ≡ record (fields_of self) { ended = true } }

@@ -23,7 +23,7 @@ impl Model for Phase {
 const LAST: u32 = 0x7fff_ffff;
 
 impl Phase {
-    /// The phase of this number, `None` where the number is negative.
+    /// Returns the phase with this number, or `None` if the number is negative.
     pub fn new(number: i32) -> Option<Phase>
         ensures valid { IsSome result ↔ (pos 0 ≤ℤ number) }
         ensures value { IfSome result (λ phase. pos phase ≡ number) }
@@ -45,23 +45,21 @@ impl Phase {
         }
     }
 
-    /// What `getPhase` answers in this phase as long as the phaser isn't terminated.
+    /// Returns what `getPhase` returns in this phase, as long as the phaser isn't terminated.
     pub fn number(self) -> i32
         ensures { result ≡ pos self }
     {
         self.number as i32
     }
 
-    /// What `getPhase` answers once the phaser was terminated in this phase: the number less
-    /// 2147483648.
+    /// Returns what `getPhase` returns after the phaser was terminated in this phase: the number less 2147483648.
     pub fn negative(self) -> i32
         ensures { result ≡ phase_view self true }
     {
         self.number() + i32::MIN
     }
 
-    /// The phase that a view tells, whether it is negative or not: Java's
-    /// `getPhase() + Integer.MIN_VALUE` for a terminated phaser.
+    /// Returns the phase of a view, negative or not. For a terminated phaser that is Java's `getPhase() + Integer.MIN_VALUE`.
     pub fn prevailing(view: i32) -> Phase
         ensures { phase_view result (is_ended_view view) ≡ view }
     {

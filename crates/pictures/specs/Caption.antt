@@ -1,4 +1,4 @@
--- What the things of a program are called, and how its rows read with these names.
+-- Names of what a program declares, and its rows with these names.
 use Rattle.std.specs.Prelude.{ℕ, ℤ, List, [], ◌∷◌, ◌++◌, codes, decimal, Option, Some, None, unsigned_abs}
 use Rattle.std.specs.Fmt.{signed_decimal}
 use Rattle.assembler.specs.Symbols.{SymbolTable, name_of}
@@ -10,7 +10,7 @@ use Rattle.line_reader.specs.Symbols.{Name}
 use Rattle.line_reader.specs.Listing.{joined}
 use Rattle.row_code.specs.RowFields.{fields_of}
 
--- what stands before the number of a thing that has no name: `t0`, `p0`, `b0`, `c0`, and `#0` of a row
+-- what stands before a number if there is no name: `t0`, `p0`, `b0`, `c0`, and `#0` for a row
 abbrev pub letter : OperandKind → List ℕ
 letter kind.Thread = codes "t"
 letter kind.Phaser = codes "p"
@@ -22,11 +22,11 @@ abbrev pub called_by : OperandKind → ℕ → Option Name → List ℕ
 called_by k number None = letter k ++ decimal number
 called_by k number (Some name) = name
 
--- the name of the thing of this kind and number, else its letter and its number
+-- the name of what has this kind and number, or its letter and number if it has no name
 abbrev pub called : SymbolTable → OperandKind → ℕ → List ℕ
 called symbols k number = called_by k number (name_of k number symbols)
 
--- the operands of these kinds: registers by their numbers, one after the other, and what else there is
+-- the operands of these kinds: registers one after the other, a number, or a name
 abbrev pub named_operands : SymbolTable → List OperandKind → List ℕ → ℤ → List (List ℕ)
 named_operands symbols [] registers imm = []
 named_operands symbols (kind.Register ∷ kinds) [] imm = []
@@ -37,7 +37,7 @@ named_operands symbols (kind.Number ∷ kinds) registers imm =
 named_operands symbols (k ∷ kinds) registers imm =
     called symbols k (unsigned_abs imm) ∷ named_operands symbols kinds registers imm
 
--- a row as it stands in a text, with these names
+-- a row as a program text has it, with these names
 abbrev pub row_caption : SymbolTable → Row → List ℕ
 row_caption symbols row =
     let entry = entry_for row in

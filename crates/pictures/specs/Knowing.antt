@@ -1,4 +1,4 @@
--- How known moments are stored. Nobody has to believe this: it is what proofs go by.
+-- How known moments are stored. Only proofs use this: no promise depends on it.
 use Rattle.std.specs.Prelude.{ℕ, List}
 use Rattle.pictures.specs.declared.known.Moment.{Moment}
 

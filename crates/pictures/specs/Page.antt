@@ -1,5 +1,5 @@
--- The page that shows a run: five fixed parts, and between them the program, its text, the run moment by moment, and what other
--- choices lead to.
+-- The page of a run. Between five fixed parts it has the program, its text, the run moment by moment, and what other choices
+-- lead to.
 use Rattle.std.specs.Prelude.{◌≡◌, ◌≤◌, ℕ, ◌==◌, ◌||◌, not, Bool, false, true, if◌then◌else◌, List, [], ◌∷◌, ◌++◌, length, codes, flat_map, is_none, None}
 use Rattle.line_reader.specs.Listing.{canonical}
 use Rattle.row_code.specs.declared.image.Image.{Image}
@@ -19,7 +19,7 @@ use Rattle.trace_text.specs.Start.{Begins}
 use Rattle.trace_text.specs.State.{numbered_texts, state_text}
 use Rattle.trace_text.specs.Trace.{lines_of}
 
--- a byte as it stands in a page: `&`, `<`, `>` and CR by their names, any other as itself
+-- a byte as a page has it: `&`, `<`, `>` and CR as entities, and each other byte as it is
 abbrev pub escaped_byte : ℕ → List ℕ
 escaped_byte byte =
     if byte == 38 then codes "&amp;" else (if byte == 60 then codes "&lt;" else (if byte == 62 then codes "&gt;"
@@ -28,35 +28,35 @@ escaped_byte byte =
 abbrev pub escaped : List ℕ → List ℕ
 escaped text = flat_map escaped_byte text
 
--- a byte that neither begins nor ends a tag
+-- the byte neither begins nor ends a tag
 abbrev pub is_in_no_tag : ℕ → Bool
 is_in_no_tag byte = not ((byte == 60) || (byte == 62))
 
--- what a choice would do as the next one: where it may take a step, the line that it would have
+-- what a choice would do next: the line that it would have, if it can take a step
 abbrev pub what_if : World → Choice → List ℕ
 what_if world choice =
     if is_choice_ready world.program choice world.scene then codes "next " ++ lines_of world (choice ∷ []) else []
 
--- the same of a thread's turn, and of the expiry of its wait
+-- the same for a thread's turn, and for the expiry of its wait
 abbrev pub what_if_of : World → ℕ → ThreadState → List ℕ
 what_if_of world t thread = what_if world (choice_of false t) ++ what_if world (choice_of true t)
 
--- what is shown of a world: its state, and what each choice that may take a step would do, thread by thread
+-- the text of a world: its state, and what each choice that can take a step would do, thread by thread
 abbrev pub moment : World → List ℕ
 moment world = state_text world ++ numbered_texts (what_if_of world) 0 world.scene.threads
 
--- of each choice its line, and the moment after it; a choice that is refused is the last, and has its line alone
+-- for each choice its line, and the text of the world after it; a choice that is refused is the last, and has only its line
 abbrev pub moments : World → List Choice → List ℕ
 moments world [] = []
 moments world (choice ∷ choices) =
     lines_of world (choice ∷ []) ++ (if is_none (execution world (choice ∷ [])).refusal
     then moment (execution world (choice ∷ [])).world ++ moments (execution world (choice ∷ [])).world choices else [])
 
--- the run from this world on
+-- a run that begins at this world
 abbrev pub run_shown : World → List Choice → List ℕ
 run_shown world choices = moment world ++ moments world choices
 
--- the parts of a page that are the same of every run, as `bin/made` makes them of the sources in `page/`
+-- the parts that every page has; `bin/made` makes them from the sources in `page/`
 pub record Parts : Type 0 where
   pub head : List ℕ
   pub before_source : List ℕ
@@ -82,18 +82,18 @@ fixed_parts = record {
   tail = TAIL.now;
 }
 
--- these parts, and between them the listing of a program, its text, a run and what else is told
+-- the fixed parts, and between them the listing of a program, its text, its run, and its other runs
 abbrev pub page_text : Parts → List ℕ → List ℕ → List ℕ → List ℕ → List ℕ
 page_text parts listing source run others =
     parts.head ++ (escaped listing ++ (parts.before_source ++ (escaped source ++ (parts.before_run ++ (escaped run
     ++ (parts.before_others ++ (escaped others ++ parts.tail)))))))
 
--- the choices of a faultless schedule
+-- the choices of a schedule without a fault
 abbrev pub AreChoicesOf : List ℕ → List Choice → Type 0
 AreChoicesOf schedule choices =
     (runs : List Run) × ((finished_schedule schedule ≡ record { runs = runs; fault = None }) × (choices ≡ choices_of runs))
 
--- the page of an image's program, its text, its run from the beginning under this schedule, and its other runs
+-- the page of an image's program, with its text, its run under this schedule from the first world on, and its other runs
 abbrev pub IsPageIn : Parts → OtherRuns → Image → List ℕ → List ℕ → List ℕ → Type 0
 IsPageIn parts others image source schedule page =
     (world : World) × ((choices : List Choice) × (Begins image world × AreChoicesOf schedule choices

@@ -1,5 +1,5 @@
--- The picture of a run: for each block of threads a line with their names and a line for each choice, and then a line for
--- each thread that waits or died. No line is longer than the sheet is wide.
+-- The picture of a run. Each block of threads has a line with their names and a line for each choice. Then follows a line for
+-- each thread that waits or died. No line is longer than the picture is wide.
 use Rattle.std.specs.Prelude.{◌≡◌, ℕ, ℤ, zero, suc, ◌+◌, ◌-◌, ◌*◌, ◌/◌, ◌==◌, ◌&&◌, not, nat_lt, min, Bool, if◌then◌else◌, List, [], ◌∷◌, ◌++◌, length, take, flat_map, codes, decimal, Option, Some, None, slice_get}
 use Rattle.std.specs.Fmt.{signed_decimal}
 use Rattle.assembler.specs.Symbols.{SymbolTable}
@@ -32,29 +32,29 @@ use Rattle.pictures.specs.Turn.{mark_words, marked, standing, turn_text}
 
 -- ---- one line
 
--- a line with so many cells more, from the cell of this number on, each at its column
+-- a line with so many columns more, from the one of this number on
 abbrev pub with_cells : (ℕ → List ℕ) → ℕ → ℕ → ℕ → List ℕ → List ℕ
 with_cells cell width n zero line = line
 with_cells cell width n (suc left) line = with_cells cell width (n + 1) left (put_at (8 + n * width) (cell n) line)
 
--- how many threads stand in the block that begins with this one
+-- how many threads the block has that begins with this one
 abbrev pub in_block : Sheet → ℕ → ℕ → ℕ
 in_block sheet threads first = min sheet.beside (threads - first)
 
--- the cells of a block behind what the line begins with
+-- a line with the columns of a block after its beginning
 abbrev pub block_line : Sheet → ℕ → ℕ → (ℕ → List ℕ) → List ℕ → List ℕ
 block_line sheet threads first cell begin =
     with_cells (λ n. cell (first + n)) sheet.column 0 (in_block sheet threads first) begin
 
--- thread t as it stands in a world
+-- the sign of thread t in a world
 abbrev pub standing_in : World → ℕ → List ℕ
 standing_in world t = standing (is_ready t world.program world.scene) (thread_at world.scene t).status
 
--- in its column what the thread did whose turn it was, in the others how each thread stands
+-- in the column of the thread that had the turn, what it did; in the others the thread's sign
 abbrev pub cell_in : World → ℕ → List ℕ → ℕ → List ℕ
 cell_in world turn did t = if t == turn then did else standing_in world t
 
--- a choice's number, what it did, how the threads stand after it, and what is told behind the columns
+-- the line of a choice: its number, what it did, the signs of the other threads after it, and what follows the columns
 abbrev pub choice_line : Sheet → ℕ → World → ℕ → ℕ → List ℕ → List ℕ → List ℕ
 choice_line sheet first world number turn did told =
     put_at (mark_column sheet) told
@@ -62,7 +62,7 @@ choice_line sheet first world number turn did told =
 
 -- ---- the lines of the choices
 
--- a choice that was played in a world, with its event and the world after it
+-- the line of a choice that was played in a world, with its event and the world after it
 abbrev pub played_line : Sheet → SymbolTable → ℕ → World → Choice → Event → World → List ℕ
 played_line sheet symbols first world choice event after =
     let row = row_caption symbols (row_at world.program.rows (thread_at world.scene choice.thread).pc) in
@@ -70,7 +70,7 @@ played_line sheet symbols first world choice event after =
     (turn_text (column_room sheet) row choice.expiry event.what)
     (kept_behind (mark_room sheet) (marked symbols event.mark) (mark_words event.mark))
 
--- a choice that is refused: there is no such thread, or no step is left
+-- the line of a choice that is refused: there is no such thread, or no step is left
 abbrev pub refused_did : Sheet → List ℕ
 refused_did sheet = shortened (column_room sheet) (codes "refused: limit")
 
@@ -83,7 +83,7 @@ refused_line sheet first world choice why =
     choice_line sheet first world (world.choices + 1) choice.thread (refused_did sheet)
     (shortened (mark_room sheet) (refused_words why choice.thread))
 
--- a choice's line, and the lines after it unless it is refused: a refused choice is the last
+-- the line of a choice, and the lines after it; a refused choice is the last
 abbrev pub lines_by : Option StepFault → Sheet → SymbolTable → ℕ → World → Choice → (World → List (List ℕ)) → List (List ℕ)
 lines_by (Some why) sheet symbols first world choice rest = refused_line sheet first world choice why ∷ []
 lines_by None sheet symbols first world choice rest =
@@ -98,7 +98,7 @@ choice_lines sheet symbols first world (choice ∷ choices) =
 
 -- ---- a block
 
--- the names of a block's threads
+-- the line with the names of a block's threads
 abbrev pub name_cell : Sheet → SymbolTable → ℕ → List ℕ
 name_cell sheet symbols t = shortened (column_room sheet) (called symbols kind.Thread t)
 
@@ -110,23 +110,23 @@ abbrev pub block_lines : Sheet → SymbolTable → World → List Choice → ℕ
 block_lines sheet symbols world choices first =
     names_line sheet symbols world first ∷ choice_lines sheet symbols first world choices
 
--- the block of this number that isn't the last: an empty line stands behind it
+-- the block of this number, if it isn't the last: an empty line follows it
 abbrev pub other_block : Sheet → SymbolTable → World → List Choice → ℕ → List (List ℕ)
 other_block sheet symbols world choices n = block_lines sheet symbols world choices (n * sheet.beside) ++ ([] ∷ [])
 
--- what is made of each number, from this one on, so many of them
+-- what is made for so many numbers, from this one on
 abbrev pub each_from : {A : Type 0} → (ℕ → List A) → ℕ → ℕ → List A
 each_from made n zero = []
 each_from made n (suc left) = made n ++ each_from made (n + 1) left
 
 -- ---- who waits at the end, and who died
 
--- how many have arrived, of how many
+-- how many parties have arrived, and how many there are
 abbrev pub arrived_text : ℕ → ℕ → List ℕ
 arrived_text arrived parties =
     codes " (" ++ (decimal arrived ++ (codes " of " ++ (decimal parties ++ codes " arrived)")))
 
--- the same behind the name of a phaser further up
+-- the same after the name of a phaser above
 abbrev pub above_text : ℕ → ℕ → List ℕ
 above_text arrived parties = codes ": " ++ (decimal arrived ++ (codes " of " ++ (decimal parties ++ codes ")")))
 
@@ -134,7 +134,7 @@ abbrev pub barrier_arrived : Option BarrierState → List ℕ
 barrier_arrived None = []
 barrier_arrived (Some barrier) = arrived_text (number_waiting barrier) barrier.parties
 
--- a phaser whose parties have all arrived has arrived at its parent: who is missing is missing there, or further up
+-- if all parties of a phaser have arrived, it has arrived at its parent, and a party is missing there or further up
 abbrev pub have_all_arrived : Flat → Bool
 have_all_arrived flat = not flat.ended && (not (flat.parties == 0) && (flat.arrived == flat.parties))
 
@@ -145,29 +145,29 @@ missing_above phasers p (suc levels) =
     then elim (slice_get (phaser_at phasers p).line 1) [ None ↦ p | Some parent ↦ missing_above phasers parent levels ]
     else p
 
--- where somebody is missing for whom a thread at this phaser waits; a tree has 8 levels at most
+-- the phaser at which the party is missing that a thread at this phaser waits for; a tree has at most 8 levels
 abbrev pub missing_for : List PhaserState → ℕ → ℕ
 missing_for phasers p = missing_above phasers p 8
 
--- the room of a name: two of them fit into a line beside all else
+-- the most bytes of a name: two of them fit into a line with everything else
 abbrev pub name_room : Sheet → ℕ
 name_room sheet = (sheet.width - 46) / 2
 
 abbrev pub place_name : Sheet → SymbolTable → OperandKind → ℕ → List ℕ
 place_name sheet symbols k number = shortened (name_room sheet) (called symbols k number)
 
--- who has arrived at a phaser, where that is the one at which somebody is missing, else the name of that one
+-- how many have arrived at a phaser, if a party is missing here, or else the name of the phaser where one is missing
 abbrev pub arrived_at : Sheet → SymbolTable → List PhaserState → ℕ → ℕ → List ℕ
 arrived_at sheet symbols phasers p at =
     if at == p then arrived_text (flat_at phasers p).arrived (flat_at phasers p).parties
     else codes " (arrived at " ++ place_name sheet symbols kind.Phaser at
 
--- behind that name, who has arrived there
+-- after that name, how many have arrived there
 abbrev pub arrived_above : List PhaserState → ℕ → ℕ → List ℕ
 arrived_above phasers p at =
     if at == p then [] else above_text (flat_at phasers at).arrived (flat_at phasers at).parties
 
--- a phaser, or a barrier, and who has arrived there
+-- a phaser or a barrier, and how many have arrived there
 abbrev pub at_phaser : Sheet → SymbolTable → List PhaserState → ℕ → List ℕ
 at_phaser sheet symbols phasers p =
     place_name sheet symbols kind.Phaser p
@@ -181,7 +181,7 @@ behind_phaser phasers p =
 abbrev pub at_barrier : Sheet → SymbolTable → Scene → ℕ → List ℕ
 at_barrier sheet symbols scene b = place_name sheet symbols kind.Barrier b ++ barrier_arrived (slice_get scene.barriers b)
 
--- what a thread waits at that stands at this row
+-- what a thread at this row waits at
 abbrev pub awaited_text : Sheet → SymbolTable → Scene → Row → List ℕ
 awaited_text sheet symbols scene (Paaa into phaser) = at_phaser sheet symbols scene.phasers phaser
 awaited_text sheet symbols scene (Pawait into phaser phase) = at_phaser sheet symbols scene.phasers phaser
@@ -198,7 +198,7 @@ behind_text scene (Pawaiti into phaser phase) = behind_phaser scene.phasers phas
 behind_text scene (Pawaitt into phaser phase timeout) = behind_phaser scene.phasers phaser
 behind_text scene _ = []
 
--- whether its wait can end, or run out, or whether the program is stuck
+-- whether the thread's wait can end, whether its time can run out, or whether the program is stuck
 abbrev pub hope_text : World → ℕ → List ℕ
 hope_text world t =
     if is_ready t world.program world.scene then codes ": can go on"
@@ -208,7 +208,7 @@ hope_text world t =
 abbrev pub thread_caption : Sheet → SymbolTable → ℕ → List ℕ
 thread_caption sheet symbols t = shortened (name_room sheet) (called symbols kind.Thread t)
 
--- the line of a thread that waits: the names in it are cut where it is too long
+-- the line of a thread that waits: if it is too long, the names in it are cut
 abbrev pub waiting_line : Sheet → SymbolTable → World → ℕ → List ℕ
 waiting_line sheet symbols world t =
     let row = row_at world.program.rows (thread_at world.scene t).pc in
@@ -229,7 +229,7 @@ closing_by sheet symbols world t _ = []
 abbrev pub closing_of : Sheet → SymbolTable → World → ℕ → List (List ℕ)
 closing_of sheet symbols world t = closing_by sheet symbols world t (thread_at world.scene t).status
 
--- the same of all threads
+-- the same for all threads
 abbrev pub closing_lines : Sheet → SymbolTable → World → List (List ℕ)
 closing_lines sheet symbols world = each_from (closing_of sheet symbols world) 0 (length world.scene.threads)
 
@@ -243,19 +243,19 @@ lines_on sheet symbols world choices =
     ++ (block_lines sheet symbols world choices (others * sheet.beside)
     ++ closing_lines sheet symbols (execution world choices).world)
 
--- a line as it is written: what stands in its width, and its end
+-- a line as it is written: cut at the width, and with a line end
 abbrev pub written_line : ℕ → List ℕ → List ℕ
 written_line width line = take width line ++ codes "\n"
 
 abbrev pub lines_text : ℕ → List (List ℕ) → List ℕ
 lines_text width lines = flat_map (written_line width) lines
 
--- the picture of a run of these choices from this world on
+-- the picture of a run that begins at this world with these choices
 abbrev pub picture : ℕ → SymbolTable → World → List Choice → List ℕ
 picture width symbols world choices =
     lines_text width (lines_on (sheet_of width (length world.scene.threads)) symbols world choices)
 
--- the picture of an image's program, from its beginning on
+-- the picture of an image's program, from its first world on
 abbrev pub IsPictureOf : Image → ℕ → SymbolTable → List Choice → List ℕ → Type 0
 IsPictureOf image width symbols choices text =
     (world : World) × (Begins image world × (text ≡ picture width symbols world choices))

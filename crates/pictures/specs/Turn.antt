@@ -1,4 +1,4 @@
--- What a choice is told as: in the column of its thread, and behind the columns.
+-- What a choice is shown as: in the column of its thread, and after the columns.
 use Rattle.std.specs.Prelude.{ℕ, ℤ, pos, negsuc, Bool, true, false, if◌then◌else◌, List, [], ◌++◌, codes, decimal}
 use Rattle.assembler.specs.Symbols.{SymbolTable}
 use Rattle.instruction_table.specs.declared.shape.OperandKind.TheVariants as kind
@@ -12,8 +12,8 @@ use Rattle.trace_text.specs.Lines.{what_text}
 use Rattle.pictures.specs.Caption.{called}
 use Rattle.pictures.specs.Sheet.{kept_behind, shortened}
 
--- a row that was done, met an exception, or begins to wait or to run a routine is shown, with its answer behind it;
--- what else a choice did isn't its row's
+-- a row is shown if it was done, threw an exception, or began to wait or to run a routine; its result follows. Everything else
+-- that a choice can do isn't done by the row.
 abbrev pub shows_row : What → Bool
 shows_row what.Done = true
 shows_row (what.Value value) = true
@@ -22,19 +22,19 @@ shows_row (what.Throws code) = true
 shows_row what.Enters = true
 shows_row _ = false
 
--- the answer, as in a trace: none of a row that gives none
+-- the result, as in a trace, or nothing if the row has none
 abbrev pub answer_text : What → List ℕ
 answer_text what.Done = []
 answer_text w = codes " " ++ what_text w
 
--- what stands in the column of the thread whose turn it was, or whose timed wait ran out
+-- what stands in the column of the thread that had the turn, or whose timed wait expired
 abbrev pub turn_text : ℕ → List ℕ → Bool → What → List ℕ
 turn_text room row expiry w =
     if expiry then kept_behind room (codes "expiry") (answer_text w)
     else (if shows_row w then kept_behind room row (answer_text w) else shortened room (what_text w))
 
--- how a thread stands when it isn't its turn: `#` it waits, `:` its wait can end, `|` it runs, `!` an exception is on its
--- way; nothing once it has ended or died
+-- the sign of a thread that didn't have the turn: `#` if it waits, `:` if its wait can end, `|` if it runs, `!` if it throws;
+-- nothing if it has ended or died
 abbrev pub standing : Bool → Status → List ℕ
 standing ready status.Runs = codes "|"
 standing ready (status.Throws code) = codes "!"
@@ -43,8 +43,8 @@ standing ready (status.AwaitsBarrier index) = if ready then codes ":" else codes
 standing ready status.Ended = []
 standing ready (status.Died code) = []
 
--- what a choice did beside its own thread: of what, and what became of it. A view below 0 is that of a phaser which is
--- terminated.
+-- what a choice changed besides its own thread: the phaser or barrier, and what happened to it. A phase below 0 means that the
+-- phaser is terminated.
 abbrev pub marked : SymbolTable → Mark → List ℕ
 marked symbols mark.Nothing = []
 marked symbols (mark.Phase root view) = called symbols kind.Phaser root

@@ -1,4 +1,4 @@
-//! What is shown of a machine without the numbers of its place in a run.
+//! The text of a machine that doesn't depend on its place in a run.
 ghost use Rattle.std.specs.Prelude.{◌≡◌, ◌++◌, ◌<◌, length, IfOk, OnOk};
 ghost use Rattle.machine_scene.specs.Scene.{scene_of, thread_at};
 ghost use Rattle.pictures.specs.Others.{bare, bare_state, bare_what_if, bare_what_if_of, behind_first};
@@ -12,7 +12,7 @@ use std::alloc::{AllocError, Global};
 use thread_machine::{Choice, Machine, Undo};
 use trace_text::state::state_text;
 
-/// What stands behind the first such byte.
+/// Returns what follows the first of these bytes, or nothing if there is none.
 fn behind_first(byte: u8, text: &[u8]) -> &[u8]
     ensures { result.now ≡ behind_first byte text.now }
 {
@@ -20,7 +20,7 @@ fn behind_first(byte: u8, text: &[u8]) -> &[u8]
     &text[end..]
 }
 
-/// The state of a machine.
+/// Returns the machine's state without its counts.
 fn bare_state(alloc: Global, machine: &Machine) -> Result<Vec<u8>, AllocError>
     ensures { IfOk result (λ text. text.items ≡ bare_state (world_of machine.now)) }
 {
@@ -32,7 +32,7 @@ fn bare_state(alloc: Global, machine: &Machine) -> Result<Vec<u8>, AllocError>
     Ok(text)
 }
 
-/// Adds what a choice would do as the next one.
+/// Appends what a choice would do next, if it can take a step.
 fn add_bare_what_if(
     alloc: Global,
     text: &mut Vec<u8>,
@@ -53,7 +53,7 @@ fn add_bare_what_if(
     text.extend_from_slice(behind_first(b' ', line.as_slice()))
 }
 
-/// Adds what each of a thread's two choices would do.
+/// Appends what a turn of the thread would do, and what an expiry of its wait would do.
 fn add_bare_what_if_of(
     alloc: Global,
     text: &mut Vec<u8>,
@@ -78,7 +78,7 @@ fn add_bare_what_if_of(
     add_bare_what_if(alloc, text, machine, expiry, undo)
 }
 
-/// Adds what each choice of each thread would do.
+/// Appends what the two choices of each thread would do.
 #[tactic(auto, using(trace_text::proofs::Traces::text_steps))]
 fn add_bare_what_ifs(
     alloc: Global,
@@ -96,7 +96,8 @@ fn add_bare_what_ifs(
     Ok(())
 }
 
-/// What is shown of a machine, which is the same after it, without the numbers of its place in a run.
+/// Returns the text of a machine that doesn't depend on its place in a run. It plays choices and takes them back, so the
+/// machine is the same afterwards.
 #[tactic(auto, unfolding(crate::specs::Others::bare))]
 pub fn bare(alloc: Global, machine: &mut Machine) -> Result<Moment, AllocError>
     ensures text { IfOk result (λ moment. moment.text.items ≡ bare (world_of machine.old)) }

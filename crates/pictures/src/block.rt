@@ -1,4 +1,4 @@
-// A block of threads over the whole run.
+// Draws a block: some threads side by side, over the whole run.
 ghost use Rattle.std.specs.Prelude.{◌≡◌, ◌++◌, ◌<◌, length, IfOk, OnOk};
 ghost use Rattle.thread_machine.specs.Execution.{execution};
 ghost use Rattle.thread_machine.specs.World.{world_of};
@@ -17,7 +17,7 @@ use instruction_table::Row;
 use std::alloc::{AllocError, Global};
 use thread_machine::{Choice, Event, Machine, StepFault};
 
-/// What a thread at this row did, in its column.
+/// Returns what stands in a thread's column: the row, and what it did.
 fn did(pen: &Pen<'_, '_>, choice: Choice, row: Row, event: &Event) -> Result<Vec<u8>, AllocError>
     ensures { IfOk result (λ text. text.items ≡ turn_text (column_room pen.now.sheet) (row_caption pen.now.symbols.now row)
         choice.expiry event.now.what) }
@@ -33,7 +33,7 @@ fn did(pen: &Pen<'_, '_>, choice: Choice, row: Row, event: &Event) -> Result<Vec
     )
 }
 
-/// The line of a choice that was played by a thread at this row, behind which the machine stands so.
+/// Returns the line of a choice that was played. The thread was at `row`, and `machine` is the machine after the choice.
 fn played_line(
     pen: &Pen<'_, '_>,
     machine: &Machine,
@@ -61,7 +61,7 @@ fn played_line(
     )
 }
 
-/// Why a choice is refused.
+/// Returns why a choice is refused, if the column doesn't show it: there is no such thread.
 fn refused_words(alloc: Global, why: StepFault, thread: u8) -> Result<Vec<u8>, AllocError>
     ensures { IfOk result (λ text. text.items ≡ refused_words why thread) }
 {
@@ -73,7 +73,7 @@ fn refused_words(alloc: Global, why: StepFault, thread: u8) -> Result<Vec<u8>, A
     Ok(words)
 }
 
-/// The line of a choice that this machine refuses.
+/// Returns the line of a choice that this machine refuses.
 fn refused_line(
     pen: &Pen<'_, '_>,
     machine: &Machine,
@@ -98,7 +98,7 @@ fn refused_line(
     )
 }
 
-/// Plays a choice of a thread that is there, and draws it; whether it was accepted.
+/// Plays a choice of a thread of the program, and draws its line. Returns whether the choice was accepted.
 fn draw_turn(
     pen: &Pen<'_, '_>,
     text: &mut Vec<u8>,
@@ -123,12 +123,12 @@ fn draw_turn(
             push_line(text, pen.sheet.width, line.as_slice())?;
             Ok(false)
         }
-        // The thread is there, so it is memory that is wanting.
+        // The thread exists, so this is out of memory.
         Err(StepFault::Memory | StepFault::NoSuchThread) => Err(AllocError),
     }
 }
 
-/// Plays a choice, and draws it; whether it was accepted.
+/// Plays a choice, and draws its line. Returns whether the choice was accepted.
 fn draw_choice(
     pen: &Pen<'_, '_>,
     text: &mut Vec<u8>,
@@ -147,7 +147,7 @@ fn draw_choice(
     Ok(false)
 }
 
-/// Plays the choices in order, up to the first that is refused, and draws them.
+/// Plays the choices in order, up to the first that is refused, and draws a line for each.
 fn draw_choices(
     pen: &Pen<'_, '_>,
     text: &mut Vec<u8>,
@@ -166,7 +166,7 @@ fn draw_choices(
     Ok(())
 }
 
-/// Draws the block that begins with this thread.
+/// Draws the block whose first thread is `first`.
 pub fn draw_block(
     pen: &Pen<'_, '_>,
     text: &mut Vec<u8>,

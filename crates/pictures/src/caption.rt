@@ -1,4 +1,4 @@
-// What the things of a program are called.
+// Names of the threads, phasers, barriers, cells and rows of a program.
 ghost use Rattle.std.specs.Prelude.{◌≡◌, ◌++◌, codes, OnOk};
 ghost use Rattle.line_reader.specs.Listing.{spaced};
 ghost use Rattle.pictures.specs.Caption.{called, letter, named_operands, row_caption};
@@ -9,7 +9,8 @@ use instruction_table::{OperandKind, Row, row_shape};
 use row_code::fields_of;
 use std::alloc::AllocError;
 
-/// What stands before the number of a thing that has no name.
+/// Returns what stands before the number of something without a name: `t` for a thread, `p` for a phaser, `b` for a barrier,
+/// `c` for a cell, and `#` for a row.
 fn letter(kind: OperandKind) -> &'static [u8]
     ensures { result.now ≡ letter kind }
 {
@@ -22,7 +23,7 @@ fn letter(kind: OperandKind) -> &'static [u8]
     }
 }
 
-/// Adds what a thing is called.
+/// Appends the name of something, or its letter and number if it has no name.
 pub fn push_called(
     text: &mut Vec<u8>,
     symbols: &Symbols,
@@ -37,7 +38,7 @@ pub fn push_called(
     }
 }
 
-/// Adds a space, and what a thing of this kind and number is called.
+/// Appends a space and the name.
 fn push_operand(
     text: &mut Vec<u8>,
     symbols: &Symbols,
@@ -50,7 +51,7 @@ fn push_operand(
     push_called(text, symbols, kind, number)
 }
 
-/// The operands of these kinds; a register that is missing ends them.
+/// Appends the operands of these kinds. It stops at a register that isn't given.
 #[tactic(auto, using(line_reader::proofs::ListedTexts::operand_steps))]
 fn push_operands(
     text: &mut Vec<u8>,
@@ -79,7 +80,7 @@ fn push_operands(
     Ok(())
 }
 
-/// Adds a row with the names of its operands.
+/// Appends a row as a program text would have it, with the names of its operands.
 pub fn push_row(text: &mut Vec<u8>, symbols: &Symbols, row: Row) -> Result<(), AllocError>
     ensures { OnOk result (text.new.items ≡ text.old.items ++ row_caption symbols.now row) }
 {

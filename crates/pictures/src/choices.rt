@@ -11,10 +11,10 @@ use schedule_reader::{Run, ScheduleFault, read_schedule};
 use std::alloc::Global;
 use thread_machine::Choice;
 
-/// How many choices a page shows at most.
+/// The most choices that a page shows.
 pub const MOST_CHOICES: usize = 2000;
 
-/// What is told of a schedule's fault.
+/// Returns the page's fault for a schedule's fault.
 fn fault_of(fault: ScheduleFault) -> PageFault
     ensures schedule { (told : ScheduleFault) → result ≡ PageFault.Schedule told
         → (told ≡ fault) × (fault ≢ ScheduleFault.Memory) }
@@ -26,7 +26,7 @@ fn fault_of(fault: ScheduleFault) -> PageFault
     }
 }
 
-/// The runs of a schedule that has no fault.
+/// Returns the runs of a schedule, or its fault.
 fn runs_in(alloc: Global, schedule: &[u8]) -> Result<Vec<Run>, PageFault>
     requires { length schedule.now < 9223372036854775807 }
     ensures runs { IfOk result (λ runs. finished_schedule schedule.now ≡ record { runs = runs.items; fault = None }) }
@@ -40,7 +40,7 @@ fn runs_in(alloc: Global, schedule: &[u8]) -> Result<Vec<Run>, PageFault>
     }
 }
 
-/// Adds the choices of a run, `Choices` where there are too many then.
+/// Appends the choices of a run. Returns `Choices` if they are too many then.
 fn add_run(choices: &mut Vec<Choice>, run: Run) -> Result<(), PageFault>
     requires { length choices.old.items ≤ most_choices }
     ensures choices { OnOk result (choices.new.items ≡ choices.old.items ++ replicate run.times run.choice) }
@@ -56,7 +56,7 @@ fn add_run(choices: &mut Vec<Choice>, run: Run) -> Result<(), PageFault>
     Ok(())
 }
 
-/// The choices of these runs, `Choices` where there are too many.
+/// Returns the choices of these runs, or `Choices` if they are too many.
 #[tactic(auto, using(trace_text::proofs::Traces::text_steps))]
 fn choices_of(alloc: Global, runs: &[Run]) -> Result<Vec<Choice>, PageFault>
     ensures choices { IfOk result (λ choices. choices.items ≡ choices_of runs.now) }
@@ -71,7 +71,7 @@ fn choices_of(alloc: Global, runs: &[Run]) -> Result<Vec<Choice>, PageFault>
     Ok(choices)
 }
 
-/// The choices of a whole schedule.
+/// Returns the choices of a schedule's text, or the schedule's fault, or `Choices` if there are more than 2,000.
 pub fn choices_in(alloc: Global, schedule: &[u8]) -> Result<Vec<Choice>, PageFault>
     requires { length schedule.now < 9223372036854775807 }
     ensures choices { IfOk result (λ choices. AreChoicesOf schedule.now choices.items) }

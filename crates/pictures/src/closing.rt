@@ -1,4 +1,4 @@
-// Who waits at the end, and who died.
+// The last lines of a picture: who waits at the end, and who died.
 ghost use Rattle.std.specs.Prelude.{◌≡◌, ◌++◌, ◌<◌, length, slice_get, IfOk, OnOk};
 ghost use Rattle.machine_scene.specs.Scene.{scene_of};
 ghost use Rattle.thread_machine.specs.World.{world_of};
@@ -17,7 +17,7 @@ use std::alloc::AllocError;
 use thread_machine::{Machine, Status};
 use tier_tree::{Forest, PhaserId};
 
-/// Adds how many have arrived, of how many.
+/// Appends how many parties have arrived, and how many there are.
 fn push_arrived(text: &mut Vec<u8>, arrived: u16, parties: u16) -> Result<(), AllocError>
     ensures { OnOk result (text.new.items ≡ text.old.items ++ arrived_text arrived parties) }
 {
@@ -26,7 +26,7 @@ fn push_arrived(text: &mut Vec<u8>, arrived: u16, parties: u16) -> Result<(), Al
     text.extend_from_slice(b" arrived)")
 }
 
-/// Adds how many have arrived, of how many, behind the name of a phaser further up.
+/// Appends the same after the name of a phaser above.
 fn push_arrived_above(text: &mut Vec<u8>, arrived: u16, parties: u16) -> Result<(), AllocError>
     ensures { OnOk result (text.new.items ≡ text.old.items ++ above_text arrived parties) }
 {
@@ -35,7 +35,7 @@ fn push_arrived_above(text: &mut Vec<u8>, arrived: u16, parties: u16) -> Result<
     text.extend_from_slice(b")")
 }
 
-/// Whether all parties of a phaser have arrived, which has arrived at its parent then.
+/// Returns whether all parties of a phaser have arrived. If so, it has arrived at its parent.
 fn have_all_arrived(forest: &Forest, id: PhaserId) -> bool
     requires { id.0 < length forest.now }
     ensures { result ≡ have_all_arrived (flat_at (phasers_of forest.now) id.0) }
@@ -44,7 +44,8 @@ fn have_all_arrived(forest: &Forest, id: PhaserId) -> bool
     !forest.is_terminated(id) && parties != 0 && forest.arrived(id) == parties
 }
 
-/// The phaser at which somebody is missing for whom a thread at this one waits: the phaser itself, or one further up.
+/// Returns the phaser that a thread at this phaser really waits for: this phaser if a party of it is missing, or else the first
+/// one above with a missing party.
 fn missing_for(forest: &Forest, id: PhaserId) -> PhaserId
     requires { id.0 < length forest.now }
     ensures phaser { result.0 ≡ missing_for (phasers_of forest.now) id.0 }
@@ -65,8 +66,8 @@ fn missing_for(forest: &Forest, id: PhaserId) -> PhaserId
     at
 }
 
-/// Adds who has arrived at a phaser that is there, where somebody is missing at that one, else the name of this one, and behind
-/// it who has arrived there.
+/// Appends to `front` how many have arrived at this phaser, if a party is missing here. If one is missing further up, appends
+/// to `front` the name of that phaser, and to `back` how many have arrived there.
 fn push_arrived_at(
     pen: &Pen<'_, '_>,
     front: &mut Vec<u8>,
@@ -89,7 +90,7 @@ fn push_arrived_at(
     push_arrived_above(back, forest.arrived(at), forest.parties(at))
 }
 
-/// Adds a phaser and who has arrived there, or further up.
+/// Appends a phaser's name, and how many have arrived there or further up.
 fn push_phaser(
     pen: &Pen<'_, '_>,
     front: &mut Vec<u8>,
@@ -109,7 +110,7 @@ fn push_phaser(
     push_arrived_at(pen, front, back, forest, PhaserId(number as u8))
 }
 
-/// Adds how many have arrived at a barrier, of how many.
+/// Appends how many parties have arrived at a barrier, and how many there are.
 fn push_barrier_arrived(
     text: &mut Vec<u8>,
     machine: &Machine,
@@ -125,7 +126,7 @@ fn push_barrier_arrived(
     push_arrived(text, barrier.number_waiting(), barrier.parties())
 }
 
-/// Adds what a thing is called, in the room of a name.
+/// Appends a name, shortened to the width that a name may have in such a line.
 fn push_name(
     pen: &Pen<'_, '_>,
     text: &mut Vec<u8>,
@@ -141,7 +142,7 @@ fn push_name(
     text.extend_from_slice(name.as_slice())
 }
 
-/// Adds what a thread waits at that stands at this row, and behind it how many have arrived further up.
+/// Appends to `front` what a thread at this row waits at, and to `back` how many have arrived further up.
 fn push_awaited(
     pen: &Pen<'_, '_>,
     front: &mut Vec<u8>,
@@ -166,7 +167,7 @@ fn push_awaited(
     }
 }
 
-/// Whether a thread's wait can end, or run out, or whether the program is stuck.
+/// Returns whether a waiting thread can go on, whether its time can run out, or whether the program is stuck.
 fn hope(machine: &Machine, thread: u8) -> &'static [u8]
     requires { thread < length machine.now.scene.threads }
     ensures { result.now ≡ hope_text (world_of machine.now) thread }
@@ -182,7 +183,7 @@ fn hope(machine: &Machine, thread: u8) -> &'static [u8]
     }
 }
 
-/// The line of a thread that waits.
+/// Returns the line of a thread that waits.
 fn waiting_line(pen: &Pen<'_, '_>, machine: &Machine, thread: u8) -> Result<Vec<u8>, AllocError>
     requires { thread < length machine.now.scene.threads }
     ensures { IfOk result (λ line. line.items ≡ waiting_line pen.now.sheet pen.now.symbols.now (world_of machine.now) thread) }
@@ -202,7 +203,7 @@ fn waiting_line(pen: &Pen<'_, '_>, machine: &Machine, thread: u8) -> Result<Vec<
     )
 }
 
-/// The line of a thread that died of an exception.
+/// Returns the line of a thread that died of an exception.
 fn dead_line(pen: &Pen<'_, '_>, thread: u8, code: i32) -> Result<Vec<u8>, AllocError>
     ensures { IfOk result (λ line. line.items ≡ dead_line pen.now.sheet pen.now.symbols.now thread code) }
 {
@@ -213,7 +214,7 @@ fn dead_line(pen: &Pen<'_, '_>, thread: u8, code: i32) -> Result<Vec<u8>, AllocE
     Ok(line)
 }
 
-/// Adds the line of a thread, where it waits or died.
+/// Appends the line of a thread that waits or died, and nothing for any other.
 fn push_closing(
     pen: &Pen<'_, '_>,
     text: &mut Vec<u8>,
@@ -237,7 +238,7 @@ fn push_closing(
     }
 }
 
-/// Adds the lines of the threads that wait or died.
+/// Appends the lines of the threads that wait or died.
 #[tactic(auto, using(crate::proofs::Cells::closing_steps))]
 pub fn push_closings(
     pen: &Pen<'_, '_>,

@@ -3,7 +3,7 @@ ghost use Rattle.pictures.specs.Page.{escaped, escaped_byte};
 
 use std::alloc::AllocError;
 
-/// Adds a byte as it stands in a page.
+/// Appends a byte as a page has it: `&`, `<`, `>` and CR as entities.
 fn add_byte(text: &mut Vec<u8>, byte: u8) -> Result<(), AllocError>
     ensures { OnOk result (text.new.items ≡ text.old.items ++ escaped_byte byte) }
 {
@@ -16,7 +16,7 @@ fn add_byte(text: &mut Vec<u8>, byte: u8) -> Result<(), AllocError>
     }
 }
 
-/// Adds a text as it stands in a page.
+/// Appends a text as a page has it.
 #[tactic(auto, using(trace_text::proofs::Traces::text_steps))]
 pub fn add_escaped(text: &mut Vec<u8>, bytes: &[u8]) -> Result<(), AllocError>
     ensures { OnOk result (text.new.items ≡ text.old.items ++ escaped bytes.now) }

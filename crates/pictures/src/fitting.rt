@@ -1,4 +1,4 @@
-// Texts that are fitted into a room, and put at their place in a line.
+// Fits texts into a width, and puts them at a column of a line.
 ghost use Rattle.std.specs.Prelude.{◌≡◌, ◌++◌, ◌<◌, ◌-◌, codes, length, take, IfOk, OnOk};
 ghost use Rattle.std.specs.Fmt.{decimal, signed_decimal};
 ghost use Rattle.pictures.specs.Sheet.{blanks, kept_behind, number_text, put_at, shortened};
@@ -6,7 +6,7 @@ ghost use Rattle.pictures.specs.Sheet.{blanks, kept_behind, number_text, put_at,
 use itoa::Buffer;
 use std::alloc::{AllocError, Global};
 
-/// Adds so many blanks.
+/// Appends so many blanks.
 fn push_blanks(text: &mut Vec<u8>, count: usize) -> Result<(), AllocError>
     ensures { OnOk result (text.new.items ≡ text.old.items ++ blanks count) }
 {
@@ -18,7 +18,7 @@ fn push_blanks(text: &mut Vec<u8>, count: usize) -> Result<(), AllocError>
     Ok(())
 }
 
-/// Adds a word and a number that is never below 0.
+/// Appends a word and an unsigned number.
 pub fn push_count(text: &mut Vec<u8>, word: &[u8], count: u64) -> Result<(), AllocError>
     ensures { OnOk result (text.new.items ≡ text.old.items ++ (word.now ++ decimal count)) }
 {
@@ -26,7 +26,7 @@ pub fn push_count(text: &mut Vec<u8>, word: &[u8], count: u64) -> Result<(), All
     text.extend_from_slice(Buffer::new().format(count).as_bytes())
 }
 
-/// Adds a word and a number.
+/// Appends a word and a signed number.
 pub fn push_value(text: &mut Vec<u8>, word: &[u8], value: i32) -> Result<(), AllocError>
     ensures { OnOk result (text.new.items ≡ text.old.items ++ (word.now ++ signed_decimal value)) }
 {
@@ -34,7 +34,7 @@ pub fn push_value(text: &mut Vec<u8>, word: &[u8], value: i32) -> Result<(), All
     text.extend_from_slice(Buffer::new().format(value).as_bytes())
 }
 
-/// Adds the number of a choice.
+/// Appends the number of a choice, at the right of six columns.
 pub fn push_number(text: &mut Vec<u8>, number: u64) -> Result<(), AllocError>
     ensures { OnOk result (text.new.items ≡ text.old.items ++ number_text number) }
 {
@@ -44,7 +44,7 @@ pub fn push_number(text: &mut Vec<u8>, number: u64) -> Result<(), AllocError>
     text.extend_from_slice(digits)
 }
 
-/// The beginning of a text that is longer than a room, with its mark.
+/// Returns the beginning of a text that is too long for `room`, with `~` as its last byte.
 fn cut(alloc: Global, room: usize, bytes: &[u8]) -> Result<Vec<u8>, AllocError>
     requires { room < length bytes.now }
     ensures { IfOk result (λ text. text.items ≡ take room (take (room - 1) bytes.now ++ codes "~")) }
@@ -55,7 +55,7 @@ fn cut(alloc: Global, room: usize, bytes: &[u8]) -> Result<Vec<u8>, AllocError>
     Ok(text)
 }
 
-/// A text in a room.
+/// Returns the text if it is at most `room` bytes long, and else its beginning and `~`.
 pub fn shortened(alloc: Global, room: usize, bytes: &[u8]) -> Result<Vec<u8>, AllocError>
     ensures { IfOk result (λ text. text.items ≡ shortened room bytes.now) }
 {
@@ -66,7 +66,7 @@ pub fn shortened(alloc: Global, room: usize, bytes: &[u8]) -> Result<Vec<u8>, Al
     }
 }
 
-/// A text and another behind it in a room, of which the first is shortened.
+/// Returns `front` and `back` in at most `room` bytes. If they don't fit, `front` is shortened first.
 pub fn kept_behind(
     alloc: Global,
     room: usize,
@@ -80,7 +80,7 @@ pub fn kept_behind(
     shortened(alloc, room, text.as_slice())
 }
 
-/// Puts a text at a column of a line.
+/// Appends a text at a column of the line, after blanks. An empty text adds nothing.
 pub fn put_at(line: &mut Vec<u8>, column: usize, text: &[u8]) -> Result<(), AllocError>
     ensures { OnOk result (line.new.items ≡ put_at column text.now line.old.items) }
 {

@@ -1,4 +1,4 @@
-//! The moments that are known, by their texts.
+//! The moments that a page has numbered, found by their texts.
 ghost use Rattle.std.specs.Prelude.{◌≡◌, ◌≤◌, ◌∷◌, [], OnOk, bytes_eq, length};
 ghost use Rattle.std.proofs.Common.{rules};
 ghost use Rattle.std.specs.Cmp.Rules.{comparing, hashing};
@@ -9,7 +9,7 @@ use std::alloc::{AllocError, Global};
 use std::hash::{Hash, Hasher};
 use std::marker::Model;
 
-/// A moment, by its text without the numbers of its place.
+/// A moment: the text of a machine that doesn't depend on its place in a run.
 #[derive(Drop)]
 pub struct Moment {
     pub text: Vec<u8>,
@@ -39,7 +39,7 @@ impl Hash for Moment {
     }
 }
 
-/// Moments in the order of their numbers.
+/// Known moments in the order of their numbers.
 #[derive(Drop)]
 pub struct Known {
     moments: IndexSet<Moment>,
@@ -57,7 +57,7 @@ impl Model for Known {
 }
 
 impl Known {
-    /// No moment.
+    /// Returns an empty set.
     pub fn new(alloc: Global) -> Known
         ensures { result ≡ [] }
     {
@@ -66,14 +66,14 @@ impl Known {
         }
     }
 
-    /// How many are known.
+    /// Returns how many moments are known.
     pub fn len(&self) -> usize
         ensures { result ≡ length self.now }
     {
         self.moments.len()
     }
 
-    /// The number of a moment: the next one, where it isn't known.
+    /// Returns the number of a moment, or the next free number if it isn't known.
     pub fn number_of(&self, moment: &Moment) -> usize
         ensures number { result ≡ number_of self.now moment.now.text.items }
         ensures within { result ≤ length self.now }
@@ -84,7 +84,7 @@ impl Known {
         }
     }
 
-    /// Makes a moment known.
+    /// Adds a moment, unless it is known.
     pub fn add(&mut self, moment: Moment) -> Result<(), AllocError>
         ensures { OnOk result (self.new ≡ now_known self.old moment.text.items) }
     {

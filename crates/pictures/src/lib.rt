@@ -1,9 +1,11 @@
-//! A run as a picture: a page that any browser opens, with no network, and a text for a terminal.
+//! Shows a run: as a page that any browser opens without a network, and as a text for a terminal.
 //!
-//! Between fixed parts of a page stand four texts, proved to be of just this program and schedule: the listing, the source, the
-//! run, and the other runs (`specs/Others.antt`). The page's script draws them and plays nothing. `bin/made` makes the constants of `fixed` of the sources in
-//! `page/`. `picture` answers exactly the text that `specs/Picture.antt` defines, a column for each thread and a line for each
-//! choice; threads that don't fit side by side stand in further blocks.
+//! A page has fixed parts and four texts between them: the listing, the source, the run, and the other runs
+//! (`specs/Others.antt`). They are proved to be those of the program and the schedule. The page's script draws them, and plays
+//! nothing. `bin/made` makes the fixed parts, `src/fixed.rt`, from the sources in `page/`.
+//!
+//! A text for a terminal is exactly what `specs/Picture.antt` defines: a column for each thread, and a line for each choice.
+//! Threads that don't fit side by side get another block.
 #![tactic(auto)]
 
 // The page.

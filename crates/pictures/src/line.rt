@@ -1,4 +1,4 @@
-// One line of a picture.
+// The lines of a picture.
 ghost use Rattle.std.specs.Prelude.{◌≡◌, ◌++◌, ◌+◌, ◌<◌, ◌≤◌, codes, length, IfOk, OnOk};
 ghost use Rattle.loader.specs.Program.{row_at};
 ghost use Rattle.machine_scene.specs.Scene.{thread_at};
@@ -13,7 +13,7 @@ use instruction_table::{OperandKind, Row};
 use std::alloc::AllocError;
 use thread_machine::Machine;
 
-/// The row that a thread stands at.
+/// Returns the row that a thread is at.
 pub fn row_of(machine: &Machine, thread: u8) -> Row
     requires { thread < length machine.now.scene.threads }
     ensures { let world = world_of machine.now in
@@ -22,7 +22,7 @@ pub fn row_of(machine: &Machine, thread: u8) -> Row
     machine.loaded().rows()[usize::from(machine.pc(thread))]
 }
 
-/// Adds a line as it is written: what stands in its width, and its end.
+/// Appends a line, cut at the width of the picture, and a line end.
 pub fn push_line(text: &mut Vec<u8>, width: u16, line: &[u8]) -> Result<(), AllocError>
     ensures { OnOk result (text.new.items ≡ text.old.items ++ written_line width line.now) }
 {
@@ -31,7 +31,7 @@ pub fn push_line(text: &mut Vec<u8>, width: u16, line: &[u8]) -> Result<(), Allo
     text.extend_from_slice(b"\n")
 }
 
-/// What stands in the column of a thread: what it did if it was its turn, else how it stands.
+/// Returns what stands in a thread's column: what it did if it had the turn, and else a sign for its status.
 fn cell<'a>(machine: &Machine, turn: u8, did: &'a [u8], thread: u8) -> &'a [u8]
     requires { thread < length machine.now.scene.threads }
     ensures { result.now ≡ cell_in (world_of machine.now) turn did.now thread }
@@ -43,7 +43,7 @@ fn cell<'a>(machine: &Machine, turn: u8, did: &'a [u8], thread: u8) -> &'a [u8]
     }
 }
 
-/// Puts the cells of a block behind what a line begins with.
+/// Appends the columns of a block to a line.
 #[tactic(auto, using(crate::proofs::Cells::cell_steps))]
 fn put_cells(
     pen: &Pen<'_, '_>,
@@ -63,7 +63,8 @@ fn put_cells(
     Ok(())
 }
 
-/// The line of a choice of this number behind which the machine stands so.
+/// Returns the line of a choice: its number, the columns, and what happened to phasers and barriers. `machine` is the machine
+/// after the choice.
 pub(crate) fn choice_line(
     pen: &Pen<'_, '_>,
     machine: &Machine,
@@ -83,7 +84,7 @@ pub(crate) fn choice_line(
     Ok(line)
 }
 
-/// The name of a thread in its column.
+/// Returns the name of a thread, shortened to its column.
 fn name_cell(pen: &Pen<'_, '_>, thread: u32) -> Result<Vec<u8>, AllocError>
     ensures { IfOk result (λ text. text.items ≡ name_cell pen.now.sheet pen.now.symbols.now thread) }
 {
@@ -92,7 +93,7 @@ fn name_cell(pen: &Pen<'_, '_>, thread: u32) -> Result<Vec<u8>, AllocError>
     shortened(pen.alloc, pen.sheet.column_room(), name.as_slice())
 }
 
-/// The names of a block's threads.
+/// Returns the line with the names of a block's threads.
 #[tactic(auto, using(crate::proofs::Cells::cell_steps))]
 pub(crate) fn names_line(
     pen: &Pen<'_, '_>,

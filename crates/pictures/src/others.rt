@@ -1,4 +1,4 @@
-//! The other runs of a page.
+//! The other runs of a page: for each choice that could be next but isn't, where it leads.
 ghost use Rattle.std.specs.Prelude.{◌≡◌, ◌<◌, ◌≤◌, ◌++◌, ◌==◌, not, replicate, codes, decimal, drop, if◌then◌else◌, is_none, length, nat_le, take, IfOk, OnOk};
 ghost use Rattle.machine_scene.specs.Scene.{scene_of};
 ghost use Rattle.pictures.specs.Others.{is_next, is_other, left_behind, most_choices, nothing_told, others_text, room_for, step_line, told_along, told_choice, told_here, told_text, told_thread, with_fork, with_moment, with_moments, with_other, with_step, with_steps};
@@ -18,23 +18,23 @@ use std::alloc::{AllocError, Global};
 use std::marker::Model;
 use thread_machine::{Choice, Machine, StepFault};
 
-/// How many bytes the other runs of a page have at most.
+/// The most bytes that the other runs of a page take.
 const MOST_BYTES: usize = 1_000_000;
-/// How many choices are played before the last of them begins.
+/// No other run begins after so many choices of other runs.
 const MOST_PLAYED: u32 = 20_000;
-/// How many bytes a moment has at most behind which more is told.
+/// After a moment that is longer, no further run begins.
 const MOST_MOMENT: usize = 6000;
-/// How many choices another run has at most more than the page's own.
+/// Another run has at most so many choices more than the page's own run.
 const MORE_CHOICES: u32 = 100;
 
-/// Whether a page tells of other runs than its own.
+/// Whether a page shows other runs than its own.
 #[derive(Clone, Copy, Debug, PartialEq, Eq)]
 pub enum OtherRuns {
     Told,
     LeftOut,
 }
 
-/// Plays a choice, unless it is refused; whether it was played.
+/// Plays a choice, unless it is refused. Returns whether it was played.
 fn play(machine: &mut Machine, choice: Choice) -> Result<bool, AllocError>
     ensures played { IfOk result (λ is_played. is_played ≡ is_none (refusal_of (world_of machine.old) choice)) }
     ensures world { IfOk result (λ is_played. world_of machine.new
@@ -47,7 +47,7 @@ fn play(machine: &mut Machine, choice: Choice) -> Result<bool, AllocError>
     }
 }
 
-/// Adds the choices of a run.
+/// Appends the choices of a run.
 fn add_times(choices: &mut Vec<Choice>, run: Run) -> Result<(), AllocError>
     ensures { OnOk result (choices.new.items ≡ choices.old.items ++ replicate run.times run.choice) }
 {
@@ -57,7 +57,7 @@ fn add_times(choices: &mut Vec<Choice>, run: Run) -> Result<(), AllocError>
     }
 }
 
-/// The choices of these runs.
+/// Returns the choices of these runs.
 #[tactic(auto, using(trace_text::proofs::Traces::text_steps))]
 fn choices_of(alloc: Global, runs: &[Run]) -> Result<Vec<Choice>, AllocError>
     ensures { IfOk result (λ choices. choices.items ≡ choices_of runs.now) }
@@ -69,7 +69,7 @@ fn choices_of(alloc: Global, runs: &[Run]) -> Result<Vec<Choice>, AllocError>
     Ok(choices)
 }
 
-/// Whether this choice is the next of a run's own.
+/// Returns whether the page's own run makes this choice next.
 fn is_next(own: &[Choice], choice: Choice) -> bool
     ensures { result ≡ is_next own.now choice }
 {
@@ -79,7 +79,7 @@ fn is_next(own: &[Choice], choice: Choice) -> bool
     }
 }
 
-/// Whether a choice could be next and isn't the run's own next one.
+/// Returns whether a choice could be next, but isn't the next choice of the page's own run.
 fn is_other(machine: &Machine, own: &[Choice], choice: Choice) -> bool
     requires { choice.thread < length machine.now.scene.threads }
     ensures { result ≡ is_other (world_of machine.now) own.now choice }
@@ -87,7 +87,7 @@ fn is_other(machine: &Machine, own: &[Choice], choice: Choice) -> bool
     is_ready(machine, choice) && !is_next(own, choice)
 }
 
-/// How many choices another run may have from where a machine stands.
+/// Returns how many choices another run may have from this machine on.
 fn room_for(machine: &Machine, own: &[Choice]) -> u32
     requires { length own.now ≤ most_choices }
     ensures { result ≡ room_for (world_of machine.now) own.now }
@@ -97,7 +97,7 @@ fn room_for(machine: &Machine, own: &[Choice]) -> u32
     longer.min(left as u32)
 }
 
-/// How many choices may be played for more behind a moment.
+/// Returns how many choices may still be played after this moment.
 fn left_behind(moment: &Moment, left: u32) -> u32
     ensures { result ≡ left_behind moment.now.text.items left }
 {
@@ -108,7 +108,7 @@ fn left_behind(moment: &Moment, left: u32) -> u32
     }
 }
 
-/// What is told so far: the moments that are known, the text, and how many choices may be played for more.
+/// Writes the other runs: the moments so far, the text so far, and how many choices may still be played.
 #[derive(Drop)]
 struct Teller {
     known: Known,
@@ -127,7 +127,7 @@ impl Model for Teller {
 }
 
 impl Teller {
-    /// Nothing is told yet.
+    /// Returns a teller that has written nothing.
     fn new(alloc: Global) -> Teller
         ensures { result ≡ nothing_told }
     {
@@ -138,14 +138,14 @@ impl Teller {
         }
     }
 
-    /// The text.
+    /// Returns the text.
     fn into_text(self) -> Vec<u8>
         ensures { result.items ≡ self.text }
     {
         self.text
     }
 
-    /// Adds a word and a number.
+    /// Appends a word and a number.
     fn add(&mut self, word: &[u8], number: u64) -> Result<(), AllocError>
         ensures { OnOk result (self.new ≡ record self.old { text = self.old.text ++ (word.now ++ decimal number) }) }
     {
@@ -154,7 +154,7 @@ impl Teller {
             .extend_from_slice(Buffer::new().format(number).as_bytes())
     }
 
-    /// Adds the line of a choice that leads to the moment of this number.
+    /// Appends the line of a choice: its thread, and the number of the moment that it leads to.
     fn add_line(&mut self, choice: Choice, number: usize) -> Result<(), AllocError>
         ensures { OnOk result (self.new ≡ record self.old { text = self.old.text ++ step_line choice number }) }
     {
@@ -164,7 +164,7 @@ impl Teller {
         self.text.extend_from_slice(b"\n")
     }
 
-    /// Adds a choice, and the moment that it leads to where that is new.
+    /// Appends a choice, and the moment that it leads to if that is new.
     fn add_step(&mut self, choice: Choice, moment: Moment) -> Result<(), AllocError>
         ensures { OnOk result (self.new ≡ with_step choice moment.text.items self.old) }
     {
@@ -178,7 +178,7 @@ impl Teller {
         Ok(())
     }
 
-    /// Makes the moment of a machine known.
+    /// Adds the moment of a machine to the known ones.
     fn know(&mut self, alloc: Global, machine: &mut Machine) -> Result<(), AllocError>
         ensures told { OnOk result (self.new ≡ with_moment (world_of machine.old) self.old) }
         ensures machine { machine.new ≡ machine.old }
@@ -188,7 +188,7 @@ impl Teller {
         self.known.add(moment)
     }
 
-    /// Makes the moments of a run known.
+    /// Adds the moments of a run to the known ones.
     fn know_all(
         &mut self,
         alloc: Global,
@@ -206,7 +206,7 @@ impl Teller {
         self.know(alloc, machine)
     }
 
-    /// Adds choices that are played one after another.
+    /// Plays choices one after another, and appends them.
     fn add_steps(
         &mut self,
         alloc: Global,
@@ -225,7 +225,7 @@ impl Teller {
         Ok(())
     }
 
-    /// Adds another run from where a machine stands.
+    /// Appends another run that begins at this machine.
     fn add_other(
         &mut self,
         alloc: Global,
@@ -240,7 +240,7 @@ impl Teller {
         self.add_steps(alloc, &mut copy, choices)
     }
 
-    /// Leaves out what stands behind so many bytes, where the text is too long.
+    /// If the text is too long, cuts it to `end` bytes, and lets nothing follow.
     fn cut_at(&mut self, end: usize)
         ensures { self.new ≡ (if nat_le (length self.old.text) 1000000 then self.old
             else record self.old { text = take end self.old.text; left = 0 }) }
@@ -251,7 +251,7 @@ impl Teller {
         }
     }
 
-    /// Adds what a choice leads to, where there is room for it.
+    /// Appends the run that a choice leads to, if there is room for it.
     fn add_fork(
         &mut self,
         alloc: Global,
@@ -271,7 +271,7 @@ impl Teller {
         Ok(())
     }
 
-    /// Tells what a choice leads to, where it isn't the run's own next one.
+    /// Appends the run that a choice leads to, unless it is the next choice of the page's own run.
     #[tactic(auto, unfolding(crate::specs::Others::told_choice))]
     fn tell_choice(
         &mut self,
@@ -290,7 +290,7 @@ impl Teller {
         self.add_fork(alloc, machine, own, choice)
     }
 
-    /// The same of a thread's turn, and of the expiry of its wait.
+    /// Appends the runs that a thread's turn and the expiry of its wait lead to.
     #[tactic(auto, unfolding(crate::specs::Others::told_thread))]
     fn tell_thread(
         &mut self,
@@ -315,7 +315,7 @@ impl Teller {
         self.tell_choice(alloc, machine, own, expiry)
     }
 
-    /// The same of all threads.
+    /// Appends the runs that the choices of all threads lead to.
     fn tell_here(
         &mut self,
         alloc: Global,
@@ -331,7 +331,7 @@ impl Teller {
         Ok(())
     }
 
-    /// The same moment by moment.
+    /// Appends the other runs of each moment of a run, in order.
     fn tell_along(
         &mut self,
         alloc: Global,
@@ -351,7 +351,7 @@ impl Teller {
     }
 }
 
-/// The text of the other runs of a run from where a machine stands.
+/// Returns the text of the other runs of a run that begins at this machine.
 fn told_text(alloc: Global, machine: &Machine, choices: &[Choice]) -> Result<Vec<u8>, AllocError>
     requires { length choices.now ≤ most_choices }
     ensures { IfOk result (λ text. text.items ≡ told_text (world_of machine.now) choices.now) }
@@ -362,7 +362,7 @@ fn told_text(alloc: Global, machine: &Machine, choices: &[Choice]) -> Result<Vec
     Ok(teller.into_text())
 }
 
-/// The same, or nothing where they are left out.
+/// Returns the text of the other runs, or an empty text if they are left out.
 pub fn others_text(
     alloc: Global,
     others: OtherRuns,

@@ -24,12 +24,12 @@ use thread_machine::{Choice, Machine};
 use trace_text::start::{StartFault, first_machine};
 use trace_text::{LineEnd, line_of_choice};
 
-/// Why there is no page.
+/// Why no page is made.
 #[derive(Clone, Copy, Debug, PartialEq, Eq)]
 pub enum PageFault {
-    /// The image isn't loaded, for this fault, which isn't `Memory`.
+    /// The image can't be loaded. The fault is never `Memory`.
     Load(LoadFault),
-    /// The schedule has this fault, which isn't `Memory`.
+    /// The schedule has a fault, which is never `Memory`.
     Schedule(ScheduleFault),
     /// The schedule has more than 2,000 choices.
     Choices,
@@ -48,7 +48,7 @@ impl From<AllocError> for PageFault {
     }
 }
 
-/// Adds what is shown of a machine, which is the same after it.
+/// Appends the text of a machine, escaped. The machine is the same afterwards.
 fn add_moment(alloc: Global, page: &mut Vec<u8>, machine: &mut Machine) -> Result<(), AllocError>
     ensures text { OnOk result (page.new.items ≡ page.old.items ++ escaped (moment (world_of machine.old))) }
     ensures machine { machine.new ≡ machine.old }
@@ -57,7 +57,7 @@ fn add_moment(alloc: Global, page: &mut Vec<u8>, machine: &mut Machine) -> Resul
     add_escaped(page, text.as_slice())
 }
 
-/// Plays a choice, and adds its line and what is shown after it; whether the choice was accepted.
+/// Plays a choice, and appends its line and the text of the machine after it. Returns whether the choice was accepted.
 fn add_choice(
     alloc: Global,
     page: &mut Vec<u8>,
@@ -76,7 +76,7 @@ fn add_choice(
     Ok(accepted)
 }
 
-/// Plays all choices, up to the first that is refused, and adds their lines and what is shown after each.
+/// Plays the choices up to the first that is refused, and appends the line of each and the text of the machine after it.
 fn add_choices(
     alloc: Global,
     page: &mut Vec<u8>,
@@ -93,7 +93,7 @@ fn add_choices(
     Ok(())
 }
 
-/// Adds the run from a machine on.
+/// Appends the text of a machine, and the run that begins there.
 fn add_run(
     alloc: Global,
     page: &mut Vec<u8>,
@@ -106,7 +106,7 @@ fn add_run(
     add_choices(alloc, page, machine, choices)
 }
 
-/// A page with these fixed parts.
+/// Returns a page with these fixed parts and texts.
 fn page_in(
     alloc: Global,
     frame: Frame,
@@ -132,7 +132,7 @@ fn page_in(
     Ok(page)
 }
 
-/// What is told where an image has no machine.
+/// Returns the page's fault if an image can't become a machine.
 fn fault_of(fault: StartFault) -> PageFault
     ensures load { (told : LoadFault) → result ≡ PageFault.Load told → fault ≡ StartFault.Load told }
     ensures others { ((told : ScheduleFault) → result ≢ PageFault.Schedule told) × (result ≢ PageFault.Choices) }
@@ -143,7 +143,7 @@ fn fault_of(fault: StartFault) -> PageFault
     }
 }
 
-/// The page of an image's program, its text and its run, with these fixed parts.
+/// Returns the page of a program, its source and its run, with these fixed parts.
 fn page_with(
     alloc: Global,
     frame: Frame,
@@ -188,8 +188,8 @@ fn page_with(
     })
 }
 
-/// The page of an image's program, of the text that it was written as, of its run under a schedule, and of its other runs. The
-/// source may be empty, as where the program is an image; whatever it is, it is told as it stands.
+/// Returns the page of a program, with its source, its run under a schedule, and its other runs. The source is shown as it is
+/// given. It may be empty, for example if the program was an image.
 pub fn page(
     alloc: Global,
     others: OtherRuns,

@@ -2,7 +2,7 @@ use crate::sheet::Sheet;
 use assembler::Symbols;
 use std::alloc::Global;
 
-/// What a picture is drawn with: how it is laid out, and what the program's things are called.
+/// What the functions that draw need: the allocator, the layout, and the names of the program.
 #[derive(Clone, Copy)]
 pub struct Pen<'a, 'b> {
     pub alloc: Global,

@@ -11,7 +11,7 @@ use assembler::Symbols;
 use std::alloc::{AllocError, Global};
 use thread_machine::{Choice, Machine};
 
-/// Draws the block of this number, and an empty line behind it.
+/// Draws the block of this number, and an empty line.
 fn draw_other(
     pen: &Pen<'_, '_>,
     text: &mut Vec<u8>,
@@ -28,7 +28,7 @@ fn draw_other(
     push_line(text, pen.sheet.width, b"")
 }
 
-/// Draws so many blocks, from the first on, an empty line behind each.
+/// Draws the first `count` blocks, each with an empty line after it.
 #[tactic(auto, using(crate::proofs::Cells::closing_steps))]
 fn draw_others(
     pen: &Pen<'_, '_>,
@@ -46,7 +46,7 @@ fn draw_others(
     Ok(())
 }
 
-/// Draws all blocks, and the lines at the end.
+/// Draws all blocks, and the last lines.
 fn draw_all(
     pen: &Pen<'_, '_>,
     text: &mut Vec<u8>,
@@ -64,8 +64,8 @@ fn draw_all(
     push_closings(pen, text, machine)
 }
 
-/// The picture of a machine's run under these choices, no wider than this, its things called by these names. It takes time in
-/// proportion to the choices and to the blocks that the threads stand in.
+/// Returns the picture of a machine's run under these choices, with these names, at most `width` bytes wide. The time it takes
+/// is proportional to the number of choices times the number of blocks.
 pub fn picture(
     alloc: Global,
     machine: &mut Machine,

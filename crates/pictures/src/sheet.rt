@@ -2,18 +2,18 @@ ghost use Rattle.std.specs.Prelude.{◌≡◌, ◌<◌, ◌≤◌, ◌-◌, ◌*
 ghost use Rattle.pictures.specs.Sheet.{beside_of, blocks_of, column_room, mark_column, mark_room, most_beside, other_blocks, sheet_of};
 ghost use Rattle.pictures.specs.Picture.{in_block, name_room};
 
-/// How a picture is laid out.
+/// The layout of a picture.
 #[derive(Clone, Copy)]
 pub struct Sheet {
-    /// The most bytes of a line.
+    /// The most bytes in a line.
     pub width: u16,
     /// How many threads stand side by side.
     pub beside: u16,
-    /// How wide the column of each is.
+    /// How wide the column of a thread is.
     pub column: u16,
 }
 
-/// How many threads fit side by side.
+/// Returns how many threads fit side by side, at least one.
 fn most_beside(width: u16) -> u16
     ensures most { result ≡ most_beside width }
     ensures some { 0 < result }
@@ -22,7 +22,7 @@ fn most_beside(width: u16) -> u16
 }
 
 impl Sheet {
-    /// The layout for a width and so many threads.
+    /// Returns the layout for a width and a number of threads.
     pub fn new(width: u16, threads: u16) -> Sheet
         ensures sheet { result ≡ sheet_of width threads }
         ensures some { 0 < result.beside }
@@ -38,7 +38,7 @@ impl Sheet {
         }
     }
 
-    /// How many blocks so many threads stand in, but for the last.
+    /// Returns the number of blocks, without the last.
     pub fn other_blocks(self, threads: u16) -> u16
         requires { 0 < self.beside }
         ensures { result ≡ other_blocks self threads }
@@ -46,35 +46,35 @@ impl Sheet {
         threads.saturating_sub(1) / self.beside
     }
 
-    /// How many of so many threads stand in the block that begins with this one.
+    /// Returns how many threads the block has whose first thread is `first`.
     pub fn in_block(self, threads: usize, first: usize) -> usize
         ensures { result ≡ in_block self threads first }
     {
         usize::from(self.beside).min(threads.saturating_sub(first))
     }
 
-    /// Where the marks stand.
+    /// Returns the column at which the phasers and barriers are shown.
     pub fn mark_column(self) -> usize
         ensures { result ≡ mark_column self }
     {
         8 + usize::from(self.beside) * usize::from(self.column)
     }
 
-    /// How much room they have.
+    /// Returns how many bytes they have there.
     pub fn mark_room(self) -> usize
         ensures { result ≡ mark_room self }
     {
         usize::from(self.width).saturating_sub(self.mark_column())
     }
 
-    /// How much room there is in a column.
+    /// Returns how many bytes a column has, without the blank after it.
     pub fn column_room(self) -> usize
         ensures { result ≡ column_room self }
     {
         usize::from(self.column).saturating_sub(1)
     }
 
-    /// How much room a name has in a line of words.
+    /// Returns how many bytes a name may take in one of the last lines.
     pub fn name_room(self) -> usize
         ensures { result ≡ name_room self }
     {

@@ -1,14 +1,15 @@
 use thread_machine::{Choice, Machine};
 
-/// The bytes of a picture, and how its run has ended.
+/// The bytes of a page or a picture, and whether a thread that doesn't exist ended its run.
 #[derive(Drop)]
 pub struct Shown {
     pub bytes: Vec<u8>,
-    /// The choice of a thread that isn't there, and its place from 1, where that ended the run.
+    /// The choice of a thread that doesn't exist, and its place from 1, if that ended the run.
     pub missing: Option<(u64, Choice)>,
 }
 
-/// The choice of a thread that isn't there, where a machine has made all of these before it.
+/// Returns the choice that the machine refused because there is no such thread, and its place from 1. The machine has played
+/// the choices before it.
 pub fn missing(machine: &Machine, choices: &[Choice]) -> Option<(u64, Choice)> {
     let made = machine.choices();
     let choice = *choices.get(made as usize)?;

@@ -1,4 +1,4 @@
-// What a choice is told as, in the column of its thread and behind the columns.
+// What a choice is shown as: in the column of its thread, and after the columns.
 ghost use Rattle.std.specs.Prelude.{◌≡◌, ◌++◌, IfOk, OnOk};
 ghost use Rattle.trace_text.specs.Lines.{what_text};
 ghost use Rattle.pictures.specs.Sheet.{kept_behind, mark_room};
@@ -11,7 +11,7 @@ use instruction_table::OperandKind;
 use std::alloc::{AllocError, Global};
 use thread_machine::{Mark, Status, What};
 
-/// Adds what became of the thread.
+/// Appends what happened to the thread.
 fn push_what(text: &mut Vec<u8>, what: What) -> Result<(), AllocError>
     ensures { OnOk result (text.new.items ≡ text.old.items ++ what_text what) }
 {
@@ -30,7 +30,7 @@ fn push_what(text: &mut Vec<u8>, what: What) -> Result<(), AllocError>
     }
 }
 
-/// Whether the row is shown that stands at the thread's place.
+/// Returns whether the row that the thread was at is shown.
 fn shows_row(what: What) -> bool
     ensures { result ≡ shows_row what }
 {
@@ -40,7 +40,7 @@ fn shows_row(what: What) -> bool
     )
 }
 
-/// The answer behind a row.
+/// Returns what follows the row: its result, or nothing if it has none.
 fn answer(alloc: Global, what: What) -> Result<Vec<u8>, AllocError>
     ensures { IfOk result (λ text. text.items ≡ answer_text what) }
 {
@@ -52,7 +52,7 @@ fn answer(alloc: Global, what: What) -> Result<Vec<u8>, AllocError>
     Ok(text)
 }
 
-/// What stands in the column of the thread whose turn it was, or whose timed wait ran out.
+/// Returns what stands in the column of the thread that had the turn, or whose timed wait expired.
 pub fn turn_text(
     alloc: Global,
     room: usize,
@@ -72,7 +72,7 @@ pub fn turn_text(
     kept_behind(alloc, room, front, answer.as_slice())
 }
 
-/// How a thread stands when it isn't its turn.
+/// Returns the sign of a thread that didn't have the turn.
 pub fn standing(ready: bool, status: Status) -> &'static [u8]
     ensures { result.now ≡ standing ready status }
 {
@@ -85,7 +85,7 @@ pub fn standing(ready: bool, status: Status) -> &'static [u8]
     }
 }
 
-/// What a mark is of.
+/// Returns the name of the phaser or barrier that changed, or nothing.
 fn marked(pen: &Pen<'_, '_>, mark: Mark) -> Result<Vec<u8>, AllocError>
     ensures { IfOk result (λ text. text.items ≡ marked pen.now.symbols.now mark) }
 {
@@ -107,7 +107,7 @@ fn marked(pen: &Pen<'_, '_>, mark: Mark) -> Result<Vec<u8>, AllocError>
     Ok(text)
 }
 
-/// Adds what is said of a root's view.
+/// Appends the phase that a root has come into, or that it is terminated.
 fn push_view(text: &mut Vec<u8>, view: i32) -> Result<(), AllocError>
     ensures { OnOk result (text.new.items ≡ text.old.items ++ view_words view) }
 {
@@ -118,7 +118,7 @@ fn push_view(text: &mut Vec<u8>, view: i32) -> Result<(), AllocError>
     }
 }
 
-/// What became of it.
+/// Returns what happened to the phaser or barrier.
 fn mark_words(alloc: Global, mark: Mark) -> Result<Vec<u8>, AllocError>
     ensures { IfOk result (λ text. text.items ≡ mark_words mark) }
 {
@@ -132,7 +132,7 @@ fn mark_words(alloc: Global, mark: Mark) -> Result<Vec<u8>, AllocError>
     Ok(text)
 }
 
-/// What a choice did beside its own thread.
+/// Returns what a choice changed besides its own thread, shortened to its room.
 pub fn told(pen: &Pen<'_, '_>, mark: Mark) -> Result<Vec<u8>, AllocError>
     ensures { IfOk result (λ text. text.items
         ≡ kept_behind (mark_room pen.now.sheet) (marked pen.now.symbols.now mark) (mark_words mark)) }

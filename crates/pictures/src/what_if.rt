@@ -10,7 +10,7 @@ use std::alloc::AllocError;
 use thread_machine::{Choice, Machine, StepFault, Undo};
 use trace_text::line::{event_line, refusal_line};
 
-/// Whether a choice may take a step.
+/// Returns whether a choice can take a step.
 pub fn is_ready(machine: &Machine, choice: Choice) -> bool
     requires { choice.thread < length machine.now.scene.threads }
     ensures { result ≡ is_choice_ready machine.now.program choice (scene_of machine.now.scene) }
@@ -22,7 +22,7 @@ pub fn is_ready(machine: &Machine, choice: Choice) -> bool
     }
 }
 
-/// Adds the line that a choice would have as the next one. It is played and taken back.
+/// Appends the line that a choice would have if it were next. The machine plays it and takes it back.
 pub fn add_line(
     text: &mut Vec<u8>,
     machine: &mut Machine,
@@ -45,7 +45,7 @@ pub fn add_line(
     }
 }
 
-/// Adds what a choice would do as the next one.
+/// Appends what a choice would do next, if it can take a step.
 fn add_what_if(
     text: &mut Vec<u8>,
     machine: &mut Machine,
@@ -63,7 +63,7 @@ fn add_what_if(
     add_line(text, machine, choice, undo)
 }
 
-/// Adds what each of a thread's two choices would do.
+/// Appends what a turn of the thread would do, and what an expiry of its wait would do.
 fn add_what_if_of(
     text: &mut Vec<u8>,
     machine: &mut Machine,
@@ -87,7 +87,7 @@ fn add_what_if_of(
     add_what_if(text, machine, expiry, undo)
 }
 
-/// Adds what each choice of each thread would do. After it the machine is as before, word for word.
+/// Appends what the two choices of each thread would do. The machine is the same afterwards, to the stored word.
 #[tactic(auto, using(trace_text::proofs::Traces::text_steps))]
 pub fn add_what_ifs(text: &mut Vec<u8>, machine: &mut Machine) -> Result<(), AllocError>
     ensures text { OnOk result (text.new.items ≡ text.old.items

@@ -1,4 +1,4 @@
--- What a race leaves and what the command writes.
+-- What a race leaves, and what the command writes.
 use Rattle.std.specs.Prelude.{◌≡◌, ◌++◌, ◌⊎◌, ◌<◌, ◌≤◌, ℕ, ℤ, false, List, [], ◌∷◌, length, flat_map, All, codes}
 use Rattle.std.specs.Fmt.{decimal}
 use Rattle.packed_phaser.specs.declared.policy.Policy.TheVariants.{Default}
@@ -17,12 +17,12 @@ use Rattle.shared_phaser.specs.Known.{Caller, Identity, entry, phaser_of}
 abbrev pub opening_of : ℕ → Setup
 opening_of parties = record { parties = parties; phase = 0; policy = Default }
 
--- an arrival with this answer wasn't counted
+-- an arrival with this result wasn't counted
 abbrev pub IsUncounted : Reply → Type 0
 IsUncounted (Counted phase) = ⊥
 IsUncounted reply = Unit {0}
 
--- one meeting of caller n: an arrival, and where it was counted a wait for the end of its phase
+-- one meeting of caller n: an arrival, and a wait for the end of its phase if it was counted
 abbrev pub IsMeeting : ℕ → List Entry → Type 0
 IsMeeting n calls =
     ((phase : ℤ) × ((view : ℤ) × (calls ≡ entry n (Arrive false) (Replied (Counted phase))
@@ -35,8 +35,8 @@ AreMeetings n rounds calls =
     (meetings : List (List Entry)) × ((length meetings ≡ rounds)
     × (All (IsMeeting n) meetings × (calls ≡ flat_map (λ (meeting : List Entry). meeting) meetings)))
 
--- the word of a phaser of so many parties after a legal history, in which callers 1 to that number met so often, and nobody
--- else called
+-- the word of a phaser with so many parties after a legal history in which the callers from 1 to that number met so often, and
+-- nobody else called
 pub record IsFinal (parties rounds word : ℕ) : Type 0 where
   pub log : List Entry
   pub legal : IsLegal (opening_of parties) log
@@ -48,7 +48,7 @@ pub record IsFinal (parties rounds word : ℕ) : Type 0 where
 abbrev pub IsFresh : Identity → Caller → Type 0
 IsFresh phaser caller = (phaser_of caller ≡ phaser) × ((caller.known.calls ≡ []) × (caller.known.joined ≡ []))
 
--- the caller that this one came to be by so many meetings
+-- the caller that this one has become by so many meetings
 abbrev pub HasMet : Caller → ℕ → Caller → Type 0
 HasMet before rounds caller =
     (phaser_of caller ≡ phaser_of before) × ((caller.known.number ≡ before.known.number)

@@ -1,4 +1,4 @@
-//! A race and its line.
+//! A race and the line that it writes.
 ghost use Rattle.std.specs.Prelude.{◌≡◌, ◌⊎◌, ℕ, Err, IfErr, IsTrue, OnOk};
 ghost use Rattle.std.specs.Io.KnownBytes.{Appends};
 ghost use Rattle.packed_phaser.specs.Word.{record_of};
@@ -14,9 +14,9 @@ use std::alloc::Global;
 use std::sync::Wait;
 use std::thread::Threads;
 
-/// `parties` threads call `arriveAndAwaitAdvance` `rounds` times each on one shared phaser of as many parties. Writes the line
-/// `phase A parties B unarrived C` of the closed phaser. It asks nothing of `parties` and `rounds`: the command line keeps
-/// them to 1 to 16 and 1 to 1000000. Each thread tells `pace` of each meeting. The output isn't flushed.
+/// `parties` threads call `arriveAndAwaitAdvance` `rounds` times each, on one shared phaser with as many parties. Writes the
+/// line `phase A parties B unarrived C` of the closed phaser. `parties` and `rounds` may be any numbers: the command line
+/// allows 1 to 16 and 1 to 1000000. Each thread reports each meeting to `pace`. The output isn't flushed.
 pub fn write_race<R: Threads + Wait + Sync, P: Pace + Sync, K: Sink>(
     rt: &R,
     alloc: Global,

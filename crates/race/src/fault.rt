@@ -1,4 +1,4 @@
-/// Why a race gives up.
+/// Why a race breaks off.
 #[derive(Clone, Copy, Debug, PartialEq, Eq)]
 pub enum RaceFault {
     /// There was no memory.

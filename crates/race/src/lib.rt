@@ -1,4 +1,4 @@
-//! Real threads that meet at one shared phaser, and the line that is written of them.
+//! Real threads that meet at one shared phaser, and the line that is written about them.
 #![tactic(auto)]
 
 mod command;

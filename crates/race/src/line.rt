@@ -9,7 +9,7 @@ use byte_ports::{Failed, Sink};
 use itoa::Buffer;
 use packed_phaser::Word;
 
-/// A word, and a number behind it.
+/// Writes a word, and a number after it.
 fn push_with_count<K: Sink>(output: &mut K, word: &[u8], count: u64) -> Result<(), Failed>
     ensures bytes { OnOk result (Appends (K.written output.old) (K.written output.new)
         (word.now ++ decimal count)) }

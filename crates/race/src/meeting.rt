@@ -16,10 +16,10 @@ use std::sync::Wait;
 use std::thread;
 use std::thread::{Promise, PromisedHandle, Threads};
 
-/// A thread's caller comes back when it has met the others so often.
+/// After so many meetings a thread returns its caller here.
 #[derive(Drop)]
 pub struct Home {
-    /// The caller as the thread was given it.
+    /// The caller as the thread got it.
     pub caller: Snapshot<Party>,
     pub rounds: u32,
 }
@@ -30,10 +30,10 @@ impl Promise<Party> for Home {
     ghost kept_by = { λ home party. HasMet home.caller.value home.rounds party };
 }
 
-/// A thread that runs, and its caller.
+/// A running thread, and its caller.
 type Running = PromisedHandle<Party, Home>;
 
-/// What one thread does: it arrives and awaits the phase's end, so many times.
+/// What one thread does: it arrives and waits for the end of the phase, so many times.
 fn work<R: Wait, P: Pace>(
     rt: &R,
     phaser: &SharedPhaser,
@@ -51,7 +51,7 @@ fn work<R: Wait, P: Pace>(
     party
 }
 
-/// So many callers beside the first.
+/// Makes so many callers besides the first.
 fn callers(
     alloc: Global,
     phaser: &SharedPhaser,
@@ -74,8 +74,8 @@ fn callers(
     Ok(callers)
 }
 
-/// Starts a thread for each caller, and waits until all have ended. Where one can't be started, the phaser is
-/// terminated, so that those that run come back.
+/// Starts a thread for each caller, and waits until all have ended. If one can't be started, it terminates the phaser, so that
+/// those that run come back.
 fn run<R: Threads + Wait + Sync, P: Pace + Sync>(
     rt: &R,
     alloc: Global,
@@ -162,8 +162,8 @@ fn gather<R: Threads>(rt: &R, phaser: &SharedPhaser, first: &mut Party, running:
     }
 }
 
-/// So many threads meet so often at a phaser of as many parties; its last word, once every caller has come back. Each tells `pace`
-/// of each meeting.
+/// So many threads meet so often at a phaser with as many parties. Returns its last word, when every caller has come back. Each
+/// thread reports each meeting to `pace`.
 pub fn race<R: Threads + Wait + Sync, P: Pace + Sync>(
     rt: &R,
     alloc: Global,

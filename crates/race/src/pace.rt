@@ -1,11 +1,11 @@
-//! Who is told how far a race has come.
+//! A report of how far a race has come.
 
-/// What each thread of a race tells when it has met the others once more.
+/// Each thread of a race reports here that it has met the others once more.
 pub trait Pace {
     fn met(&self);
 }
 
-/// Nobody is told.
+/// Nobody gets a report.
 #[derive(Clone, Copy, Debug, PartialEq, Eq)]
 pub struct NoPace;
 

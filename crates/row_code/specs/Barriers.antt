@@ -12,7 +12,7 @@ pub record IsBarrier (b : DeclaredBarrier) : Type 0 where
 abbrev pub AreBarriers : List DeclaredBarrier → Type 0
 AreBarriers bs = (length bs ≤ 64) × All IsBarrier bs
 
--- whether there is an action, and its row; 0 where there is none
+-- whether there is an action, and its row, or 0 if there is none
 abbrev pub action_flag : Option ℕ → ℕ
 action_flag None = 0
 action_flag (Some _) = 1

@@ -35,7 +35,7 @@ abbrev pub count_bytes : Counts → List ℕ
 count_bytes c =
     u16_bytes c.phasers ++ (u16_bytes c.barriers ++ (u16_bytes c.threads ++ u16_bytes c.rows))
 
--- the lists behind the counts
+-- the lists after the counts
 abbrev pub list_bytes : Image → List ℕ
 list_bytes i =
     flat_map phaser_bytes i.phasers ++ (flat_map barrier_bytes i.barriers

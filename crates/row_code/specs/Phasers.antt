@@ -39,7 +39,7 @@ kind_byte Never = 1
 kind_byte (Until _) = 2
 kind_byte (Routine _) = 3
 
--- a policy's argument: the phase of `until`, or the routine's row; 0 where there is none
+-- a policy's argument: the phase of `until`, or the routine's row; otherwise 0
 abbrev pub argument : DeclaredPolicy → ℤ
 argument Default = pos 0
 argument Never = pos 0

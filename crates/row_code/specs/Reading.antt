@@ -1,4 +1,4 @@
--- Which image bytes are, or else the first fault in the order in which they are checked.
+-- The image that bytes encode, or else the first fault in the order of the checks.
 use Rattle.std.specs.Prelude.{ℕ, zero, suc, ◌+◌, ◌*◌, ◌==◌, ◌||◌, ◌&&◌, not, nat_lt, ℤ, pos, negsuc, Bool, true, false, List, [], ◌∷◌, length, take, drop, slice_index, bytes_eq, Option, Some, None, Result, Ok, Err, if◌then◌else◌}
 use Rattle.instruction_table.specs.declared.row.Row.{Row}
 use Rattle.instruction_table.specs.Row.{is_timed_row}
@@ -17,7 +17,7 @@ use Rattle.row_code.specs.Image.{magic}
 use Rattle.row_code.specs.Rows.{has_timed_row}
 use Rattle.row_code.specs.Answers.{◌>>=◌}
 
--- whether a fault is want of memory, which can stand in place of any answer
+-- whether a fault is out of memory, which any call may return instead of its result
 abbrev pub is_memory : ImageFault → Bool
 is_memory fault.Memory = true
 is_memory _ = false
@@ -91,8 +91,8 @@ thread_at at bytes = do
   row ← target_at at (i32_at bytes 0)
   Ok (record { first_row = row })
 
--- the row that was found, where the image may have it: timed says whether it may have one with a
--- timeout; else the fault of the row with this number
+-- the row that was found, if the image may have it, and otherwise the fault of the row with this number; timed says whether the
+-- image may have a row with a timeout
 abbrev pub row_or : Bool → ℕ → Option Row → Result Row ImageFault
 row_or timed n (Some row) = if timed || not (is_timed_row row) then Ok row else Err (fault.Row n)
 row_or timed n None = Err (fault.Row n)
@@ -130,7 +130,7 @@ is_magic four = bytes_eq four (magic false) || bytes_eq four (magic true)
 abbrev pub says_timed : List ℕ → Bool
 says_timed bytes = bytes_eq (take 4 bytes) (magic true)
 
--- the four counts behind the magic
+-- the four counts after the first four bytes
 abbrev pub counts_in : List ℕ → Counts
 counts_in bytes = record {
   phasers = u16_at bytes 4;
@@ -163,7 +163,7 @@ barrier_entry start k bytes = barrier_at (start + 8 * k) bytes
 abbrev pub thread_entry : ℕ → ℕ → List ℕ → Result DeclaredThread ImageFault
 thread_entry start k bytes = thread_at (start + 4 * k) bytes
 
--- rows of an image that says whether one of them has a timeout: where it says so, one has
+-- the rows of an image that says whether one of them has a timeout; if it says so, one has
 abbrev pub version_at : Bool → List Row → Result (List Row) ImageFault
 version_at timed rows = if timed && not (has_timed_row rows) then Err fault.Version else Ok rows
 
@@ -171,7 +171,7 @@ version_at timed rows = if timed && not (has_timed_row rows) then Err fault.Vers
 unfoldable pub rows_at : Bool → ℕ → List ℕ → Result (List Row) ImageFault
 rows_at timed count bytes = entries 8 (row_at timed) 0 count bytes >>= version_at timed
 
--- the lists behind the counts
+-- the lists after the counts
 unfoldable pub lists_at : Counts → List ℕ → Result Image ImageFault
 lists_at c bytes = do
   phasers ← entries 12 (phaser_entry 12) 0 c.phasers (drop 12 bytes)

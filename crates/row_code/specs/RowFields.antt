@@ -1,4 +1,4 @@
--- Which operand of a row stands in which field of its bytes, and which rows there are.
+-- Which operand of a row is in which field of its bytes, and which rows exist.
 use Rattle.std.specs.Prelude.{ℕ, ℤ, pos, ◌<ℤ◌, FitsSigned}
 use Rattle.std.specs.Int.{w32}
 use Rattle.instruction_table.specs.declared.row.Row.{Row}
@@ -10,8 +10,8 @@ use Rattle.row_code.specs.declared.fields.Fields.{Fields}
 abbrev pub filled : ℕ → ℕ → ℕ → ℤ → Fields
 filled a b c imm = record { a = a; b = b; c = c; imm = imm }
 
--- the registers of a row stand in a, b and c in the order of its text, and its one other operand in
--- imm; a field that is not used is 0
+-- the registers of a row are in a, b and c, in the order of its text, and its other operand is in imm; a field that isn't used
+-- is 0
 abbrev pub fields_of : Row → Fields
 fields_of Halt = filled 0 0 0 (pos 0)
 fields_of (Ldi into value) = filled (number_of into) 0 0 value

@@ -1,6 +1,6 @@
--- The row of an opcode with its operands, by which a program's text has its meaning; and how the row
--- of eight bytes is looked for: the one row that they could spell is made, and then compared. The
--- bytes of a row don't need it: `decode` answers exactly the row with these bytes.
+-- The row with an opcode and operands, which gives a program's text its meaning. It is also how the row of eight bytes is
+-- found: the only row that they could encode is made, and then compared. The meaning of a row's bytes doesn't depend on it:
+-- `decode` returns exactly the row with these bytes.
 use Rattle.std.specs.Prelude.{ℕ, nat_lt, ℤ, pos, negsuc, List, [], ◌∷◌, slice_index, slice_index_or, bytes_eq, Option, Some, None, if◌then◌else◌}
 use Rattle.instruction_table.specs.declared.register.Reg.{Reg}
 use Rattle.instruction_table.specs.declared.register.Reg.TheVariants.{R0, R1, R2, R3, R4, R5, R6, R7}
@@ -10,11 +10,11 @@ use Rattle.row_code.specs.RowBytes.{bytes_of, fields_at}
 use Rattle.row_code.specs.declared.fields.Fields.{Fields}
 use Rattle.row_code.specs.declared.operands.Operands.{Operands}
 
--- the register with a number; r0 where there is none
+-- the register with a number, or r0 if there is none
 abbrev pub register_at : ℕ → Reg
 register_at n = slice_index_or (R0 ∷ R1 ∷ R2 ∷ R3 ∷ R4 ∷ R5 ∷ R6 ∷ R7 ∷ []) n R0
 
--- a target or an object's number; 0 where imm holds none
+-- the number of a target or an object, or 0 if imm has none
 abbrev pub object_at : ℤ → ℕ
 object_at (pos n) = if nat_lt n 65536 then n else 0
 object_at (negsuc n) = 0
@@ -76,11 +76,11 @@ rows_with o =
     Cawaitt o.a o.object o.b ∷
     []
 
--- the row of an opcode with these operands, `halt` where there is no such opcode
+-- the row of an opcode with these operands, or `halt` if there is no such opcode
 abbrev pub row_with : ℕ → Operands → Row
 row_with opcode o = slice_index_or (rows_with o) opcode Halt
 
--- the row that eight bytes spell, where they spell one
+-- the row that eight bytes encode, if they encode one
 abbrev pub row_in : List ℕ → Option Row
 row_in bytes =
     let row = row_with (slice_index bytes 0) (operands_at (fields_at bytes)) in

@@ -8,7 +8,7 @@ use std::marker::Model;
 #[derive(Clone, Copy, Debug, PartialEq, Eq)]
 pub struct DeclaredBarrier {
     pub parties: u16,
-    /// The row of the action that the last party runs, where there is one.
+    /// The first row of the action that the last party runs, if there is one.
     pub action: Option<u16>,
 }
 
@@ -27,7 +27,7 @@ impl Model for Barriers {
 }
 
 impl Barriers {
-    /// Takes the barriers as they are, or gives them back where there are too many.
+    /// Takes the barriers as they are. Returns them if they are too many.
     pub fn new(barriers: Vec<DeclaredBarrier>) -> Result<Barriers, Vec<DeclaredBarrier>>
         ensures made { IfOk result (λ made. made ≡ barriers.items) }
         ensures back { IfErr result (λ back. back ≡ barriers) }
@@ -47,7 +47,7 @@ impl Barriers {
         &self.entries
     }
 
-    /// The same barriers in memory of their own.
+    /// Returns a copy with memory of its own.
     pub fn copy(&self, alloc: Global) -> Result<Barriers, AllocError>
         ensures { IfOk result (λ copy. copy ≡ self.now) }
     {

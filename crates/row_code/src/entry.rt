@@ -10,7 +10,7 @@ use crate::write_fault::WriteFault;
 use byte_ports::Sink;
 use std::alloc::Global;
 
-/// What an image has a list of. Each has so many bytes, and one spelling.
+/// An entry of one of an image's lists. Each has a fixed number of bytes, and only one encoding.
 pub(crate) trait Entry: Copy {
     // How many bytes it has.
     ghost SIZE: { ℕ };
@@ -38,7 +38,7 @@ pub(crate) trait Entry: Copy {
         ensures failed { IsErr result ↔ IsTrue (W.has_failed sink.new) };
 }
 
-/// So many entries in the bytes, which begin at a place of the file.
+/// Reads so many entries from bytes that begin at this place of the file.
 pub(crate) fn read_entries<E: Entry>(
     alloc: Global,
     timed: bool,

@@ -5,7 +5,7 @@ ghost use Rattle.row_code.specs.RowFields.{fields_of, IsRow};
 
 use instruction_table::{Reg, Row, opcode};
 
-/// The fields behind the opcode of a row's bytes.
+/// The fields after the opcode in a row's bytes.
 #[derive(Clone, Copy)]
 pub struct Fields {
     pub a: u8,

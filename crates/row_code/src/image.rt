@@ -6,7 +6,7 @@ use crate::rows::Rows;
 use crate::threads::Threads;
 use std::alloc::{AllocError, Global};
 
-/// A whole program: what it declares, and its rows. A name in it need not lead to anything yet.
+/// A whole program: its declarations and its rows. A number in it need not refer to anything yet.
 #[derive(Drop)]
 pub struct Image {
     pub phasers: Phasers,
@@ -16,7 +16,7 @@ pub struct Image {
 }
 
 impl Image {
-    /// The same program in memory of its own: whoever loads an image takes it, so a program that is loaded twice is copied.
+    /// Returns a copy with memory of its own. Loading an image consumes it, so a program that is loaded twice has to be copied.
     pub fn copy(&self, alloc: Global) -> Result<Image, AllocError>
         ensures { IfOk result (λ copy. copy ≡ self.now) }
     {
@@ -29,7 +29,7 @@ impl Image {
     }
 }
 
-/// How many of each an image has.
+/// How many barriers, phasers, threads and rows an image has.
 #[derive(Clone, Copy)]
 pub struct Counts {
     pub phasers: u16,
@@ -38,8 +38,8 @@ pub struct Counts {
     pub rows: u16,
 }
 
-/// The first four bytes of every image without rows that have a timeout.
+/// The first four bytes of an image without rows that have a timeout.
 pub const MAGIC: [u8; 4] = *b"PBW1";
 
-/// The first four bytes of every image with such a row.
+/// The first four bytes of an image with such a row.
 pub const TIMED_MAGIC: [u8; 4] = *b"PBW2";

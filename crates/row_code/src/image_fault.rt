@@ -13,10 +13,10 @@ pub enum ImageFault {
     Magic,
     /// There are more than 64 phasers, barriers or threads.
     Count,
-    /// A field holds what it can't: the place of its first byte in the file, from 0.
+    /// A field has a value that it can't have. This is the place of its first byte in the file, from 0.
     Field(usize),
-    /// The bytes of a row spell none, or one with a timeout behind the magic of images without: the
-    /// row's number.
+    /// The bytes of a row encode no row, or one with a timeout although the first four bytes say that there is none. This is
+    /// the number of the row.
     Row(u16),
     /// Bytes follow after the last row.
     Extra,
@@ -27,7 +27,7 @@ pub enum ImageFault {
 }
 
 impl ImageFault {
-    /// The number that the fault is told with: missing memory has none.
+    /// Returns the number that the fault is reported with. `Memory` has none.
     pub fn number(self) -> Option<u8>
         ensures { result ≡ image_number self }
     {

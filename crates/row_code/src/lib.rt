@@ -1,7 +1,7 @@
 //! Rows and whole programs as bytes: the image format.
 //!
-//! Each row and each image has one spelling. `encode` and `write_image` write it; `decode` and
-//! `read_image` accept it and nothing else, or answer the first fault with its place.
+//! Each row and each image has exactly one encoding. `encode` and `write_image` write it. `decode` and `read_image` accept this
+//! encoding and nothing else; otherwise they return the first fault and its place.
 #![tactic(auto)]
 
 // The operands of a row, in their fields, and the bytes of a row.
@@ -9,14 +9,14 @@ pub mod fields;
 pub mod operands;
 pub mod row_bytes;
 
-// What an image consists of.
+// The parts of an image.
 pub mod barriers;
 pub mod image;
 pub mod phasers;
 pub mod rows;
 pub mod threads;
 
-// An entry of each of its lists, from bytes and to bytes.
+// How the entries of each list are read and written.
 mod barrier_entry;
 mod entry;
 mod phaser_entry;
@@ -30,7 +30,7 @@ pub mod reading;
 pub mod write_fault;
 pub mod writing;
 
-// What was written is read again.
+// What is written is read again.
 pub mod round_trip;
 
 pub use barriers::{Barriers, DeclaredBarrier};

@@ -5,7 +5,7 @@ ghost use Rattle.row_code.specs.RowOperands.{register_at, object_at, operands_at
 use crate::fields::Fields;
 use instruction_table::{Reg, Row};
 
-/// What the fields hold, read as operands of each kind: a row uses some of them.
+/// The values of the fields, read as operands of each kind. A row uses some of them.
 #[derive(Clone, Copy)]
 pub struct Operands {
     pub a: Reg,
@@ -216,7 +216,7 @@ fn timed_row(opcode: u8, operands: Operands) -> Row
     }
 }
 
-/// The row with this opcode and these operands; `halt` where there is no such opcode.
+/// Returns the row with this opcode and these operands, or `halt` if there is no such opcode.
 #[inline(always)]
 pub fn row_with(opcode: u8, operands: Operands) -> Row
     ensures row { result ≡ row_with opcode operands }

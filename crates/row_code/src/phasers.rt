@@ -5,27 +5,27 @@ ghost use Rattle.row_code.specs.Phasers.{IsPolicy, IsPhaser, ArePhasers};
 use std::alloc::{AllocError, Global};
 use std::marker::Model;
 
-/// What a phaser's `onAdvance` answers.
+/// What a phaser's `onAdvance` returns.
 #[derive(Clone, Copy, Debug, PartialEq, Eq)]
 pub enum DeclaredPolicy {
-    /// True where no party is left, as in Java's `Phaser`.
+    /// True if no party is left, as in Java's `Phaser`.
     Default,
     /// False.
     Never,
-    /// True from this phase on, or where no party is left. Not negative.
+    /// True from this phase on, or if no party is left. The phase isn't negative.
     Until(i32),
-    /// What the routine at this row says.
+    /// The result of the routine that begins at this row.
     Routine(u16),
 }
 
 /// A phaser as a program declares it.
 #[derive(Clone, Copy, Debug, PartialEq, Eq)]
 pub struct DeclaredPhaser {
-    /// The number of the parent, below 64, whether there is such a phaser or not.
+    /// The number of the parent, below 64. There may be no such phaser.
     pub parent: Option<u8>,
     pub policy: DeclaredPolicy,
     pub parties: u16,
-    /// The number of the first phase, not negative.
+    /// The number of the first phase. It isn't negative.
     pub first_phase: i32,
 }
 
@@ -75,8 +75,7 @@ fn are_all_phasers(phasers: &[DeclaredPhaser]) -> bool
 }
 
 impl Phasers {
-    /// Takes the phasers as they are, or gives them back where there are too many or one of them
-    /// has a field out of its range.
+    /// Takes the phasers as they are. Returns them if they are too many, or if a field of one is out of its range.
     pub fn new(phasers: Vec<DeclaredPhaser>) -> Result<Phasers, Vec<DeclaredPhaser>>
         ensures made { IfOk result (λ made. made ≡ phasers.items) }
         ensures back { IfErr result (λ back. back ≡ phasers) }
@@ -97,7 +96,7 @@ impl Phasers {
         &self.entries
     }
 
-    /// The same phasers in memory of their own.
+    /// Returns a copy with memory of its own.
     pub fn copy(&self, alloc: Global) -> Result<Phasers, AllocError>
         ensures { IfOk result (λ copy. copy ≡ self.now) }
     {

@@ -4,7 +4,7 @@ ghost use Rattle.row_code.specs.Reading.{u16_at, i32_at, target_at, phase_at, ze
 
 use crate::image_fault::ImageFault;
 
-/// The number in the two bytes from a place on.
+/// Returns the number in the two bytes at this place.
 pub fn u16_at(bytes: &[u8], i: usize) -> u16
     requires { i + 1 < length bytes.now }
     ensures { result ≡ u16_at bytes.now i }
@@ -20,7 +20,7 @@ pub fn i32_at(bytes: &[u8], i: usize) -> i32
     i32::from_le_bytes([bytes[i], bytes[i + 1], bytes[i + 2], bytes[i + 3]])
 }
 
-/// A row's number, out of a field that begins at this place of the file.
+/// Returns the number of a row, from a field that begins at this place of the file.
 pub fn target_at(at: usize, value: i32) -> Result<u16, ImageFault>
     ensures { result ≡ target_at at value }
 {
@@ -30,7 +30,7 @@ pub fn target_at(at: usize, value: i32) -> Result<u16, ImageFault>
     }
 }
 
-/// The number of a phase.
+/// Returns the number of a phase, from such a field.
 pub fn phase_at(at: usize, value: i32) -> Result<i32, ImageFault>
     ensures phase { result ≡ phase_at at value }
     ensures fits { IfOk result (λ phase. IsCount phase) }
@@ -42,7 +42,7 @@ pub fn phase_at(at: usize, value: i32) -> Result<i32, ImageFault>
     }
 }
 
-/// A field that isn't used.
+/// Checks that a field is 0, since it isn't used.
 pub fn zero_at(at: usize, value: i32) -> Result<i32, ImageFault>
     ensures { result ≡ zero_at at value }
 {

@@ -51,7 +51,7 @@ fn rows_start(counts: Counts) -> usize
     threads_start(counts) + 4 * usize::from(counts.threads)
 }
 
-/// How many bytes an image with these counts has.
+/// Returns how many bytes an image with these counts has.
 fn file_end(counts: Counts) -> usize
     ensures { result ≡ file_end counts }
 {
@@ -64,7 +64,7 @@ fn is_magic(four: &[u8]) -> bool
     four == MAGIC.as_slice() || four == TIMED_MAGIC.as_slice()
 }
 
-/// Whether a file begins as an image does: it is one then, or a faulty one, and no text.
+/// Returns whether a file begins like an image. Then it is an image, perhaps a faulty one, and not a text.
 pub fn is_image_file(file: &[u8]) -> bool
     ensures { result ≡ is_magic (take 4 file.now) }
 {
@@ -167,16 +167,15 @@ fn lists_at(alloc: Global, counts: Counts, bytes: &[u8]) -> Result<Image, ImageF
     })
 }
 
-/// The image that the bytes spell, all of the bytes. The faults are looked for in this order: too
-/// few bytes for the counts, another magic, a count above its limit, fewer bytes than the counts
-/// ask for, more bytes, then the fields and then the rows, from the left; and last that an image whose
-/// magic speaks of timed rows has one.
+/// Returns the image that the bytes encode. It checks in this order: too few bytes for the counts, wrong first four bytes, a
+/// count above its limit, fewer bytes than the counts require, more bytes, then the fields and the rows, from left to right,
+/// and last that an image that announces timed rows has one.
 #[tactic(auto, unfolding(crate::specs::Reading::image_of))]
 pub fn read_image(alloc: Global, bytes: &[u8]) -> Result<Image, ImageFault>
-    // What is read is spelled so.
+    // The image that is read has this encoding.
     ensures found { IfOk result (λ i. IsImage i × (bytes.now ≡ image_bytes i)) }
 
-    // What is spelled so is read, unless memory is refused.
+    // An image with this encoding is read, unless memory runs out.
     ensures only { (i : Image) → IsImage i → bytes.now ≡ image_bytes i →
         Answers is_memory (λ read. read) result (Ok i) }
 

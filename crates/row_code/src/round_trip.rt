@@ -1,5 +1,4 @@
-// What was written is read again: laws over the definitions, each the contract of a function that
-// does nothing.
+// What is written is read again. Each law is the contract of a function that does nothing.
 ghost use Rattle.std.specs.Prelude.{◌≡◌, ◌<◌, ℕ, List, All, Some, Ok};
 ghost use Rattle.instruction_table.specs.declared.row.Row.{Row};
 ghost use Rattle.row_code.specs.declared.image.Image.{Image};

@@ -38,10 +38,10 @@ fn fields_at(bytes: [u8; 8]) -> Fields
     Fields { a, b, c, imm }
 }
 
-/// The row that the bytes spell, if they spell one: `None` where a field that the row doesn't use
-/// isn't 0, or an operand is none of its kind.
+/// Returns the row that the bytes encode. Returns `None` if a field that the row doesn't use isn't 0, or if an operand isn't of
+/// its kind.
 pub fn decode(bytes: [u8; 8]) -> Option<Row>
-    // A row is the one with these bytes, and where there is such a row it is found.
+    // The row is the one with these bytes, and it is found if there is one.
     ensures found { IfSome result (λ row. IsRow row × (bytes_of row ≡ bytes)) }
     ensures only { (row : Row) → IsRow row → bytes_of row ≡ bytes → result ≡ Some row }
 

@@ -24,7 +24,7 @@ impl Model for Rows {
 }
 
 impl Rows {
-    /// Takes the rows as they are, or gives them back where there are too many.
+    /// Takes the rows as they are. Returns them if they are too many.
     pub fn new(rows: Vec<Row>) -> Result<Rows, Vec<Row>>
         ensures made { IfOk result (λ made. made ≡ rows.items) }
         ensures back { IfErr result (λ back. back ≡ rows) }
@@ -36,7 +36,7 @@ impl Rows {
         Ok(Rows { entries: rows })
     }
 
-    /// Whether one of the rows has a timeout.
+    /// Returns whether one of the rows has a timeout.
     pub fn has_timed(&self) -> bool
         ensures { result ≡ has_timed_row self.now }
     {
@@ -51,7 +51,7 @@ impl Rows {
         &self.entries
     }
 
-    /// The same rows in memory of their own.
+    /// Returns a copy with memory of its own.
     pub fn copy(&self, alloc: Global) -> Result<Rows, AllocError>
         ensures { IfOk result (λ copy. copy ≡ self.now) }
     {

@@ -7,7 +7,7 @@ use std::marker::Model;
 /// A thread as a program declares it.
 #[derive(Clone, Copy, Debug, PartialEq, Eq)]
 pub struct DeclaredThread {
-    /// The row that the thread begins at.
+    /// The first row of the thread.
     pub first_row: u16,
 }
 
@@ -26,7 +26,7 @@ impl Model for Threads {
 }
 
 impl Threads {
-    /// Takes the threads as they are, or gives them back where there are too many.
+    /// Takes the threads as they are. Returns them if they are too many.
     pub fn new(threads: Vec<DeclaredThread>) -> Result<Threads, Vec<DeclaredThread>>
         ensures made { IfOk result (λ made. made ≡ threads.items) }
         ensures back { IfErr result (λ back. back ≡ threads) }
@@ -46,7 +46,7 @@ impl Threads {
         &self.entries
     }
 
-    /// The same threads in memory of their own.
+    /// Returns a copy with memory of its own.
     pub fn copy(&self, alloc: Global) -> Result<Threads, AllocError>
         ensures { IfOk result (λ copy. copy ≡ self.now) }
     {

@@ -8,7 +8,7 @@ use crate::image::{Counts, Image, MAGIC, TIMED_MAGIC};
 use crate::write_fault::WriteFault;
 use byte_ports::Sink;
 
-/// How many of each the image has, which is within its limits.
+/// Returns how many of each the image has, within the limits.
 fn counts_of(image: &Image) -> Counts
     ensures { result ≡ counts_of image.now }
 {
@@ -43,8 +43,8 @@ fn write_lists<W: Sink>(sink: &mut W, image: &Image) -> Result<(), WriteFault>
     write_entries(sink, image.rows.as_slice())
 }
 
-/// Writes the image's bytes: first the counts, then one entry at a time. How much of them
-/// went out where the sink failed is left open.
+/// Writes the image's bytes: first the counts, then one entry after another. If the sink fails, an unknown part of them is
+/// written.
 pub fn write_image<W: Sink>(image: &Image, sink: &mut W) -> Result<(), WriteFault>
     ensures bytes { OnOk result
         (Appends (W.written sink.old) (W.written sink.new) (image_bytes image.now)) }

@@ -1,4 +1,4 @@
--- The numbers by which the faults of a schedule are told.
+-- The numbers that the faults of a schedule are reported with.
 use Rattle.std.specs.Prelude.{ℕ, Option, Some, None}
 use Rattle.schedule_reader.specs.declared.fault.ScheduleFault.{ScheduleFault}
 use Rattle.schedule_reader.specs.declared.fault.ScheduleFault.TheVariants as fault

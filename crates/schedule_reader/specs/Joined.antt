@@ -1,8 +1,8 @@
--- Runs that are joined where they can be.
+-- Runs that are joined if they can be.
 use Rattle.std.specs.Prelude.{◌≡◌, List, [], ◌∷◌}
 use Rattle.schedule_reader.specs.declared.run.Run.{Run}
 
--- no run names the choice of the run behind it, unless it names it as often as a token can
+-- no run has the choice of the run after it, unless it is as long as a token can say
 abbrev pub AreJoined : List Run → Type 0
 AreJoined [] = Unit {0}
 AreJoined (run ∷ []) = Unit {0}

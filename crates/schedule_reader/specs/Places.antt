@@ -1,5 +1,5 @@
--- Where a reader stands in a stream, and what the bytes that are left make of it. Nobody has to
--- believe this: it is what proofs go by, and a reader's contracts hand it on from call to call.
+-- Where a reader is in a stream, and what the remaining bytes lead to. Only proofs use this: a reader's contracts pass it on
+-- from call to call, and no promise depends on it.
 use Rattle.std.specs.Prelude.{◌≡◌, ◌≤◌, ℕ, ◌+◌, ◌-◌, ◌==◌, ◌||◌, ◌⊎◌, nat_lt, if◌then◌else◌, Bool, true, false, List, [], ◌∷◌, ◌++◌, length, drop, Option, Some, None, Result, Ok, Err}
 use Rattle.std.specs.List.{slice_split}
 use Rattle.std.specs.Str.Parse.{AllDigits, digits_value_after}
@@ -11,8 +11,7 @@ use Rattle.schedule_reader.specs.declared.place.Place.{Place}
 use Rattle.schedule_reader.specs.declared.place.Place.TheVariants as place
 use Rattle.schedule_reader.specs.Schedule.{Reading, Faulty, Schedule, is_blank, digits_of, whole, reading_of, reading_of_thread, reading_of_count, faulty, no_runs, schedule_with, schedule_with_piece, open_schedule_of, last_schedule, schedule_in, schedule_of, open_schedule}
 
--- a number of so many digits, none where there are more digits or the number is larger than is
--- allowed
+-- a number with so many digits, or nothing if there are more digits or the number is too large
 abbrev pub number_by : ℕ → ℕ → ℕ → ℕ → Option ℕ
 number_by count value most_digits most =
     if nat_lt most_digits count || nat_lt most value then None else Some value
@@ -27,7 +26,7 @@ abbrev pub times_by : ℕ → Choice → ℕ → ℕ → List ℕ → Reading
 times_by start choice count value rest =
     reading_of_count start choice count rest (number_by count value 10 1000000000)
 
--- a token whose rest, in the thread's number, stands at this offset
+-- a token whose rest, in the thread's number, begins at this offset
 abbrev pub thread_from : ℕ → Bool → ℕ → ℕ → List ℕ → Reading
 thread_from at expiry digits number part =
     let more = digits_of part in
@@ -41,13 +40,13 @@ times_from at choice digits number part =
     times_by (at - digits) choice (digits + length more) (digits_value_after 10 number more)
     (drop (length more) part)
 
--- the piece whose rest stands at this offset, by the place before it
+-- the piece whose rest begins at this offset, by the place before it
 abbrev pub piece_from : Place → ℕ → List ℕ → Reading
 piece_from place.Between at part = reading_of at part
 piece_from (place.Thread expiry digits number) at part = thread_from at expiry digits number part
 piece_from (place.Times choice digits number) at part = times_from at choice digits number part
 
--- that piece where it is whole, and what comes after it
+-- that piece if it is complete, and what comes after it
 abbrev pub piece_with : Place → ℕ → List ℕ → Schedule → Schedule
 piece_with place.Between at part more = schedule_with_piece at part more
 piece_with (place.Thread expiry digits number) at part more =
@@ -55,7 +54,7 @@ piece_with (place.Thread expiry digits number) at part more =
 piece_with (place.Times choice digits number) at part more =
     schedule_with (whole (times_from at choice digits number part)) more
 
--- and where it is the last
+-- and if it is the last
 abbrev pub last_from : Bool → Place → ℕ → List ℕ → Schedule
 last_from finished place.Between at part = last_schedule finished at part
 last_from true (place.Thread expiry digits number) at part =
@@ -67,7 +66,7 @@ last_from true (place.Times choice digits number) at part =
 last_from false (place.Times choice digits number) at part =
     open_schedule_of (times_from at choice digits number part)
 
--- pieces between single blanks, of which the first goes on from this place
+-- pieces between single blanks; the first goes on from this place
 abbrev pub pieces_from : Bool → Place → ℕ → List (List ℕ) → Schedule
 pieces_from finished place at [] = no_runs
 pieces_from finished place at (piece ∷ []) = last_from finished place at piece
@@ -82,7 +81,7 @@ schedule_from finished place at rest = pieces_from finished place at (slice_spli
 abbrev pub with_runs : List Run → Schedule → Schedule
 with_runs runs schedule = record { runs = runs ++ schedule.runs; fault = schedule.fault }
 
--- what a place or a fault makes of the piece's rest
+-- what the rest of the piece leads to after a place or a fault
 abbrev pub reading_left : Result Place ScheduleFault → ℕ → List ℕ → Reading
 reading_left (Ok place) at part = piece_from place at part
 reading_left (Err fault) at part = Faulty fault
@@ -99,20 +98,20 @@ IsInside place.Between = ⊥
 IsInside (place.Thread expiry digits number) = Unit {0}
 IsInside (place.Times choice digits number) = Unit {0}
 
--- numbers that a reader can stand at
+-- numbers that a reader's place can have
 abbrev pub IsPlace : ℕ → Place → Type 0
 IsPlace at place.Between = Unit {0}
 IsPlace at (place.Thread expiry digits number) = (digits ≤ 2) × (number ≤ 63) × (digits ≤ at)
 IsPlace at (place.Times choice digits number) =
     (digits ≤ 10) × (number ≤ 1000000000) × (digits ≤ at) × (choice.thread ≤ 63)
 
--- how many bytes of the token at hand are spent at least, at most 2
+-- how many bytes of the present token are spent at least, at most 2
 abbrev pub spent : Place → ℕ
 spent place.Between = 0
 spent (place.Thread expiry digits number) = if digits == 0 then 1 else 2
 spent (place.Times choice digits number) = 2
 
--- bytes begin with so many, a turn of this thread that is named once and the space behind it
+-- the bytes begin with so many bytes: a single turn of this thread, and the space after it
 pub record BeginsWithTurn (bytes : List ℕ) (thread count : ℕ) : Type 0 where
   pub digits : List ℕ
   pub counted : count ≡ length digits + 2
@@ -124,12 +123,12 @@ pub record BeginsWithTurn (bytes : List ℕ) (thread count : ℕ) : Type 0 where
   pub begins : bytes ≡ (116 ∷ digits) ++ (32 ∷ drop count bytes)
   pub within : count ≤ length bytes
 
--- a schedule is faulty, is left to memory, or is that of what was answered
+-- a schedule has a fault, or the call is out of memory, or the result is the schedule
 abbrev pub IsLeft : {X : Type 0} → Result X ScheduleFault → (X → Schedule) → Schedule → Type 0
 IsLeft (Ok x) left schedule = schedule ≡ left x
 IsLeft (Err f) left schedule = (f ≡ fault.Memory) ⊎ (schedule ≡ faulty f)
 
--- runs were added to a list, the first of each of these schedules, of which this is left
+-- runs were appended to a list, the first ones of each of these schedules, and this is left of them
 pub record Takes {X I : Type 0} (result : Result X ScheduleFault) (before after : List Run)
     (start : I → Schedule) (left : I → X → Schedule) : Type 0 where
   pub added : List Run
@@ -137,7 +136,7 @@ pub record Takes {X I : Type 0} (result : Result X ScheduleFault) (before after 
   pub schedules : (i : I)
       → (rest : Schedule) × ((start i ≡ with_runs added rest) × IsLeft result (left i) rest)
 
--- a reader: how many bytes it was given, where it stands, and its fault
+-- a reader: how many bytes it was given, its place, and its fault
 pub record Progress : Type 0 where
   pub read : ℕ
   pub place : Place
@@ -152,8 +151,7 @@ abbrev pub rest_schedule : Progress → Bool → List ℕ → Schedule
 rest_schedule reader finished rest =
     rest_by_fault reader.fault (schedule_from finished reader.place reader.read rest)
 
--- the reader stands behind this stream: whatever comes, the runs so far and what the rest adds are
--- the whole schedule
+-- the reader is after this stream: whatever comes, the runs so far and those of the rest are the whole schedule
 pub record HasRead (reader : Progress) (bytes : List ℕ) : Type 0 where
   pub read : reader.read ≡ length bytes
   pub rest : (finished : Bool) (rest : List ℕ)

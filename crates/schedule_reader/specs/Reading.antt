@@ -1,4 +1,4 @@
--- What a call of a reader adds to a list of runs, and what it answers.
+-- What a call of a reader appends to a list of runs, and what it returns.
 use Rattle.std.specs.Prelude.{◌≡◌, ◌⊎◌, List, [], ◌++◌, Option, Some, None, Result, Ok, Err}
 use Rattle.schedule_reader.specs.declared.run.Run.{Run}
 use Rattle.schedule_reader.specs.declared.fault.ScheduleFault.{ScheduleFault}
@@ -13,8 +13,8 @@ answer_by (Some fault) = Err fault
 abbrev pub answer_of : Schedule → Result (Unit {0}) ScheduleFault
 answer_of schedule = answer_by schedule.fault
 
--- a list got just the runs that the longer stream's schedule has more than the shorter one's; where
--- memory was wanting, some are missing at the end
+-- a list got exactly the runs that the longer stream's schedule has more than the shorter one's; if it was out of memory, some
+-- are missing at the end
 pub record Adds (result : Result (Unit {0}) ScheduleFault) (shorter longer : Schedule)
     (before after : List Run) : Type 0 where
   pub added : List Run

@@ -1,5 +1,5 @@
--- What a schedule's bytes mean: tokens `tN` or `tN*K`, turns of thread N, and `xN` or `xN*K`,
--- expiries of its timed wait, between blanks; K is how often.
+-- What a schedule's bytes mean. Between blanks there are tokens: `tN` or `tN*K`, turns of thread N, and `xN` or `xN*K`,
+-- expiries of its timed wait; K is the count.
 use Rattle.std.specs.Prelude.{ℕ, ◌+◌, ◌≤◌, ◌==◌, ◌||◌, ◌&&◌, not, nat_lt, if◌then◌else◌, Bool, true, false, List, [], ◌∷◌, length, drop, replicate, flat_map, take_while, Option, Some, None, Result, Ok, Err}
 use Rattle.std.specs.List.{slice_split}
 use Rattle.std.specs.Char.{is_ascii_digit}
@@ -13,8 +13,7 @@ use Rattle.schedule_reader.specs.declared.fault.ScheduleFault.TheVariants as fau
 abbrev pub is_blank : ℕ → Bool
 is_blank byte = (byte == 32) || (byte == 9) || (byte == 13) || (byte == 10)
 
--- what a piece between blanks is: a token; faulty by the bytes that are there; or no token yet, and
--- faulty if it ends here
+-- what a piece between blanks is: a token; faulty because of its bytes; or not yet a token, and faulty if it ends here
 pub data Reading : Type 0 where
   Token : Run → Reading
   Faulty : ScheduleFault → Reading
@@ -32,8 +31,7 @@ run_of choice times = record { choice = choice; times = times }
 abbrev pub digits_of : List ℕ → List ℕ
 digits_of part = take_while is_ascii_digit part
 
--- the number that they spell, none where there are more digits or the number is larger than is
--- allowed
+-- the number that they spell, or nothing if there are more digits or the number is too large
 abbrev pub number_within : List ℕ → ℕ → ℕ → Option ℕ
 number_within part most_digits most =
     let number = digits_value 10 (digits_of part) in
@@ -44,7 +42,7 @@ abbrev pub reading_of_times : ℕ → Choice → ℕ → Reading
 reading_of_times at choice times =
     if times == 0 then Unfinished (fault.Repeat at) else Token (run_of choice times)
 
--- by how many digits there are, and what follows them: they stand at the end of the token
+-- by the number of digits and what follows them: they are the end of the token
 abbrev pub reading_by_times : ℕ → Choice → ℕ → ℕ → List ℕ → Reading
 reading_by_times at choice times count (byte ∷ rest) = Faulty (fault.Byte (at + count))
 reading_by_times at choice times count [] =
@@ -61,8 +59,8 @@ reading_after_star at choice part =
     let count = length (digits_of part) in
     reading_of_count at choice count (drop count part) (number_within part 10 1000000000)
 
--- by how many digits the thread has, and what follows them: nothing, the star, or a byte that can't
--- stand there; 42 is the star
+-- by the number of the thread's digits and what follows them: nothing, the star, or a byte that isn't allowed there; 42 is the
+-- star
 abbrev pub reading_by_thread : ℕ → Choice → ℕ → List ℕ → Reading
 reading_by_thread at choice count [] =
     if count == 0 then Unfinished (fault.Byte at) else Token (run_of choice 1)
@@ -108,17 +106,17 @@ no_runs = record { runs = []; fault = None }
 abbrev pub faulty : ScheduleFault → Schedule
 faulty fault = record { runs = []; fault = Some fault }
 
--- a whole piece and what comes after it
+-- a whole piece, and what comes after it
 abbrev pub schedule_with : Result Run ScheduleFault → Schedule → Schedule
 schedule_with (Ok run) rest = record { runs = run ∷ rest.runs; fault = rest.fault }
 schedule_with (Err fault) rest = faulty fault
 
--- a piece that is whole, at this offset, and what comes after it; an empty piece is nothing
+-- a piece that is whole, at this offset, and what comes after it; an empty piece means nothing
 abbrev pub schedule_with_piece : ℕ → List ℕ → Schedule → Schedule
 schedule_with_piece at [] rest = rest
 schedule_with_piece at (byte ∷ part) rest = schedule_with (whole (reading_of at (byte ∷ part))) rest
 
--- a piece to which more bytes may come: no token yet
+-- a piece that more bytes may follow: not yet a token
 abbrev pub open_schedule_of : Reading → Schedule
 open_schedule_of (Token run) = no_runs
 open_schedule_of (Faulty fault) = faulty fault
@@ -141,7 +139,7 @@ schedule_in finished at (piece ∷ next ∷ pieces) =
 abbrev pub schedule_of : Bool → List ℕ → Schedule
 schedule_of finished bytes = schedule_in finished 0 (slice_split is_blank bytes)
 
--- the schedule of a stream to which more bytes may come
+-- the schedule of a stream that more bytes may follow
 abbrev pub open_schedule : List ℕ → Schedule
 open_schedule bytes = schedule_of false bytes
 

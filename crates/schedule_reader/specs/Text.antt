@@ -8,7 +8,7 @@ abbrev pub letter_of : Bool → ℕ
 letter_of true = 120
 letter_of false = 116
 
--- how often, where it is more than once; 42 is the star
+-- the count, if it is above 1; 42 is the star
 abbrev pub times_text : ℕ → List ℕ
 times_text times = if times == 1 then [] else 42 ∷ decimal times
 

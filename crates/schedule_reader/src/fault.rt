@@ -4,19 +4,18 @@ ghost use Rattle.schedule_reader.specs.FaultNumber.{schedule_number};
 /// What is wrong with a schedule. An offset counts the stream's bytes from 0.
 #[derive(Clone, Copy, Debug, PartialEq, Eq)]
 pub enum ScheduleFault {
-    /// A byte that can't stand there, or the end of a token that was cut short.
+    /// A byte that isn't allowed there, or the end of a token that is incomplete.
     Byte(u64),
     /// The thread's number, which begins at this offset, has a third digit or is above 63.
     Number(u64),
-    /// The count, which begins at this offset, has an eleventh digit, is above 1,000,000,000 or is
-    /// 0.
+    /// The count, which begins at this offset, has an eleventh digit, is above 1,000,000,000 or is 0.
     Repeat(u64),
     /// Out of memory.
     Memory,
 }
 
 impl ScheduleFault {
-    /// The number that the fault is told with: missing memory has none.
+    /// Returns the number that the fault is reported with. `Memory` has none.
     pub fn number(self) -> Option<u8>
         ensures { result ≡ schedule_number self }
     {

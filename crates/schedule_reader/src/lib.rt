@@ -1,9 +1,8 @@
 //! Schedules: texts that say whose turn it is.
 //!
-//! A token `t3` is a turn of thread 3, `x3` the expiry of its timed wait, `t3*20` twenty turns.
-//! A `Reader` takes a text in whatever pieces it comes (`specs/Schedule.antt`).
-//! `read_schedule` takes one that is there at once. `write_schedule` is the way back, and `push_choice` makes the text of
-//! choices as they come, each by itself (`specs/Record.antt`).
+//! A token `t3` is a turn of thread 3, `x3` is the expiry of its timed wait, and `t3*20` is twenty turns. A `Reader` takes a
+//! text in pieces of any size (`specs/Schedule.antt`), and `read_schedule` takes a whole one. `write_schedule` writes a text.
+//! `push_choice` writes one choice at a time, as choices are made (`specs/Record.antt`).
 #![tactic(auto)]
 
 mod fault;

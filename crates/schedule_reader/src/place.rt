@@ -11,22 +11,21 @@ use thread_machine::Choice;
 
 /// The highest number that a thread can have.
 const LAST_THREAD: u16 = 63;
-/// How often a token can name its choice at most.
+/// The most times that a token can repeat its choice.
 const MOST_TIMES: u64 = 1_000_000_000;
 
-/// Where a reader stands, by numbers alone. The offset at which a number begins is counted back
-/// from the byte at hand.
+/// Where a reader is, in numbers only. The offset at which a number begins is computed back from the present byte.
 #[derive(Clone, Copy)]
 pub enum Place {
     /// Between tokens.
     Between,
-    /// Behind the letter and so many digits of the thread's number.
+    /// After the letter and so many digits of the thread's number.
     Thread {
         expiry: bool,
         digits: u8,
         number: u8,
     },
-    /// Behind the star and so many digits of how often.
+    /// After the star and so many digits of the count.
     Times {
         choice: Choice,
         digits: u8,
@@ -42,7 +41,7 @@ pub fn is_blank(byte: u8) -> bool
 }
 
 impl Place {
-    /// The place behind a byte that is no blank, at this offset.
+    /// Returns the place after a byte that isn't a blank, at this offset.
     pub fn with_byte(self, at: u64, byte: u8) -> Result<Place, ScheduleFault>
         requires place { IsPlace at self }
         ensures reading { (part : List ℕ) → piece_from self at (byte ∷ part)

@@ -15,8 +15,8 @@ use thread_machine::Choice;
 /// The highest number that a thread can have.
 const LAST_THREAD: u8 = 63;
 
-/// Reads one schedule, a stream of bytes that comes in pieces. A token is whole when the blank
-/// after it, or `finish`, has come. After a fault every call answers that fault.
+/// Reads a schedule, a stream of bytes that comes in pieces. A token is complete when the blank after it has come, or `finish`.
+/// After a fault every call returns that fault.
 #[derive(Drop)]
 pub struct Reader {
     read: u64,
@@ -39,7 +39,7 @@ impl Model for Reader {
 }
 
 impl Reader {
-    /// A reader of a stream that has yet to come.
+    /// Makes a reader at the beginning of a stream.
     pub fn new() -> Reader
         ensures stream { HasRead result [] }
         ensures read { result.read ≡ 0 }
@@ -52,15 +52,15 @@ impl Reader {
         }
     }
 
-    /// How many bytes it was given.
+    /// Returns how many bytes the reader was given.
     pub fn bytes_read(&self) -> u64
         ensures { result ≡ self.now.read }
     {
         self.read
     }
 
-    /// Takes the stream's next bytes, and adds the runs of the tokens that are whole with them. A
-    /// list with room for a run for every three bytes and two bytes more takes no memory.
+    /// Takes the stream's next bytes, and appends the runs of the tokens that are complete with them. It doesn't allocate if
+    /// the list has room for one run for every three bytes, and for two bytes more.
     pub fn feed(&mut self, piece: &[u8], runs: &mut Vec<Run>) -> Result<(), ScheduleFault>
         requires { self.old.read + length piece.now < 9223372036854775807 }
         ensures runs { (bytes : List ℕ) → HasRead self.old bytes
@@ -98,8 +98,8 @@ impl Reader {
         }
     }
 
-    /// Ends the stream, and adds the run of its last token where that wasn't whole before. A list
-    /// with room for one run takes no memory.
+    /// Ends the stream, and appends the run of its last token, if that wasn't complete before. It doesn't allocate if the list
+    /// has room for one run.
     pub fn finish(self, runs: &mut Vec<Run>) -> Result<(), ScheduleFault>
         ensures runs { (bytes : List ℕ) → HasRead self bytes
             → Adds result (open_schedule bytes) (finished_schedule bytes)
@@ -163,8 +163,8 @@ fn bytes_from(piece: &[u8], done: usize) -> &[u8]
     &piece[done..]
 }
 
-/// Goes on from a place over the first of the bytes that begin at this offset: over all turns that are
-/// named once, each with the space behind it, where they begin so, else over one. Answers how many.
+/// Goes on from a place over the first of the bytes that begin at this offset: over all single turns, each with the space after
+/// it, if the bytes begin so, and otherwise over one byte. Returns over how many.
 #[inline(always)]
 fn read_some(
     place: Place,
@@ -203,8 +203,8 @@ fn read_some(
     }
 }
 
-/// Goes on over the turns that are named once, each with the space behind it, with which the bytes begin. Answers how many
-/// bytes those are: none where they don't begin so, or the list is full. It stands apart and takes no memory, so that its loop
+/// Goes on over the single turns, each with the space after it, that the bytes begin with. Returns how many bytes those are:
+/// none if the bytes don't begin so, or if the list is full. It is a function of its own and doesn't allocate, so that its loop
 /// is short.
 #[inline(never)]
 fn read_turns(rest: &[u8], runs: &mut Vec<Run>) -> usize
@@ -243,8 +243,7 @@ fn turn_of(thread: u8) -> Run
     }
 }
 
-/// The thread, where the bytes begin with a turn that is named once and a space behind it, and
-/// how many bytes those are.
+/// Returns the thread, and how many bytes the token and the space take, if the bytes begin with a single turn and a space.
 #[inline(always)]
 fn turn_before_space(bytes: &[u8]) -> Option<(u8, usize)>
     ensures turn { IfSome result (λ turn. BeginsWithTurn bytes.now turn.0 turn.1) }

@@ -7,10 +7,10 @@ ghost use Rattle.schedule_reader.specs.Text.{token_of};
 
 use thread_machine::Choice;
 
-/// How many bytes a choice takes in a record at most: the space before it, its letter and two digits.
+/// The most bytes that a choice takes in a record: the space before it, its letter and two digits.
 pub const MOST_CHOICE_BYTES: usize = 4;
 
-/// One choice more behind a text that names each of its choices by itself. There is room for it.
+/// Appends one choice to a text that names each of its choices separately. There is room for it.
 pub fn push_choice(text: &mut Vec<u8>, choice: Choice)
     requires room { vec_len text.old + 4 ≤ vec_capacity text.old }
     requires thread { choice.thread ≤ 63 }
@@ -36,7 +36,7 @@ fn push_once(text: &mut Vec<u8>, choice: Choice)
     text.push_reserved(b'0' + choice.thread % 10);
 }
 
-/// A law: a record is read as just the choices that it was made of.
+/// A law: a record is read as exactly the choices that it was made of.
 pub fn a_record_is_read_as_its_choices()
     ensures { (choices : List Choice) → All IsNamed choices
         → finished_schedule (record_text choices) ≡ record { runs = once_each choices; fault = None } }

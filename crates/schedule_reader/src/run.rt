@@ -6,7 +6,7 @@ ghost use Rattle.schedule_reader.specs.Schedule.{IsRun, choices_of, run_of};
 use std::alloc::{AllocError, Global};
 use thread_machine::Choice;
 
-/// How often a run names its choice at most.
+/// The most times that a run can repeat its choice.
 const MOST_TIMES: u32 = 1_000_000_000;
 
 /// One token of a schedule: a choice, and how often it is made.
@@ -25,7 +25,7 @@ impl Run {
         Run { choice, times: 1 }
     }
 
-    /// The run with this choice once more, where it is of this choice and can have it.
+    /// Returns the run with this choice once more, if it is a run of this choice and can be longer.
     pub fn with(self, choice: Choice) -> Option<Run>
         requires { self.times ≤ 1000000000 }
         ensures { MatchOption result (self.choice ≡ choice → self.times ≡ 1000000000)
@@ -44,7 +44,7 @@ impl Run {
     }
 }
 
-/// One choice more behind runs: the last run once more, or a run of its own. There is room for it.
+/// Appends one choice to runs: the last run gets longer, or there is a new one. There is room for it.
 pub fn push_joined(runs: &mut Vec<Run>, choice: Choice)
     requires room { vec_len runs.old < vec_capacity runs.old }
     requires thread { choice.thread ≤ 63 }
@@ -64,7 +64,7 @@ pub fn push_joined(runs: &mut Vec<Run>, choice: Choice)
     runs.push_reserved(Run::once(choice));
 }
 
-/// The same choices, those that repeat as one run. It takes as long as there are choices.
+/// Returns runs with the same choices, in which equal neighbours are joined. The time is proportional to the number of choices.
 pub fn joined(alloc: Global, runs: &[Run]) -> Result<Vec<Run>, AllocError>
     requires { All IsRun runs.now }
     ensures choices { IfOk result (λ all. choices_of all.items ≡ choices_of runs.now) }
@@ -78,7 +78,7 @@ pub fn joined(alloc: Global, runs: &[Run]) -> Result<Vec<Run>, AllocError>
     Ok(all)
 }
 
-/// One choice as often as a run says, behind runs that are joined.
+/// Appends one choice as often as a run says to runs that are joined.
 fn push_run(runs: &mut Vec<Run>, run: Run) -> Result<(), AllocError>
     requires run { IsRun run }
     requires runs { All IsRun runs.old.items }

@@ -6,7 +6,7 @@ use crate::reader::Reader;
 use crate::run::Run;
 use std::alloc::Global;
 
-/// The runs of a schedule that is there at once, and that has no fault.
+/// Returns the runs of a whole schedule that has no fault.
 pub fn read_schedule(alloc: Global, schedule: &[u8]) -> Result<Vec<Run>, ScheduleFault>
     requires { length schedule.now < 9223372036854775807 }
     ensures runs { IfOk result (λ runs.
@@ -27,7 +27,7 @@ pub fn read_schedule(alloc: Global, schedule: &[u8]) -> Result<Vec<Run>, Schedul
     }
 }
 
-/// Whether a reader was refused memory.
+/// Returns whether a reader was out of memory.
 fn is_refused(told: Result<(), ScheduleFault>) -> bool
     ensures { (result ≡ true) ↔ (told ≡ Err ScheduleFault.Memory) }
 {

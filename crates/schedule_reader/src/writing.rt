@@ -8,8 +8,7 @@ use crate::run::Run;
 use std::alloc::{AllocError, Global};
 use std::fmt::Write;
 
-/// The text of these runs: a token for each, one space between them. A reader reads it as just
-/// these runs.
+/// Returns the text of these runs: a token for each, with one space between them. A reader reads it as exactly these runs.
 pub fn write_schedule(alloc: Global, runs: &[Run]) -> Result<String, AllocError>
     requires { All IsRun runs.now }
     ensures text { IfOk result (λ text. string_bytes text ≡ schedule_text runs.now) }
@@ -52,7 +51,7 @@ fn push_token(text: &mut String, run: Run) -> Result<(), AllocError>
     push_times(text, run.times)
 }
 
-/// How often, where it is more than once.
+/// Appends the count, if it is above 1.
 fn push_times(text: &mut String, times: u32) -> Result<(), AllocError>
     ensures { OnOk result (string_bytes text.new ≡ string_bytes text.old ++ times_text times) }
 {

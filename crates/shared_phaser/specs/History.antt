@@ -13,8 +13,8 @@ use Rattle.shared_phaser.specs.declared.history.Answer.TheVariants.{Saw, Replied
 use Rattle.shared_phaser.specs.declared.history.Entry.{Entry}
 use Rattle.shared_phaser.specs.declared.history.Setup.{Setup}
 
--- what comes of a call: it answers a word of the phaser, it answers this and changes nothing, it makes this of the phaser
--- and answers that, or it can't be answered yet
+-- the effect of a call: it returns a word of the phaser; or it returns this and changes nothing; or it changes the phaser to
+-- this one and returns that; or it can't be made yet
 pub data Effect : Type 0 where
   Shows : Effect
   Tells : Answer → Effect
@@ -51,7 +51,7 @@ effect p (Arrive leave) f = arriving p f.phase (arrive leave f)
 effect p Force f = forcing f
 effect p (Await n) f = awaiting n f
 
--- whether an answer is the one that the effect has
+-- whether a result is the one that the effect has
 abbrev pub Answers : Flat → Effect → Answer → Type 0
 Answers f Shows a = (word : ℕ) × (a ≡ Saw word) × (record_of word ≡ f)
 Answers f (Tells b) a = a ≡ b
@@ -65,14 +65,14 @@ after f (Tells b) = f
 after f (Makes g b) = g
 after f Waits = f
 
--- 1 where it changes the phaser, else 0
+-- 1 if it changes the phaser, and otherwise 0
 abbrev pub change : Effect → ℕ
 change Shows = 0
 change (Tells b) = 0
 change (Makes g b) = 1
 change Waits = 0
 
--- each call, in turn, got the answer that the phaser gives which the calls before it left
+-- each call, in order, had the result that it has on the phaser after the calls before it
 abbrev pub IsLegalFrom : Policy → Flat → List Entry → Type 0
 IsLegalFrom p f [] = Unit {0}
 IsLegalFrom p f (e ∷ es) = Answers f (effect p e.call f) e.answer × IsLegalFrom p (after f (effect p e.call f)) es

@@ -1,4 +1,4 @@
--- What a caller knows, and what each call makes of it.
+-- What a caller knows, and what each call adds to that.
 use Rattle.std.specs.Prelude.{◌≡◌, ◌≢◌, ◌⊎◌, ℕ, ℤ, ◌+◌, ◌<◌, ◌≤◌, false, List, [], ◌∷◌, ◌++◌, All, Any}
 use mathlib.Core.List.{IsPrefix}
 use Rattle.atomic_table.specs.Seated.{TableId}
@@ -28,7 +28,7 @@ pub record Caller : Type 0 where
 abbrev pub phaser_of : Caller → Identity
 phaser_of c = record { table = c.table; opening = c.known.opening }
 
--- of the callers that k stands for, itself and those joined into it, the history has just the calls that they made
+-- the calls in the history that belong to k, or to callers joined into it, are exactly those that they made
 pub record Owns (log : List Entry) (k : Known) : Type 0 where
   pub own : calls_by k.number log ≡ k.calls
   pub kept : All (λ (x : Kept). calls_by x.number log ≡ x.calls) k.joined
@@ -79,11 +79,11 @@ giving k = record k { splits = k.splits + 1 }
 abbrev pub given : Known → Known
 given k = record { number = k.splits + 1; opening = k.opening; splits = 0; seen = k.seen; calls = []; joined = [] }
 
--- the first caller stands for another, and for those that the other stood for
+-- the first caller also stands for another, and for those that the other stood for
 abbrev pub receiving : Known → Known → Known
 receiving k other = record k { joined = k.joined ++ (record { number = other.number; calls = other.calls } ∷ other.joined) }
 
--- What the first caller has then seen begins with what either had seen
+-- What the first caller has seen afterwards begins with what either had seen
 pub record JoinsCaller (k other l : Known) : Type 0 where
   pub is : l ≡ seeing (receiving k other) l.seen
   pub legal : IsLegal l.opening l.seen
@@ -99,8 +99,8 @@ IsWhole k = (n : ℕ) → 0 < n → n ≤ k.splits → Any (λ (x : Kept). x.num
 abbrev pub IsApart : Known → ℕ → Type 0
 IsApart k n = (n ≢ k.number) × All (λ (x : Kept). x.number ≢ n) k.joined
 
--- The word is that of the phaser after a legal history which goes on from what k has seen, with no further call of those
--- that k stands for; where k is whole, with no call of anybody else
+-- The word is that of the phaser after a legal history that continues what k has seen, with no further call of those that k
+-- stands for; if k is whole, with no further call of anybody
 pub record EndsAs (k : Known) (word : ℕ) : Type 0 where
   pub log : List Entry
   pub legal : IsLegal k.opening log

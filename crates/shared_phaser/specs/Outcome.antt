@@ -1,4 +1,4 @@
--- What the code's own answers mean. Nobody has to believe this: it is what proofs go by between the calls and the history.
+-- What the code's own results mean. Only proofs use this, between the calls and the history: no promise depends on it.
 use Rattle.std.specs.Prelude.{◌≡◌}
 use Rattle.packed_phaser.specs.Word.{record_of}
 use Rattle.shared_phaser.specs.declared.history.Call.{Call}
@@ -20,7 +20,7 @@ effect_of (Told a) = Tells a
 effect_of (Change word a) = Makes (record_of word) a
 effect_of Wait = Waits
 
--- the calls that are tried until they have an answer
+-- the calls that try until they have a result
 abbrev pub IsTried : Call → Type 0
 IsTried Look = ⊥
 IsTried (Register k) = Unit {0}
@@ -36,7 +36,7 @@ IsPrompt (Arrive leave) = Unit {0}
 IsPrompt Force = Unit {0}
 IsPrompt (Await n) = ⊥
 
--- the kinds of answer that a call may have
+-- the kinds of result that a call can have
 abbrev pub Suits : Call → Answer → Type 0
 Suits (Await n) (Passed view) = Unit {0}
 Suits (Arrive leave) (Replied TooMany) = ⊥
@@ -51,7 +51,7 @@ SuitsOutcome c (Told a) = Suits c a
 SuitsOutcome c (Change word a) = Suits c a
 SuitsOutcome c Wait = IsPrompt c → ⊥
 
--- what one try makes of what the caller knows
+-- what one try does to the caller's knowledge
 abbrev pub Tried : Known → Call → Attempt → Known → Type 0
 Tried k c (Made a) l = MakesCall k c a l × Suits c a
 Tried k c (Lost word) l = SeesMore k 1 l × (record_of word ≡ at_end l.opening l.seen)

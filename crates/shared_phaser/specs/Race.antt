@@ -1,4 +1,4 @@
--- What a call that lost all its tries leaves.
+-- What a call leaves that lost all its tries.
 use Rattle.std.specs.Prelude.{◌≡◌, ℕ}
 use Rattle.packed_phaser.specs.Word.{record_of}
 use Rattle.shared_phaser.specs.declared.calls.Raced.{Raced}
@@ -6,8 +6,8 @@ use Rattle.shared_phaser.specs.declared.history.Known.{Known}
 use Rattle.shared_phaser.specs.History.{at_end}
 use Rattle.shared_phaser.specs.Known.{SeesMore}
 
--- No call was made, and since the caller's last look there were as many changes as tries, all of which it has now seen.
--- The word is that of the phaser after them
+-- No call was made, and since the caller's last look there were as many changes as tries. The caller has now seen all of them,
+-- and the word is that of the phaser after them
 pub record LosesRaces (k : Known) (tries : ℕ) (e : Raced) (l : Known) : Type 0 where
   pub sees : SeesMore k tries l
   pub word : record_of e.word ≡ at_end l.opening l.seen

@@ -1,5 +1,5 @@
--- The rule that the word and the callers' views keep, and what each step on the word tells. Nobody has to believe it: the calls
--- promise what `Known` and `History` say.
+-- The rule that the word and the callers' views follow, and what each step on the word says. No promise depends on it: the
+-- calls promise what `Known` and `History` say.
 use Rattle.std.specs.Prelude.{◌≡◌, ℕ, ◌+◌, ◌≤◌, ◌==◌, Bool, true, false, List, [], ◌∷◌, length, All}
 use mathlib.Core.List.{IsPrefix}
 use mathlib.Core.Option.{some}
@@ -17,14 +17,14 @@ use Rattle.shared_phaser.specs.declared.history.View.{View}
 use Rattle.shared_phaser.specs.History.{Effect, Shows, Tells, Makes, Waits, effect, IsLegal, at_end, calls_by}
 use Rattle.shared_phaser.specs.Known.{Owns, newcomer, making, seeing, giving, given, receiving}
 
--- a caller's view, where it was told of nothing that it hasn't seen
+-- a caller's view, if no join has told it anything that it hasn't seen
 abbrev pub knowing : View → Known → View
 knowing v k = record { known = k; told = []; live = v.live }
 
 abbrev pub first_view : Setup → View
 first_view o = record { known = newcomer o; told = []; live = true }
 
--- the history goes on from what the caller has seen, and from what it was told of
+-- the history continues what the caller has seen, and what a join has told it
 pub record Knows (log : List Entry) (v : View) : Type 0 where
   pub begins : IsPrefix v.known.seen log
   pub informed : IsPrefix v.told log
@@ -65,7 +65,7 @@ pub record Finds (v : View) (n : ℕ) (log : List Entry) : Type 0 where
   pub valid : IsWord n
   pub unturned : (record_of n).turned ≡ false
 
--- what a caller knows after a load that is its call, where a load can be
+-- what a caller knows after a load that is its call, if a load can be
 abbrev pub loaded : Effect → Known → List Entry → Call → ℕ → Known
 loaded Shows k log c n = making k log c (Saw n)
 loaded (Tells a) k log c n = making k log c a
@@ -87,7 +87,7 @@ exchanged false e k log c = seeing k log
 abbrev pub effect_at : View → Call → ℕ → Effect
 effect_at v c n = effect v.known.opening.policy c (record_of n)
 
--- a load answers the call, or only sees the history
+-- a load makes the call, or only sees the history
 pub record Loads (c : Call) (s : Step (Unit {0})) (v : Me (Unit {0}) View) (n : ℕ) (w : Me (Unit {0}) View) : Type 0 where
   pub log : List Entry
   pub finds : Finds v.0 n log
@@ -115,7 +115,7 @@ giving_view v = record v { known = giving v.known }
 abbrev pub given_view : View → View
 given_view v = record { known = given v.known; told = []; live = true }
 
--- and of a join: the one is told of what the other has seen, and the other is spent
+-- the same for a join: one caller is told what the other has seen, and the other is spent
 abbrev pub receiving_view : View → View → View
 receiving_view v w = record { known = receiving v.known w.known; told = w.known.seen; live = v.live }
 

@@ -9,18 +9,18 @@ use crate::phaser::{Party, SharedPhaser};
 use crate::rule::{Asked, Exchange, Load};
 use packed_phaser::{Word, words_of_a_live_record_are_equal};
 
-/// What one try of a call comes to.
+/// The result of one try of a call.
 pub enum Attempt {
-    /// The call was made, with this answer.
+    /// The call was made, with this result.
     Made(Answer),
     /// Another call was faster, and left this word.
     Lost(Word),
-    /// The call can't be answered yet.
+    /// The call can't be made yet.
     Waiting,
 }
 
 impl SharedPhaser {
-    /// One try: a load, and an exchange where the call changes the phaser.
+    /// Tries once: a load, and an exchange if the call changes the phaser.
     #[inline(always)]
     pub(crate) fn attempt<C: Asked>(&self, party: &mut Party, call: Call) -> Attempt
         requires call { C.call ≡ call }

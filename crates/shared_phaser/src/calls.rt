@@ -1,4 +1,4 @@
-//! The calls that wait for nobody.
+//! The calls that never wait.
 ghost use Rattle.std.specs.Prelude.{◌≡◌, ◌<◌, IfOk, IfErr};
 ghost use Rattle.shared_phaser.specs.declared.history.Call.TheVariants.{Look, Register, Arrive, Force};
 ghost use Rattle.shared_phaser.specs.declared.history.Answer.TheVariants.{Saw, Replied};
@@ -36,7 +36,7 @@ pub fn reply_of(call: Call, answer: Answer) -> Reply
 }
 
 impl SharedPhaser {
-    /// The phaser as it is, from which `getPhase`, `getRegisteredParties` and the other getters are read.
+    /// Returns the phaser as it is, from which `getPhase`, `getRegisteredParties` and the other getters are read.
     pub fn look(&self, party: &mut Party) -> Word
         requires { phaser_of party.old ≡ self.now }
         ensures phaser { phaser_of party.new ≡ self.now }
@@ -76,7 +76,7 @@ impl SharedPhaser {
         }
     }
 
-    /// `register` where `parties` is 1, else `bulkRegister(parties)`, in at most so many tries.
+    /// `register` if `parties` is 1, and otherwise `bulkRegister(parties)`. It tries at most so many times.
     pub fn register_within(
         &self,
         party: &mut Party,
@@ -93,8 +93,8 @@ impl SharedPhaser {
         self.within::<Brand>(party, Call::Register(parties), tries)
     }
 
-    /// `arrive`, or `arriveAndDeregister` where the party leaves, in at most so many tries. The last arrival of a phase
-    /// ends it in the same step.
+    /// `arrive`, or `arriveAndDeregister` if the party leaves. It tries at most so many times. The last arrival of a phase ends
+    /// the phase in the same step.
     pub fn arrive_within(&self, party: &mut Party, leave: bool, tries: u32) -> Result<Reply, Raced>
         requires tries { 0 < tries }
         requires phaser { phaser_of party.old ≡ self.now }
@@ -106,7 +106,7 @@ impl SharedPhaser {
         self.within::<Brand>(party, Call::Arrive(leave), tries)
     }
 
-    /// `forceTermination`, in at most so many tries. The reply is the view after it.
+    /// `forceTermination`. It tries at most so many times. The reply is the view afterwards.
     pub fn force_within(&self, party: &mut Party, tries: u32) -> Result<Reply, Raced>
         requires tries { 0 < tries }
         requires phaser { phaser_of party.old ≡ self.now }

@@ -1,4 +1,4 @@
-//! What a call makes of a word.
+//! What a call does to a word.
 ghost use Rattle.std.specs.Prelude.{◌≡◌, true, false, unwrap_or};
 ghost use Rattle.packed_phaser.specs.Flat.{advance, register};
 ghost use Rattle.packed_phaser.specs.Word.{record_of};
@@ -11,13 +11,13 @@ use crate::history::{Answer, Call, Reply};
 use packed_phaser::{Arrived, Policy, Registered, Word};
 use phase_number::Phase;
 
-/// What a call makes of a word.
+/// What a call does to a word.
 pub enum Outcome {
-    /// It changes nothing, and answers this.
+    /// It changes nothing, and has this result.
     Told(Answer),
-    /// It makes this of the word, and answers that.
+    /// It changes the word to this one, and has that result.
     Change(Word, Answer),
-    /// It can't be answered yet.
+    /// It can't be made yet.
     Wait,
 }
 
@@ -93,7 +93,7 @@ fn wait(word: Word, phase: i32) -> Outcome
     }
 }
 
-/// What the call makes of the word.
+/// Returns what the call does to the word.
 #[inline(always)]
 pub fn outcome_at(word: Word, call: Call, policy: Policy) -> Outcome
     requires unturned { (record_of word).turned ≡ false }

@@ -1,4 +1,4 @@
-//! What a history consists of, and what a caller knows of it.
+//! The parts of a history, and what a caller knows of it.
 
 use packed_phaser::{Policy, Word};
 use phase_number::Phase;
@@ -7,11 +7,11 @@ use std::collections::LinkedList;
 /// A call, with its operands.
 #[derive(Clone, Copy, Debug, PartialEq, Eq)]
 pub enum Call {
-    /// A look at the phaser, which all getters are read from.
+    /// A look at the phaser, for all getters.
     Look,
-    /// `register`, or `bulkRegister` of so many.
+    /// `register`, or `bulkRegister` with this number.
     Register(u32),
-    /// `arrive`, or `arriveAndDeregister` where the party leaves.
+    /// `arrive`, or `arriveAndDeregister` if the party leaves.
     Arrive(bool),
     /// `forceTermination`.
     Force,
@@ -19,7 +19,7 @@ pub enum Call {
     Await(i32),
 }
 
-/// What a call answers that changes the phaser or is refused.
+/// The result of a call that changes the phaser or is refused.
 #[derive(Clone, Copy, Debug, PartialEq, Eq)]
 pub enum Reply {
     /// The call was counted in the phase of this number.
@@ -32,18 +32,18 @@ pub enum Reply {
     NotThere,
 }
 
-/// What a call answers.
+/// The result of a call.
 #[derive(Clone, Copy, Debug, PartialEq, Eq)]
 pub enum Answer {
-    /// A look: the word found.
+    /// Of a look: the word that it found.
     Saw(Word),
-    /// A registration, an arrival or a termination.
+    /// Of a registration, an arrival or a termination.
     Replied(Reply),
-    /// A wait: the view after it.
+    /// Of a wait: the view afterwards.
     Passed(i32),
 }
 
-/// One call of one caller, with its answer.
+/// One call of one caller, with its result.
 pub struct Entry {
     /// The number of the caller.
     pub by: u64,
@@ -65,14 +65,14 @@ pub struct Setup {
     pub policy: Policy,
 }
 
-/// What a caller knows. No value of it is made: contracts alone speak of it.
+/// What a caller knows. The program never makes such a value: only contracts use it.
 pub struct Known {
     /// 0 for the caller that came with the phaser, and n for the n-th that was split from it.
     pub number: u64,
     pub opening: Setup,
     /// How many callers were split from this one.
     pub splits: u64,
-    /// The history as far as it was seen.
+    /// The part of the history that was seen.
     pub seen: LinkedList<Entry>,
     /// The calls that this caller made.
     pub calls: LinkedList<Entry>,
@@ -80,8 +80,7 @@ pub struct Known {
     pub joined: LinkedList<Kept>,
 }
 
-/// What the rule keeps of a caller beside that: what it was told of in a join and hasn't seen yet, and whether it can
-/// still call.
+/// What the rule knows of a caller besides: what a join has told it and it hasn't seen yet, and whether it can still call.
 pub struct View {
     pub known: Known,
     pub told: LinkedList<Entry>,

@@ -1,8 +1,8 @@
-//! One `java.util.concurrent.Phaser` without tiers, shared by the threads of this process.
+//! One `java.util.concurrent.Phaser` without tiers, shared by the threads of a process.
 //!
-//! It is one packed word, which a call exchanges once. Each thread calls with a token of its own, a `Party`. Whatever the
-//! threads do at once, their calls stand in one legal history (`specs/History.antt`). The `.._within` calls wait for nobody,
-//! those under `Wait` are tried until they have an answer.
+//! It is one packed word, which each call exchanges at most once. Each thread calls with its own token, a `Party`. Whatever the
+//! threads do at once, one legal history has all their calls (`specs/History.antt`). The `.._within` calls never wait. The
+//! calls that take `Wait` try until they have a result.
 #![tactic(auto)]
 
 mod attempt;

@@ -39,7 +39,7 @@ impl Model for SharedPhaser {
         × ((padded_value p.table).shared.key.policy ≡ p.policy) };
 }
 
-/// A caller's token. Each thread that calls has one of its own.
+/// A caller's token. Each thread that calls has its own.
 #[derive(Drop)]
 pub struct Party {
     pub(crate) seat: Seat<(), View>,
@@ -61,14 +61,14 @@ impl Model for Party {
 /// Why there is no shared phaser.
 #[derive(Clone, Copy, Debug, PartialEq, Eq)]
 pub enum NewFault {
-    /// A routine's own code can't run within the one step that ends a phase.
+    /// A routine is code of a program, which can't run within the one step that ends a phase.
     RoutinePolicy,
     /// There was no memory.
     Memory,
 }
 
 impl SharedPhaser {
-    /// A phaser of so many parties in this phase, and its first caller. This alone takes memory.
+    /// Makes a phaser with so many parties in this phase, and its first caller. Only this call allocates.
     pub fn new(
         alloc: Global,
         parties: u16,
@@ -116,7 +116,7 @@ impl SharedPhaser {
         }
     }
 
-    /// The first caller stands for `other` too from now on, and has seen what either had seen.
+    /// From now on the first caller also stands for `other`, and has seen what either had seen.
     pub fn join(&self, first: &mut Party, other: Party)
         requires first { first.old.known.number ≡ 0 }
         requires phaser { phaser_of first.old ≡ self.now }
@@ -130,7 +130,7 @@ impl SharedPhaser {
         table.shared.load::<Watch>(&mut first.seat, 0);
     }
 
-    /// The phaser's last word. No caller can call any more.
+    /// Returns the phaser's last word. After this no caller can call.
     pub fn close(self, first: Party) -> Word
         requires first { first.known.number ≡ 0 }
         requires phaser { phaser_of first ≡ self }

@@ -1,4 +1,4 @@
-//! The rule of the word, and what each step on it tells.
+//! The rule of the word, and what each step on it says.
 ghost use Rattle.shared_phaser.specs.Rule.{Loads, Exchanges, Watches};
 
 use crate::history::{Call, Setup, View};
@@ -16,7 +16,7 @@ impl TableRule<(), View, Setup> for Law {
     ghost first = { first_view };
 }
 
-/// The call that a step belongs to. Each call picks it, since a load tells its rule no operands.
+/// The call that a step belongs to. Each call has to name it, because a load tells its rule no operands.
 pub trait Asked {
     ghost use Rattle.shared_phaser.specs.declared.history.Call.{Call};
 
@@ -29,7 +29,7 @@ impl Asked for Brand {
     ghost call = { Look };
 }
 
-/// A load that starts a call, and is the call where nothing changes.
+/// A load that begins a call, and is the call if nothing changes.
 pub struct Load<C> {
     of: PhantomData<C>,
 }
@@ -65,7 +65,7 @@ impl Split<View> for Halves {
     ghost right = { given_view };
 }
 
-/// A caller takes another one in.
+/// A caller takes in another one.
 pub struct Both;
 
 impl Join<View> for Both {

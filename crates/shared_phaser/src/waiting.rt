@@ -1,4 +1,4 @@
-//! The calls that are tried until they have an answer.
+//! The calls that try until they have a result.
 ghost use Rattle.std.specs.Prelude.{◌≡◌, true, false, pos, ◌≤ℤ◌, ◌<ℤ◌, IfOk, IfErr};
 ghost use Rattle.shared_phaser.specs.declared.history.Call.TheVariants.{Register, Arrive, Force, Await};
 ghost use Rattle.shared_phaser.specs.declared.history.Answer.TheVariants.{Replied, Passed};
@@ -29,11 +29,11 @@ const LOOKS_AMONG_FEW: u32 = 96;
 
 const LOOKS_AMONG_MANY: u32 = 16;
 
-/// How many pauses go before each look among few: one that comes too early takes the word's cache
-/// line from the thread that is about to end the phase.
+/// How many pauses precede each look among few parties. A look that comes too early takes the word's cache line from the thread
+/// that is about to end the phase.
 const PAUSES: u32 = 12;
 
-/// How often a wait looks at the phase.
+/// Returns how often a wait looks at the phase.
 #[inline(always)]
 fn looks_among(few: bool) -> u32 {
     if few {
@@ -43,9 +43,8 @@ fn looks_among(few: bool) -> u32 {
     }
 }
 
-/// What goes before a look. Among many a wait yields: one that spins may keep a processor from a
-/// thread that has yet to arrive. Among few it doesn't: nobody waits for its processor but what else
-/// the machine has to do, which may keep it for milliseconds.
+/// Rests before a look. Among many parties a wait yields: if it spun, it could keep a processor from a thread that has yet to
+/// arrive. Among few it doesn't: only other work of the machine waits for its processor, and could keep it for milliseconds.
 #[inline(always)]
 fn rest_among(few: bool) {
     if few {
@@ -85,8 +84,8 @@ impl SharedPhaser {
         true
     }
 
-    /// What goes between two tries of a wait. One that was announced before the last try sleeps,
-    /// unless a phase has ended since, and another one lingers. Whether the next one is announced.
+    /// Rests between two tries of a wait. A wait that was announced before the last try sleeps, unless a phase has ended since,
+    /// and any other one lingers. Returns whether the next try is announced.
     #[inline(always)]
     fn rests<R: Wait>(&self, rt: &R, key: Option<Key<'_>>, call: Call) -> bool {
         if let Some(key) = key {
@@ -99,8 +98,8 @@ impl SharedPhaser {
         }
     }
 
-    /// Tries of a call until it has an answer. Inlined with all that it calls: the more lies between
-    /// the end of a phase and the next arrival, the likelier is another thread's look in between.
+    /// Tries a call until it has a result. It is inlined with everything that it calls: the more work there is between the end
+    /// of a phase and the next arrival, the more likely another thread looks in between.
     #[inline(always)]
     fn insist<C: Asked, R: Wait>(&self, rt: &R, party: &mut Party, call: Call) -> Answer
         requires call { C.call ≡ call }
@@ -123,7 +122,7 @@ impl SharedPhaser {
         unreachable!()
     }
 
-    /// Tries of a call that waits for nobody, until it has an answer.
+    /// Tries a call that never waits, until it has a result.
     #[inline(always)]
     fn insist_promptly<C: Asked, R: Wait>(&self, rt: &R, party: &mut Party, call: Call) -> Reply
         requires call { C.call ≡ call }
@@ -137,7 +136,7 @@ impl SharedPhaser {
         reply_of(call, self.insist::<C, R>(rt, party, call))
     }
 
-    /// `register` where `parties` is 1, else `bulkRegister(parties)`.
+    /// `register` if `parties` is 1, and otherwise `bulkRegister(parties)`.
     pub fn register<R: Wait>(&self, rt: &R, party: &mut Party, parties: u32) -> Reply
         requires { phaser_of party.old ≡ self.now }
         ensures phaser { phaser_of party.new ≡ self.now }
@@ -187,8 +186,8 @@ impl SharedPhaser {
         }
     }
 
-    /// `awaitAdvance(phase)`: waits until the phaser isn't in this phase, or is terminated, and answers its view then.
-    /// A negative `phase` is answered at once.
+    /// `awaitAdvance(phase)`: waits until the phaser isn't in this phase, or is terminated, and returns its view. With a
+    /// negative `phase` it returns at once.
     pub fn await_advance<R: Wait>(&self, rt: &R, party: &mut Party, phase: i32) -> i32
         requires { phaser_of party.old ≡ self.now }
         ensures phaser { phaser_of party.new ≡ self.now }
@@ -202,7 +201,7 @@ impl SharedPhaser {
         self.pass(rt, party, phase)
     }
 
-    /// `arriveAndAwaitAdvance`: an arrival, and a wait for the end of its phase where it was counted.
+    /// `arriveAndAwaitAdvance`: arrives, and waits for the end of the phase if the arrival was counted.
     pub fn arrive_and_await_advance<R: Wait>(
         &self,
         rt: &R,

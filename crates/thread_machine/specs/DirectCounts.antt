@@ -26,8 +26,8 @@ with_registration p count t scene counts =
     if is_own_tree p (thread_at scene t) scene || int_lt count (pos 0) then counts
     else origin_after_registration (registration p (nat_abs count) scene.phasers) p (nat_abs count) counts
 
--- a party of thread t arrives at phaser p, and leaves it where the test says so; the row is refused inside the tree's own
--- routine, and where a tree with a routine finds the stack full
+-- a party of thread t arrives at phaser p, and also leaves if the flag says so; the row is refused inside the tree's own
+-- routine, and if the stack is full in a tree with a routine
 abbrev pub with_arrival : ℕ → Bool → ℕ → Scene → Origin → Origin
 with_arrival p leaves t scene counts =
     if is_own_tree p (thread_at scene t) scene || (has_routine p scene && is_full (thread_at scene t)) then counts
@@ -48,7 +48,7 @@ abbrev pub with_turn : Status → Row → ℕ → Scene → Origin → Origin
 with_turn status.Runs row t scene counts = with_row row t scene counts
 with_turn _ row t scene counts = counts
 
--- the counts with the registration or the arrival of this choice, as they are where a phase ends with it
+-- the counts with the registration or the arrival of this choice, as they are when a phase ends with it
 abbrev pub counts_at_end : World → Choice → Origin → Origin
 counts_at_end world choice counts =
     let thread = thread_at world.scene choice.thread in
@@ -59,13 +59,13 @@ counts_at_end world choice counts =
 abbrev pub has_ended_phase : ℕ → List PhaserState → List PhaserState → Bool
 has_ended_phase root before after = not ((phaser_at after root).ends == (phaser_at before root).ends)
 
--- a phaser is in the phase of another number only where a phase of its tree has ended
+-- the number of a phaser's phase changes only if a phase of its tree has ended
 abbrev pub NumbersStay : List PhaserState → List PhaserState → Type 0
 NumbersStay before after =
     (id : ℕ) → has_ended_phase (root_at before id) before after ≡ false
     → (flat_at after id).phase ≡ (flat_at before id).phase
 
--- in each tree whose phase has ended between the two, all who are registered directly are to arrive again
+-- in each tree in which a phase has ended between the two, everybody who is registered directly is to arrive again
 abbrev pub set_back : List PhaserState → List PhaserState → Origin → Origin
 set_back before after counts = record counts {
   unarrived = λ n. if has_ended_phase (root_at before n) before after then counts.registered n else counts.unarrived n;
@@ -76,8 +76,8 @@ abbrev pub counts_after : World → Choice → World → Origin → Origin
 counts_after before choice after counts =
     set_back before.scene.phasers after.scene.phasers (counts_at_end before choice counts)
 
--- where this choice ended a phase, all who registered directly with a phaser of the tree have arrived or left, unless
--- a party arrived there that wasn't registered so
+-- if this choice ended a phase, everybody who registered directly with a phaser of the tree has arrived or left, unless a party
+-- arrived there that wasn't registered so
 abbrev pub EndsNoPhaseEarly : World → Choice → World → Origin → Type 0
 EndsNoPhaseEarly before choice after counts =
     (root : ℕ) → has_ended_phase root before.scene.phasers after.scene.phasers ≡ true

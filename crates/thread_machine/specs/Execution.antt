@@ -1,4 +1,4 @@
--- What a list of choices makes of the world.
+-- What a list of choices does to the world.
 use Rattle.std.specs.Prelude.{List, [], ◌∷◌, ◌++◌, Option, Some, None}
 use Rattle.thread_machine.specs.declared.choice.Choice.{Choice}
 use Rattle.thread_state.specs.declared.event.Event.{Event}
@@ -12,7 +12,7 @@ pub record Execution : Type 0 where
   pub events : List Event
   pub refusal : Option StepFault
 
--- a choice that is refused is the last; one that is accepted comes before the rest
+-- a choice that is refused is the last; an accepted choice comes before the rest
 abbrev pub execution_by : Option StepFault → World → Choice → (World → Execution) → Execution
 execution_by (Some fault) world choice rest = record { world = world; events = []; refusal = Some fault }
 execution_by None world choice rest =
@@ -26,7 +26,7 @@ execution world [] = record { world = world; events = []; refusal = None }
 execution world (choice ∷ choices) =
     execution_by (refusal_of world choice) world choice (λ after. execution after choices)
 
--- one more choice after an execution: nothing where a choice was refused before, else refused or played
+-- one more choice after an execution: it does nothing if a choice was refused before, and otherwise it is refused or played
 abbrev pub extended_by : Option StepFault → Option StepFault → Execution → Choice → Execution
 extended_by (Some before) now done choice = done
 extended_by None (Some fault) done choice = record done { refusal = Some fault }

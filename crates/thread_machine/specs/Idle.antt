@@ -11,7 +11,7 @@ use Rattle.thread_machine.specs.Ready.{is_choice_ready}
 abbrev pub idle_event : Event
 idle_event = record { what = what.Idle; mark = mark.Nothing }
 
--- how often a choice is idle in a row, up to so many times: never where it is ready, else as long as choices are left
+-- how often a choice is idle in a row, up to so many times: never if it is ready, and otherwise as long as choices are left
 abbrev pub idle_times : World → Choice → ℕ → ℕ
 idle_times world choice most =
     if is_choice_ready world.program choice world.scene then 0 else min most (1000000000000 - world.choices)

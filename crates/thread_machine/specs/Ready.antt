@@ -1,4 +1,4 @@
--- Which choices may take a step, and when nothing can happen any more.
+-- Which choices can take a step, and when nothing can happen any more.
 use Rattle.std.specs.Prelude.{ℕ, Bool, not, ◌&&◌, ◌||◌, length, is_some, Option, if◌then◌else◌}
 use Rattle.std.specs.List.{list_any, list_all, range_with_len}
 use Rattle.loader.specs.Program.{Program}
@@ -25,7 +25,7 @@ can_expire t program scene = is_some (outcome_of_expiry t program scene)
 abbrev pub all_finished : Scene → Bool
 all_finished scene = list_all (λ (thread : ThreadState). is_finished thread.status) scene.threads
 
--- thread t has a choice that may take a step
+-- thread t has a choice that can take a step
 abbrev pub can_go_on : Program → Scene → ℕ → Bool
 can_go_on program scene t = is_ready t program scene || can_expire t program scene
 
@@ -37,6 +37,6 @@ some_ready program scene = list_any (can_go_on program scene) (range_with_len 0 
 abbrev pub has_ended : World → Bool
 has_ended world = all_finished world.scene
 
--- the program isn't over, and no choice may take a step
+-- the program isn't over, and no choice can take a step
 abbrev pub is_stuck : World → Bool
 is_stuck world = not (all_finished world.scene) && not (some_ready world.program world.scene)

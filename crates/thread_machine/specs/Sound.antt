@@ -1,11 +1,11 @@
--- What a machine keeps true. Nobody has to believe it: it is what proofs go by.
+-- What a machine keeps true. Only proofs use this: no promise depends on it.
 use Rattle.std.specs.Prelude.{◌≤◌}
 use Rattle.machine_scene.specs.Scene.{scene_of}
 use Rattle.machine_scene.specs.Sound.{IsSound}
 use Rattle.machine_scene.specs.ReadySet.{KnowsReady}
 use Rattle.thread_machine.specs.World.{StoredWorld}
 
--- no row meets a missing thing, whose turn is ready is known, and the counts are within their limits
+-- no row uses something that doesn't exist, the stored set of ready threads is right, and the counts are within their limits
 pub record IsMachine (world : StoredWorld) : Type 0 where
   pub sound : IsSound world.program world.steps (scene_of world.scene)
   pub ready : KnowsReady world.program world.scene

@@ -1,11 +1,11 @@
--- How far a program is.
+-- Whether a program has ended, is stuck, or can go on.
 use Rattle.std.specs.Prelude.{ℕ, if◌then◌else◌, List, [], ◌∷◌, codes}
 use Rattle.thread_machine.specs.declared.standing.Standing.{Standing}
 use Rattle.thread_machine.specs.declared.standing.Standing.TheVariants as standing
 use Rattle.thread_machine.specs.World.{World}
 use Rattle.thread_machine.specs.Ready.{has_ended, is_stuck}
 
--- every thread has ended or died, or no choice of any other may take a step, or some may
+-- every thread has ended or died; or no choice of any other can take a step; or some choice can
 abbrev pub standing_of : World → Standing
 standing_of world = if has_ended world then standing.All else (if is_stuck world then standing.Stuck else standing.Live)
 

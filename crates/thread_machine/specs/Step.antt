@@ -1,4 +1,4 @@
--- What one choice makes of the world.
+-- What one choice does to the world.
 use Rattle.std.specs.Prelude.{◌+◌, ◌==◌, ◌&&◌, ◌||◌, not, nat_le, if◌then◌else◌, Bool, length, Option, Some, None}
 use Rattle.loader.specs.Program.{row_at}
 use Rattle.thread_state.specs.declared.event.Event.{Event}
@@ -40,20 +40,20 @@ played_by None world = idled world
 abbrev pub played : World → Choice → Played
 played world choice = played_by (outcome_of_choice world.program choice world.scene) world
 
--- nothing is left for a choice: all 1,000,000,000,000 choices are used, or the steps are at the limit and the choice is
--- ready, since an idle one takes no step
+-- nothing is left for a choice: all 1,000,000,000,000 choices are used, or the steps are at the limit and the choice is ready,
+-- since an idle choice takes no step
 abbrev pub is_used_up : World → Choice → Bool
 is_used_up world choice =
     (world.choices == 1000000000000)
     || (nat_le world.limit world.steps && is_choice_ready world.program choice world.scene)
 
--- why a choice is refused, want of memory aside
+-- why a choice is refused, except out of memory
 abbrev pub refusal_of : World → Choice → Option StepFault
 refusal_of world choice =
     if nat_le (length world.scene.threads) choice.thread then Some fault.NoSuchThread
     else (if is_used_up world choice then Some fault.StepLimit else None)
 
--- whether the choice may want memory: an expiry doesn't
+-- whether the choice may need memory; an expiry never does
 abbrev pub puts_out : World → Choice → Bool
 puts_out world choice =
     let thread : ThreadState = thread_at world.scene choice.thread in

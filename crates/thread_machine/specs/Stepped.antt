@@ -1,4 +1,4 @@
--- What a step makes of a machine.
+-- What a step does to a machine.
 use Rattle.std.specs.Prelude.{◌≡◌, ◌≢◌, ◌↔◌, ◌+◌, ◌<◌, length, true, Option, Some, None, Result, Err, IfOk, OnOk, OnErr, if◌then◌else◌}
 use Rattle.tier_tree.specs.Origin.{Origin, AreTallied}
 use Rattle.tier_tree.specs.Stored.{phasers_of}
@@ -14,9 +14,9 @@ use Rattle.thread_machine.specs.Step.{played, refusal_of, puts_out}
 use Rattle.thread_machine.specs.DirectCounts.{counts_after, EndsNoPhaseEarly, NumbersStay}
 use Rattle.thread_machine.specs.Undo.{undone, CanUndo}
 
--- the choice is played, and what is kept of the world before undoes it; or it is refused for its reason, and nothing has
--- changed. Memory is wanting only where a value is put out. The direct counts go on, no phase ends early by them, and the
--- number of a phase changes only as the phase ends
+-- the choice is played, and what is saved of the world before undoes it; or it is refused for its reason, and nothing has
+-- changed. It is out of memory only if it puts out a value. The direct counts go on, no phase ends early by them, and the
+-- number of a phase changes only when the phase ends
 pub record IsStep (old : StoredWorld) (choice : Choice) (result : Result Event StepFault) (kept : Option scene.Note) (new : StoredWorld) : Type 0 where
   pub played : IfOk result (λ event. record { world = world_of new; event = event } ≡ played (world_of old) choice)
   pub undo : OnOk result (undone kept new ≡ old)
@@ -33,13 +33,13 @@ pub record IsStep (old : StoredWorld) (choice : Choice) (result : Result Event S
   pub numbers : OnOk result (NumbersStay (phasers_of old.scene.phasers) (phasers_of new.scene.phasers))
   pub err : OnErr result (new ≡ old)
 
--- what is to be kept of the world before a choice: nothing of one that is idle
+-- what is to be saved of the world before a choice: nothing if it is idle
 abbrev pub kept_of : Choice → StoredWorld → Option scene.Note
 kept_of choice old =
     if is_choice_ready old.program choice (scene_of old.scene) then Some (scene.note_of choice.thread old.program old.scene)
     else None
 
--- as the machine's own functions say it to one another: nobody else has to read it
+-- the form in which the machine's own functions say it to each other; nobody else has to read it
 pub record HasPlayed (old : StoredWorld) (choice : Choice) (result : Result Event StepFault) (new : StoredWorld) : Type 0 where
   pub played : IfOk result (λ event. record { world = world_of new; event = event } ≡ played (world_of old) choice)
   pub idle : OnOk result (new.steps ≡ old.steps → new ≡ record old { choices = old.choices + 1 })

@@ -21,7 +21,7 @@ pub record StoredWorld : Type 0 where
   pub choices : ℕ
   pub steps : ℕ
 
--- what it shows: all but a step back speaks of that alone
+-- what it shows; everything but a step back is about this
 abbrev pub world_of : StoredWorld → World
 world_of stored = record {
   program = stored.program;
@@ -41,7 +41,7 @@ first_world program limit = record {
   steps = 0;
 }
 
--- the world before the first choice of the program that an image declares, played for so many effective steps at most
+-- the world before the first choice of the program that an image declares, with at most so many effective steps
 abbrev pub first_of : Image → ℕ → World
 first_of image limit = record {
   program = program_of image;
@@ -51,6 +51,6 @@ first_of image limit = record {
   steps = 0;
 }
 
--- a program begins in this world: it is the image's first, but for how the program's phasers are stored
+-- a program begins in this world: the image's first, except for how the program's phasers are stored
 abbrev pub IsFirstOf : Image → ℕ → World → Type 0
 IsFirstOf image limit world = record world { program = without_words world.program } ≡ first_of image limit

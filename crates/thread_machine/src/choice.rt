@@ -3,6 +3,6 @@
 pub struct Choice {
     /// The thread's number, from 0 in the order of declaration.
     pub thread: u8,
-    /// Whether the thread's timed wait runs out.
+    /// Whether the thread's timed wait expires.
     pub expiry: bool,
 }

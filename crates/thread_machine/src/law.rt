@@ -21,16 +21,16 @@ pub fn one_more_choice_extends_the_execution()
         → execution world (choices ++ choice ∷ []) ≡ extended (execution world choices) choice }
 {}
 
-/// A higher limit of steps makes no difference to choices that were all accepted: they show the same events, and lead to
-/// the same world but for the limit.
+/// A higher limit of steps makes no difference to choices that were all accepted: they show the same events, and lead to the
+/// same world except for the limit.
 pub fn a_higher_limit_changes_nothing_that_was_accepted()
     ensures { (limit : ℕ) (world : World) (choices : List Choice) → world.limit ≤ limit
         → (execution world choices).refusal ≡ None
         → execution (with_limit limit world) choices ≡ under_limit limit (execution world choices) }
 {}
 
-/// No phase of a loaded program ends early: whatever was chosen before, where an accepted choice ends a phase, every party
-/// that registered directly with a phaser of the tree has arrived or left, unless a party arrived in that tree that wasn't
+/// No phase of a loaded program ends early: whatever was chosen before, if an accepted choice ends a phase, every party that
+/// registered directly with a phaser of the tree has arrived or left, unless a party arrived in that tree that wasn't
 /// registered so. A termination by force ends no phase, so it needs no exception.
 pub fn no_phase_ends_early(program: &Loaded)
     ensures declared { (image : Image) → IsProgramOf image program.now

@@ -1,8 +1,8 @@
-//! The machine that plays small thread programs against phasers and barriers, one choice at a time.
+//! The machine that plays small thread programs with phasers and barriers, one choice at a time.
 //!
-//! A choice names the thread whose turn it is, or whose timed wait runs out. `Machine::step` makes of it just what the
-//! definitions say. It takes no memory but for a value put out, and a refused step changes nothing. What the rows do is
-//! defined in `machine_scene`, and what a turn makes of its own thread in `thread_state`.
+//! A choice names the thread whose turn it is, or whose timed wait expires. `Machine::step` does exactly what the definitions
+//! say. It allocates only for a value that is put out, and a refused step changes nothing. `machine_scene` defines what the
+//! rows do, and `thread_state` what a turn does to its own thread.
 #![tactic(auto)]
 
 mod choice;

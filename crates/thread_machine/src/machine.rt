@@ -36,10 +36,10 @@ const IDLE: Event = Event {
     mark: Mark::Nothing,
 };
 
-/// How many choices a machine takes in all.
+/// The most choices that a machine takes.
 const MOST_CHOICES: u64 = 1_000_000_000_000;
 
-/// A loaded program with its threads, cells, phasers and barriers, and how far it has come.
+/// A loaded program with its threads, cells, phasers and barriers, and the counts of its choices and steps.
 #[derive(Drop)]
 pub struct Machine {
     program: Loaded,
@@ -98,8 +98,8 @@ fn first_stage(alloc: Global, program: &Loaded) -> Result<Stage, AllocError>
 }
 
 impl Machine {
-    /// The machine of a program, which takes at most `limit` effective steps. Only this takes memory, and a value put
-    /// out.
+    /// Makes the machine of a program, which takes at most `limit` effective steps. Only this call allocates, and a value that
+    /// is put out.
     pub fn new(alloc: Global, program: Loaded, limit: u32) -> Result<Machine, AllocError>
         requires { limit ≤ 1000000000 }
         ensures { IfOk result (λ machine. world_of machine ≡ first_world program limit) }
@@ -116,7 +116,7 @@ impl Machine {
         })
     }
 
-    /// A copy of the machine, word for word.
+    /// Returns a copy of the machine, word for word.
     pub fn copy(&self, alloc: Global) -> Result<Machine, AllocError>
         ensures { IfOk result (λ copy. copy ≡ self.now) }
     {
@@ -129,8 +129,8 @@ impl Machine {
         })
     }
 
-    /// Plays one choice. An idle choice, a turn of a thread that isn't ready or an expiry of none, only counts as a
-    /// choice. `Memory` comes only at the row `out`.
+    /// Plays one choice. An idle choice, the turn of a thread that isn't ready or the expiry of a wait that can't expire, only
+    /// counts as a choice. `Memory` comes only at the row `out`.
     #[inline(always)]
     pub fn step(&mut self, choice: Choice) -> Result<Event, StepFault>
         ensures { IsStep self.old choice result (kept_of choice self.old) self.new }
@@ -139,7 +139,7 @@ impl Machine {
         self.play(choice)
     }
 
-    /// `step`, but for what follows of it.
+    /// Plays `step`, without the sets of ready threads.
     #[inline(always)]
     fn play(&mut self, choice: Choice) -> Result<Event, StepFault>
         ensures { HasPlayed self.old choice result self.new }
@@ -171,7 +171,7 @@ impl Machine {
         }
     }
 
-    /// `seldom_step`, with the room for what comes of it: a common turn pays nothing for that.
+    /// Calls `seldom_step`, with the buffer for its result. A common turn doesn't pay for that buffer.
     #[inline(always)]
     fn seldom(&mut self, choice: Choice) -> Result<Event, StepFault>
         requires there { choice.thread < length self.old.scene.threads }
@@ -185,8 +185,7 @@ impl Machine {
         told
     }
 
-    /// A turn that isn't a common one, or an expiry. What comes of it is written where its caller wants it, in place of an idle
-    /// choice.
+    /// Plays a turn that isn't a common one, or an expiry. It writes its result where the caller has put an idle choice.
     #[inline(never)]
     fn seldom_step(&mut self, choice: Choice, told: &mut Result<Event, StepFault>)
         requires there { choice.thread < length self.old.scene.threads }
@@ -252,7 +251,7 @@ impl Machine {
         self.play(choice)
     }
 
-    /// What is to be kept of the machine before a choice, where there is such a thread.
+    /// Saves what a choice may change of the machine, if there is such a thread.
     #[inline(always)]
     fn keep(&self, choice: Choice, undo: &mut Undo)
         ensures { choice.thread < length self.now.scene.threads → undo.new ≡ kept_of choice self.now }
@@ -276,7 +275,7 @@ impl Machine {
         }
     }
 
-    /// Undoes the last choice, by what was kept of it: the machine is the one of before, word for word.
+    /// Undoes the last choice with what was saved of it: the machine is as before, word for word.
     pub fn back(&mut self, undo: Undo)
         requires { CanUndo undo self.old }
         ensures { self.new ≡ undone undo self.old }
@@ -284,7 +283,7 @@ impl Machine {
         self.take_back(&undo);
     }
 
-    /// `back`, by an undo that stays where it is.
+    /// Like `back`, but takes the undo by reference.
     pub fn take_back(&mut self, undo: &Undo)
         requires { CanUndo undo.now self.old }
         ensures { self.new ≡ undone undo.now self.old }
@@ -307,7 +306,7 @@ impl Machine {
         self.choices += 1;
     }
 
-    /// Whether a choice would not be idle.
+    /// Returns whether a choice would not be idle.
     fn is_choice_ready(&self, choice: Choice) -> bool
         requires { choice.thread < length self.now.scene.threads }
         ensures { result ≡ is_choice_ready self.now.program choice (scene_of self.now.scene) }
@@ -326,7 +325,7 @@ impl Machine {
         let _ = &self.limit;
     }
 
-    /// Whether a thread may take a step, so that its turn wouldn't be idle.
+    /// Returns whether a thread can take a step, so that its turn wouldn't be idle.
     pub fn is_ready(&self, thread: u8) -> bool
         requires { thread < length self.now.scene.threads }
         ensures { result ≡ is_ready thread self.now.program (scene_of self.now.scene) }
@@ -334,8 +333,8 @@ impl Machine {
         self.stage.is_ready(&self.program, thread as usize)
     }
 
-    /// Whether the time of a thread's wait may run out: it waits at a timed row, its turn isn't ready, and no thread runs
-    /// the action of its barrier.
+    /// Returns whether a thread's timed wait can expire: it waits at a timed row, its turn isn't ready, and no thread runs the
+    /// action of its barrier.
     pub fn can_expire(&self, thread: u8) -> bool
         requires { thread < length self.now.scene.threads }
         ensures { result ≡ can_expire thread self.now.program (scene_of self.now.scene) }
@@ -343,21 +342,21 @@ impl Machine {
         self.stage.can_expire(&self.program, thread as usize)
     }
 
-    /// Whether every thread has ended or died.
+    /// Returns whether every thread has ended or died.
     pub fn ended(&self) -> bool
         ensures { result ≡ has_ended (world_of self.now) }
     {
         self.stage.has_ended()
     }
 
-    /// Whether some thread hasn't ended or died, and no choice does anything any more.
+    /// Returns whether some thread hasn't ended or died, but no choice can take a step.
     pub fn stuck(&self) -> bool
         ensures { result ≡ is_stuck (world_of self.now) }
     {
         !self.ended() && !self.some_ready()
     }
 
-    /// How far the program is.
+    /// Returns whether the program has ended, is stuck, or can go on.
     pub fn standing(&self) -> Standing
         ensures { result ≡ standing_of (world_of self.now) }
     {
@@ -370,7 +369,7 @@ impl Machine {
         }
     }
 
-    /// Whether some choice may take a step.
+    /// Returns whether some choice can take a step.
     fn some_ready(&self) -> bool
         ensures { result ≡ some_ready self.now.program (scene_of self.now.scene) }
     {
@@ -392,7 +391,7 @@ impl Machine {
         &self.program
     }
 
-    /// How many threads there are, 1 to 64.
+    /// Returns how many threads there are, 1 to 64.
     pub fn thread_count(&self) -> usize
         ensures count { result ≡ length self.now.scene.threads }
         ensures few { result ≤ 64 }
@@ -407,7 +406,7 @@ impl Machine {
         self.stage.forest()
     }
 
-    /// How many barriers there are, at most 64.
+    /// Returns how many barriers there are, at most 64.
     pub fn barrier_count(&self) -> usize
         ensures count { result ≡ length self.now.scene.barriers }
         ensures few { result ≤ 64 }
@@ -415,7 +414,7 @@ impl Machine {
         self.stage.barrier_count()
     }
 
-    /// A barrier.
+    /// Returns a barrier.
     pub fn barrier(&self, number: u8) -> &Barrier
         requires { number < length self.now.scene.barriers }
         ensures { result.now ≡ barrier_at (scene_of self.now.scene) number }
@@ -423,7 +422,7 @@ impl Machine {
         self.stage.barrier(number as usize)
     }
 
-    /// What a thread is doing.
+    /// Returns what a thread is doing.
     pub fn status(&self, thread: u8) -> Status
         requires { thread < length self.now.scene.threads }
         ensures { result ≡ (thread_at (scene_of self.now.scene) thread).status }
@@ -431,7 +430,7 @@ impl Machine {
         self.stage.thread(thread as usize).status()
     }
 
-    /// The number of the row that a thread stands at.
+    /// Returns the number of the row that a thread is at.
     pub fn pc(&self, thread: u8) -> u16
         requires { thread < length self.now.scene.threads }
         ensures row { result ≡ (thread_at (scene_of self.now.scene) thread).pc }
@@ -440,7 +439,7 @@ impl Machine {
         self.stage.thread(thread as usize).pc()
     }
 
-    /// The number in a thread's register.
+    /// Returns the number in a thread's register.
     pub fn reg(&self, thread: u8, register: Reg) -> i32
         requires { thread < length self.now.scene.threads }
         ensures { result ≡ value_in (thread_at (scene_of self.now.scene) thread).registers register }
@@ -448,7 +447,7 @@ impl Machine {
         self.stage.thread(thread as usize).register(register)
     }
 
-    /// Whether a thread was interrupted: `Thread.isInterrupted`.
+    /// Returns whether a thread is interrupted: `Thread.isInterrupted`.
     pub fn interrupted(&self, thread: u8) -> bool
         requires { thread < length self.now.scene.threads }
         ensures { result ≡ (thread_at (scene_of self.now.scene) thread).interrupted }
@@ -456,7 +455,7 @@ impl Machine {
         self.stage.thread(thread as usize).interrupted()
     }
 
-    /// How many entries a thread's stack has, at most 64.
+    /// Returns how many entries a thread's stack has, at most 64.
     pub fn depth(&self, thread: u8) -> usize
         requires { thread < length self.now.scene.threads }
         ensures depth { result ≡ length (thread_at (scene_of self.now.scene) thread).stack }
@@ -465,7 +464,7 @@ impl Machine {
         self.stage.thread(thread as usize).stack().len()
     }
 
-    /// An entry of a thread's stack, 0 for the lowest.
+    /// Returns an entry of a thread's stack, 0 for the lowest.
     pub fn entry(&self, thread: u8, number: usize) -> Entry
         requires thread { thread < length self.now.scene.threads }
         requires number { number < length (thread_at (scene_of self.now.scene) thread).stack }
@@ -475,7 +474,7 @@ impl Machine {
         self.stage.thread(thread as usize).stack()[number].entry()
     }
 
-    /// What a thread put out, in order; at most 4096 values.
+    /// Returns what a thread put out, in order, at most 4096 values.
     pub fn output(&self, thread: u8) -> &[i32]
         requires { thread < length self.now.scene.threads }
         ensures values { result.now ≡ (thread_at (scene_of self.now.scene) thread).output }
@@ -491,7 +490,7 @@ impl Machine {
         self.stage.cells()
     }
 
-    /// The number in one of them.
+    /// Returns the number in a shared cell.
     pub fn cell(&self, number: u8) -> i32
         requires { number < 32 }
         ensures { result ≡ cell_at (scene_of self.now.scene) number }
@@ -499,14 +498,14 @@ impl Machine {
         self.stage.cell(number as usize)
     }
 
-    /// How many effective steps the machine may take.
+    /// Returns how many effective steps the machine may take.
     pub fn limit(&self) -> u32
         ensures { result ≡ self.now.limit }
     {
         self.limit
     }
 
-    /// How many choices were played, the idle ones included.
+    /// Returns how many choices were played, with the idle ones.
     pub fn choices(&self) -> u64
         ensures choices { result ≡ self.now.choices }
         ensures within { result ≤ 1000000000000 }
@@ -514,7 +513,7 @@ impl Machine {
         self.choices
     }
 
-    /// How many of them were effective steps.
+    /// Returns how many choices were effective steps.
     pub fn steps(&self) -> u32
         ensures steps { result ≡ self.now.steps }
         ensures within { result ≤ self.now.limit }

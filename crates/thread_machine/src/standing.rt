@@ -1,19 +1,19 @@
 ghost use Rattle.std.specs.Prelude.{◌≡◌, ◌≢◌, All, MatchOption};
 ghost use Rattle.thread_machine.specs.Standing.{name_of, names};
 
-/// How far a program is.
+/// Whether a program has ended, is stuck, or can go on.
 #[derive(Clone, Copy, Debug, PartialEq, Eq)]
 pub enum Standing {
     /// Every thread has ended or died.
     All,
     /// Some thread hasn't, and no choice does anything any more.
     Stuck,
-    /// Some choice may still take a step.
+    /// Some choice can still take a step.
     Live,
 }
 
 impl Standing {
-    /// The word for it in the state line of a trace.
+    /// Returns the word for it in the state line of a trace.
     pub fn name(self) -> &'static [u8]
         ensures { result.now ≡ name_of self }
     {

@@ -1,11 +1,11 @@
 use machine_scene::SceneNote;
 use std::marker::Model;
 
-/// What is kept of a choice so that it can be undone. It has a fixed size, and a step writes over it where it lies: one that
-/// is moved costs as much as half a step.
+/// What is saved of a choice so that it can be undone. It has a fixed size, and a step overwrites it in place: moving one costs
+/// as much as half a step.
 #[derive(Drop)]
 pub struct Undo {
-    /// Whether it was a turn or an expiry. Of an idle choice nothing is kept, and the note says nothing.
+    /// Whether it was a turn or an expiry. For an idle choice nothing is saved, and the note says nothing.
     pub(crate) is_turn: bool,
     pub(crate) note: SceneNote,
 }

@@ -7,7 +7,7 @@ use Rattle.thread_machine.specs.Ready.{has_ended, is_stuck}
 use Rattle.thread_runner.specs.declared.ending.Ending.{Ending}
 use Rattle.thread_runner.specs.declared.ending.Ending.TheVariants.{AllEnded, Stuck, Limit}
 
--- the ending of a run that has come to this world; none where some choice may still take a step
+-- the ending of a run that is in this world, or nothing if some choice can still take a step
 abbrev pub ending_of : World → Option Ending
 ending_of world =
     if has_ended world then Some AllEnded
@@ -17,7 +17,7 @@ ending_of world =
 abbrev pub is_over : World → Bool
 is_over world = is_some (ending_of world)
 
--- how the program stands then
+-- the word for the program then
 abbrev pub standing_at : Ending → Standing
 standing_at AllEnded = standing.All
 standing_at Stuck = standing.Stuck

@@ -1,4 +1,4 @@
--- A machine by where it began and what was chosen since.
+-- A machine, by where it began and what was chosen since.
 use Rattle.std.specs.Prelude.{ℕ, List, [], ◌∷◌, ◌++◌}
 use Rattle.schedule_reader.specs.Schedule.{choices_of, finished_schedule}
 use Rattle.thread_machine.specs.declared.choice.Choice.{Choice}
@@ -26,6 +26,6 @@ recording_of first schedule = record { first = first; choices = choices_of (fini
 abbrev pub with_choice : Choice → Recording → Recording
 with_choice choice recording = record recording { choices = recording.choices ++ choice ∷ [] }
 
--- a world in which there is nothing: it stands where a run hasn't said where it begins
+-- an empty world: it stands for the first world of a run that doesn't say where it begins
 abbrev pub no_world : World
 no_world = first_world (record { rows = []; threads = []; phasers = []; routines = []; barriers = []; actions = [] }) 0

@@ -21,12 +21,12 @@ pub record IsReplay (recording : Recording) (world : World) : Type 0 where
   pub within : length recording.choices ≤ recording.first.limit
   pub threads : length world.scene.threads ≡ length recording.first.scene.threads
 
--- a text without a fault, whose choices are such
+-- a text without a fault, with such choices
 pub record IsReplayOfText (first : World) (text : List ℕ) (world : World) : Type 0 where
   pub fault : (finished_schedule text).fault ≡ None
   pub replay : IsReplay (recording_of first text) world
 
--- such a text of which each choice is a token of its own, one space between them
+-- such a text in which each choice is a token of its own, with one space between them
 pub record IsRecordOf (first : World) (text : List ℕ) (world : World) : Type 0 where
   pub text_is : text ≡ record_text (recording_of first text).choices
   pub named : All IsNamed (recording_of first text).choices

@@ -1,5 +1,5 @@
--- Which choice a thread may make by itself: its turn where it is ready. Where no thread is, the wait of the lowest thread
--- whose wait may run out does.
+-- Which choice a thread may make by itself: its turn if it is ready. If no thread is ready, the timed wait of the lowest thread
+-- that can expire does so.
 use Rattle.std.specs.Prelude.{◌≡◌, ℕ, Bool, true, false, not, ◌&&◌, ◌||◌, List, [], ◌∷◌, length}
 use Rattle.std.specs.List.{list_any, range_with_len}
 use Rattle.machine_scene.specs.Outcomes.{is_ready}

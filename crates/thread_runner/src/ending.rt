@@ -10,12 +10,12 @@ pub enum Ending {
     AllEnded,
     /// Some thread hasn't, and no choice does anything any more.
     Stuck,
-    /// Some choice may still take a step, but the limit of steps is reached.
+    /// Some choice can still take a step, but the limit of steps is reached.
     Limit,
 }
 
 impl Ending {
-    /// How the program stands where its run ended so.
+    /// Returns the word for a program whose run ended so.
     pub fn standing(self) -> Standing
         ensures { result ≡ standing_at self }
     {

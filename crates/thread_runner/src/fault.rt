@@ -1,7 +1,7 @@
 /// Why a step was not taken. Nothing has changed.
 #[derive(Clone, Copy, Debug, PartialEq, Eq)]
 pub enum TakeFault {
-    /// The thread isn't ready, or its wait may not run out now.
+    /// The thread isn't ready, or its wait can't expire now.
     NotReady,
     /// The limit of steps is reached.
     StepLimit,
@@ -12,8 +12,8 @@ pub enum TakeFault {
 /// Why a live run was broken off. Every worker that was started has ended.
 #[derive(Drop)]
 pub enum LiveFault {
-    /// Out of memory. What was played until then, as a schedule; it is empty where there was no memory for a machine.
+    /// Out of memory. The schedule has what was played until then. It is empty if there was no memory for a machine.
     Memory(Vec<u8>),
-    /// A thread could not be started.
+    /// A thread couldn't be started.
     Spawn,
 }

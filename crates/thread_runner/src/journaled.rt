@@ -18,7 +18,7 @@ use std::alloc::{AllocError, Global};
 use std::marker::Model;
 use thread_machine::{Choice, Event, Machine, Status};
 
-/// A machine and the choices that led to it, each of them a step.
+/// A machine, and the choices that led to it, each of them a step.
 #[derive(Drop)]
 pub struct Journaled {
     machine: Machine,
@@ -41,7 +41,7 @@ impl Model for Journaled {
 }
 
 impl Journaled {
-    /// The machine of a program that takes at most `limit` steps, before the first choice.
+    /// Makes the machine of a program that takes at most `limit` steps, before the first choice.
     pub fn new(alloc: Global, program: Loaded, limit: u32) -> Result<Journaled, AllocError>
         requires { limit ≤ 1000000000 }
         ensures { IfOk result (λ journaled. journaled ≡ begun (first_world program limit)) }
@@ -73,8 +73,8 @@ impl Journaled {
         })
     }
 
-    /// Lets the time of a thread's wait run out, and records it. Time passes only where no thread is ready, and for the
-    /// lowest thread first.
+    /// Lets a thread's timed wait expire, and records it. This is only possible if no thread is ready, and for the lowest such
+    /// thread first.
     pub fn take_expiry(&mut self, thread: u8) -> Result<Event, TakeFault>
         requires { thread < length self.old.first.scene.threads }
         ensures played { IfOk result (λ event. record { world = world_after self.new; event = event }
@@ -125,7 +125,7 @@ impl Journaled {
         }
     }
 
-    /// How many threads there are, 1 to 64.
+    /// Returns how many threads there are, 1 to 64.
     pub fn thread_count(&self) -> usize
         ensures count { result ≡ length self.now.first.scene.threads }
         ensures now { result ≡ length (world_after self.now).scene.threads }
@@ -142,7 +142,7 @@ impl Journaled {
         let _ = self.thread_count();
     }
 
-    /// Whether a thread's turn would be a step.
+    /// Returns whether a thread's turn would be a step.
     pub fn is_ready(&self, thread: u8) -> bool
         requires { thread < length self.now.first.scene.threads }
         ensures { result ≡ is_ready_in (world_after self.now) thread }
@@ -150,7 +150,7 @@ impl Journaled {
         self.machine.is_ready(thread)
     }
 
-    /// Whether the wait of a thread runs out next.
+    /// Returns whether a thread's wait is the next to expire.
     pub fn is_due(&self, thread: u8) -> bool
         requires { thread < length self.now.first.scene.threads }
         ensures { result ≡ is_due (world_after self.now) thread }
@@ -158,7 +158,7 @@ impl Journaled {
         self.can_expire(thread) && !self.some_turn() && !self.some_lower(thread)
     }
 
-    /// Whether the wait of a thread may run out.
+    /// Returns whether the thread's timed wait can expire.
     fn can_expire(&self, thread: u8) -> bool
         requires { thread < length self.now.first.scene.threads }
         ensures { result ≡ can_expire_in (world_after self.now) thread }
@@ -166,7 +166,7 @@ impl Journaled {
         self.machine.can_expire(thread)
     }
 
-    /// Whether a thread has a choice to make: it is ready, or its wait runs out next.
+    /// Returns whether a thread has a choice to make: it is ready, or its wait is the next to expire.
     pub fn may_choose(&self, thread: u8) -> bool
         requires { thread < length self.now.first.scene.threads }
         ensures { result ≡ may_choose (world_after self.now) thread }
@@ -174,7 +174,7 @@ impl Journaled {
         self.is_ready(thread) || self.is_due(thread)
     }
 
-    /// Whether a thread has ended or died.
+    /// Returns whether a thread has ended or died.
     pub fn has_finished(&self, thread: u8) -> bool
         requires { thread < length self.now.first.scene.threads }
         ensures { result ≡ has_finished (world_after self.now) thread }
@@ -226,7 +226,7 @@ impl Journaled {
         let _ = &self.schedule;
     }
 
-    /// Whether some thread is ready.
+    /// Returns whether some thread is ready.
     fn some_turn(&self) -> bool
         ensures { result ≡ some_turn (world_after self.now) }
     {
@@ -238,7 +238,7 @@ impl Journaled {
         false
     }
 
-    /// Whether the wait of some thread below this one may run out.
+    /// Returns whether the timed wait of some lower thread can expire.
     fn some_lower(&self, thread: u8) -> bool
         requires { thread < length self.now.first.scene.threads }
         ensures { result ≡ some_lower (world_after self.now) thread }
@@ -278,7 +278,7 @@ impl Journaled {
         (self.schedule, self.machine)
     }
 
-    /// How the run has ended, `None` where some choice may still take a step.
+    /// Returns how the run has ended, or `None` if some choice can still take a step.
     pub fn ending(&self) -> Option<Ending>
         ensures { result ≡ ending_of (world_after self.now) }
     {

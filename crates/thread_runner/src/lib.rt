@@ -1,7 +1,7 @@
 //! Real threads that play a loaded program under one lock, and the record of what they did.
 //!
-//! Whoever gets the lock finds a `Journaled`, the replay of the recorded choices; their text is made as they come.
-//! `run_live` has a worker for each of the program's threads, and gives back that schedule, the machine and the ending.
+//! A thread that gets the lock finds a `Journaled`, the replay of the recorded choices. Their text is made when they are
+//! played. `run_live` has a worker for each of the program's threads, and returns that schedule, the machine and the ending.
 #![tactic(auto)]
 
 mod ending;

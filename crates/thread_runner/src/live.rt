@@ -11,14 +11,14 @@ use std::marker::{Brand, PhantomData};
 /// Why a run was broken off.
 #[derive(Clone, Copy, Debug, PartialEq, Eq)]
 pub enum Break {
-    /// A worker's step wanted memory.
+    /// A worker's step was out of memory.
     Memory,
-    /// A worker's thread could not be started.
+    /// A worker's thread couldn't be started.
     Spawn,
 }
 
-/// Which first world a live run begins in. Each run picks it, and no value of it is made: it is how the type of what lies
-/// under the lock says of which program and limit that is.
+/// The first world of a live run. Each run names its own, and the program never makes such a value: with it the type of what
+/// the lock protects says which program and limit it belongs to.
 pub trait Origin {
     ghost first: { World };
 }
@@ -27,7 +27,7 @@ impl Origin for Brand {
     ghost first = { no_world };
 }
 
-/// What lies under the lock: a record from this origin, and why the run was broken off, if it was.
+/// What the lock protects: a record from this origin, and why the run was broken off, if it was.
 #[derive(Drop)]
 pub struct Live<O: Origin> {
     pub journaled: Journaled,
@@ -39,7 +39,7 @@ pub struct Live<O: Origin> {
 }
 
 impl<O: Origin> Live<O> {
-    /// A run that nobody has broken off.
+    /// Makes a run that nobody has broken off.
     pub fn new(journaled: Journaled) -> Live<O>
         requires { journaled.first ≡ O.first }
         ensures journaled { result.journaled ≡ journaled }
@@ -53,7 +53,7 @@ impl<O: Origin> Live<O> {
         }
     }
 
-    /// Whether the worker of a thread stops.
+    /// Returns whether the worker of a thread stops.
     pub fn leaves(&self, thread: u8) -> bool
         requires { thread < length O.first.scene.threads }
         ensures { result ≡ leaves self.now.broken (world_after self.now.journaled) thread }
@@ -63,7 +63,7 @@ impl<O: Origin> Live<O> {
             || self.journaled.ending().is_some()
     }
 
-    /// Whether the worker of a thread waits.
+    /// Returns whether the worker of a thread waits.
     pub fn waits(&self, thread: u8) -> bool
         requires { thread < length O.first.scene.threads }
         ensures { result ≡ waits self.now.broken (world_after self.now.journaled) thread }
@@ -71,7 +71,7 @@ impl<O: Origin> Live<O> {
         !self.journaled.may_choose(thread) && !self.leaves(thread)
     }
 
-    /// Whether the worker of a thread waits, which is noted.
+    /// Returns whether the worker of a thread waits, and notes it.
     pub fn falls_asleep(&mut self, thread: u8) -> bool
         requires { thread < length O.first.scene.threads }
         ensures waits { result ≡ waits self.old.broken (world_after self.old.journaled) thread }
@@ -88,7 +88,7 @@ impl<O: Origin> Live<O> {
         waits
     }
 
-    /// Whether one of the workers that wait needn't wait any more.
+    /// Returns whether one of the waiting workers needn't wait any longer.
     pub fn some_wakes(&self) -> bool {
         for thread in 0..self.journaled.thread_count() {
             if self.sleepers >> (thread as u32 & 63) & 1 == 1 && !self.waits(thread as u8) {
@@ -124,7 +124,7 @@ impl<O: Origin> Live<O> {
         }
     }
 
-    /// Breaks the run off where a thread can't be started, unless it was before.
+    /// Breaks the run off because a thread can't be started, unless it was broken off before.
     pub fn refuse(&mut self)
         ensures journaled { self.new.journaled ≡ self.old.journaled }
         ensures broken { is_some self.new.broken ≡ true }

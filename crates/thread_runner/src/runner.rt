@@ -23,7 +23,8 @@ use thread_machine::Machine;
 /// A live run that has ended.
 #[derive(Drop)]
 pub struct LiveRun {
-    /// The choices that were made, in the order in which the workers had the lock: a token for each, one space between them.
+    /// The choices that were made, in the order in which the workers had the lock: a token for each, with one space between
+    /// them.
     pub schedule: Vec<u8>,
     /// The machine that they led to.
     pub machine: Machine,
@@ -109,7 +110,7 @@ fn start<O: Origin + Send + Sync, R: Threads + Wait + Sync, G: Gate + Sync>(
     );
 }
 
-/// Plays on where a run is not over, choice by choice. The workers have left none to make.
+/// Plays a run that isn't over to its end, choice by choice. The workers have left none to play.
 fn play_on(mut journaled: Journaled) -> Result<(Journaled, Ending), LiveFault>
     ensures first { IfOk result (λ both. both.0.first ≡ journaled.first) }
     ensures ending { IfOk result (λ both. ending_of (world_after both.0) ≡ Some both.1) }
@@ -127,7 +128,7 @@ fn play_on(mut journaled: Journaled) -> Result<(Journaled, Ending), LiveFault>
     }
 }
 
-/// What is told where memory ran out.
+/// Returns the fault of a run that ran out of memory.
 fn out_of_memory(journaled: Journaled) -> LiveFault
     ensures left { HasLeft journaled.first result }
     ensures spawn { result ≢ LiveFault.Spawn }
@@ -136,7 +137,7 @@ fn out_of_memory(journaled: Journaled) -> LiveFault
     LiveFault::Memory(schedule)
 }
 
-/// What the workers left, once all have ended.
+/// Returns what the workers left, when all have ended.
 fn end<O: Origin>(live: Live<O>) -> Result<(Journaled, Ending), LiveFault>
     ensures first { IfOk result (λ both. both.0.first ≡ O.first) }
     ensures ending { IfOk result (λ both. ending_of (world_after both.0) ≡ Some both.1) }
@@ -207,8 +208,8 @@ fn ended(journaled: Journaled, ending: Ending) -> LiveRun
     }
 }
 
-/// Plays a program by a real thread for each of its threads, until the run is over; at most `limit` steps. Each worker
-/// takes its own thread's steps, as it comes to have the lock. The schedule is made as they are taken.
+/// Plays a program with a real thread for each of its threads, until the run is over, and at most `limit` steps. Each worker
+/// takes its own thread's steps when it gets the lock. The schedule is made while the steps are taken.
 pub fn run_live<R: Threads + Wait + Sync, G: Gate + Sync>(
     rt: &R,
     alloc: Global,

@@ -1,4 +1,4 @@
--- A thread, and what a turn makes of it.
+-- A thread, and what a turn does to it.
 use Rattle.std.specs.Prelude.{ℕ, ℤ, pos, Bool, true, false, ◌+◌, ◌-◌, ◌==◌, if◌then◌else◌, List, [], ◌∷◌, ◌++◌, length, take, Option, Some, None, slice_get}
 use Rattle.std.specs.List.{list_any}
 use Rattle.instruction_table.specs.declared.row.Row.{Row}
@@ -14,8 +14,8 @@ use Rattle.thread_state.specs.declared.status.Status.{Status}
 use Rattle.thread_state.specs.declared.status.Status.TheVariants as status
 use Rattle.thread_state.specs.Frame.{is_routine}
 
--- one thread: the row that it stands at, its eight registers, its stack from the bottom, its status, whether it is
--- interrupted, and the values that it put out
+-- a thread: the row that it is at, its eight registers, its stack from the bottom, its status, whether it is interrupted, and
+-- the values that it put out
 pub record ThreadState : Type 0 where
   pub pc : ℕ
   pub registers : List ℤ
@@ -40,7 +40,7 @@ pub record Turn : Type 0 where
   pub thread : ThreadState
   pub what : What
 
--- a thread that takes no step any more
+-- the thread takes no more steps
 abbrev pub is_finished : Status → Bool
 is_finished status.Runs = false
 is_finished (status.Throws code) = false
@@ -57,14 +57,14 @@ turn_of_throw code thread = record { thread = record thread { status = status.Th
 abbrev pub turn_of_interruption : ThreadState → Turn
 turn_of_interruption thread = turn_of_throw (pos 3) (record thread { interrupted = false })
 
--- a number goes into a register, and the next row comes
+-- a number goes into a register, and the next row follows
 abbrev pub turn_of_answer : Reg → ℤ → ThreadState → Turn
 turn_of_answer into value thread = record {
   thread = record thread { registers = with_value thread.registers into value; pc = thread.pc + 1; status = status.Runs };
   what = what.Value value;
 }
 
--- a row without an answer is done, and the next row comes
+-- a row without a result is done, and the next row follows
 abbrev pub turn_of_done : ThreadState → Turn
 turn_of_done thread = record { thread = record thread { pc = thread.pc + 1 }; what = what.Done }
 
@@ -77,18 +77,18 @@ abbrev pub turn_of_barrier_wait : ℕ → ThreadState → Turn
 turn_of_barrier_wait index thread =
     record { thread = record thread { status = status.AwaitsBarrier (pos index) }; what = what.Waits }
 
--- `halt`: it ends where it stands, but inside a routine or an action that is exception 7
+-- `halt`: the thread ends and stays at its row; inside a routine or an action it is exception 7
 abbrev pub turn_of_halt : ThreadState → Turn
 turn_of_halt thread =
     if list_any is_routine thread.stack then turn_of_throw (pos 7) thread
     else record { thread = record thread { status = status.Ended }; what = what.Ends }
 
--- what a row on registers alone shows: the number that it put into a register, if it did
+-- what a row that uses only registers shows: the number that it put into a register, if it did
 abbrev pub what_of_written : Option ℤ → What
 what_of_written (Some value) = what.Value value
 what_of_written None = what.Done
 
--- a row on registers alone
+-- a row that uses only registers
 abbrev pub turn_of_local : Row → ThreadState → Turn
 turn_of_local row thread =
     let effect : Local = local_of row thread.registers thread.pc in
@@ -117,7 +117,7 @@ with_entry entry row thread = record thread { stack = thread.stack ++ entry ∷ 
 abbrev pub popped : ThreadState → ThreadState
 popped thread = record thread { stack = take (length thread.stack - 1) thread.stack }
 
--- `call`: the row after this one is where `ret` comes back to; on a full stack that is exception 6
+-- `call`: `ret` will come back to the row after this one; if the stack is full, it is exception 6
 abbrev pub turn_of_call : ℕ → ThreadState → Turn
 turn_of_call target thread =
     if is_full thread then turn_of_throw (pos 6) thread
@@ -129,7 +129,7 @@ turn_of_try handler thread =
     if is_full thread then turn_of_throw (pos 6) thread
     else record { thread = with_entry (frame.Handler handler) (thread.pc + 1) thread; what = what.Done }
 
--- `endtry`, by the top entry: a handler is taken off, anything else is exception 7
+-- `endtry`, by the top entry: a handler is popped, and anything else is exception 7
 abbrev pub turn_of_endtry : Option Frame → ThreadState → Turn
 turn_of_endtry (Some (frame.Handler row)) thread = turn_of_done (popped thread)
 turn_of_endtry _ thread = turn_of_throw (pos 7) thread
@@ -152,12 +152,12 @@ abbrev pub turn_of_action : ℕ → ℕ → ThreadState → Turn
 turn_of_action barrier first thread =
     record { thread = with_entry (frame.Action barrier thread.registers thread.pc) first thread; what = what.Enters }
 
--- the thread back at the row at which its routine or action, the top entry, began, with the registers of then
+-- the thread is back at the row where its routine or action, the top entry, began, with the registers of that moment
 abbrev pub left_routine : List ℤ → ℕ → ThreadState → ThreadState
 left_routine registers row thread = record (popped thread) { registers = registers; pc = row }
 
--- what an exception makes of a thread with this top entry: it is past a call and stays at its row, is caught by a
--- handler with the code in the last register, is past a routine or an action, or it found an empty stack
+-- what an exception does to a thread with this top entry: a call is popped, and the thread stays at its row; a handler catches
+-- it, with the code in the last register; a routine or an action is popped; or the stack is empty
 abbrev pub turn_of_popped : Option Frame → ℤ → ThreadState → Turn
 turn_of_popped None code thread = record { thread = record thread { status = status.Died code }; what = what.Dies code }
 turn_of_popped (Some (frame.Call row)) code thread = record { thread = popped thread; what = what.Unwinds }
@@ -178,7 +178,7 @@ turn_of_pop code thread = turn_of_popped (top_of thread.stack) code thread
 abbrev pub interrupted : ThreadState → ThreadState
 interrupted thread = if is_finished thread.status then thread else record thread { interrupted = true }
 
--- `intrd`: the answer is its interrupted status, 1 or 0, which is cleared
+-- `intrd`: the result is its interrupted status, 1 or 0, which is cleared
 abbrev pub turn_of_intrd : Reg → ThreadState → Turn
 turn_of_intrd into thread =
     turn_of_answer into (if thread.interrupted then pos 1 else pos 0) (record thread { interrupted = false })

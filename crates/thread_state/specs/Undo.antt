@@ -1,4 +1,4 @@
--- What is kept of a thread before a turn, and the thread that it gives back.
+-- What is saved of a thread before a turn, and the thread that it restores.
 use Rattle.std.specs.Prelude.{ℕ, ℤ, ◌-◌, Bool, List, ◌++◌, length, take, option_to_list, Option}
 use Rattle.thread_state.specs.declared.frame.Frame.{Frame}
 use Rattle.thread_state.specs.declared.status.Status.{Status}
@@ -26,7 +26,7 @@ note_of thread = record {
   outputs = length thread.output;
 }
 
--- the thread before its turn, in which its stack lost or got one entry at most, and its output got one value at most
+-- the thread before its turn; in the turn its stack lost or got at most one entry, and its output got at most one value
 abbrev pub undone : Note → ThreadState → ThreadState
 undone note thread = record {
   pc = note.pc;

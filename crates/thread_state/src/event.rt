@@ -5,14 +5,14 @@ pub struct Event {
     pub mark: Mark,
 }
 
-/// What became of the thread.
+/// What happened to the thread.
 #[derive(Clone, Copy, Debug, PartialEq, Eq)]
 pub enum What {
     /// It isn't ready: nothing happened.
     Idle,
-    /// A row was done that gives no number.
+    /// A row without a result was done.
     Done,
-    /// This number went into a register: the row's answer, or that of a wait which is over.
+    /// This number went into a register: the result of the row, or of a wait that is over.
     Value(i32),
     /// This number was put out.
     Out(i32),
@@ -32,7 +32,7 @@ pub enum What {
     Ends,
 }
 
-/// What the choice did beside its own thread, where a trace tells it.
+/// What the choice changed besides its own thread, if a trace shows it.
 #[derive(Clone, Copy, Debug, PartialEq, Eq)]
 pub enum Mark {
     Nothing,

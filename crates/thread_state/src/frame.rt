@@ -6,22 +6,22 @@ use instruction_table::Regs;
 /// An entry of a thread's stack, as the machine shows it.
 #[derive(Clone, Copy, Debug, PartialEq, Eq)]
 pub enum Entry {
-    /// A call; the row that it returns to.
+    /// A call. The number is the row that it returns to.
     Call(u16),
-    /// A handler of exceptions; its first row.
+    /// A handler of exceptions. The number is its first row.
     Handler(u16),
-    /// An advance routine; its root phaser.
+    /// The routine of a phaser's `onAdvance`. The number is its root phaser.
     Advance(u8),
-    /// A barrier's action; the barrier.
+    /// The action of a barrier. The number is the barrier.
     Action(u8),
 }
 
 /// An entry of a thread's stack.
 #[derive(Clone, Copy)]
 pub enum Frame {
-    /// A call; the row that it returns to.
+    /// A call. The number is the row that it returns to.
     Call(u16),
-    /// A handler of exceptions; its first row.
+    /// A handler of exceptions. The number is its first row.
     Handler(u16),
     /// The advance routine of a root phaser; what the registers held at the arrival, and its row.
     Advance(u8, Regs, u16),
@@ -42,14 +42,14 @@ impl Frame {
         }
     }
 
-    /// Whether it is that of an advance routine or of a barrier's action.
+    /// Returns whether this is the entry of a routine or of a barrier's action.
     pub fn is_routine(&self) -> bool
         ensures { result ≡ is_routine self.now }
     {
         matches!(self, Frame::Advance(..) | Frame::Action(..))
     }
 
-    /// Whether it is that of this root's advance routine.
+    /// Returns whether this is the entry of this root's routine.
     pub fn is_advance(&self, wanted: u8) -> bool
         ensures { result ≡ is_advance wanted self.now }
     {

@@ -56,7 +56,7 @@ impl Model for Thread {
 }
 
 impl Thread {
-    /// A thread at its first row. Its stack has all the room that it will ever need.
+    /// Makes a thread at its first row. Its stack has all the capacity that it will ever need.
     pub fn new(alloc: Global, first: u16) -> Result<Thread, AllocError>
         ensures { IfOk result (λ thread. thread ≡ new_thread first) }
     {
@@ -70,7 +70,7 @@ impl Thread {
         })
     }
 
-    /// A copy of the thread, with as much room.
+    /// Returns a copy of the thread, with the same capacity.
     pub fn copy(&self, alloc: Global) -> Result<Thread, AllocError>
         ensures { IfOk result (λ copy. copy ≡ self.now) }
     {
@@ -86,28 +86,28 @@ impl Thread {
         })
     }
 
-    /// The row that it stands at.
+    /// Returns the row that the thread is at.
     pub fn pc(&self) -> u16
         ensures { result ≡ self.now.pc }
     {
         self.pc
     }
 
-    /// What it is doing.
+    /// Returns what the thread is doing.
     pub fn status(&self) -> Status
         ensures { result ≡ self.now.status }
     {
         self.status
     }
 
-    /// The number in a register.
+    /// Returns the number in a register.
     pub fn register(&self, reg: Reg) -> i32
         ensures { result ≡ value_in self.now.registers reg }
     {
         self.registers.get(reg)
     }
 
-    /// Whether it was interrupted.
+    /// Returns whether the thread is interrupted.
     pub fn interrupted(&self) -> bool
         ensures { result ≡ self.now.interrupted }
     {
@@ -129,21 +129,21 @@ impl Thread {
         self.stack.last().copied()
     }
 
-    /// Whether its stack has no room for one entry more.
+    /// Returns whether the stack is full.
     pub fn is_full(&self) -> bool
         ensures { result ≡ is_full self.now }
     {
         self.stack.len() == STACK_ROOM
     }
 
-    /// Whether it runs the advance routine of this root, in whatever calls.
+    /// Returns whether the thread runs the routine of this root, perhaps in a call.
     pub fn advances(&self, root: u8) -> bool
         ensures { result ≡ list_any (is_advance root) self.now.stack }
     {
         self.stack.iter().any(|frame| frame.is_advance(root))
     }
 
-    /// What it put out, in order.
+    /// Returns what the thread put out, in order.
     pub fn output(&self) -> &[i32]
         ensures values { result.now ≡ self.now.output }
         ensures few { length result.now ≤ 4096 }
@@ -151,7 +151,7 @@ impl Thread {
         self.output.as_slice()
     }
 
-    /// Whether it has ended or died.
+    /// Returns whether the thread has ended or died.
     pub fn is_finished(&self) -> bool
         ensures { result ≡ is_finished self.now.status }
     {
@@ -166,7 +166,7 @@ impl Thread {
         What::Throws(code)
     }
 
-    /// Meets the exception of an interrupted wait, which clears its interrupted status.
+    /// Throws the exception of an interrupted wait, which clears the interrupted status.
     pub fn take_interruption(&mut self) -> What
         ensures { record { thread = self.new; what = result } ≡ turn_of_interruption self.old }
     {
@@ -174,7 +174,7 @@ impl Thread {
         self.throw(3)
     }
 
-    /// Puts a row's answer into a register and goes on.
+    /// Puts a row's result into a register, and goes on.
     pub fn answer(&mut self, into: Reg, value: i32) -> What
         requires { self.old.pc < 65535 }
         ensures { record { thread = self.new; what = result } ≡ turn_of_answer into value self.old }
@@ -185,7 +185,7 @@ impl Thread {
         What::Value(value)
     }
 
-    /// Goes on from a row that has no answer.
+    /// Goes on after a row without a result.
     pub fn done(&mut self) -> What
         requires { self.old.pc < 65535 }
         ensures { record { thread = self.new; what = result } ≡ turn_of_done self.old }
@@ -221,14 +221,14 @@ impl Thread {
         What::Ends
     }
 
-    /// Whether an advance routine or a barrier's action is under way.
+    /// Returns whether the thread runs a routine or a barrier's action.
     fn is_in_routine(&self) -> bool
         ensures { result ≡ list_any is_routine self.now.stack }
     {
         self.stack.iter().any(|frame| frame.is_routine())
     }
 
-    /// A row on registers alone.
+    /// Plays a row that uses only registers.
     #[inline(always)]
     pub fn local_row(&mut self, row: Row) -> What
         requires row { IsTrue (is_local_row row) }
@@ -308,7 +308,7 @@ impl Thread {
         }
     }
 
-    /// `ret` to the row after a call, whose entry is on top.
+    /// Plays `ret` after a call, whose entry is on top of the stack.
     pub fn return_to(&mut self, row: u16) -> What
         ensures { record { thread = self.new; what = result } ≡ turn_of_return row self.old }
     {
@@ -317,8 +317,8 @@ impl Thread {
         What::Done
     }
 
-    /// Enters the advance routine of a root, which begins at the row `first`: it is told the phase that ends and the
-    /// parties that are then registered.
+    /// Enters the routine of a root, which begins at the row `first`. It gets the phase that ends, and the parties that are
+    /// registered then.
     pub fn enter_advance(&mut self, root: u8, phase: i32, parties: u16, first: u16) -> What
         requires { is_full self.old ≡ false }
         ensures { record { thread = self.new; what = result }
@@ -341,7 +341,8 @@ impl Thread {
         What::Enters
     }
 
-    /// Is back at the row at which its routine or action began, whose entry is on top, with the registers of then.
+    /// Leaves the routine or action whose entry is on top: the thread is back at the row where it began, with the registers of
+    /// that moment.
     pub fn leave_routine(&mut self, registers: &Regs, row: u16)
         ensures { self.new ≡ left_routine registers.now row self.old }
     {

@@ -1,4 +1,4 @@
--- What a caller learns from an answer, and what stays through a call.
+-- What a caller learns from a result, and what a call leaves unchanged.
 use Rattle.std.specs.Prelude.{◌≡◌, ℕ, ◌<◌, true, false, List, length}
 use Rattle.tier_tree.specs.declared.id.PhaserId.{PhaserId}
 use Rattle.tier_tree.specs.declared.registered.Registered.{Registered}
@@ -22,7 +22,7 @@ DoesntArrive (arrived.Turning root phase parties) = ⊥
 DoesntArrive (arrived.Dead view) = Unit {0}
 DoesntArrive arrived.NotThere = Unit {0}
 
--- what is said of the root, where the arrival was the last of its tree
+-- what is said of the root, if the arrival was the last one of its tree
 abbrev pub IfTurning : Arrived → (PhaserId → Type 0) → Type 0
 IfTurning (arrived.At phase) P = Unit {0}
 IfTurning (arrived.Turning root phase parties) P = P root
@@ -51,7 +51,7 @@ AddsPlace before after =
 abbrev pub KeepsEnds : List PhaserState → List PhaserState → Type 0
 KeepsEnds before after = (id : ℕ) → (phaser_at after id).ends ≡ (phaser_at before id).ends
 
--- the phaser of this number is in its root's phase, and terminated where its root is
+-- the phaser of this number is in its root's phase, and terminated if its root is
 pub record FollowsRoot (id : ℕ) (phasers : List PhaserState) : Type 0 where
   pub phase : (flat_at phasers id).phase ≡ (flat_at phasers (root_at phasers id)).phase
   pub ended : (flat_at phasers id).ended ≡ (flat_at phasers (root_at phasers id)).ended

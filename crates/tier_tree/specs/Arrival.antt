@@ -21,14 +21,14 @@ is_top (id ∷ above) = false
 abbrev pub passed_on : Flat → Flat
 passed_on flat = if flat.parties == 0 then vacate flat else flat
 
--- where no phaser above refuses, a child all of whose parties have arrived counts them
+-- if no phaser above refuses, a child whose parties have all arrived counts them
 abbrev pub with_child : ℕ → Flat → Climb → List PhaserState → Climbed
 with_child id flat climb.Counted above = record { phasers = with_flat above id (passed_on flat); climb = climb.Counted }
 with_child id flat climb.Turned above = record { phasers = with_flat above id (passed_on flat); climb = climb.Turned }
 with_child id flat climb.Refused above = record { phasers = above; climb = climb.Refused }
 
--- by what the arrival comes to at one phaser: where all have arrived, a root is turned, and a child arrives above, or
--- leaves there if it has no party left
+-- what follows from the arrival at one phaser: if all have arrived, a root is turned, and a child arrives above, or leaves
+-- there if it has no party left
 abbrev pub climbed_by : Arrival → ℕ → Bool → (Bool → Climbed) → List PhaserState → Climbed
 climbed_by (Counts flat) id top above phasers = record { phasers = with_flat phasers id flat; climb = climb.Counted }
 climbed_by (Turns flat) id true above phasers = record { phasers = with_flat phasers id flat; climb = climb.Turned }
@@ -43,7 +43,7 @@ climbed [] leave phasers = record { phasers = phasers; climb = climb.Refused }
 climbed (id ∷ above) leave phasers =
     climbed_by (arrive leave (flat_at phasers id)) id (is_top above) (λ leaves. climbed above leaves phasers) phasers
 
--- the forest after an arrival, and its answer
+-- the forest after an arrival, and its result
 pub record Arrives : Type 0 where
   pub phasers : List PhaserState
   pub answer : Arrived
@@ -59,7 +59,7 @@ arrival_by climb.Turned id after phasers =
     }
 arrival_by climb.Refused id after phasers = record { phasers = phasers; answer = arrived.NotThere }
 
--- an arrival at this phaser, by a party that leaves where the test says so
+-- an arrival at this phaser by a party that also leaves if the flag says so
 abbrev pub arrival : ℕ → Bool → List PhaserState → Arrives
 arrival id leave phasers =
     let flat = flat_at phasers id in

@@ -1,11 +1,11 @@
--- What every call at a phaser leaves of its forest, whatever it answers.
+-- What every call at a phaser leaves of its forest, whatever it returns.
 use Rattle.std.specs.Prelude.{ℕ, List}
 use Rattle.tier_tree.specs.Answer.{KeepsPlaces}
 use Rattle.tier_tree.specs.Origin.{Origin, Carries}
 use Rattle.tier_tree.specs.Stored.{Stored, ChangedAt, phasers_of}
 
--- only words from this phaser up to its root may differ; each phaser has its line and its policy; and whatever counts the
--- forest stood for, it stands for what is made of them here
+-- only words from this phaser up to its root may differ; each phaser keeps its line and its policy; and if the forest stood for
+-- some counts, it now stands for what the call makes of them
 pub record IsCall (id : ℕ) (next : Origin → Origin) (before : List Stored) (after : List Stored) : Type 0 where
   pub only : ChangedAt id before after
   pub places : KeepsPlaces (phasers_of before) (phasers_of after)

@@ -23,7 +23,7 @@ fault_number fault.Memory = 7
 abbrev pub is_count : ℤ → Bool
 is_count parties = not (int_lt parties (pos 0) || int_lt (pos 65535) parties)
 
--- what the declaration registers above: one party with the parent, where the new phaser has parties
+-- what the declaration registers above: one party with the parent, if the new phaser has parties
 abbrev pub joins_above : Option PhaserId → ℕ → List PhaserState → List Join
 joins_above None parties phasers = []
 joins_above (Some parent) parties phasers = if parties == 0 then [] else joins parent.0 1 phasers
@@ -33,7 +33,7 @@ abbrev pub has_parent : Option PhaserId → List PhaserState → Bool
 has_parent None phasers = true
 has_parent (Some parent) phasers = not (nat_le (length phasers) parent.0)
 
--- a child begins in its tree's phase, and 0 is given for it
+-- a child begins in its tree's phase, and its phase is given as 0
 abbrev pub is_first_phase : Option PhaserId → ℕ → Bool
 is_first_phase None phase = true
 is_first_phase (Some parent) phase = phase == 0
@@ -53,7 +53,7 @@ abbrev pub phase_below : Option PhaserId → ℕ → List PhaserState → ℕ
 phase_below None phase phasers = phase
 phase_below (Some parent) phase phasers = (flat_at phasers parent.0).phase
 
--- why a declaration is refused, want of memory aside; the first case that holds
+-- why a declaration is refused, except out of memory; the first case that holds
 abbrev pub fault_of : Option PhaserId → ℤ → ℕ → List PhaserState → Option DeclareFault
 fault_of parent parties phase phasers =
     if nat_le 64 (length phasers) then Some fault.TooManyPhasers

@@ -24,7 +24,7 @@ phaser_at phasers id = slice_index_or phasers id no_phaser
 abbrev pub flat_at : List PhaserState → ℕ → Flat
 flat_at phasers id = (phaser_at phasers id).flat
 
--- the number of its root, which ends its line
+-- the number of its root, which is the last of its line
 abbrev pub root_of : PhaserState → ℕ
 root_of phaser = slice_index_or phaser.line (length phaser.line - 1) 0
 

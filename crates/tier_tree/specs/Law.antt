@@ -7,7 +7,7 @@ use Rattle.tier_tree.specs.Registration.{registration}
 use Rattle.tier_tree.specs.Arrival.{arrival}
 use Rattle.tier_tree.specs.Origin.{Origin, AreTallied}
 
--- in a tree whose root is turned and that had no stray, every registration of somebody is held or too many, and every
+-- in a tree whose root is turned and that had no stray arrival, every registration of somebody is held or too many, and every
 -- arrival is refused
 abbrev pub NobodyComesBetween : List PhaserState → Type 0
 NobodyComesBetween phasers =

@@ -1,4 +1,4 @@
--- Who registered and arrived where: counts that no call shows, beside a forest.
+-- Who registered and arrived where: counts beside a forest, which no call shows.
 use Rattle.std.specs.Prelude.{◌≡◌, ◌≢◌, ℕ, ◌+◌, ◌-◌, ◌<◌, ◌≤◌, ◌==◌, ◌&&◌, not, Bool, true, false, if◌then◌else◌, List, [], ◌∷◌, length}
 use Rattle.packed_phaser.specs.Flat.{Flat, is_empty, unarrived_of}
 use Rattle.tier_tree.specs.declared.registered.Registered.{Registered}
@@ -48,8 +48,8 @@ pub record IsSteady (id : ℕ) (phasers : List PhaserState) : Type 0 where
   pub child : (flat_at phasers id).turned ≡ true → root_at phasers id ≢ id → 0 < (flat_at phasers id).parties
   pub tree : (flat_at phasers id).ended ≡ (flat_at phasers (root_at phasers id)).ended
 
--- a forest whose registrations and arrivals so far these are: in each tree that isn't terminated, and where no
--- unregistered party has arrived, each phaser counts those who registered with it directly, and its children
+-- a forest with these registrations and arrivals so far: in each tree that isn't terminated and had no stray arrival, each
+-- phaser counts those who registered with it directly, and its children
 pub record AreTallied (phasers : List PhaserState) (origin : Origin) : Type 0 where
   pub steady : (id : ℕ) → id < length phasers → IsSteady id phasers
   pub tallied : (id : ℕ) → id < length phasers → origin.stray (root_at phasers id) ≡ false
@@ -60,8 +60,8 @@ abbrev pub HaveAllArrived : Origin → ℕ → List PhaserState → Type 0
 HaveAllArrived origin root phasers =
     (id : ℕ) → id < length phasers → root_at phasers id ≡ root → origin.unarrived id ≡ 0
 
--- a party arrives directly: one fewer is still to arrive, and one who leaves isn't registered any more; where nobody was
--- to arrive, the tree has had a stray
+-- a party arrives directly: one fewer is still to arrive, and a party that leaves is no longer registered; if nobody was to
+-- arrive, the tree has had a stray arrival
 abbrev pub arrived_at : ℕ → ℕ → Bool → Origin → Origin
 arrived_at id root leave origin =
     if origin.unarrived id == 0 then record origin { stray = λ n. if n == root then true else origin.stray n }
@@ -70,7 +70,7 @@ arrived_at id root leave origin =
       registered = λ n. if (n == id) && leave then origin.registered n - 1 else origin.registered n;
     }
 
--- only an arrival that comes through counts
+-- only an arrival that isn't refused counts
 abbrev pub origin_after_arrival : Arrived → ℕ → ℕ → Bool → Origin → Origin
 origin_after_arrival (arrived.At phase) id root leave origin = arrived_at id root leave origin
 origin_after_arrival (arrived.Turning top phase parties) id root leave origin = arrived_at id root leave origin
@@ -90,14 +90,14 @@ registered_at id count origin = record origin {
   unarrived = λ n. if n == id then origin.unarrived n + count else origin.unarrived n;
 }
 
--- only a registration that comes through counts
+-- only a registration that isn't refused counts
 abbrev pub origin_after_registration : Registered → ℕ → ℕ → Origin → Origin
 origin_after_registration (registered.At phase) id count origin = registered_at id count origin
 origin_after_registration (registered.Dead view) id count origin = origin
 origin_after_registration registered.Held id count origin = origin
 origin_after_registration registered.TooMany id count origin = origin
 
--- a phaser is declared with these parties; where it is a root, its tree has had no stray
+-- a phaser is declared with these parties; if it is a root, its tree has had no stray arrival
 abbrev pub declared_at : (id : ℕ) → (count : ℕ) → (is_top : Bool) → Origin → Origin
 declared_at id count is_top origin = record {
   registered = λ n. if n == id then count else origin.registered n;
@@ -105,6 +105,6 @@ declared_at id count is_top origin = record {
   stray = λ n. if is_top && (n == id) then false else origin.stray n;
 }
 
--- whatever counts the one forest stands for, the other stands for what is made of them here
+-- if one forest stands for some counts, the other stands for what is made of them here
 abbrev pub Carries : (Origin → Origin) → List PhaserState → List PhaserState → Type 0
 Carries next before after = (origin : Origin) → AreTallied before origin → AreTallied after (next origin)

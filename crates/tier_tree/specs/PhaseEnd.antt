@@ -12,11 +12,11 @@ abbrev pub in_step : ℕ → ℕ → Bool → PhaserState → PhaserState
 in_step root phase ended phaser =
     if root_of phaser == root then record phaser { flat = follow phase ended phaser.flat } else phaser
 
--- how many phases of a tree can end: with one more a word that lags could be all 2147483648 phase numbers behind
+-- how many phases of a tree can end: after one more, a word that lags could be all 2147483648 phase numbers behind
 abbrev pub most_ends : ℕ
 most_ends = 2147483647
 
--- the root's pending phase end has come, with termination where the test says so, and all phasers of the tree follow
+-- the root's pending phase has ended, the tree is terminated if the flag says so, and all phasers of the tree follow
 abbrev pub after_phase_end : ℕ → Bool → List PhaserState → List PhaserState
 after_phase_end root terminates phasers =
     let before = phaser_at phasers root in

@@ -30,7 +30,7 @@ is_overfull phasers join = nat_lt 65535 ((flat_at phasers join.id).parties + joi
 abbrev pub is_turned : List PhaserState → Join → Bool
 is_turned phasers join = (flat_at phasers join.id).turned
 
--- what a registration comes to; the first case that holds is the answer
+-- the result of a registration; the first case that holds
 abbrev pub registration : ℕ → ℕ → List PhaserState → Registered
 registration id count phasers =
     let flat = flat_at phasers id in

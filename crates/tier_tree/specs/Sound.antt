@@ -18,7 +18,8 @@ places_of phasers = map place_of phasers
 abbrev pub line_at : List Place → ℕ → List ℕ
 line_at places id = (slice_index_or places id (place_of no_phaser)).line
 
--- a phaser's line is its own number and then its parent's line, which was declared before it; a root's is its own number alone
+-- a phaser's line is its own number and then its parent's line, which was declared before it; a root's line is only its own
+-- number
 abbrev pub IsLinked : List Place → ℕ → List ℕ → Type 0
 IsLinked places id line =
     (line ≡ id ∷ []) ⊎ ((parent : ℕ) × (parent < id) × (line ≡ id ∷ line_at places parent))

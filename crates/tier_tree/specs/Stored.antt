@@ -23,7 +23,7 @@ no_stored = record { line = []; policy = policy.Default; word = 0; ends = 0 }
 abbrev pub stored_at : List Stored → ℕ → Stored
 stored_at forest id = slice_index_or forest id no_stored
 
--- what its word alone says
+-- what only its word says
 abbrev pub kept_flat : Stored → Flat
 kept_flat stored = record_of stored.word
 
@@ -31,8 +31,8 @@ kept_flat stored = record_of stored.word
 abbrev pub top_of : Stored → ℕ
 top_of stored = slice_index_or stored.line (length stored.line - 1) 0
 
--- what a word says at present, beside that of its root: it is terminated with the root; in the
--- root's phase it stands as it is; and in any other phase all its parties are to arrive again
+-- what a word says at present, given that of its root: it is terminated with the root; in the root's phase it counts as it is;
+-- and in any other phase all its parties are to arrive again
 abbrev pub present : Flat → Flat → Flat
 present top own =
     if top.ended then force (renew top.phase own)
@@ -47,7 +47,7 @@ shown forest stored = record {
   ends = stored.ends;
 }
 
--- the phasers at present: what each call answers, and what it makes of a forest, is said of them
+-- the phasers at present: each call's result, and what it changes, is about them
 abbrev pub phasers_of : List Stored → List PhaserState
 phasers_of forest = map (shown forest) forest
 
@@ -69,8 +69,8 @@ ChangedAt id before after = ChangedOnly (stored_at before id).line before after
 abbrev pub behind : ℕ → ℕ → ℕ
 behind own top = if nat_le own top then top - own else (top + 2147483648) - own
 
--- no word is further behind than its tree has ended phases: so a word of the root's phase is one of
--- this phase, and not of one a whole turn ago
+-- no word is further behind than its tree has ended phases: so a word with the root's phase number is one of this phase, and
+-- not of the phase with the same number before
 abbrev pub IsNear : List Stored → Type 0
 IsNear forest =
     (id : ℕ) → id < length forest

@@ -1,6 +1,6 @@
 use crate::id::PhaserId;
 
-/// What an arrival answers.
+/// The result of an arrival.
 #[derive(Clone, Copy, Debug, PartialEq, Eq)]
 pub enum Arrived {
     /// Others are still to arrive; the number of the phase that the arrival was counted in.

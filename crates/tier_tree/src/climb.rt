@@ -15,25 +15,25 @@ use crate::node::Node;
 use crate::present::{line_at, root_of, set_word, top_at, view_at, word_at};
 use packed_phaser::Word;
 
-/// How far an arrival comes.
+/// How far an arrival climbs.
 #[derive(Clone, Copy)]
 pub enum Climb {
-    /// Others are still to arrive where it ends.
+    /// It is counted, and others are still to arrive where it ends.
     Counted,
     /// It is the root's last.
     Turned,
-    /// A phaser that it reaches waits for nobody.
+    /// It is refused, because no party is left to arrive at a phaser that it reaches.
     Refused,
 }
 
-/// How far an arrival comes along a line: that many of its phasers will have other words.
+/// How far an arrival climbs along a line: this many of the line's phasers will have other words.
 #[derive(Clone, Copy)]
 struct Ascent {
     climb: Climb,
     levels: usize,
 }
 
-/// What an arrival comes to at one phaser, by the word of its root.
+/// Returns the result of an arrival at one phaser, given the word of its root.
 #[inline(always)]
 fn arrival_at(nodes: &[Node], i: usize, top: Word, leave: bool) -> packed_phaser::Arrived
     requires stored { IsStored nodes.now }
@@ -51,8 +51,8 @@ fn arrival_at(nodes: &[Node], i: usize, top: Word, leave: bool) -> packed_phaser
     }
 }
 
-/// Looks from the first phaser of the line up to one where others are still to arrive, and changes none: `words` has then
-/// what their words will be. A child where all have arrived arrives above, or leaves there if it has no party left.
+/// Goes from the first phaser of the line up to one at which others are still to arrive, and changes none. It fills `words`
+/// with their new words. A child whose parties have all arrived arrives above, or leaves there if it has no party left.
 #[inline(always)]
 fn look(nodes: &[Node], line: &[u8], top: Word, leave: bool, words: &mut [Word]) -> Ascent
     requires stored { IsStored nodes.now }
@@ -155,7 +155,7 @@ fn ascend<const LEAVE: bool>(nodes: &mut [Node], i: usize) -> Arrived
     }
 }
 
-/// `ascend`, with the room for what comes of it: an arrival that ends at its phaser pays nothing for that.
+/// Calls `ascend`, with the buffer for its result. An arrival that ends at its phaser doesn't pay for that buffer.
 #[inline(always)]
 fn arrive_above(nodes: &mut [Node], i: usize, leave: bool) -> Arrived
     requires stored { IsStored nodes.old }
@@ -174,7 +174,7 @@ fn arrive_above(nodes: &mut [Node], i: usize, leave: bool) -> Arrived
     }
 }
 
-/// An arrival at one phaser, with what it makes of those above. One that ends at the phaser is told without a call.
+/// Arrives at one phaser, and changes those above. An arrival that ends at the phaser itself returns without a call.
 #[inline(always)]
 pub fn arrive(nodes: &mut [Node], i: usize, leave: bool) -> Arrived
     requires stored { IsStored nodes.old }

@@ -6,22 +6,22 @@ ghost use Rattle.tier_tree.specs.Declaration.{fault_number};
 pub enum DeclareFault {
     /// The parties are below 0 or above 65535.
     BadParties,
-    /// A phaser that the new one's parties would register with above has 65535 parties.
+    /// A phaser above, which the new one would register with, has 65535 parties.
     TooMany,
     /// The phaser would be more than 7 levels below its root.
     TooDeep,
     /// There are 64 phasers.
     TooManyPhasers,
-    /// A first phase other than 0 was given for a child.
+    /// A child was given a first phase other than 0.
     PhaseOnChild,
     /// No phaser of the parent's number was declared before.
     NoParent,
-    /// No memory could be had.
+    /// Out of memory.
     Memory,
 }
 
 impl DeclareFault {
-    /// The number that the fault is printed with.
+    /// Returns the number that the fault is printed with.
     pub fn number(self) -> u8
         ensures { result ≡ fault_number self }
     {

@@ -37,10 +37,9 @@ fn copy_of(alloc: Global, nodes: &[Node]) -> Result<Vec<Node>, AllocError>
 
 /// Phasers in trees.
 ///
-/// A forest is stored as one word a phaser, and contracts see these words. A phase end writes the
-/// root's word alone, so that the word of a child may be that of an earlier phase; `phasers_of` in
-/// `specs/Stored.antt` says what the words mean at present, and all answers, counts and changes are
-/// promised of that. `IsCall` says beside it whose words may differ after a call.
+/// A forest stores one word for each phaser, and contracts see these words. The end of a phase writes only the root's word, so
+/// the word of a child may be that of an earlier phase. `phasers_of` in `specs/Stored.antt` says what the words mean at
+/// present. All results, counts and changes are promised of that. `IsCall` says which words may differ after a call.
 #[derive(Drop)]
 pub struct Forest {
     nodes: Vec<Node>,
@@ -58,7 +57,7 @@ impl Model for Forest {
 }
 
 impl Forest {
-    /// A forest without phasers.
+    /// Makes a forest without phasers.
     #[tactic(auto, using(crate::proofs::Calls::stands_empty))]
     pub fn new(alloc: Global) -> Result<Forest, AllocError>
         ensures empty { IfOk result (λ forest. forest ≡ []) }
@@ -71,7 +70,7 @@ impl Forest {
         })
     }
 
-    /// A forest equal to it, word for word.
+    /// Returns a copy, equal word for word.
     pub fn copy(&self, alloc: Global) -> Result<Forest, AllocError>
         ensures { IfOk result (λ forest. forest ≡ self.now) }
     {
@@ -79,7 +78,7 @@ impl Forest {
         Ok(Forest { nodes })
     }
 
-    /// What `register` would answer.
+    /// Returns what `register` would return.
     pub fn registration(&self, id: PhaserId, count: u32) -> Registered
         requires { id.0 < length self.now }
         ensures { result ≡ registration id.0 count (phasers_of self.now) }
@@ -87,8 +86,8 @@ impl Forest {
         join::registration(self.nodes.as_slice(), id.0 as usize, count)
     }
 
-    /// `register` where `count` is 1, else `bulkRegister(count)`. `Held` is where Java's call would
-    /// wait for the phase's end; nothing changes then.
+    /// `register` if `count` is 1, and otherwise `bulkRegister(count)`. `Held` means that Java's call would wait for the end of
+    /// the phase; then nothing changes.
     pub fn register(&mut self, id: PhaserId, count: u32) -> Registered
         requires { id.0 < length self.old }
         ensures answer { result ≡ registration id.0 count (phasers_of self.old) }
@@ -101,8 +100,7 @@ impl Forest {
         join::register(self.nodes.as_mut_slice(), id.0 as usize, count)
     }
 
-    /// `arrive`, or `arriveAndDeregister` where the party leaves. `Turning` leaves the root turned,
-    /// until `finish_turn`.
+    /// `arrive`, or `arriveAndDeregister` if the party leaves. `Turning` leaves the root turned, until `finish_turn`.
     #[inline(always)]
     pub fn arrive(&mut self, id: PhaserId, leave: bool) -> Arrived
         requires { id.0 < length self.old }
@@ -120,11 +118,10 @@ impl Forest {
         climb::arrive(self.nodes.as_mut_slice(), id.0 as usize, leave)
     }
 
-    /// Ends the phase of a turned root, after `onAdvance` answered: `ends` is its answer. Where the
-    /// tree had no stray, everybody who registered directly with a phaser of it has arrived by then
-    /// (`safe`). Fewer than 2147483647 earlier phase ends are asked for, so that no word that lags
-    /// is ever all 2147483648 phase numbers behind; a limit of steps bounds the phase ends of each
-    /// tree. What is asked for is told by `root`, `is_turned`, `is_terminated` and `ended_phases`.
+    /// Ends the phase of a turned root after `onAdvance` has returned `ends`. If the tree had no stray arrival, everybody who
+    /// registered directly with a phaser of it has arrived (`safe`). Fewer than 2147483647 phases of the tree may have ended
+    /// before, so that no word that lags is ever all 2147483648 phase numbers behind. A limit of steps ensures this. `root`,
+    /// `is_turned`, `is_terminated` and `ended_phases` tell what is required.
     pub fn finish_turn(&mut self, root: PhaserId, ends: bool)
         requires there { root.0 < length self.old }
         requires root { root_at (phasers_of self.old) root.0 ≡ root.0 }
@@ -140,8 +137,7 @@ impl Forest {
         phase_end::end_phase(self.nodes.as_mut_slice(), root.0 as usize, ends);
     }
 
-    /// `forceTermination`: the phase and the registered parties stay, and nothing changes where it
-    /// comes again.
+    /// `forceTermination`: the phase and the registered parties stay. A second call changes nothing.
     pub fn force(&mut self, id: PhaserId)
         requires { id.0 < length self.old }
         ensures forest { phasers_of self.new ≡ after_force id.0 (phasers_of self.old) }
@@ -151,7 +147,7 @@ impl Forest {
         phase_end::force_tree(self.nodes.as_mut_slice(), id.0 as usize);
     }
 
-    /// What a call at this phaser can change: at most 8 words, from it up to its root.
+    /// Saves what a call at this phaser can change: at most 8 words, from it up to its root.
     #[inline(never)]
     pub fn save(&self, id: PhaserId) -> Saved
         requires { id.0 < length self.now }
@@ -160,8 +156,8 @@ impl Forest {
         saved::keep(self.nodes.as_slice(), id.0 as usize)
     }
 
-    /// Undoes the call since the forest was saved, or the call and the phase end that it brought:
-    /// every word is as it was then (`undone`).
+    /// Undoes the call since the forest was saved, or the call and the end of a phase that followed: every word is as it was
+    /// then (`undone`).
     pub fn restore(&mut self, saved: Saved)
         requires { IsSavedOf saved self.old }
         ensures forest { self.new ≡ restored saved self.old }
@@ -173,7 +169,7 @@ impl Forest {
         self.put_back(&saved);
     }
 
-    /// `restore`, by what was saved where it lies.
+    /// Like `restore`, but takes what was saved by reference.
     pub fn put_back(&mut self, saved: &Saved)
         requires { IsSavedOf saved.now self.old }
         ensures forest { self.new ≡ restored saved.now self.old }
@@ -188,8 +184,8 @@ impl Forest {
 
 /// Laws: what is true of every forest. Nothing runs.
 impl Forest {
-    /// At most 64 phasers, in lines that lead up to roots, no word too far behind and none
-    /// terminated before its root: what the lemmas of a crate above ask for.
+    /// At most 64 phasers, in lines that lead up to roots; no word is too far behind, and none is terminated before its root.
+    /// The lemmas of other crates require this.
     pub fn is_forest(&self)
         ensures { IsStored self.now }
     {

@@ -13,14 +13,14 @@ use crate::present::{line_at, set_word, word_at};
 use crate::registered::Registered;
 use packed_phaser::Word;
 
-/// Whether this many more parties are too many.
+/// Returns whether so many more parties would be too many.
 fn is_full_for(word: Word, count: u32) -> bool
     ensures { result ≡ nat_lt 65535 ((record_of word).parties + count) }
 {
     count > 65535 - word.parties() as u32
 }
 
-/// Whether a phaser that the registration would change would have too many parties.
+/// Returns whether a phaser that the registration would change would have too many parties.
 pub fn is_overfull_along(nodes: &[Node], line: &[u8], count: u32) -> bool
     requires stored { IsStored nodes.now }
     requires there { All (λ id. id < length nodes.now) line.now }
@@ -41,7 +41,7 @@ pub fn is_overfull_along(nodes: &[Node], line: &[u8], count: u32) -> bool
     }
 }
 
-/// Whether the phase of a phaser that the registration would change is about to end.
+/// Returns whether the phase of a phaser that the registration would change is about to end.
 pub fn is_turned_along(nodes: &[Node], line: &[u8], count: u32) -> bool
     requires stored { IsStored nodes.now }
     requires there { All (λ id. id < length nodes.now) line.now }
@@ -96,7 +96,7 @@ pub fn join_along(nodes: &mut [Node], line: &[u8], count: u32)
     join_at(nodes, i, count);
 }
 
-/// What a registration with one phaser would answer.
+/// Returns what a registration with one phaser would return.
 pub fn registration(nodes: &[Node], i: usize, count: u32) -> Registered
     requires stored { IsStored nodes.now }
     requires there { i < length nodes.now }
@@ -119,7 +119,7 @@ pub fn registration(nodes: &[Node], i: usize, count: u32) -> Registered
     }
 }
 
-/// A registration with one phaser, with what it makes of those above.
+/// Registers with one phaser, and changes those above.
 pub fn register(nodes: &mut [Node], i: usize, count: u32) -> Registered
     requires stored { IsStored nodes.old }
     requires there { i < length nodes.old }

@@ -1,9 +1,9 @@
 //! Trees of phasers, as `java.util.concurrent.Phaser` makes them with `new Phaser(parent, parties)`.
 //!
-//! A `Forest` holds up to 64 phasers, each a root or a child of one declared before it. A call names one phaser, and where
-//! any phaser on the way refuses, nothing changes. The phase of a tree ends in two calls, `arrive` and `finish_turn`, so that
-//! a routine can run between. `save` and `restore` undo one call, word for word. Only `Forest::new`, `declare` and `copy`
-//! take memory.
+//! A `Forest` has up to 64 phasers, each a root or a child of one that was declared before it. A call names one phaser. If any
+//! phaser on the way up refuses the call, nothing changes. The phase of a tree ends in two calls, `arrive` and `finish_turn`,
+//! so that a routine can run between them. `save` and `restore` undo one call, word for word. Only `Forest::new`, `declare` and
+//! `copy` allocate.
 #![tactic(auto)]
 
 mod arrived;

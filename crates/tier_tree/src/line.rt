@@ -23,7 +23,7 @@ impl Model for Line {
 }
 
 impl Line {
-    /// The line of a root.
+    /// Returns the line of a root.
     pub fn of_root(id: u8) -> Line
         ensures { result ≡ id ∷ [] }
     {
@@ -33,7 +33,7 @@ impl Line {
         }
     }
 
-    /// An equal line.
+    /// Returns an equal line.
     pub fn copy(&self) -> Line
         ensures { result ≡ self.now }
     {
@@ -50,21 +50,21 @@ impl Line {
         &self.ids[..self.len as usize]
     }
 
-    /// How many phasers it has.
+    /// Returns how many phasers the line has.
     pub fn len(&self) -> usize
         ensures { result ≡ length self.now }
     {
         self.len as usize
     }
 
-    /// The number of the root.
+    /// Returns the number of the root.
     pub fn root(&self) -> u8
         ensures { result ≡ slice_index_or self.now (length self.now - 1) 0 }
     {
         self.ids[self.len as usize - 1]
     }
 
-    /// The line of a child of the phaser that this is the line of.
+    /// Returns the line of a child of this line's phaser.
     pub fn of_child(&self, id: u8) -> Line
         requires { length self.now < 8 }
         ensures { result ≡ id ∷ self.now }

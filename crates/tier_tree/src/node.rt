@@ -30,7 +30,7 @@ impl Model for Node {
 }
 
 impl Node {
-    /// A phaser of a tree that has ended no phase.
+    /// Makes a phaser of a tree in which no phase has ended.
     pub fn new(line: Line, policy: Policy, word: Word) -> Node
         ensures { result ≡ record { line = line; policy = policy; word = word; ends = 0 } }
     {
@@ -42,7 +42,7 @@ impl Node {
         }
     }
 
-    /// An equal phaser.
+    /// Returns an equal phaser.
     pub fn copy(&self) -> Node
         ensures { result ≡ self.now }
     {
@@ -61,42 +61,42 @@ impl Node {
         self.line.copy()
     }
 
-    /// The number of its root.
+    /// Returns the number of its root.
     pub fn root(&self) -> u8
         ensures { result ≡ top_of self.now }
     {
         self.line.root()
     }
 
-    /// What `onAdvance` returns, where the phaser is a root.
+    /// Returns the policy of `onAdvance`, if the phaser is a root.
     pub fn policy(&self) -> Policy
         ensures { result ≡ self.now.policy }
     {
         self.policy
     }
 
-    /// The word as it stands, which may lag behind the root's.
+    /// Returns the word as it is stored, which may lag behind the root's.
     pub fn word(&self) -> Word
         ensures { result ≡ self.now.word }
     {
         self.word
     }
 
-    /// How many phases of its tree have ended, of a root; 0 of a child.
+    /// Returns how many phases of its tree have ended, or 0 for a child.
     pub fn ended_phases(&self) -> u32
         ensures { result ≡ self.now.ends }
     {
         self.ended_phases
     }
 
-    /// Replaces the word alone.
+    /// Replaces only the word.
     pub fn set_word(&mut self, word: Word)
         ensures { self.new ≡ record self.old { word = word } }
     {
         self.word = word;
     }
 
-    /// A phase has ended, and this is the word now.
+    /// Replaces the word after the end of a phase, and counts the phase.
     pub fn end_phase(&mut self, word: Word)
         requires { self.old.ends < 4294967295 }
         ensures { self.new ≡ record self.old { word = word; ends = self.old.ends + 1 } }
@@ -105,7 +105,7 @@ impl Node {
         self.ended_phases += 1;
     }
 
-    /// Puts back what was kept.
+    /// Restores what was saved.
     pub fn put_back(&mut self, kept: &KeptWord)
         ensures { self.new ≡ record self.old {
           word = (kept_by kept.now).word;

@@ -6,8 +6,8 @@ ghost use Rattle.tier_tree.specs.Stored.{IsStored, ChangedOnly, ChangedAt, phase
 use crate::node::Node;
 use crate::present::{root_of, root_word_at};
 
-/// Ends the phase of a turned root, with termination where `ends` says so. Only the root's word is
-/// written: the others of its tree lag behind it from then on.
+/// Ends the phase of a turned root, and terminates the tree if `ends` is true. It writes only the root's word. From then on the
+/// other words of its tree lag behind.
 pub fn end_phase(nodes: &mut [Node], root: usize, ends: bool)
     requires stored { IsStored nodes.old }
     requires there { root < length nodes.old }

@@ -32,7 +32,7 @@ fn renewed(root: Word, own: Word) -> Word
     }
 }
 
-/// What a word says at present, beside that of its root.
+/// Returns what a word says at present, given that of its root.
 #[inline(always)]
 #[tactic(auto, using(crate::proofs::View::stands_as_it_is))]
 fn brought_up(root: Word, own: Word) -> Word
@@ -45,7 +45,7 @@ fn brought_up(root: Word, own: Word) -> Word
     }
 }
 
-/// The line of one phaser.
+/// Returns the line of one phaser.
 #[tactic(auto, using(crate::proofs::Changed::line_read, crate::proofs::Ascent::tree_read, crate::proofs::Ascent::own_read))]
 pub fn line_at(nodes: &[Node], i: usize) -> Line
     requires stored { IsStored nodes.now }
@@ -71,7 +71,7 @@ pub fn root_of(nodes: &[Node], i: usize) -> u8
     nodes[i].root()
 }
 
-/// The word of one phaser's root.
+/// Returns the word of one phaser's root.
 #[inline(always)]
 #[tactic(auto, using(crate::proofs::Shown::top_read, crate::proofs::Shown::top_word_read))]
 pub fn top_at(nodes: &[Node], i: usize) -> Word
@@ -93,7 +93,7 @@ pub fn word_at(nodes: &[Node], i: usize) -> Word
     brought_up(top, nodes[i].word())
 }
 
-/// The word of a root.
+/// Returns the word of a root.
 #[inline(always)]
 pub fn root_word_at(nodes: &[Node], root: usize) -> Word
     requires stored { IsStored nodes.now }
@@ -104,7 +104,7 @@ pub fn root_word_at(nodes: &[Node], root: usize) -> Word
     nodes[root].word()
 }
 
-/// What one phaser shows as its phase at present: that of its root, whatever its own word says.
+/// Returns what one phaser shows as its phase at present: that of its root, whatever its own word says.
 #[inline(always)]
 #[tactic(auto, using(crate::proofs::Shown::view_read))]
 pub fn view_at(nodes: &[Node], i: usize) -> i32

@@ -1,4 +1,4 @@
-/// What a registration answers.
+/// The result of a registration.
 #[derive(Clone, Copy, Debug, PartialEq, Eq)]
 pub enum Registered {
     /// The parties are registered; the number of the phase that they joined.

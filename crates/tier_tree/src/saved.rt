@@ -8,7 +8,7 @@ use packed_phaser::Word;
 use phase_number::Phase;
 use std::marker::Model;
 
-/// What was kept of one phaser.
+/// What is saved of one phaser.
 #[derive(Clone, Copy)]
 pub struct KeptWord {
     pub word: Word,
@@ -16,8 +16,8 @@ pub struct KeptWord {
     pub id: u8,
 }
 
-/// What was kept of a forest before a call, so that `Forest::restore` can undo the call: the words
-/// from the phaser that the call names up to its root, at most 8.
+/// What is saved of a forest before a call, so that `Forest::restore` can undo the call: the words from the phaser that the
+/// call names up to its root, at most 8.
 #[derive(Drop)]
 pub struct Saved {
     kept: [KeptWord; 8],
@@ -67,7 +67,7 @@ fn keep_line(nodes: &[Node], line: &[u8]) -> Saved
     }
 }
 
-/// What a call at this phaser can change.
+/// Saves what a call at this phaser can change.
 pub fn keep(nodes: &[Node], i: usize) -> Saved
     requires stored { IsStored nodes.now }
     requires there { i < length nodes.now }
@@ -77,7 +77,7 @@ pub fn keep(nodes: &[Node], i: usize) -> Saved
     keep_line(nodes, line.as_slice())
 }
 
-/// Puts back what was kept of one phaser, where there is such a phaser.
+/// Restores what was saved of one phaser, if there is such a phaser.
 #[tactic(auto, using(std::proofs::lemmas::List::set_past))]
 fn put_back_at(nodes: &mut [Node], kept: &KeptWord)
     ensures { nodes.new ≡ with_kept (kept_by kept.now) nodes.old }
@@ -96,14 +96,14 @@ fn put_back_each(nodes: &mut [Node], kept: &[KeptWord])
     }
 }
 
-/// Puts back all that was kept.
+/// Restores everything that was saved.
 pub fn put_back_all(nodes: &mut [Node], saved: &Saved)
     ensures { nodes.new ≡ restored saved.now nodes.old }
 {
     put_back_each(nodes, &saved.kept[..saved.len as usize]);
 }
 
-/// What was saved of a forest gives it back, where no word changed but those from that phaser up to its root.
+/// What was saved of a forest restores it, if no other words have changed than those from that phaser up to its root.
 #[tactic(auto, using(crate::proofs::Changed::saved_restored))]
 pub fn what_was_saved_is_restored()
     ensures { (id : ℕ) (before after : List Stored) → ChangedAt id before after

@@ -1,4 +1,4 @@
--- What a comparison of a trace with the run that it names says.
+-- The result of comparing a trace with the run that it names.
 use Rattle.std.specs.Prelude.{◌≡◌, ◌⊎◌, ℕ, ◌+◌, ◌-◌, ◌&&◌, ◌≤◌, ◌<◌, if◌then◌else◌, Bool, true, false, IsTrue, List, [], ◌∷◌, ◌++◌, length, Option, Some, None, Result, Ok, Err, is_none, zero, suc}
 use Rattle.std.specs.Io.KnownBytes.{Appends, Consumes, IsAtEnd}
 use Rattle.std.specs.List.{before_first, count_by, slice_split}
@@ -23,8 +23,8 @@ use Rattle.trace_text.specs.Trace.{lines_of, trace_of}
 abbrev pub otherwise : ℕ → List ℕ → Verdict
 otherwise n line = if is_too_long line then verdict.NotATrace n else verdict.Differs n
 
--- the lines from the state line on, of which the first has this number, by the text that is still due; the last piece is
--- what follows the last LF
+-- the lines from the state's line on, by the text that should still follow; the first line has this number, and the last piece
+-- is what follows the last LF
 abbrev pub state_verdict : List ℕ → ℕ → List (List ℕ) → Verdict
 state_verdict [] n [] = verdict.Differs (n - 1)
 state_verdict (byte ∷ text) n [] = verdict.Differs n
@@ -45,14 +45,14 @@ choice_verdict (Some choice) accepted world n line rest =
     then rest (is_none played.refusal) played.world
     else otherwise n line
 
--- the lines up to the state line, of which the first has this number, and the state behind them
+-- the lines up to the state's line, and the state after them; the first line has this number
 abbrev pub lines_verdict : Bool → World → ℕ → List (List ℕ) → Verdict
 lines_verdict accepted world n [] = verdict.NotATrace n
 lines_verdict accepted world n (line ∷ lines) =
     if is_state_line line then state_verdict (state_text world) n (line ∷ lines)
     else choice_verdict (choice_in line) accepted world n line (λ accepted after. lines_verdict accepted after (n + 1) lines)
 
--- a choice before others, where a line names one
+-- a choice before others, if a line names one
 abbrev pub with_choice : Option Choice → List Choice → List Choice
 with_choice None choices = []
 with_choice (Some choice) choices = choice ∷ choices
@@ -76,17 +76,17 @@ line_at n [] = None
 line_at zero (byte ∷ text) = Some (before_first is_line_end (byte ∷ text))
 line_at (suc n) (byte ∷ text) = line_at n (after_line (byte ∷ text))
 
--- the line whose number a verdict tells as one that differs, of a text whose first line has the number `first`
+-- the line of a text that a verdict says differs; the text's first line has the number `first`
 abbrev pub line_by : Verdict → ℕ → List ℕ → Option (List ℕ)
 line_by (verdict.Differs n) first text = line_at (n - first) text
 line_by v first text = None
 
--- what is told of a trace: the verdict, and the run's line where the trace's differs, if the run has one there
+-- what is reported about a trace: the verdict, and the run's line where the trace's line differs, if the run has one there
 pub record Told : Type 0 where
   pub verdict : Verdict
   pub line : Option (List ℕ)
 
--- of a whole trace: that line of the trace of the choices which its lines name
+-- the same for a whole trace: the run's line comes from the trace of the choices that the lines name
 abbrev pub told_of : World → List ℕ → Told
 told_of world trace =
     let v = verdict_of world trace in
@@ -103,7 +103,7 @@ HasCompared image before after v =
     (world : World) × ((bytes : List ℕ)
     × (Begins image world × Consumes before after bytes × HasVerdict world bytes after v))
 
--- and the same of what is told
+-- the same for what is reported
 abbrev pub HasTold : World → List ℕ → Option (List ℕ) → Told → Type 0
 HasTold world bytes left told =
     (IsAtEnd left × (told_of world bytes ≡ told)) ⊎ ((rest : List ℕ) → told_of world (bytes ++ rest) ≡ told)
@@ -113,7 +113,7 @@ HasShown image before after told =
     (world : World) × ((bytes : List ℕ)
     × (Begins image world × Consumes before after bytes × HasTold world bytes after told))
 
--- the bytes that were read hold no line behind this one whole, but for those that came in one piece with its end
+-- no line after this one was read whole, except those that came in one piece with its end
 abbrev pub IsReadUpTo : ℕ → Option (List ℕ) → Option (List ℕ) → Type 0
 IsReadUpTo line before after =
     (front : List ℕ) × ((piece : List ℕ)
@@ -125,13 +125,13 @@ IsReadNoFurther before after verdict.Same = IsAtEnd after
 IsReadNoFurther before after (verdict.Differs line) = IsReadUpTo line before after
 IsReadNoFurther before after (verdict.NotATrace line) = IsReadUpTo line before after
 
--- what is told, and the line of the trace that the verdict names, if it has one
+-- what is reported, and the line of the trace that the verdict names, if it has one
 pub record Judgement : Type 0 where
   pub told : Told
   pub trace : Option (List ℕ)
 
--- why there is no verdict: the image isn't loaded, for a reason that isn't want of memory, and nothing was read; there was no
--- memory; or the trace of an image that is loaded can't be read
+-- why there is no verdict: the image can't be loaded, for a reason other than memory, and nothing was read; or it is out of
+-- memory; or the image can be loaded, and the trace can't be read
 abbrev pub StopsFor : CompareFault → Image → (before after : Option (List ℕ)) (failed : Bool) → Type 0
 StopsFor (fault.Load f) image before after failed = IsRefused f image × (is_want_of_memory f ≡ false) × (after ≡ before)
 StopsFor fault.Memory image before after failed = Unit {0}
@@ -142,13 +142,13 @@ abbrev pub Compares : Image → Result Verdict CompareFault → (before after : 
 Compares image (Ok v) before after failed = HasCompared image before after v × IsReadNoFurther before after v
 Compares image (Err f) before after failed = StopsFor f image before after failed
 
--- a comparison came to a verdict of which this is told, or stopped
+-- a comparison came to a verdict and reports this, or it stopped
 abbrev pub Judges : Image → Result Judgement CompareFault → (before after : Option (List ℕ)) (failed : Bool) → Type 0
 Judges image (Ok judged) before after failed =
     HasShown image before after judged.told × IsReadNoFurther before after judged.told.verdict
 Judges image (Err f) before after failed = StopsFor f image before after failed
 
--- whatever a comparison with this program answers on a trace, it is `Same`
+-- every comparison of the trace with this program that returns a verdict returns `Same`
 abbrev pub IsFoundTheSame : Image → List ℕ → Type 0
 IsFoundTheSame image trace = (left : List ℕ) (v : Verdict) → HasCompared image (Some trace) (Some left) v → v ≡ verdict.Same
 

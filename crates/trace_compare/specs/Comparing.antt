@@ -1,4 +1,4 @@
--- What the lines that are left make of a comparison. Nobody has to believe this: it is what proofs go by, from line to line.
+-- What the remaining lines lead to in a comparison. Only proofs use this, from line to line: no promise depends on it.
 use Rattle.std.specs.Prelude.{◌≡◌, ◌⊎◌, ◌==◌, [], ◌∷◌, ◌+◌, ◌-◌, ◌<◌, ◌≤◌, ◌++◌, ◌&&◌, ◌||◌, not, ℕ, Bool, false, true, List, decimal, drop, length, take, if◌then◌else◌, Option, Some, None}
 use Rattle.std.specs.Io.KnownBytes.{IsAtEnd}
 use Rattle.std.specs.List.{count_by, slice_split}
@@ -16,7 +16,7 @@ use Rattle.trace_text.specs.Trace.{trace_of}
 use Rattle.trace_compare.specs.Compare.{IsReadUpTo, Told, choices_in, line_at, line_by, lines_verdict, state_verdict}
 use Rattle.trace_compare.specs.NamedLines.{HasGone, none_read}
 
--- a verdict that was reached, else what the rest makes of it
+-- a verdict that was reached, and otherwise what the rest leads to
 abbrev pub decided : Option Verdict → Verdict → Verdict
 decided (Some verdict) rest = verdict
 decided None rest = rest
@@ -31,35 +31,35 @@ abbrev pub is_state_first : List (List ℕ) → Bool
 is_state_first [] = false
 is_state_first (line ∷ lines) = is_state_line line
 
--- the run's text from its next line on, by the lines that are left. Of a line that is missed no more is kept: nothing is taken
--- behind it.
+-- the run's text from its next line on, by the remaining lines. After a line that differs nothing is kept: nothing is read
+-- after it.
 abbrev pub text_left : Comparison → List (List ℕ) → List ℕ
 text_left now lines =
     if now.is_state then drop now.at now.text.items
     else (if now.accepted then trace_of (world_of now.machine) (choices_in lines)
     else (if now.missed && not (is_state_first lines) then now.expected else state_text (world_of now.machine)))
 
--- what is told by the lines that are left
+-- what is reported, by the remaining lines
 abbrev pub told_left : Comparison → List (List ℕ) → Told
 told_left now lines =
     let v = lines_left now lines in record { verdict = v; line = line_by v now.number (text_left now lines) }
 
--- the run's line of the choice that was just played, where its number is kept beside it
+-- the run's line of the choice that was just played, if its number is kept beside it
 abbrev pub line_played : Comparison → List ℕ
 line_played now = decimal now.next ++ now.expected
 
--- the run's line that a comparison has where one differs
+-- the run's line that a comparison has if one differs
 abbrev pub line_kept : Comparison → Option (List ℕ)
 line_kept now =
     line_at 0 (if now.is_state then drop now.at now.text.items
     else (if now.accepted || now.missed then now.expected else state_text (world_of now.machine)))
 
--- what is told with it
+-- what is reported with it
 abbrev pub told_by : Verdict → Comparison → Told
 told_by (verdict.Differs n) now = record { verdict = verdict.Differs n; line = line_kept now }
 told_by v now = record { verdict = v; line = None }
 
--- whether a line that has come so is one: behind the last LF no bytes are none
+-- whether a line that ended so is one: an empty rest after the last LF isn't
 abbrev pub is_one : LineEnded → List ℕ → Bool
 is_one how.AtEnd line = not (length line == 0)
 is_one ended line = true
@@ -83,7 +83,8 @@ StandsBehind now line =
     (length line + 1 ≤ now.at)
     × (drop (now.at - (length line + 1)) now.text.items ≡ (line ++ 10 ∷ []) ++ drop now.at now.text.items)
 
--- no line more came behind this one: what differs is the one that is due, or itself, which is due again
+-- no further line came after this one: the line that differs is the one that should have come, or this one, which should come
+-- again
 abbrev pub HasEndedBehind : Comparison → Comparison → List ℕ → Verdict → Type 0
 HasEndedBehind before after line (verdict.Differs n) =
     line_by (verdict.Differs n) (before.number - 1) ((line ++ 10 ∷ []) ++ text_left before []) ≡ line_kept after
@@ -94,7 +95,7 @@ abbrev pub IsOpen : Comparison → List ℕ → List (List ℕ) → Type 0
 IsOpen now line lines =
     now.is_state ≡ true → 0 < length (drop now.at now.text.items) + (length line + length lines)
 
--- what the bytes that are left make of it
+-- what the remaining bytes lead to
 abbrev pub bytes_left : Comparison → List ℕ → Told
 bytes_left now bytes = told_left now (slice_split is_line_end bytes)
 
@@ -102,11 +103,11 @@ bytes_left now bytes = told_left now (slice_split is_line_end bytes)
 abbrev pub line_ends : List ℕ → ℕ
 line_ends bytes = count_by is_line_end bytes
 
--- the state line hasn't come, and all choices so far were accepted
+-- the state's line hasn't come, and all choices so far were accepted
 abbrev pub IsReading : Comparison → Type 0
 IsReading now = (now.is_state ≡ false) × (now.accepted ≡ true)
 
--- so many of these bytes are the run's own lines, of which each is counted, and what stands behind them makes the same of it
+-- so many of these bytes are the run's own lines, each of them is counted, and what follows them leads to the same
 pub record GoesOver (before after : Comparison) (bytes : List ℕ) (count : ℕ) : Type 0 where
   pub within : count ≤ length bytes
   pub left : (more : List ℕ) → bytes_left before (bytes ++ more) ≡ bytes_left after (drop count bytes ++ more)
@@ -115,18 +116,18 @@ pub record GoesOver (before after : Comparison) (bytes : List ℕ) (count : ℕ)
   pub text : after.text ≡ before.text
   pub at : after.at ≡ before.at
 
--- a verdict stands at the line with this number, or at a later one
+-- a verdict names the line with this number, or a later one
 abbrev pub StandsFrom : ℕ → Verdict → Type 0
 StandsFrom n verdict.Same = ⊥
 StandsFrom n (verdict.Differs line) = n ≤ line
 StandsFrom n (verdict.NotATrace line) = n ≤ line
 
--- a line is counted unless a verdict was reached, and that stands no earlier
+-- a line is counted unless a verdict was reached that names this line or a later one
 abbrev pub HasCounted : ℕ → ℕ → Option Verdict → Type 0
 HasCounted before after None = after ≡ before + 1
 HasCounted before after (Some v) = StandsFrom before v
 
--- a line that ended so was the run's, or it reached a verdict, whatever comes behind it where something may
+-- a line that ended so was the run's, or it led to a verdict that doesn't depend on anything after it, if something may follow
 abbrev pub HasJudged : Comparison → Comparison → LineEnded → List ℕ → Option Verdict → Type 0
 HasJudged before after ended line None =
     (ended ≡ how.Whole) × (after.number ≡ before.number + 1)
@@ -138,13 +139,13 @@ HasJudged before after how.AtEnd line (Some v) =
 HasJudged before after how.TooLong line (Some v) =
     StandsFrom before.number v × ((rest : List ℕ) → bytes_left before (line ++ rest) ≡ told_by v after)
 
--- these bytes tell this: the trace ends with them, or whatever comes after them makes no difference
+-- these bytes report this: the trace ends with them, or whatever comes after them makes no difference
 abbrev pub HasLeft : Comparison → List ℕ → Option (List ℕ) → Told → Type 0
 HasLeft now bytes left told =
     (IsAtEnd left × (bytes_left now bytes ≡ told)) ⊎ ((rest : List ℕ) → bytes_left now (bytes ++ rest) ≡ told)
 
--- a comparison that began so has come to this behind as many lines at least, which reached no verdict: a byte each was taken at
--- least, and what is held and comes makes the same of it
+-- a comparison that began so is here after at least as many lines that led to no verdict: each took at least one byte, and what
+-- is held and what still comes lead to the same
 pub record HasComeTo (first now : Comparison) (lines : Lines) (turns : ℕ) (before after : Option (List ℕ)) : Type 0 where
   pub bytes : List ℕ
   pub gone : HasGone bytes none_read lines before after

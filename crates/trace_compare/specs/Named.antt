@@ -11,7 +11,7 @@ abbrev pub named_by : Named → Result (List Choice) ℕ
 named_by (found.Choices runs) = Ok (choices_of runs.items)
 named_by (found.NotATrace line) = Err line
 
--- runs that tokens can spell, joined where they can be
+-- runs that tokens can spell, joined if they can be
 abbrev pub AreRuns : Named → Type 0
 AreRuns (found.Choices runs) = All IsRun runs.items × AreJoined runs.items
 AreRuns (found.NotATrace line) = Unit {0}

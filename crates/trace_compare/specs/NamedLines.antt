@@ -1,5 +1,5 @@
--- A trace's lines, one after another, as `next_name` reads them. It is what proofs go by, from line to line: what is promised of
--- a whole trace (`HasNamed`) rests on none of it.
+-- A trace's lines, one after another, as `next_name` reads them. Only proofs use this, from line to line: the promise about a
+-- whole trace (`HasNamed`) doesn't depend on it.
 use Rattle.std.specs.Prelude.{◌≡◌, ◌+◌, ◌≤◌, ℕ, List, [], ◌∷◌, ◌++◌, length, Option, Some, None}
 use Rattle.std.specs.Io.KnownBytes.{Consumes, prepend_known}
 use Rattle.std.specs.List.{slice_split}
@@ -32,7 +32,7 @@ last_naming next.State n = ended None
 last_naming next.NotATrace n = ended (Some n)
 last_naming (next.CutOff choice) n = behind_choices (choice ∷ []) (ended (Some (n + 1)))
 
--- these lines, of which the first has this number, name these choices, whatever comes after them
+-- these lines name these choices, whatever comes after them; the first line has this number
 abbrev pub NamesFrom : ℕ → List ℕ → List Choice → ℕ → Type 0
 NamesFrom n bytes choices next =
     (rest : List ℕ) → naming_from n (slice_split is_line_end (bytes ++ rest))

@@ -19,7 +19,7 @@ line_names line =
     if is_too_long line then names.Nothing
     else (if is_state_line line then names.State else named (choice_in line))
 
--- the choices of the lines up to the state line, or up to the first line that is none of a trace, which has this number
+-- the choices of the lines up to the state's line, or up to the first line that isn't a line of a trace, which has this number
 pub record Naming : Type 0 where
   pub choices : List Choice
   pub no_line : Option ℕ
@@ -28,17 +28,17 @@ pub record Naming : Type 0 where
 abbrev pub ended : Option ℕ → Naming
 ended no_line = record { choices = []; no_line = no_line }
 
--- choices before those of the lines behind them
+-- choices before those of the lines after them
 abbrev pub behind_choices : List Choice → Naming → Naming
 behind_choices choices rest = record { choices = choices ++ rest.choices; no_line = rest.no_line }
 
--- what a line names, and those behind it
+-- what a line and those after it name
 abbrev pub naming_by : LineNames → ℕ → Naming → Naming
 naming_by names.Nothing n rest = ended (Some n)
 naming_by names.State n rest = ended None
 naming_by (names.Made choice) n rest = behind_choices (choice ∷ []) rest
 
--- what lines name, of which the first has this number
+-- what lines name; the first has this number
 abbrev pub naming_from : ℕ → List (List ℕ) → Naming
 naming_from n [] = ended (Some n)
 naming_from n (line ∷ lines) = naming_by (line_names line) n (naming_from (n + 1) lines)
@@ -56,14 +56,14 @@ choices_or_line choices (Some line) = Err line
 abbrev pub choices_named : List ℕ → Result (List Choice) ℕ
 choices_named trace = choices_or_line (naming_of trace).choices (naming_of trace).no_line
 
--- lines that begin with these bytes name this, the first with this number: they end with them, or whatever comes after them
+-- lines that begin with these bytes name this; the first has this number. They end with them, or whatever comes after them
 -- makes no difference
 abbrev pub Names : ℕ → List ℕ → Option (List ℕ) → Naming → Type 0
 Names n bytes left is =
     (IsAtEnd left × (naming_from n (slice_split is_line_end bytes) ≡ is))
     ⊎ ((rest : List ℕ) → naming_from n (slice_split is_line_end (bytes ++ rest)) ≡ is)
 
--- a trace was read as far as it has to be, and names this
+-- a trace was read as far as necessary, and names this
 abbrev pub HasRead : Option (List ℕ) → Option (List ℕ) → Naming → Type 0
 HasRead before after is = (bytes : List ℕ) × (Consumes before after bytes × Names 1 bytes after is)
 

@@ -5,7 +5,7 @@ use Rattle.thread_machine.specs.declared.fault.StepFault.{StepFault}
 use Rattle.thread_machine.specs.World.{World}
 use Rattle.thread_machine.specs.Step.{Played, played, refusal_of}
 
--- those behind a choice, if it isn't refused
+-- those after a choice, if it isn't refused
 abbrev pub behind : Option StepFault → World → Choice → (World → List Choice) → List Choice
 behind (Some fault) world choice rest = []
 behind None world choice rest = let play : Played = played world choice in rest play.world

@@ -22,13 +22,13 @@ use trace_text::play::{line_of_choice, own_line_of_choice};
 use trace_text::state::state_text;
 use trace_text::trace_line::{choice_in, is_state_line};
 
-/// How many bytes the line of a choice that was played has at most.
+/// The most bytes in the line of a choice that was played.
 const MOST_OWN: usize = 120;
 
-/// What a comparison of a trace says.
+/// The result of comparing a trace.
 #[derive(Clone, Copy, Debug, PartialEq, Eq)]
 pub enum Verdict {
-    /// The trace is that of the choices which its lines name.
+    /// The trace is that of the choices that its lines name.
     Same,
     /// This line, counted from 1, is the first that isn't the run's.
     Differs { line: u64 },
@@ -39,7 +39,7 @@ pub enum Verdict {
 /// Why a trace isn't compared.
 #[derive(Clone, Copy, Debug, PartialEq, Eq)]
 pub enum CompareFault {
-    /// The image isn't loaded, for this fault, which isn't `Memory`.
+    /// The image can't be loaded. The fault is never `Memory`.
     Load(LoadFault),
     /// Out of memory.
     Memory,
@@ -47,28 +47,28 @@ pub enum CompareFault {
     Read,
 }
 
-/// A run, as far as the lines of a trace name it.
+/// The run that a trace's lines have named so far.
 #[derive(Drop)]
 pub(crate) struct Comparison {
     machine: Machine,
-    /// The run's line of the last choice that was played; where that was the trace's, without its number.
+    /// The run's line of the last choice that was played, without its number if the trace had the same line.
     expected: LineEnd,
-    /// The number of the next choice, as of the last line that was looked at where it lies.
+    /// The number of the next choice, as of the last line that was looked at in its block.
     next: Digits,
     /// Whether all choices so far were accepted.
     accepted: bool,
-    /// Whether the last one was played for the line that comes, which isn't its own: then none counts as accepted any more.
+    /// Whether the trace has another line where the last choice's line should be: then no choice counts as accepted any more.
     missed: bool,
-    /// Whether the state line has come.
+    /// Whether the line of the state was read.
     is_state: bool,
-    /// The state text, once the state line has come, and how much of it has.
+    /// The text of the state, once its line was read, and how much of it was read.
     text: Vec<u8>,
     at: usize,
     /// The next line's number.
     number: u64,
 }
 
-/// Whether a text is this line and its LF.
+/// Returns whether a text is this line and its LF.
 fn is_line(line: &[u8], text: &[u8]) -> bool
     ensures { result ≡ bytes_eq (line.now ++ (10 ∷ [])) text.now }
 {
@@ -76,7 +76,7 @@ fn is_line(line: &[u8], text: &[u8]) -> bool
 }
 
 impl Comparison {
-    /// A comparison before the trace's first line.
+    /// Makes a comparison before the trace's first line.
     pub(crate) fn new(alloc: Global, machine: Machine) -> Comparison
         ensures machine { result.machine ≡ machine }
         ensures start { (result.accepted ≡ true) × (result.is_state ≡ false) }
@@ -130,7 +130,7 @@ impl Comparison {
         Ok(None)
     }
 
-    /// Goes on over a line of the state text, behind which something follows or an LF.
+    /// Goes on over a line of the state text that something else or an LF follows.
     fn take_state_line(&mut self, line: &[u8]) -> Option<Verdict>
         requires number { self.old.number < 9223372036854775807 }
         requires few { length line.now ≤ 65536 }
@@ -188,8 +188,8 @@ impl Comparison {
         Ok(self.take_state_line(line))
     }
 
-    /// Goes on over the run's line of the choice that was just played, whose number these bytes begin with, where they go on as
-    /// it does. Answers how many bytes it has. Where they don't, no choice counts as accepted any more, and the answer is 0.
+    /// Goes on over the run's line of the choice that was just played, if the bytes, which begin with its number, go on so.
+    /// Returns how many bytes it has. If they don't, no choice counts as accepted any more, and the result is 0.
     #[inline(always)]
     fn meet(&mut self, bytes: &[u8]) -> usize
         requires room { 120 ≤ length bytes.now }
@@ -214,10 +214,10 @@ impl Comparison {
         0
     }
 
-    /// Goes on over the line that these bytes begin with, where it is the run's own. Answers how many bytes it has, 0 where
-    /// it is left to be read whole. The choice that stands where the next line names its own is played first, and its line
-    /// held against all these bytes at once: where they differ, none counts as accepted any more, since this isn't the line
-    /// of any choice that could come next.
+    /// Goes on over the line that the bytes begin with, if it is the run's own. Returns how many bytes it has, or 0 if it is
+    /// left to be read whole. First it plays the choice that is named where the next line names its own. Then it compares that
+    /// choice's line with the bytes. If they differ, no choice counts as accepted any more, since the bytes aren't the line of
+    /// any choice that could come next.
     #[inline(always)]
     fn take_own_line(&mut self, bytes: &[u8]) -> Result<usize, AllocError>
         requires room { 120 ≤ length bytes.now }
@@ -240,8 +240,7 @@ impl Comparison {
         }
     }
 
-    /// Goes on over the run's own lines, as many as these bytes begin with. The last bytes, in which a line may not lie whole,
-    /// are left.
+    /// Goes on over the run's own lines that the bytes begin with. It leaves the last bytes, which may not have a whole line.
     fn take_own_lines(&mut self, bytes: &[u8]) -> Result<usize, AllocError>
         requires number { self.old.number + length bytes.now < 9223372036854775807 }
         ensures { IfOk result (λ count. GoesOver self.old self.new bytes.now count) }
@@ -260,7 +259,7 @@ impl Comparison {
         Ok(done)
     }
 
-    /// The verdict where no more lines come behind this one. Where its LF is all that is missing, the run's line is due again.
+    /// Returns the verdict if no more lines follow this one. If only its LF is missing, the run's line should come again.
     fn end_verdict(&mut self, line: &[u8]) -> Verdict
         requires at { self.old.at ≤ length self.old.text.items }
         requires behind { self.old.is_state ≡ true → StandsBehind self.old line.now }
@@ -282,7 +281,7 @@ impl Comparison {
         }
     }
 
-    /// Whether the whole state text has come, and nothing stands behind it.
+    /// Returns whether the whole state text has come, and nothing follows it.
     fn is_whole(&self, line: &[u8]) -> bool
         requires { self.now.at ≤ length self.now.text.items }
         ensures { result ≡ (self.now.is_state
@@ -295,7 +294,7 @@ impl Comparison {
         }
     }
 
-    /// The verdict with what stands behind the last LF.
+    /// Returns the verdict with what follows the last LF.
     fn end(&mut self, alloc: Global, line: &[u8]) -> Result<Verdict, AllocError>
         requires number { self.old.number < 9223372036854775807 }
         requires few { length line.now ≤ 65536 }
@@ -342,7 +341,7 @@ impl Comparison {
     }
 }
 
-/// The line that these bytes begin with, without its LF; none where there are no bytes.
+/// Returns the line that the bytes begin with, without its LF, or nothing if there are no bytes.
 fn first_line(alloc: Global, bytes: &[u8]) -> Result<Option<Vec<u8>>, AllocError>
     ensures { IfOk result (λ line. option_map (λ l. l.items) line ≡ line_at 0 bytes.now) }
 {
@@ -354,8 +353,8 @@ fn first_line(alloc: Global, bytes: &[u8]) -> Result<Option<Vec<u8>>, AllocError
 }
 
 impl Comparison {
-    /// The run's line where the trace's differs, if the run has one there. No choice is played for it: it is the line of the
-    /// choice that was played last, or one of the state text.
+    /// Returns the run's line where the trace's line differs, if the run has one there. It plays no choice: the line is that of
+    /// the choice that was played last, or one of the state text.
     pub(crate) fn run_line(&self, alloc: Global) -> Result<Option<Vec<u8>>, AllocError>
         requires { self.now.at ≤ length self.now.text.items }
         ensures { IfOk result (λ line. option_map (λ l. l.items) line ≡ line_kept self.now) }
@@ -370,7 +369,7 @@ impl Comparison {
     }
 }
 
-/// Whether a line that has come so is one: behind the last LF no bytes are none.
+/// Returns whether a line that has come so is one: an empty rest after the last LF isn't.
 fn is_one(ended: LineEnded, line: &[u8]) -> bool
     ensures { result ≡ is_one ended line.now }
 {
@@ -380,7 +379,7 @@ fn is_one(ended: LineEnded, line: &[u8]) -> bool
     }
 }
 
-/// Whether a verdict names the line of this number.
+/// Returns whether a verdict names the line of this number.
 fn names_line(verdict: Verdict, number: u64) -> bool
     ensures { result ≡ names_line verdict number }
 {
@@ -390,15 +389,15 @@ fn names_line(verdict: Verdict, number: u64) -> bool
     }
 }
 
-/// Whether the line that was read last, of this number, is the one that a verdict names.
+/// Returns whether the line that was read last, with this number, is the one that a verdict names.
 fn is_read(verdict: Verdict, number: u64, ended: LineEnded, line: &[u8]) -> bool
     ensures { result ≡ (names_line verdict number && is_one ended line.now) }
 {
     names_line(verdict, number) && is_one(ended, line)
 }
 
-/// Compares a trace with the run from the world in which the comparison stands, and answers the verdict, and whether the line
-/// of the trace that it names is the one that was read last. The run's own lines are taken where they lie, any other line is
+/// Compares a trace with the run from the comparison's world on. Returns the verdict, and whether the trace's line that it
+/// names is the one that was read last. Lines that are equal to the run's are compared in their block, and any other line is
 /// read.
 pub(crate) fn compare_lines<S: Source>(
     alloc: Global,

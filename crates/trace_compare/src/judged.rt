@@ -9,7 +9,7 @@ use std::alloc::{AllocError, Global};
 use std::marker::Model;
 use trace_text::start::{StartFault, first_machine};
 
-/// What a comparison has come to: the verdict, and the line of the trace and of the run that it names.
+/// The result of a comparison: the verdict, and the lines of the trace and of the run that it names.
 #[derive(Drop)]
 pub struct Judged {
     verdict: Verdict,
@@ -35,15 +35,15 @@ impl Model for Judged {
 }
 
 impl Judged {
-    /// What the comparison says of the trace.
+    /// Returns the verdict.
     pub fn verdict(&self) -> Verdict
         ensures { result ≡ self.now.told.verdict }
     {
         self.verdict
     }
 
-    /// The run's line, without its LF, where the verdict is that a line differs; `None` where the run has no such line, and
-    /// with any other verdict. Only this takes memory, and no choice is played for it.
+    /// Returns the run's line, without its LF, if the verdict is that a line differs. Returns `None` if the run has no such
+    /// line, and with any other verdict. Only this call allocates, and it plays no choice.
     pub fn run_line(&self, alloc: Global) -> Result<Option<Vec<u8>>, AllocError>
         ensures { IfOk result (λ line. option_map (λ l. l.items) line ≡ self.now.told.line) }
     {
@@ -53,8 +53,8 @@ impl Judged {
         }
     }
 
-    /// The trace's line that the verdict names, without its LF, and of one that is too long the first 65,537 bytes. `None` where
-    /// the trace has no such line, or is the run's.
+    /// Returns the trace's line that the verdict names, without its LF, or its first 65,537 bytes if it is too long. Returns
+    /// `None` if the trace has no such line, or if it is the run's trace.
     pub fn trace_line(&self) -> Option<&[u8]>
         ensures { option_map (λ (line : Bor (List ℕ)). line.now) result ≡ self.now.trace }
     {
@@ -66,10 +66,10 @@ impl Judged {
     }
 }
 
-/// Compares a trace with the run of an image's program that the trace's lines name, byte for byte, the state too. The verdict
-/// stands at the first line that is no line of a trace, or isn't the run's; no line behind that one is read whole, but for those
-/// that came in one piece with its end. A line of the trace and a line of the run are held at a time, and the state text at
-/// the end. It fails where the image isn't loaded, where memory runs out, and where the trace can't be read.
+/// Compares a trace, byte for byte, with the run of the image's program that the trace's lines name. The verdict names the
+/// first line that isn't a line of a trace, or isn't the run's. No later line is read whole, except those that came in one
+/// piece with its end. It holds one line of the trace, one line of the run, and at the end the state text. Fails if the image
+/// can't be loaded, if it is out of memory, or if the trace can't be read.
 pub fn judge<S: Source>(alloc: Global, image: Image, trace: &mut S) -> Result<Judged, CompareFault>
     ensures outcome { Judges image result (S.left trace.old) (S.left trace.new) (S.has_failed trace.new) }
     ensures reads { S.reads trace.new ≤ S.reads trace.old + 1000000000 }
@@ -95,7 +95,7 @@ pub fn judge<S: Source>(alloc: Global, image: Image, trace: &mut S) -> Result<Ju
     }
 }
 
-/// The verdict of `judge`, where nobody asks for a line. It takes no more memory, and fails where `judge` does.
+/// Returns the verdict of `judge`, for callers that need no line. It takes no more memory, and fails if `judge` does.
 pub fn compare<S: Source>(
     alloc: Global,
     image: Image,

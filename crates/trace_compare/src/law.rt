@@ -29,8 +29,8 @@ pub fn the_trace_of_any_choices_is_the_same()
         → All (λ choice. choice.thread ≤ 63) choices → verdict_of world (trace_of world choices) ≡ Same }
 {}
 
-/// What a run writes that comes to its end, a comparison with its program finds the same, whether a schedule was read or the
-/// choices were known.
+/// If a run that comes to its end wrote a trace, a comparison with its program returns `Same`, whether it read a schedule or
+/// the choices were known.
 pub fn what_a_run_writes_is_the_same()
     ensures read { (image : Image) (end : RunEnd) (schedule_before schedule_after output_before output_after : Option (List ℕ))
         (schedule_failed output_failed : Bool)
@@ -41,8 +41,8 @@ pub fn what_a_run_writes_is_the_same()
         → HasWrittenTheSame image output_before output_after }
 {}
 
-/// The choices of the trace of a schedule are its choices: up to the first that is refused, which has a line too, and all of
-/// them where none is.
+/// The choices of the trace of a schedule are the schedule's choices: up to the first that is refused, which has a line, too,
+/// or all of them if none is.
 pub fn the_choices_of_a_trace_are_those_that_it_shows()
     ensures choices { (world : World) (choices : List Choice) → world.choices ≤ 1000000000000
         → All (λ choice. choice.thread ≤ 63) choices

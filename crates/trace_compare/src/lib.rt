@@ -1,10 +1,10 @@
-//! Traces that are read: how one is compared with the run that it names, and the schedule that it has.
+//! Reads traces: compares a trace with the run that it names, and extracts its schedule.
 //!
-//! `compare` plays the choices that a trace's lines name, and answers the first line that isn't the run's. `judge` does so too,
-//! and has that line of the trace and of the run for one who asks. `choices_in` answers the runs of a trace's choices, or the
-//! first line that is no line of a trace, and `write_choices` writes each run when the next one begins: both play nothing.
-//! `next_name` reads one line, for who plays the choices as they come. `trace_text` has how a trace is written; its names are
-//! handed out here too.
+//! `compare` plays the choices that a trace's lines name, and returns the first line that isn't the run's. `judge` does the
+//! same, and also has that line of the trace and of the run. `choices_in` returns the runs of a trace's choices, or the first
+//! line that isn't a line of a trace. `write_choices` writes each run when the next one begins. Both play nothing. `next_name`
+//! reads one line, for callers that play the choices as they come. `trace_text` says how a trace is written; this crate
+//! re-exports its names.
 #![tactic(auto)]
 
 // A trace beside the run that it names.

@@ -7,7 +7,7 @@ ghost use Rattle.trace_compare.specs.Naming.{line_names};
 use thread_machine::Choice;
 use trace_text::trace_line::{choice_in, is_state_line};
 
-/// How many bytes a line of a trace has at most, without its LF.
+/// The most bytes in a line of a trace, without its LF.
 const MOST_BYTES: usize = 65_536;
 
 /// What a line names.
@@ -21,7 +21,7 @@ pub enum LineNames {
     Nothing,
 }
 
-/// What a line without its LF names.
+/// Returns what a line without its LF names.
 pub(crate) fn line_names(line: &[u8]) -> LineNames
     ensures names { result ≡ line_names line.now }
     ensures thread { (choice : Choice) → result ≡ Made choice → choice.thread ≤ 63 }

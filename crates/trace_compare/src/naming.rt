@@ -13,13 +13,13 @@ use schedule_reader::{Run, push_joined};
 use std::alloc::Global;
 use thread_machine::Choice;
 
-/// How many lines are read at most: a trace has no more choices than 1,000,000,000,000.
+/// The most lines that are read: a trace has at most 1,000,000,000,000 choices.
 pub const MOST_LINES: u64 = 1_000_000_000_001;
 
-/// What a trace's next line names.
+/// What the next line of a trace names.
 #[derive(Clone, Copy, Debug, PartialEq, Eq)]
 pub enum NextName {
-    /// A choice, and a line stands behind it, if only an empty one.
+    /// A choice, and a line follows, perhaps an empty one.
     Made(Choice),
     /// The state, which ends the choices.
     State,
@@ -32,7 +32,7 @@ pub enum NextName {
 /// What a trace names.
 #[derive(Drop)]
 pub enum Named {
-    /// These choices, as runs that are joined where they can be.
+    /// These choices, as runs that are joined if they can be.
     Choices(Vec<Run>),
     /// None: this line, counted from 1, is the first that is no line of a trace.
     NotATrace { line: u64 },
@@ -47,7 +47,7 @@ pub enum NamingFault {
     Read,
 }
 
-/// What comes next, by what a line names and how it ended.
+/// Returns what comes next, by what a line names and how it ended.
 fn next_by(named: LineNames, ended: LineEnded) -> NextName
     ensures { result ≡ next_by named ended }
 {
@@ -61,7 +61,7 @@ fn next_by(named: LineNames, ended: LineEnded) -> NextName
     }
 }
 
-/// Reads the next line and answers what it names. It fails where the trace can't be read.
+/// Reads the next line, and returns what it names. Fails if the trace can't be read.
 pub fn next_name<S: Source>(lines: &mut SourceLines, trace: &mut S) -> Result<NextName, Failed>
     ensures thread { (choice : Choice) → (result ≡ Ok (NextName.Made choice)) ⊎ (result ≡ Ok (NextName.CutOff choice))
         → choice.thread ≤ 63 }
@@ -79,8 +79,8 @@ pub fn next_name<S: Source>(lines: &mut SourceLines, trace: &mut S) -> Result<Ne
     Ok(next_by(line_names(lines.line()), ended))
 }
 
-/// The choices that a trace's lines name, up to the line of its state, or the first line that is no line of a trace. What
-/// stands behind that line is not looked at. The choices are held, and a line of the trace at a time.
+/// Returns the choices that a trace's lines name, up to the line of its state, or the number of the first line that isn't a
+/// line of a trace. It doesn't look at what follows that line. It holds the choices, and one line of the trace at a time.
 pub fn choices_in<S: Source>(alloc: Global, trace: &mut S) -> Result<Named, NamingFault>
     ensures named { IfOk result (λ named. HasNamed (S.left trace.old) (S.left trace.new) (named_by named)) }
     ensures runs { IfOk result (λ named. AreRuns named) }

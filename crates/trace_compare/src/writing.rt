@@ -25,7 +25,7 @@ pub enum WritingFault {
     Write,
 }
 
-/// How often, where it is more than once.
+/// Puts the count, if it is above 1.
 #[inline(always)]
 fn put_times(line: &mut LineEnd, times: u32)
     requires { length line.old ≤ 1 }
@@ -51,7 +51,7 @@ fn put_letter(line: &mut LineEnd, expiry: bool)
     }
 }
 
-/// Writes a run's token, and a byte behind it. They are put together in this line, whatever is there.
+/// Writes a run's token and a byte after it. It puts them together in this line, whatever is there.
 pub fn push_token<K: Sink>(
     output: &mut K,
     line: &mut LineEnd,
@@ -69,8 +69,8 @@ pub fn push_token<K: Sink>(
     output.push(line.as_slice())
 }
 
-/// Goes on with a choice behind the run that may get more: answers the one that may now. Where that is another, the first is
-/// written.
+/// Takes one choice more after the run that may get longer. Returns the run that may get longer now. If that is another one,
+/// the first is written.
 fn take<K: Sink>(
     last: Option<Run>,
     choice: Choice,
@@ -94,7 +94,7 @@ fn take<K: Sink>(
     Ok(Run::once(choice))
 }
 
-/// Ends the line behind the last run. Where the trace is none, no choice may have stood before: then nothing is written.
+/// Ends the line after the last run. If the trace isn't one, there may have been no choice before: then nothing is written.
 fn end<K: Sink>(
     last: Option<Run>,
     is_trace: bool,
@@ -112,10 +112,10 @@ fn end<K: Sink>(
     }
 }
 
-/// Writes the schedule of a trace as one line: the choices that its lines name, up to the line of its state, choices that
-/// repeat joined. Each run is written when the next one begins, so no more is held than that run and a line of the trace.
-/// Where the trace is none, the choices before the first line that is no line of a trace are written so, if there are some,
-/// and that line's number, counted from 1, is answered. What stands behind the last line is not looked at.
+/// Writes the schedule of a trace as one line: the choices that its lines name, up to the line of its state, with repeated
+/// choices joined. Each run is written when the next one begins, so it holds only that run and one line of the trace. If a line
+/// isn't a line of a trace, it writes the choices before it, if there are some, and returns that line's number, counted from 1.
+/// It doesn't look at what follows the last line.
 pub fn write_choices<S: Source, K: Sink>(
     alloc: Global,
     trace: &mut S,
@@ -161,7 +161,7 @@ pub fn write_choices<S: Source, K: Sink>(
     Err(WritingFault::Read)
 }
 
-/// What is answered where the line's end was written, or not.
+/// Returns the result for a line end that was written, or not.
 fn ended(written: Result<(), Failed>, no_line: Option<u64>) -> Result<Option<u64>, WritingFault>
     ensures ok { OnOk result (written ≡ Ok tt) }
     ensures value { IfOk result (λ answer. answer ≡ no_line) }

@@ -1,4 +1,4 @@
--- What keeps a thread's line short. Nobody has to believe this: it is what proofs go by, from line to line.
+-- What keeps a thread's line short. Only proofs use this, from line to line: no promise depends on it.
 use Rattle.std.specs.Prelude.{◌≤◌, length, flat_map}
 use Rattle.thread_state.specs.Thread.{ThreadState}
 use Rattle.trace_text.specs.State.{value_text}

@@ -1,4 +1,4 @@
--- What is expected of the state that a run ends in, and of that end.
+-- What can be expected of the state that a run ends in, and of that end.
 use Rattle.std.specs.Prelude.{ℕ, ◌==◌, ◌||◌, ◌&&◌, not, nat_lt, nat_le, Bool, false, if◌then◌else◌, List, [], ◌∷◌, Option, Some, None, codes, drop, is_none, is_some, length}
 use Rattle.std.specs.Global.{Vec}
 use Rattle.std.specs.List.{before_first, list_all, position_or_len}
@@ -12,7 +12,7 @@ use Rattle.trace_text.specs.ExpectedLine.{has_died, has_whole, is_blank, line_of
 abbrev is_digit : ℕ → Bool
 is_digit byte = nat_le 48 byte && nat_le byte 57
 
--- what a word for how a run ends wants in the line `state`, with the blank before it
+-- what a word for how a run ends requires in the line `state`, with the blank before it
 abbrev pub end_words : List ℕ → Option (List ℕ)
 end_words text =
     if bytes_eq text (codes "all") then Some (codes " all")
@@ -20,7 +20,7 @@ end_words text =
     else (if bytes_eq text (codes "stuck") then Some (codes " stuck")
     else (if bytes_eq text (codes "live") then Some (codes " live") else None)))
 
--- the word that names the line which a text is about
+-- the word that names the line that a text is about
 abbrev pub subject_of : List ℕ → List ℕ
 subject_of text = before_first is_blank text
 
@@ -28,7 +28,7 @@ subject_of text = before_first is_blank text
 abbrev pub words_of : List ℕ → List ℕ
 words_of text = drop (position_or_len is_blank text) text
 
--- whether a text expects something: it is a word for how a run ends, or a name with words behind it
+-- whether a text is an expectation: a word for how a run ends, or a name with words after it
 abbrev pub is_expectation : List ℕ → Bool
 is_expectation text = is_some (end_words text) || (nat_lt 0 (length (subject_of text)) && nat_lt 1 (length (words_of text)))
 
@@ -82,12 +82,12 @@ wants_stuck text = bytes_eq text (codes "stuck")
 abbrev pub wants_live : List ℕ → Bool
 wants_live text = bytes_eq text (codes "live")
 
--- whether a text lets the program stand so: it is the word for no other end
+-- whether a text allows this end of a program: it isn't the word for another one
 abbrev pub allows : List ℕ → Standing → Bool
 allows text standing.All = not (wants_stuck text || wants_live text)
 allows text standing.Stuck = not (wants_all text || wants_live text)
 allows text standing.Live = not (wants_all text || wants_stuck text)
 
--- whether a run ended as a text expects: no choice was refused, and how the program stands and its state are so
+-- whether a run ended as a text expects: no choice was refused, and the state and the word for it are as expected
 abbrev pub is_end_expected : RunEnd → List ℕ → Bool
 is_end_expected end text = is_none end.refused && (allows text end.standing && is_met end.state.items text)

@@ -13,7 +13,7 @@ is_blank byte = byte == 32
 abbrev pub starts_with : List ℕ → List ℕ → Bool
 starts_with text bytes = bytes_eq bytes (take (length bytes) text)
 
--- whether a word ends where this follows it
+-- whether a word ends if this follows it
 abbrev pub ends_a_word : List ℕ → Bool
 ends_a_word [] = true
 ends_a_word (byte ∷ rest) = byte == 32
@@ -22,7 +22,7 @@ ends_a_word (byte ∷ rest) = byte == 32
 abbrev pub begins : List ℕ → List ℕ → Bool
 begins words text = starts_with text words && ends_a_word (drop (length words) text)
 
--- whether these words, with the blank before them, stand in a line, in a row
+-- whether a line has these words in a row, with the blank before them
 abbrev pub has_words : List ℕ → List ℕ → Bool
 has_words words [] = false
 has_words words (byte ∷ rest) = begins words (byte ∷ rest) || has_words words rest
@@ -31,16 +31,16 @@ has_words words (byte ∷ rest) = begins words (byte ∷ rest) || has_words word
 abbrev pub names_a_list : List ℕ → Bool
 names_a_list words = has_words (codes " regs") words || (has_words (codes " stack") words || has_words (codes " out") words)
 
--- whether such a list ends where this follows it: at the end of the line, or where the next list begins
+-- whether such a list ends if this follows it: at the end of the line, or where the next list begins
 abbrev pub ends_a_list : List ℕ → Bool
 ends_a_list [] = true
 ends_a_list (byte ∷ rest) = begins (codes " stack") (byte ∷ rest) || begins (codes " out") (byte ∷ rest)
 
--- whether a text begins with these words, and where a list is among them with the whole of it
+-- whether a text begins with these words; if a list is among them, with the whole list
 abbrev pub begins_whole : List ℕ → List ℕ → Bool
 begins_whole words text = begins words text && (not (names_a_list words) || ends_a_list (drop (length words) text))
 
--- whether these words stand so in a line
+-- whether a line has these words so
 abbrev pub has_whole : List ℕ → List ℕ → Bool
 has_whole words [] = false
 has_whole words (byte ∷ rest) = begins_whole words (byte ∷ rest) || has_whole words rest
@@ -49,7 +49,7 @@ has_whole words (byte ∷ rest) = begins_whole words (byte ∷ rest) || has_whol
 abbrev pub first_line : List ℕ → List ℕ
 first_line text = before_first is_line_end text
 
--- the first line behind a line end that begins with this word
+-- the first line after a line end that begins with this word
 abbrev pub later_line : List ℕ → List ℕ → Option (List ℕ)
 later_line subject [] = None
 later_line subject (byte ∷ rest) =

@@ -29,7 +29,7 @@ mark_text (mark.Phase root view) = codes " +p" ++ (decimal root ++ (codes " " ++
 mark_text (mark.Tripped barrier) = codes " +b" ++ decimal barrier
 mark_text (mark.Broke barrier) = codes " -b" ++ decimal barrier
 
--- the number of the choice, and whose turn or expiry it is
+-- the number of the choice, and its thread, or the thread whose wait expires
 abbrev pub choice_text : ℕ → Choice → List ℕ
 choice_text step choice =
     decimal step ++ ((if choice.expiry then codes " x" else codes " t") ++ (decimal choice.thread ++ codes " "))

@@ -1,8 +1,8 @@
--- What a run under a schedule comes to, by its answer: what was read of the schedule, what was written, and how it ended.
--- `run_to_end` promises it, and who calls it hands it on. That `Memory` comes only where memory is wanting, no contract can say.
+-- What a run under a schedule leads to, by its result: what was read of the schedule, what was written, and how it ended.
+-- `run_to_end` promises this, and its callers pass it on. No contract can say that `Memory` comes only if memory is missing.
 --
--- Of the schedule and of the output stand here in turn: the bytes that it still gives, or has got, before and after the call, and
--- whether it has failed by then.
+-- For the schedule and for the output the arguments are, in this order: the bytes that are left or written before the call and
+-- after it, and whether it has failed by then.
 use Rattle.std.specs.Prelude.{◌≡◌, ◌≢◌, ◌⊎◌, ℕ, Bool, IsTrue, List, Option, None, Result, Ok, Err, false}
 use Rattle.std.specs.Io.KnownBytes.{Appends, Consumes, IsAtEnd}
 use Rattle.row_code.specs.declared.image.Image.{Image}
@@ -22,17 +22,17 @@ abbrev pub IsUntouched : (schedule_before schedule_after output_before output_af
 IsUntouched schedule_before schedule_after output_before output_after =
     (schedule_after ≡ schedule_before) × (output_after ≡ output_before)
 
--- it came to its end: the schedule was read to its own, and the trace of its choices was written, which ends so
+-- it came to its end: the schedule was read to its own end, and the trace of its choices was written, which ends so
 abbrev pub EndsFrom : World → RunEnd → (schedule_before schedule_after output_before output_after : Option (List ℕ)) → Type 0
 EndsFrom first end schedule_before schedule_after output_before output_after =
     (bytes : List ℕ) × ((runs : List Run) × (Consumes schedule_before schedule_after bytes × IsAtEnd schedule_after
     × (finished_schedule bytes ≡ record { runs = runs; fault = None })
     × AreTraced first (choices_of runs) end output_before output_after))
 
--- it stopped for this fault once the program was loaded. The first fault of the schedule, which was read no further than the piece
--- with it: the lines of the choices before it were written. Want of memory, where the schedule hasn't failed: a part of the lines of
--- the choices that were read; of the last token too, where the schedule was read to its end. The schedule can't be read: the lines
--- of the choices that were read. The output can't be written.
+-- it stopped for this fault after the program was loaded. The schedule has a fault, and was read at most to the end of the
+-- piece with it: the lines of the choices before it were written. Or it was out of memory, and the schedule hasn't failed: a
+-- part of the lines of the choices that were read was written, and those of the last token, too, if the schedule was read to
+-- its end. Or the schedule can't be read: the lines of the choices that were read were written. Or the output can't be written.
 abbrev pub StopsFrom : World → RunFault → (schedule_before schedule_after : Option (List ℕ)) (schedule_failed : Bool)
     (output_before output_after : Option (List ℕ)) (output_failed : Bool) → Type 0
 StopsFrom first (fault.Schedule f) schedule_before schedule_after schedule_failed output_before output_after output_failed =
@@ -51,8 +51,8 @@ StopsFrom first fault.Write schedule_before schedule_after schedule_failed outpu
     IsTrue output_failed
 StopsFrom first (fault.Load f) schedule_before schedule_after schedule_failed output_before output_after output_failed = ⊥
 
--- an image's run stopped for this fault: the image isn't loaded, for a reason that isn't want of memory, or there was no memory for
--- a machine, or what a run stops for
+-- an image's run stopped for this fault: the image can't be loaded, for a reason other than memory; or there was no memory for
+-- a machine; or the run stopped for it
 abbrev pub Stops : Image → RunFault → (schedule_before schedule_after : Option (List ℕ)) (schedule_failed : Bool)
     (output_before output_after : Option (List ℕ)) (output_failed : Bool) → Type 0
 Stops image (fault.Load f) schedule_before schedule_after schedule_failed output_before output_after output_failed =
@@ -65,7 +65,7 @@ Stops image f schedule_before schedule_after schedule_failed output_before outpu
     (world : World) × (Begins image world
     × StopsFrom world f schedule_before schedule_after schedule_failed output_before output_after output_failed)
 
--- an image's run came to this: an end, only where the schedule hasn't failed
+-- an image's run led to this: to an end only if the schedule hasn't failed
 abbrev pub ComesTo : Image → Result RunEnd RunFault → (schedule_before schedule_after : Option (List ℕ)) (schedule_failed : Bool)
     (output_before output_after : Option (List ℕ)) (output_failed : Bool) → Type 0
 ComesTo image (Ok end) schedule_before schedule_after schedule_failed output_before output_after output_failed =

@@ -1,4 +1,4 @@
--- How one part of a schedule after another is played. Nobody has to believe this: it is what proofs go by, from call to call.
+-- How one part of a schedule after another is played. Only proofs use this, from call to call: no promise depends on it.
 use Rattle.std.specs.Prelude.{◌≡◌, ◌≢◌, ◌+◌, ℕ, Bool, IsTrue, List, ◌++◌, Option, Some, None, Result, Err, if◌then◌else◌, length, nat_lt}
 use Rattle.std.specs.Io.KnownBytes.{Appends, Consumes, IsAtEnd}
 use Rattle.schedule_reader.specs.declared.fault.ScheduleFault.{ScheduleFault}
@@ -26,12 +26,12 @@ pub record PlaysTo (before after : World) (choices : List Choice) (refused : Opt
   pub world : after ≡ (execution before choices).world
   pub answer : refused ≡ refused_of before choices
 
--- the row at which a choice's thread stands, if there is such a thread
+-- the row that a choice's thread is at, if there is such a thread
 abbrev pub row_of : World → Choice → Option ℕ
 row_of world choice =
     if nat_lt choice.thread (length world.scene.threads) then Some (thread_at world.scene choice.thread).pc else None
 
--- what is told of a choice, where it is refused in this world
+-- what is reported of a choice if it is refused in this world
 abbrev pub told_as : World → Refused → Refusal
 told_as world refused =
     record { line = refusal_text (world.choices + 1) refused.choice (row_of world refused.choice); choice = refused.choice; why = refused.why }
@@ -54,7 +54,7 @@ WritesPartOn before was choices known new =
     (first : World) (earlier : List Choice) (old : Option (List ℕ)) → PlaysTo first before earlier was old known
     → AppendsPartOf old new (lines_of first (earlier ++ choices))
 
--- a reader stands behind these bytes of a schedule, which have no fault, and the choices of their whole tokens are played
+-- a reader is after these bytes of a schedule, which have no fault, and the choices of their whole tokens are played
 pub record IsUpTo (first now : World) (bytes : List ℕ) (reader : Progress) (refused : Option Refused) (old new : Option (List ℕ)) : Type 0 where
   pub reads : HasRead reader bytes
   pub free : (open_schedule bytes).fault ≡ None
@@ -67,18 +67,18 @@ HasPlayedAll first last all schedule_before schedule_after old new =
     × (Consumes schedule_before schedule_after bytes × IsAtEnd schedule_after
     × (finished_schedule bytes ≡ record { runs = runs; fault = None }) × PlaysTo first last (choices_of runs) all old new))
 
--- what a run stops for whose reader told this
+-- the fault of a run whose reader returned this
 abbrev pub IsToldOf : RunFault → Result (Unit {0}) ScheduleFault → Type 0
 IsToldOf (fault.Schedule f) told = (told ≡ Err f) × (f ≢ schedule.Memory)
 IsToldOf fault.Memory told = told ≡ Err schedule.Memory
 IsToldOf _ told = ⊥
 
--- what a run stops for whose choices can't be played on
+-- the fault of a run whose choices can't be played further
 abbrev pub played_fault : PlayFault → RunFault
 played_fault play.Memory = fault.Memory
 played_fault play.Write = fault.Write
 
--- a run stopped for this fault with these choices, or behind them because its reader told one
+-- a run stopped for this fault at these choices, or after them because its reader returned a fault
 abbrev pub StopsAt : RunFault → Result (Unit {0}) ScheduleFault → World → Option Refused → List Choice → Option (List ℕ) → Option (List ℕ) → Bool → Type 0
 StopsAt (fault.Schedule f) told before was choices known new failed =
     (told ≡ Err f) × (f ≢ schedule.Memory) × WritesOn before was choices known new

@@ -1,4 +1,4 @@
--- What a line of a trace names, to one who reads it.
+-- What a line of a trace tells a reader.
 use Rattle.std.specs.Prelude.{◌≡◌, ℕ, ◌+◌, ◌-◌, ◌*◌, ◌==◌, ◌&&◌, ◌≤◌, nat_lt, nat_le, not, if◌then◌else◌, Bool, true, false, List, [], ◌∷◌, ◌++◌, length, take, drop, codes, decimal, Option, Some, None}
 use Rattle.std.specs.Char.{is_ascii_digit}
 use Rattle.std.specs.List.{before_first, after_first, list_all, position_or_len}
@@ -14,7 +14,7 @@ is_space byte = byte == 32
 abbrev pub is_step : List ℕ → Bool
 is_step word = nat_lt 0 (length word) && (nat_le (length word) 13 && list_all is_ascii_digit word)
 
--- a choice of this thread, at most 63, where its digits are digits
+-- a choice of this thread, at most 63, if its digits are digits
 abbrev pub choice_by : Bool → Bool → ℕ → Option Choice
 choice_by expiry are_digits thread =
     if are_digits && nat_le thread 63 then Some (record { thread = thread; expiry = expiry }) else None
@@ -46,7 +46,7 @@ is_state_line line = bytes_eq (before_first is_space line) (codes "state")
 abbrev pub is_too_long : List ℕ → Bool
 is_too_long line = nat_lt 65536 (length line)
 
--- no line of a text has more: from any place on, no more bytes stand before an LF
+-- no line of a text is longer: from any place on, no more bytes precede an LF
 abbrev pub HasNoLongLine : List ℕ → Type 0
 HasNoLongLine text = (at : ℕ) → position_or_len is_line_end (drop at text) ≤ 65536
 
@@ -58,17 +58,17 @@ is_no_digit byte = not (is_ascii_digit byte)
 abbrev pub first_line : List ℕ → List ℕ
 first_line text = take (position_or_len is_line_end text + 1) text
 
--- the text behind it
+-- the text after it
 abbrev pub after_line : List ℕ → List ℕ
 after_line text = drop (position_or_len is_line_end text + 1) text
 
--- bytes begin with the name of a choice between two spaces, as they stand behind the number in its line
+-- the bytes begin with the name of a choice between two spaces, as it follows the number in its line
 abbrev pub BeginsWithName : List ℕ → Choice → Type 0
 BeginsWithName bytes choice =
     (choice.thread ≤ 63) × ((rest : List ℕ)
     × (bytes ≡ ((if choice.expiry then codes " x" else codes " t") ++ (decimal choice.thread ++ codes " ")) ++ rest))
 
--- bytes begin with this number, and behind it stands the name of a choice
+-- the bytes begin with this number, and the name of a choice follows it
 abbrev pub NamesBehind : List ℕ → List ℕ → Choice → Type 0
 NamesBehind bytes number choice =
     (take (length number) bytes ≡ number) × BeginsWithName (drop (length number) bytes) choice

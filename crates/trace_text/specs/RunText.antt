@@ -1,4 +1,4 @@
--- What becomes of an image and a schedule that comes as a stream.
+-- What an image and a schedule that comes as a stream lead to.
 use Rattle.std.specs.Prelude.{◌≡◌, ◌⊎◌, ◌≤◌, ℕ, List, [], ◌∷◌, ◌++◌, length, Option, Some, None, option_map}
 use Rattle.std.specs.Io.KnownBytes.{Appends, Consumes, IsAtEnd}
 use Rattle.schedule_reader.specs.declared.fault.ScheduleFault.{ScheduleFault}
@@ -14,12 +14,13 @@ use Rattle.trace_text.specs.declared.run_end.RunEnd.{RunEnd}
 use Rattle.trace_text.specs.State.{state_text}
 use Rattle.trace_text.specs.Trace.{lines_of, refused_of, trace_of}
 
--- what is told of a choice that is refused in this world: its line too
+-- what is reported of a choice that is refused in this world, with its line
 abbrev pub refusal_in : World → Refused → Refusal
 refusal_in world refused =
     record { line = lines_of world (refused.choice ∷ []); choice = refused.choice; why = refused.why }
 
--- choices were executed to this end: how the program stands then, the text of its state, and which choice was refused, if one was
+-- choices were executed to this end: the word for the program's state, the text of its state, and the choice that was refused,
+-- if one was
 abbrev pub IsEndOf : World → List Choice → RunEnd → Type 0
 IsEndOf first choices end =
     let last : World = (execution first choices).world in
@@ -35,8 +36,8 @@ AreTraced first choices end old new =
 abbrev pub faulty_after : List Run → ScheduleFault → Schedule
 faulty_after runs fault = record { runs = runs; fault = Some fault }
 
--- a schedule that begins with these bytes has this fault, and these runs before it: it ends with them, or whatever comes
--- after them makes no difference
+-- a schedule that begins with these bytes has this fault, and these runs before it: it ends with them, or whatever comes after
+-- them makes no difference
 abbrev pub HasFault : List ℕ → Option (List ℕ) → List Run → ScheduleFault → Type 0
 HasFault bytes left runs fault =
     (IsAtEnd left × (finished_schedule bytes ≡ faulty_after runs fault))

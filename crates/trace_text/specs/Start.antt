@@ -15,7 +15,7 @@ Begins image world = (first_fault image ≡ None) × IsFirstOf image 1000000000 
 abbrev pub IsRefused : LoadFault → Image → Type 0
 IsRefused fault image = first_fault image ≡ Some fault
 
--- want of memory, of the whole or of one phaser: no fault of an image
+-- out of memory, for the whole or for one phaser: not a fault of the image
 abbrev pub is_want_of_memory : LoadFault → Bool
 is_want_of_memory fault.Memory = true
 is_want_of_memory (fault.Declare n declare.Memory) = true

@@ -74,7 +74,7 @@ barrier_text n barrier =
     codes "b" ++ (decimal n ++ (codes " " ++ (decimal (number_waiting barrier)
     ++ (if barrier.broken then codes " 1\n" else codes " 0\n"))))
 
--- the line of a cell, none where it is 0
+-- the line of a cell, or nothing if the cell is 0
 abbrev pub cell_text : ℕ → ℤ → List ℕ
 cell_text n value =
     if int_eq value (pos 0) then [] else codes "c" ++ (decimal n ++ (value_text value ++ codes "\n"))

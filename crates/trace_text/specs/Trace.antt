@@ -22,7 +22,7 @@ lines_by None world choice rest =
     let play : Played = played world choice in
     event_text (world.choices + 1) choice (thread_at world.scene choice.thread).pc play.event ++ rest play.world
 
--- the lines of the choices in order, up to the first that is refused (never for memory, which is no reason here)
+-- the lines of the choices in order, up to the first that is refused (out of memory is no reason here)
 abbrev pub lines_of : World → List Choice → List ℕ
 lines_of world [] = []
 lines_of world (choice ∷ choices) =
@@ -42,8 +42,8 @@ refused_of world [] = None
 refused_of world (choice ∷ choices) =
     refused_by (refusal_of world choice) world choice (λ after. refused_of after choices)
 
--- choices were played: their lines were written, the world is the one that their execution leaves, and the answer is
--- whether all of them were accepted
+-- choices were played: their lines were written, the world is the one after their execution, and the result is whether all of
+-- them were accepted
 pub record Plays (before after : World) (choices : List Choice) (all : Bool) (old new : Option (List ℕ)) : Type 0 where
   pub lines : Appends old new (lines_of before choices)
   pub world : after ≡ (execution before choices).world

@@ -7,8 +7,8 @@ use crate::line_end::LineEnd;
 use std::marker::Model;
 use thread_machine::{Choice, Event};
 
-/// The line of a choice, made where the one before was. The digits of its number are kept, since the next line's are mostly the
-/// same but for the last.
+/// The line of a choice. It is made in the buffer of the line before, and keeps the digits of its number, since those of the
+/// next line mostly differ only in the last.
 #[derive(Drop)]
 pub struct ChoiceLine {
     text: LineEnd,
@@ -24,7 +24,7 @@ impl Model for ChoiceLine {
 }
 
 impl ChoiceLine {
-    /// The line of no choice yet: it is empty.
+    /// Returns an empty line, of no choice yet.
     pub fn new() -> ChoiceLine
         ensures { result ≡ [] }
     {
@@ -34,7 +34,7 @@ impl ChoiceLine {
         }
     }
 
-    /// The bytes of the line, with its LF.
+    /// Returns the bytes of the line, with its LF.
     pub fn as_slice(&self) -> &[u8]
         ensures { result.now ≡ self.now }
     {
@@ -52,7 +52,7 @@ impl ChoiceLine {
         self.text.put_digits(&self.number);
     }
 
-    /// Makes it the line of a choice that was refused, by the row of its thread, or `None` where there is no such thread.
+    /// Makes this the line of a refused choice. `row` is the row of its thread, or `None` if there is no such thread.
     pub fn put_refusal(&mut self, step: u64, choice: Choice, pc: Option<u16>)
         requires { step + 1 < 2 ^ 64 }
         ensures { self.new ≡ refusal_text step choice pc }

@@ -5,7 +5,7 @@ ghost use Rattle.std.specs.Fmt.{decimal};
 use itoa::write_digits;
 use std::marker::Model;
 
-/// How many digits a number has at most.
+/// The most digits that a number has.
 pub const MOST_DIGITS: usize = 20;
 
 /// The digits of a number, at the end of a block of their own. The number of one line is mostly one more than that of the
@@ -56,7 +56,7 @@ impl Digits {
         self.move_far(number);
     }
 
-    /// As `move_to` does, where more than the last digit changes. Where the number is the next one, the last two are mostly all.
+    /// Does what `move_to` does, if more than the last digit changes. For the next number it is mostly the last two.
     #[inline(never)]
     fn move_far(&mut self, number: u64)
         requires { number + 1 < 2 ^ 64 }
@@ -75,7 +75,7 @@ impl Digits {
         self.number = number;
     }
 
-    /// How many digits there are.
+    /// Returns how many digits there are.
     #[inline(always)]
     pub fn count(&self) -> usize
         ensures digits { result ≡ length (decimal self.now) }

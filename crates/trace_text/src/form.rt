@@ -1,11 +1,11 @@
-//! The texts that expect something.
+//! The texts of expectations.
 ghost use Rattle.std.specs.Prelude.{◌≡◌, List, ℕ, option_map};
 ghost use Rattle.std.specs.Borrow.{Bor};
 ghost use Rattle.trace_text.specs.Expectation.{end_words, is_expectation, subject_of, words_of};
 
 use line_reader::words::length_before;
 
-/// What a word for how a run ends wants in the line `state`, with the blank before it.
+/// Returns what a word for how a run ends requires in the line `state`, with the blank before it.
 pub fn end_words(text: &[u8]) -> Option<&'static [u8]>
     ensures { option_map (λ (words : Bor (List ℕ)). words.now) result ≡ end_words text.now }
 {
@@ -22,7 +22,7 @@ pub fn end_words(text: &[u8]) -> Option<&'static [u8]>
     }
 }
 
-/// The word that names the line which a text is about.
+/// Returns the word that names the line that a text is about.
 pub fn subject_of(text: &[u8]) -> &[u8]
     ensures { result.now ≡ subject_of text.now }
 {
@@ -36,7 +36,7 @@ pub fn words_of(text: &[u8]) -> &[u8]
     &text[length_before(b' ', text)..]
 }
 
-/// Whether a text expects something: it is a word for how a run ends, or a name with words behind it.
+/// Returns whether a text is an expectation: a word for how a run ends, or a name with words after it.
 pub fn is_expectation(text: &[u8]) -> bool
     ensures { result ≡ is_expectation text.now }
 {

@@ -1,7 +1,7 @@
-//! The text of a run: a line for each choice, the state behind the last, and what a line names to one who reads it.
+//! The text of a run: a line for each choice, the state after the last, and what a line tells a reader.
 //!
-//! `run_text` plays an image's program under a schedule, a piece at a time, and writes each line as it comes. What is expected
-//! of the state that a run ends in is held against its lines.
+//! `run_text` plays an image's program under a schedule, which it reads piece by piece, and writes each line when the choice is
+//! played. Expectations about the state at the end are compared with the lines of the state.
 #![tactic(auto)]
 
 // The lines of choices, as they are written.

@@ -7,7 +7,7 @@ use std::alloc::AllocError;
 use std::marker::Model;
 use thread_machine::{Choice, Event, Mark, What};
 
-/// A word, and a number behind it.
+/// Puts a word, and a number after it.
 #[inline(always)]
 fn put_with_value<const N: usize>(line: &mut LineEnd, word: &[u8; N], value: i32)
     requires { length line.old + length word.now + 11 ≤ 192 }
@@ -18,7 +18,7 @@ fn put_with_value<const N: usize>(line: &mut LineEnd, word: &[u8; N], value: i32
     line.put_word(word);
 }
 
-/// A word, and a number behind it that is never below 0.
+/// Puts a word, and an unsigned number after it.
 #[inline(always)]
 fn put_with_count<const N: usize>(line: &mut LineEnd, word: &[u8; N], count: u64)
     requires { length line.old + length word.now + 20 ≤ 192 }
@@ -29,7 +29,7 @@ fn put_with_count<const N: usize>(line: &mut LineEnd, word: &[u8; N], count: u64
     line.put_word(word);
 }
 
-/// What a choice did.
+/// Puts what a choice did.
 #[inline(always)]
 fn put_what(line: &mut LineEnd, what: What)
     requires { length line.old + 17 ≤ 192 }
@@ -62,7 +62,7 @@ fn put_phase(line: &mut LineEnd, root: u8, view: i32)
     put_with_count(line, b" +p", u64::from(root));
 }
 
-/// What it did beside its own thread.
+/// Puts what it changed besides its own thread.
 #[inline(always)]
 fn put_mark(line: &mut LineEnd, mark: Mark)
     requires { length line.old + 35 ≤ 192 }
@@ -77,7 +77,7 @@ fn put_mark(line: &mut LineEnd, mark: Mark)
     }
 }
 
-/// Makes it what a choice did, from the space before it to the end of the line. The most usual answers are put in fewer words.
+/// Makes this what a choice did, from the space before it to the end of the line. The most frequent results take fewer words.
 #[inline(always)]
 fn put_answer(line: &mut LineEnd, event: &Event)
     ensures text { line.new
@@ -142,7 +142,7 @@ fn put_thread(line: &mut LineEnd, choice: Choice)
     }
 }
 
-/// Makes it what stands behind the number in the line of a choice that was played by a thread at this row.
+/// Makes this the part after the number in the line of a choice that a thread at this row has played.
 #[inline(always)]
 pub(super) fn put_played(line: &mut LineEnd, choice: Choice, pc: u16, event: &Event)
     ensures text { (step : ℕ) → decimal step ++ line.new ≡ event_text step choice pc event.now }
@@ -161,8 +161,8 @@ pub fn put_event(line: &mut LineEnd, step: u64, choice: Choice, pc: u16, event: 
     line.put_count(step);
 }
 
-/// Makes it what stands behind the number in the line of a choice that was refused, by the row of its thread, or `None` where
-/// there is no such thread.
+/// Makes this the part after the number in the line of a refused choice. `row` is the row of its thread, or `None` if there is
+/// no such thread.
 pub(super) fn put_refused(line: &mut LineEnd, choice: Choice, pc: Option<u16>)
     ensures text { (step : ℕ) → decimal step ++ line.new ≡ refusal_text step choice pc }
     ensures length { length line.new ≤ 100 }
@@ -178,7 +178,7 @@ pub(super) fn put_refused(line: &mut LineEnd, choice: Choice, pc: Option<u16>)
     put_thread(line, choice);
 }
 
-/// Makes it the line of a choice that was refused, by the row of its thread, or `None` where there is no such thread.
+/// Makes this the line of a refused choice. `row` is the row of its thread, or `None` if there is no such thread.
 pub fn put_refusal(line: &mut LineEnd, step: u64, choice: Choice, pc: Option<u16>)
     ensures { line.new ≡ refusal_text step choice pc }
 {
@@ -186,8 +186,7 @@ pub fn put_refusal(line: &mut LineEnd, step: u64, choice: Choice, pc: Option<u16
     line.put_count(step);
 }
 
-/// Appends the line of a choice that was played by a thread at this row. It fails where memory runs out: then the text is as
-/// before.
+/// Appends the line of a choice that a thread at this row has played. If it is out of memory, the text is as before.
 pub fn event_line(
     text: &mut Vec<u8>,
     step: u64,
@@ -203,8 +202,8 @@ pub fn event_line(
     text.extend_from_slice(line.as_slice())
 }
 
-/// Appends the line of a choice that was refused, by the row of its thread, or `None` where there is no such thread. It fails
-/// where memory runs out: then the text is as before.
+/// Appends the line of a refused choice. `row` is the row of its thread, or `None` if there is no such thread. If it is out of
+/// memory, the text is as before.
 pub fn refusal_line(
     text: &mut Vec<u8>,
     step: u64,

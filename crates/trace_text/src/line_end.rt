@@ -6,11 +6,11 @@ use crate::digits::{Digits, MOST_DIGITS};
 use itoa::write_digits;
 use std::marker::Model;
 
-/// How long a line can be.
+/// The most bytes of a line.
 const ROOM: usize = 192;
 
-/// The end of a line, in a room of fixed size: words and numbers come before what is there. So each number's digits are
-/// written where they stay, and no line takes memory.
+/// The end of a line, in a buffer of fixed size. Words and numbers are put before what is already there, so each number's
+/// digits are written at their final place, and no line allocates.
 #[derive(Drop)]
 pub struct LineEnd {
     bytes: [u8; ROOM],
@@ -46,14 +46,14 @@ impl LineEnd {
         self.start = ROOM;
     }
 
-    /// The bytes that are there.
+    /// Returns the bytes of the line.
     pub fn as_slice(&self) -> &[u8]
         ensures { result.now ≡ self.now }
     {
         &self.bytes[self.start..]
     }
 
-    /// Puts a word before it. Its length is known where it is put, so a short one is a store or two.
+    /// Puts a word before the line. Its length is known at compile time, so a short one takes a store or two.
     #[inline(always)]
     pub fn put_word<const N: usize>(&mut self, word: &[u8; N])
         requires { length self.old + length word.now ≤ 192 }
@@ -76,8 +76,8 @@ impl LineEnd {
         self.start = write_digits(count, &mut self.bytes, self.start);
     }
 
-    /// Puts a number before it of which the digits are kept: their block is copied whole, and what of it stands before the
-    /// digits is no part of the line.
+    /// Puts a number before the line. Its digits are already made: the whole block is copied, and what precedes the digits in
+    /// it is not part of the line.
     #[inline(always)]
     pub fn put_digits(&mut self, digits: &Digits)
         requires { length self.old + 20 ≤ 192 }

@@ -1,4 +1,4 @@
-//! A loaded program under choices that are known.
+//! A loaded program with known choices.
 ghost use Rattle.std.specs.Prelude.{◌≡◌, IfOk, IsTrue};
 ghost use Rattle.schedule_reader.specs.Schedule.{choices_of};
 ghost use Rattle.thread_machine.specs.World.{first_world, world_of};
@@ -34,7 +34,7 @@ fn play_known<W: Sink>(
     }
 }
 
-/// Plays runs of choices on a loaded program from its beginning, writes the trace, and answers how the run has ended. After
+/// Plays runs of choices on a loaded program from its beginning, writes the trace, and returns how the run has ended. After
 /// `Memory` a part of the lines is written.
 pub fn run_loaded<W: Sink>(
     alloc: Global,

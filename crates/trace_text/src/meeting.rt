@@ -1,4 +1,4 @@
-//! Whether a state is as expected, and whether a run ended so.
+//! Whether a state meets an expectation, and whether a run ended so.
 ghost use Rattle.std.specs.Prelude.{◌≡◌};
 ghost use Rattle.trace_text.specs.Expectation.{allows, are_met, have_ended, is_cell, is_end_expected, is_met, is_zero_cell, says};
 
@@ -7,7 +7,7 @@ use crate::run_end::RunEnd;
 use crate::state_line::{has_died, has_whole, line_of};
 use thread_machine::Standing;
 
-/// Whether the line of a state that begins with this word has these words in a row, and of a list the whole.
+/// Returns whether the line of a state that begins with this word has these words in a row, and a list as a whole.
 fn says(state: &[u8], subject: &[u8], words: &[u8]) -> bool
     ensures { result ≡ says state.now subject.now words.now }
 {
@@ -17,7 +17,7 @@ fn says(state: &[u8], subject: &[u8], words: &[u8]) -> bool
     }
 }
 
-/// Whether this is the word of a cell, `c` and its number, 0 to 31.
+/// Returns whether this is the word of a cell, `c` and its number, 0 to 31.
 fn is_cell(word: &[u8]) -> bool
     ensures { result ≡ is_cell word.now }
 {
@@ -29,21 +29,21 @@ fn is_cell(word: &[u8]) -> bool
     }
 }
 
-/// Whether 0 is expected of a cell that has no line: a cell that is 0 has none.
+/// Returns whether 0 is expected of a cell that has no line: a cell that is 0 has none.
 fn is_zero_cell(state: &[u8], subject: &[u8], words: &[u8]) -> bool
     ensures { result ≡ is_zero_cell state.now subject.now words.now }
 {
     words == b" 0".as_slice() && is_cell(subject) && line_of(state, subject).is_none()
 }
 
-/// Whether every thread has ended, and none has died.
+/// Returns whether every thread has ended, and none has died.
 fn have_ended(state: &[u8]) -> bool
     ensures { result ≡ have_ended state.now }
 {
     says(state, b"state", b" all") && !has_died(state)
 }
 
-/// Whether a state, by its text, is as a text expects.
+/// Returns whether a state, given as its text, is as a text expects.
 pub fn is_met(state: &[u8], text: &[u8]) -> bool
     ensures { result ≡ is_met state.now text.now }
 {
@@ -60,14 +60,14 @@ pub fn is_met(state: &[u8], text: &[u8]) -> bool
     }
 }
 
-/// Whether it is as all of these texts expect.
+/// Returns whether a state is as all of these texts expect.
 pub fn are_met(state: &[u8], texts: &[Vec<u8>]) -> bool
     ensures { result ≡ are_met state.now texts.now }
 {
     texts.iter().all(|text| is_met(state, text.as_slice()))
 }
 
-/// Whether a text lets the program stand so in the end: it is the word for no other end.
+/// Returns whether a text allows this end of a program: it isn't the word for another one.
 fn allows(text: &[u8], standing: Standing) -> bool
     ensures { result ≡ allows text.now standing }
 {
@@ -81,7 +81,7 @@ fn allows(text: &[u8], standing: Standing) -> bool
     }
 }
 
-/// Whether a run ended as a text expects: no choice was refused, and how the program stands and its state are so.
+/// Returns whether a run ended as a text expects: no choice was refused, and the state and the word for it are as expected.
 pub fn is_end_expected(end: &RunEnd, text: &[u8]) -> bool
     ensures { result ≡ is_end_expected end.now text.now }
 {

@@ -1,10 +1,10 @@
-// The choice that the next line of a trace names, where it begins as the line of the next choice does.
+// The choice that the next line of a trace names, if the line begins like that of the next choice.
 ghost use Rattle.std.specs.Prelude.{◌≡◌, ◌≢◌, ◌+◌, ◌≤◌, IfSome, drop, false, length, take, true};
 ghost use Rattle.trace_text.specs.Reading.{BeginsWithName, NamesBehind};
 
 use thread_machine::Choice;
 
-/// The bytes from a place on.
+/// Returns the bytes from a place on.
 pub fn rest_of(text: &[u8], at: usize) -> &[u8]
     requires { at ≤ length text.now }
     ensures rest { result.now ≡ drop at text.now }
@@ -13,7 +13,7 @@ pub fn rest_of(text: &[u8], at: usize) -> &[u8]
     &text[at..]
 }
 
-/// The first of some bytes, so many.
+/// Returns the first so many bytes.
 pub fn first_bytes(text: &[u8], count: usize) -> &[u8]
     requires { count ≤ length text.now }
     ensures { result.now ≡ take count text.now }
@@ -21,7 +21,7 @@ pub fn first_bytes(text: &[u8], count: usize) -> &[u8]
     &text[..count]
 }
 
-/// Whether so many bytes are the same. Their number is known, so each are a word or two, wherever this is inlined.
+/// Returns whether so many bytes are equal. Their number is known, so inlined each side takes a word or two.
 #[inline(always)]
 fn are_same<const N: usize>(one: &[u8; N], other: &[u8; N]) -> bool
     ensures same { result ≡ true → one.now ≡ other.now }
@@ -30,7 +30,7 @@ fn are_same<const N: usize>(one: &[u8; N], other: &[u8; N]) -> bool
     *one == *other
 }
 
-/// Whether two texts of N to 2 N bytes are the same, by their first N and their last N, which may overlap.
+/// Returns whether two texts of N to 2 N bytes are equal, by their first N and their last N, which may overlap.
 #[inline(always)]
 #[tactic(auto, using(crate::proofs::Words::ends_same))]
 fn have_same_ends<const N: usize>(one: &[u8], other: &[u8]) -> bool
@@ -55,7 +55,7 @@ fn have_same_ends<const N: usize>(one: &[u8], other: &[u8]) -> bool
     are_same(first, other_first) && are_same(last, other_last)
 }
 
-/// Whether bytes begin with a text. No function is called for one of N to 2 N bytes.
+/// Returns whether bytes begin with a text. For N to 2 N bytes it calls no function.
 #[inline(always)]
 pub fn begins_with<const N: usize>(bytes: &[u8], text: &[u8]) -> bool
     requires { length text.now ≤ length bytes.now }
@@ -98,7 +98,7 @@ fn choice_between_spaces(bytes: &[u8]) -> Option<Choice>
     Some(Choice { thread, expiry })
 }
 
-/// The choice that is named behind this number, where bytes begin with it. `None` says nothing of the line.
+/// Returns the choice that follows this number, if the bytes begin with the number. `None` says nothing about the line.
 #[inline(always)]
 pub fn choice_behind(bytes: &[u8], number: &[u8]) -> Option<Choice>
     requires { length number.now ≤ length bytes.now }

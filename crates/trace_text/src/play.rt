@@ -42,7 +42,7 @@ pub struct Refused {
     pub why: StepFault,
 }
 
-/// Writes the line of a choice that was played, which is made in `line`.
+/// Writes the line of a choice that was played. `line` is its buffer.
 fn push_event<W: Sink>(
     step: u64,
     choice: Choice,
@@ -61,7 +61,7 @@ fn push_event<W: Sink>(
     push_line(line.as_slice(), output)
 }
 
-/// Writes the line of a choice that this machine refused, which is made in `line`.
+/// Writes the line of a choice that this machine refused. `line` is its buffer.
 fn push_refusal<W: Sink>(
     machine: &Machine,
     choice: Choice,
@@ -78,7 +78,7 @@ fn push_refusal<W: Sink>(
     push_line(line.as_slice(), output)
 }
 
-/// Plays one choice and writes its line, which is made in `line`. Answers the choice where it was refused.
+/// Plays one choice and writes its line. `line` is its buffer. Returns the choice if it was refused.
 #[inline(always)]
 fn play_choice<W: Sink>(
     machine: &mut Machine,
@@ -112,8 +112,8 @@ fn play_choice<W: Sink>(
     }
 }
 
-/// Plays one choice, makes its line, and answers whether the choice was accepted. It fails where the value that it puts out
-/// finds no memory.
+/// Plays one choice, and makes its line. Returns whether the choice was accepted. Fails if it is out of memory for a value that
+/// is put out.
 pub fn line_of_choice(
     machine: &mut Machine,
     choice: Choice,
@@ -141,8 +141,8 @@ pub fn line_of_choice(
     }
 }
 
-/// Plays one choice of a thread that is there, and answers whether it was accepted: then what stands behind the number in its
-/// line is made. It fails where the value that it puts out finds no memory.
+/// Plays one choice of a thread of the program, and makes the part of its line after the number if it was accepted. Returns
+/// whether it was accepted. Fails if it is out of memory for a value that is put out.
 #[inline(always)]
 pub fn own_line_of_choice(
     machine: &mut Machine,
@@ -166,7 +166,7 @@ pub fn own_line_of_choice(
     }
 }
 
-/// Plays one choice as often as the run says, up to a refusal, which is answered.
+/// Plays one choice as often as the run says, up to a refusal. Returns the refused choice.
 fn play_run<W: Sink>(
     machine: &mut Machine,
     run: &Run,
@@ -192,8 +192,8 @@ fn play_run<W: Sink>(
     Ok(None)
 }
 
-/// Plays the runs in order and writes their lines, up to a choice that is refused, which is answered. It fails where a value
-/// that is put out finds no memory, and where the output has failed.
+/// Plays the runs in order and writes their lines, up to a choice that is refused. Returns that choice. Fails if it is out of
+/// memory for a value that is put out, or if the output has failed.
 pub(crate) fn play_runs<W: Sink>(
     machine: &mut Machine,
     runs: &[Run],

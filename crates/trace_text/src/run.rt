@@ -19,18 +19,18 @@ use thread_machine::Machine;
 /// How many bytes of a schedule are read at a time.
 const PIECE: usize = 4096;
 
-/// How many runs such a piece completes at most: one for every three bytes, and one that began before it.
+/// The most runs that such a piece completes: one for every three bytes, and one that began before it.
 const MOST_RUNS: usize = 1400;
 
-/// How often a schedule is read at most.
+/// The most times that a schedule is read.
 const MOST_READS: u64 = 1_000_000_000;
 
 /// Why a trace is not written, or is cut short.
 #[derive(Clone, Copy, Debug, PartialEq, Eq)]
 pub enum RunFault {
-    /// The image isn't loaded, for this fault, which isn't `Memory`.
+    /// The image can't be loaded. The fault is never `Memory`.
     Load(LoadFault),
-    /// The schedule has this fault, which isn't `Memory`.
+    /// The schedule has a fault, which is never `Memory`.
     Schedule(ScheduleFault),
     /// Out of memory.
     Memory,
@@ -41,7 +41,7 @@ pub enum RunFault {
 }
 
 impl RunFault {
-    /// What a run stops for whose choices can't be played on.
+    /// Returns the fault of a run whose choices can't be played further.
     fn of_play(fault: PlayFault) -> RunFault
         ensures { result ≡ played_fault fault }
     {
@@ -52,7 +52,7 @@ impl RunFault {
     }
 }
 
-/// What comes of a schedule whose reader told this: the choice that was refused so far, if one was.
+/// Returns the result for a schedule whose reader returned this: the choice that was refused so far, if one was.
 fn told_of(
     told: Result<(), ScheduleFault>,
     refused: Option<Refused>,
@@ -67,8 +67,8 @@ fn told_of(
     }
 }
 
-/// Plays the runs that a reader added to the list, unless a choice was refused before, and empties it; then answers the fault
-/// that the reader told, if it told one, else the choice that was refused so far.
+/// Plays the runs that a reader appended to the list, unless a choice was refused before, and empties the list. Then returns
+/// the reader's fault, if it returned one, and otherwise the choice that was refused so far.
 fn play_told<W: Sink>(
     machine: &mut Machine,
     refused: Option<Refused>,
@@ -96,7 +96,7 @@ fn play_told<W: Sink>(
     }
 }
 
-/// Plays a schedule to its end, and answers the choice that was refused, if one was.
+/// Plays a schedule to its end. Returns the choice that was refused, if one was.
 fn play_stream<S: Source, W: Sink>(
     machine: &mut Machine,
     schedule: &mut S,
@@ -134,10 +134,10 @@ fn play_stream<S: Source, W: Sink>(
     Err(RunFault::Read)
 }
 
-/// Plays an image's program under a schedule, writes the trace, and answers how the run has ended. The trace is a line for each
-/// choice as it is played, and then the state. The schedule is read a piece at a time; it is read to its end, and its first fault
-/// is answered, also where a choice was refused before. How much memory is taken doesn't depend on how long the schedule or the
-/// trace is.
+/// Plays an image's program under a schedule, writes the trace, and returns how the run has ended. The trace has a line for
+/// each choice, written when it is played, and then the state. The schedule is read piece by piece, always to its end, and its
+/// first fault is returned, even if a choice was refused before. The memory that this takes doesn't depend on the length of the
+/// schedule or of the trace.
 pub fn run_to_end<S: Source, W: Sink>(
     alloc: Global,
     image: Image,
@@ -166,8 +166,8 @@ pub fn run_to_end<S: Source, W: Sink>(
     }
 }
 
-/// Plays an image's program under a schedule and writes the trace, as `run_to_end` does, and fails where that does. How the run
-/// has ended is not answered.
+/// Plays an image's program under a schedule and writes the trace, like `run_to_end`, and fails if that does. It doesn't return
+/// how the run has ended.
 pub fn run_text<S: Source, W: Sink>(
     alloc: Global,
     image: Image,

@@ -14,7 +14,7 @@ use byte_ports::Sink;
 use std::alloc::Global;
 use thread_machine::{Choice, Machine, Standing, StepFault};
 
-/// The choice that was refused, which ended a run.
+/// The refused choice that ended a run.
 #[derive(Drop)]
 pub struct Refusal {
     /// Its line, with its LF: the last before the state.
@@ -28,13 +28,13 @@ pub struct Refusal {
 #[derive(Drop)]
 pub struct RunEnd {
     pub standing: Standing,
-    /// The text of the state, with which the trace ends.
+    /// The text of the state, the end of the trace.
     pub state: Vec<u8>,
     /// The choice that was refused, if one was.
     pub refused: Option<Refusal>,
 }
 
-/// The row at which a choice's thread stands, if there is such a thread.
+/// Returns the row that a choice's thread is at, if there is such a thread.
 fn row_of(machine: &Machine, choice: Choice) -> Option<u16>
     ensures { result ≡ row_of (world_of machine.now) choice }
 {
@@ -45,7 +45,7 @@ fn row_of(machine: &Machine, choice: Choice) -> Option<u16>
     }
 }
 
-/// What is told of a choice that this machine has refused.
+/// Returns what is reported of a choice that this machine has refused.
 fn told(machine: &Machine, refused: Refused) -> Refusal
     ensures { result ≡ told_as (world_of machine.now) refused }
 {
@@ -63,8 +63,8 @@ fn told(machine: &Machine, refused: Refused) -> Refusal
     }
 }
 
-/// Writes the text of a machine's state, and answers how its run has ended: with this choice refused, if one was. It fails
-/// where memory runs out or the output has failed.
+/// Writes the text of a machine's state, and returns how its run has ended. If a choice was refused, it is in the result. Fails
+/// if it is out of memory or if the output has failed.
 pub fn push_end<W: Sink>(
     alloc: Global,
     machine: &Machine,

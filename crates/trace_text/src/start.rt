@@ -1,4 +1,4 @@
-// How a machine is made of an image.
+// How an image becomes a machine.
 ghost use Rattle.std.specs.Prelude.{◌≡◌, ◌⊎◌, false, Err, IfOk};
 ghost use Rattle.thread_machine.specs.World.{first_world, world_of};
 ghost use Rattle.trace_text.specs.Start.{Begins, IsRefused, is_want_of_memory};
@@ -8,26 +8,26 @@ use row_code::Image;
 use std::alloc::{AllocError, Global};
 use thread_machine::Machine;
 
-/// How many effective steps a program may take.
+/// The most effective steps that a program may take.
 const MOST_STEPS: u32 = 1_000_000_000;
 
 /// Why an image has no machine.
 #[derive(Clone, Copy, Debug, PartialEq, Eq)]
 pub enum StartFault {
-    /// It isn't loaded, for this fault, which isn't `Memory`.
+    /// The image can't be loaded. The fault is never `Memory`.
     Load(LoadFault),
     /// Out of memory.
     Memory,
 }
 
-/// The machine of a loaded program, before its first choice. It fails where memory runs out.
+/// Returns the machine of a loaded program, before its first choice. Fails if it is out of memory.
 pub(super) fn begun(alloc: Global, program: Loaded) -> Result<Machine, AllocError>
     ensures { IfOk result (λ machine. world_of machine ≡ first_world program 1000000000) }
 {
     Machine::new(alloc, program, MOST_STEPS)
 }
 
-/// The machine of an image, before its first choice. It fails where the image isn't loaded, and where memory runs out.
+/// Returns the machine of an image before its first choice. Fails if the image can't be loaded, or if it is out of memory.
 pub fn first_machine(alloc: Global, image: Image) -> Result<Machine, StartFault>
     ensures machine { IfOk result (λ machine. Begins image (world_of machine)) }
     ensures load { (fault : LoadFault) → result ≡ Err (StartFault.Load fault)

@@ -122,7 +122,7 @@ fn add_thread_place(text: &mut Vec<u8>, machine: &Machine, thread: u8) -> Result
     text.extend_from_slice(b" ")
 }
 
-/// What follows, up to its registers: its status, and whether it was interrupted.
+/// Appends what follows, up to the registers: the thread's status, and whether it is interrupted.
 fn add_thread_status(text: &mut Vec<u8>, machine: &Machine, thread: u8) -> Result<(), AllocError>
     requires { thread < length machine.now.scene.threads }
     ensures { let state = thread_at (scene_of machine.now.scene) thread in OnOk result
@@ -240,7 +240,7 @@ fn add_barriers(text: &mut Vec<u8>, machine: &Machine) -> Result<(), AllocError>
     Ok(())
 }
 
-/// Appends the line of a cell, none where it is 0.
+/// Appends the line of a cell, or nothing if the cell is 0.
 fn add_cell(text: &mut Vec<u8>, number: usize, value: i32) -> Result<(), AllocError>
     ensures { OnOk result (text.new.items ≡ text.old.items ++ cell_text number value) }
 {
@@ -275,7 +275,8 @@ fn add_objects(text: &mut Vec<u8>, machine: &Machine) -> Result<(), AllocError>
     add_cells(text, machine.cells())
 }
 
-/// The text of a machine's state, which ends a trace. A comparison reads each of its lines. It fails where memory runs out.
+/// Returns the text of a machine's state, which ends a trace. A comparison reads each of its lines. Fails if it is out of
+/// memory.
 pub fn state_text(alloc: Global, machine: &Machine) -> Result<Vec<u8>, AllocError>
     ensures text { IfOk result (λ text. text.items ≡ state_text (world_of machine.now)) }
     ensures lines { OnOk result (HasNoLongLine (state_text (world_of machine.now))) }

@@ -5,7 +5,7 @@ ghost use Rattle.trace_text.specs.ExpectedLine.{begins, begins_whole, ends_a_lis
 
 use line_reader::words::length_before;
 
-/// Whether a word ends where this follows it.
+/// Returns whether a word ends if this follows it.
 fn ends_a_word(rest: &[u8]) -> bool
     ensures { result ≡ ends_a_word rest.now }
 {
@@ -15,14 +15,14 @@ fn ends_a_word(rest: &[u8]) -> bool
     }
 }
 
-/// Whether a text begins with these words.
+/// Returns whether a text begins with these words.
 fn begins(words: &[u8], text: &[u8]) -> bool
     ensures { result ≡ begins words.now text.now }
 {
     text.starts_with(words) && ends_a_word(&text[words.len()..])
 }
 
-/// Whether these words, with the blank before them, stand in a line, in a row.
+/// Returns whether a line has these words in a row, with the blank before them.
 fn has_words(words: &[u8], line: &[u8]) -> bool
     ensures { result ≡ has_words words.now line.now }
 {
@@ -36,28 +36,29 @@ fn has_words(words: &[u8], line: &[u8]) -> bool
     false
 }
 
-/// Whether a list begins among these words, as in the line of a thread: its registers, its stack, or what it put out.
+/// Returns whether a list begins among these words, as in the line of a thread: its registers, its stack, or its output.
 fn names_a_list(words: &[u8]) -> bool
     ensures { result ≡ names_a_list words.now }
 {
     has_words(b" regs", words) || has_words(b" stack", words) || has_words(b" out", words)
 }
 
-/// Whether such a list ends where this follows it.
+/// Returns whether such a list ends if this follows it.
 fn ends_a_list(rest: &[u8]) -> bool
     ensures { result ≡ ends_a_list rest.now }
 {
     rest.is_empty() || begins(b" stack", rest) || begins(b" out", rest)
 }
 
-/// Whether a text begins with these words, and where a list is among them with the whole of it.
+/// Returns whether a text begins with these words; if a list is among them, with the whole list.
 fn begins_whole(words: &[u8], text: &[u8]) -> bool
     ensures { result ≡ begins_whole words.now text.now }
 {
     begins(words, text) && (!names_a_list(words) || ends_a_list(&text[words.len()..]))
 }
 
-/// Whether these words, with the blank before them, stand in a line, in a row, and where a list is among them the whole of it.
+/// Returns whether a line has these words in a row, with the blank before them. If a list is among them, it has to be the whole
+/// list.
 pub fn has_whole(words: &[u8], line: &[u8]) -> bool
     ensures { result ≡ has_whole words.now line.now }
 {
@@ -78,7 +79,7 @@ fn first_line(text: &[u8]) -> &[u8]
     &text[..length_before(b'\n', text)]
 }
 
-/// The first line behind a line end that begins with this word.
+/// Returns the first line after a line end that begins with this word.
 fn later_line<'a>(subject: &[u8], text: &'a [u8]) -> Option<&'a [u8]>
     ensures { option_map (λ (line : Bor (List ℕ)). line.now) result ≡ later_line subject.now text.now }
 {
@@ -93,7 +94,7 @@ fn later_line<'a>(subject: &[u8], text: &'a [u8]) -> Option<&'a [u8]>
     None
 }
 
-/// The line of a state that begins with this word, without its LF; `None` where there is none.
+/// Returns the line of a state that begins with this word, without its LF, or `None` if there is none.
 pub fn line_of<'a>(state: &'a [u8], subject: &[u8]) -> Option<&'a [u8]>
     ensures { option_map (λ (line : Bor (List ℕ)). line.now) result ≡ line_of state.now subject.now }
 {
@@ -104,7 +105,7 @@ pub fn line_of<'a>(state: &'a [u8], subject: &[u8]) -> Option<&'a [u8]>
     }
 }
 
-/// Whether some thread of a state has died.
+/// Returns whether some thread of a state has died.
 pub fn has_died(state: &[u8]) -> bool
     ensures { result ≡ has_died state.now }
 {

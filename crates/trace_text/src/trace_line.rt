@@ -7,7 +7,7 @@ use crate::next_choice::rest_of;
 use line_reader::words::length_before;
 use thread_machine::Choice;
 
-/// A turn of this thread, or the expiry of its wait; `None` where there can't be such a thread.
+/// Returns a turn of this thread, or the expiry of its wait, or `None` if there can't be such a thread.
 fn choice_by(expiry: bool, are_digits: bool, thread: u16) -> Option<Choice>
     ensures { result ≡ choice_by expiry are_digits thread }
 {
@@ -51,7 +51,7 @@ fn choice_named(name: &[u8]) -> Option<Choice>
     }
 }
 
-/// What stands before the first space.
+/// Returns what precedes the first space.
 fn first_word(line: &[u8]) -> &[u8]
     ensures { result.now ≡ before_first is_space line.now }
 {
@@ -65,7 +65,7 @@ fn place_of_no_digit(line: &[u8]) -> Option<usize>
     line.iter().position(|byte| !byte.is_ascii_digit())
 }
 
-/// How many digits a line begins with.
+/// Returns how many digits a line begins with.
 #[tactic(auto, using(line_reader::proofs::Places::position_some, line_reader::proofs::Places::position_none))]
 fn digits_before(line: &[u8]) -> usize
     ensures { result ≡ position_or_len is_no_digit line.now }
@@ -76,7 +76,8 @@ fn digits_before(line: &[u8]) -> usize
     }
 }
 
-/// The choice that a trace's line names. Its number is looked at once: what stands behind the digits is its end, or it is none.
+/// Returns the choice that a trace's line names. It looks at the number only once: what follows the digits is the end of the
+/// line's name, or the line names nothing.
 pub fn choice_in(line: &[u8]) -> Option<Choice>
     ensures { result ≡ choice_in line.now }
 {
@@ -87,7 +88,7 @@ pub fn choice_in(line: &[u8]) -> Option<Choice>
     choice_named(first_word(rest_of(line, end + 1)))
 }
 
-/// Whether the first word of a line is `state`.
+/// Returns whether the first word of a line is `state`.
 pub fn is_state_line(line: &[u8]) -> bool
     ensures { result ≡ is_state_line line.now }
 {

@@ -19,7 +19,7 @@ use row_code::{
     DeclaredBarrier, DeclaredPhaser, DeclaredPolicy, DeclaredThread, Operands, row_with,
 };
 
-/// The parent of a phaser, where there is one; nothing where its name is not known.
+/// Returns the parent of a phaser, if it has one, or nothing if its name isn't known.
 fn parent_of<'a>(draft: &Draft<'a>, parent: &Option<Reference<&'a [u8]>>) -> Option<Option<u8>>
     requires { let parent = option_map reference_seen parent.now in
         IfSome (option_map (referent_or_0 draft.now kind.Phaser) parent) (λ n. n < 64) }
@@ -36,7 +36,7 @@ fn parent_of<'a>(draft: &Draft<'a>, parent: &Option<Reference<&'a [u8]>>) -> Opt
     }
 }
 
-/// The policy of a phaser; nothing where the name of its routine is not known.
+/// Returns the policy of a phaser, or nothing if the name of its routine isn't known.
 fn policy_of<'a>(draft: &Draft<'a>, policy: &SymbolicPolicy<&'a [u8]>) -> Option<DeclaredPolicy>
     ensures { result ≡ (if is_policy_known draft.now (policy_seen policy.now)
         then Some (policy_of draft.now (policy_seen policy.now)) else None) }
@@ -52,7 +52,7 @@ fn policy_of<'a>(draft: &Draft<'a>, policy: &SymbolicPolicy<&'a [u8]>) -> Option
     }
 }
 
-/// A phaser; nothing where a name is not known.
+/// Returns a phaser, or `None` if a name isn't known.
 pub fn phaser_of<'a>(draft: &Draft<'a>, phaser: &SymbolicPhaser<&'a [u8]>) -> Option<DeclaredPhaser>
     requires { IsPhaser (phaser_of draft.now (phaser_seen phaser.now)) }
     ensures { result ≡ (if are_known draft.now (statement.Phaser (phaser_seen phaser.now))
@@ -68,7 +68,7 @@ pub fn phaser_of<'a>(draft: &Draft<'a>, phaser: &SymbolicPhaser<&'a [u8]>) -> Op
     })
 }
 
-/// A barrier; nothing where the name of its action is not known.
+/// Returns a barrier, or `None` if the name of its action isn't known.
 pub fn barrier_of<'a>(
     draft: &Draft<'a>,
     barrier: &SymbolicBarrier<&'a [u8]>,
@@ -86,7 +86,7 @@ pub fn barrier_of<'a>(
     })
 }
 
-/// A thread; nothing where the name of its first row is not known.
+/// Returns a thread, or `None` if the name of its first row isn't known.
 pub fn thread_of<'a>(draft: &Draft<'a>, thread: &SymbolicThread<&'a [u8]>) -> Option<DeclaredThread>
     ensures { result ≡ (if are_known draft.now (statement.Thread (thread_seen thread.now))
         then Some (thread_of draft.now (thread_seen thread.now)) else None) }
@@ -95,7 +95,7 @@ pub fn thread_of<'a>(draft: &Draft<'a>, thread: &SymbolicThread<&'a [u8]>) -> Op
     Some(DeclaredThread { first_row })
 }
 
-/// One more operand of a row before these; nothing where its name is not known.
+/// Puts one more operand of a row before these, or returns nothing if its name isn't known.
 #[inline(always)]
 fn with_operand<'a>(
     draft: &Draft<'a>,
@@ -129,7 +129,7 @@ fn with_operand<'a>(
     }
 }
 
-/// The operands of a row's last two places, which most rows leave empty; nothing where a name is not known.
+/// Returns the operands of a row's last two places, which most rows leave empty, or nothing if a name isn't known.
 #[inline(always)]
 fn last_operands<'a>(draft: &Draft<'a>, row: &KeptRow<'a>) -> Option<Operands>
     ensures { let last = operand_kept row.now.held row.now.third
@@ -151,7 +151,7 @@ fn last_operands<'a>(draft: &Draft<'a>, row: &KeptRow<'a>) -> Option<Operands>
     with_operand(draft, &row.held, row.third, operands)
 }
 
-/// A row; nothing where a name is not known.
+/// Returns a row, or `None` if a name isn't known.
 #[inline(always)]
 pub fn row_of<'a>(draft: &Draft<'a>, row: &KeptRow<'a>) -> Option<Row>
     ensures { result

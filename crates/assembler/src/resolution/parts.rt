@@ -16,7 +16,7 @@ use row_code::{
 use std::alloc::{AllocError, Global};
 use std::marker::Model;
 
-/// What the lines so far add to an image, as an image that need not be within its limits.
+/// What the lines so far add to an image. It need not be within the limits of an image.
 #[derive(Drop)]
 pub struct Parts {
     phasers: Vec<DeclaredPhaser>,
@@ -63,8 +63,7 @@ impl Parts {
         }
     }
 
-    /// Adds what a line adds to an image, where each name that it refers to is known, and
-    /// tells whether this is so.
+    /// Adds what a line adds to an image, if each name that it refers to is known. Returns whether this is so.
     pub fn add<'a>(&mut self, draft: &Draft<'a>, line: &KeptLine<'a>) -> Result<bool, AllocError>
         requires { AllByRecursion IsPhaser (phasers_in draft.now (statement_kept line.now)) }
         ensures known { IfOk result (λ known. known

@@ -6,11 +6,10 @@ ghost use Rattle.cyclic_barrier.specs.Barrier.{arrive, arrive_last, add_wait};
 use super::Barrier;
 use crate::answer::Entered;
 
-/// A thread comes to the barrier, and runs its action where it is the last.
+/// A thread comes to the barrier, and runs its action if it is the last.
 impl Barrier {
-    /// Java's `await`, up to where it would wait: the thread arrives, or is told why not. The
-    /// second argument is its interrupted status, which the caller clears where the answer is
-    /// `Interrupted`.
+    /// `await`, up to where it would wait. The thread arrives, or the result says why not. `interrupted` is its interrupted
+    /// status, which the caller clears if the result is `Interrupted`.
     pub fn enter(&mut self, thread: u8, interrupted: bool) -> Entered
         requires thread { thread < 64 }
         requires no_wait { wait_at self.old.waits thread ≡ None }
@@ -20,8 +19,8 @@ impl Barrier {
         self.enter_timed(thread, interrupted, false)
     }
 
-    /// Java's `await` with a time, up to where it would wait. The third argument says that no time
-    /// is left: then a thread that would wait breaks the barrier, and is told `TimedOut`.
+    /// `await` with a time, up to where it would wait. `no_wait` says that no time is left: then a thread that would wait
+    /// breaks the barrier, and the result is `TimedOut`.
     pub fn enter_timed(&mut self, thread: u8, interrupted: bool, no_wait: bool) -> Entered
         requires thread { thread < 64 }
         requires no_wait { wait_at self.old.waits thread ≡ None }

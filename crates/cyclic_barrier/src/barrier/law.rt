@@ -6,11 +6,11 @@ ghost use Rattle.cyclic_barrier.specs.WhoWaits.{TellsWhoWaits};
 
 use super::Barrier;
 
-/// What is true of every barrier, so that no caller has to keep it.
+/// What is true of every barrier, so that no caller has to ensure it.
 pub fn each_barrier_is_sound(barrier: &Barrier)
     ensures { IsBarrier barrier.now }
 {
-    // The invariant is known where a field is read.
+    // Reading a field shows the invariant.
     let _parties = barrier.parties;
 }
 
@@ -27,7 +27,7 @@ pub fn calls_agree_with_the_past()
     ensures { (b : BarrierState) → IsBarrier b → FollowsPast b }
 {}
 
-/// Who has a wait after each call, and who runs the action after an entry.
+/// Which threads have a wait after each call, and which thread runs the action after an entry.
 pub fn calls_tell_who_waits()
     ensures { (b : BarrierState) → IsBarrier b → TellsWhoWaits b }
 {}

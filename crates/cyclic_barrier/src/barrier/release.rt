@@ -5,7 +5,7 @@ use super::Barrier;
 
 /// The generation under way ends, and all who wait are released.
 impl Barrier {
-    /// Java's `reset`: who waits is released as by a breakage, and the barrier is whole again.
+    /// `reset`: the waiting threads are released as if the barrier broke, and it is no longer broken.
     pub fn reset(&mut self)
         requires { self.old.runner ≡ None }
         ensures { self.new ≡ reset self.old }
@@ -14,7 +14,7 @@ impl Barrier {
         self.broken = false;
     }
 
-    /// The generation ends as it should.
+    /// The generation ends without a breakage.
     pub(super) fn trip(&mut self)
         requires { self.old.runner ≡ None }
         ensures { self.new ≡ trip self.old }

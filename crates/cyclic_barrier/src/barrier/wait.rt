@@ -6,9 +6,9 @@ ghost use Rattle.cyclic_barrier.specs.Barrier.{leave, interrupt, expire};
 use super::Barrier;
 use crate::answer::WaitState;
 
-/// A thread that waits asks what its wait has come to, and ends it.
+/// A waiting thread asks for the state of its wait, and ends the wait.
 impl Barrier {
-    /// What the thread's wait has come to.
+    /// Returns the state of the thread's wait.
     pub fn look(&self, thread: u8) -> WaitState
         requires thread { thread < 64 }
         requires wait { wait_at self.now.waits thread ≢ None }
@@ -20,8 +20,7 @@ impl Barrier {
         }
     }
 
-    /// A released thread takes what its wait has come to, and the wait is over. Without a wait
-    /// nothing changes.
+    /// A released thread ends its wait. Without a wait nothing changes.
     pub fn leave(&mut self, thread: u8)
         requires thread { thread < 64 }
         requires released { wait_at self.old.waits thread ≢ Some Waiting }
@@ -30,8 +29,7 @@ impl Barrier {
         self.waits.end(thread);
     }
 
-    /// A thread is interrupted while it waits: the barrier breaks, and the thread's wait is over,
-    /// as after `leave`.
+    /// A thread is interrupted while it waits: the barrier breaks, and the thread's wait ends, as after `leave`.
     pub fn interrupt(&mut self, thread: u8)
         requires thread { thread < 64 }
         requires waiting { wait_at self.old.waits thread ≡ Some Waiting }
@@ -42,8 +40,8 @@ impl Barrier {
         self.leave(thread);
     }
 
-    /// A thread's time is over while it waits (`TimeoutException`): the barrier breaks and the wait
-    /// is over, as by an interrupt.
+    /// A thread's time is over while it waits (`TimeoutException`): the barrier breaks and the wait ends, as after an
+    /// interrupt.
     pub fn expire(&mut self, thread: u8)
         requires thread { thread < 64 }
         requires waiting { wait_at self.old.waits thread ≡ Some Waiting }

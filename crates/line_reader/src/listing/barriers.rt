@@ -30,7 +30,7 @@ fn push_barrier(text: &mut Vec<u8>, n: u64, barrier: DeclaredBarrier) -> Result<
     text.extend_from_slice(b"\n")
 }
 
-/// Appends a line for each barrier, in order. It fails where no memory is left.
+/// Appends a line for each barrier, in order. Fails if it is out of memory.
 #[tactic(auto, using(crate::proofs::ListedTexts::text_steps))]
 pub(crate) fn push_barriers(
     text: &mut Vec<u8>,

@@ -50,7 +50,7 @@ fn push_phaser(text: &mut Vec<u8>, n: u64, phaser: DeclaredPhaser) -> Result<(),
     text.extend_from_slice(b"\n")
 }
 
-/// Appends a line for each phaser, in order. It fails where no memory is left.
+/// Appends a line for each phaser, in order. Fails if it is out of memory.
 #[tactic(auto, using(crate::proofs::ListedTexts::text_steps))]
 pub(crate) fn push_phasers(text: &mut Vec<u8>, phasers: &[DeclaredPhaser]) -> Result<(), AllocError>
     ensures { OnOk result (text.new.items

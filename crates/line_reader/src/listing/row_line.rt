@@ -1,4 +1,4 @@
-// A row's line, before it is pushed.
+// The line of a row, before it is appended.
 ghost use Rattle.std.specs.Prelude.{◌≡◌, ◌+◌, ◌≤◌, ◌++◌, [], length};
 ghost use Rattle.std.specs.Fmt.{signed_decimal};
 
@@ -8,7 +8,7 @@ use std::marker::Model;
 /// How long a row's line can be: a word, four operands of at most 13 bytes, and the line's end.
 const ROOM: usize = 64;
 
-/// A row's line as far as it is put together, in a room of fixed size: so it is pushed to the text in one piece.
+/// The part of a row's line that is ready, in a buffer of fixed size, so that the line is appended in one piece.
 #[derive(Drop)]
 pub struct RowLine {
     bytes: [u8; ROOM],
@@ -26,7 +26,7 @@ impl Model for RowLine {
 }
 
 impl RowLine {
-    /// A line of which nothing is there.
+    /// Returns an empty line.
     pub fn new() -> RowLine
         ensures { result ≡ [] }
     {
@@ -36,14 +36,14 @@ impl RowLine {
         }
     }
 
-    /// What is there.
+    /// Returns what is in the line.
     pub fn as_slice(&self) -> &[u8]
         ensures { result.now ≡ self.now }
     {
         &self.bytes[..self.len]
     }
 
-    /// Puts a word behind it.
+    /// Appends a word.
     #[inline(always)]
     pub fn put_word(&mut self, word: &[u8])
         requires { length self.old + length word.now ≤ 64 }
@@ -55,7 +55,7 @@ impl RowLine {
         self.len = end;
     }
 
-    /// Puts a word and a number behind it. Most numbers have one digit.
+    /// Appends a word and a number. Most numbers have one digit.
     #[inline(always)]
     #[tactic(auto, using(crate::proofs::OneDigit::digit_steps))]
     pub fn put_value(&mut self, word: &[u8], value: i32)

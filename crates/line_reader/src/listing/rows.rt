@@ -37,7 +37,7 @@ fn put_operands(line: &mut RowLine, kinds: &[OperandKind], registers: &[u8], imm
     }
 }
 
-/// The line of a row, as it stands in the canonical text of every image that has the row.
+/// Appends the line of a row, as the canonical text of every image with this row has it.
 #[inline(always)]
 #[tactic(auto, using(crate::proofs::ListedTexts::option_steps))]
 pub fn push_row(text: &mut Vec<u8>, row: Row) -> Result<(), AllocError>
@@ -54,7 +54,7 @@ pub fn push_row(text: &mut Vec<u8>, row: Row) -> Result<(), AllocError>
     text.extend_from_slice(line.as_slice())
 }
 
-/// Appends a line for each row, in order. It fails where no memory is left.
+/// Appends a line for each row, in order. Fails if it is out of memory.
 #[tactic(auto, using(crate::proofs::ListedTexts::text_steps))]
 pub(crate) fn push_rows(text: &mut Vec<u8>, rows: &[Row]) -> Result<(), AllocError>
     ensures text { OnOk result (text.new.items

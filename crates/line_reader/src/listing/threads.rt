@@ -18,7 +18,7 @@ fn push_thread(text: &mut Vec<u8>, n: u64, thread: DeclaredThread) -> Result<(),
     text.extend_from_slice(b"\n")
 }
 
-/// Appends a line for each thread, in order. It fails where no memory is left.
+/// Appends a line for each thread, in order. Fails if it is out of memory.
 #[tactic(auto, using(crate::proofs::ListedTexts::text_steps))]
 pub(crate) fn push_threads(text: &mut Vec<u8>, threads: &[DeclaredThread]) -> Result<(), AllocError>
     ensures text { OnOk result (text.new.items

@@ -14,7 +14,7 @@ use row_code::Image;
 use std::alloc::{AllocError, Global};
 use tier_tree::Forest;
 
-/// How many there are of each thing in the image.
+/// Returns how many objects of each kind the image has.
 fn counts_in(image: &Image) -> Counts
     ensures { result ≡ counts_in image.now }
 {
@@ -77,11 +77,10 @@ fn entry_rows(alloc: Global, image: &Image) -> Result<(Vec<u16>, Vec<u16>), Allo
     Ok((routines, actions))
 }
 
-/// Checks the image and makes the program that it declares. There must be a thread; then the phasers
-/// are checked and declared in their order, a routine's row before its phaser; then the barriers are
-/// checked and made; then the threads' rows and what each row names are looked for; and last the last
-/// row must be one from which no thread goes on. The first fault is answered. `Memory` comes where
-/// the growth is refused.
+/// Checks the image, and makes the program that it declares. The checks come in this order: there is a thread; each phaser's
+/// routine exists, and then the phaser can be declared; each barrier's action exists, and then the barrier can be made; each
+/// thread's first row exists; everything that a row names exists; and no thread goes on after the last row. The first fault is
+/// returned. `Memory` comes at the place where memory runs out.
 pub fn load(alloc: Global, image: Image) -> Result<Loaded, LoadFault>
     ensures fault { IfErr result (λ fault. fault ≢ LoadFault.Memory
         → first_fault image ≡ Some fault) }

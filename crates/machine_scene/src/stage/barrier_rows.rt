@@ -51,7 +51,7 @@ impl Stage {
         }
     }
 
-    /// Whether the thread runs the barrier's action.
+    /// Returns whether the thread runs the barrier's action.
     fn is_runner(&self, barrier: u16, t: usize) -> bool
         requires there { barrier < length self.now.barriers }
         ensures { result ≡ is_run_by t (barrier_at (scene_of self.now) barrier).runner }

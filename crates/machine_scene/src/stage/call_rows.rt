@@ -70,7 +70,7 @@ impl Stage {
         }
     }
 
-    /// An advance routine has answered: its thread goes back to its arrival, with the registers of before.
+    /// A routine has returned: its thread goes back to its arrival, with the registers of that moment.
     fn end_routine(
         &mut self,
         program: &Loaded,

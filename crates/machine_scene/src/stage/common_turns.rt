@@ -15,11 +15,11 @@ use instruction_table::Row;
 use loader::Loaded;
 use thread_state::{Event, Status};
 
-/// Turns of the kinds that most turns of most programs are of: rows on registers alone, arrivals of parties that stay, and the
-/// ends of waits for phases.
+/// The turns that are most frequent in most programs: rows that use only registers, arrivals of parties that stay, and the ends
+/// of waits for phases.
 impl Stage {
-    /// `turn`, where it is of such a kind: it is played where it is asked for. `None` where `turn` has to look, and nothing has
-    /// changed.
+    /// Plays `turn` if it is one of these turns. Returns `None` if it isn't; then nothing has changed, and the caller plays
+    /// `turn`.
     #[inline(always)]
     pub fn common_turn(&mut self, program: &Loaded, t: usize) -> Option<Event>
         requires sound { IsSound program.now most_before (scene_of self.old) }
@@ -42,7 +42,7 @@ impl Stage {
         }
     }
 
-    /// What the thread is doing decides.
+    /// Decides by what the thread is doing.
     #[inline(always)]
     fn common_by_status(&mut self, program: &Loaded, row: Row, t: usize) -> Option<Event>
         requires at { StandsAt program.now row t self.old }

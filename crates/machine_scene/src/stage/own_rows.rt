@@ -23,7 +23,7 @@ impl Stage {
         alone(self.threads[t].local_row(row))
     }
 
-    /// The rows of their group: beside them there is only `halt`.
+    /// The rows of this group. The only other row of it is `halt`.
     pub(super) fn own_row(&mut self, row: Row, t: usize) -> Event
         requires ready { is_some (outcome_of_own_row row t (scene_of self.old)) ≡ true }
         requires plays { CanPlay t self.old }

@@ -47,7 +47,7 @@ fn wait_with(thread: &mut Thread, patience: Patience, phase: i32) -> What
     }
 }
 
-/// A thread asks to wait for the end of a phase, and is told the view.
+/// A thread asks to wait for the end of a phase, and gets the view.
 fn await_phase(thread: &mut Thread, patience: Patience, into: Reg, phase: i32, view: i32) -> What
     requires { thread.old.pc < 65535 }
     ensures { record { thread = thread.new; what = result }
@@ -62,7 +62,7 @@ fn await_phase(thread: &mut Thread, patience: Patience, into: Reg, phase: i32, v
     wait_with(thread, patience, phase)
 }
 
-/// A counted arrival waits for the phase's end, or answers its phase.
+/// A counted arrival waits for the end of the phase, or returns its phase.
 fn wait_or_answer(thread: &mut Thread, manner: Manner, phase: i32) -> What
     requires { thread.old.pc < 65535 }
     ensures { record { thread = thread.new; what = result } ≡ turn_of_arrival manner phase thread.old }
@@ -121,7 +121,7 @@ impl Stage {
         }
     }
 
-    /// Whether the thread runs the advance routine of this phaser's tree.
+    /// Returns whether the thread runs the routine of this phaser's tree.
     pub(super) fn is_own_tree(&self, phaser: u16, t: usize) -> bool
         requires phaser { phaser < length self.now.phasers }
         requires thread { t < length self.now.threads }
@@ -216,8 +216,8 @@ impl Stage {
         }
     }
 
-    /// The exception of an arrival that doesn't come to the phaser. With an empty stack a thread runs no routine, and has room
-    /// for one.
+    /// Returns the exception of an arrival that doesn't reach the phaser. With an empty stack a thread runs no routine, and has
+    /// room for one.
     #[inline(always)]
     #[tactic(auto, using(crate::proofs::Arrivals::free))]
     fn refusal(&self, phaser: u16, t: usize) -> Option<i32>
@@ -248,7 +248,7 @@ impl Stage {
         }
     }
 
-    /// Whether the phaser's tree has an advance routine.
+    /// Returns whether the phaser's tree has a routine.
     fn has_routine(&self, phaser: u16) -> bool
         requires phaser { phaser < length self.now.phasers }
         ensures { result ≡ has_routine phaser (scene_of self.now) }
@@ -282,7 +282,7 @@ impl Stage {
         }
     }
 
-    /// The phase end of a root is pending: its policy answers, or its routine is entered.
+    /// The end of a root's phase is pending: its policy returns a result, or its routine is entered.
     #[inline(always)]
     #[tactic(auto, using(tier_tree::proofs::Changed::changed_nothing))]
     fn pending_end(
@@ -322,7 +322,7 @@ impl Stage {
         }
     }
 
-    /// The pending phase end of a root comes, and the arrival that was the last has its answer.
+    /// Ends the pending phase of a root. The last arrival gets its result.
     #[inline(always)]
     pub(super) fn end_phase(
         &mut self,
@@ -347,7 +347,7 @@ impl Stage {
         self.answer_last(manner, root, phase, t)
     }
 
-    /// The last arrival's answer and the step's mark, behind the phase end.
+    /// Gives the last arrival its result after the end of the phase, and the step its mark.
     #[inline(always)]
     fn answer_last(&mut self, manner: Manner, root: PhaserId, phase: i32, t: usize) -> Event
         requires there { root.0 < length self.old.phasers }

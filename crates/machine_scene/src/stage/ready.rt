@@ -15,7 +15,7 @@ use instruction_table::Row;
 use thread_state::Status;
 use tier_tree::Registered;
 
-/// Whether there are threads that have to wait before they play the row.
+/// Returns whether some threads have to wait before they play the row.
 #[inline(always)]
 pub(super) fn may_be_blocked(row: Row) -> bool
     ensures { result ≡ may_be_blocked row }
@@ -34,7 +34,7 @@ pub(super) fn may_be_blocked(row: Row) -> bool
 
 /// Which rows can be played, and which waits can end.
 impl Stage {
-    /// Whether a running thread has to wait before it plays the row.
+    /// Returns whether a running thread has to wait before it plays the row.
     #[inline(always)]
     pub(super) fn is_blocked(&self, row: Row, t: usize) -> bool
         requires named { IsNamed (counts_in self.now) row }
@@ -57,7 +57,7 @@ impl Stage {
         }
     }
 
-    /// Whether a registration would wait for the phase's end.
+    /// Returns whether a registration would wait for the end of the phase.
     #[inline(never)]
     fn is_held(&self, phaser: u16, count: i32, t: usize) -> bool
         requires phaser { phaser < length self.now.phasers }
@@ -73,7 +73,7 @@ impl Stage {
         matches!(answer, Registered::Held)
     }
 
-    /// Whether another thread runs the barrier's action.
+    /// Returns whether another thread runs the barrier's action.
     fn is_busy(&self, barrier: u16, t: usize) -> bool
         requires there { barrier < length self.now.barriers }
         ensures { result ≡ is_run_by_another t (barrier_at (scene_of self.now) barrier).runner }
@@ -84,7 +84,7 @@ impl Stage {
         }
     }
 
-    /// Whether a wait for a phase can end.
+    /// Returns whether a wait for a phase can end.
     #[inline(always)]
     pub(super) fn is_phase_wait_over(&self, row: Row, phase: i32, t: usize) -> bool
         requires named { IsNamed (counts_in self.now) row }
@@ -99,7 +99,7 @@ impl Stage {
         }
     }
 
-    /// Whether a wait at a barrier can end.
+    /// Returns whether a wait at a barrier can end.
     #[inline(always)]
     pub(super) fn is_barrier_wait_over(&self, row: Row, t: usize) -> bool
         requires named { IsNamed (counts_in self.now) row }
@@ -115,7 +115,7 @@ impl Stage {
         }
     }
 
-    /// Whether the thread's wait at the barrier was released, or an interruption ends it.
+    /// Returns whether the thread's wait at the barrier was released, or an interrupt ends it.
     #[inline(always)]
     fn is_released(&self, barrier: u16, t: usize) -> bool
         requires there { barrier < length self.now.barriers }
@@ -132,7 +132,7 @@ impl Stage {
         }
     }
 
-    /// Whether the time of the thread's wait may run out, its turn aside.
+    /// Returns whether the thread's timed wait can expire, if its turn isn't ready.
     pub(super) fn has_time(&self, row: Row, t: usize) -> bool
         requires named { IsNamed (counts_in self.now) row }
         requires thread { t < length self.now.threads }

@@ -14,7 +14,7 @@ use instruction_table::{Row, is_local};
 use loader::Loaded;
 use thread_state::{Event, Mark, Status, What};
 
-/// Whether a thread is in the set: bit n is thread n.
+/// Returns whether a thread is in the set: bit n is thread n.
 #[inline(always)]
 pub(super) fn is_in(set: u64, thread: usize) -> bool
     requires { thread < 64 }
@@ -51,7 +51,7 @@ fn set_at(set: u64, thread: usize, within: bool) -> u64
     }
 }
 
-/// Whether the row is a registration.
+/// Returns whether the row is a registration.
 #[inline(always)]
 fn is_registration(row: Row) -> bool
     ensures { result ≡ is_registration row }
@@ -59,7 +59,7 @@ fn is_registration(row: Row) -> bool
     matches!(row, Row::Preg { .. } | Row::Pbulk { .. })
 }
 
-/// Whether the row may change a tree.
+/// Returns whether the row may change a tree.
 #[inline(always)]
 fn changes_tree(row: Row) -> bool
     ensures { result ≡ changes_tree row }
@@ -76,7 +76,7 @@ fn changes_tree(row: Row) -> bool
     }
 }
 
-/// Whether the event shows more than a turn of its own thread, or that a routine or an action begins.
+/// Returns whether the event shows more than a turn of its own thread, or that a routine or an action begins.
 #[inline(always)]
 fn is_loud(event: Event) -> bool
     ensures { result ≡ is_loud event }
@@ -84,7 +84,7 @@ fn is_loud(event: Event) -> bool
     !matches!(event.mark, Mark::Nothing) || matches!(event.what, What::Enters)
 }
 
-/// Whether a step at this row, with this event, may have changed whose turn is ready among all threads.
+/// Returns whether a step at this row, with this event, may have changed for any thread whether its turn is ready.
 #[inline(always)]
 fn changes_all(row: Row, event: Event) -> bool
     ensures { result ≡ changes_all row event }
@@ -97,7 +97,7 @@ fn changes_all(row: Row, event: Event) -> bool
 
 /// Whose turn is ready.
 impl Stage {
-    /// Whether the thread runs and its row is one on registers alone.
+    /// Returns whether the thread runs and its row uses only registers.
     #[inline(always)]
     pub(super) fn is_local_turn(&self, row: Row, t: usize) -> bool
         requires { t < length self.now.threads }
@@ -106,7 +106,7 @@ impl Stage {
         is_local(row) && matches!(self.threads[t].status(), Status::Runs)
     }
 
-    /// The row at which a thread stands, after a step as before one.
+    /// Returns the row that a thread is at, after a step as before one.
     #[inline(always)]
     fn place(&self, program: &Loaded, t: usize) -> Row
         requires sound { IsSound program.now most_after (scene_of self.now) }
@@ -119,7 +119,7 @@ impl Stage {
         row
     }
 
-    /// Whether a thread may take a step, by a look at what it does.
+    /// Returns whether a thread can take a step, by looking at what it does.
     #[inline(always)]
     #[tactic(auto, using(crate::proofs::Readiness::row_is_ready))]
     fn goes_on(&self, program: &Loaded, t: usize) -> bool
@@ -137,7 +137,7 @@ impl Stage {
         }
     }
 
-    /// Whether a thread is about to register.
+    /// Returns whether a thread is about to register.
     #[inline(always)]
     fn is_registering(&self, program: &Loaded, t: usize) -> bool
         requires sound { IsSound program.now most_after (scene_of self.now) }
@@ -193,7 +193,7 @@ impl Stage {
         self.ready = self.looked_closely(program, self.ready, t);
     }
 
-    /// Whether a thread runs, and its row is none that it may have to wait at.
+    /// Returns whether a thread runs, and its row is none that it may have to wait at.
     #[inline(always)]
     fn runs_on(&self, program: &Loaded, t: usize) -> bool
         requires sound { IsSound program.now most_after (scene_of self.now) }
@@ -289,7 +289,7 @@ impl Stage {
         }
     }
 
-    /// The sets after a step of thread t at this row, which has changed few others; these were so before it.
+    /// Returns the sets after a step of thread t at this row that has changed few other threads. These were the sets before it.
     #[inline(always)]
     fn few_looked(&self, program: &Loaded, before: ReadySet, row: Row, t: usize) -> ReadySet
         requires sound { IsSound program.now most_after (scene_of self.now) }
@@ -327,14 +327,14 @@ impl Stage {
         }
     }
 
-    /// The first thread that may take a step.
+    /// Returns the first thread that can take a step.
     pub fn ready_thread(&self, program: &Loaded) -> Option<usize>
         requires known { KnowsReady program.now self.now }
         ensures there { IfSome result (λ t. t < length self.now.threads) }
         ensures ready { IfSome result (λ t. is_ready t program.now (scene_of self.now) ≡ true) }
         ensures none { result ≡ None → (u : ℕ) → is_ready u program.now (scene_of self.now) ≡ false }
     {
-        // The answer goes on as it is: each arm names its case for the proof.
+        // The result is passed on unchanged: each arm names its case for the proof.
         match first_in(self.ready.turns) {
             Some(t) => Some(t),
             None => None,

@@ -19,7 +19,7 @@ impl Stage {
         self.phasers.is_forest();
     }
 
-    /// What a turn at the thread's row may count on.
+    /// What a turn at the thread's row can rely on.
     pub(super) fn turn_is_placed(&self, program: &Loaded, row: Row, t: usize)
         requires sound { IsSound program.now most_before (scene_of self.now) }
         requires thread { t < length self.now.threads }
@@ -29,7 +29,7 @@ impl Stage {
         let _ = &self.threads;
     }
 
-    /// What a look at the thread's wait may count on.
+    /// What a look at the thread's wait can rely on.
     pub(super) fn wait_is_placed(&self, program: &Loaded, row: Row, t: usize)
         requires sound { IsSound program.now most_after (scene_of self.now) }
         requires thread { t < length self.now.threads }
@@ -39,7 +39,7 @@ impl Stage {
         let _ = &self.threads;
     }
 
-    /// What the top entry of the thread's stack may be counted on for.
+    /// What is known of the top entry of the thread's stack.
     #[tactic(auto, using(crate::proofs::Placed::top_placed))]
     pub(super) fn top_is_placed(&self, program: &Loaded, top: &Option<Frame>, t: usize)
         requires sound { IsSound program.now most_before (scene_of self.now) }

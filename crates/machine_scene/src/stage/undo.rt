@@ -12,8 +12,7 @@ use loader::Loaded;
 use thread_state::ThreadNote;
 
 impl Stage {
-    /// What is kept before a thread's turn, or before the expiry of its wait, so that either can be undone: it is written
-    /// over a note.
+    /// Saves in a note what a thread's turn or the expiry of its wait may change, so that either can be undone.
     #[inline(always)]
     #[tactic(auto, using(crate::proofs::Reaches::local_reach))]
     pub fn note(&self, program: &Loaded, t: usize, note: &mut SceneNote)
@@ -32,7 +31,7 @@ impl Stage {
         note.ready = self.ready;
     }
 
-    /// What is kept of what the turn of a thread may change beside it.
+    /// Saves what the turn of a thread may change besides the thread.
     #[inline(never)]
     #[tactic(auto, using(crate::proofs::Reaches::reach_there))]
     fn note_beside(&self, program: &Loaded, t: usize, touched: &mut Touched)
@@ -46,7 +45,7 @@ impl Stage {
         self.touched(reach_in(self.threads[t].status(), row, &top), touched);
     }
 
-    /// What is kept of what a turn may change beside its own thread.
+    /// Saves what a turn of this reach may change besides its own thread.
     fn touched(&self, reach: Reach, touched: &mut Touched)
         requires { IsThere reach self.now }
         ensures { touched.new ≡ touched_by reach self.now }
@@ -76,7 +75,7 @@ impl Stage {
         }
     }
 
-    /// Undoes a turn, or an expiry: all is as it was when the note was taken.
+    /// Undoes a turn or an expiry: everything is as it was when the note was taken.
     pub fn undo(&mut self, note: &SceneNote)
         requires { CanUndo note.now self.old }
         ensures { self.new ≡ undone note.now self.old }
@@ -86,7 +85,7 @@ impl Stage {
         self.ready = note.ready;
     }
 
-    /// Puts back what the turn changed beside its own thread.
+    /// Restores what the turn changed besides its own thread.
     fn put_back(&mut self, touched: &Touched)
         requires { CanPutBack touched.now self.old }
         ensures scene { self.new ≡ with_touched touched.now self.old }

@@ -15,7 +15,7 @@ use instruction_table::{Reg, Row};
 use thread_state::{Event, Mark};
 
 impl Stage {
-    /// Whether a phase of this number is not the one that the phaser is in.
+    /// Returns whether a phase of this number is not the phaser's phase.
     #[inline(always)]
     pub(super) fn is_past(&self, phaser: u16, phase: i32) -> bool
         requires phaser { phaser < length self.now.phasers }
@@ -62,7 +62,7 @@ impl Stage {
         alone(self.threads[t].take_interruption())
     }
 
-    /// What the thread's wait at the barrier has come to.
+    /// Returns the state of the thread's wait at the barrier.
     pub(super) fn wait_state(&self, barrier: u16, t: usize) -> WaitState
         requires there { barrier < length self.now.barriers }
         requires waits { wait_at (barrier_at (scene_of self.now) barrier).waits t ≢ None }
@@ -89,7 +89,7 @@ impl Stage {
         }
     }
 
-    /// By what the wait has come to.
+    /// Decides by the state of the wait.
     #[inline(always)]
     fn finish_release(&mut self, into: Reg, index: i32, barrier: u16, t: usize) -> Event
         requires ready { is_some (outcome_of_release (wait_at (barrier_at (scene_of self.old) barrier).waits t)
@@ -152,7 +152,7 @@ impl Stage {
         }
     }
 
-    /// At the row's barrier, where the thread's wait is unreleased.
+    /// The expiry at the row's barrier, where the thread waits and isn't released.
     fn expire_at_barrier(&mut self, barrier: u16, t: usize) -> Event
         requires unreleased { wait_at (barrier_at (scene_of self.old) barrier).waits t ≡ Some WaitState.Waiting }
         requires no_runner { (barrier_at (scene_of self.old) barrier).runner ≡ None }

@@ -7,8 +7,8 @@ use crate::status::Status;
 use instruction_table::Regs;
 use std::marker::Model;
 
-/// What is kept of a thread before a turn, so that the turn can be undone. It has a fixed size: a turn pushes or pops one
-/// stack entry at most, and puts out one value at most.
+/// What is saved of a thread before a turn, to undo the turn. It has a fixed size: a turn pushes or pops at most one stack
+/// entry, and puts out at most one value.
 #[derive(Drop)]
 pub struct ThreadNote {
     pc: u16,
@@ -57,7 +57,7 @@ impl ThreadNote {
 }
 
 impl Thread {
-    /// What one turn can change of it, written over a note in its place: a note that is moved costs more than a step.
+    /// Saves in a note what one turn can change. It overwrites a note in place, because moving a note costs more than a step.
     pub fn note(&self, note: &mut ThreadNote)
         ensures { note.new ≡ note_of self.now }
     {
@@ -78,7 +78,7 @@ impl Thread {
         note.outputs = self.output.len() as u16;
     }
 
-    /// Undoes one turn: it is as it was when the note was taken.
+    /// Undoes one turn: the thread is as it was when the note was taken.
     pub fn undo(&mut self, note: &ThreadNote)
         ensures { self.new ≡ undone note.now self.old }
     {

@@ -25,10 +25,9 @@ const MOST_PHASERS: usize = 64;
 
 /// A phaser is declared, and registers with its parent.
 impl Forest {
-    /// `new Phaser(parent, parties)`, with the policy that `onAdvance` follows. A root may begin in
-    /// any phase; a child is declared before anything has happened in its parent's tree in the
-    /// present phase, and begins in that phase, with 0 given for it. Only this call, `new` and
-    /// `copy` take memory.
+    /// `new Phaser(parent, parties)`, with the policy that `onAdvance` follows. A root may begin in any phase. A child has to
+    /// be declared before anything happens in its parent's tree in the present phase. It begins in that phase, and its `phase`
+    /// has to be 0. Only this call, `new` and `copy` allocate.
     pub fn declare(
         &mut self,
         parent: Option<PhaserId>,
@@ -84,7 +83,7 @@ impl Forest {
         }
     }
 
-    /// Whether there is such a parent, or none is asked for.
+    /// Returns whether there is such a parent, or none is named.
     fn has_parent(&self, parent: Option<PhaserId>) -> bool
         ensures { result ≡ has_parent parent (phasers_of self.now) }
     {
@@ -94,7 +93,7 @@ impl Forest {
         }
     }
 
-    /// How many phasers there are from the parent up to its root.
+    /// Returns how many phasers there are from the parent up to its root.
     fn height(&self, parent: Option<PhaserId>) -> usize
         requires { has_parent parent (phasers_of self.now) ≡ true }
         ensures { result ≡ length (line_above parent (phasers_of self.now)) }
@@ -105,7 +104,7 @@ impl Forest {
         }
     }
 
-    /// Whether a phaser above has no room for the party that a child of these parties registers.
+    /// Returns whether a phaser above has no room for the party that a child with these parties registers.
     fn is_overfull_above(&self, parent: Option<PhaserId>, parties: u32) -> bool
         requires { has_parent parent (phasers_of self.now) ≡ true }
         ensures { result ≡ list_any (is_overfull (phasers_of self.now))

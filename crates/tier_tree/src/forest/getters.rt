@@ -12,7 +12,7 @@ use phase_number::Phase;
 
 /// What a phaser shows at present.
 impl Forest {
-    /// The number of phasers.
+    /// Returns the number of phasers.
     pub fn len(&self) -> usize
         ensures { result ≡ length self.now }
     {
@@ -28,7 +28,7 @@ impl Forest {
         view_at(self.nodes.as_slice(), id.0 as usize)
     }
 
-    /// The number of the tree's phase, terminated or not.
+    /// Returns the number of the tree's phase, terminated or not.
     pub fn phase_number(&self, id: PhaserId) -> Phase
         requires { id.0 < length self.now }
         ensures { result ≡ (flat_at (phasers_of self.now) id.0).phase }
@@ -69,7 +69,7 @@ impl Forest {
         word_at(self.nodes.as_slice(), id.0 as usize).is_terminated()
     }
 
-    /// Whether the phaser is turned: nobody is waited for any more, until the phase of its tree ends.
+    /// Returns whether the phaser is turned: nobody is still to arrive, until the phase of its tree ends.
     pub fn is_turned(&self, id: PhaserId) -> bool
         requires { id.0 < length self.now }
         ensures { result ≡ (flat_at (phasers_of self.now) id.0).turned }
@@ -77,7 +77,7 @@ impl Forest {
         word_at(self.nodes.as_slice(), id.0 as usize).is_turned()
     }
 
-    /// How many phases of a root's tree have ended by `finish_turn`.
+    /// Returns how many phases of a root's tree have ended with `finish_turn`.
     pub fn ended_phases(&self, id: PhaserId) -> u32
         requires { id.0 < length self.now }
         ensures { result ≡ (phaser_at (phasers_of self.now) id.0).ends }
@@ -109,7 +109,7 @@ impl Forest {
         PhaserId(root_of(self.nodes.as_slice(), id.0 as usize))
     }
 
-    /// What `onAdvance` answers at a root. A child's policy is kept, and nothing asks for it.
+    /// Returns the policy of `onAdvance`. A child has one, too, but nothing asks it.
     pub fn policy(&self, id: PhaserId) -> Policy
         requires { id.0 < length self.now }
         ensures { result ≡ (phaser_at (phasers_of self.now) id.0).policy }
