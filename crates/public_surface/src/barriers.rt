@@ -5,7 +5,7 @@ ghost use Rattle.cyclic_barrier.specs.declared.answer.WaitState.TheVariants.{Wai
 
 use cyclic_barrier::{Barrier, Entered, WaitState};
 
-/// What an entry is told.
+/// What an entry returns.
 pub fn entered(answer: Entered) -> Option<u16> {
     match answer {
         Entered::Wait(index) => Some(index),
@@ -15,7 +15,7 @@ pub fn entered(answer: Entered) -> Option<u16> {
     }
 }
 
-/// The entries of a thread, of which the second is that of a copy.
+/// The entries of a thread; the second is that of a copy.
 pub fn enter(
     barrier: &mut Barrier,
     thread: u8,

@@ -8,7 +8,7 @@ use shared_phaser::{NewFault, NotThere, Party, Raced, Reply, SharedPhaser};
 use std::alloc::Global;
 use std::sync::Wait;
 
-/// Whether another policy would do.
+/// Returns whether another policy would be accepted.
 pub fn is_refused(fault: NewFault) -> bool {
     match fault {
         NewFault::RoutinePolicy => true,
@@ -16,7 +16,7 @@ pub fn is_refused(fault: NewFault) -> bool {
     }
 }
 
-/// What a call is told.
+/// What a call returns.
 pub fn number_of(reply: Reply) -> Option<i32> {
     match reply {
         Reply::Counted(phase) => Some(phase),

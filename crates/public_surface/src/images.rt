@@ -7,7 +7,7 @@ use row_code::{
 };
 use std::alloc::Global;
 
-/// What is said of bytes that are no image.
+/// What is reported of bytes that are no image.
 pub fn place_of(fault: ImageFault) -> Option<usize> {
     match fault {
         ImageFault::Field(at) => Some(at),

@@ -1,11 +1,10 @@
-//! The public calls, each made once by its name, with its arguments in their order and its answer's type written out.
+//! The public calls, each made once by its name, with its arguments in order and the type of its result written out.
 //!
-//! Whoever stands on the public names finds them as they are, told by the compiler. This crate is refused where a name, an
-//! argument, an answer, a variant, a field or what a call asks for changes. Nothing here runs. Each name is taken from the
-//! root of its crate.
+//! A crate that uses the public names can rely on them: the compiler checks them here. This crate is refused if a name, an
+//! argument, a result, a variant, a field, or what a call requires changes. Nothing here runs.
 #![tactic(auto)]
 
-// What bytes, phases and barriers are.
+// Bytes, phases and barriers.
 pub mod barriers;
 pub mod phases;
 pub mod ports;

@@ -9,7 +9,7 @@ use std::alloc::{AllocError, Global};
 use thread_machine::{Choice, Entry, Event, Machine, Mark, Status, StepFault, Undo, What};
 use tier_tree::Forest;
 
-/// What a turn came to.
+/// What a turn did.
 pub fn told(what: What) -> Option<i32> {
     match what {
         What::Value(value) | What::Out(value) => Some(value),
@@ -28,7 +28,7 @@ pub fn marked(mark: Mark) -> Option<(u8, i32)> {
     }
 }
 
-/// What a thread is about.
+/// What a thread is doing.
 pub fn number_of(status: Status) -> Option<i32> {
     match status {
         Status::Throws(code) | Status::Died(code) => Some(code),
@@ -37,7 +37,7 @@ pub fn number_of(status: Status) -> Option<i32> {
     }
 }
 
-/// What stands on a stack.
+/// What is on a stack.
 pub fn row_of(entry: Entry) -> u16 {
     match entry {
         Entry::Call(row) | Entry::Handler(row) => row,
@@ -45,7 +45,7 @@ pub fn row_of(entry: Entry) -> u16 {
     }
 }
 
-/// Whether a choice is refused for good.
+/// Returns whether a choice is refused for ever.
 pub fn is_final(fault: StepFault) -> bool {
     match fault {
         StepFault::NoSuchThread | StepFault::StepLimit => true,
@@ -74,7 +74,7 @@ pub fn steps(
     Ok(machine.copy(alloc))
 }
 
-/// What is read off a thread.
+/// What a thread shows.
 pub fn thread(machine: &Machine, t: u8, number: usize, reg: Reg) -> (Status, u16, i32, bool)
     requires { t < length machine.now.scene.threads }
 {
@@ -91,14 +91,14 @@ pub fn thread(machine: &Machine, t: u8, number: usize, reg: Reg) -> (Status, u16
     )
 }
 
-/// What a thread may do.
+/// What a thread can do.
 pub fn ready(machine: &Machine, t: u8) -> (bool, bool)
     requires { t < length machine.now.scene.threads }
 {
     (machine.is_ready(t), machine.can_expire(t))
 }
 
-/// What is read off a machine.
+/// What a machine shows.
 pub fn counts(machine: &Machine) -> (u32, u64, u32) {
     let _: bool = machine.ended();
     let _: bool = machine.stuck();
@@ -107,7 +107,7 @@ pub fn counts(machine: &Machine) -> (u32, u64, u32) {
     (machine.limit(), machine.choices(), machine.steps())
 }
 
-/// What its threads share beside phasers.
+/// What its threads share besides phasers.
 pub fn shared(machine: &Machine, cell: u8, number: u8) -> (i32, &Barrier)
     requires cell { cell < 32 }
     requires number { number < length machine.now.scene.barriers }

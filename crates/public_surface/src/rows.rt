@@ -4,14 +4,14 @@ ghost use Rattle.instruction_table.specs.LocalRows.{is_local_row};
 
 use instruction_table::{Local, OperandKind, Reg, Regs, Row, Shape, local, mnemonic, shape_of};
 
-/// How rows are spelled.
+/// How rows are written.
 pub fn spelling(row: Row, text: &[u8]) -> Option<(&'static str, &'static [OperandKind])> {
     let Shape { word, operands, .. } = shape_of(text)?;
     let _: &'static str = word;
     Some((mnemonic(row), operands))
 }
 
-/// What a row leaves that touches nothing else.
+/// What a row does that uses only registers.
 pub fn effect(row: Row, registers: &Regs, pc: u16) -> (i32, u16)
     requires { IsTrue (is_local_row row) }
 {

@@ -15,7 +15,7 @@ impl Gate for Open {
     fn pass(&self, _thread: u8, _step: u32) {}
 }
 
-/// Whether a choice may be taken later.
+/// Returns whether a choice can be taken later.
 pub fn is_early(fault: TakeFault) -> bool {
     match fault {
         TakeFault::NotReady => true,
@@ -23,7 +23,7 @@ pub fn is_early(fault: TakeFault) -> bool {
     }
 }
 
-/// Whether all threads came to their end.
+/// Returns whether all threads have ended or died.
 pub fn is_whole(ending: Ending) -> bool {
     match ending {
         Ending::AllEnded => true,
@@ -31,7 +31,7 @@ pub fn is_whole(ending: Ending) -> bool {
     }
 }
 
-/// What a run that was broken off leaves.
+/// What a run leaves that was broken off.
 pub fn left(fault: LiveFault) -> Option<Vec<u8>> {
     match fault {
         LiveFault::Memory(schedule) => Some(schedule),

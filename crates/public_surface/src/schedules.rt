@@ -12,7 +12,7 @@ pub fn place_of(fault: ScheduleFault) -> Option<u64> {
     }
 }
 
-/// How often a run is played, and what.
+/// What a run plays, and how often.
 pub fn parts(run: Run) -> (Choice, u32) {
     let Run { choice, times } = run;
     (choice, times)

@@ -15,7 +15,7 @@ pub fn played(stop: Stop) -> (u64, Option<StepFault>) {
     }
 }
 
-/// Whether a reply stands in part.
+/// Returns whether only a part of a reply is written.
 pub fn is_cut(fault: CommandFault) -> bool {
     match fault {
         CommandFault::Memory => false,

@@ -26,7 +26,7 @@ pub fn of_comparison(fault: CompareFault) -> Option<LoadFault> {
     }
 }
 
-/// The line that is told.
+/// The line that is reported.
 pub fn line_of(verdict: Verdict) -> Option<u64> {
     match verdict {
         Verdict::Same => None,
@@ -61,7 +61,7 @@ pub fn run<S: Source, K: Sink>(
     run_text(alloc, image, schedule, output)
 }
 
-/// What is said of a trace.
+/// What is reported about a trace.
 pub fn verdict<S: Source>(alloc: Global, image: Image, trace: &mut S) -> Option<u64> {
     line_of(compare(alloc, image, trace).ok()?)
 }

@@ -19,7 +19,7 @@ pub fn place_of(fault: DeclareFault) -> u8 {
     }
 }
 
-/// What a registration is told.
+/// What a registration returns.
 pub fn registered(answer: Registered) -> Option<i32> {
     match answer {
         Registered::At(number) | Registered::Dead(number) => Some(number),
@@ -51,7 +51,7 @@ pub fn arrive(forest: &mut Forest, id: PhaserId, leave: bool, ends: bool) -> Opt
     }
 }
 
-/// What is read off a forest.
+/// What a forest shows.
 pub fn counts(forest: &Forest, id: PhaserId) -> (i32, u16, u16, u16)
     requires { id.0 < length forest.now }
 {

@@ -2,7 +2,7 @@
 use packed_phaser::{Arrived, Policy, Registered, Word};
 use phase_number::Phase;
 
-/// The word behind a registration.
+/// The word after a registration.
 pub fn registered(word: Word, answer: Registered) -> (Word, i32) {
     match answer {
         Registered::At(word, phase) => (word, phase),
@@ -11,7 +11,7 @@ pub fn registered(word: Word, answer: Registered) -> (Word, i32) {
     }
 }
 
-/// The word behind an arrival.
+/// The word after an arrival.
 pub fn arrived(word: Word, answer: Arrived) -> (Word, i32) {
     match answer {
         Arrived::Counted(word) | Arrived::Turned(word) => (word, 0),
@@ -20,7 +20,7 @@ pub fn arrived(word: Word, answer: Arrived) -> (Word, i32) {
     }
 }
 
-/// What is read off a word.
+/// What a word shows.
 pub fn counts(word: Word) -> (i32, u16, u16, u16) {
     (
         word.phase_view(),
@@ -30,12 +30,12 @@ pub fn counts(word: Word) -> (i32, u16, u16, u16) {
     )
 }
 
-/// What is asked of a word.
+/// What a word is asked.
 pub fn flags(word: Word) -> (bool, bool, bool) {
     (word.is_terminated(), word.is_empty(), word.is_turned())
 }
 
-/// What a policy says.
+/// What a policy returns.
 pub fn ends(policy: Policy, phase: Phase, parties: u16) -> Option<bool> {
     let ends: Option<bool> = policy.ends(phase, parties);
     match policy {

@@ -1,4 +1,4 @@
-//! A race for a stopwatch: `race_benchmark PARTIES ROUNDS`, 2 and 1000 where they aren't said.
+//! A race for a stopwatch: `race_benchmark PARTIES ROUNDS`. The defaults are 2 and 1000.
 #![tactic(auto)]
 
 use byte_ports::WritePort;
@@ -6,7 +6,7 @@ use race::{NoPace, write_race};
 use std::env;
 use std::process::ExitCode;
 
-/// How many threads meet where no number is said, and how often.
+/// How many threads meet by default, and how often.
 const PARTIES: u16 = 2;
 
 const ROUNDS: u32 = 1000;

@@ -64,8 +64,8 @@ pub fn copying(trial: Trial) -> Tried {
     Ok(answer.provided(goes_on(trial.alloc, &mut machine, 4)?))
 }
 
-/// The answer of the fourth choice of the meeting, `out`: no other step takes memory. After `Memory` the machine is as before,
-/// and takes it.
+/// Returns the result of the fourth choice of the meeting, `out`: no other step allocates. After `Memory` the machine is as
+/// before, and takes the choice.
 fn out_answer(trial: Trial, machine: &mut Machine, answered: Result<Event, StepFault>) -> Tried {
     Ok(match answered {
         Ok(event) => Answer::Right.provided(

@@ -1,6 +1,5 @@
-//! Has each request for memory refused in turn, call by call, and writes what came of it. Who refuses is a library that is
-//! loaded before the C library (`tests/memory/refuse.c`): run without it, the program says of each call that nobody refused it
-//! anything.
+//! Lets each request for memory be refused in turn, call by call, and writes the results. A library that is loaded before the C
+//! library refuses them (`tests/memory/refuse.c`). Without it, the program reports of each call that nothing was refused.
 #![tactic(auto)]
 
 // What is refused, the one trial that all calls have, and what trials are made of.

@@ -1,21 +1,21 @@
-//! What a trial tells the library that refuses memory: requests of sizes that nothing else asks for, which it answers itself
-//! (`tests/memory/refuse.c`). Where there is no such library, each is a request for memory like any other, and is met.
+//! What a trial tells the library that refuses memory: requests of sizes that nothing else asks for, which the library answers
+//! itself (`tests/memory/refuse.c`). Without the library each is an ordinary request for memory, and succeeds.
 
 use std::alloc::Global;
 
-/// The request of so many bytes and as many as the number of the request that is to be refused, counted from 1.
+/// A request of this size plus n: refuse the nth request, counted from 1.
 const REFUSE_ONE: usize = 7_000_000;
 
-/// The request of so many bytes and as many as the number of the first that is to be refused, with all that follow.
+/// A request of this size plus n: refuse the nth request and all that follow.
 const REFUSE_ALL: usize = 7_100_000;
 
-/// Ends it: refused where one was refused since it began.
+/// Ends it. This request is refused if one was refused since it began.
 const END: usize = 7_200_000;
 
 /// From here on blocks are counted.
 const COUNT: usize = 7_200_001;
 
-/// Refused where there are more or fewer blocks than at `COUNT`.
+/// This request is refused if there are more or fewer blocks than at `COUNT`.
 const COMPARE: usize = 7_200_002;
 
 fn is_refused(alloc: Global, size: usize) -> bool {
@@ -38,7 +38,7 @@ pub fn count(alloc: Global) {
     let _ = is_refused(alloc, COUNT);
 }
 
-/// Whether more or fewer blocks are in use than there were then.
+/// Returns whether more or fewer blocks are in use than then.
 pub fn is_left_over(alloc: Global) -> bool {
     is_refused(alloc, COMPARE)
 }

@@ -79,19 +79,19 @@ pub fn meeting_after(alloc: Global, count: usize) -> Result<Machine, AllocError>
     Ok(machine)
 }
 
-/// Whether a machine shows this state.
+/// Returns whether a machine shows this state.
 pub fn shows(alloc: Global, machine: &Machine, state: &[u8]) -> Result<bool, AllocError> {
     let text = state_text(alloc, machine)?;
     Ok(text.as_slice() == state)
 }
 
-/// Whether a machine shows the state of the meeting after so many of its choices.
+/// Returns whether a machine shows the state of the meeting after so many of its choices.
 pub fn is_at(alloc: Global, machine: &Machine, count: usize) -> Result<bool, AllocError> {
     let wanted = state_text(alloc, &meeting_after(alloc, count)?)?;
     shows(alloc, machine, wanted.as_slice())
 }
 
-/// Whether a machine is that of the meeting after so many of its choices, and plays the rest of them.
+/// Returns whether a machine is that of the meeting after so many of its choices, and plays the rest of them.
 pub fn goes_on(alloc: Global, machine: &mut Machine, count: usize) -> Result<bool, AllocError> {
     let (_, rest) = TURNS.split_at(count.min(7));
     Ok(is_at(alloc, machine, count)? && play(machine, rest).is_ok() && is_at(alloc, machine, 7)?)

@@ -21,7 +21,7 @@ fn full_text(alloc: Global) -> Result<Vec<u8>, AllocError> {
     Ok(text)
 }
 
-/// The answer of a call that puts a line behind these three bytes: after a refusal the text is as before.
+/// Returns the result of a call that appends a line to these three bytes: after a refusal the text is as before.
 fn line_answer(answered: Result<(), AllocError>, text: &[u8], wanted: &[u8]) -> Tried {
     Ok(match answered {
         Ok(()) => Answer::Right.provided(text == wanted),
@@ -62,7 +62,7 @@ pub fn state(trial: Trial) -> Tried {
 /// A thread that goes round for ever.
 pub const ROUND: &[u8] = b".thread a m\nm: jmp m\n";
 
-/// A schedule of so many of its choices: a token for each, and not one for all.
+/// Returns a schedule with so many turns of thread 0: a token for each, and not one for all.
 pub fn rounds(alloc: Global, choices: u32) -> Result<Vec<u8>, AllocError> {
     let mut schedule = Vec::new(alloc);
     for _ in 0..choices {
@@ -71,7 +71,7 @@ pub fn rounds(alloc: Global, choices: u32) -> Result<Vec<u8>, AllocError> {
     Ok(schedule)
 }
 
-/// Whether bytes are a beginning of the lines of a trace, and have nothing of its state.
+/// Returns whether bytes are a beginning of the lines of a trace, and have nothing of its state.
 fn is_beginning(bytes: &[u8], trace: &[u8]) -> bool {
     for line in bytes.split(|byte| *byte == b'\n') {
         if line.starts_with(b"s") {

@@ -6,7 +6,7 @@ use thread_machine::Choice;
 
 const TOKENS: &[u8] = b"t0 t1*2 t2*3 t3*4 t4*5 t5*6 t6*7 t7*8 x8*9 ";
 
-/// Whether a list is the runs of the first tokens: each thread goes once more often than its number says.
+/// Returns whether a list has the runs of the first tokens: each thread takes one turn more than its number says.
 fn is_beginning(runs: &[Run]) -> bool {
     for (run, thread) in runs.iter().zip(0..9u8) {
         if run.choice.thread != thread || run.times != u32::from(thread) + 1 {
@@ -16,7 +16,7 @@ fn is_beginning(runs: &[Run]) -> bool {
     runs.len() <= 9
 }
 
-/// `Reader::feed`: after `Memory` the list holds the runs of whole tokens, and the reader answers it for good.
+/// `Reader::feed`: after `Memory` the list has the runs of whole tokens, and the reader returns `Memory` for ever.
 pub fn feeding(trial: Trial) -> Tried {
     let mut runs = Vec::new(trial.alloc);
     let mut reader = Reader::new();

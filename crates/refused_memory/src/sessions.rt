@@ -16,7 +16,7 @@ fn debugger_after(alloc: Global, count: usize) -> Result<Debugger, AllocError> {
     Ok(debugger)
 }
 
-/// Whether a debugger stands behind so many choices of the meeting, plays the rest, and takes all of them back.
+/// Returns whether a debugger is after so many choices of the meeting, plays the rest, and takes all of them back.
 fn goes_on(alloc: Global, debugger: &mut Debugger, count: usize) -> Result<bool, AllocError> {
     let (_, rest) = TURNS.split_at(count.min(7));
     let stood = is_at(alloc, debugger.machine(), count)?;
@@ -51,7 +51,7 @@ pub fn stepping(trial: Trial) -> Tried {
     })
 }
 
-/// `Debugger::go` behind the second choice: it stops for want of memory before an `out`, and the choices before stand.
+/// `Debugger::go` after the second choice: it stops before an `out`, out of memory, and the choices before it stay.
 pub fn going(trial: Trial) -> Tried {
     let mut debugger = debugger_after(trial.alloc, 2)?;
     let (_, rest) = TURNS.split_at(2);
@@ -65,7 +65,8 @@ pub fn going(trial: Trial) -> Tried {
     Ok(answer.provided(goes_on(trial.alloc, &mut debugger, count)?))
 }
 
-/// A name, a line for `Debugger::command` after the meeting's third choice, its reply, and how many choices stand behind it.
+/// A name, a line for `Debugger::command` after the meeting's third choice, its reply, and how many choices are played after
+/// it.
 pub type Command = (&'static str, &'static [u8], &'static [u8], usize);
 
 /// The commands that are tried.

@@ -8,7 +8,7 @@ use row_code::{Image, ImageFault, read_image};
 use std::alloc::{AllocError, Global};
 use thread_machine::Machine;
 
-/// Each kind of thing that has a name, and names that are looked up before and behind their place: eight lines.
+/// Each kind of declaration with a name, and names that are used before and after their declaration: eight lines.
 const TEXT: &[u8] =
     b".phaser root 2 onadvance adv\n.phaser child 1 parent root\n.barrier gate 1 action act\n\
 .thread first main\n.cell sum\nmain: sts r1 sum\nact: cawait r0 gate\nadv: halt\n";
@@ -30,7 +30,7 @@ fn lists(alloc: Global, image: &Image, listing: &[u8]) -> Result<bool, AllocErro
     Ok(text.as_slice() == listing)
 }
 
-/// Whether the machine of a program begins as that of the text.
+/// Returns whether the machine of a program begins like that of the text.
 fn begins(alloc: Global, program: Loaded) -> Result<bool, AllocError> {
     let machine = Machine::new(alloc, program, 1000)?;
     shows(alloc, &machine, AT_FIRST)

@@ -14,7 +14,7 @@ use thread_machine::{Choice, Event};
 use thread_runner::{Journaled, LiveFault, NoGate, TakeFault, run_live};
 use trace_text::state::state_text;
 
-/// Whether each choice of a schedule is taken and is a step, and the trace ends so.
+/// Returns whether each choice of a schedule is taken and is a step, and the trace ends so.
 fn is_played(alloc: Global, text: &[u8], schedule: &[u8], end: &[u8]) -> Result<bool, AllocError> {
     let trace = trace_of(alloc, text, schedule)?;
     for line in trace.bytes().split(|byte| *byte == b'\n') {
@@ -35,7 +35,7 @@ pub fn recording(trial: Trial) -> Tried {
     })
 }
 
-/// Takes a thread's step, or lets its wait run out, where there is such a thread.
+/// Takes a thread's step, or lets its wait expire, if there is such a thread.
 fn take(record: &mut Journaled, choice: Choice) -> Result<Event, TakeFault> {
     if usize::from(choice.thread) >= record.machine().thread_count() {
         Err(TakeFault::NotReady)
@@ -57,13 +57,14 @@ fn record_of(alloc: Global, text: &[u8], turns: &[Run]) -> Result<Journaled, All
     Ok(record)
 }
 
-/// Whether a record is this schedule, and its machine what the schedule leads to.
+/// Returns whether a record is this schedule, and its machine what the schedule leads to.
 fn leads(alloc: Global, text: &[u8], schedule: &[u8], it: &Journaled) -> Result<bool, AllocError> {
     let state = state_text(alloc, it.machine())?;
     Ok(it.schedule() == schedule && is_played(alloc, text, schedule, state.as_slice())?)
 }
 
-/// A choice after these turns, with which the record is this schedule. After `Memory` the record is as before, and takes it.
+/// Takes a choice after these turns, with which the record is this schedule. After `Memory` the record is as before, and takes
+/// it.
 fn taking(trial: Trial, text: &[u8], turns: &[Run], choice: Choice, schedule: &[u8]) -> Tried {
     let (before, _) = schedule.split_at(schedule.len().saturating_sub(3));
     let mut record = record_of(trial.alloc, text, turns)?;
@@ -128,8 +129,8 @@ fn running<R: Threads + Wait + Sync>(rt: &R, trial: Trial) -> Tried {
     })
 }
 
-/// What comes of `run_live` with each of its first requests refused in turn. How many a run makes depends on how its threads
-/// meet, and a thread's block may outlive the run for a moment: so neither is counted.
+/// Returns the result of `run_live` with each of its first requests refused in turn. How many requests a run makes depends on
+/// how its threads meet, and a thread's block may outlive the run for a moment: so neither is counted.
 pub fn swept<R: Threads + Wait + Sync>(rt: &R, alloc: Global) -> Result<&'static str, AllocError> {
     let mut memory = 0u32;
     for request in 1..=100u16 {

@@ -1,4 +1,4 @@
-//! The one trial that all calls have: each request for memory of a call is refused in turn, and it is written what came of it.
+//! The one trial that all calls have: each request for memory of a call is refused in turn, and the results are written.
 
 ghost use Rattle.std.specs.Prelude.{◌≡◌};
 
@@ -6,10 +6,10 @@ use crate::marks;
 use std::alloc::{AllocError, Global};
 use std::io;
 
-/// What a call answered, and what stands then.
+/// What a call returned, and what is true afterwards.
 #[derive(Clone, Copy)]
 pub enum Answer {
-    /// What it answers where no memory is refused.
+    /// What it returns if no memory is refused.
     Right,
     /// That memory was refused; what stands is what is promised then.
     Memory,
@@ -24,11 +24,11 @@ impl Answer {
     }
 }
 
-/// What a call that is tried once comes to. Where memory is wanted beside the call it comes to nothing.
+/// The result of a call that is tried once. If something besides the call is out of memory, there is none.
 pub type Tried = Result<Answer, AllocError>;
 
-/// A call that is tried once: what it needs is made, the call alone stands between `begin` and `end`, and behind it one looks
-/// at what it answered and at what stands then. So memory is ample for all but the call.
+/// A call that is tried once. First what it needs is made. Only the call comes between `begin` and `end`. After it, its result
+/// and what is true then are checked. So memory is refused to nothing but the call.
 #[derive(Clone, Copy)]
 pub struct Trial {
     pub alloc: Global,
@@ -43,7 +43,7 @@ impl Trial {
         self.alloc
     }
 
-    /// The call has ended, with this answer.
+    /// Ends the call, with this result.
     pub fn end<T>(&self, answered: T) -> T
         ensures { result ≡ answered }
     {
@@ -52,12 +52,13 @@ impl Trial {
     }
 }
 
-/// What came of all trials of a call.
+/// The result of all trials of a call.
 #[derive(Clone, Copy)]
 enum Outcome {
-    /// So many requests were refused in turn, and each time the call was right or answered that memory was refused, so often.
+    /// So many requests were refused in turn. Each time the call was right or returned that it is out of memory, and so often
+    /// it did the latter.
     Refused { requests: u16, memory: u16 },
-    /// With this request refused it was neither, or left blocks behind, or there was no end of its requests.
+    /// With this request refused it did neither, or left blocks, or its requests had no end.
     Wrong(u16),
 }
 
@@ -93,7 +94,7 @@ fn swept<F: Fn(Trial) -> Tried>(alloc: Global, all: bool, tried: &F) -> Result<O
     Ok(Outcome::Wrong(MOST))
 }
 
-/// Where trials have their memory from, and where it is written what comes of them.
+/// Where trials get their memory, and where their results are written.
 #[derive(Clone, Copy)]
 pub struct Trials<'a> {
     pub rt: &'a HostRuntime,
@@ -101,7 +102,7 @@ pub struct Trials<'a> {
 }
 
 impl<'a> Trials<'a> {
-    /// Tries a call, and writes what came of it: with each request refused alone, and with each refused and all behind it.
+    /// Tries a call, and writes the result: with each request refused alone, and with each request and all later ones refused.
     pub fn tell<F: Fn(Trial) -> Tried>(&self, name: &str, tried: F) -> io::Result<()>
         requires { F.IsAlwaysCallable tried }
     {
@@ -125,7 +126,7 @@ impl<'a> Trials<'a> {
         println!(self.rt; "{name}, {which} refused: {came}")
     }
 
-    /// Writes whether a run makes as many requests as one of ten times its length, each of both being answered rightly.
+    /// Writes whether a run makes as many requests as one of ten times its length, and each of both returns the right result.
     pub fn tell_counts<F, G>(&self, name: &str, short: F, long: G) -> io::Result<()>
     where
         F: Fn(Trial) -> Tried,

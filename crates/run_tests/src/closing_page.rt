@@ -1,4 +1,4 @@
-//! A meeting, by the calls of the closing page: what a schedule leaves, and what is taken back.
+//! A meeting, played with the calls of the closing page: what a schedule leaves, and what is taken back.
 
 use debugger::Debugger;
 use headline::back::{step_and_back, steps_and_backs};
@@ -53,7 +53,7 @@ t1 2 ended 0 regs 1 0 0 0 0 0 0 0 stack out 1\np0 1 2 0 2\n"
     Ok(())
 }
 
-/// A third thread isn't there: the choice is refused, and no choice behind it is played.
+/// There is no third thread: the choice is refused, and no later choice is played.
 #[test]
 fn a_refused_choice_is_the_last(rt: HostRuntime) -> Result<(), Fail> {
     let machine = met(rt.alloc(), &[0, 2, 1])?;
@@ -81,7 +81,7 @@ fn an_arrival_is_taken_back(rt: HostRuntime) -> Result<(), Fail> {
     Ok(())
 }
 
-/// The whole meeting, and back to where the first thread waits.
+/// The whole meeting, and back to the moment at which the first thread waits.
 #[test]
 fn a_meeting_is_taken_back(rt: HostRuntime) -> Result<(), Fail> {
     let alloc = rt.alloc();

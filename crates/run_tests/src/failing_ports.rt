@@ -1,4 +1,4 @@
-//! Commands over ports in memory, of which one fails at one of its calls: what was written before is a beginning of the whole,
+//! Commands over ports in memory, of which one fails at one of its calls. What was written before is a beginning of the whole,
 //! and the exit status and the line say whether a read or a write failed.
 use crate::programs::{MEETING, image_of};
 use byte_ports::{MemorySink, MemorySource};
@@ -32,7 +32,7 @@ enum Call {
     Compare,
 }
 
-/// A call, what its inputs hold, and what it writes where no port fails.
+/// A call, what its inputs hold, and what it writes if no port fails.
 struct Case {
     call: Call,
     file: &'static str,
@@ -87,7 +87,7 @@ enum Port {
     Output,
 }
 
-/// What a call came to.
+/// The result of a call.
 #[derive(Drop)]
 struct Came {
     status: u8,
@@ -100,7 +100,7 @@ fn fails(port: Port, failing: Port, call: u32) -> Option<u32> {
     if port == failing { Some(call) } else { None }
 }
 
-/// Makes the call of a case, where this port fails at its call of this number.
+/// Makes the call of a case. This port fails at its call of this number.
 fn made(alloc: Global, case: &Case, failing: Port, call: u32) -> Result<Came, Fail> {
     let mut file = MemorySource::new(case.file.as_bytes(), fails(Port::File, failing, call));
     let mut other = MemorySource::new(case.other, fails(Port::Other, failing, call));
@@ -121,12 +121,12 @@ fn made(alloc: Global, case: &Case, failing: Port, call: u32) -> Result<Came, Fa
     })
 }
 
-/// Whether a call came to all that it writes.
+/// Returns whether a call wrote everything.
 fn is_whole(case: &Case, came: &Came) -> bool {
     came.status == 0 && came.output.bytes() == case.whole && came.errors.bytes().is_empty()
 }
 
-/// Whether a call reports that this port failed, behind a beginning of what it writes.
+/// Returns whether a call reports that this port failed, after a beginning of what it writes.
 fn is_cut(case: &Case, came: &Came, failing: Port) -> bool {
     let line: &[u8] = if failing == Port::Output {
         b"write\n"
@@ -136,7 +136,7 @@ fn is_cut(case: &Case, came: &Came, failing: Port) -> bool {
     came.status == 5 && case.whole.starts_with(came.output.bytes()) && came.errors.bytes() == line
 }
 
-/// Whether all is as it has to be where this port fails at its call of this number: the first fails where the port is used.
+/// Returns whether everything is right if this port fails at its call of this number: the first call fails if the port is used.
 fn is_right(alloc: Global, case: &Case, failing: Port, call: u32) -> Result<bool, Fail> {
     let came = made(alloc, case, failing, call)?;
     if call == 0 && (failing != Port::Other || !case.other.is_empty()) {
@@ -157,8 +157,8 @@ fn a_port_that_fails_at_any_call_is_reported(rt: HostRuntime) -> Result<(), Fail
     Ok(())
 }
 
-/// Whether a run, its comparison and its image report that their port failed at this call, behind a beginning of the whole, or all
-/// is there.
+/// Returns whether a run, its comparison and its image report that their port failed at this call, after a beginning of the
+/// whole, or else everything is there.
 fn are_right_below(alloc: Global, call: u32) -> Result<bool, Fail> {
     let mut trace = MemorySink::new(alloc, 1000, Some(call))?;
     let mut schedule = MemorySource::new(SCHEDULE, None);

@@ -1,5 +1,5 @@
-//! Tests of runs by public calls, of what no command of the program shows: streams cut anywhere, threads in a forced order,
-//! replies that can't be written, ports that fail at any call, the calls of the closing page.
+//! Tests of runs with public calls, for what no command of the program shows: streams cut anywhere, threads in a forced order,
+//! replies that can't be written, ports that fail at any call, and the calls of the closing page.
 #![tactic(auto)]
 
 #[cfg(test)]

@@ -1,4 +1,4 @@
-//! How far a machine goes.
+//! The limits of a machine.
 use crate::programs::{MEETING, program_of};
 use std::test::Fail;
 use thread_machine::{Choice, Machine, StepFault, What};
@@ -13,12 +13,12 @@ const EXPIRY: Choice = Choice {
     expiry: true,
 };
 
-/// Whether as many idle turns of thread 0 are taken as is said.
+/// Returns whether as many idle turns of thread 0 are played as stated.
 fn idles(machine: &mut Machine, most: u64, taken: u64) -> bool {
     machine.thread_count() == 2 && machine.idle(TURN, most) == taken
 }
 
-/// Whether a machine in which thread 0 comes to wait takes as many choices as it may, and no more.
+/// Returns whether a machine in which thread 0 begins to wait plays as many choices as it may, and no more.
 fn ends_at_the_most(machine: &mut Machine) -> bool {
     machine.step(TURN).is_ok()
         && idles(machine, 999_999_999_998, 999_999_999_998)
@@ -38,7 +38,7 @@ fn idle_choices_end_at_the_most(rt: HostRuntime) -> Result<(), Fail> {
     Ok(())
 }
 
-/// A thread, whether its wait expires, and what comes of it once all three steps are used.
+/// A thread, whether its wait expires, and the result once all three steps are used.
 static REFUSED: [(u8, bool, Result<What, StepFault>); 7] = [
     (0, false, Err(StepFault::StepLimit)),
     (1, false, Err(StepFault::StepLimit)),
@@ -49,7 +49,7 @@ static REFUSED: [(u8, bool, Result<What, StepFault>); 7] = [
     (2, true, Err(StepFault::NoSuchThread)),
 ];
 
-/// Whether each choice of the table is answered so.
+/// Returns whether each choice of the table has this result.
 fn refuses(machine: &mut Machine) -> bool {
     for (thread, expiry, answer) in &REFUSED {
         let choice = Choice {

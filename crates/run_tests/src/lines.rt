@@ -1,4 +1,4 @@
-//! Lines of numbers that no run comes to, behind what is there.
+//! Lines with numbers that no run reaches, after what is already there.
 use std::test::Fail;
 use thread_machine::{Choice, Event, Mark, What};
 use trace_text::line::{event_line, refusal_line};

@@ -1,8 +1,8 @@
-//! The names of a text, where no command shows them.
+//! The names of a text, as no command shows them.
 use assembler::name_hash::NameHash;
 use std::hash::BuildHasher;
 
-/// One name behind two texts: where the text is left out, or the hash is fixed, it is the same twice.
+/// One name after two texts: if the text is left out, or the hash is fixed, both hashes are equal.
 #[test]
 fn a_name_is_hashed_behind_its_text(rt: HostRuntime) {
     let name = b"a".as_slice();

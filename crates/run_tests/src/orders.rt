@@ -44,7 +44,7 @@ impl Gate for Meeting {
     }
 }
 
-/// The order in which threads take their first steps, as a schedule. A pass is held until, for every step that the script puts
+/// The order in which threads take their first steps, as a schedule. A pass waits until, for every step that the script puts
 /// before the pass's own, the next pass of that step's thread has begun.
 #[derive(Drop)]
 struct Script {
@@ -62,7 +62,7 @@ impl Script {
         }
     }
 
-    /// How many passes of a thread have begun.
+    /// Returns how many passes of a thread have begun.
     fn begun(&self, thread: u8) -> u32 {
         match self.begun.get(usize::from(thread)) {
             Some(begun) => begun.load(Ordering::SeqCst),
@@ -70,7 +70,7 @@ impl Script {
         }
     }
 
-    /// Holds until so many passes of a thread have begun.
+    /// Waits until so many passes of a thread have begun.
     fn hold(&self, thread: u8, passes: u32) {
         for _ in 0..MOST_LOOKS {
             if self.begun(thread) >= passes {
@@ -120,7 +120,7 @@ const TWO: &str = ".thread a m\n.thread b m\nm: ldi r0 1\nldi r0 2\nhalt\n";
 
 const THREE: &str = ".thread a m\n.thread b m\n.thread c m\nm: ldi r0 1\nldi r0 2\nhalt\n";
 
-/// Whoever comes last doesn't wait; the two others have one step more.
+/// The last thread to come doesn't wait, and the two others have one step more.
 const MEETING: &str = ".phaser p 3\n.thread a m\n.thread b m\n.thread c m\nm: paaa r0 p\nhalt\n";
 
 /// A program, and the order of its threads' steps, which is its schedule.

@@ -1,4 +1,4 @@
-//! Programs of texts.
+//! Programs made of texts.
 use assembler::assemble;
 use loader::{Loaded, load};
 use row_code::Image;

@@ -1,4 +1,4 @@
-//! Replies that can't be written: the command was carried out all the same, and a beginning of its reply may stand.
+//! Replies that can't be written: the command was carried out all the same, and a beginning of its reply may be written.
 use crate::programs::{MEETING, image_of};
 use byte_ports::MemorySink;
 use debugger::{CommandFault, Debugger};
@@ -39,7 +39,7 @@ fn debugger_behind(alloc: Global, commands: &[&str]) -> Result<Debugger, Fail> {
     Ok(debugger)
 }
 
-/// Whether what a debugger shows and what it stops at are another's: its state, and where a long `g` stops.
+/// Returns whether a debugger shows the same as another one, and stops at the same: its state, and where a long `g` stops.
 fn is_like(alloc: Global, debugger: &mut Debugger, other: &mut Debugger) -> Result<bool, Fail> {
     let state = state_text(alloc, debugger.machine())?;
     if state.as_slice() != state_text(alloc, other.machine())?.as_slice() {
@@ -58,7 +58,7 @@ fn first(count: usize) -> &'static [&'static str] {
     commands
 }
 
-/// The reply to a command behind so many others.
+/// Returns the reply to a command after so many others.
 fn reply(alloc: Global, count: usize, line: &str) -> Result<MemorySink, Fail> {
     let mut debugger = debugger_behind(alloc, first(count))?;
     let mut output = MemorySink::new(alloc, 1000, None)?;
@@ -68,8 +68,8 @@ fn reply(alloc: Global, count: usize, line: &str) -> Result<MemorySink, Fail> {
     }
 }
 
-/// Whether a command is answered by `Write` where this call fails, and a beginning of its reply is written; or, where it makes
-/// fewer calls, as ever.
+/// Returns whether a command returns `Write` if this call fails, and a beginning of its reply is written; or, if it makes fewer
+/// calls, the reply is as usual.
 fn is_told(
     alloc: Global,
     debugger: &mut Debugger,
@@ -84,7 +84,7 @@ fn is_told(
     })
 }
 
-/// Whether the command of this number, told so, is carried out.
+/// Returns whether the command of this number is carried out although it returned that.
 fn is_carried_out(alloc: Global, number: usize, line: &str, call: u32) -> Result<bool, Fail> {
     let whole = reply(alloc, number, line)?;
     let mut debugger = debugger_behind(alloc, first(number))?;

@@ -1,4 +1,4 @@
-//! Streams of tokens, cut anywhere, and the first fault of those that are none.
+//! Streams of tokens, cut anywhere, and the first fault of those that are no schedule.
 ghost use Rattle.std.specs.Prelude.{◌<◌, length};
 
 use schedule_reader::ScheduleFault::{self, Byte, Number, Repeat};
@@ -49,8 +49,8 @@ fn is_same(runs: &[Run], tokens: &[(bool, u8, u32)]) -> bool {
         })
 }
 
-/// Whether a stream that comes in three pieces, of which some may be empty, is read as these tokens
-/// and this answer; a fault is told by the call that meets it and by each later one.
+/// Returns whether a stream that comes in three pieces, perhaps empty ones, is read as these tokens with this result. A fault
+/// is returned by the call that meets it, and by each later one.
 fn reads(
     alloc: Global,
     pieces: (&[u8], &[u8], &[u8]),

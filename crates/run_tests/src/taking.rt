@@ -6,8 +6,8 @@ use thread_machine::What;
 use thread_runner::{Ending, Journaled, TakeFault};
 
 /// A program, its limit of steps, what is taken in order, the record as text, and how the run has ended then. A turn or an
-/// expiry is its token; behind it stands `!` where it isn't ready, `#` where the limit is reached, and `~` where the thread
-/// begins to wait.
+/// expiry is its token. After it, `!` means that it isn't ready, `#` that the limit is reached, and `~` that the thread begins
+/// to wait.
 type Row = (
     &'static str,
     u32,
@@ -78,7 +78,7 @@ static ROWS: [Row; 9] = [
     ),
 ];
 
-/// Whether what a token says comes of it.
+/// Returns whether what a token says happens.
 fn takes(journaled: &mut Journaled, token: &str) -> bool {
     let [kind, digit, rest @ ..] = token.as_bytes() else {
         return false;

@@ -1,4 +1,4 @@
-//! Sinks that hand on blocks.
+//! Sinks that pass on blocks.
 use byte_ports::{BlockPort, MemorySink, Sink};
 use std::test::Fail;
 

@@ -1,5 +1,5 @@
-//! Callers over any port, each with its proof: what a crate above can say of the bytes that it moves
-//! and of the side that failed.
+//! Callers that work with any port, each with its proof: what other crates can say of the bytes that they move, and of the side
+//! that failed.
 ghost use Rattle.std.specs.Prelude.{◌≡◌, ℕ, ◌↔◌, ◌++◌, List, length, IsTrue, IsErr, IfOk, OnOk};
 ghost use Rattle.std.specs.Io.KnownBytes.{Appends, Consumes};
 
@@ -24,7 +24,7 @@ fn write_both<K: Sink>(sink: &mut K, first: &[u8], second: &[u8]) -> Result<(), 
     sink.push(second)
 }
 
-/// Copies one piece of the source, at most as much as the buffer holds, and answers its length.
+/// Copies one piece of the source, at most as much as the buffer holds, and returns its length.
 fn copy_piece<S: Source, K: Sink>(
     source: &mut S,
     sink: &mut K,
@@ -71,7 +71,7 @@ const COPIES: [(Option<u32>, Option<u32>, Option<Fault>, &[u8]); 5] = [
     (None, Some(1), Some(Fault::Write), b"bar"),
 ];
 
-/// Whether two pieces of `barrier` are copied with this fault, if any, and just these bytes.
+/// Returns whether two pieces of `barrier` are copied with this fault, if any, and exactly these bytes.
 fn copies(
     alloc: Global,
     read_fails: Option<u32>,

@@ -13,7 +13,7 @@ use std::sync::Wait;
 use std::test::Fail;
 use std::thread::{Threads, join};
 
-/// A phaser as it is made, one call, and what it answers and leaves.
+/// A phaser as it is made, one call, its result, and what it leaves.
 type Row = (u16, i32, Policy, Call, Reply, u64);
 
 const ROWS: [Row; 12] = [
@@ -51,7 +51,7 @@ fn made(alloc: Global, parties: u16, policy: Policy) -> Result<(SharedPhaser, Pa
     Ok(SharedPhaser::new(alloc, parties, policy, Phase::prevailing(0))?)
 }
 
-/// One try of a call, `None` where it isn't one that answers at once.
+/// Returns the result of one try of a call, or `None` if the call isn't one that never waits.
 fn tried(phaser: &SharedPhaser, party: &mut Party, call: Call) -> Option<Reply>
     requires { phaser_of party.old ≡ phaser.now }
     ensures { phaser_of party.new ≡ phaser.now }
@@ -65,7 +65,7 @@ fn tried(phaser: &SharedPhaser, party: &mut Party, call: Call) -> Option<Reply>
     made.ok()
 }
 
-/// The call under `Wait`, which tries until it has an answer.
+/// Returns the result of the call that takes `Wait`, which tries until it has one.
 fn called<R: Wait>(rt: &R, phaser: &SharedPhaser, party: &mut Party, call: Call) -> Option<Reply>
     requires { phaser_of party.old ≡ phaser.now }
     ensures { phaser_of party.new ≡ phaser.now }
@@ -106,7 +106,7 @@ fn a_routine_is_refused(rt: HostRuntime) {
     assert_eq!(rt; fault, Some(NewFault::RoutinePolicy));
 }
 
-/// A phaser as it is made, and calls one after the other, with what each answers and leaves.
+/// A phaser as it is made, and calls one after the other, each with its result and what it leaves.
 type Session = (u16, i32, Policy, &'static [(Call, Reply, u64)]);
 
 /// A termination stays; and of a phaser that goes on without parties nobody is left to arrive.
@@ -132,7 +132,7 @@ static SESSIONS: [Session; 2] = [
     ),
 ];
 
-/// Whether each of these calls answers so, in one try.
+/// Returns whether each of these calls has this result, in one try.
 fn go_on(phaser: &SharedPhaser, party: &mut Party, calls: &[(Call, Reply, u64)]) -> bool
     requires { phaser_of party.old ≡ phaser.now }
 {
@@ -145,7 +145,7 @@ fn go_on(phaser: &SharedPhaser, party: &mut Party, calls: &[(Call, Reply, u64)])
         && go_on(phaser, party, rest)
 }
 
-/// Whether the calls of a session do.
+/// Returns whether the calls of a session have their results.
 fn goes_so(alloc: Global, session: &Session) -> Result<bool, Fail> {
     let (parties, phase, policy, calls) = *session;
     let (phaser, mut party) = SharedPhaser::new(alloc, parties, policy, Phase::prevailing(phase))?;
@@ -160,7 +160,7 @@ fn calls_in_a_row(rt: HostRuntime) -> Result<(), Fail> {
     Ok(())
 }
 
-/// Whether each call on a phaser that was terminated in phase 0 answers so.
+/// Returns whether each call on a phaser that was terminated in phase 0 has this result.
 fn stays_terminated<R: Wait>(rt: &R, phaser: &SharedPhaser, party: &mut Party) -> bool
     requires { phaser_of party.old ≡ phaser.now }
 {
@@ -176,7 +176,7 @@ fn a_terminated_phaser_stays_so(rt: HostRuntime) -> Result<(), Fail> {
     Ok(())
 }
 
-/// Whether the waits of the only party are over at once.
+/// Returns whether the waits of the only party end at once.
 fn waits_for_nobody<R: Wait>(rt: &R, phaser: &SharedPhaser, party: &mut Party) -> bool
     requires { phaser_of party.old ≡ phaser.now }
 {
@@ -211,7 +211,7 @@ fn two_callers_of_one_phaser(rt: HostRuntime) -> Result<(), Fail> {
     Ok(())
 }
 
-/// The word of a phaser of two parties, closed behind one arrival of each of two callers.
+/// Returns the word of a phaser of two parties that was closed after one arrival of each of two callers.
 fn word_of_two(alloc: Global) -> Result<Option<u64>, Fail> {
     let (phaser, mut first) = made(alloc, 2, Default)?;
     let mut second = phaser.split(&mut first);
@@ -250,7 +250,7 @@ fn released<R: Threads + Wait + Sync>(
     ))
 }
 
-/// The call, what it answers, and what the thread that waits is told.
+/// The call, its result, and what the waiting thread gets.
 const RELEASING: [(Call, Reply, i32); 3] = [
     (Arrive(false), Counted(0), 1),
     (Arrive(true), Counted(0), -2147483647),

@@ -54,8 +54,8 @@ impl Read for FakeReader<'_> {
     }
 }
 
-/// The reader's call that fails, how many of six calls of the port come before it, what those gave,
-/// and how often the reader was called.
+/// The reader's call that fails, how many of six calls of the port come before it, what those returned, and how often the
+/// reader was called.
 const FAILING_READS: [(Option<u32>, usize, &[u8; 13], u32); 6] = [
     (Some(0), 0, b".............", 1),
     (Some(1), 1, b"a............", 2),
@@ -65,8 +65,8 @@ const FAILING_READS: [(Option<u32>, usize, &[u8; 13], u32); 6] = [
     (None, 6, b"abc..........", 6),
 ];
 
-/// Whether of six calls with a buffer of 8 bytes just so many succeed before the first that fails,
-/// and give such bytes, at most one each.
+/// Returns whether exactly so many of six calls with a buffer of 8 bytes succeed before the first that fails, and return these
+/// bytes, at most one each.
 fn gives<R: Read>(port: &mut ReadPort<R>, succeeding: usize, bytes: &[u8; 13]) -> bool {
     let mut given = [b'.'; 13];
     let mut is_as_wanted = true;
@@ -90,8 +90,8 @@ fn fails_with_its_reader(rt: HostRuntime) {
     }
 }
 
-/// How many calls of the reader are interrupted, whether the port's first call gives a byte, and
-/// the reader's calls.
+/// How many calls of the reader are interrupted, whether the port's first call returns a byte, and how often the reader is
+/// called.
 const INTERRUPTED_READS: [(u32, bool, u32); 5] = [
     (0, true, 1),
     (1, true, 2),
@@ -100,7 +100,7 @@ const INTERRUPTED_READS: [(u32, bool, u32); 5] = [
     (1001, false, 1000),
 ];
 
-/// Whether the first call gives a byte, as is said, or this call and the next fail.
+/// Returns whether the first call returns a byte, as stated, or else this call and the next fail.
 fn gives_one_or_fails<R: Read>(port: &mut ReadPort<R>, gives: bool) -> bool {
     let mut buffer = [0; 8];
     if gives {
@@ -160,8 +160,8 @@ impl Write for FakeWriter {
     }
 }
 
-/// The writer's call that fails; how many of the calls of `succeeds` come before it; what was
-/// written; how often the writer was called; how often it flushed.
+/// The writer's call that fails; how many of the calls of `succeeds` come before it; what was written; how often the writer was
+/// called; and how often it flushed.
 const FAILING_WRITES: [(Option<u32>, usize, &[u8], u32, u32); 7] = [
     (Some(0), 0, b"", 1, 0),
     (Some(1), 0, b"ab", 2, 0),
@@ -172,8 +172,8 @@ const FAILING_WRITES: [(Option<u32>, usize, &[u8], u32, u32); 7] = [
     (None, 5, b"abcde", 5, 2),
 ];
 
-/// Pushes 3 bytes, 2, and none, and finishes twice: whether just so many of these calls succeed
-/// before the first that fails.
+/// Pushes 3 bytes, 2, and none, and finishes twice. Returns whether exactly so many of these calls succeed before the first
+/// that fails.
 fn succeeds<W: Write>(port: &mut WritePort<W>, succeeding: usize) -> bool {
     let pushed = [
         port.push(b"abc").is_ok(),
@@ -195,8 +195,7 @@ fn fails_with_its_writer(rt: HostRuntime) {
     }
 }
 
-/// How many calls of the writer are interrupted, whether the flush succeeds, and the writer's
-/// calls.
+/// How many calls of the writer are interrupted, whether the flush succeeds, and how often the writer is called.
 const INTERRUPTED_FLUSHES: [(u32, bool, u32); 3] = [
     (0, true, 1),
     (999, true, 1000),
@@ -221,7 +220,7 @@ fn tries_an_interrupted_write_again(rt: HostRuntime) {
     assert!(rt; writer.kept.as_slice() == b"abc".as_slice());
 }
 
-/// Whether a push succeeds, the `finish` behind it fails, and every later call too.
+/// Returns whether a push succeeds, and the `finish` after it and every later call fail.
 fn fails_late<W: Write>(port: &mut WritePort<W>) -> bool {
     let answers = [
         port.push(b"abc").is_ok(),

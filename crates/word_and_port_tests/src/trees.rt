@@ -1,4 +1,4 @@
-//! Trees of phasers: what each call answers, and what is seen behind it.
+//! Trees of phasers: what each call returns, and what is seen afterwards.
 
 ghost use Rattle.std.specs.Prelude.{◌≡◌, ◌<◌, length, true, false, IfOk, IfSome};
 ghost use Rattle.tier_tree.specs.Declaration.{AreAllFresh};
@@ -22,7 +22,7 @@ enum Plan {
     Child(u8, i32),
 }
 
-/// A call, and what is to come of it. The first number is that of the phaser that it names.
+/// A call and its expected effect. The first number is that of the phaser that it names.
 #[derive(Clone, Copy)]
 enum Step {
     Registers(u8, u32, Registered),
@@ -91,7 +91,7 @@ fn planted(alloc: Global, plans: &[Plan]) -> Result<Forest, Fail>
     Ok(forest)
 }
 
-/// The answer of an arrival that is the last of the tree of phaser 0.
+/// Returns the result of the last arrival in the tree of phaser 0.
 fn turns(phase: i32, parties: u16) -> Arrived {
     Arrived::Turning {
         root: PhaserId(0),
@@ -107,7 +107,7 @@ fn arrives(forest: &mut Forest, id: u8, answer: Arrived) -> bool {
     }
 }
 
-/// The phase of a root ends where it can: whatever `finish_turn` asks for is told by getters.
+/// Ends the phase of a root if it can end: getters tell whatever `finish_turn` requires.
 fn end_turned_phase(forest: &mut Forest, root: PhaserId, ends: bool) -> bool
     requires { root.0 < length forest.old }
     ensures ended { result ≡ true
@@ -124,7 +124,7 @@ fn end_turned_phase(forest: &mut Forest, root: PhaserId, ends: bool) -> bool
     true
 }
 
-/// Whether as many arrivals as there are parties end the phase.
+/// Returns whether as many arrivals as there are parties end the phase.
 fn ends(forest: &mut Forest, root: u8, parties: u16, phase: i32) -> bool {
     for _ in 1..parties {
         if !arrives(forest, root, Arrived::At(phase)) {
@@ -172,7 +172,7 @@ fn is(
         && forest.phase_number(id).number() == phase
 }
 
-/// Whether a look at the phaser shows what it is to show.
+/// Returns whether a look at the phaser shows what it should.
 fn is_seen(forest: &Forest, id: PhaserId, step: Step) -> bool
     requires { id.0 < length forest.now }
 {
@@ -184,7 +184,7 @@ fn is_seen(forest: &Forest, id: PhaserId, step: Step) -> bool
     }
 }
 
-/// Whether an arrival is answered as it is to be.
+/// Returns whether an arrival has the result that it should have.
 fn is_answered(forest: &mut Forest, id: PhaserId, step: Step) -> bool
     requires { id.0 < length forest.old }
 {
@@ -197,7 +197,7 @@ fn is_answered(forest: &mut Forest, id: PhaserId, step: Step) -> bool
     }
 }
 
-/// Plays the call; whether there came of it what is to come.
+/// Makes the call, and returns whether it has its expected effect.
 fn comes_true_at(forest: &mut Forest, id: PhaserId, step: Step) -> bool
     requires { id.0 < length forest.old }
 {
@@ -222,7 +222,7 @@ fn comes_true(forest: &mut Forest, step: Step) -> bool {
     }
 }
 
-/// The number of the first step that doesn't come true.
+/// Returns the number of the first step without its expected effect.
 fn first_wrong(forest: &mut Forest, steps: &[Step]) -> Option<usize> {
     for (n, step) in steps.iter().enumerate() {
         if !comes_true(forest, *step) {
@@ -427,7 +427,7 @@ static ROWS: [Row; 13] = [
     ),
 ];
 
-/// The first row with a step that doesn't come true, and the number of that step.
+/// Returns the first row with a wrong step, and the number of that step.
 fn wrong_row(alloc: Global, rows: &[Row]) -> Result<Option<(&'static str, usize)>, Fail> {
     for (name, plans, steps) in rows {
         let mut forest = planted(alloc, plans)?;
@@ -478,7 +478,7 @@ fn a_full_forest(rt: HostRuntime) -> Result<(), Fail> {
     Ok(())
 }
 
-/// The fault of a declaration behind those of the plans.
+/// Returns the fault of a declaration after those of the plans.
 fn fault_of(
     alloc: Global,
     plans: &[Plan],

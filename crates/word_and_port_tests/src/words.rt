@@ -95,7 +95,7 @@ fn phases_begin(rt: HostRuntime) {
 enum Call {
     /// To be in this phase.
     Renew(i32),
-    /// The end of the phase, which may terminate.
+    /// The end of the phase, which may terminate the phaser.
     Advance(bool),
     /// The end of a phase of nobody.
     Vacate,
@@ -105,7 +105,7 @@ enum Call {
     Register(u32),
 }
 
-/// What a call answers, with the bits of the word behind it.
+/// What a call returns, with the bits of the word after it.
 #[derive(Clone, Copy, PartialEq, Eq)]
 enum Answer {
     Is(u64),
@@ -187,7 +187,7 @@ fn registration(registered: Registered) -> Answer {
     }
 }
 
-/// What a call answers where it may be made.
+/// Returns what a call returns, if it may be made.
 fn made(word: Word, call: Call) -> Option<Answer> {
     match call {
         Renew(phase) => Some(Is(word.renew(Phase::prevailing(phase)).raw())),
