@@ -11,5 +11,4 @@ pub mod Planning
 pub mod Ends
 pub mod Outcomes
 pub mod Seeds
-pub mod Pauses
 pub mod Runs

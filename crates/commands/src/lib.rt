@@ -3,8 +3,8 @@
 //!
 //! `show` and `draw` are `make`: a picture is made in memory, and then written at once. `show_comparison` adds to the verdict of
 //! `compare_cmd` the lines that differ. `GuidedCommands` is the person from whom `debug` takes lines.
-//! `report_runs` plays a program on real threads as often as asked, and writes a line for each state that a run ended in; a
-//! `Stirred` gate lets workers pause by a seed, so that rare orders come about, and each run replays all the same.
+//! `report_runs` plays a program on real threads as often as asked, and writes a line for each state that a run ended in. With
+//! `Pauses` the workers pause, so that orders come about that are rare otherwise.
 #![tactic(auto)]
 
 // Schedules of traces and plans, lines that differ, and rows.
@@ -34,12 +34,9 @@ pub mod command;
 pub mod end_state;
 mod law;
 pub mod outcomes;
-pub mod pause;
-pub mod pauses;
 mod report;
 mod runs;
 pub mod seeds;
-pub mod stirred;
 
 pub use command::{Asked, report_runs};
 pub use difference::show_comparison;

@@ -10,7 +10,7 @@ pub struct Pauses {
     pub seed: Option<u32>,
 }
 
-/// The gate of one run, and a gate behind it.
+/// The gate of one run, and a gate that is passed after it.
 #[derive(Drop)]
 pub struct RunGate<'a, G> {
     pub stirred: Option<Stirred>,
@@ -18,7 +18,7 @@ pub struct RunGate<'a, G> {
 }
 
 impl Pauses {
-    /// The gate of the run of this number: each run has other pauses.
+    /// Returns the gate of the run of this number. Each run has other pauses.
     pub fn of_run<'a, G>(self, run: u32, behind: &'a G) -> RunGate<'a, G>
         ensures stirred { result.stirred ≡ option_map (λ seed. record { seed = seed; run = run }) self.seed }
         ensures behind { result.behind.now ≡ behind.now }

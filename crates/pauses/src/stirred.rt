@@ -1,22 +1,21 @@
 ghost use Rattle.std.specs.Prelude.{◌≡◌};
-ghost use Rattle.commands.specs.Pauses.{pause_of, word_at};
+ghost use Rattle.pauses.specs.Pauses.{pause_of, word_at};
 
 use crate::pause::Pause;
 use rand_core::utils::NextWord;
 use rand_pcg::Pcg32;
 use thread_runner::Gate;
 
-/// A gate that lets a worker pause before some of its turns, as the generator of its seed says for this run, this thread and
-/// this turn.
+/// A gate at which a worker pauses before some of its turns. The generator of the seed says how, for each run, thread and turn.
 #[derive(Clone, Copy, Debug, PartialEq, Eq)]
 pub struct Stirred {
     pub seed: u64,
-    /// Which of several runs it is: each has other pauses.
+    /// The number of the run. Each run has other pauses.
     pub run: u32,
 }
 
 impl Stirred {
-    /// The pause before a thread's turn.
+    /// Returns the pause before a thread's turn.
     pub fn pause(&self, thread: u8, step: u32) -> Pause
         ensures { result ≡ pause_of (word_at self.now.seed self.now.run thread step) }
     {

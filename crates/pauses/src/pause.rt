@@ -1,5 +1,5 @@
 ghost use Rattle.std.specs.Prelude.{◌≡◌};
-ghost use Rattle.commands.specs.Pauses.{pause_of};
+ghost use Rattle.pauses.specs.Pauses.{pause_of};
 
 use std::hint::spin_loop;
 use std::thread::yield_now;
@@ -11,12 +11,12 @@ pub enum Pause {
     NoPause,
     /// It yields its processor so many times.
     Yield(u32),
-    /// It does nothing for so many rounds.
+    /// It spins for so many rounds.
     Spin(u32),
 }
 
 impl Pause {
-    /// The pause by a word of a generator.
+    /// Returns the pause that a generator's word stands for.
     pub fn of(word: u32) -> Pause
         ensures { result ≡ pause_of word }
     {
