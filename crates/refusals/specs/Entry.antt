@@ -7,12 +7,12 @@ use Rattle.refusals.specs.declared.entry.Place.{Place}
 abbrev pub line : List ℕ → List ℕ → List ℕ
 line label text = label ++ (text ++ codes "\n")
 
--- the line of a place, where there is one
+-- the line of a place, if there is one
 abbrev pub place_line : Option Place → List ℕ
 place_line (Some place) = codes "  Place:  " ++ (place.word.now ++ line (codes " ") (decimal place.number))
 place_line None = codes ""
 
--- what is written behind the words that programs are told
+-- what follows the words of the line
 abbrev pub words_of : Entry → Option Place → List ℕ
 words_of e place =
     line (codes "  Means:   ") e.means.now ++ (place_line place ++ (line (codes "  Helps:   ") e.helps.now

@@ -13,12 +13,12 @@ use Rattle.refusals.specs.Word.{AreItsWord, word_text}
 abbrev pub HasForm : List (List ℕ) → Option (List ℕ) → Option (List ℕ) → Type 0
 HasForm words before after = (entry : WordEntry) × AreItsWord entry words × Appends before after (word_text entry)
 
--- the entry that the words ask for was written whole, with the place that they tell
+-- the entry that the words ask for was written whole, with the place in the words
 abbrev pub HasAnswer : List (Bor (List Entry)) → List (List ℕ) → Option (List ℕ) → Option (List ℕ) → Type 0
 HasAnswer tables words before after =
     (q : Question) × AsksFor tables words q × Appends before after (text_of q.entry q.place)
 
--- what can be asked, where there are no words, and else what is told of their word, or the answer to what they ask for
+-- without words what can be asked; and otherwise what is said about their word, or the entry that they ask for
 abbrev pub HasExplained : List ℕ → List (Bor (List Entry)) → List (List ℕ) → Option (List ℕ) → Option (List ℕ) → Type 0
 HasExplained questions tables words before after =
     ((words ≡ []) × Appends before after questions) ⊎ (HasForm words before after ⊎ HasAnswer tables words before after)

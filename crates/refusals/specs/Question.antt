@@ -11,7 +11,7 @@ use Rattle.refusals.specs.declared.question.Question.{Question}
 abbrev pub Spells : List ℕ → ℕ → Type 0
 Spells text number = IsNumeral 10 text × (digits_value 10 text ≡ number) × (number < 2 ^ 64)
 
--- a word of a pattern that begins with a blank stands for the number of a place, and is what that counts
+-- a word of a pattern that begins with a blank is the number of a place, and what it counts
 abbrev pub is_place : List ℕ → Bool
 is_place [] = false
 is_place (byte ∷ bytes) = byte == 32
@@ -21,8 +21,8 @@ abbrev pub IsPlace : List ℕ → List ℕ → Option Place → Type 0
 IsPlace asked word None = ⊥
 IsPlace asked word (Some place) = (place.word.now ≡ asked) × Spells word place.number
 
--- these words fit a pattern, and tell this place, the first, if they tell one: `_` stands for any word, `..` for all from there on,
--- and any other word for itself
+-- these words fit a pattern, and have this place, the first, if they have one: `_` is any word, `..` is all words from there
+-- on, and any other word is itself
 abbrev pub Fits : List (List ℕ) → List (List ℕ) → Option Place → Type 0
 Fits [] [] place = place ≡ None
 Fits [] (word ∷ words) place = ⊥
@@ -41,12 +41,12 @@ abbrev pub FitOne : List (Bor (List (Bor (List ℕ)))) → List (List ℕ) → O
 FitOne [] words place = ⊥
 FitOne (pattern ∷ patterns) words place = Fits (texts pattern.now) words place ⊎ FitOne patterns words place
 
--- words ask for an entry of a table, and tell this place
+-- words ask for an entry of a table, and have this place
 abbrev pub AsksIn : List Entry → List (List ℕ) → Question → Type 0
 AsksIn [] words q = ⊥
 AsksIn (entry ∷ entries) words q = ((q.entry ≡ entry) × FitOne entry.asked.now words q.place) ⊎ AsksIn entries words q
 
--- words ask for an entry of one of several tables, and tell this place
+-- words ask for an entry of one of several tables, and have this place
 abbrev pub AsksAmong : List (Bor (List Entry)) → List (List ℕ) → Question → Type 0
 AsksAmong [] words q = ⊥
 AsksAmong (table ∷ tables) words q = AsksIn table.now words q ⊎ AsksAmong tables words q
@@ -56,6 +56,6 @@ abbrev pub without_refused : List (List ℕ) → List (List ℕ)
 without_refused [] = []
 without_refused (word ∷ words) = if bytes_eq word (codes "refused") then words else word ∷ words
 
--- the words of a line ask for an entry of these tables, and tell this place
+-- the words of a line ask for an entry of these tables, and have this place
 abbrev pub AsksFor : List (Bor (List Entry)) → List (List ℕ) → Question → Type 0
 AsksFor tables words = AsksAmong tables (without_refused words)

@@ -1,4 +1,4 @@
--- What is told of a word of the language.
+-- What is said about a word of the language.
 use Rattle.std.specs.Prelude.{◌≡◌, ◌≢◌, ◌⊎◌, ◌≤◌, ◌<◌, ⊤, ℕ, List, [], ◌∷◌, ◌++◌, None, Some, if◌then◌else◌, bytes_eq, codes, slice_index_or, true}
 use Rattle.instruction_table.specs.declared.shape.OperandKind.{OperandKind}
 use Rattle.instruction_table.specs.declared.shape.OperandKind.TheVariants.{Register, Number, Target, Phaser, Barrier, Thread, Cell}
@@ -7,7 +7,7 @@ use Rattle.line_reader.specs.Reading.{is_directive}
 use Rattle.refusals.specs.declared.word.WordEntry.{WordEntry}
 use Rattle.refusals.specs.Entry.{line}
 
--- what stands for an operand that is no register
+-- what stands for an operand that isn't a register
 abbrev pub letter : OperandKind → List ℕ
 letter Register = codes "a"
 letter Number = codes "n"
@@ -38,7 +38,7 @@ IsRowEntry opcode e =
 abbrev pub IsOutside : ℕ → ℕ → ℕ → Type 0
 IsOutside from end opcode = from ≤ opcode → opcode < end → ⊥
 
--- the entry is that of this word: the row's that it begins, as the instruction table has it, or, where it begins none, its own
+-- the entry is that of this word: of the row that it begins, by the instruction table, or its own if it begins none
 abbrev pub IsItsRow : WordEntry → List ℕ → Type 0
 IsItsRow e word =
     (row : Entry) × (entry_named table word ≡ Some row) × (e.word.now ≡ row.word) × (e.form.now ≡ form_of row)
@@ -50,7 +50,7 @@ IsItsWord e word = IsItsRow e word ⊎ ((entry_named table word ≡ None) × (e.
 abbrev pub IsNoWord : List ℕ → Type 0
 IsNoWord word = ((row : Entry) → entry_named table word ≢ Some row) × (is_directive word ≢ true)
 
--- the same of words, of which there has to be one
+-- the same for words, if there is exactly one
 abbrev pub AreItsWord : WordEntry → List (List ℕ) → Type 0
 AreItsWord e (word ∷ []) = IsItsWord e word
 AreItsWord e _ = ⊥
@@ -59,7 +59,7 @@ abbrev pub AreNoWord : List (List ℕ) → Type 0
 AreNoWord (word ∷ []) = IsNoWord word
 AreNoWord _ = ⊤
 
--- where the documents say more of a word
+-- where the documents say more about a word
 abbrev pub more_of : List ℕ → List ℕ
 more_of word =
     if bytes_eq word (codes ".run") then codes "docs/LANGUAGE.md, \"Program text\""

@@ -1,4 +1,4 @@
-//! The entries of the lines that programs are told, of exit statuses and of exceptions, a file for each group.
+//! The entries of the lines that programs are told, of exit statuses, of exceptions and of the rows together, a file for each group.
 
 pub mod asm;
 pub mod declare;
@@ -8,6 +8,7 @@ pub mod finding;
 pub mod image;
 pub mod load;
 pub mod plan;
+pub mod rows;
 pub mod schedule;
 pub mod status;
 
@@ -19,13 +20,15 @@ use crate::entries::finding::FINDING;
 use crate::entries::image::IMAGE;
 use crate::entries::load::LOAD;
 use crate::entries::plan::PLAN;
+use crate::entries::rows::ROWS;
 use crate::entries::schedule::SCHEDULE;
 use crate::entries::status::STATUS;
 use crate::entry::Entry;
 
 /// The tables. Of several entries that words ask for it is the first.
-pub fn tables() -> [&'static [Entry]; 10] {
+pub fn tables() -> [&'static [Entry]; 11] {
     [
         &ASM, &IMAGE, &LOAD, &DECLARE, &SCHEDULE, &PLAN, &ENDING, &FINDING, &STATUS, &EXCEPTION,
+        &ROWS,
     ]
 }

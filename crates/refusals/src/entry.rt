@@ -6,32 +6,32 @@ ghost use Rattle.refusals.specs.Entry.{line, place_line, text_of, words_of};
 use byte_ports::{Failed, Sink};
 use itoa::Buffer;
 
-/// What is told of words.
+/// What is said about words.
 #[derive(Clone, Copy)]
 pub struct Entry {
     /// The patterns of the words, the word `refused` left out. A word that begins with a blank stands for a number, and is what that
     /// counts; `_` stands for any word, and `..` behind the others for any words.
     pub asked: &'static [&'static [&'static str]],
-    /// The words that programs are told, with a word in capitals for a place.
+    /// The words of the line, with a word in capitals for a place.
     pub told: &'static str,
     /// What is wrong.
     pub means: &'static str,
     /// What is allowed there.
     pub helps: &'static str,
-    /// A command that makes it, else `none` and why.
+    /// A command that makes it, or else `none` and why.
     pub example: &'static str,
     /// Where the documents say more.
     pub more: &'static str,
 }
 
-/// Where a fault is: what is counted, behind a blank, and its number.
+/// The place of a fault: what is counted, after a blank, and its number.
 #[derive(Clone, Copy)]
 pub struct Place {
     pub word: &'static str,
     pub number: u64,
 }
 
-/// A line that begins with this label.
+/// Writes a line that begins with this label.
 pub fn push_line<W: Sink>(output: &mut W, label: &[u8], text: &str) -> Result<(), Failed>
     ensures bytes { OnOk result (Appends (W.written output.old) (W.written output.new)
         (line label.now text.now)) }
@@ -58,7 +58,7 @@ fn push_place<W: Sink>(output: &mut W, place: Option<Place>) -> Result<(), Faile
 }
 
 impl Entry {
-    /// The entry, where something else helps.
+    /// Returns the entry with something else that helps.
     pub fn with_help(self, helps: Option<&'static str>) -> Entry {
         match helps {
             Some(helps) => Entry { helps, ..self },
@@ -66,7 +66,7 @@ impl Entry {
         }
     }
 
-    /// Writes what the told line means, with the place that was told.
+    /// Writes what the line means, with its place.
     pub fn push_words<W: Sink>(self, output: &mut W, place: Option<Place>) -> Result<(), Failed>
         ensures bytes { OnOk result (Appends (W.written output.old) (W.written output.new) (words_of (self) place)) }
         ensures failed { OnErr result (IsTrue (W.has_failed output.new)) }

@@ -29,9 +29,10 @@ explain ?, no history               replies of `debug`
 explain status 0 .. status 5        an exit status
 explain exception 1 .. exception 8  an exception, or by name: TimeoutException
 explain paaa, .thread, ..           an instruction or a directive
+explain rows                        which instructions there are
 ";
 
-/// What is told where no line has the words, before what can be asked.
+/// What is written if no line has the words, before what can be asked.
 pub const NO_LINE: &[u8] = b"error: `explain` doesn't know these words. You can ask:\n\n";
 
 /// Writes what can be asked.
@@ -61,8 +62,8 @@ fn entry_asked(words: &[&str]) -> Option<WordEntry>
     }
 }
 
-/// Writes the entry of these tables that the words ask for, the words being those of a line on standard error or one word of the language, or
-/// what can be asked where there are none. Answers whether there is one.
+/// Writes the entry of these tables that the words ask for. The words are those of a line on standard error, or one word of the
+/// language. Without words it writes what can be asked. Returns whether there is such an entry.
 pub fn explain<W: Sink>(tables: &[&[Entry]], words: &[&str], output: &mut W) -> Result<bool, Failed>
     // The entry of the word of the language, or of the question that the words ask for, is written, and nothing else; without
     // words, what can be asked.

@@ -55,7 +55,7 @@ fn method_in(word: &[u8]) -> &[u8] {
     }
 }
 
-/// The word of the language for the method that a word calls.
+/// Returns the word of the language for the method that a word calls.
 pub fn row_of(alloc: Global, word: &[u8]) -> Result<Option<&'static str>, AllocError> {
     let small = in_small_letters(alloc, method_in(word))?;
     for (method, row) in &METHODS {

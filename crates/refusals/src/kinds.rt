@@ -2,7 +2,7 @@
 
 use instruction_table::OperandKind;
 
-/// A thing of this kind, with its article.
+/// Returns a thing of this kind, with its article.
 pub fn called(kind: OperandKind) -> &'static str {
     match kind {
         OperandKind::Target => "a label",

@@ -11,9 +11,10 @@ pub mod entries;
 pub mod entry;
 pub mod table;
 
-// Which words ask for which entry, and the command.
+// Which words ask for which entry, and the command; and which words were meant.
 pub mod explain;
 pub mod question;
+pub mod sought;
 pub mod word;
 
 // What a name names, and the names that a text gives.
@@ -24,6 +25,10 @@ mod names;
 mod java;
 mod meant;
 mod mistaken;
+mod planned;
+
+// The command as it should be typed.
+pub mod typed;
 
 // The place, as it is shown.
 pub mod place;

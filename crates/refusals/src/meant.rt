@@ -1,7 +1,8 @@
-//! What a line may have been meant as, where that is more than its fault's entry says.
+//! What a line may have been meant as, if that is more than its fault's entry says.
 
 use crate::names::is_word_of_the_language;
 use line_reader::asm_fault::AsmFaultKind;
+use line_reader::directive::is_directive;
 use line_reader::words::{before_comment, is_blank};
 use schedule_reader::read_schedule;
 use std::alloc::Global;
@@ -9,7 +10,7 @@ use std::alloc::Global;
 /// What helps where operands are parted by commas.
 const AT_COMMA: &str = "no commas: put blanks between operands, as in `paaa r0 p`";
 
-/// What helps where a comment begins as in other languages.
+/// What helps if a comment begins as in other languages.
 pub const AT_COMMENT: &str = "a comment begins with `;`";
 
 /// How many bytes a text has at most.
@@ -26,15 +27,15 @@ fn is_schedule(alloc: Global, text: &[u8]) -> bool {
     }
 }
 
-/// Whether a word begins with the sign of a comment in other languages.
+/// Returns whether a word begins with the sign of a comment in other languages.
 pub fn has_comment_sign(word: &[u8]) -> bool {
-    word.starts_with(b"#") || word.starts_with(b"//")
+    word.starts_with(b"#") || word.starts_with(b"//") || word.starts_with(b"/*")
 }
 
 /// Whether a word begins such a comment where `#` and a number may stand, too.
 fn begins_other_comment(word: &[u8]) -> bool {
     match word {
-        [b'/', b'/', ..] => true,
+        [b'/', b'/' | b'*', ..] => true,
         [b'#', behind, ..] => !behind.is_ascii_digit(),
         [b'#'] => true,
         _ => false,
@@ -69,7 +70,7 @@ fn has_statement_behind(line: &[u8], word: &[u8]) -> bool {
     }
 }
 
-/// The word behind the one that is `=`, if a line has one.
+/// Returns the word after the one that is `=`, if a line has one.
 pub fn word_assigned(line: &[u8]) -> Option<&[u8]> {
     let mut words = before_comment(line)
         .split(|byte| is_blank(*byte))
@@ -91,6 +92,43 @@ fn is_label_alone(text: &[u8], line: &[u8], word: &[u8]) -> bool {
         })
 }
 
+/// What other languages and Java have, and this one doesn't.
+static ABSENT: [&str; 9] = [
+    "semaphore",
+    "countdownlatch",
+    "latch",
+    "mutex",
+    "lock",
+    "reentrantlock",
+    "synchronized",
+    "condition",
+    "exchanger",
+];
+
+/// Whether a word names what the language doesn't have.
+fn is_absent(word: &[u8]) -> bool {
+    let name = word.strip_prefix(b".".as_slice()).unwrap_or(word);
+    ABSENT
+        .iter()
+        .any(|absent| absent.as_bytes().eq_ignore_ascii_case(name))
+}
+
+/// Whether a word of the language follows the colon of a label without a blank.
+fn has_statement_within(word: &[u8]) -> bool {
+    match word.iter().position(|byte| *byte == b':') {
+        Some(colon) => is_word_of_the_language(word.get(colon.saturating_add(1)..).unwrap_or(&[])),
+        None => false,
+    }
+}
+
+/// Whether a word is in the place of the name that a line declares.
+fn is_in_place_of_name(line: &[u8], word: &[u8]) -> bool {
+    let mut words = before_comment(line)
+        .split(|byte| is_blank(*byte))
+        .filter(|word| !word.is_empty());
+    words.next().is_some_and(|first| is_directive(first)) && words.next() == Some(word)
+}
+
 /// What helps where no word of the language begins what a line says.
 fn helps_at_word(text: &[u8], line: &[u8], word: &[u8]) -> Option<&'static str> {
     if word == b".run".as_slice() {
@@ -102,6 +140,10 @@ fn helps_at_word(text: &[u8], line: &[u8], word: &[u8]) -> Option<&'static str> 
         Some(AT_COMMENT)
     } else if word_assigned(line).is_some() {
         Some("the instruction is first, then the register of its result, as in `ldi r0 5`")
+    } else if is_absent(word) {
+        Some("there are only phasers, barriers and cells: `.phaser p 2`, `.barrier b 2`, `.cell c`")
+    } else if has_statement_within(word) {
+        Some("put a blank behind the colon, as in `main: paaa r0 p`")
     } else if is_label_alone(text, line, word) {
         Some("a label needs a colon, as in `main:`")
     } else if has_statement_behind(line, word) {
@@ -111,7 +153,7 @@ fn helps_at_word(text: &[u8], line: &[u8], word: &[u8]) -> Option<&'static str> 
     }
 }
 
-/// What helps where a file isn't saved as ASCII, by how it begins: with a mark, or with letters of two bytes.
+/// Returns what helps if a file isn't saved as ASCII, by how it begins: with a mark, or with letters of two bytes.
 pub fn helps_at_encoding(bytes: &[u8]) -> Option<&'static str> {
     match bytes {
         [0xef, 0xbb, 0xbf, ..] => Some(
@@ -125,7 +167,7 @@ pub fn helps_at_encoding(bytes: &[u8]) -> Option<&'static str> {
     }
 }
 
-/// What helps at this word of a line.
+/// Returns what helps at this word of a line.
 pub fn helps_at(
     alloc: Global,
     text: &[u8],
@@ -146,6 +188,9 @@ pub fn helps_at(
         AsmFaultKind::OperandCount if before_comment(line).contains(&b',') => Some(AT_COMMA),
         AsmFaultKind::BadRegister if is_number(word) => Some(
             "put the number into a register first, as in `ldi r1 1`",
+        ),
+        AsmFaultKind::BadName if is_in_place_of_name(line, word) => Some(
+            "a declaration begins with its name, as in `.phaser p 2`",
         ),
         AsmFaultKind::BadName if is_number(word) => Some(
             "a declaration begins with its name; an operand is a name, or # and a number: #1",

@@ -1,11 +1,11 @@
-//! What was given in place of a schedule.
+//! What was given instead of a schedule.
 
 use commands::plan::loaded_program;
 use plans::read_plan;
 use std::alloc::Global;
 use workbench::program::program_in;
 
-/// Whether these bytes are a plan for the program in a text.
+/// Returns whether these bytes are a plan for the program in a text.
 pub fn is_plan(alloc: Global, text: &[u8], bytes: &[u8]) -> bool {
     let Ok(program) = program_in(alloc, text) else {
         return false;
@@ -16,7 +16,7 @@ pub fn is_plan(alloc: Global, text: &[u8], bytes: &[u8]) -> bool {
     }
 }
 
-/// Whether these bytes are a trace, by how they begin: a line of the first choice, or the state's.
+/// Returns whether these bytes are a trace, by how they begin: with a line of the first choice, or the state's.
 pub fn is_trace(bytes: &[u8]) -> bool {
     bytes.starts_with(b"1 t") || bytes.starts_with(b"1 x") || bytes.starts_with(b"state ")
 }

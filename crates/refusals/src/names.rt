@@ -25,7 +25,7 @@ fn name_given(line: &[u8]) -> Option<&[u8]> {
     None
 }
 
-/// The number of the first line that gives this name, from 1.
+/// Returns the number of the first line that gives this name, from 1.
 pub fn first_line(text: &[u8], name: &[u8]) -> Option<u64> {
     let mut number: u64 = 0;
     for line in text.split(|byte| *byte == b'\n') {
@@ -37,7 +37,7 @@ pub fn first_line(text: &[u8], name: &[u8]) -> Option<u64> {
     None
 }
 
-/// How far two words are from each other, in letters that are changed, left out or put in.
+/// Returns how far two words are from each other, in letters that are changed, left out or added.
 pub fn distance(alloc: Global, a: &[u8], b: &[u8]) -> Result<usize, AllocError> {
     match (str::from_utf8(a), str::from_utf8(b)) {
         (Ok(a), Ok(b)) => levenshtein(alloc, a, b),
@@ -45,7 +45,7 @@ pub fn distance(alloc: Global, a: &[u8], b: &[u8]) -> Result<usize, AllocError> 
     }
 }
 
-/// The word in small letters.
+/// Returns the word in small letters.
 pub fn in_small_letters(alloc: Global, word: &[u8]) -> Result<Vec<u8>, AllocError> {
     let mut small = Vec::new(alloc);
     for byte in word {
@@ -84,7 +84,7 @@ impl Nearest {
     }
 }
 
-/// The other word of the language that is nearest to this one, where it is near at all: more than half of its letters are right.
+/// Returns the other word of the language that is nearest to this one, if it is near: more than half of its letters are right.
 /// A method of Java's is nearest to its row.
 pub fn nearest_word(alloc: Global, word: &[u8]) -> Result<Option<&'static str>, AllocError> {
     if word == b".run".as_slice() {
@@ -106,11 +106,10 @@ pub fn nearest_word(alloc: Global, word: &[u8]) -> Result<Option<&'static str>, 
     Ok(nearest.word)
 }
 
-/// What a directive may say behind a name.
+/// What a directive may say after a name.
 static OPTIONS: [&str; 6] = ["action", "never", "onadvance", "parent", "phase", "until"];
 
-/// The other option that is nearest to this word, where it is near at all: an option that stands in the wrong place is right by
-/// itself.
+/// Returns the other option that is nearest to this word, if it is near. An option in the wrong place is right by itself.
 pub fn nearest_option(alloc: Global, word: &[u8]) -> Result<Option<&'static str>, AllocError> {
     if OPTIONS.iter().any(|option| option.as_bytes() == word) {
         return Ok(None);
@@ -123,12 +122,12 @@ pub fn nearest_option(alloc: Global, word: &[u8]) -> Result<Option<&'static str>
     Ok(nearest.word)
 }
 
-/// Whether a row or a directive has this word.
+/// Returns whether a row or a directive has this word.
 pub fn is_word_of_the_language(word: &[u8]) -> bool {
     shape_of(word).is_some() || is_directive(word)
 }
 
-/// The name of the text that is nearest to this one, where it is near at all.
+/// Returns the name of the text that is nearest to this one, if it is near.
 pub fn nearest_name<'a>(
     alloc: Global,
     text: &'a [u8],

@@ -1,12 +1,13 @@
 //! The place of a refusal, and its words.
 
+use crate::entries::tables;
 use crate::java::row_of;
 use crate::kinds::called;
 use crate::meant::{helps_at, helps_at_encoding, word_assigned};
 use crate::mistaken::{is_plan, is_trace};
 use crate::names::{first_line, nearest_name, nearest_option, nearest_word};
-use crate::question::question_in_line;
-use crate::shown::{push_file, push_line, push_marked, push_shown, word_at};
+use crate::question::{question_in_line, question_of};
+use crate::shown::{push_file, push_file_alone, push_line, push_marked, push_shown, word_at};
 use crate::word::{WordEntry, word_entry};
 use assembler::assemble;
 use assembler::made::line_that_makes;
@@ -24,14 +25,14 @@ use schedule_reader::ScheduleFault;
 use std::alloc::{AllocError, Global};
 use workbench::fault::Fault;
 
-/// A file, by its name, and what it holds.
+/// A file, with its name and what it holds.
 #[derive(Clone, Copy)]
 pub struct Named<'a> {
     pub name: &'a str,
     pub bytes: &'a [u8],
 }
 
-/// A program's file: where a schedule may stand behind its text, that text, and where the schedule begins.
+/// A program's file: its text, and where a schedule begins, if one can follow the text.
 #[derive(Clone, Copy)]
 pub struct ProgramFile<'a> {
     pub file: Named<'a>,
@@ -57,6 +58,13 @@ impl From<AllocError> for Unshown {
 
 /// More bytes than the line of a fault has.
 const LONGEST_LINE: usize = 64;
+
+/// What was shown of a place: whether the line of a file was, and what helps there, where that is more than its entry says.
+#[derive(Clone, Copy)]
+struct Shown {
+    has_line: bool,
+    helps: Option<&'static str>,
+}
 
 /// What a name is, and what should stand in its place; or the name that may have been meant.
 fn push_name<E: Sink>(
@@ -232,10 +240,13 @@ fn push_text_place<E: Sink>(
     other: Option<Named<'_>>,
     number: u64,
     kind: AsmFaultKind,
-) -> Result<Option<&'static str>, Unshown> {
+) -> Result<Shown, Unshown> {
     let file = program.file;
     let Some(line) = line_at(file.bytes, number) else {
-        return Ok(None);
+        return Ok(Shown {
+            has_line: false,
+            helps: None,
+        });
     };
     push_file(errors, file.name, number)?;
     let Some(
@@ -247,31 +258,64 @@ fn push_text_place<E: Sink>(
     ) = fault_of(alloc, program, number, kind)
     else {
         push_line(errors, line)?;
-        return Ok(helps_at(alloc, program.text, kind, number, line, &[]));
+        return Ok(Shown {
+            has_line: true,
+            helps: helps_at(alloc, program.text, kind, number, line, &[]),
+        });
     };
     push_marked(errors, line, at)?;
     let word = word_at(line, at);
+    push_alike(alloc, errors, file.bytes, line, at, kind, unknown)?;
+    Ok(Shown {
+        has_line: true,
+        helps: helps_at_word(alloc, program, other, number, kind, line, word),
+    })
+}
+
+/// What may have been meant by the word that is wrong, and the form of what its line says.
+fn push_alike<E: Sink>(
+    alloc: Global,
+    errors: &mut E,
+    text: &[u8],
+    line: &[u8],
+    at: WordPlace,
+    kind: AsmFaultKind,
+    unknown: Option<UnknownName>,
+) -> Result<(), Unshown> {
+    let word = word_at(line, at);
     match kind {
-        AsmFaultKind::UnknownName => push_name(alloc, errors, file.bytes, unknown, word)?,
-        AsmFaultKind::NameTwice => push_given(errors, file.bytes, word)?,
-        AsmFaultKind::UnknownWord => push_near_word(alloc, errors, line, word)?,
+        AsmFaultKind::UnknownName => push_name(alloc, errors, text, unknown, word),
+        AsmFaultKind::NameTwice => push_given(errors, text, word),
+        AsmFaultKind::UnknownWord => push_near_word(alloc, errors, line, word),
         AsmFaultKind::BadOption => {
             push_near(errors, nearest_option(alloc, word)?)?;
-            push_form(errors, line, at)?;
+            push_form(errors, line, at)
         }
         AsmFaultKind::OperandCount
         | AsmFaultKind::BadRegister
         | AsmFaultKind::BadNumber
         | AsmFaultKind::OutOfRange
-        | AsmFaultKind::BadName => push_form(errors, line, at)?,
-        _ => {}
+        | AsmFaultKind::BadName => push_form(errors, line, at),
+        _ => Ok(()),
     }
+}
+
+/// What helps at the word that is wrong: of the word, its line, or the file.
+fn helps_at_word(
+    alloc: Global,
+    program: ProgramFile<'_>,
+    other: Option<Named<'_>>,
+    number: u64,
+    kind: AsmFaultKind,
+    line: &[u8],
+    word: &[u8],
+) -> Option<&'static str> {
     let helps = helps_at(alloc, program.text, kind, number, line, word);
     let stands_first = other.is_some_and(|other| is_plan(alloc, other.bytes, program.text));
     if helps.is_none() && (program.file.name.ends_with(".plan") || stands_first) {
-        return Ok(Some("this looks like a plan: the program comes first"));
+        return Some("this looks like a plan: the program comes first");
     }
-    Ok(helps)
+    helps
 }
 
 /// The place of the first word of what a line says, its label left out.
@@ -297,35 +341,36 @@ fn place_of_statement(line: &[u8]) -> Option<WordPlace> {
     })
 }
 
-/// The line that makes the thing of this number, from 0.
+/// The line that makes the thing of this number, from 0. Answers whether there is one.
 fn push_made_place<E: Sink>(
     alloc: Global,
     errors: &mut E,
     program: ProgramFile<'_>,
     made: OperandKind,
     number: u64,
-) -> Result<(), Unshown> {
+) -> Result<bool, Unshown> {
     if let Some(at) = line_that_makes(alloc, program.text, made, number) {
         let line = line_at(program.text, at).unwrap_or(&[]);
         if let Some(place) = place_of_statement(line) {
             push_file(errors, program.file.name, at)?;
             push_marked(errors, line, place)?;
+            return Ok(true);
         }
     }
-    Ok(())
+    Ok(false)
 }
 
-/// The line of the last row.
+/// The line of the last row. Answers whether there is one.
 fn push_last_row<E: Sink>(
     alloc: Global,
     errors: &mut E,
     program: ProgramFile<'_>,
-) -> Result<(), Unshown> {
+) -> Result<bool, Unshown> {
     let Ok(image) = assemble(alloc, program.text) else {
-        return Ok(());
+        return Ok(false);
     };
     match image.rows.as_slice().len() {
-        0 => Ok(()),
+        0 => Ok(false),
         rows => push_made_place(
             alloc,
             errors,
@@ -357,26 +402,29 @@ fn made_in(fault: LoadFault) -> Option<(OperandKind, u64)> {
     }
 }
 
-/// The line of what a load fault is about; where a thread could go on past the last row, that row's.
+/// The line of what a load fault is about; where a thread could go on past the last row, that row's. Answers whether there is one.
 fn push_load_place<E: Sink>(
     alloc: Global,
     errors: &mut E,
     program: ProgramFile<'_>,
     fault: LoadFault,
-) -> Result<(), Unshown> {
+) -> Result<bool, Unshown> {
+    if program.file.bytes.starts_with(b"PBW") {
+        return Ok(false);
+    }
     match made_in(fault) {
         Some((made, number)) => push_made_place(alloc, errors, program, made, number),
         None if fault == LoadFault::FallsOff => push_last_row(alloc, errors, program),
-        None => Ok(()),
+        None => Ok(false),
     }
 }
 
-/// The token of a schedule at an offset, marked in its line.
+/// The token of a schedule at an offset, marked in its line. Answers whether there is one.
 fn push_token_place<E: Sink>(
     errors: &mut E,
     file: Named<'_>,
     offset: usize,
-) -> Result<(), Unshown> {
+) -> Result<bool, Unshown> {
     let mut number: u64 = 0;
     let mut begin: usize = 0;
     for line in file.bytes.split(|byte| *byte == b'\n') {
@@ -386,26 +434,26 @@ fn push_token_place<E: Sink>(
             push_file(errors, file.name, number)?;
             let at = offset - begin;
             push_marked(errors, line, WordPlace { at, length: 1 })?;
-            return Ok(());
+            return Ok(true);
         }
         begin = end.saturating_add(1);
     }
-    Ok(())
+    Ok(false)
 }
 
-/// The token of a schedule, which stands in a file of its own or behind the program's text.
+/// The token of a schedule, which stands in a file of its own or behind the program's text. Answers whether it is shown.
 fn push_schedule_place<E: Sink>(
     errors: &mut E,
     program: ProgramFile<'_>,
     schedule: Option<Named<'_>>,
     offset: u64,
-) -> Result<(), Unshown> {
+) -> Result<bool, Unshown> {
     let Ok(offset) = usize::try_from(offset) else {
-        return Ok(());
+        return Ok(false);
     };
     match schedule {
         // Nothing is known of what came by a pipe.
-        Some(schedule) if schedule.bytes.is_empty() => Ok(()),
+        Some(schedule) if schedule.bytes.is_empty() => Ok(false),
         Some(schedule) => push_token_place(errors, schedule, offset),
         None => push_token_place(
             errors,
@@ -438,50 +486,79 @@ fn helps_at_schedule(
     }
 }
 
-/// Where a fault is in the files, and what helps there, where that is more than its entry says.
+/// Where a fault is in the files, as far as they can be read again.
 fn push_found<E: Sink>(
     alloc: Global,
     errors: &mut E,
     fault: Fault,
     program: ProgramFile<'_>,
     schedule: Option<Named<'_>>,
-) -> Result<Option<&'static str>, Unshown> {
+) -> Result<Shown, Unshown> {
     match fault {
         Fault::Asm(fault) if fault.kind != AsmFaultKind::Memory => push_text_place(
             alloc, errors, program, schedule, fault.line, fault.kind,
         ),
-        Fault::Load(fault) if !program.file.bytes.starts_with(b"PBW") => {
-            push_load_place(alloc, errors, program, fault)?;
-            Ok(None)
-        }
+        Fault::Load(fault) => Ok(Shown {
+            has_line: push_load_place(alloc, errors, program, fault)?,
+            helps: None,
+        }),
         Fault::Schedule(
             ScheduleFault::Byte(at) | ScheduleFault::Number(at) | ScheduleFault::Repeat(at),
-        ) => {
-            push_schedule_place(errors, program, schedule, at)?;
-            Ok(helps_at_schedule(alloc, program, schedule))
-        }
-        _ => Ok(None),
+        ) => Ok(Shown {
+            has_line: push_schedule_place(errors, program, schedule, at)?,
+            helps: helps_at_schedule(alloc, program, schedule),
+        }),
+        _ => Ok(Shown {
+            has_line: false,
+            helps: None,
+        }),
     }
 }
 
+/// The file that a fault is of, by its name.
+fn file_of<'a>(
+    fault: Fault,
+    program: ProgramFile<'a>,
+    schedule: Option<Named<'a>>,
+) -> Option<&'a str> {
+    match fault {
+        Fault::Asm(_) | Fault::Image(_) | Fault::Load(_) => Some(program.file.name),
+        Fault::Schedule(_) | Fault::TooLong(_) => match schedule {
+            Some(schedule) => Some(schedule.name),
+            None => Some(program.file.name),
+        },
+        Fault::Memory | Fault::Spawn | Fault::Read | Fault::Write => None,
+    }
+}
+
+/// Whether what is told is that there was no memory.
+fn is_of_memory(why: Unplanned) -> bool {
+    why.status() == 4 && !matches!(why, Unplanned::Fault(Fault::Spawn))
+}
+
 /// Writes what the line means that tells this, as `explain` does with the line's words, but for what helps where that is known
-/// better.
+/// better. No memory is needed where there was none.
 pub fn push_meaning<E: Sink>(
     alloc: Global,
     errors: &mut E,
     why: Unplanned,
     helps: Option<&'static str>,
 ) -> Result<(), Unshown> {
-    let mut line = MemorySink::new(alloc, LONGEST_LINE, None)?;
-    why.tell(&mut line)?;
-    if let Some(question) = question_in_line(alloc, line.bytes())? {
+    let question = if is_of_memory(why) {
+        question_of(&tables(), &["memory"])
+    } else {
+        let mut line = MemorySink::new(alloc, LONGEST_LINE, None)?;
+        why.tell(&mut line)?;
+        question_in_line(alloc, line.bytes())?
+    };
+    if let Some(question) = question {
         let entry = question.entry.with_help(helps);
         entry.push_words(errors, question.place)?;
     }
     Ok(())
 }
 
-/// Writes where the place of a fault is, if it is one of a program's text or of a schedule, and then the words of its entry.
+/// Writes where the place of a fault is, or which file it is of, and then the words of its entry.
 pub fn push_place<E: Sink>(
     alloc: Global,
     fault: Fault,
@@ -489,6 +566,9 @@ pub fn push_place<E: Sink>(
     schedule: Option<Named<'_>>,
     errors: &mut E,
 ) -> Result<(), Unshown> {
-    let helps = push_found(alloc, errors, fault, program, schedule)?;
-    push_meaning(alloc, errors, Unplanned::Fault(fault), helps)
+    let shown = push_found(alloc, errors, fault, program, schedule)?;
+    if let (false, Some(file)) = (shown.has_line, file_of(fault, program, schedule)) {
+        push_file_alone(errors, file)?;
+    }
+    push_meaning(alloc, errors, Unplanned::Fault(fault), shown.helps)
 }

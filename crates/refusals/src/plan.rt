@@ -1,10 +1,11 @@
 //! The place of a plan's fault, and its words.
 ghost use Rattle.std.specs.Prelude.{◌≤◌, length};
 
-use crate::meant::{AT_COMMENT, has_comment_sign, helps_at_encoding};
+use crate::meant::helps_at_encoding;
 use crate::names::distance;
 use crate::place::{Named, ProgramFile, Unshown, push_meaning};
-use crate::shown::{push_file, push_line, push_marked, push_shown, word_at};
+use crate::planned::{helps_at_name, helps_at_word};
+use crate::shown::{push_file, push_file_alone, push_line, push_marked, push_shown, word_at};
 use assembler::word_place::{WordPlace, line_at};
 use byte_ports::Sink;
 use commands::plan::loaded_program;
@@ -135,7 +136,7 @@ fn name_in(word: &[u8]) -> &[u8] {
     }
 }
 
-/// A name that may have been meant, how far it is, and whether it is that of a thread whose wait is to run out.
+/// A name that may have been meant, how far it is, and whether it is that of a thread whose wait is to expire.
 #[derive(Clone, Copy)]
 struct Near<'a> {
     far: usize,
@@ -192,8 +193,32 @@ fn push_near<E: Sink>(
     Ok(())
 }
 
-/// Shows the line of a plan's fault, with a mark below the word that is wrong. Answers what helps there, where that is more than
-/// its entry says.
+/// The byte before a word of a line.
+fn byte_before(line: &[u8], place: WordPlace) -> Option<u8> {
+    let before = line.get(..place.at).unwrap_or(&[]);
+    before.last().copied()
+}
+
+/// What helps at a word of a plan's line, where that is more than its fault's entry says.
+fn helps_in(
+    plan: &[u8],
+    kind: PlanFaultKind,
+    line: &[u8],
+    place: WordPlace,
+) -> Option<&'static str> {
+    if let Some(helps) = helps_at_encoding(plan) {
+        return Some(helps);
+    }
+    let word = word_at(line, place);
+    match kind {
+        PlanFaultKind::BadWord => helps_at_word(word, byte_before(line, place)),
+        PlanFaultKind::NotNamed => helps_at_name(word),
+        _ => None,
+    }
+}
+
+/// Shows the line of a plan's fault, with a mark below the word that is wrong, or else which plan it is of. Answers what helps
+/// there, where that is more than its entry says.
 fn push_shown_place<E: Sink>(
     alloc: Global,
     errors: &mut E,
@@ -204,6 +229,7 @@ fn push_shown_place<E: Sink>(
     requires { length names.now ≤ 64 }
 {
     let Some(line) = line_at(plan.bytes, fault.line) else {
+        push_file_alone(errors, plan.name)?;
         return Ok(None);
     };
     push_file(errors, plan.name, fault.line)?;
@@ -212,16 +238,13 @@ fn push_shown_place<E: Sink>(
         return Ok(None);
     };
     push_marked(errors, line, place)?;
-    let word = word_at(line, place);
-    match fault.kind {
-        PlanFaultKind::NotNamed => push_near(alloc, errors, names, word)?,
-        PlanFaultKind::BadWord if has_comment_sign(word) => return Ok(Some(AT_COMMENT)),
-        _ => {}
+    if fault.kind == PlanFaultKind::NotNamed {
+        push_near(alloc, errors, names, word_at(line, place))?;
     }
-    Ok(helps_at_encoding(plan.bytes))
+    Ok(helps_in(plan.bytes, fault.kind, line, place))
 }
 
-/// Writes where a plan's fault is, where the plan can be read again, and then the words of its entry.
+/// Writes the place of a plan's fault, if the plan can be read again, and then its entry.
 pub fn push_plan_place<E: Sink>(
     alloc: Global,
     fault: PlanFault,
@@ -230,7 +253,9 @@ pub fn push_plan_place<E: Sink>(
     errors: &mut E,
 ) -> Result<(), Unshown> {
     let mut helps = None;
-    if !plan.bytes.is_empty() {
+    if plan.bytes.is_empty() {
+        push_file_alone(errors, plan.name)?;
+    } else {
         if let Ok(program) = program_in(alloc, program.text) {
             if let Ok((_, names)) = loaded_program(alloc, program.image, &program.names) {
                 helps = push_shown_place(alloc, errors, fault, names.as_slice(), plan)?;

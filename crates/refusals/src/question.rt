@@ -9,7 +9,7 @@ use crate::entry::{Entry, Place};
 use crate::word::is_word;
 use std::alloc::{AllocError, Global};
 
-/// What is asked for: an entry, and the place that was told.
+/// What is asked for: an entry, and the place in the words.
 #[derive(Clone, Copy)]
 pub struct Question {
     pub entry: Entry,
@@ -140,7 +140,7 @@ fn without_refused<'a, 'b>(words: &'b [&'a str]) -> &'b [&'a str]
     }
 }
 
-/// What the words of a line ask for of these tables. A place may be left out, and so may the word `refused`.
+/// Returns what the words of a line ask for in these tables. A place may be left out, and so may the word `refused`.
 pub(crate) fn question_of(tables: &[&[Entry]], words: &[&str]) -> Option<Question>
     ensures { MatchOption result ((q : Question) → AsksFor tables.now (texts words.now) q → ⊥)
         (AsksFor tables.now (texts words.now)) }
@@ -148,7 +148,7 @@ pub(crate) fn question_of(tables: &[&[Entry]], words: &[&str]) -> Option<Questio
     question_among(tables, without_refused(words))
 }
 
-/// What a line asks for by its words.
+/// Returns what a line asks for by its words.
 pub(crate) fn question_in_line(alloc: Global, line: &[u8]) -> Result<Option<Question>, AllocError> {
     let mut words = Vec::new(alloc);
     for word in str::from_utf8(line).unwrap_or("").split_ascii_whitespace() {

@@ -10,7 +10,7 @@ const WIDTH: usize = 72;
 /// What stands for the beginning of a line that isn't shown.
 const DOTS: &[u8] = b"... ";
 
-/// The bytes of a word in its line.
+/// Returns the bytes of a word in its line.
 pub fn word_at(line: &[u8], place: WordPlace) -> &[u8] {
     line.get(place.at..place.at.saturating_add(place.length))
         .unwrap_or(&[])
@@ -58,12 +58,12 @@ fn push_part<E: Sink>(errors: &mut E, line: &[u8], from: usize) -> Result<(), Fa
     errors.push(b"\n")
 }
 
-/// Writes a line alone.
+/// Writes only a line.
 pub fn push_line<E: Sink>(errors: &mut E, line: &[u8]) -> Result<(), Failed> {
     push_part(errors, line, 0)
 }
 
-/// Writes the part of a line where the place is, and a mark below it.
+/// Writes the part of a line with the place, and a mark below it.
 pub fn push_marked<E: Sink>(errors: &mut E, line: &[u8], place: WordPlace) -> Result<(), Failed> {
     let from = window(line, place);
     push_part(errors, line, from)?;
@@ -73,6 +73,21 @@ pub fn push_marked<E: Sink>(errors: &mut E, line: &[u8], place: WordPlace) -> Re
     }
     push_times(errors, place.at.saturating_sub(from), b" ")?;
     push_times(errors, place.length.min(WIDTH), b"^")?;
+    errors.push(b"\n")
+}
+
+/// The name of standard input as a file.
+const INPUT: &str = "/dev/stdin";
+
+/// Writes the name of a file of which no line is shown.
+pub fn push_file_alone<E: Sink>(errors: &mut E, file: &str) -> Result<(), Failed> {
+    let name = if file == INPUT {
+        "standard input"
+    } else {
+        file
+    };
+    errors.push(b"  File:    ")?;
+    errors.push(name.as_bytes())?;
     errors.push(b"\n")
 }
 

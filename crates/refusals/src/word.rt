@@ -1,4 +1,4 @@
-//! What is told of a word of the language: a row of the instruction table, or a word that begins with a dot.
+//! What is said about a word of the language: a row of the instruction table, or a word that begins with a dot.
 ghost use Rattle.std.specs.Prelude.{◌≡◌, IsTrue, MatchOption, OnErr, OnOk, bytes_eq};
 ghost use Rattle.std.specs.Io.KnownBytes.{Appends};
 ghost use Rattle.refusals.specs.Word.{IsItsWord, IsNoWord, more_of, word_text};
@@ -10,7 +10,7 @@ use byte_ports::{Failed, Sink};
 use instruction_table::shape_of;
 use line_reader::directive::is_directive;
 
-/// Whether a word is this one.
+/// Returns whether the two words are equal.
 pub(crate) fn is_word(word: &str, told: &str) -> bool
     ensures { result ≡ bytes_eq word.now told.now }
 {
@@ -30,21 +30,21 @@ fn more_of(word: &str) -> &'static str
     }
 }
 
-/// What is told of a word.
+/// What is said about a word.
 #[derive(Clone, Copy, Debug)]
 pub struct WordEntry {
     pub word: &'static str,
     /// The word and its operands, as the documents write them.
     pub form: &'static str,
-    /// What may stand for each operand.
+    /// What each operand can be.
     pub operands: &'static str,
     /// What it is in Java.
     pub java: &'static str,
-    /// What it does, and what it answers.
+    /// What it does, and what it returns.
     pub means: &'static str,
     /// What a trace shows of it.
     pub event: &'static str,
-    /// A text with its schedule in which it is played.
+    /// A text with a schedule that plays it.
     pub example: &'static str,
 }
 

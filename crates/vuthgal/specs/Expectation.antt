@@ -1,4 +1,4 @@
--- What a command comes to whose run is to end as it is expected to.
+-- The result of a command whose run is to end as expected.
 use Rattle.std.specs.Prelude.{ℕ, Bool, true, false, List}
 use Rattle.std.specs.Global.{Vec}
 use Rattle.std.specs.List.{list_all}
@@ -11,7 +11,7 @@ use Rattle.workbench.specs.declared.done.Done.TheVariants as done
 abbrev pub are_as_expected : List (Vec ℕ) → RunEnd → Bool
 are_as_expected expected end = list_all (λ (text : Vec ℕ). is_end_expected end text.items) expected
 
--- what a command comes to whose run ended so
+-- the result of a command whose run ended so
 abbrev pub done_by : Bool → Done
 done_by true = done.AsAsked
 done_by false = done.Unlike

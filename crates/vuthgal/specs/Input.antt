@@ -9,7 +9,7 @@ left_of of_file of_standard (File file) = of_file file
 left_of of_file of_standard (Standard standard) = of_standard standard
 left_of of_file of_standard (Text text) = Some text.now
 
--- of one that may end before its source does, or has, nothing is told
+-- nothing is known of an input that may end, or has ended, before its source does
 abbrev pub unless_cut : {A : Type 0} → (is_over : Bool) → Option A → Option (List ℕ) → Option (List ℕ)
 unless_cut false None left = left
 unless_cut _ _ left = None

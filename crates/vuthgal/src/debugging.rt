@@ -1,6 +1,7 @@
 //! Sessions of the debugger.
 ghost use Rattle.workbench.specs.ProgramFile.{IsNamedProgram};
 
+use crate::help::push_no_trace;
 use crate::input::Input;
 use crate::planning::runs_of_plan;
 use crate::steps::{Holds, OpenSteps, opened};
@@ -117,9 +118,18 @@ fn guide<'a>(rt: &HostRuntime, program: Program<'_>, steps: OpenSteps<'_>) -> An
     }
 }
 
-/// Carries out the commands on standard input on the program in a file, behind the choices that the words name. Who stands at a
-/// terminal is guided.
+/// Carries out the commands on standard input on the program in a file, after the choices that the arguments name. A person at
+/// a terminal is guided.
 pub fn debug<'a>(rt: &HostRuntime, file: &'a str, steps: Steps<'a>) -> Answer<'a> {
+    let done = debugged(rt, file, steps)?;
+    if let (Done::Unlike, Steps::Named(trace)) = (done, steps) {
+        push_no_trace(rt, trace);
+    }
+    Ok(done)
+}
+
+/// The session itself.
+fn debugged<'a>(rt: &HostRuntime, file: &'a str, steps: Steps<'a>) -> Answer<'a> {
     let (file, steps) = opened(rt, file, steps, Holds::Trace)?;
     let program = program_in(rt.alloc(), file.as_slice())?;
     if rt.stdin().is_terminal() && rt.stderr().is_terminal() {

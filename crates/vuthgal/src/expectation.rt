@@ -1,4 +1,4 @@
-//! Whether a run ended as it was expected to.
+//! Whether a run ended as expected.
 
 ghost use Rattle.std.specs.Prelude.{◌≡◌};
 ghost use Rattle.vuthgal.specs.Expectation.{are_as_expected, done_by};
@@ -57,7 +57,7 @@ fn numbered(alloc: Global, symbols: &Symbols<'_>, text: &[u8]) -> Result<Vec<u8>
     Ok(numbered)
 }
 
-/// What is expected of a run of a program with these names, by the numbers of its things.
+/// Returns what is expected of a run of a program with these names, by the numbers of its objects.
 pub fn expectations(
     alloc: Global,
     names: &Symbols<'_>,
@@ -79,7 +79,7 @@ fn are_as_expected(expected: &[Vec<u8>], end: &RunEnd) -> bool
         .all(|text| is_end_expected(end, text.as_slice()))
 }
 
-/// What a command comes to whose run ended so.
+/// Returns the result of a command whose run ended so.
 pub fn as_expected(expected: &[Vec<u8>], end: &RunEnd) -> Done
     ensures { result ≡ done_by (are_as_expected expected.now end.now) }
 {
@@ -146,7 +146,7 @@ fn push_all_unmet<E: Sink>(
     Ok(())
 }
 
-/// Tells what stands otherwise than it was expected to, a line for each, and on a terminal which name may have been meant.
+/// Reports what differs from what was expected, a line for each, and at a terminal which name may have been meant.
 pub fn tell_unmet(rt: &HostRuntime, program: &[u8], expected: &[Vec<u8>], end: &RunEnd) {
     let mut errors = WritePort::new(printable::errors(rt));
     let _ = push_all_unmet(&mut errors, expected, end);

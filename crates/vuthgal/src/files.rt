@@ -1,4 +1,4 @@
-//! The files that the words name.
+//! The files that the arguments name.
 
 use crate::no_command::NoCommand;
 use crate::trouble::Trouble;
@@ -7,7 +7,7 @@ use std::fs::{self, File, Metadata, OpenOptions};
 use std::os::unix::fs::{FileTypeExt, MetadataExt};
 use workbench::input::read_all;
 
-/// A file to read from, from its beginning.
+/// Opens a file to read from its beginning.
 pub fn read<'a>(rt: &HostRuntime, path: &'a str) -> Result<File, NoCommand<'a>> {
     fs::open(rt, path).map_err(|error| NoCommand::Unread(path, error))
 }
@@ -18,7 +18,7 @@ pub fn contents<'a>(rt: &HostRuntime, path: &'a str) -> Result<Vec<u8>, Trouble<
     Ok(read_all(rt.alloc(), &mut ReadPort::new(file))?)
 }
 
-/// How many bytes a file has, 0 where that isn't known.
+/// Returns how many bytes a file has, or 0 if that isn't known.
 pub fn size(file: &File) -> u64 {
     match file.metadata() {
         Ok(metadata) if metadata.is_file() => metadata.len(),
@@ -26,7 +26,7 @@ pub fn size(file: &File) -> u64 {
     }
 }
 
-/// Whether standard output is a pipe, so that another program shows or uses what is written.
+/// Returns whether standard output is a pipe, so that another program shows or uses what is written.
 pub fn writes_to_pipe(rt: &HostRuntime) -> bool {
     match fs::metadata(rt, "/dev/stdout") {
         Ok(metadata) => metadata.file_type().is_fifo(),
@@ -57,7 +57,7 @@ fn make_empty<'a>(path: &'a str, file: &File, source: &File) -> Result<(), NoCom
     Ok(())
 }
 
-/// A file to write to, made if it isn't there, and made empty, but not where it is the one that is read from.
+/// Opens a file to write to. It is made if it doesn't exist, and made empty, but not if it is the file that is read from.
 pub fn write<'a>(rt: &HostRuntime, path: &'a str, source: &File) -> Result<File, NoCommand<'a>> {
     let file = OpenOptions::new()
         .write(true)

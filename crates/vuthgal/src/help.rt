@@ -1,13 +1,15 @@
-//! The words that follow what is told, where standard error is a terminal or they are asked for: a person's help alone.
+//! The words that follow the line, if standard error is a terminal or they are asked for. They only help a person.
 
-use crate::explaining::is_explained;
+use crate::explaining::{is_explained, is_to_be_explained};
 use crate::files::writes_to_pipe;
 use crate::printable;
-use byte_ports::{Sink, WritePort};
+use byte_ports::{Failed, Sink, WritePort};
 use command_line::request::{Request, Steps};
+use commands::unplanned::Unplanned;
 use plans::fault::PlanFault;
-use refusals::place::{Named, ProgramFile, push_place};
+use refusals::place::{Named, ProgramFile, push_meaning, push_place};
 use refusals::push_plan_place;
+use refusals::typed::{is_unquoted_plan, push_typed, push_word};
 use std::alloc::AllocError;
 use std::fmt::Display;
 use std::fs;
@@ -18,17 +20,24 @@ use workbench::run_line::split_at_run;
 /// How long a file is that is read again.
 const LONGEST: u64 = 16_777_216;
 
-/// The name of standard input as a file.
+/// The name of standard input as a file, and as it is told.
 const INPUT: &str = "/dev/stdin";
 
-/// The files that a refusal may be about: the program's, and the schedule's or the plan's where it isn't the same. A plan may be a
-/// word itself.
+const STANDARD_INPUT: &str = "standard input";
+
+/// The name of standard output as a file.
+const OUTPUT: &str = "/dev/stdout";
+
+/// The files that a refusal may be about: the program's, and the schedule's, the plan's or the trace's where it isn't the same. A
+/// plan may be a word itself.
 #[derive(Clone, Copy)]
 pub struct Files<'a> {
     program: &'a str,
     schedule: Option<&'a str>,
     plan: Option<&'a str>,
-    /// What was read of standard input, where that is known.
+    /// The file that is written, where that isn't standard output.
+    output: Option<&'a str>,
+    /// What was read of standard input, if that is known.
     input: Option<&'a [u8]>,
 }
 
@@ -47,6 +56,14 @@ fn words_of<'a>(steps: Steps<'a>) -> (Option<&'a str>, Option<&'a str>) {
     }
 }
 
+/// The file that is written, where that isn't standard output.
+fn output_of<'a>(request: &Request<'a>) -> Option<&'a str> {
+    match request {
+        Request::Asm { image, .. } => Some(*image),
+        _ => None,
+    }
+}
+
 impl<'a> Files<'a> {
     /// Those that the words name.
     pub fn of(request: &Request<'a>) -> Files<'a> {
@@ -60,23 +77,23 @@ impl<'a> Files<'a> {
                 (*file, named, plan)
             }
             Request::Plan { file, plan, .. } => (*file, Some(named(plan.unwrap_or(INPUT))), None),
-            Request::List { file, .. }
-            | Request::Compare { file, .. }
-            | Request::Live { file, .. } => (*file, None, None),
-            Request::Both { .. }
-            | Request::Race { .. }
-            | Request::Choices { .. }
-            | Request::Explain { .. } => (INPUT, None, None),
+            Request::Compare { file, trace, .. } => (*file, Some(named(trace)), None),
+            Request::List { file, .. } | Request::Live { file, .. } => (*file, None, None),
+            Request::Choices { trace } => (named(trace), None, None),
+            Request::Both { .. } | Request::Race { .. } | Request::Explain { .. } => {
+                (INPUT, None, None)
+            }
         };
         Files {
             program,
             schedule,
             plan,
+            output: output_of(request),
             input: None,
         }
     }
 
-    /// They, where so much was read of standard input.
+    /// Returns the files, with this much read of standard input.
     pub fn with_input(self, input: &'a [u8]) -> Files<'a> {
         Files {
             input: Some(input),
@@ -104,33 +121,105 @@ fn program_file<'a>(name: &'a str, bytes: &'a [u8]) -> ProgramFile<'a> {
     }
 }
 
-/// Says which file can't be read, where it is a folder or longer than may be.
-fn push_unreadable(rt: &HostRuntime, path: &str) {
-    let Ok(metadata) = fs::metadata(rt, path) else {
-        return;
+/// A file's name as it is told.
+fn told(path: &str) -> &str {
+    if path == INPUT { STANDARD_INPUT } else { path }
+}
+
+/// Says which file can't be read, where it isn't there any more, is a folder, or is longer than may be. Answers whether it is so.
+fn push_unreadable(rt: &HostRuntime, path: &str) -> bool {
+    let name = told(path);
+    let metadata = match fs::metadata(rt, path) {
+        Ok(metadata) => metadata,
+        Err(error) => {
+            push_text(rt, format!(in rt.alloc(); "{name}: {error}\n"));
+            return true;
+        }
     };
     let length = metadata.len();
     if metadata.is_dir() {
-        push_text(rt, format!(in rt.alloc(); "{path}: it is a folder\n"));
+        push_text(rt, format!(in rt.alloc(); "{name}: it is a folder\n"));
+        true
     } else if metadata.is_file() && length > LONGEST {
         push_text(
             rt,
-            format!(in rt.alloc(); "{path}: it has {length} bytes\n"),
+            format!(in rt.alloc(); "{name}: it has {length} bytes\n"),
         );
+        true
+    } else {
+        false
     }
 }
 
-/// Shows where a fault is, and says what it means. Nobody need be told why a pipe took no more: who read it has gone.
+/// Says which file can't be read.
+fn push_unread(rt: &HostRuntime, files: Files<'_>) {
+    let is_program = push_unreadable(rt, files.program);
+    let is_other = match files.schedule {
+        Some(schedule) => push_unreadable(rt, schedule),
+        None => false,
+    };
+    if !is_program && !is_other {
+        let name = told(files.schedule.unwrap_or(files.program));
+        push_text(rt, format!(in rt.alloc(); "{name}: a read failed\n"));
+    }
+}
+
+/// Says what can't be written.
+fn push_unwritten(rt: &HostRuntime, files: Files<'_>) {
+    let name = files.output.unwrap_or("standard output");
+    let why = if files.output.is_none() && fs::metadata(rt, OUTPUT).is_err() {
+        "it is closed"
+    } else {
+        "a write failed"
+    };
+    push_text(rt, format!(in rt.alloc(); "{name}: {why}\n"));
+}
+
+/// Says what a fault means, without its place.
+pub fn push_words(rt: &HostRuntime, fault: Fault) {
+    if is_to_be_explained(rt) {
+        let mut errors = WritePort::new(printable::errors(rt));
+        let _ = push_meaning(rt.alloc(), &mut errors, Unplanned::Fault(fault), None);
+    }
+}
+
+/// Shows the place of a fault, and says what it means. It says nothing about a pipe that takes no more: its reader has gone.
 pub fn push_help(rt: &HostRuntime, fault: Fault, files: Files<'_>) {
-    if !is_explained(rt) || (matches!(fault, Fault::Write) && writes_to_pipe(rt)) {
-        return;
-    }
-    if matches!(fault, Fault::Read) {
-        push_unreadable(rt, files.program);
-        if let Some(schedule) = files.schedule {
-            push_unreadable(rt, schedule);
+    match fault {
+        Fault::Write if files.output.is_none() && writes_to_pipe(rt) => {}
+        _ if !is_to_be_explained(rt) => {}
+        // No file is read again where there was no memory.
+        _ if fault.status() == 4 => push_place_of(
+            rt,
+            fault,
+            program_file(files.program, &[]),
+            None,
+        ),
+        Fault::Read => {
+            push_unread(rt, files);
+            push_place_of(rt, fault, program_file(files.program, &[]), None);
         }
+        Fault::Write => {
+            push_unwritten(rt, files);
+            push_place_of(rt, fault, program_file(files.program, &[]), None);
+        }
+        _ => push_refusal(rt, fault, files),
     }
+}
+
+/// Shows a fault's place in a program or a schedule, and says what it means.
+fn push_place_of(
+    rt: &HostRuntime,
+    fault: Fault,
+    program: ProgramFile<'_>,
+    schedule: Option<Named<'_>>,
+) {
+    let mut errors = WritePort::new(printable::errors(rt));
+    let _ = push_place(rt.alloc(), fault, program, schedule, &mut errors);
+}
+
+/// Shows where the fault of a file is, which is read again, and says what it means.
+fn push_refusal(rt: &HostRuntime, fault: Fault, files: Files<'_>) {
     let program = contents(rt, files.program);
     let program = program_file(files.program, program.as_slice());
     let bytes = match (files.input, files.schedule) {
@@ -139,7 +228,7 @@ pub fn push_help(rt: &HostRuntime, fault: Fault, files: Files<'_>) {
     };
     let schedule = match files.input {
         Some(bytes) => Some(Named {
-            name: "standard input",
+            name: STANDARD_INPUT,
             bytes,
         }),
         None => files.schedule.map(|name| Named {
@@ -147,13 +236,12 @@ pub fn push_help(rt: &HostRuntime, fault: Fault, files: Files<'_>) {
             bytes: bytes.as_slice(),
         }),
     };
-    let mut errors = WritePort::new(printable::errors(rt));
-    let _ = push_place(rt.alloc(), fault, program, schedule, &mut errors);
+    push_place_of(rt, fault, program, schedule);
 }
 
-/// Shows where a plan's fault is, and says what it means.
+/// Shows the place of a plan's fault, and says what it means.
 pub fn push_plan_help(rt: &HostRuntime, fault: PlanFault, files: Files<'_>) {
-    if !is_explained(rt) {
+    if !is_to_be_explained(rt) {
         return;
     }
     let program = contents(rt, files.program);
@@ -187,7 +275,7 @@ pub fn push_plan_help(rt: &HostRuntime, fault: PlanFault, files: Files<'_>) {
     let _ = push_plan_place(rt.alloc(), fault, program, plan, &mut errors);
 }
 
-/// Tells of a choice of a thread that isn't there, where one ended the run that was shown.
+/// Reports the choice of a thread that doesn't exist, if one ended the run that was shown.
 pub fn push_missing(rt: &HostRuntime, missing: Option<(u64, Choice)>) {
     let Some((step, Choice { thread, expiry })) = missing else {
         return;
@@ -203,7 +291,7 @@ pub fn push_missing(rt: &HostRuntime, missing: Option<(u64, Choice)>) {
     }
 }
 
-/// Writes a text, where what is told is explained.
+/// Writes a text, if refusals are explained.
 pub fn push_explained(rt: &HostRuntime, text: &str) {
     if is_explained(rt) {
         let _ = WritePort::new(printable::errors(rt)).push(text.as_bytes());
@@ -211,8 +299,33 @@ pub fn push_explained(rt: &HostRuntime, text: &str) {
 }
 
 /// How a trace is made.
-pub const NO_TRACE: &str =
+const NO_TRACE: &str =
     "this isn't a line of a trace: `vuthgal run FILE SCHEDULE > TRACE` writes a trace\n";
+
+/// Says which file isn't a trace, and how a trace is made.
+pub fn push_no_trace(rt: &HostRuntime, trace: &str) {
+    if is_to_be_explained(rt) {
+        let name = told(named(trace));
+        push_text(rt, format!(in rt.alloc(); "  File:    {name}\n{NO_TRACE}"));
+    }
+}
+
+/// Writes the words of a command line as a shell takes them.
+fn push_command_line<E: Sink>(errors: &mut E, words: &[String]) -> Result<(), Failed> {
+    errors.push(b"  Command:")?;
+    for word in words {
+        errors.push(b" ")?;
+        push_word(errors, word.as_str())?;
+    }
+    errors.push(b"\n")
+}
+
+/// Says which run didn't end as it was expected to.
+pub fn push_unlike_run(rt: &HostRuntime, words: &[String]) {
+    if is_to_be_explained(rt) {
+        let _ = push_command_line(&mut WritePort::new(printable::errors(rt)), words);
+    }
+}
 
 /// How a line differs that looks like the run's.
 pub const CARRIAGE_RETURN: &str = "the trace's line ends with CR LF, the run's with LF\n";
@@ -224,26 +337,47 @@ pub fn push_text(rt: &HostRuntime, text: Result<String, AllocError>) {
     }
 }
 
-/// Says which file can't be opened and why, and what the line means.
-pub fn push_reason<R: Display>(rt: &HostRuntime, fault: Fault, path: &str, reason: &R) {
-    if is_explained(rt) {
-        push_text(rt, format!(in rt.alloc(); "{path}: {reason}\n"));
-        if path == "-" {
-            push_text(
-                rt,
-                format!(in rt.alloc();
-                    "`-` is standard input as SCHEDULE, TRACE or PLAN, but not as FILE; \
-                    `vuthgal < FILE` plays a text with its schedule\n"
-                ),
-            );
+/// Says what may have been meant by the name of a file that can't be opened, among these words: a file whose name has `.asm`
+/// behind it, or a plan.
+fn push_meant(rt: &HostRuntime, path: &str, words: &[String]) {
+    if path == "-" {
+        push_text(
+            rt,
+            format!(in rt.alloc();
+                "`-` is standard input as SCHEDULE, TRACE or PLAN, but not as FILE; \
+                `vuthgal < FILE` plays a text with its schedule\n"
+            ),
+        );
+    }
+    if let Ok(near) = format!(in rt.alloc(); "{path}.asm") {
+        if fs::metadata(rt, near.as_str()).is_ok() {
+            push_text(rt, format!(in rt.alloc(); "  Near:    {near}\n"));
         }
-        let nothing = program_file(path, &[]);
-        let mut errors = WritePort::new(printable::errors(rt));
-        let _ = push_place(rt.alloc(), fault, nothing, None, &mut errors);
+    }
+    if let [_, command, words @ ..] = words {
+        if let Ok(true) = is_unquoted_plan(rt.alloc(), path, words) {
+            let mut errors = WritePort::new(printable::errors(rt));
+            let _ = push_typed(rt.alloc(), &mut errors, command.as_str(), words);
+        }
     }
 }
 
-/// What to write where the first word is a file and no command. Whether it is one.
+/// Says which file can't be opened and why, what may have been meant, and what the line means.
+pub fn push_reason<R: Display>(
+    rt: &HostRuntime,
+    fault: Fault,
+    path: &str,
+    reason: &R,
+    words: &[String],
+) {
+    if is_to_be_explained(rt) {
+        push_text(rt, format!(in rt.alloc(); "{path}: {reason}\n"));
+        push_meant(rt, path, words);
+        push_place_of(rt, fault, program_file(path, &[]), None);
+    }
+}
+
+/// Says what to write if the first argument is a file and no command. Returns whether it is a file.
 pub fn push_file_hint(rt: &HostRuntime, path: &str) -> bool {
     let is_file = fs::metadata(rt, path).is_ok();
     if is_file {

@@ -1,4 +1,4 @@
-//! What is read: a file, standard input, or a text that is there.
+//! What is read: a file, standard input, or a text in memory.
 
 ghost use Rattle.std.specs.Io.{ReadsAtMost};
 ghost use Rattle.std.specs.Io.KnownBytes.{ReadConsumes};
@@ -10,8 +10,8 @@ use std::fs::File;
 use std::io;
 use std::io::{Read, Stdin};
 
-/// A file that a word names, standard input, or what is left of a text. What it does is the same for any reader in the place of
-/// the first two, so that it can't rest on whether they tell what is left of them.
+/// A file that an argument names, standard input, or what is left of a text. It does the same with any reader for the first
+/// two, so its behaviour can't depend on whether they tell what is left of them.
 #[derive(Drop)]
 pub enum InputOf<'a, F, S> {
     File(F),
@@ -23,7 +23,7 @@ pub enum InputOf<'a, F, S> {
 pub type Input<'a> = InputOf<'a, File, Stdin>;
 
 impl<'a> Input<'a> {
-    /// What a word names: standard input where it is `-`.
+    /// Opens what an argument names: standard input for `-`.
     pub fn named<'b>(rt: &HostRuntime, word: &'b str) -> Result<Input<'a>, NoCommand<'b>> {
         if word == "-" {
             return Ok(Input::Standard(rt.stdin()));
@@ -31,7 +31,7 @@ impl<'a> Input<'a> {
         Ok(Input::File(files::read(rt, word)?))
     }
 
-    /// How many bytes there are, 0 where that isn't known.
+    /// Returns how many bytes there are, or 0 if that isn't known.
     pub fn size(&self) -> u64 {
         match self {
             Input::File(file) => files::size(file),

@@ -38,7 +38,7 @@ use commands::drawing::Drawing;
 use commands::page::Page;
 use debugging::debug;
 use drawing::draw;
-use help::Files;
+use help::{Files, push_unlike_run};
 use living::{meet, play_live};
 use pictures::others::OtherRuns;
 use planning::{count_orders, write_plan};
@@ -49,7 +49,7 @@ use std::thread::Threads;
 use texts::{explain_words, write_image, write_list};
 use traces::{compare, write_choices};
 use trouble::Answer;
-use workbench::done::settled;
+use workbench::done::{Done, settled};
 
 /// Does what is asked for.
 fn done<'a, R: Threads + Wait + Sync>(
@@ -119,6 +119,14 @@ fn done<'a, R: Threads + Wait + Sync>(
     }
 }
 
+/// Whether what is asked for is a run, of whose end something may be expected.
+fn is_run(request: &Request<'_>) -> bool {
+    matches!(
+        request,
+        Request::Both { .. } | Request::Run { .. } | Request::Live { .. }
+    )
+}
+
 /// Does what the words ask for, and answers the exit status. On a terminal what a fault means follows its line.
 fn main(rt: HostRuntime) -> ExitCode {
     let words = match words::given(&rt) {
@@ -131,8 +139,14 @@ fn main(rt: HostRuntime) -> ExitCode {
         Err(no_command) => return ExitCode::from(no_command.tell(&rt, words)),
     };
     let files = Files::of(&request);
+    let is_run = is_run(&request);
     ExitCode::from(match done(&rt, &rt, request) {
-        Ok(done) => settled(Ok(done), &mut WritePort::new(rt.stderr())),
+        Ok(done) => {
+            if is_run && done == Done::Unlike {
+                push_unlike_run(&rt, words);
+            }
+            settled(Ok(done), &mut WritePort::new(rt.stderr()))
+        }
         Err(trouble) => trouble.tell(&rt, words, files),
     })
 }

@@ -1,10 +1,11 @@
 //! Why no command is begun.
 
-use crate::help::{push_file_hint, push_reason, push_text};
-use crate::usage;
-use byte_ports::WritePort;
+use crate::help::{push_file_hint, push_reason, push_text, push_words};
+use crate::{printable, usage};
+use byte_ports::{Sink, WritePort};
 use clap::Error as WordsError;
 use clap::error::ErrorKind;
+use refusals::typed::push_typed;
 use std::alloc::AllocError;
 use std::fmt::Display;
 use std::io;
@@ -12,17 +13,26 @@ use thiserror::Error;
 use workbench::done::{Done, settled};
 use workbench::fault::Fault;
 
-/// The status where the words are wrong.
+/// The status if the arguments are wrong.
 pub const WRONG_WORDS: u8 = 2;
 
 /// What is told of a word that is no text.
 const NOT_TEXT: &str = "error: an argument isn't UTF-8";
+
+/// What is told where `--explain` has a value that is none.
+const WRONG_WHEN: &str = "error: --explain WHEN: WHEN is always, auto or never";
+
+/// What plays kept runs again.
+const OF_CHECK: &[u8] =
+    b"tip: `bin/check` (installed as `vuthgal-check`) plays kept runs and compares them\n";
 
 /// Why no command is begun: the words ask for none, or for help; or a file that they name can't be opened.
 #[derive(Debug, Drop, Error)]
 pub enum NoCommand<'a> {
     #[error("{NOT_TEXT}")]
     NotText,
+    #[error("{WRONG_WHEN}")]
+    WrongWhen,
     #[error("memory")]
     Memory,
     #[error("{0}")]
@@ -46,6 +56,13 @@ fn ended(rt: &HostRuntime, answer: Result<Done, Fault>) -> u8 {
     settled(answer, &mut WritePort::new(rt.stderr()))
 }
 
+/// Tells that there is no memory. Answers the status.
+fn tell_memory(rt: &HostRuntime) -> u8 {
+    let status = ended(rt, Err(Fault::Memory));
+    push_words(rt, Fault::Memory);
+    status
+}
+
 /// Tells what is wrong with the words, if there was memory for it. Answers the status.
 fn push_wrong(rt: &HostRuntime, text: Result<String, AllocError>) -> u8 {
     match text {
@@ -53,14 +70,14 @@ fn push_wrong(rt: &HostRuntime, text: Result<String, AllocError>) -> u8 {
             push_text(rt, Ok(text));
             WRONG_WORDS
         }
-        Err(_) => ended(rt, Err(Fault::Memory)),
+        Err(_) => tell_memory(rt),
     }
 }
 
 /// Tells why the words ask for nothing, or the help that they ask for. Answers the status.
 fn tell_words(rt: &HostRuntime, error: &WordsError, words: &[String]) -> u8 {
     if error.kind() == ErrorKind::OutOfMemory {
-        return ended(rt, Err(Fault::Memory));
+        return tell_memory(rt);
     }
     if !error.use_stderr() {
         let printed = error.print(rt).map_err(|_| Fault::Write);
@@ -68,38 +85,33 @@ fn tell_words(rt: &HostRuntime, error: &WordsError, words: &[String]) -> u8 {
     }
     let told = usage::told(rt, error);
     let is_enough = is_enough(&told);
+    let is_of_steps = has_part(&told, "only one of them");
     let status = push_wrong(rt, told);
-    if status == WRONG_WORDS {
-        if words
-            .iter()
-            .any(|word| word.as_str().starts_with("--explain"))
-        {
-            push_text(
-                rt,
-                format!(in rt.alloc(); "`--explain WHEN`: WHEN is always, auto or never\n"),
-            );
-        } else if !is_enough {
-            push_tip(rt, error.kind(), words);
-        }
+    if status == WRONG_WORDS && !is_enough {
+        push_tip(rt, error.kind(), words, is_of_steps);
     }
     status
 }
 
-/// Whether what is told is enough: what may have been meant, or which option there isn't.
-fn is_enough(told: &Result<String, AllocError>) -> bool {
+/// Whether what is told has this part.
+fn has_part(told: &Result<String, AllocError>, part: &str) -> bool {
     match told {
-        Ok(text) => {
-            let text = text.as_str();
-            let is_of_output = text.find("unexpected argument '--out").is_some();
-            let is_option = text.find("unexpected argument '--").is_some();
-            text.find("tip: a similar").is_some() || is_option && !is_of_output
-        }
+        Ok(text) => text.as_str().find(part).is_some(),
         Err(_) => false,
     }
 }
 
-/// Tells what may have been meant by words that ask for nothing.
-fn push_tip(rt: &HostRuntime, kind: ErrorKind, words: &[String]) {
+/// Whether what is told is enough: what may have been meant, or which option there isn't.
+fn is_enough(told: &Result<String, AllocError>) -> bool {
+    let has_own_tip = has_part(told, "unexpected argument '--out")
+        || has_part(told, "unexpected argument '--plan'")
+        || has_part(told, "unexpected argument '--schedule'");
+    let is_option = has_part(told, "unexpected argument '--");
+    has_part(told, "tip: a similar") || is_option && !has_own_tip
+}
+
+/// Tells what may have been meant by words that ask for nothing, or that name several of a schedule and a plan.
+fn push_tip(rt: &HostRuntime, kind: ErrorKind, words: &[String], is_of_steps: bool) {
     match (kind, words) {
         (ErrorKind::InvalidSubcommand, [_, help, word, ..]) if help.as_str() == "help" =>
             push_near_command(rt, word.as_str()),
@@ -113,13 +125,30 @@ fn push_tip(rt: &HostRuntime, kind: ErrorKind, words: &[String]) {
             command.as_str(),
             rest,
         ),
+        (_, [_, command, rest @ ..]) if is_of_steps => {
+            let _ = push_as_typed(rt, command.as_str(), rest);
+        }
         _ => {}
     }
 }
 
-/// Tells which command is called nearly so.
+/// Tells how a command should be typed that has a plan or a schedule in the wrong place. Answers whether it has.
+fn push_as_typed(rt: &HostRuntime, command: &str, words: &[String]) -> bool {
+    let mut errors = WritePort::new(printable::errors(rt));
+    push_typed(rt.alloc(), &mut errors, command, words).unwrap_or(false)
+}
+
+/// Tells which command is called so by others, or nearly so.
 fn push_near_command(rt: &HostRuntime, word: &str) {
-    if let Ok(Some(command)) = usage::nearest_command(rt, word) {
+    if word == usage::CHECK {
+        let _ = WritePort::new(printable::errors(rt)).push(OF_CHECK);
+    } else if let Some(command) = usage::command_called(word) {
+        let about = usage::about(command);
+        push_text(
+            rt,
+            format!(in rt.alloc(); "tip: '{command}' may be meant: {about}\n"),
+        );
+    } else if let Ok(Some(command)) = usage::nearest_command(rt, word) {
         push_text(
             rt,
             format!(in rt.alloc(); "tip: a similar subcommand exists: '{command}'\n"),
@@ -134,6 +163,9 @@ fn is_for_output(word: &str) -> bool {
 
 /// Tells how what a command doesn't take is asked for.
 fn push_other_way(rt: &HostRuntime, command: &str, words: &[String]) {
+    if push_as_typed(rt, command, words) {
+        return;
+    }
     let way = if words.iter().any(|word| is_for_output(word.as_str())) {
         "`> FILE` writes the output to a file"
     } else if command == "live" {
@@ -149,7 +181,14 @@ fn push_other_way(rt: &HostRuntime, command: &str, words: &[String]) {
 /// Tells a fault of a file in its one line, and on a terminal which file it is, and why. Answers the status.
 fn tell_reason<R: Display>(rt: &HostRuntime, fault: Fault, path: &str, reason: &R) -> u8 {
     let status = ended(rt, Err(fault));
-    push_reason(rt, fault, path, reason);
+    push_reason(rt, fault, path, reason, &[]);
+    status
+}
+
+/// Tells in the same way which file can't be opened, and if it is no file but a plan, how that should be typed.
+fn tell_unread<R: Display>(rt: &HostRuntime, path: &str, reason: &R, words: &[String]) -> u8 {
+    let status = ended(rt, Err(Fault::Read));
+    push_reason(rt, Fault::Read, path, reason, words);
     status
 }
 
@@ -159,8 +198,9 @@ impl<'a> NoCommand<'a> {
         match self {
             NoCommand::Words(error) => tell_words(rt, error, words),
             NoCommand::NotText => push_wrong(rt, usage::with_usage(rt, NOT_TEXT)),
-            NoCommand::Memory => ended(rt, Err(Fault::Memory)),
-            NoCommand::Unread(path, error) => tell_reason(rt, Fault::Read, path, error),
+            NoCommand::WrongWhen => push_wrong(rt, usage::with_usage(rt, WRONG_WHEN)),
+            NoCommand::Memory => tell_memory(rt),
+            NoCommand::Unread(path, error) => tell_unread(rt, path, error, words),
             NoCommand::Unwritten(path, error) => tell_reason(rt, Fault::Write, path, error),
             NoCommand::OneFile(path) => tell_reason(
                 rt,

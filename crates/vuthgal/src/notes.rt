@@ -1,5 +1,5 @@
-//! What a person at a terminal is told beside the output, where it may be other than was meant: a line on standard error, and
-//! only where that is a terminal.
+//! What a person at a terminal reads besides the output, if the command may do something else than was meant: a line on
+//! standard error, only if that is a terminal.
 
 use crate::input::Input;
 use crate::printable;
@@ -30,7 +30,7 @@ pub fn push_no_schedule(rt: &HostRuntime) {
     );
 }
 
-/// A schedule is waited for, where this word names standard input.
+/// A schedule is read from standard input, if this argument names that.
 pub fn push_schedule_waited_for(rt: &HostRuntime, word: &str) {
     if word == "-" {
         push_waiting(
@@ -40,7 +40,7 @@ pub fn push_schedule_waited_for(rt: &HostRuntime, word: &str) {
     }
 }
 
-/// A plan is waited for.
+/// A plan is read from standard input.
 pub fn push_plan_waited_for(rt: &HostRuntime, steps: &Input) {
     if let Input::Standard(_) = steps {
         push_waiting(
@@ -50,7 +50,7 @@ pub fn push_plan_waited_for(rt: &HostRuntime, steps: &Input) {
     }
 }
 
-/// A choice of a thread that isn't there ends a run.
+/// The choice of a thread that doesn't exist ends a run.
 pub fn push_refused(rt: &HostRuntime, end: &RunEnd) {
     let Some(
         Refusal {

@@ -23,7 +23,7 @@ fn push_stopped(rt: &HostRuntime) {
     let _ = WritePort::new(rt.stderr()).push(b"stopped at 1000000 choices\n");
 }
 
-/// The choices of a plan on a program, as runs. That it wanted one more than it may make is told.
+/// Returns the choices of a plan on a program, as runs. If the plan needs more choices than it may make, this is reported.
 pub fn runs_of_plan<'a>(
     rt: &HostRuntime,
     program: &Program<'_>,
@@ -38,7 +38,7 @@ pub fn runs_of_plan<'a>(
     Ok(planned.runs)
 }
 
-/// Writes the schedule that a plan stands for on the program in a file. The plan is standard input where no other is named.
+/// Writes the schedule that a plan stands for on the program in a file. The plan is standard input if no other is named.
 pub fn write_plan<'a>(
     rt: &HostRuntime,
     file: &'a str,
@@ -62,7 +62,7 @@ pub fn write_plan<'a>(
     Ok(Done::AsAsked)
 }
 
-/// Writes what the orders of seeds come to, each behind a plan if there is one.
+/// Writes what the orders of seeds lead to, each after a plan if there is one.
 pub fn count_orders<'a>(
     rt: &HostRuntime,
     file: &'a str,

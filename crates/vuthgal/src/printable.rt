@@ -1,4 +1,4 @@
-//! What a terminal is shown: no byte of an input is written to it that would steer it.
+//! What a terminal shows: no byte of an input that would control the terminal is written to it.
 
 ghost use Rattle.std.specs.Io.{WritesAtMost};
 ghost use Rattle.std.specs.Io.KnownBytes.{WriteAppends};
@@ -10,8 +10,8 @@ use std::io::{IsTerminal, Stderr, Stdout, Write};
 /// How many bytes are written to a terminal at a time.
 const PIECE: usize = 512;
 
-/// A writer to which any byte may be given. Where it is a terminal, a byte that isn't printable ASCII is shown as `?`, a tab as
-/// a blank; LF stays. Into a file or a pipe all bytes go as they are.
+/// A writer for any bytes. If it is a terminal, a byte that isn't printable ASCII is shown as `?`, and a tab as a blank; LF
+/// stays. To a file or a pipe all bytes are written as they are.
 #[derive(Drop)]
 pub struct Printable<W> {
     writer: W,

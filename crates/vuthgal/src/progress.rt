@@ -1,8 +1,8 @@
 //! How far a long run has come, for a person who waits for it.
 //!
-//! It is shown where standard error is a terminal and standard output goes to a file, about once a second, in one line that is
-//! written over; of many live runs, which write at their end alone, wherever standard error is a terminal. Nothing else changes
-//! by it.
+//! It is shown if standard error is a terminal and standard output goes to a file, about once a second, in one line that is
+//! overwritten. For many live runs, which write only at their end, it is shown whenever standard error is a terminal. It
+//! changes nothing else.
 ghost use Rattle.std.specs.Io.{WritesAtMost};
 ghost use Rattle.std.specs.Io.KnownBytes.{WriteAppends};
 ghost use Rattle.std.specs.Prelude.{◌≡◌, ◌≤◌, ◌+◌, IfOk, length};
@@ -43,12 +43,12 @@ const DONE_BETWEEN: u64 = 4096;
 #[derive(Drop)]
 pub struct Meter<'a> {
     rt: &'a HostRuntime,
-    /// Where somebody looks.
+    /// When it began, if somebody looks.
     began: Option<Instant>,
-    /// What stands before the count, and behind it.
+    /// The words before the count and after it.
     words: (&'static str, &'static str),
     done: AtomicU64,
-    /// How many seconds had gone by when it was shown last, 0 where it wasn't.
+    /// How many seconds had gone by when it was shown last, or 0 if it wasn't.
     shown: AtomicU64,
 }
 
@@ -72,12 +72,12 @@ impl<'a> Meter<'a> {
         Meter::new(rt, began_beside_output(rt), ("", "choices"))
     }
 
-    /// Of the times that the workers of a live run pass its gate, which are a little more than the choices that they make.
+    /// Counts how often the workers of a live run pass its gate. That is a little more than the choices that they make.
     pub fn of_live(rt: &'a HostRuntime) -> Meter<'a> {
         Meter::new(rt, began_beside_output(rt), ("about ", "choices"))
     }
 
-    /// Of the choices of many runs, behind which alone something goes to standard output.
+    /// Counts the choices of many runs, which write to standard output only at their end.
     pub fn of_runs(rt: &'a HostRuntime) -> Meter<'a> {
         Meter::new(rt, began(rt), ("about ", "choices"))
     }
@@ -150,7 +150,7 @@ impl<'a> Pace for Meter<'a> {
     }
 }
 
-/// A writer that shows how far the trace has come that passes it in large blocks.
+/// A writer that shows how far the trace has come that is written to it in large blocks.
 #[derive(Drop)]
 pub struct ShownWriter<'a, W> {
     writer: W,
@@ -158,7 +158,7 @@ pub struct ShownWriter<'a, W> {
 }
 
 impl<'a, W> ShownWriter<'a, W> {
-    /// Over a writer to which nothing was written.
+    /// Makes one over a writer to which nothing was written.
     pub fn new(rt: &'a HostRuntime, writer: W) -> ShownWriter<'a, W> {
         ShownWriter {
             writer,
@@ -200,12 +200,12 @@ pub struct ShownSource<'a, S> {
     source: S,
     meter: Meter<'a>,
     read: u64,
-    /// How many bytes there are, 0 where that isn't known.
+    /// How many bytes there are, or 0 if that isn't known.
     size: u64,
 }
 
 impl<'a, S> ShownSource<'a, S> {
-    /// Of a source of so many bytes, 0 where that isn't known.
+    /// Makes one over a source of so many bytes, or 0 if that isn't known.
     pub fn new(rt: &'a HostRuntime, source: S, size: u64) -> ShownSource<'a, S> {
         ShownSource {
             source,
@@ -252,7 +252,7 @@ impl<'a, S: Source> Source for ShownSource<'a, S> {
     }
 }
 
-/// A writer of what many runs came to, before which the line that shows how far they have come is ended.
+/// A writer for the results of many runs. Before it writes, it ends the line that shows how far they have come.
 #[derive(Drop)]
 pub struct BehindProgress<'a, W> {
     writer: W,

@@ -28,8 +28,8 @@ pub type TracePort<'a> = BlockPort<WritePort<ShownWriter<'a, Stdout>>>;
 const SCHEDULE_ENDS: &str =
     "live: some threads could still continue, but the schedule has no more choices\n";
 
-/// What a run comes to whose trace was handed on: whether it ended as it was expected to. What didn't is told, and on a terminal
-/// also a choice of a thread that isn't there, and what `live` means.
+/// Returns the result of a run whose trace was passed on: whether it ended as expected. It reports what didn't, and at a
+/// terminal also a choice of a thread that doesn't exist, and what `live` means.
 pub fn ended<'a>(
     rt: &HostRuntime,
     answer: Result<RunEnd, Fault>,

@@ -1,4 +1,4 @@
-//! The schedule of a run, as it is read.
+//! The schedule of a run, while it is read.
 
 ghost use Rattle.std.specs.Prelude.{◌≡◌, ◌≤◌, ◌+◌, if◌then◌else◌, false, IfOk, IfSome, length};
 ghost use Rattle.std.specs.Io.KnownBytes.{ReadConsumes};
@@ -26,10 +26,10 @@ const LONGEST: u64 = 16_777_216;
 #[derive(Drop)]
 struct Seen {
     reader: Reader,
-    /// The run that the last byte ended, if any: there is room for it, so none is lost.
+    /// The run that the last byte ended, if it did. There is room for it, so none is lost.
     ended: Vec<Run>,
     choices: u64,
-    /// Whether the last byte was a blank, or none has come.
+    /// Whether the last byte was a blank, or no byte has come.
     is_between: bool,
 }
 
@@ -72,13 +72,13 @@ impl Seen {
     }
 }
 
-/// A schedule. What came by standard input is kept for a person, since it can't be read twice.
+/// A schedule. What came from standard input is kept for a person, because it can't be read twice.
 #[derive(Drop)]
 pub struct ScheduleOf<'a, F, S> {
     source: ReadPort<InputOf<'a, F, S>>,
     is_kept: bool,
     kept: Vec<u8>,
-    /// What a picture has seen of it, where it is for one.
+    /// What a picture has seen of it, if it is for one.
     seen: Option<Seen>,
     is_over: bool,
 }
@@ -107,8 +107,8 @@ impl<'a, F: Read + Drop, S: Read + Drop> ScheduleOf<'a, F, S> {
         }
     }
 
-    /// As much as a picture needs of what isn't there yet: it ends behind the byte that makes the schedule's fault, or a choice
-    /// more than a picture shows. What stands there is refused as the whole schedule would be: nothing behind it is waited for.
+    /// Reads as much as a picture needs of what isn't there yet: up to the byte that makes the schedule's fault, or up to one
+    /// choice more than a picture shows. This is refused as the whole schedule would be, without waiting for the rest.
     pub fn for_picture(
         alloc: Global,
         input: InputOf<'a, F, S>,
@@ -121,7 +121,7 @@ impl<'a, F: Read + Drop, S: Read + Drop> ScheduleOf<'a, F, S> {
         Ok(schedule)
     }
 
-    /// An answer, with what was read of a schedule that is refused, where that was standard input.
+    /// Returns a result, with what was read of a schedule that is refused, if that was standard input.
     pub fn told<'b, A: Drop>(self, answer: Result<A, Trouble<'b>>) -> Result<A, Trouble<'b>> {
         match answer {
             Err(Trouble::Fault(fault @ Fault::Schedule(_))) if self.is_kept => Err(Trouble::OfInput(

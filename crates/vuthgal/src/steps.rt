@@ -1,4 +1,4 @@
-//! What is played: a program in a file, and the steps that the words name.
+//! What is played: a program in a file, and the steps that the arguments name.
 
 use crate::input::Input;
 use crate::planning::runs_of_plan;
@@ -12,7 +12,7 @@ use workbench::Program;
 use workbench::fault::Fault;
 use workbench::input::read_all;
 
-/// What the file holds that is named in the place of a schedule.
+/// What a file holds that is given instead of a schedule.
 #[derive(Clone, Copy, PartialEq, Eq)]
 pub enum Holds {
     Schedule,
@@ -22,7 +22,7 @@ pub enum Holds {
 /// Steps whose file is open.
 #[derive(Drop)]
 pub enum OpenSteps<'a> {
-    /// What stands in the program's own file.
+    /// The schedule in the program's own file.
     Beside,
     /// A schedule, or a trace.
     Named(Input<'a>),
@@ -39,7 +39,7 @@ fn named<'a>(rt: &HostRuntime, word: &'a str, holds: Holds) -> Result<Input<'a>,
     Ok(Input::named(rt, word)?)
 }
 
-/// What a program's file holds, once the file of the steps is open, too.
+/// Returns what a program's file holds, after the file of the steps is opened, too.
 pub fn opened<'a>(
     rt: &HostRuntime,
     file: &'a str,
@@ -58,8 +58,7 @@ pub fn opened<'a>(
 }
 
 impl<'a> OpenSteps<'a> {
-    /// What is read of a file as a program, and the schedule that stands beside it: behind the text's line `.run`, where no other
-    /// is named.
+    /// Returns what is read of a file as a program, and the schedule after the text's line `.run`, if no other is named.
     pub fn parts<'b>(&self, rt: &HostRuntime, file: &'b [u8]) -> (&'b [u8], &'b [u8]) {
         if let OpenSteps::Named(_) = self {
             return (file, &[]);
@@ -71,7 +70,7 @@ impl<'a> OpenSteps<'a> {
         (program, beside)
     }
 
-    /// The schedule that a plan stands for on a program, an empty text where there is no plan.
+    /// Returns the schedule that a plan stands for on a program, or an empty text if there is no plan.
     pub fn planned<'b>(
         &self,
         rt: &HostRuntime,
@@ -87,7 +86,7 @@ impl<'a> OpenSteps<'a> {
         }
     }
 
-    /// The schedule under which a program is played, which was planned so where there is a plan.
+    /// Returns the schedule under which a program is played: the planned one, if there is a plan.
     pub fn schedule(self, beside: &'a [u8], planned: &'a str) -> Input<'a> {
         match self {
             OpenSteps::Beside => Input::Text(beside),

@@ -2,10 +2,12 @@
 
 use crate::trouble::{Answer, Trouble};
 use crate::{files, printable};
-use byte_ports::{BlockPort, ReadPort, WritePort};
+use byte_ports::{BlockPort, ReadPort, Sink, WritePort};
 use commands::list_rows;
 use refusals::entries::tables;
 use refusals::explain::explain;
+use refusals::sought::words_sought;
+use std::alloc::{AllocError, Global};
 use workbench::asm::asm;
 use workbench::done::{Done, as_asked};
 use workbench::ending::{flushed, handed_on};
@@ -37,10 +39,34 @@ pub fn write_list<'a>(rt: &HostRuntime, file: &'a str, has_rows: bool) -> Answer
     Ok(as_asked(flushed(answer, &mut output))?)
 }
 
+/// The words of texts, each of which may have several.
+fn words_of<'a>(alloc: Global, texts: &[&'a str]) -> Result<Vec<&'a str>, AllocError> {
+    let mut words = Vec::new(alloc);
+    for text in texts {
+        for word in text.split_ascii_whitespace() {
+            words.push(word)?;
+        }
+    }
+    Ok(words)
+}
+
+/// Tells what words mean, or else what was meant by them. Answers whether that is known.
+fn explained<W: Sink>(alloc: Global, words: &[&str], output: &mut W) -> Result<bool, Fault> {
+    if explain(&tables(), words, output).map_err(|_| Fault::Write)? {
+        return Ok(true);
+    }
+    let sought = words_sought(alloc, words).map_err(|_| Fault::Memory)?;
+    if sought.is_empty() {
+        return Ok(false);
+    }
+    explain(&tables(), sought.as_slice(), output).map_err(|_| Fault::Write)
+}
+
 /// Tells what the words of a line mean.
-pub fn explain_words<'a>(rt: &HostRuntime, words: &[&'a str]) -> Answer<'a> {
+pub fn explain_words<'a>(rt: &HostRuntime, texts: &[&'a str]) -> Answer<'a> {
+    let words = words_of(rt.alloc(), texts)?;
     let mut output = WritePort::new(rt.stdout());
-    let told = explain(&tables(), words, &mut output).map_err(|_| Fault::Write);
+    let told = explained(rt.alloc(), words.as_slice(), &mut output);
     if flushed(told, &mut output)? {
         Ok(Done::AsAsked)
     } else {

@@ -1,6 +1,6 @@
 //! Traces that are read: compared with their run, and as the schedule that they have.
 
-use crate::help::{CARRIAGE_RETURN, NO_TRACE, push_explained};
+use crate::help::{CARRIAGE_RETURN, push_explained, push_no_trace};
 use crate::input::Input;
 use crate::progress::ShownSource;
 use crate::trouble::Answer;
@@ -15,17 +15,18 @@ use workbench::ending::{flushed, handed_on};
 use workbench::input::read_all;
 use workbench::program::program_in;
 
-/// What a verdict comes to. On a terminal it is told how a trace is made, where there is none.
-fn ended(rt: &HostRuntime, verdict: Verdict) -> Done {
+/// What a verdict on the trace of this name comes to. On a terminal it is told how a trace is made, where there is none.
+fn ended(rt: &HostRuntime, trace: &str, verdict: Verdict) -> Done {
     if matches!(verdict, Verdict::NotATrace { .. }) {
-        push_explained(rt, NO_TRACE);
+        push_no_trace(rt, trace);
     }
     done_by(verdict)
 }
 
-/// Compares a trace with the run of the program in a file, and shows the lines that differ where that is asked for.
+/// Compares a trace with the run of the program in a file, and shows the lines that differ if asked for.
 pub fn compare<'a>(rt: &HostRuntime, file: &'a str, trace: &'a str, is_shown: bool) -> Answer<'a> {
     let program = files::read(rt, file)?;
+    let name = trace;
     let trace = Input::named(rt, trace)?;
     let size = trace.size();
     let mut trace = ShownSource::new(rt, ReadPort::new(trace), size);
@@ -34,7 +35,7 @@ pub fn compare<'a>(rt: &HostRuntime, file: &'a str, trace: &'a str, is_shown: bo
     let mut output = WritePort::new(printable::output(rt));
     if !is_shown {
         let verdict = compared(rt.alloc(), image, &mut trace, &mut output);
-        return Ok(ended(rt, flushed(verdict, &mut output)?));
+        return Ok(ended(rt, name, flushed(verdict, &mut output)?));
     }
     let judged = show_comparison(rt.alloc(), image, &mut trace, &mut output);
     let judged = flushed(judged, &mut output)?;
@@ -44,17 +45,17 @@ pub fn compare<'a>(rt: &HostRuntime, file: &'a str, trace: &'a str, is_shown: bo
     {
         push_explained(rt, CARRIAGE_RETURN);
     }
-    Ok(ended(rt, verdict))
+    Ok(ended(rt, name, verdict))
 }
 
 /// Writes the schedule of a trace.
 pub fn write_choices<'a>(rt: &HostRuntime, trace: &'a str) -> Answer<'a> {
-    let mut trace = ReadPort::new(Input::named(rt, trace)?);
+    let mut input = ReadPort::new(Input::named(rt, trace)?);
     let mut output = BlockPort::new(rt.alloc(), WritePort::new(rt.stdout()))?;
-    let answer = choices(rt.alloc(), &mut trace, &mut output);
+    let answer = choices(rt.alloc(), &mut input, &mut output);
     if handed_on(answer, output)? {
         return Ok(Done::AsAsked);
     }
-    push_explained(rt, NO_TRACE);
+    push_no_trace(rt, trace);
     Ok(Done::Unlike)
 }

@@ -1,16 +1,18 @@
-//! Why the program doesn't do what it is asked for, and how that is told.
+//! Why the program doesn't do what it is asked for, and how that is reported.
 
 use crate::help::{Files, push_help, push_plan_help};
 use crate::no_command::{NoCommand, WRONG_WORDS};
+use crate::printable;
 use byte_ports::WritePort;
 use commands::unplanned::Unplanned;
 use plans::fault::PlanFault;
 use refusals::explain::push_no_line;
+use refusals::sought::push_near_question;
 use std::alloc::AllocError;
 use workbench::done::{Done, settled};
 use workbench::fault::Fault;
 
-/// What a command comes to.
+/// The result of a command.
 pub type Answer<'a> = Result<Done, Trouble<'a>>;
 
 /// Why the program doesn't do what it is asked for.
@@ -18,11 +20,11 @@ pub type Answer<'a> = Result<Done, Trouble<'a>>;
 pub enum Trouble<'a> {
     /// No command is begun.
     NoCommand(NoCommand<'a>),
-    /// A command met a fault.
+    /// A fault of a command.
     Fault(Fault),
-    /// A command met a fault of what came by standard input, of which so much was kept.
+    /// A fault in what came from standard input, of which this much was kept.
     OfInput(Fault, Vec<u8>),
-    /// A plan has a fault.
+    /// A fault of a plan.
     Plan(PlanFault),
     /// The words that are to be explained are those of no line.
     NoLine,
@@ -70,8 +72,18 @@ fn tell_plan(rt: &HostRuntime, fault: PlanFault, files: Files<'_>) -> u8 {
     why.status()
 }
 
+/// Tells that no line has the words, what can be asked, and what is near to them. Answers the status.
+fn tell_no_line(rt: &HostRuntime, words: &[String]) -> u8 {
+    let _ = push_no_line(&mut WritePort::new(rt.stderr()));
+    if let [_, _, word] = words {
+        let mut errors = WritePort::new(printable::errors(rt));
+        let _ = push_near_question(rt.alloc(), &mut errors, &[word.as_str()]);
+    }
+    WRONG_WORDS
+}
+
 impl<'a> Trouble<'a> {
-    /// Tells it, and answers the exit status.
+    /// Reports it, and returns the exit status.
     pub fn tell(&self, rt: &HostRuntime, words: &[String], files: Files<'_>) -> u8 {
         match self {
             Trouble::NoCommand(no_command) => no_command.tell(rt, words),
@@ -82,10 +94,7 @@ impl<'a> Trouble<'a> {
                 files.with_input(input.as_slice()),
             ),
             Trouble::Plan(fault) => tell_plan(rt, *fault, files),
-            Trouble::NoLine => {
-                let _ = push_no_line(&mut WritePort::new(rt.stderr()));
-                WRONG_WORDS
-            }
+            Trouble::NoLine => tell_no_line(rt, words),
         }
     }
 }

@@ -1,4 +1,4 @@
-//! What is told of words that ask for nothing: what is wrong, and the usage of the command that was meant.
+//! What is written about arguments that ask for nothing: what is wrong, and the usage of the command that was meant.
 
 use crate::origin::VERSION;
 use clap::Error as WordsError;
@@ -37,7 +37,8 @@ fn meant(rt: &HostRuntime) -> Option<&'static str> {
     None
 }
 
-/// The command whose name is nearest to a word, where it is near at all: less than half of its letters are wrong or turned round.
+/// Returns the command whose name is nearest to a word, if it is near: less than half of its letters are wrong or in another
+/// order.
 pub fn nearest_command(rt: &HostRuntime, word: &str) -> Result<Option<&'static str>, AllocError> {
     let mut nearest = None;
     let mut far = word.len().div_ceil(2).min(3);
@@ -49,6 +50,45 @@ pub fn nearest_command(rt: &HostRuntime, word: &str) -> Result<Option<&'static s
         }
     }
     Ok(nearest)
+}
+
+/// What people call a command otherwise, and the command.
+static OTHER_NAMES: [(&str, &str); 11] = [
+    ("play", "run"),
+    ("simulate", "run"),
+    ("page", "show"),
+    ("html", "show"),
+    ("view", "show"),
+    ("picture", "draw"),
+    ("step", "debug"),
+    ("assemble", "asm"),
+    ("compile", "asm"),
+    ("disassemble", "list"),
+    ("diff", "compare"),
+];
+
+/// The command that people call so.
+pub fn command_called(word: &str) -> Option<&'static str> {
+    OTHER_NAMES
+        .iter()
+        .find(|(name, _)| *name == word)
+        .map(|(_, command)| *command)
+}
+
+/// The word for what plays kept runs again, which is a program of its own.
+pub const CHECK: &str = "check";
+
+/// Whether people call a command so, or what plays kept runs.
+fn is_other_name(word: &str) -> bool {
+    word == CHECK || command_called(word).is_some()
+}
+
+/// What help says of a command in a line.
+pub fn about(command: &str) -> &'static str {
+    commands()
+        .iter()
+        .find(|listed| listed.name == command)
+        .map_or("", |listed| listed.about)
 }
 
 /// The line of a help that tells the usage.
@@ -66,7 +106,7 @@ fn text_of(rt: &HostRuntime, help: &WordsError) -> Result<String, AllocError> {
     format!(in rt.alloc(); "{help}")
 }
 
-/// Why the words ask for nothing, the usage of the command that was meant, and where more is told.
+/// Returns why the arguments ask for nothing, the usage of the command that was meant, and where there is more to read.
 pub fn with_usage(rt: &HostRuntime, why: &str) -> Result<String, AllocError> {
     let words = match meant(rt) {
         Some(command) => ["vuthgal", command, "--help"],
@@ -91,11 +131,28 @@ fn length_of_why(text: &str, kind: ErrorKind) -> Option<usize> {
     }
 }
 
-/// What is told of an error of the words.
+/// The word that an error has in quotes.
+fn quoted_in(why: &str) -> Option<&str> {
+    let (_, behind) = why.split_once('\'')?;
+    let (word, _) = behind.split_once('\'')?;
+    Some(word)
+}
+
+/// Whether what an error says first is enough: what else it says would lead elsewhere than what is told behind it.
+fn is_enough_first(why: &str, kind: ErrorKind) -> bool {
+    if kind == ErrorKind::InvalidSubcommand {
+        return quoted_in(why).is_some_and(|word| is_other_name(word));
+    }
+    why.starts_with("error: unexpected argument '-o")
+        || why.starts_with("error: unexpected argument '--plan'")
+        || why.starts_with("error: unexpected argument '--schedule'")
+}
+
+/// Returns what is written about an error of the arguments.
 pub fn told(rt: &HostRuntime, error: &WordsError) -> Result<String, AllocError> {
     let text = format!(in rt.alloc(); "{error}")?;
     let why = text.as_str();
-    if why.starts_with("error: unexpected argument '-o") {
+    if is_enough_first(why, error.kind()) {
         return with_usage(rt, why.lines().next().unwrap_or(""));
     }
     match length_of_why(why, error.kind()) {

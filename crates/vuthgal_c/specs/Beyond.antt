@@ -1,4 +1,4 @@
--- What the calls promise whose commands stand beyond `workbench`: plans, pictures, schedules of traces.
+-- What those calls promise whose commands aren't in `workbench`: plans, pictures, schedules of traces.
 use Rattle.std.specs.Prelude.{◌≡◌, ◌≢◌, ◌⊎◌, ◌<◌, ℕ, Bool, true, false, IsTrue, List, [], length, Option, Some, Result, Ok, Err, IfOk, IfErr, OnOk, is_none, codes}
 use Rattle.std.specs.Io.KnownBytes.{Appends}
 use Rattle.commands.specs.Picture.{HaveNoPicture}
@@ -28,7 +28,7 @@ abbrev pub done_by_trace : Bool → Done
 done_by_trace true = done.AsAsked
 done_by_trace false = done.Unlike
 
--- the schedule of a trace was written, and where it is none; or a part of it, where the trace is too long to be read
+-- the schedule of a trace was written, and where it isn't a trace; or a part of it, if the trace is too long to be read
 pub record ToldChoices (answer : Result Bool Fault) (trace_before trace_after output_before output_after : Option (List ℕ)) : Type 0 where
   pub done : IfOk answer (λ is_trace. (naming : Naming) × ((is_trace ≡ is_none naming.no_line)
       × HasToldChoices naming trace_before trace_after output_before output_after))
@@ -65,7 +65,7 @@ pub record PlansSteps (file steps : List ℕ) (answer : Result Bool Unplanned) (
   pub read : answer ≡ Err (why.Fault fault.Read) → IsTooMuch file steps
   pub spawn : answer ≢ Err (why.Fault fault.Spawn)
 
--- the status of what a plan came to, and its line, which also tells where it was stopped
+-- the status of a plan's result, and its line, which also says where the plan was stopped
 abbrev pub SettlesPlan : Result Bool Unplanned → (status : ℕ) (line_failed : Bool) (line_before line_after : Option (List ℕ)) → Type 0
 SettlesPlan (Ok false) status line_failed line_before line_after = (status ≡ 0) × (line_after ≡ line_before)
 SettlesPlan (Ok true) status line_failed line_before line_after =

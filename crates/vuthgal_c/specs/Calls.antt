@@ -1,4 +1,5 @@
--- What each call promises of its status, its output and the line of its fault: what its command promises, of bytes in memory.
+-- What each call promises about its status, its output and the line of its fault: what its command promises, for bytes in
+-- memory.
 use Rattle.std.specs.Prelude.{◌≡◌, ℕ, false, List, [], Option, Some, None, Result}
 use Rattle.trace_compare.specs.declared.comparison.Verdict.{Verdict}
 use Rattle.trace_text.specs.declared.run_end.RunEnd.{RunEnd}
@@ -24,7 +25,7 @@ Runs program schedule status trace line =
     (IsUntouched (Some schedule) schedule_left (Some []) (Some trace)) answer (Some program) program_left false
     × Settles as_asked answer status line)))
 
--- a text was played under the schedule behind its line `.run`
+-- a text was played under the schedule after its line `.run`
 abbrev pub RunsText : (text : List ℕ) (status : ℕ) (trace line : List ℕ) → Type 0
 RunsText text status trace line =
     (answer : Result RunEnd Fault) × ((left : Option (List ℕ))

@@ -1,7 +1,7 @@
--- A sink that counts on where it can't keep, as its callers see it.
+-- A sink that counts all bytes, as its callers see it.
 use Rattle.std.specs.Prelude.{◌≡◌, ◌≤◌, ℕ, List, length, take}
 
--- all bytes written to it, and the first of them, which it has kept
+-- all bytes written to it, and the first ones, which it has kept
 pub record Tally : Type 0 where
   pub written : List ℕ
   pub kept : List ℕ

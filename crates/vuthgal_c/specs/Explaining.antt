@@ -29,7 +29,7 @@ pub record ExplainsText (questions text : List ℕ) (answer : Result Bool Fault)
   pub none : answer ≡ Ok false → MeansNothing tables text × (output_after ≡ output_before)
   pub fault : IfErr answer (λ f. ((f ≡ fault.Memory) × (output_after ≡ output_before)) ⊎ ((f ≡ fault.Write) × IsTrue output_failed))
 
--- the status of what came of words, and its line, which says what can be asked where they mean nothing
+-- the status of the result for words, and its line, which says what can be asked if they mean nothing
 abbrev pub SettlesExplaining : (questions no_line : List ℕ) → Result Bool Fault → (status : ℕ) (line_failed : Bool)
     (line_before line_after : Option (List ℕ)) → Type 0
 SettlesExplaining questions no_line (Ok true) status line_failed line_before line_after = (status ≡ 0) × (line_after ≡ line_before)

@@ -4,7 +4,7 @@ use Rattle.std.specs.Str.{NoCharPasses}
 use Rattle.std.specs.List.{AllPass}
 use Rattle.std.specs.Char.{is_ascii_whitespace}
 
--- blanks of ASCII alone
+-- only ASCII blanks
 abbrev pub AreBlanks : List ℕ → Type 0
 AreBlanks = AllPass is_ascii_whitespace
 

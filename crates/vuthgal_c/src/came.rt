@@ -1,10 +1,10 @@
-//! What came to a sink, which only proofs read.
+//! What came to a sink. Only proofs read it.
 ghost use Rattle.std.specs.Prelude.{◌≡◌, ◌++◌, ℕ, List, []};
 ghost use Rattle.std.specs.Borrow.{ftrue};
 
 use std::marker::Model;
 
-/// All bytes that came. It takes no memory, and its methods do nothing when they run.
+/// All bytes that came. It needs no memory, and its methods do nothing when they run.
 #[derive(Drop)]
 pub struct Came {
     pub ghost bytes: { List ℕ },

@@ -1,4 +1,4 @@
-//! A sink into memory that counts on where it can't keep.
+//! A sink in memory that counts all bytes, and keeps only the first ones.
 ghost use Rattle.std.specs.Prelude.{◌≡◌, ◌≤◌, ◌+◌, ◌++◌, [], ℕ, List, Some, IsTrue, false, length, min};
 ghost use Rattle.std.specs.Io.KnownBytes.{Appends};
 ghost use Rattle.byte_ports.specs.Port.{FailsForGood};
@@ -28,7 +28,7 @@ impl Model for CountingSink {
 }
 
 impl CountingSink {
-    /// Keeps `most` bytes at most. It takes memory as they come.
+    /// Makes a sink that keeps at most `most` bytes. It allocates as they come.
     pub fn new(alloc: Global, most: usize) -> CountingSink
         ensures { result ≡ record { written = []; kept = [] } }
     {
@@ -40,7 +40,7 @@ impl CountingSink {
         }
     }
 
-    /// What it has kept.
+    /// Returns what it has kept.
     pub fn kept(&self) -> &[u8]
         ensures kept { result.now ≡ self.now.kept }
         ensures first { AreFirst result.now self.now.written }
@@ -48,14 +48,14 @@ impl CountingSink {
         self.kept.as_slice()
     }
 
-    /// How many bytes came.
+    /// Returns how many bytes came.
     pub fn count(&self) -> usize
         ensures { result ≡ min (length self.now.written) most_counted }
     {
         self.count
     }
 
-    /// Whether it has kept all that fits a room.
+    /// Returns whether it has kept everything that fits a buffer of this size.
     pub fn has_kept(&self, room: usize) -> bool
         ensures { IsTrue result → min (length self.now.written) room ≤ length self.now.kept }
     {

@@ -1,4 +1,4 @@
-//! The program in a file, and how much of one is read.
+//! The program in a file, and how much of a file is read.
 ghost use Rattle.std.specs.Prelude.{◌≡◌, ◌≤◌, ◌↔◌, IsTrue, IfErr, IfOk, length};
 ghost use Rattle.workbench.specs.Input.{most_bytes};
 ghost use Rattle.workbench.specs.ProgramFile.{IsNoProgramFor};
@@ -12,7 +12,7 @@ use workbench::program::program_in;
 /// How many bytes an input may have.
 const MOST_BYTES: usize = 16_777_216;
 
-/// Whether an input has no more bytes than one may have.
+/// Returns whether an input has at most as many bytes as one may have.
 pub fn is_within(bytes: &[u8]) -> bool
     ensures { IsTrue result ↔ (length bytes.now ≤ most_bytes) }
 {

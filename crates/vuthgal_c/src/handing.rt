@@ -34,7 +34,7 @@ pub fn hand_over(sink: &CountingSink, room: &mut [u8], told: &mut usize)
     hand(sink.kept(), sink.count(), room, told);
 }
 
-/// Tells that there was no memory, and answers the status.
+/// Reports that it is out of memory, and returns the status.
 pub fn no_memory(
     shown: &mut [u8],
     shown_count: &mut usize,

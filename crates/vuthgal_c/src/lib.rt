@@ -1,11 +1,11 @@
-//! The commands that need no threads, as calls for C and for what calls C.
+//! The commands that need no threads, as calls for C and for languages that call C.
 //!
-//! A call takes bytes, and writes to memory of its caller as `snprintf` does: the bytes that fit, and the count of all. Output,
-//! status and line are those that its command promises of ports in memory. Nothing is kept between calls. `include/vuthgal.h`
+//! A call takes bytes, and writes to memory of its caller like `snprintf`: the bytes that fit, and the count of all. Output,
+//! status and line are those that its command promises for ports in memory. Nothing is kept between calls. `include/vuthgal.h`
 //! declares them.
 #![tactic(auto)]
 
-// A sink that counts on where it can't keep, and what it hands over.
+// A sink that counts all bytes, and how its bytes are passed to the caller.
 pub mod came;
 pub mod counting_sink;
 pub mod handing;

@@ -1,4 +1,4 @@
-//! What this library was made of, as `bin/program` wrote it.
+//! What this library was made of. `bin/program` writes this.
 
 /// The version, the kit whose logic proves it, and the sum of the sources but for this file.
 pub const VERSION: &str =

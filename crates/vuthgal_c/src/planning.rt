@@ -49,7 +49,7 @@ fn settled<E: Sink>(answer: Result<bool, Unplanned>, line: &mut E) -> u8
     }
 }
 
-/// Plans a program, an image or a text with or without a schedule behind it. The output is the schedule.
+/// Plans a program, which is an image or a text, with or without a schedule after it. The output is the schedule.
 #[unsafe(no_mangle)]
 pub extern "C" fn vuthgal_plan(
     alloc: Global,

@@ -34,7 +34,7 @@ pub extern "C" fn vuthgal_run(
     status
 }
 
-/// Plays a text under the schedule that stands behind its line `.run`. The output is the trace.
+/// Plays a text under the schedule after its line `.run`. The output is the trace.
 #[unsafe(no_mangle)]
 pub extern "C" fn vuthgal_both(
     alloc: Global,

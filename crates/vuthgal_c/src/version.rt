@@ -1,4 +1,4 @@
-//! Which library this is.
+//! The version of the library.
 ghost use Rattle.vuthgal_c.specs.Shows.{Holds};
 
 use crate::handing::hand_all;

@@ -1,6 +1,6 @@
 use crate::entry::Entry;
 
-/// A program that isn't loaded.
+/// A program that can't be loaded.
 pub static LOAD: [Entry; 9] = [
     Entry {
         asked: &[

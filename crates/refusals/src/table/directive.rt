@@ -57,7 +57,7 @@ const RUN: WordEntry = WordEntry {
     example: ".thread ann main\nmain: halt\n.run\nt0",
 };
 
-/// What the table says of a word that begins with a dot.
+/// Returns the entry for a word that begins with a dot.
 pub(crate) fn directive_entry(word: &str) -> Option<WordEntry>
     ensures { MatchOption result (is_directive word.now ≢ true) (λ e. e.word.now ≡ word.now) }
 {

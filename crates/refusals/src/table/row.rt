@@ -11,7 +11,7 @@ use crate::table::timed_row::timed_row;
 use crate::table::view_row::view_row;
 use crate::word::WordEntry;
 
-/// What the table says of the row of this opcode.
+/// Returns the entry for the row of this opcode.
 pub fn row_entry(opcode: u8) -> Option<WordEntry>
     ensures { MatchOption result (42 ≤ opcode) (IsRowEntry opcode) }
 {

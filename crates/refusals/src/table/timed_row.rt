@@ -4,7 +4,7 @@ ghost use Rattle.refusals.specs.Word.{IsRowEntry, IsOutside};
 
 use crate::word::WordEntry;
 
-/// What the table says of the row of this opcode, where it is one of these.
+/// Returns the entry for the row of this opcode, if it is one of these.
 pub fn timed_row(opcode: u8) -> Option<WordEntry>
     ensures { MatchOption result (IsOutside 40 42 opcode) (IsRowEntry opcode) }
 {

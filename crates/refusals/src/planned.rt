@@ -1,0 +1,80 @@
+//! What a word of a plan may have been meant as, where that is more than its fault's entry says.
+
+use crate::meant::{AT_COMMENT, has_comment_sign};
+
+/// The bytes of the sign that is three dots.
+const ELLIPSIS: [u8; 3] = [0xe2, 0x80, 0xa6];
+
+/// Whether a word has only digits.
+fn is_digits(word: &[u8]) -> bool {
+    word.iter().all(|byte| byte.is_ascii_digit())
+}
+
+/// Whether a count is before what is repeated, as in `3*ann`.
+fn begins_with_count(word: &[u8]) -> bool {
+    match word.iter().position(|byte| *byte == b'*') {
+        Some(star) => star > 0 && is_digits(word.get(..star).unwrap_or(&[])),
+        None => false,
+    }
+}
+
+/// What helps where a count is wrong, by the byte before the word.
+fn helps_at_count(word: &[u8], before: Option<u8>) -> Option<&'static str> {
+    if word.starts_with(b"*") {
+        Some("no blank before a count, as in `ann*3` and `( ann. )*3`")
+    } else if begins_with_count(word) {
+        Some("the count is last, as in `ann*3`")
+    } else if is_digits(word) && before == Some(b')') {
+        Some("a count follows a star, as in `( ann bob )*3`")
+    } else if is_digits(word) {
+        Some("a count follows a name and a star, as in `ann*3`")
+    } else {
+        None
+    }
+}
+
+/// What helps where dots are wrong.
+fn helps_at_dots(word: &[u8]) -> Option<&'static str> {
+    if word.starts_with(b"...") || word.starts_with(&ELLIPSIS) {
+        Some("`..` has two dots: it plays all threads in turn")
+    } else if word.starts_with(b"..") {
+        Some("a count follows a star, as in `..*5`")
+    } else if word.ends_with(b"..") {
+        Some("one dot follows a name, as in `ann.`; `..` is a word of its own")
+    } else {
+        None
+    }
+}
+
+/// What helps where a dot isn't the last byte of a word.
+fn helps_at_dot(word: &[u8]) -> Option<&'static str> {
+    let dot = word.iter().position(|byte| *byte == b'.')?;
+    match word.get(dot.saturating_add(1)..) {
+        Some([b'*', ..]) => Some("a dot has no count: `ann*3`, or `( ann. )*3`"),
+        Some([_, ..]) => Some("put a blank behind a dot, as in `ann. bob.`"),
+        _ => None,
+    }
+}
+
+/// What helps at a word that a plan doesn't have, by the byte before it.
+pub fn helps_at_word(word: &[u8], before: Option<u8>) -> Option<&'static str> {
+    if has_comment_sign(word) {
+        Some(AT_COMMENT)
+    } else if word.contains(&b',') {
+        Some("no commas: put blanks between the words of a plan")
+    } else {
+        helps_at_count(word, before)
+            .or(helps_at_dots(word))
+            .or(helps_at_dot(word))
+    }
+}
+
+/// What helps at a word that no thread has as its name.
+pub fn helps_at_name(word: &[u8]) -> Option<&'static str> {
+    match word {
+        b"x" => Some("no blank behind x: `xann` is the expiry of ann's timed wait"),
+        b"until" => Some("`ann.` plays ann until it waits, has ended or has died"),
+        b"then" | b"and" => Some("put only blanks between the words of a plan"),
+        _ => None,
+    }
+}
