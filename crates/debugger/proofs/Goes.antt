@@ -23,8 +23,8 @@ use Rattle.debugger.proofs.Histories.{history_on}
 -- what a step's answer says
 pub is_step : (before after : Session) (choice : Choice) (event : Event)
     → (let both : Played = record { world = world_of after.machine; event = event } in both ≡ played (world_of before.machine) choice)
-    → after ≡ went_on before after.machine → IsStep before choice after
-is_step before after choice event both session = grind arith
+    → refusal_of (world_of before.machine) choice ≡ None → after ≡ went_on before after.machine → IsStep before choice after
+is_step before after choice event both accepted session = grind arith
 
 refuses : (why : StepFault) (world : World) (choice : Choice) (result : Result Event StepFault) → result ≡ Err why
     → ((result ≡ Err NoSuchThread) ↔ (refusal_of world choice ≡ Some NoSuchThread))

@@ -8,3 +8,5 @@ pub mod Unmarked
 pub mod PlayedRuns
 pub mod Replies
 pub mod Runs
+pub mod Tokens
+pub mod Standings

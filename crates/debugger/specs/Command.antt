@@ -1,5 +1,5 @@
 -- What a line of the debugger asks for.
-use Rattle.std.specs.Prelude.{◌≡◌, ◌⊎◌, ℕ, ◌==◌, ◌&&◌, ◌||◌, not, nat_le, if◌then◌else◌, Bool, true, false, List, [], ◌∷◌, length, take, drop, Option, Some, None}
+use Rattle.std.specs.Prelude.{ℕ, ◌==◌, ◌&&◌, ◌||◌, not, nat_le, if◌then◌else◌, Bool, true, false, List, [], ◌∷◌, length, take, drop, Option, Some, None}
 use Rattle.std.specs.List.{position_or_len, list_all, list_any}
 use Rattle.std.specs.Char.{is_ascii_digit}
 use Rattle.std.specs.Str.Parse.{digits_value}
@@ -42,7 +42,7 @@ from_word line = drop (position_or_len is_letter line) line
 abbrev pub word_of : List ℕ → List ℕ
 word_of line = take (position_or_len is_blank (from_word line)) (from_word line)
 
--- what stands after it
+-- what follows it
 abbrev pub rest_of : List ℕ → List ℕ
 rest_of line = drop (position_or_len is_blank (from_word line)) (from_word line)
 
@@ -98,19 +98,11 @@ order_by letter rest =
 abbrev pub line_order : List ℕ → Order
 line_order line = order_by (letter_of (word_of line)) (rest_of line)
 
--- the letters that tokens follow, for whose runs memory may be wanted
-abbrev pub has_tokens : ℕ → Bool
-has_tokens letter = (letter == 115) || (letter == 103)
-
 -- the orders whose replies are made in memory
 abbrev pub wants_memory : Order → Bool
 wants_memory (Step choice) = true
 wants_memory Print = true
 wants_memory _ = false
-
--- a line that may be told as `memory`: one with tokens, or whose reply is made in memory
-abbrev pub MayWantMemory : List ℕ → Type 0
-MayWantMemory line = (has_tokens (letter_of (word_of line)) ≡ true) ⊎ (wants_memory (line_order line) ≡ true)
 
 -- only `q` ends the session
 abbrev pub goes_on : Order → Bool

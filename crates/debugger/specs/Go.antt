@@ -1,8 +1,7 @@
 -- Going on to a breakpoint.
 use Rattle.std.specs.Prelude.{◌≡◌, ◌+◌, ◌&&◌, Bool, true, false, List, [], ◌∷◌, ◌++◌, length, slice_index_or, Some, None}
-use Rattle.thread_state.specs.declared.status.Status.{Status}
-use Rattle.thread_state.specs.declared.status.Status.TheVariants as status
 use Rattle.thread_state.specs.Thread.{ThreadState}
+use Rattle.machine_scene.specs.DataRows.{runs}
 use Rattle.machine_scene.specs.Scene.{thread_at}
 use Rattle.thread_machine.specs.declared.choice.Choice.{Choice}
 use Rattle.thread_machine.specs.declared.fault.StepFault.{StepFault}
@@ -15,11 +14,7 @@ use Rattle.debugger.specs.declared.stop.Stop.TheVariants as stop
 use Rattle.debugger.specs.Session.{Session, world_after}
 use Rattle.debugger.specs.Moves.{AreSteps}
 
-abbrev pub runs : Status → Bool
-runs status.Runs = true
-runs _ = false
-
--- a running thread stands at a breakpoint
+-- a running thread is at a breakpoint
 abbrev pub is_at_break : List Bool → ThreadState → Bool
 is_at_break breaks thread = runs thread.status && slice_index_or breaks thread.pc false
 
@@ -29,7 +24,7 @@ is_break breaks world choice =
     is_choice_ready world.program choice world.scene
     && is_at_break breaks (thread_at (played world choice).world.scene choice.thread)
 
--- why a choice is refused; want of memory comes only where nothing else is in its way
+-- why a choice is refused; out of memory comes only if there is no other reason
 abbrev pub Refuses : World → Choice → StepFault → Type 0
 Refuses world choice fault.NoSuchThread = refusal_of world choice ≡ Some fault.NoSuchThread
 Refuses world choice fault.StepLimit = refusal_of world choice ≡ Some fault.StepLimit

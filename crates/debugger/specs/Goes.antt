@@ -1,5 +1,5 @@
--- How far some choices were played, without their number. Nobody has to believe this: it is what proofs go by, and `Stops`
--- says the same with the number.
+-- How far some choices were played, without their number. Only proofs use this: no promise depends on it, and `Stops` says the
+-- same with the number.
 use Rattle.std.specs.Prelude.{List}
 use Rattle.thread_machine.specs.declared.choice.Choice.{Choice}
 use Rattle.debugger.specs.declared.session.go.Went.{Went}

@@ -4,4 +4,6 @@ pub mod Moves
 pub mod Go
 pub mod Goes
 pub mod Command
+pub mod Tokens
 pub mod Reply
+pub mod Standing

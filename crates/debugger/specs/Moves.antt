@@ -1,8 +1,8 @@
 -- Steps and steps back in any order.
-use Rattle.std.specs.Prelude.{◌≡◌, ◌≢◌, ℕ, zero, suc, ◌-◌, List, [], ◌∷◌, ◌++◌, length, take}
+use Rattle.std.specs.Prelude.{◌≡◌, ◌≢◌, ℕ, zero, suc, ◌-◌, List, [], ◌∷◌, ◌++◌, length, take, None}
 use Rattle.thread_machine.specs.declared.choice.Choice.{Choice}
 use Rattle.thread_machine.specs.World.{world_of}
-use Rattle.thread_machine.specs.Step.{played}
+use Rattle.thread_machine.specs.Step.{played, refusal_of}
 use Rattle.debugger.specs.Session.{Session, went_on, went_back}
 
 -- a choice is played, or the last one is taken back
@@ -10,8 +10,9 @@ pub data Move : Type 0 where
   Step : Choice → Move
   Back : Move
 
--- the choice has led from the session before to the one after
+-- the choice wasn't refused, and has led from the session before to the one after
 pub record IsStep (before : Session) (choice : Choice) (after : Session) : Type 0 where
+  pub accepted : refusal_of (world_of before.machine) choice ≡ None
   pub world : world_of after.machine ≡ (played (world_of before.machine) choice).world
   pub session : after ≡ went_on before after.machine
 

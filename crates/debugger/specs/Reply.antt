@@ -65,8 +65,8 @@ Replies session Print after text = (after ≡ session) × (text ≡ state_text (
 Replies session Quit after text = (after ≡ session) × (text ≡ [])
 Replies session Unknown after text = (after ≡ session) × (text ≡ codes "?\n")
 
--- a command was carried out, and its reply was written; or it was carried out, and the output has failed; or it was not, since it
--- wants memory, and nothing was written
+-- a command was carried out, and its reply was written; or it was carried out, and the output has failed; or it was not, since
+-- it is out of memory, and nothing was written
 abbrev pub IsCarriedOut : {A : Type 0} → (wants : Type 0) → Result A CommandFault → Session → Order → Session
     → (output_before output_after : Option (List ℕ)) (failed : Bool) → Type 0
 IsCarriedOut wants (Ok answer) session order after output_before output_after failed =

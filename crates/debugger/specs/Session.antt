@@ -1,21 +1,22 @@
 -- A debugged machine: its world, the worlds that it can go back to, and its breakpoints.
-use Rattle.std.specs.Prelude.{◌≡◌, ℕ, Bool, List, [], ◌∷◌, ◌++◌, map, take, Option}
+use Rattle.std.specs.Prelude.{◌≡◌, ℕ, Bool, List, [], ◌∷◌, ◌++◌, map, take, Option, None}
 use Rattle.machine_scene.specs.Undo.{Note}
 use Rattle.thread_machine.specs.World.{World, StoredWorld, world_of}
 use Rattle.thread_machine.specs.declared.choice.Choice.{Choice}
 use Rattle.thread_machine.specs.Step.{played}
+use Rattle.thread_machine.specs.Execution.{execution}
 use Rattle.thread_machine.specs.Undo.{undone, CanUndo}
 
--- the world now; the worlds before the last choices, word for word and the newest first; how many of them are kept at
--- most; and for each row whether there is a breakpoint
+-- the present world; the worlds before the last choices, word for word and the newest first; how many of them are kept at most;
+-- and for each row whether there is a breakpoint
 pub record Session : Type 0 where
   pub machine : StoredWorld
   pub past : List StoredWorld
   pub kept : ℕ
   pub breaks : List Bool
 
--- a choice has led to this world: the world before it is the newest of the past, and the oldest is dropped where there are
--- more than are kept
+-- a choice has led to this world: the world before it is the newest of the past, and the oldest is dropped if there are more
+-- than are kept
 abbrev pub went_on : Session → StoredWorld → Session
 went_on session world = record session { machine = world; past = take session.kept (session.machine ∷ session.past) }
 
@@ -24,7 +25,7 @@ abbrev pub back_to : List StoredWorld → Session → Session
 back_to [] session = session
 back_to (world ∷ past) session = record session { machine = world; past = past }
 
--- the last choice is taken back, if its record is kept
+-- the last choice is taken back, if what undoes it is kept
 abbrev pub went_back : Session → Session
 went_back session = back_to session.past session
 
@@ -38,14 +39,15 @@ abbrev pub worlds_before : World → List Choice → List World
 worlds_before world [] = []
 worlds_before world (choice ∷ choices) = worlds_before (played world choice).world choices ++ world ∷ []
 
--- these choices have led from the first world to the session's, and its past are the newest of the worlds between: the
--- older ones are no longer kept
+-- none of these choices is refused where they are played from the first world on, they lead to the session's, and its past are
+-- the newest of the worlds between: the older ones are no longer kept
 pub record IsHistory (first : World) (choices : List Choice) (session : Session) : Type 0 where
-  pub machine : world_of session.machine ≡ world_after first choices
+  pub accepted : (execution first choices).refusal ≡ None
+  pub machine : world_of session.machine ≡ (execution first choices).world
   pub older : List World
   pub past : map world_of session.past ++ older ≡ worlds_before first choices
 
--- the worlds that the records give back one after another, the newest first
+-- the worlds that what is kept restores one after another, the newest first
 abbrev pub past_of : StoredWorld → List (Option Note) → List StoredWorld
 past_of world [] = []
 past_of world (note ∷ notes) = undone note world ∷ past_of (undone note world) notes

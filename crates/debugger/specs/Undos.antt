@@ -7,7 +7,7 @@ pub record Kept : Type 0 where
   pub notes : List (Option Note)
   pub most : ℕ
 
--- with the note of one choice more: the oldest is dropped where there are more than there may be
+-- with the note of one more choice; the oldest is dropped if there are more than there may be
 abbrev pub with_note : Option Note → Kept → Kept
 with_note note kept = record kept { notes = take kept.most (note ∷ kept.notes) }
 

@@ -1,11 +1,15 @@
-ghost use Rattle.std.specs.Prelude.{◌≡◌, ◌↔◌, Err, OnErr, true, false, ◌==◌, ◌+◌, ◌≤◌, ◌<◌, ◌∷◌, [], IfOk, IfSome, Some, None, length};
+ghost use Rattle.std.specs.Prelude.{◌≡◌, ◌≢◌, ◌↔◌, Err, OnErr, true, false, ◌&&◌, ◌==◌, ◌+◌, ◌≤◌, ◌<◌, ◌∷◌, [], List, Option, IfOk, IfSome, Some, is_some, length};
 ghost use Rattle.std.specs.Char.{is_ascii_digit};
-ghost use Rattle.std.specs.List.{AllPass, list_all, list_any, position, position_or_len};
+ghost use Rattle.std.specs.List.{list_all, list_any, position, position_or_len};
 ghost use Rattle.std.specs.Option.{option_map};
 ghost use Rattle.std.specs.Str.Parse.{digits_value};
+ghost use Rattle.schedule_reader.specs.declared.run.Run.{Run};
 ghost use Rattle.schedule_reader.specs.Schedule.{choice_of, is_blank, run_of};
-ghost use Rattle.debugger.specs.Command.{Unknown, Break, Clear, Go, alone, by_row, go_by, goes_on, has_tokens, is_letter, is_row, letter_of, line_order, order_of, rest_of, row_in, runs_in, step_by, word_of};
+ghost use Rattle.debugger.specs.Command.{Break, Clear, Go, alone, by_row, go_by, goes_on, is_letter, is_row, letter_of, line_order, order_by, order_of, rest_of, row_in, runs_in, step_by, word_of};
+ghost use Rattle.debugger.specs.Tokens.{with_word};
 
+use crate::digits::{are_digits, digits_value};
+use crate::token::run_named;
 use schedule_reader::{Reader, Run, ScheduleFault};
 use std::alloc::AllocError;
 use thread_machine::Choice;
@@ -35,7 +39,7 @@ pub enum Command {
 }
 
 impl Command {
-    /// Whether the session goes on after it.
+    /// Returns whether the session goes on after it.
     pub fn goes_on(&self) -> bool
         ensures { result ≡ goes_on (order_of self.now) }
     {
@@ -93,10 +97,12 @@ fn length_before_blank(line: &[u8]) -> usize
 }
 
 /// The first word, and what stands after it.
-fn split_word(line: &[u8]) -> (&[u8], &[u8])
+#[tactic(auto, using(crate::proofs::Tokens::shorter_rest))]
+pub fn split_word(line: &[u8]) -> (&[u8], &[u8])
     ensures word { result.0.now ≡ word_of line.now }
     ensures rest { result.1.now ≡ rest_of line.now }
     ensures lengths { length result.0.now + length result.1.now ≤ length line.now }
+    ensures shorter { 0 < length line.now → length result.1.now < length line.now }
 {
     let from = &line[length_before_word(line)..];
     let end = length_before_blank(from);
@@ -104,7 +110,7 @@ fn split_word(line: &[u8]) -> (&[u8], &[u8])
 }
 
 /// The letter of a word that is one, else 0.
-fn letter_of(word: &[u8]) -> u8
+pub fn letter_of(word: &[u8]) -> u8
     ensures letter { result ≡ letter_of word.now }
     ensures some { 0 < result → 0 < length word.now }
 {
@@ -126,6 +132,29 @@ fn has_star(rest: &[u8]) -> bool
     ensures { result ≡ list_any (λ byte. byte == 42) rest.now }
 {
     rest.iter().any(|byte| *byte == b'*')
+}
+
+/// Whether a word is a token, or there is none.
+fn may_be_token(word: &[u8]) -> bool
+    ensures { (runs : Option (List Run)) → is_some (with_word word.now runs) ≡ (result && is_some runs) }
+{
+    word.is_empty() || run_named(word).is_some()
+}
+
+/// Whether each word of these bytes is a token.
+#[tactic(auto, using(crate::proofs::Tokens::next_word))]
+pub fn are_tokens(bytes: &[u8]) -> bool
+    ensures { result ≡ is_some (runs_in bytes.now) }
+{
+    let mut left = bytes;
+    while !left.is_empty() {
+        let (word, rest) = split_word(left);
+        if !may_be_token(word) {
+            return false;
+        }
+        left = rest;
+    }
+    true
 }
 
 /// Whether a reader was refused memory.
@@ -166,28 +195,23 @@ fn go_of(runs: Option<Vec<Run>>) -> Command
     }
 }
 
-/// The command `s` over one run, whose token has no star.
-fn only_run(runs: &[Run], rest: &[u8]) -> Command
-    ensures { order_of result ≡ step_by (Some runs.now) rest.now }
+/// The command `s` over these bytes: one token, and without a star.
+#[tactic(auto, using(crate::proofs::Tokens::one_token, crate::proofs::Tokens::more_words, crate::proofs::Tokens::no_token))]
+fn step_by(rest: &[u8]) -> Command
+    ensures { order_of result ≡ step_by (runs_in rest.now) rest.now }
 {
-    match runs {
-        [run] => {
+    let (word, after) = split_word(rest);
+    match run_named(word) {
+        Some(run) => {
+            if !are_blank(after) {
+                return Command::Unknown;
+            }
             if has_star(rest) {
                 Command::Unknown
             } else {
                 Command::Step(run.choice)
             }
         }
-        _ => Command::Unknown,
-    }
-}
-
-/// The command `s` over these runs, if the tokens had no fault.
-fn step_of(runs: Option<Vec<Run>>, rest: &[u8]) -> Command
-    ensures { order_of result ≡ step_by (option_map (λ r. r.items) runs) rest.now }
-{
-    match runs {
-        Some(runs) => only_run(runs.as_slice(), rest),
         None => Command::Unknown,
     }
 }
@@ -203,31 +227,11 @@ fn alone(command: Command, rest: &[u8]) -> Command
     }
 }
 
-/// Whether these bytes are all digits.
-fn are_digits(word: &[u8]) -> bool
-    ensures { result ≡ list_all is_ascii_digit word.now }
-{
-    word.iter().all(|byte| byte.is_ascii_digit())
-}
-
 /// Whether a word is a row's number: one to five digits.
 fn is_row(word: &[u8]) -> bool
     ensures { result ≡ is_row word.now }
 {
     !word.is_empty() && word.len() <= 5 && are_digits(word)
-}
-
-/// The number that at most ten digits spell.
-fn digits_value(digits: &[u8]) -> usize
-    requires few { length digits.now ≤ 10 }
-    requires digits { AllPass is_ascii_digit digits.now }
-    ensures { result ≡ digits_value 10 digits.now }
-{
-    let mut value = 0;
-    for digit in digits {
-        value = value * 10 + (*digit - b'0') as usize;
-    }
-    value
 }
 
 /// The number of a row, where there is one and no other word.
@@ -297,20 +301,31 @@ pub fn lone_turn(line: &[u8]) -> Option<Run>
     }
 }
 
-/// Reads what a line asks for, its runs into a list of which only the room is used. It fails where memory for them runs out.
+/// What a word of one letter, which is not `g`, asks for with what stands behind it.
+pub fn command_by(letter: u8, rest: &[u8]) -> Command
+    requires { letter ≢ 103 }
+    ensures { order_of result ≡ order_by letter rest.now }
+{
+    match letter {
+        b's' => step_by(rest),
+        b'k' => break_of(row_in(rest)),
+        b'c' => clear_of(row_in(rest)),
+        b'b' => alone(Command::Back, rest),
+        b'p' => alone(Command::Print, rest),
+        b'q' => alone(Command::Quit, rest),
+        _ => Command::Unknown,
+    }
+}
+
+/// Reads what a line asks for, the runs of `g` into a list of which only the room is used: for one who keeps them. It fails where
+/// memory for them runs out.
 pub fn command_of(room: Vec<Run>, line: &[u8]) -> Result<Command, AllocError>
     ensures order { IfOk result (λ command. order_of command ≡ line_order line.now) }
-    ensures wants { OnErr result (has_tokens (letter_of (word_of line.now)) ≡ true) }
+    ensures wants { OnErr result (letter_of (word_of line.now) ≡ 103) }
 {
     let (word, rest) = split_word(line);
     match letter_of(word) {
-        b's' => Ok(step_of(runs_in(room, rest)?, rest)),
         b'g' => Ok(go_of(runs_in(room, rest)?)),
-        b'k' => Ok(break_of(row_in(rest))),
-        b'c' => Ok(clear_of(row_in(rest))),
-        b'b' => Ok(alone(Command::Back, rest)),
-        b'p' => Ok(alone(Command::Print, rest)),
-        b'q' => Ok(alone(Command::Quit, rest)),
-        _ => Ok(Command::Unknown),
+        letter => Ok(command_by(letter, rest)),
     }
 }

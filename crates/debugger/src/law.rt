@@ -1,8 +1,11 @@
-ghost use Rattle.std.specs.Prelude.{◌≡◌, ◌≤◌, ◌-◌, ◌++◌, List, length, take};
+ghost use Rattle.std.specs.Prelude.{◌≡◌, ◌≤◌, ◌-◌, ◌++◌, ℕ, List, length, take};
 ghost use Rattle.thread_machine.specs.declared.choice.Choice.{Choice};
 ghost use Rattle.thread_machine.specs.World.{World};
 ghost use Rattle.debugger.specs.Session.{Session, IsHistory};
 ghost use Rattle.debugger.specs.Moves.{Move, AreSteps, AreMoves, backs, choices_left};
+ghost use Rattle.debugger.specs.Command.{Order};
+ghost use Rattle.debugger.specs.Reply.{Replies};
+ghost use Rattle.debugger.specs.Standing.{Stands};
 
 /// Whatever steps and steps back were made, the session is the one of the choices that were not taken back.
 pub fn what_is_not_taken_back_was_played()
@@ -11,13 +14,20 @@ pub fn what_is_not_taken_back_was_played()
         → IsHistory first (choices_left choices moves) after }
 {}
 
-/// Choices that were played one after another, by `step` or by `go`, come after those of before.
+/// Choices that are played one after another, by `step` or by `go`, follow those before them in the history.
 pub fn choices_in_a_row_extend_the_history()
     ensures { (first : World) (choices more : List Choice) (before after : Session)
         → IsHistory first choices before → AreSteps before more after → IsHistory first (choices ++ more) after }
 {}
 
-/// Some steps and as many steps back, no more than are kept, give the machine back word for word.
+/// Whatever a command does, the session behind it is the one of the choices that then stand.
+pub fn each_command_leaves_a_history()
+    ensures { (first : World) (choices : List Choice) (before after : Session) (order : Order) (reply : List ℕ)
+        → IsHistory first choices before → Replies before order after reply
+        → (now : List Choice) × (Stands before choices order now × IsHistory first now after) }
+{}
+
+/// Some steps and as many steps back, at most as many as are kept, restore the machine word for word.
 pub fn steps_and_as_many_back_are_nothing()
     ensures { (before after : Session) (choices : List Choice) → length choices ≤ before.kept
         → length before.past ≤ before.kept → AreSteps before choices after

@@ -1,22 +1,24 @@
-//! A debugger over the machine: single steps, steps back and breakpoints.
+//! A debugger for the machine: single steps, steps back and breakpoints.
 //!
-//! Its machine is at each moment the one of the choices played and not taken back, stored words included. `command` does what
-//! a line says and writes just the reply of `specs/Reply.antt`.
+//! At each moment its machine is that of the choices played and not taken back, to the stored words. `command` carries out a
+//! line, and writes exactly the reply of `specs/Reply.antt`.
 #![tactic(auto)]
 
 mod command;
+mod digits;
 mod law;
 mod marks;
 mod number_line;
 mod played;
 mod session;
 mod stop;
+mod token;
 mod undos;
 
 pub use command::{Command, command_of};
 pub use law::{
-    choices_in_a_row_extend_the_history, steps_and_as_many_back_are_nothing,
-    what_is_not_taken_back_was_played,
+    choices_in_a_row_extend_the_history, each_command_leaves_a_history,
+    steps_and_as_many_back_are_nothing, what_is_not_taken_back_was_played,
 };
 pub use played::Played;
 pub use session::{CommandFault, Debugger, say_stop};

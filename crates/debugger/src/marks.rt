@@ -22,7 +22,7 @@ impl Model for Marks {
 }
 
 impl Marks {
-    /// No breakpoint at any of so many rows. It fails where memory runs out.
+    /// Makes marks without a breakpoint at any of so many rows. Fails if it is out of memory.
     pub fn new(alloc: Global, rows: usize) -> Result<Marks, AllocError>
         ensures { IfOk result (λ marks. marks ≡ replicate rows false) }
     {
@@ -32,7 +32,7 @@ impl Marks {
         })
     }
 
-    /// Sets or clears the breakpoint at a row; false where there is no such row.
+    /// Sets or clears the breakpoint at a row. Returns false if there is no such row.
     #[tactic(auto, using(crate::proofs::Unmarked::none_cleared))]
     pub fn put(&mut self, row: usize, is_break: bool) -> bool
         ensures row { result ≡ nat_lt row (length self.old) }
@@ -50,14 +50,14 @@ impl Marks {
         }
     }
 
-    /// Whether there may be any breakpoint.
+    /// Returns whether there may be a breakpoint.
     pub fn are_there(&self) -> bool
         ensures { result ≡ false → self.now ≡ replicate (length self.now) false }
     {
         self.are_there
     }
 
-    /// Whether a row has a breakpoint; false where there is no such row.
+    /// Returns whether a row has a breakpoint, or false if there is no such row.
     pub fn has(&self, row: u16) -> bool
         ensures { result ≡ slice_index_or self.now row false }
     {

@@ -3,7 +3,7 @@ ghost use Rattle.std.specs.Fmt.{decimal};
 
 use itoa::write_digits;
 
-/// How long such a line can be.
+/// The most bytes of such a line.
 pub const ROOM: usize = 40;
 
 /// Puts a word before what stands from a place on, and answers where it begins.
@@ -19,8 +19,8 @@ fn put_before(bytes: &mut [u8; ROOM], from: usize, word: &[u8]) -> usize
     start
 }
 
-/// Puts a word, a number and the line's end at the end of a room, and answers where the word begins: so the line is told in
-/// one piece. Where the words are known, their bytes are stored without a call.
+/// Puts a word, a number and a line end at the end of a buffer, and returns where the word begins, so that the line is written
+/// in one piece. If the words are known at compile time, their bytes are stored without a call.
 #[inline(always)]
 pub fn put_number_line(bytes: &mut [u8; ROOM], word: &[u8], number: u64, end: &[u8]) -> usize
     requires { length word.now + length end.now ≤ 20 }

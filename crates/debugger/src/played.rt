@@ -8,7 +8,7 @@ use std::marker::Model;
 /// How often a run names its choice at most.
 const MOST_TIMES: u32 = 1_000_000_000;
 
-/// The choices that a session has played and not taken back, those that repeat as one run.
+/// The choices that a session has played and not taken back, with repeated choices as one run.
 #[derive(Drop)]
 pub struct Played {
     runs: Vec<Run>,
@@ -43,7 +43,7 @@ fn joined(last: Run, run: Run) -> Option<Run>
 }
 
 impl Played {
-    /// The choices of a session that has played none.
+    /// Makes the choices of a session that has played none.
     pub fn new(alloc: Global) -> Played
         ensures { result ≡ [] }
     {
@@ -52,7 +52,7 @@ impl Played {
         }
     }
 
-    /// The choices as runs, the first first.
+    /// Returns the choices as runs, in order.
     pub fn runs(&self) -> &[Run]
         ensures { result.now ≡ self.now }
     {
@@ -81,7 +81,7 @@ impl Played {
         Ok(())
     }
 
-    /// Adds so many of the first choices of these runs, all where there are no more. It fails where memory runs out.
+    /// Appends so many of the first choices of these runs, or all if there are fewer. Fails if it is out of memory.
     pub fn push_first(&mut self, runs: &[Run], count: u64) -> Result<(), AllocError>
         ensures choices { OnOk result (choices_of self.new ≡ choices_of self.old ++ take count (choices_of runs.now)) }
         ensures runs { All IsRun runs.now → All IsRun self.old → All IsRun self.new }

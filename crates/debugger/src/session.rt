@@ -6,7 +6,6 @@ ghost use Rattle.debugger.specs.Session.{IsHistory, went_on, went_back};
 use crate::marks::Marks;
 use crate::stop::NoHistory;
 use crate::undos::Undos;
-use schedule_reader::Run;
 use std::alloc::{AllocError, Global};
 use std::marker::Model;
 use thread_machine::{Choice, Event, Machine, StepFault, Undo};
@@ -16,7 +15,7 @@ mod reply;
 
 pub use reply::{CommandFault, say_stop};
 
-/// A machine that can be stepped back, with a breakpoint or none at each row.
+/// A machine that can be stepped back, with or without a breakpoint at each row.
 #[derive(Drop)]
 pub struct Debugger {
     played: Machine,
@@ -24,8 +23,6 @@ pub struct Debugger {
     /// What undoes the next choice is written here.
     spare: Box<Undo>,
     marks: Marks,
-    /// Room for the runs of a line, so that one `g` after another takes no memory.
-    room: Vec<Run>,
     alloc: Global,
 }
 
@@ -45,8 +42,8 @@ impl Model for Debugger {
 }
 
 impl Debugger {
-    /// A debugger that keeps what it needs to take back so many of the last choices. It has no breakpoints yet. Only this takes
-    /// memory, and a value put out: it fails where that runs out.
+    /// Makes a debugger that can take back so many of the last choices. It has no breakpoints yet. Only this call allocates,
+    /// and a value that is put out. Fails if it is out of memory.
     pub fn new(alloc: Global, machine: Machine, kept: u16) -> Result<Debugger, AllocError>
         requires some { 0 < kept }
         requires few { kept ≤ 4096 }
@@ -63,20 +60,19 @@ impl Debugger {
             undos: Undos::new(alloc, kept)?,
             spare: Box::new(alloc, Undo::new())?,
             marks,
-            room: Vec::new(alloc),
             alloc,
         })
     }
 
-    /// The machine as it is now.
+    /// Returns the machine as it is now.
     pub fn machine(&self) -> &Machine
         ensures { result.now ≡ self.now.machine }
     {
         &self.played
     }
 
-    /// Plays one choice, keeps what is needed to take it back, and answers its event. It fails where the machine refuses the
-    /// choice: then the debugger is as before.
+    /// Plays one choice, keeps what is needed to take it back, and returns its event. Fails if the machine refuses the choice.
+    /// Then the debugger is as before.
     #[inline(always)]
     pub fn step(&mut self, choice: Choice) -> Result<Event, StepFault>
         ensures played { IfOk result (λ event. record { world = world_of (self.new).machine; event = event }
@@ -100,8 +96,8 @@ impl Debugger {
         Ok(event)
     }
 
-    /// Takes back the last choice: the machine is the one before it, word for word. The breakpoints stay. It fails where no
-    /// record is kept.
+    /// Takes back the last choice: the machine is the one before it, word for word. The breakpoints stay. Fails if nothing is
+    /// kept to take back.
     pub fn back(&mut self) -> Result<(), NoHistory>
         ensures session { self.new ≡ went_back self.old }
         ensures none { IsErr result ↔ (self.old.past ≡ []) }
@@ -118,7 +114,7 @@ impl Debugger {
         }
     }
 
-    /// Sets a breakpoint at a row; false where the program has no such row.
+    /// Sets a breakpoint at a row. Returns false if the program has no such row.
     pub fn set_break(&mut self, row: u16) -> bool
         ensures row { result ≡ nat_lt row (length self.old.breaks) }
         ensures session { self.new ≡ record self.old { breaks = slice_set self.old.breaks row true } }
@@ -126,7 +122,7 @@ impl Debugger {
         self.marks.put(row as usize, true)
     }
 
-    /// Clears the breakpoint at a row, if there is one; false where the program has no such row.
+    /// Clears the breakpoint at a row, if there is one. Returns false if the program has no such row.
     pub fn clear_break(&mut self, row: u16) -> bool
         ensures row { result ≡ nat_lt row (length self.old.breaks) }
         ensures session { self.new ≡ record self.old { breaks = slice_set self.old.breaks row false } }

@@ -1,6 +1,6 @@
 use thread_machine::StepFault;
 
-/// Why a choice could not be taken back: no record of it is kept. The debugger is as before.
+/// A choice can't be taken back, because nothing is kept to do so. The debugger is as before.
 #[derive(Clone, Copy, Debug, PartialEq, Eq)]
 pub struct NoHistory;
 

@@ -7,7 +7,8 @@ use std::marker::Model;
 use std::mem::replace;
 use thread_machine::Undo;
 
-/// What undoes the last choices, the newest first, each in a box that stays where it is, and boxes for the next ones.
+/// What undoes the last choices, the newest first. Each is in a box that stays where it is. There are spare boxes for the next
+/// ones.
 #[derive(Drop)]
 pub struct Undos {
     kept: HeapCircularBuffer<Box<Undo>>,
@@ -39,8 +40,8 @@ fn boxes(alloc: Global, count: usize) -> Result<HeapCircularBuffer<Box<Undo>>, A
 }
 
 impl Undos {
-    /// A ring with room to undo so many choices, of which none was made yet. Only this takes memory: it fails where that runs
-    /// out.
+    /// Makes a ring with room to undo so many choices. None was made yet. Only this call allocates. Fails if it is out of
+    /// memory.
     pub fn new(alloc: Global, most: u16) -> Result<Undos, AllocError>
         requires { 0 < most }
         ensures { IfOk result (λ undos. undos ≡ record { notes = []; most = most }) }
@@ -52,7 +53,7 @@ impl Undos {
         })
     }
 
-    /// Keeps what undoes one choice more, and gives another box for it.
+    /// Keeps what undoes one more choice, and provides another box.
     #[inline(always)]
     pub fn push(&mut self, undo: &mut Box<Undo>)
         ensures { self.new ≡ with_note undo.old.value self.old }
@@ -66,7 +67,7 @@ impl Undos {
         }
     }
 
-    /// What undoes the last choice; `None` where that isn't kept.
+    /// Returns what undoes the last choice, or `None` if that isn't kept.
     pub fn newest(&self) -> Option<&Undo>
         ensures { option_copied result ≡ slice_get self.now.notes 0 }
     {

@@ -10,20 +10,22 @@ use Rattle.cyclic_barrier.specs.Barrier as now
 use Rattle.cyclic_barrier.specs.Barrier.{BarrierState}
 use Rattle.cyclic_barrier.specs.Past.{StandsFor}
 use Rattle.cyclic_barrier.proofs.PastLemmas.{stands-beside, stands-end_action, stands-interrupt, stands-leave, stands-reset}
-use Rattle.headline.specs.Pasts.{BarrierCall, GoesOn, Enter, EndAction, Leave, Interrupt, Expire, Reset}
+use Rattle.thread_state.specs.declared.event.What.{What}
+use Rattle.headline.specs.Pasts.{BarrierCall, GoesOn, MakesNone, Enter, EndAction, Leave, Interrupt, Expire, Reset}
 
 -- each past of the one barrier stays or goes on by one of these calls to a past of the other
-abbrev pub GoesTo : (PlainBarrier → BarrierCall → Type 0) → BarrierState → BarrierState → Type 0
-GoesTo makes before after =
-    (past : PlainBarrier) → StandsFor before past → (next : PlainBarrier) × (GoesOn (makes past) past next × StandsFor after next)
+abbrev pub GoesTo : What → (PlainBarrier → BarrierCall → Type 0) → BarrierState → BarrierState → Type 0
+GoesTo shown makes before after =
+    (past : PlainBarrier) → StandsFor before past → (next : PlainBarrier) × (GoesOn shown (makes past) past next × StandsFor after next)
 
-pub nowhere : (makes : PlainBarrier → BarrierCall → Type 0) (gate : BarrierState) → GoesTo makes gate gate
-nowhere makes gate past stands = (past, (inl refl, stands))
+pub nowhere : (shown : What) (makes : PlainBarrier → BarrierCall → Type 0) (gate : BarrierState)
+    → ((past : PlainBarrier) → StandsFor gate past → (call : BarrierCall) → makes past call → MakesNone shown) → GoesTo shown makes gate gate
+nowhere shown makes gate none past stands = (past, (inl (refl, none past stands), stands))
 
-pub goes_entered : (makes : PlainBarrier → BarrierCall → Type 0) (t : ℕ) (interrupted no_wait : Bool) (gate : BarrierState)
+pub goes_entered : (shown : What) (makes : PlainBarrier → BarrierCall → Type 0) (t : ℕ) (interrupted no_wait : Bool) (gate : BarrierState)
     → ((past : PlainBarrier) → makes past (Enter t interrupted no_wait)) → t < length gate.waits → wait_at gate.waits t ≡ None
-    → GoesTo makes gate (now.enter_timed t interrupted no_wait gate).barrier
-goes_entered makes t interrupted no_wait gate made there none past stands = (
+    → GoesTo shown makes gate (now.enter_timed t interrupted no_wait gate).barrier
+goes_entered shown makes t interrupted no_wait gate made there none past stands = (
   (plain.enter_timed t interrupted no_wait past).barrier,
   (
     inr (Enter t interrupted no_wait, (made past, refl)),
@@ -31,9 +33,9 @@ goes_entered makes t interrupted no_wait gate made there none past stands = (
   ),
 )
 
-pub goes_ended : (makes : PlainBarrier → BarrierCall → Type 0) (returned : Bool) (gate : BarrierState)
-    → ((past : PlainBarrier) → makes past (EndAction returned)) → GoesTo makes gate (now.end_action returned gate)
-goes_ended makes returned gate made past stands =
+pub goes_ended : (shown : What) (makes : PlainBarrier → BarrierCall → Type 0) (returned : Bool) (gate : BarrierState)
+    → ((past : PlainBarrier) → makes past (EndAction returned)) → GoesTo shown makes gate (now.end_action returned gate)
+goes_ended shown makes returned gate made past stands =
     (plain.end_action returned past, (inr (EndAction returned, (made past, refl)), stands-end_action returned gate past stands))
 
 -- a wait that has ended, or hasn't
@@ -41,11 +43,11 @@ isnt_over : (wait : Option WaitState) → (wait ≡ Some state.Tripped) ⊎ (wai
 isnt_over wait (inl is) waits = cc (is, waits)
 isnt_over wait (inr is) waits = cc (is, waits)
 
-pub goes_left : (makes : PlainBarrier → BarrierCall → Type 0) (t : ℕ) (gate : BarrierState) → t < length gate.waits
+pub goes_left : (shown : What) (makes : PlainBarrier → BarrierCall → Type 0) (t : ℕ) (gate : BarrierState) → t < length gate.waits
     → (wait_at gate.waits t ≡ Some state.Tripped) ⊎ (wait_at gate.waits t ≡ Some state.Broken)
     → ((past : PlainBarrier) → (state_of t past ≡ Some state.Tripped) ⊎ (state_of t past ≡ Some state.Broken) → makes past (Leave t))
-    → GoesTo makes gate (now.leave t gate)
-goes_left makes t gate there over made past stands = (
+    → GoesTo shown makes gate (now.leave t gate)
+goes_left shown makes t gate there over made past stands = (
   plain.leave t past,
   (
     inr (
@@ -60,18 +62,18 @@ goes_left makes t gate there over made past stands = (
   ),
 )
 
-pub goes_interrupted : (makes : PlainBarrier → BarrierCall → Type 0) (t : ℕ) (gate : BarrierState) → t < length gate.waits
+pub goes_interrupted : (shown : What) (makes : PlainBarrier → BarrierCall → Type 0) (t : ℕ) (gate : BarrierState) → t < length gate.waits
     → wait_at gate.waits t ≡ Some state.Waiting → ((past : PlainBarrier) → state_of t past ≡ Some state.Waiting → makes past (Interrupt t))
-    → GoesTo makes gate (now.interrupt t gate)
-goes_interrupted makes t gate there waits made past stands =
+    → GoesTo shown makes gate (now.interrupt t gate)
+goes_interrupted shown makes t gate there waits made past stands =
     (plain.interrupt t past, (inr (Interrupt t, (made past (stands.waits t ∙ waits), refl)), stands-interrupt t gate past there stands))
 
-pub goes_expired : (makes : PlainBarrier → BarrierCall → Type 0) (t : ℕ) (gate : BarrierState) → t < length gate.waits
+pub goes_expired : (shown : What) (makes : PlainBarrier → BarrierCall → Type 0) (t : ℕ) (gate : BarrierState) → t < length gate.waits
     → wait_at gate.waits t ≡ Some state.Waiting → ((past : PlainBarrier) → state_of t past ≡ Some state.Waiting → makes past (Expire t))
-    → GoesTo makes gate (now.expire t gate)
-goes_expired makes t gate there waits made past stands =
+    → GoesTo shown makes gate (now.expire t gate)
+goes_expired shown makes t gate there waits made past stands =
     (plain.expire t past, (inr (Expire t, (made past (stands.waits t ∙ waits), refl)), stands-interrupt t gate past there stands))
 
-pub goes_reset : (makes : PlainBarrier → BarrierCall → Type 0) (gate : BarrierState) → ((past : PlainBarrier) → makes past Reset)
-    → GoesTo makes gate (now.reset gate)
-goes_reset makes gate made past stands = (plain.reset past, (inr (Reset, (made past, refl)), stands-reset gate past stands))
+pub goes_reset : (shown : What) (makes : PlainBarrier → BarrierCall → Type 0) (gate : BarrierState) → ((past : PlainBarrier) → makes past Reset)
+    → GoesTo shown makes gate (now.reset gate)
+goes_reset shown makes gate made past stands = (plain.reset past, (inr (Reset, (made past, refl)), stands-reset gate past stands))

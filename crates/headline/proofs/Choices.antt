@@ -14,6 +14,7 @@ use Rattle.thread_machine.specs.Step.{played, played_by, refusal_of}
 use Rattle.thread_machine.specs.Execution.{execution, execution_by}
 use Rattle.thread_machine.specs.DirectCounts.{counts_after, counts_by}
 use Rattle.thread_machine.proofs.SafeEnds.{Goes, goes_through}
+use Rattle.thread_state.specs.declared.event.What.{What}
 use Rattle.headline.specs.Pasts.{MakesCall}
 use Rattle.headline.specs.PhaseEnds.{row_of}
 use Rattle.headline.proofs.BarrierCalls.{GoesTo}
@@ -30,13 +31,13 @@ by_kind true row t scene late turn a b = a
 by_kind false row t scene late turn a b = b
 
 -- what a choice makes of the barriers and of the trees
-abbrev pub ChoiceGoes : Option Row → ℕ → World → World → Type 0
-ChoiceGoes row t before after =
-    ((b : ℕ) → GoesTo (MakesCall row t (thread_at before.scene t) b) (barrier_at before.scene b) (barrier_at after.scene b))
+abbrev pub ChoiceGoes : What → Option Row → ℕ → World → World → Type 0
+ChoiceGoes shown row t before after =
+    ((b : ℕ) → GoesTo shown (MakesCall row t (thread_at before.scene t) b) (barrier_at before.scene b) (barrier_at after.scene b))
     × TreesGo row (thread_at before.scene t) before.scene.phasers after.scene.phasers
 
 by_outcome : (outcome : Option Outcome) (row : Option Row) (t : ℕ) (world : World) → GoIf row t world.scene outcome
-    → ChoiceGoes row t world (played_by outcome world).world
+    → ChoiceGoes (played_by outcome world).event.what row t world (played_by outcome world).world
 by_outcome (Some outcome) row t world goes = goes
 by_outcome None row t world goes = goes
 
@@ -47,16 +48,16 @@ pub stands_now : (world : World) (choice : Choice) (origin : Origin) → Goes wo
 stands_now world choice origin goes accepted = grind (arith, stands_at, is_there)
 
 pub choice_goes : (world : World) (choice : Choice) (origin : Origin) → Goes world origin → refusal_of world choice ≡ None
-    → ChoiceGoes (row_of world choice) choice.thread world (played world choice).world
+    → ChoiceGoes (played world choice).event.what (row_of world choice) choice.thread world (played world choice).world
 choice_goes world choice origin goes accepted =
     let most = goes.limit in
-    let done = goes.steps in
+    let shown = goes.steps in
     let there = is_there world choice accepted in
     let t = choice.thread in
     by_outcome (outcome_of_choice world.program choice world.scene) (row_of world choice) t world
     (by_kind choice.expiry _ t world.scene _ _
-    (expiry_goes world.program world.steps t world.scene goes.sound (omega (arith, most, done)) there)
-    (turn_goes world.program world.steps t world.scene goes.sound (omega (arith, most, done)) there))
+    (expiry_goes world.program world.steps t world.scene goes.sound (omega (arith, most, shown)) there)
+    (turn_goes world.program world.steps t world.scene goes.sound (omega (arith, most, shown)) there))
 
 pub goes_next : (world : World) (choice : Choice) (origin : Origin) → Goes world origin → refusal_of world choice ≡ None
     → Goes (played world choice).world (counts_after world choice (played world choice).world origin)

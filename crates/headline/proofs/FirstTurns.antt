@@ -25,8 +25,8 @@ use Rattle.thread_machine.specs.Ready.{all_finished}
 use Rattle.thread_machine.specs.World.{World}
 use Rattle.thread_machine.proofs.Readiness.{one_ready}
 use Rattle.thread_runner.specs.Endings.{ending_of}
+use Rattle.workbench.specs.Live.{IsRecorded}
 use Rattle.headline.specs.Headline.{Accepted}
-use Rattle.headline.specs.EndToEnd.{IsLiveRun}
 
 -- no phase is about to end where all phasers are fresh
 fresh_unturned : (phasers : List PhaserState) → AreAllFresh phasers → (id : ℕ) → (flat_at phasers id).turned ≡ false
@@ -74,5 +74,5 @@ not_over : (world : World) → NobodyCame world.scene → world.steps < world.li
 not_over world none less = grind (arith, length-map, ready_as_listed, goes_by, runs_by, unfinished, one_ready)
 
 -- a live run of an accepted program makes a choice where it may take a step
-pub chooses : (limit : ℕ) (image : Image) (choices : List Choice) → 0 < limit → Accepted image → IsLiveRun limit image choices → choices ≢ []
+pub chooses : (limit : ℕ) (image : Image) (choices : List Choice) → 0 < limit → Accepted image → IsRecorded image limit choices → choices ≢ []
 chooses limit image choices some accepted given none = grind (arith, not_over, none_left, fresh_unturned, all_made, new_idle)

@@ -12,3 +12,4 @@ pub mod PhaseEnds
 pub mod Scenes
 pub mod Showing
 pub mod FirstTurns
+pub mod Sessions

@@ -145,7 +145,7 @@ live-shown (Ok end) limit image before after failed
         choices_of runs,
         (
           (is, (file_image file image is, loads)),
-          (first, (last, (ending, (begun, replay, over)))),
+          (first, (last, (ending, (loads, begun, replay, over)))),
           first_trace image world (choices_of runs) before after begins appends,
         ),
       ),

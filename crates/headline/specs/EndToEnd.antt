@@ -1,36 +1,54 @@
 -- FROM END TO END. What a command shows of an accepted program is the headline's machine (headline/specs/Headline.antt), from
 -- the bytes that it reads to the bytes that it writes. The commands are the program without arguments, `run`, `debug`, and
--- `live` without `--runs`. What is said holds wherever the command's answer is Ok, of `debug --at` wherever it is `AsAsked`;
--- what it leaves where it is a refusal each function of src/shown.rt says (`outcome`). Behind each name of a `use` line stands
--- the file that defines it. The bytes of a text or a file are all that it holds, at most 16,777,216: the program reads them
--- first (`read_all`, workbench/src/input.rt). That it hands on just these is only tested, as is that `run FILE` without a
--- schedule hands on what stands before the line `.run` and behind it. At a terminal the commands of `debug` are the lines that `GuidedCommands` hands on, and what that answers
--- itself isn't among these bytes.
+-- `live` without `--runs`. This holds whenever the command's result is Ok, and for `debug --at` whenever it is `AsAsked`. What
+-- a refused command leaves is said by each function of src/shown.rt (`outcome`). Each `use` line names the file that defines
+-- its names. The bytes of a text or a file are all that it has, at most 16,777,216: the program reads them first (`read_all`,
+-- workbench/src/input.rt). It is only tested that it passes on exactly these, and that `run FILE` without a schedule passes on
+-- what precedes the line `.run` and what follows it. At a terminal the commands of `debug` are the lines that `GuidedCommands`
+-- passes on; its own replies aren't among these bytes.
 --
--- A schedule, commands or an output is the bytes that a port still gives or has got. Ports over memory tell them. Ports over files, pipes
--- and terminals tell none (`None`): of these the lines below say only that there are bytes for which they hold. That these are
--- the bytes that came and went out, a reader concludes from the functions (src/shown.rt). They are generic in
--- their ports: one body for all of them, that meets a port in `Source::pull` and `Sink::push` alone (byte_ports). `debug` meets its
--- commands in `Companion::next_line` (workbench/src/companion.rt), which has one body for all sources. No body can
--- ask which port it has, since `left` and `written` are ghosts, which nothing that runs sees. So what it does can't rest on
--- whether its ports tell their bytes; and of ports that tell them the lines hold, in whatever pieces the bytes come. Left to
--- believe is what lies behind a port: that std's `read` gives what the file holds, in its order, and that its `write` hands on
--- what it is given.
-use Rattle.std.specs.Prelude.{◌≡◌, ℕ, List, Option, Some, None}
+-- A schedule, commands and an output are the bytes that a port still has or has got. Ports over memory tell their contracts
+-- these bytes. Ports over files, pipes and terminals don't (`None`): for them the lines below say only that there are bytes for
+-- which they hold. That these are the bytes that came and went, a reader concludes from the functions (src/shown.rt). They are
+-- generic in their ports: one body for all of them, which uses a port only through `Source::pull` and `Sink::push`
+-- (byte_ports). `debug` reads its commands with `Companion::next_line` (workbench/src/companion.rt), which has one body for all
+-- sources. No body can find out which port it has, since `left` and `written` are ghosts, which nothing that runs sees. So what
+-- it does can't depend on whether its ports tell their bytes; and for ports that tell them the lines hold, in whatever pieces
+-- the bytes come. What you still have to believe is below the ports: that std's `read` returns what the file has, in order, and
+-- that its `write` writes what it is given.
+--
+-- The other commands have their promises elsewhere, each in the relation that its contract names:
+--   `asm`: the bytes of the image that the text stands for are written (Assembles, workbench/specs/Asm.antt).
+--   `list`: the canonical text of the program (Lists, workbench/specs/List.antt); with `--rows` its rows (ListsRows,
+--      commands/specs/Rows.antt).
+--   `compare`: the verdict on the whole trace, and `same` only if it is the trace of the choices that its lines name
+--      (WritesVerdict, workbench/specs/Compare.antt; the laws in trace_compare/src/law.rt); with `--show` also the lines that
+--      differ (ShowsComparison, commands/specs/Showing.antt).
+--   `choices`: the schedule of the choices that a trace's lines name (HasToldChoices, commands/specs/Choices.antt).
+--   `plan`: the choices that the plan plays on the program (HasPlanned, commands/specs/Planning.antt); with `--seeds` how the
+--      runs of these seeds end (HasReportedSeeds, commands/specs/Seeds.antt).
+--   `show`, `draw`: a page or a picture of exactly this run (HasMade, commands/specs/Pictures.antt; IsPageOf and IsPictureOf,
+--      pictures/specs).
+--   `live --runs`: each run that is counted is a live run as below (Reports, commands/specs/Runs.antt).
+--   `race`: the line of the phaser's last word after one legal history of so many meetings (IsFinal, race/specs/Race.antt).
+--   `explain`: the entry that the words ask for (HasExplained, refusals/specs/Explained.antt).
+use Rattle.std.specs.Prelude.{◌≡◌, ℕ, List, [], ◌∷◌, Option, Some, None}
 use Rattle.std.specs.Io.KnownBytes.{Appends, Consumes, IsAtEnd}
 use Rattle.row_code.specs.declared.image.Image.{Image}
 use Rattle.assembler.specs.Meaning.{StandsFor}
 use Rattle.thread_machine.specs.declared.choice.Choice.{Choice}
-use Rattle.thread_machine.specs.World.{World, StoredWorld, IsFirstOf, world_of}
+use Rattle.thread_machine.specs.World.{StoredWorld, IsFirstOf, world_of}
 use Rattle.schedule_reader.specs.declared.run.Run.{Run}
 use Rattle.schedule_reader.specs.Schedule.{finished_schedule, choices_of}
 use Rattle.trace_text.specs.Trace.{trace_of}
-use Rattle.thread_runner.specs.declared.ending.Ending.{Ending}
-use Rattle.thread_runner.specs.Endings.{ending_of}
-use Rattle.thread_runner.specs.Replay.{IsReplay}
-use Rattle.headline.specs.Headline.{Accepted, start}
+use Rattle.headline.specs.Headline.{Accepted, GivesTheRows, start}
+use Rattle.debugger.specs.Command.{Go, line_order}
+use Rattle.debugger.specs.Reply.{Replies}
 use Rattle.debugger.specs.Session.{Session}
-use Rattle.workbench.specs.Debug.{Finished, HasConversed, IsBegun, IsBehindTrace, first_session}
+use Rattle.debugger.specs.Standing.{Stands}
+use Rattle.thread_machine.specs.Execution.{execution}
+use Rattle.workbench.specs.Debug.{Exchange, Finished, HasConversed, IsBegun, IsBehindTrace, IsDialogue, first_session}
+use Rattle.workbench.specs.Live.{IsRecorded}
 use Rattle.workbench.specs.ProgramFile.{IsProgramFile}
 use Rattle.workbench.specs.RunLine.{program_part, schedule_part}
 
@@ -42,9 +60,9 @@ AcceptedText text image = StandsFor text image × Accepted image
 abbrev pub AcceptedFile : List ℕ → Image → Type 0
 AcceptedFile file image = IsProgramFile file image × Accepted image
 
--- The schedule has no fault, and what is shown is the trace of its choices, each as often as it says: for each choice what the
--- row of its thread gives in the world that the choices before it leave, up to the first that is refused, and then the state
--- that is left.
+-- The schedule has no fault, and what is shown is the trace of its choices, each as often as it says. For each choice the trace
+-- has what the row of its thread gives in the world after the choices before it, up to the first that is refused. Then it has
+-- the state after them.
 abbrev pub ShowsTheRows : Image → List ℕ → List ℕ → Type 0
 ShowsTheRows image schedule shown =
     (runs : List Run) × ((finished_schedule schedule ≡ record { runs = runs; fault = None })
@@ -63,8 +81,8 @@ HasShownFile file schedule_before schedule_after output_before output_after =
     × (AcceptedFile file image × Consumes schedule_before schedule_after schedule × IsAtEnd schedule_after
     × ShowsTheRows image schedule shown × Appends output_before output_after shown)))
 
--- `debug`: a session that keeps 4096 steps was held on a file's program, from its first world on, or behind runs of
--- choices: each line of commands was answered as it asks, up to `q` or the end.
+-- `debug`: a session that keeps 4096 steps was held on a file's program, from its first world on, or after runs of choices.
+-- Each line of commands has the reply that it asks for, up to `q` or the end.
 abbrev pub HasDebuggedFile : Option (List Run) → (file : List ℕ) (commands_before commands_after output_before output_after : Option (List ℕ)) → Type 0
 HasDebuggedFile runs file commands_before commands_after output_before output_after =
     (image : Image) × ((world : StoredWorld) × ((now : Session) × ((output_then : Option (List ℕ))
@@ -72,24 +90,43 @@ HasDebuggedFile runs file commands_before commands_after output_before output_af
     × IsBegun runs (first_session world) now output_before output_then
     × HasConversed Finished now commands_before commands_after output_then output_after))))
 
--- `debug --at`: the same behind the choices that a trace's lines name, up to the line of its state. A plan's choices, and a
--- person's at a terminal, are runs as above.
+-- `debug --at`: the same after the choices that a trace's lines name, up to the line of its state. A plan's choices, and those
+-- of a person at a terminal, are runs as above.
 abbrev pub HasDebuggedFileAt : (file : List ℕ) (trace_before trace_after commands_before commands_after output_before output_after : Option (List ℕ)) → Type 0
 HasDebuggedFileAt file trace_before trace_after commands_before commands_after output_before output_after =
     IsBehindTrace (λ runs. HasDebuggedFile (Some runs) file commands_before commands_after output_before output_after)
     trace_before trace_after
 
--- A run on real threads: from the program's first world these choices, of which none was refused and each did something, led
--- to an end (`ending_of`): all threads have ended or died, none can go on, or so many steps were taken. Where steps may be
--- taken at all, no program is over before its first choice: `a_live_run_chooses` (src/shown.rt).
-abbrev pub IsLiveRun : ℕ → Image → List Choice → Type 0
-IsLiveRun limit image choices =
-    (first : World) × ((last : World) × ((ending : Ending) × (IsFirstOf image limit first
-    × IsReplay (record { first = first; choices = choices }) last × (ending_of last ≡ Some ending))))
+-- The choices that stand in a session before its first line: none, or the first ones of the runs that it begins after.
+abbrev pub StandAtFirst : Option (List Run) → Session → List Choice → Type 0
+StandAtFirst None session choices = choices ≡ []
+StandAtFirst (Some runs) session choices = Stands session [] (Go runs) choices
 
--- `live`: there are such choices of a file's program, and what was written is their trace. That its threads made them, in the
--- order in which they took the lock, is only tested.
+-- The choices that stand after these lines, if these stood before: `s` adds its choice, unless it is refused, `g` adds the first
+-- ones of its own, and `b` takes the last away.
+abbrev pub AreLeft : Session → List Choice → List Exchange → List Choice → Type 0
+AreLeft session choices [] left = left ≡ choices
+AreLeft session choices (exchange ∷ exchanges) left =
+    (next : Session) × ((now : List Choice) × (Replies session (line_order exchange.line) next exchange.reply
+    × Stands session choices (line_order exchange.line) now × AreLeft next now exchanges left))
+
+-- At each line of such a session, whatever the lines before it, the world is what the rows give for the choices that stand there,
+-- and none of these is refused.
+abbrev pub SessionsGiveTheRows : Type 0
+SessionsGiveTheRows =
+    (image : Image) (world : StoredWorld) (runs : Option (List Run)) (now after : Session) (output_before output_then : Option (List ℕ))
+    (exchanges : List Exchange) → IsFirstOf image 1000000000 (world_of world)
+    → IsBegun runs (first_session world) now output_before output_then → IsDialogue now exchanges after
+    → (first : List Choice) × ((left : List Choice) × (StandAtFirst runs (first_session world) first × AreLeft now first exchanges left
+    × ((execution (start image) left).refusal ≡ None) × GivesTheRows image left (world_of after.machine)))
+
+-- `live`: there are choices of a run on real threads (`IsRecorded`), and what was written is their trace. From the program's first
+-- world they led to an end (`ending_of`): all threads have ended or died, none can go on, or so many steps were taken. None of
+-- them was refused, each was a step, and each was the one that its thread had to make in the world before (`AreDue`): its turn,
+-- or, if no thread was ready, the expiry of the lowest wait that could expire. If at least one step may be taken, no program is
+-- over before its first choice: `a_live_run_chooses` (src/shown.rt). It is only tested that the threads made these choices, in the
+-- order in which they took the lock.
 abbrev pub HasShownLive : ℕ → (file : List ℕ) (output_before output_after : Option (List ℕ)) → Type 0
 HasShownLive limit file output_before output_after =
-    (image : Image) × ((choices : List Choice) × (AcceptedFile file image × IsLiveRun limit image choices
+    (image : Image) × ((choices : List Choice) × (AcceptedFile file image × IsRecorded image limit choices
     × Appends output_before output_after (trace_of (start image) choices)))

@@ -1,4 +1,4 @@
--- The past of a barrier, over whole runs: how each of its generations ended, and for which one each wait is.
+-- The past of a barrier, over whole runs: how each of its generations ended, and which generation each wait is for.
 use Rattle.std.specs.Prelude.{◌≡◌, ◌⊎◌, ℕ, ℤ, pos, not, int_lt, Bool, true, false, List, [], ◌∷◌, Option, Some, None}
 use Rattle.instruction_table.specs.declared.row.Row.{Row}
 use Rattle.instruction_table.specs.declared.row.Row.TheVariants.{Ret, Cawait, Cawaitt, Creset}
@@ -8,6 +8,8 @@ use Rattle.cyclic_barrier.specs.PlainBarrier.{PlainBarrier, state_of, enter_time
 use Rattle.cyclic_barrier.specs.Past.{StandsFor}
 use Rattle.thread_state.specs.declared.frame.Frame.TheVariants as frame
 use Rattle.thread_state.specs.declared.status.Status.TheVariants as status
+use Rattle.thread_state.specs.declared.event.What.{What}
+use Rattle.thread_state.specs.declared.event.What.TheVariants as what
 use Rattle.thread_state.specs.Thread.{ThreadState, top_of}
 use Rattle.machine_scene.specs.Scene.{barrier_at, thread_at}
 use Rattle.thread_machine.specs.declared.choice.Choice.{Choice}
@@ -25,7 +27,7 @@ pub data BarrierCall : Type 0 where
   Expire : ℕ → BarrierCall
   Reset : BarrierCall
 
--- what it makes of the barrier's past
+-- what the call does to the barrier's past
 abbrev pub after_call : BarrierCall → PlainBarrier → PlainBarrier
 after_call (Enter thread interrupted no_wait) past = (enter_timed thread interrupted no_wait past).barrier
 after_call (EndAction returned) past = end_action returned past
@@ -38,10 +40,10 @@ after_call Reset past = reset past
 abbrev pub IsInAction : ℕ → ThreadState → Type 0
 IsInAction b thread = (registers : List ℤ) × ((row : ℕ) × (top_of thread.stack ≡ Some (frame.Action b registers row)))
 
--- The call that a choice of thread t makes at barrier b, if it makes one there. A row makes the call that it names, at the barrier
--- that it names, with the thread's interrupted status, and without a wait where no time is left; `ret` ends the action that it
--- leaves. Without a row a thread breaks the barrier out of whose action it throws; leaves a wait that has ended; breaks a wait
--- that hasn't, if it is interrupted, or its time is over. No other row and no other thread makes a call.
+-- The call that a choice of thread t makes at barrier b, if it makes one there. A row makes the call that it names, at the
+-- barrier that it names, with the thread's interrupted status, and without a wait if no time is left. `ret` ends the action
+-- that it leaves. Without a row, a thread breaks the barrier whose action it throws out of; it leaves a wait that has ended;
+-- and it breaks a wait that hasn't, if it is interrupted or its time is over. No other row and no other thread makes a call.
 abbrev pub MakesCall : Option Row → ℕ → ThreadState → ℕ → PlainBarrier → BarrierCall → Type 0
 MakesCall (Some (Cawait into c)) t thread b past call = (c ≡ b) × (call ≡ Enter t thread.interrupted false)
 MakesCall (Some (Cawaitt into c time)) t thread b past call =
@@ -56,22 +58,35 @@ MakesCall None t thread b past (Interrupt u) = (u ≡ t) × ((thread.interrupted
 MakesCall None t thread b past (Expire u) = (u ≡ t) × (state_of t past ≡ Some state.Waiting)
 MakesCall None t thread b past call = ⊥
 
--- the past stays as it is, or goes on by one of these calls
-abbrev pub GoesOn : (BarrierCall → Type 0) → PlainBarrier → PlainBarrier → Type 0
-GoesOn makes past next = (next ≡ past) ⊎ ((call : BarrierCall) × (makes call × (next ≡ after_call call past)))
+-- What a choice shows that makes no call though its row names one: it is idle, or its row throws before it calls. That is exception
+-- 1 if the thread itself runs the barrier's action, and 6 if its stack has no room for one.
+abbrev pub IsHeldBack : What → Type 0
+IsHeldBack what.Idle = Unit {0}
+IsHeldBack (what.Throws code) = (code ≡ pos 1) ⊎ (code ≡ pos 6)
+IsHeldBack _ = ⊥
 
--- where the choice isn't refused
+-- the same as a record
+pub record MakesNone (shown : What) : Type 0 where
+  pub held : IsHeldBack shown
+
+-- The past goes on by one of these calls. It stays as it is only if there is none, or the choice makes none.
+abbrev pub GoesOn : What → (BarrierCall → Type 0) → PlainBarrier → PlainBarrier → Type 0
+GoesOn shown makes past next =
+    ((next ≡ past) × ((call : BarrierCall) → makes call → MakesNone shown))
+    ⊎ ((call : BarrierCall) × (makes call × (next ≡ after_call call past)))
+
+-- if the choice isn't refused
 abbrev pub IfAccepted : Option StepFault → Type 0 → Type 0
 IfAccepted None later = later
 IfAccepted (Some fault) later = Unit {0}
 
 -- From this past of barrier b on, one past goes on choice by choice, up to the first that is refused, and each state is its
--- record (`StandsFor`): what a thread's wait has come to is the end of the generation that it waits for, whatever came after.
+-- record (`StandsFor`): the state of a thread's wait is how the generation that it waits for ended, whatever came after.
 abbrev pub RecordsOnePast : ℕ → PlainBarrier → World → List Choice → Type 0
 RecordsOnePast b past now [] = StandsFor (barrier_at now.scene b) past
 RecordsOnePast b past now (choice ∷ choices) =
     StandsFor (barrier_at now.scene b) past
     × IfAccepted (refusal_of now choice)
     ((next : PlainBarrier)
-    × (GoesOn (MakesCall (row_of now choice) choice.thread (thread_at now.scene choice.thread) b past) past next
+    × (GoesOn (played now choice).event.what (MakesCall (row_of now choice) choice.thread (thread_at now.scene choice.thread) b past) past next
     × RecordsOnePast b next (played now choice).world choices))

@@ -37,21 +37,21 @@ abbrev pub is_force : Option Row → ℕ → List PhaserState → Bool
 is_force (Some (Pforce p)) root phasers = root_at phasers p == root
 is_force _ root phasers = false
 
--- What the root's policy answers to an arrival at phaser p that ends a phase of this root and leaves it so many parties. A
--- routine's answer is none yet, and an arrival in another tree has none.
+-- What the root's policy returns for an arrival at phaser p that ends a phase of this root and leaves it so many parties. A
+-- routine has no result yet, and an arrival in another tree has none.
 abbrev pub answer_at : ℕ → ℕ → List PhaserState → (parties : ℕ) → Option Bool
 answer_at p root phasers parties =
     if root_at phasers p == root then ends (phaser_at phasers root).policy (flat_at phasers root).phase parties else None
 
--- What `ret` answers, by the top entry: out of this root's routine any number but 0 in the thread's first register is yes. The
--- way back out of a call, an action or another root's routine answers nothing.
+-- What `ret` returns, by the top entry: for this root's routine, any number but 0 in the thread's first register is true.
+-- Leaving a call, an action or another root's routine returns nothing.
 abbrev pub answer_of_ret : Option Frame → ℕ → ThreadState → Option Bool
 answer_of_ret (Some (frame.Advance own registers row)) root thread =
     if own == root then Some (not (int_eq (value_in thread.registers R0) (pos 0))) else None
 answer_of_ret _ root thread = None
 
--- What `onAdvance` answers where this row ends a phase of this root and leaves it so many parties. No other row is answered, nor
--- is a turn or an expiry without a row: one that waits, throws or is popped.
+-- What `onAdvance` returns if this row ends a phase of this root and leaves it so many parties. Nothing is returned for any
+-- other row, nor for a turn or an expiry without a row: one that waits, throws or pops an entry.
 abbrev pub on_advance : Option Row → ThreadState → ℕ → List PhaserState → (parties : ℕ) → Option Bool
 on_advance (Some (Parr into p)) thread root phasers parties = answer_at p root phasers parties
 on_advance (Some (Pdereg into p)) thread root phasers parties = answer_at p root phasers parties
@@ -59,9 +59,9 @@ on_advance (Some (Paaa into p)) thread root phasers parties = answer_at p root p
 on_advance (Some Ret) thread root phasers parties = answer_of_ret (top_of thread.stack) root thread
 on_advance _ thread root phasers parties = None
 
--- A phase ends only in a tree that isn't terminated, and at a row that `onAdvance` answers: each phaser of the tree is then
--- terminated exactly where it says yes. Where no phase of its tree ends, a phaser stays terminated, stays as it is, or is
--- terminated by force, which always terminates.
+-- A phase ends only in a tree that isn't terminated, and at a row for which `onAdvance` returns a result. Then each phaser of
+-- the tree is terminated exactly if the result is true. If no phase of its tree ends, a phaser stays terminated, stays as it
+-- is, or is terminated by force, which always terminates.
 abbrev pub TerminateAsSaid : Option Row → ThreadState → List PhaserState → List PhaserState → Type 0
 TerminateAsSaid row thread before after =
     (id : ℕ) → id < length before
@@ -72,7 +72,7 @@ TerminateAsSaid row thread before after =
     × (has_ended_phase root before after ≡ false
     → (flat_at after id).ended ≡ ((flat_at before id).ended || is_force row root before))
 
--- Where a phase of its tree ends, a phaser comes into the phase behind that of its root, terminated or not.
+-- If a phase of its tree ends, a phaser comes into the phase after that of its root, terminated or not.
 abbrev pub NumbersGoOn : List PhaserState → List PhaserState → Type 0
 NumbersGoOn before after =
     (id : ℕ) → id < length before → has_ended_phase (root_at before id) before after ≡ true
@@ -89,7 +89,7 @@ HasLastArrived before at root phasers =
     × HaveAllArrived at root phasers
 
 -- A choice with which the last of those registered with a tree arrives or leaves ends a phase of the tree, or its thread now
--- runs the tree's routine, to which that is left. Excluded are a tree that is terminated, and one that has had a stray.
+-- runs the tree's routine, which is to end it. A tree that is terminated, and one that has had a stray arrival, are excluded.
 abbrev pub EndsInTime : World → Choice → World → Origin → Type 0
 EndsInTime before choice after counts =
     let trees = before.scene.phasers in
@@ -111,8 +111,8 @@ abbrev pub HaveAllLeft : Origin → ℕ → List PhaserState → Type 0
 HaveAllLeft counts root phasers =
     (id : ℕ) → id < length phasers → root_at phasers id ≡ root → counts.registered id ≡ 0
 
--- Where a choice ends a phase of a tree without strays, the root has no party left, which is what `onAdvance` is told, exactly
--- where all who were declared or registered with the tree have left.
+-- If a choice ends a phase of a tree without stray arrivals, the root has no party left, which is what `onAdvance` gets,
+-- exactly if everybody who was declared or registered with the tree has left.
 abbrev pub AreCounted : World → Choice → World → Origin → Type 0
 AreCounted before choice after counts =
     let trees = before.scene.phasers in
@@ -128,8 +128,8 @@ ArrivesAt (Some (Pdereg into at)) p = at ≡ p
 ArrivesAt (Some (Paaa into at)) p = at ≡ p
 ArrivesAt _ p = ⊥
 
--- Where by the counts somebody registered is still to arrive at a phaser, whose tree isn't terminated and has had no stray, an
--- arrival there doesn't throw, but for a thread that runs the tree's routine, or has no room to enter one.
+-- If by the counts somebody registered is still to arrive at a phaser whose tree isn't terminated and has had no stray arrival,
+-- an arrival there doesn't throw, unless its thread runs the tree's routine, or has no room on its stack to enter one.
 abbrev pub TakesArrivals : World → Choice → World → Origin → Type 0
 TakesArrivals before choice after counts =
     let trees = before.scene.phasers in

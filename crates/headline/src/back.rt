@@ -13,7 +13,7 @@ use debugger::Debugger;
 use std::alloc::Global;
 use thread_machine::{Choice, Event, Machine, StepFault, Undo};
 
-/// Plays a choice on a machine, and answers with its event what takes it back. Where it is refused nothing has changed.
+/// Plays a choice on a machine, and returns its event and what takes it back. If the choice is refused, nothing has changed.
 pub fn step(machine: &mut Machine, choice: Choice) -> Result<(Event, Undo), StepFault>
     ensures returns { IfOk result (λ both. StepsAndReturns machine.old choice both.0 both.1 machine.new) }
     ensures can { IfOk result (λ both. CanUndo both.1 machine.new) }
@@ -25,7 +25,7 @@ pub fn step(machine: &mut Machine, choice: Choice) -> Result<(Event, Undo), Step
     machine.step_noting(choice)
 }
 
-/// Plays a choice on a machine, and takes it back. Where it is refused nothing has changed.
+/// Plays a choice on a machine, and takes it back. If the choice is refused, nothing has changed.
 pub fn step_and_back(machine: &mut Machine, choice: Choice) -> Result<Event, StepFault>
     ensures restores { IfOk result (λ event. BackRestores machine.old (choice ∷ []) (event ∷ []) machine.new) }
     ensures refused { OnErr result (machine.new ≡ machine.old) }
@@ -73,7 +73,7 @@ fn backs(debugger: &mut Debugger, count: usize)
     }
 }
 
-/// Plays these choices in a session, at most as many as it can keep, and takes as many back. Where one can't be played, those
+/// Plays these choices in a session, at most as many as it can keep, and takes as many back. If one can't be played, those
 /// before it stay.
 pub fn steps_and_backs(
     alloc: Global,

@@ -1,4 +1,4 @@
-//! What the machine, a live run's record and the shared phaser promise, each by the call in which it is seen.
+//! What the machine, a live run's record and the shared phaser promise, each with the call in which it is seen.
 ghost use Rattle.std.specs.Prelude.{◌≡◌, ◌↔◌, Err, IfOk, OnErr, OnOk, None, Some, false, true};
 ghost use Rattle.thread_machine.specs.Step.{puts_out, refusal_of};
 ghost use Rattle.thread_machine.specs.World.{world_of};
@@ -16,7 +16,7 @@ use std::sync::Wait;
 use thread_machine::{Choice, Event, Machine, StepFault};
 use thread_runner::Journaled;
 
-/// A step of a machine, whose trees' words may lag behind their roots. One that isn't taken leaves it as it was.
+/// Plays a step of a machine whose trees' words may lag behind their roots. If it is refused, the machine is as before.
 pub fn step(machine: &mut Machine, choice: Choice) -> Result<Event, StepFault>
     ensures row { IfOk result (λ event. StepGivesTheRow machine.old choice event machine.new) }
     ensures accepted { OnOk result (refusal_of (world_of machine.old) choice ≡ None) }
@@ -28,14 +28,14 @@ pub fn step(machine: &mut Machine, choice: Choice) -> Result<Event, StepFault>
     machine.step(choice)
 }
 
-/// What lies under the lock of a live run: a machine, with the choices that led to it.
+/// What the lock of a live run protects: a machine, and the choices that led to it.
 pub fn record(journaled: &Journaled)
     ensures { IsReplay journaled.now (world_after journaled.now) }
 {
     journaled.each_record_is_a_replay();
 }
 
-/// A call on the word that threads share, an arrival: the others are the same in this.
+/// A call on the word that threads share: an arrival. The other calls are the same in this.
 pub fn arrive<R: Wait>(rt: &R, phaser: &SharedPhaser, party: &mut Party) -> Reply
     requires { phaser_of party.old ≡ phaser.now }
     ensures phaser { phaser_of party.new ≡ phaser.now }
@@ -44,7 +44,7 @@ pub fn arrive<R: Wait>(rt: &R, phaser: &SharedPhaser, party: &mut Party) -> Repl
     phaser.arrive(rt, party)
 }
 
-/// The first caller stands for another too, and has seen one legal history that goes on from what either had seen.
+/// The first caller also stands for another one, and has seen one legal history that continues what either had seen.
 pub fn join(phaser: &SharedPhaser, first: &mut Party, other: Party)
     requires first { first.old.known.number ≡ 0 }
     requires phaser { phaser_of first.old ≡ phaser.now }
@@ -55,8 +55,8 @@ pub fn join(phaser: &SharedPhaser, first: &mut Party, other: Party)
     phaser.join(first, other)
 }
 
-/// The word that is left: that of the phaser after one legal history, which has the calls of all who were joined, each once
-/// and in order, and, where none is missing, no other.
+/// Returns the word that is left: that of the phaser after one legal history. It has the calls of all who were joined, each
+/// once and in order, and no other if none is missing.
 pub fn close(phaser: SharedPhaser, first: Party) -> Word
     requires first { first.known.number ≡ 0 }
     requires phaser { phaser_of first ≡ phaser }

@@ -1,4 +1,4 @@
-// What holds of every accepted program: laws, each the contract of a function that does nothing.
+// What holds of every accepted program. Each law is the contract of a function that does nothing.
 ghost use Rattle.headline.specs.Headline.{
   ArrivalsAreTaken,
   BarriersHavePasts,
@@ -24,12 +24,12 @@ pub fn arrivals_are_taken()
     ensures { ArrivalsAreTaken }
 {}
 
-/// A phase ends only where `onAdvance` answers, and what terminates a phaser is its yes, or force.
+/// A phase ends only if `onAdvance` returns a result, and a phaser is terminated only by its result true, or by force.
 pub fn terminations_are_said()
     ensures { TerminationsAreSaid }
 {}
 
-/// The number of a phase goes on by one where a phase of its tree ends, and stays elsewhere.
+/// The number of a phase goes up by one when a phase of its tree ends, and stays otherwise.
 pub fn numbers_change_at_ends()
     ensures { NumbersChangeAtEnds }
 {}

@@ -1,4 +1,4 @@
-//! What the machine of an accepted program is after its choices.
+//! The machine of an accepted program after its choices.
 ghost use Rattle.std.specs.Prelude.{◌≡◌, ◌≢◌, None, Some, Err, IfOk, OnOk};
 ghost use Rattle.loader.specs.Fault.{first_fault};
 ghost use Rattle.thread_machine.specs.World.{world_of};
@@ -38,8 +38,8 @@ fn play_all(machine: &mut Machine, choices: &[Choice]) -> Result<(), StartFault>
     Ok(())
 }
 
-/// Loads a program and plays these choices in order, up to the first that is refused: the machine that is left. Of an
-/// accepted program it answers that, or `Memory`.
+/// Loads a program, plays these choices in order, up to the first that is refused, and returns the machine. For an accepted
+/// program the result is this machine or `Memory`.
 #[tactic(auto, using(crate::proofs::Scenes::world_left))]
 pub fn play(alloc: Global, image: Image, choices: &[Choice]) -> Result<Machine, StartFault>
     ensures accepted { OnOk result (first_fault image ≡ None) }

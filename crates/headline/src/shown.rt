@@ -1,5 +1,5 @@
-//! The commands that play a program: under a schedule, by commands, or on real threads. Each says what has come about whatever it
-//! answers, and, in the words of one page, what is shown where all went well: of each file whose program it is.
+//! The commands that play a program: under a schedule, by commands, or on real threads. Each says what it has done for every
+//! result. It also says, in terms of one page, what is shown if everything went well, for each file whose program it is.
 ghost use Rattle.std.specs.Prelude.{◌≡◌, ◌≢◌, ◌<◌, ◌≤◌, ℕ, List, [], None, Ok, OnOk, Option, Some};
 ghost use Rattle.assembler.specs.Meaning.{StandsFor};
 ghost use Rattle.loader.specs.Fault.{first_fault};
@@ -7,11 +7,11 @@ ghost use Rattle.loader.specs.declared.load_fault.LoadFault.{LoadFault};
 ghost use Rattle.row_code.specs.declared.image.Image.{Image};
 ghost use Rattle.thread_machine.specs.declared.choice.Choice.{Choice};
 ghost use Rattle.trace_text.specs.Outcome.{ComesTo};
-ghost use Rattle.headline.specs.EndToEnd.{HasDebuggedFile, HasDebuggedFileAt, HasShownFile, HasShownLive, HasShownText, IsLiveRun};
+ghost use Rattle.headline.specs.EndToEnd.{HasDebuggedFile, HasDebuggedFileAt, HasShownFile, HasShownLive, HasShownText, SessionsGiveTheRows};
 ghost use Rattle.headline.specs.Headline.{Accepted};
 ghost use Rattle.workbench.specs.Debug.{Debugs, DebugsAt, GivesFew};
 ghost use Rattle.workbench.specs.declared.done.Done.TheVariants as done;
-ghost use Rattle.workbench.specs.Live.{Lives};
+ghost use Rattle.workbench.specs.Live.{IsRecorded, Lives};
 ghost use Rattle.workbench.specs.ProgramFile.{IsProgramFile};
 ghost use Rattle.workbench.specs.RunLine.{program_part, schedule_part};
 
@@ -27,7 +27,7 @@ use workbench::companion::Companion;
 use workbench::done::Done;
 use workbench::fault::Fault;
 
-/// Plays an image's program under a schedule, writes the trace, and answers how the run has ended.
+/// Plays an image's program under a schedule, writes the trace, and returns how the run has ended.
 pub fn run<S: Source, K: Sink>(
     alloc: Global,
     image: Image,
@@ -64,7 +64,7 @@ pub fn debug<C: Companion, K: Sink>(
     workbench::debug::debug(alloc, image, commands, output)
 }
 
-/// `debug` behind runs of choices.
+/// `debug` after runs of choices.
 pub fn debug_behind<C: Companion, K: Sink>(
     alloc: Global,
     image: Image,
@@ -82,7 +82,7 @@ pub fn debug_behind<C: Companion, K: Sink>(
     workbench::debug::debug_behind(alloc, image, runs, commands, output)
 }
 
-/// `debug` behind the choices of a trace, which are played as they are read. Where it is none, no command is read.
+/// `debug` after the choices of a trace, which are played as they are read. If it isn't a trace, no command is read.
 pub fn debug_at<T: Source, C: Companion, K: Sink>(
     alloc: Global,
     image: Image,
@@ -101,7 +101,7 @@ pub fn debug_at<T: Source, C: Companion, K: Sink>(
     workbench::debug::debug_at(alloc, image, trace, commands, output)
 }
 
-/// Plays an image's program on real threads, writes the trace of the choices that they made, and answers how the run has ended.
+/// Plays an image's program on real threads, writes the trace of the choices that they made, and returns how the run has ended.
 pub fn live<R: Threads + Wait + Sync, G: Gate + Sync, K: Sink>(
     threads: &R,
     alloc: Global,
@@ -118,15 +118,20 @@ pub fn live<R: Threads + Wait + Sync, G: Gate + Sync, K: Sink>(
     workbench::live::live(threads, alloc, limit, gate, image, output)
 }
 
-/// A text whose program the loader refuses is never shown: one of a thread without a row, say.
+/// A text whose program the loader refuses is never shown, for example one with a thread without a row.
 pub fn what_is_refused_is_never_shown()
     ensures { (text : List ℕ) (image : Image) (why : LoadFault) (before after : Option (List ℕ))
         → StandsFor (program_part text) image → first_fault image ≡ Some why
         → HasShownText text before after → ⊥ }
 {}
 
+/// A session of commands shows the headline's run, line by line.
+pub fn sessions_give_the_rows()
+    ensures { SessionsGiveTheRows }
+{}
+
 /// A live run that may take a step makes a choice: no accepted program is over before its first one.
 pub fn a_live_run_chooses()
     ensures { (limit : ℕ) (image : Image) (choices : List Choice)
-        → 0 < limit → Accepted image → IsLiveRun limit image choices → choices ≢ [] }
+        → 0 < limit → Accepted image → IsRecorded image limit choices → choices ≢ [] }
 {}

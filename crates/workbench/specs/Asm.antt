@@ -1,4 +1,4 @@
--- What `asm` makes of a text, by its answer.
+-- What `asm` does with a text, by its result.
 use Rattle.std.specs.Prelude.{◌≡◌, ℕ, Bool, IsTrue, List, Option, Result, Ok, Err}
 use Rattle.std.specs.Io.KnownBytes.{Appends}
 use Rattle.assembler.specs.Meaning.{StandsFor}
@@ -8,7 +8,7 @@ use Rattle.workbench.specs.declared.fault.Fault.{Fault}
 use Rattle.workbench.specs.declared.fault.Fault.TheVariants as fault
 use Rattle.workbench.specs.ProgramFile.{IsNoTextFor}
 
--- why no image was written: the output failed; or the text stands for none, and nothing was
+-- why no image was written: the output failed; or the text stands for none, and nothing was written
 abbrev pub StopsAssembling : Fault → (text : List ℕ) (output_before output_after : Option (List ℕ)) (output_failed : Bool) → Type 0
 StopsAssembling fault.Write text output_before output_after output_failed = IsTrue output_failed
 StopsAssembling f text output_before output_after output_failed = IsNoTextFor f text × (output_after ≡ output_before)

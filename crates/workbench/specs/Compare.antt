@@ -1,4 +1,4 @@
--- What `compare` makes of a program and a trace, by its answer.
+-- What `compare` does with a program and a trace, by its result.
 use Rattle.std.specs.Prelude.{◌≡◌, ◌⊎◌, ℕ, Bool, IsTrue, List, Option, Result, Ok, Err, codes}
 use Rattle.std.specs.Io.KnownBytes.{Appends}
 use Rattle.row_code.specs.declared.image.Image.{Image}
@@ -14,7 +14,7 @@ use Rattle.workbench.specs.declared.fault.Fault.{Fault}
 use Rattle.workbench.specs.declared.fault.Fault.TheVariants as fault
 use Rattle.workbench.specs.Fault.{counted_line}
 
--- the line that tells a verdict
+-- the line of a verdict
 abbrev pub verdict_line : Verdict → List ℕ
 verdict_line verdict.Same = codes "same\n"
 verdict_line (verdict.Differs line) = counted_line (codes "differs ") line

@@ -1,4 +1,4 @@
--- What `debug` makes of a program and of lines of commands, by its answer.
+-- What `debug` does with a program and lines of commands, by its result.
 use Rattle.std.specs.Prelude.{◌≡◌, ◌≢◌, ◌≤◌, ◌⊎◌, ℕ, Bool, true, false, IsTrue, All, List, [], ◌∷◌, ◌++◌, length, replicate, Option, Some, None, Result, Ok, Err}
 use Rattle.std.specs.List.{flat_map}
 use Rattle.std.specs.Io.KnownBytes.{Appends, Consumes, IsAtEnd}
@@ -23,7 +23,7 @@ use Rattle.workbench.specs.declared.done.Done.{Done}
 use Rattle.workbench.specs.declared.done.Done.TheVariants as done
 use Rattle.workbench.specs.Compare.{verdict_line}
 
--- the session of a machine that nothing was done with: it has no breakpoints, and keeps 4096 choices at most
+-- the session of a machine before its first choice: it has no breakpoints, and keeps at most 4096 choices
 abbrev pub first_session : StoredWorld → Session
 first_session world =
     record { machine = world; past = []; kept = 4096; breaks = replicate (length world.program.rows) false }
@@ -51,11 +51,11 @@ IsDialogue session (exchange ∷ exchanges) after =
 
 -- how a session ends
 pub data Ending : Type 0 where
-  -- all lines are answered, up to the end of the commands, or to `q` and its LF
+  -- all lines have replies, up to the end of the commands, or to `q` and its LF
   Finished : Ending
-  -- all lines are answered but the last, which is cut before its LF
+  -- all lines have replies except the last, which is cut before its LF
   Cut : Ending
-  -- all lines are answered but the last, of which all may have been read, its LF too
+  -- all lines have replies except the last, which may have been read whole, with its LF
   Unanswered : Ending
 
 -- the last line, read with its LF or without, ends the session so, with this reply, and with these commands left; at the
@@ -82,12 +82,12 @@ HasReadLines commands_before commands_after =
     (bytes : List ℕ) × (Consumes commands_before commands_after bytes
     × (IsAtEnd commands_after ⊎ ((front : List ℕ) × (bytes ≡ front ++ 10 ∷ []))))
 
--- no more bytes were given than the commands are read at most, a byte at a time, over all lines
+-- no more bytes were read than the most that commands have, a byte at a time, over all lines
 abbrev pub GivesFew : Option (List ℕ) → Option (List ℕ) → Type 0
 GivesFew before after = (bytes : List ℕ) × (Consumes before after bytes × (length bytes ≤ 1000000000))
 
--- what a session comes to, by its answer: all is answered; or the commands couldn't be read, since they failed or gave too much; or
--- there was no memory for a line; or the output failed, and what was read of the commands are whole lines
+-- the result of a session: all lines have replies; or the commands couldn't be read, since they failed or were too long; or
+-- there was no memory for a line; or the output failed, and whole lines of the commands were read
 abbrev pub Converses : (TooMuch : Type 0) → Result (Unit {0}) Fault → Session
     → (commands_before commands_after : Option (List ℕ)) (commands_failed : Bool)
     (output_before output_after : Option (List ℕ)) (output_failed : Bool) → Type 0
@@ -111,7 +111,7 @@ HasNoSession fault.Memory image = Unit {0}
 HasNoSession (fault.Load f) image = IsRefused f image
 HasNoSession f image = ⊥
 
--- a session begins as it is; or behind runs, which were played first and told as `g` tells them
+-- a session begins as it is; or after runs, which were played first and have the reply of `g`
 abbrev pub IsBegun : Option (List Run) → Session → Session → (output_before output_after : Option (List ℕ)) → Type 0
 IsBegun None session now output_before output_after = (now ≡ session) × (output_after ≡ output_before)
 IsBegun (Some runs) session now output_before output_after =
@@ -150,13 +150,13 @@ abbrev pub IsPlayedTo : Stop → (session now : Session) (trace_before trace_aft
 IsPlayedTo stop session now trace_before trace_after =
     (choices : List Choice) × (HasNamed trace_before trace_after (Ok choices) × Stops session choices stop now)
 
--- this holds of a session behind runs whose choices are those that a trace names
+-- this holds of a session after runs whose choices are those that a trace names
 abbrev pub IsBehindTrace : (List Run → Type 0) → (trace_before trace_after : Option (List ℕ)) → Type 0
 IsBehindTrace Holds trace_before trace_after =
     (runs : List Run) × (HasNamed trace_before trace_after (Ok (choices_of runs)) × Holds runs)
 
--- why no session was held behind a trace, and no command read: what was to be told of the trace couldn't be written; or it couldn't
--- be read; or there is no session, and then it wasn't looked at
+-- why no session was held after a trace, and no command read: what should be reported about the trace couldn't be written; or
+-- the trace couldn't be read; or there is no session, and then the trace wasn't read
 abbrev pub IsNotBegunAt : Fault → Image → (trace_before trace_after : Option (List ℕ)) (trace_failed : Bool)
     (commands_before commands_after output_before output_after : Option (List ℕ)) (output_failed : Bool) → Type 0
 IsNotBegunAt fault.Write image trace_before trace_after trace_failed commands_before commands_after output_before output_after output_failed =
@@ -169,8 +169,8 @@ IsNotBegunAt fault.Read image trace_before trace_after trace_failed commands_bef
 IsNotBegunAt f image trace_before trace_after trace_failed commands_before commands_after output_before output_after output_failed =
     HasNoSession f image × (trace_after ≡ trace_before) × IsUntouched commands_before commands_after output_before output_after
 
--- a session was held to its end behind a trace; or it is none, and its line was told and no command read; or the session wasn't
--- held to its end, or none was begun
+-- a session was held to its end after a trace; or it isn't a trace, its line was reported, and no command was read; or the
+-- session wasn't held to its end, or didn't begin
 abbrev pub DebugsAt : Image → Result Done Fault → (trace_before trace_after : Option (List ℕ)) (trace_failed : Bool)
     (commands_before commands_after : Option (List ℕ)) (commands_failed : Bool)
     (output_before output_after : Option (List ℕ)) (output_failed : Bool) → Type 0

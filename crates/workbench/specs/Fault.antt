@@ -1,4 +1,4 @@
--- How the program tells why it gave up.
+-- How the program reports why it gave up.
 use Rattle.std.specs.Prelude.{◌⊎◌, ℕ, Bool, IsTrue, List, [], ◌++◌, Option, Some, None, codes}
 use Rattle.std.specs.Fmt.{decimal}
 use Rattle.std.specs.Io.KnownBytes.{Appends}
@@ -38,14 +38,14 @@ status_of fault.Read = 5
 status_of fault.Write = 5
 status_of f = refusal_status (number_of f)
 
--- a word, and a number behind it; the same as a line
+-- a word, and a number after it; the same as a line
 abbrev pub counted : List ℕ → ℕ → List ℕ
 counted word n = word ++ decimal n
 
 abbrev pub counted_line : List ℕ → ℕ → List ℕ
 counted_line word n = word ++ (decimal n ++ codes "\n")
 
--- what stands before the number: the word of the refusal's group, and of a text the line
+-- what precedes the number: the word for the kind of refusal, and for a text the line
 abbrev pub word_of : Fault → List ℕ
 word_of (fault.Asm f) = counted (codes "refused asm ") f.line ++ codes " "
 word_of (fault.Image f) = codes "refused image "
@@ -53,8 +53,8 @@ word_of (fault.Load f) = codes "refused load "
 word_of (fault.Schedule f) = codes "refused schedule "
 word_of _ = []
 
--- where it is, behind the number: where in the image or in the schedule; the row that names a missing thing; the phaser, and why it
--- can't be declared; or the barrier
+-- the place after the number: where in the image or in the schedule; the row that names something that doesn't exist; the
+-- phaser, and why it can't be declared; or the barrier
 abbrev pub place_of : Fault → List ℕ
 place_of (fault.Image (image.Field at)) = counted (codes " ") at
 place_of (fault.Image (image.Row n)) = counted (codes " ") n
@@ -73,7 +73,7 @@ place_of (fault.Schedule (schedule.Number at)) = counted (codes " ") at
 place_of (fault.Schedule (schedule.Repeat at)) = counted (codes " ") at
 place_of _ = []
 
--- the line of a refusal; missing memory is told as such
+-- the line of a refusal; out of memory has its own
 abbrev pub refusal_line : List ℕ → Option ℕ → List ℕ → List ℕ
 refusal_line word (Some number) place = word ++ (decimal number ++ (place ++ codes "\n"))
 refusal_line word None place = codes "memory\n"

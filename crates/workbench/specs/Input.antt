@@ -15,11 +15,11 @@ GivesTooMuch before after =
 abbrev pub GivesAll : Option (List ℕ) → Option (List ℕ) → List ℕ → Type 0
 GivesAll before after text = Consumes before after text × IsAtEnd after × (length text ≤ most_bytes)
 
--- a source gave a byte in each of so many reads
+-- each of so many reads returned a byte
 abbrev pub GivesInEach : ℕ → Option (List ℕ) → Option (List ℕ) → Type 0
 GivesInEach reads before after = (bytes : List ℕ) × (Consumes before after bytes × (reads ≤ length bytes))
 
--- of so many reads so many are left, and in each of the others a source gave a byte at most
+-- so many of so many reads are left, and each of the others returned at most one byte
 abbrev pub IsCounted : ℕ → ℕ → Option (List ℕ) → Option (List ℕ) → Type 0
 IsCounted reads_before reads_after before after =
     (bytes : List ℕ) × (Consumes before after bytes × (length bytes + reads_after ≤ reads_before))

@@ -1,4 +1,4 @@
--- What `list` makes of a program, by its answer.
+-- What `list` does with a program, by its result.
 use Rattle.std.specs.Prelude.{◌≡◌, ℕ, Bool, IsTrue, List, Option, Result, Ok, Err}
 use Rattle.std.specs.Io.KnownBytes.{Appends}
 use Rattle.line_reader.specs.Listing.{canonical}

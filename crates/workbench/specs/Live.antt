@@ -1,4 +1,4 @@
--- What `live` makes of a program, by its answer.
+-- What `live` does with a program, by its result.
 use Rattle.std.specs.Prelude.{◌≡◌, ◌⊎◌, ℕ, All, Bool, IsTrue, List, Option, Some, None, Result, Ok, Err}
 use Rattle.row_code.specs.declared.image.Image.{Image}
 use Rattle.loader.specs.Fault.{first_fault}
@@ -18,7 +18,7 @@ use Rattle.trace_text.specs.Trace.{AppendsPartOf, lines_of}
 use Rattle.workbench.specs.declared.fault.Fault.{Fault}
 use Rattle.workbench.specs.declared.fault.Fault.TheVariants as fault
 
--- the image has no fault, and the choices are the record of a run from its first world that came to an end, of at most so
+-- the image has no fault, and the choices are the record of a run from its first world that came to an end, with at most so
 -- many steps: each of them was accepted, and none was idle
 abbrev pub IsRecorded : Image → ℕ → List Choice → Type 0
 IsRecorded image limit choices =
@@ -40,8 +40,8 @@ IsLivedAtMost limit image output_before output_after =
     ⊎ ((choices : List Choice) × ((world : World) × (IsRecorded image limit choices × Begins image world
     × AppendsPartOf output_before output_after (lines_of world choices))))
 
--- why no whole trace was written: the output failed; a part of it was, where there was no memory; or no thread could be started,
--- or the program isn't loaded, and nothing was
+-- why no whole trace was written: the output failed; or it was out of memory, and a part was written; or no thread could be
+-- started, or the program can't be loaded, and nothing was written
 abbrev pub StopsLiving : ℕ → Fault → Image → (output_before output_after : Option (List ℕ)) (output_failed : Bool) → Type 0
 StopsLiving limit fault.Write image output_before output_after output_failed = IsTrue output_failed
 StopsLiving limit fault.Memory image output_before output_after output_failed = IsLivedAtMost limit image output_before output_after
@@ -54,7 +54,7 @@ abbrev pub Lives : ℕ → Image → Result RunEnd Fault → (output_before outp
 Lives limit image (Ok end) output_before output_after output_failed = IsLived limit image end output_before output_after
 Lives limit image (Err f) output_before output_after output_failed = StopsLiving limit f image output_before output_after output_failed
 
--- why a live run was broken off, as a command tells it
+-- why a live run was broken off, as a command's fault
 abbrev pub fault_of_live : LiveFault → Fault
 fault_of_live (live.Memory schedule) = fault.Memory
 fault_of_live live.Spawn = fault.Spawn

@@ -1,7 +1,6 @@
--- What a command comes to, by its answer, where it reads its input first (ComesOf) or the program in it (ComesOfProgram), or plays
--- a program under a schedule (Plays).
--- Those of the other commands stand in files of their names. `before`, `after` and `failed` are of one port: the bytes that it still
--- gives, or has got, before and after the call, and whether it has failed by then.
+-- What a command does, by its result, if it first reads its input (ComesOf) or the program in it (ComesOfProgram), or plays a
+-- program under a schedule (Plays). The other commands have files with their names. `before`, `after` and `failed` are about
+-- one port: the bytes that are left or written before the call and after it, and whether it has failed by then.
 use Rattle.std.specs.Prelude.{◌≡◌, ◌⊎◌, ℕ, Bool, false, IsTrue, List, Option, Some, Result, Ok, Err}
 use Rattle.assembler.specs.Meaning.{StandsFor}
 use Rattle.row_code.specs.declared.image.Image.{Image}
@@ -20,12 +19,12 @@ abbrev pub IsUnreadFor : Fault → (before after : Option (List ℕ)) (failed : 
 IsUnreadFor f before after failed =
     ((f ≡ fault.Memory) × (failed ≡ false)) ⊎ ((f ≡ fault.Read) × (IsTrue failed ⊎ GivesTooMuch before after))
 
--- there is no answer, for a reason that is one of these
+-- there is no result, for a reason that is one of these
 abbrev pub IsNone : {A : Type 0} → Result A Fault → (IsWhy : Fault → Type 0) → Type 0
 IsNone (Ok x) IsWhy = ⊥
 IsNone (Err f) IsWhy = IsWhy f
 
--- an input was read to its end, and of its bytes came this answer; or it couldn't be read, and nothing else was touched
+-- an input was read to its end, and this is the result for its bytes; or it couldn't be read, and nothing else was used
 abbrev pub ComesOf : {A : Type 0} → (List ℕ → Result A Fault → Type 0) → (untouched : Type 0) → Result A Fault
     → (before after : Option (List ℕ)) (failed : Bool) → Type 0
 ComesOf Comes Untouched answer before after failed =
@@ -45,7 +44,7 @@ abbrev pub ReadsProgram : Result Image Fault → (before after : Option (List �
 ReadsProgram (Ok image) before after failed = HasProgram image before after
 ReadsProgram (Err f) before after failed = HasNoProgram f before after failed
 
--- of an input's program came this answer; or it has none, and nothing else was touched
+-- this is the result for an input's program; or it has none, and nothing else was used
 abbrev pub ComesOfProgram : {A : Type 0} → (Image → Result A Fault → Type 0) → (untouched : Type 0) → Result A Fault
     → (before after : Option (List ℕ)) (failed : Bool) → Type 0
 ComesOfProgram Comes Untouched answer before after failed =
@@ -69,8 +68,8 @@ Plays image (Err f) schedule_before schedule_after schedule_failed output_before
     (why : RunFault) × ((f ≡ told_as why)
     × Stops image why schedule_before schedule_after schedule_failed output_before output_after output_failed)
 
--- a text that holds both: the program, and behind its line `.run` the schedule. These bytes never fail: `Read` could come of
--- 1,000,000,000 of them alone
+-- a text with both: the program, and after its line `.run` the schedule. These bytes never fail: only 1,000,000,000 of them
+-- could lead to `Read`
 abbrev pub PlaysText : List ℕ → Result RunEnd Fault → (output_before output_after : Option (List ℕ)) (output_failed : Bool) → Type 0
 PlaysText text answer output_before output_after output_failed =
     ((image : Image) × ((rest : Option (List ℕ)) × (StandsFor (program_part text) image

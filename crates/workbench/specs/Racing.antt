@@ -1,4 +1,4 @@
--- What a race came to.
+-- The result of a race.
 use Rattle.race.specs.declared.fault.RaceFault.{RaceFault}
 use Rattle.race.specs.declared.fault.RaceFault.TheVariants as race
 use Rattle.workbench.specs.declared.fault.Fault.{Fault}

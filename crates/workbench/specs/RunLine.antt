@@ -18,16 +18,16 @@ abbrev pub after_run : List (List ℕ) → List (List ℕ)
 after_run [] = []
 after_run (line ∷ lines) = if is_run_line line then lines else after_run lines
 
--- the schedule in a text: what follows the first line `.run` and its LF, nothing where there is none
+-- the schedule in a text: what follows the first line `.run` and its LF, or nothing if there is none
 abbrev pub schedule_part : List ℕ → List ℕ
 schedule_part bytes = join_with_byte 10 (after_run (slice_split is_line_end bytes))
 
--- the lines before the first line `.run`, each with its LF; all bytes where there is none
+-- the lines before the first line `.run`, each with its LF, or all bytes if there is none
 abbrev pub before_run : List (List ℕ) → List ℕ
 before_run [] = []
 before_run (line ∷ []) = if is_run_line line then [] else line
 before_run (line ∷ next ∷ lines) = if is_run_line line then [] else line ++ (10 ∷ before_run (next ∷ lines))
 
--- the program in a text: what stands before the first line `.run`
+-- the program in a text: what precedes the first line `.run`
 abbrev pub program_part : List ℕ → List ℕ
 program_part bytes = before_run (slice_split is_line_end bytes)

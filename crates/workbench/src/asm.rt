@@ -14,10 +14,10 @@ use byte_ports::{Sink, Source};
 use row_code::{Image, write_image};
 use std::alloc::Global;
 
-/// Assembles the text in `input` and writes the bytes of its image to `output`. Whether the program can be loaded is not
-/// looked at. Answers the exit status, 0 where all went well. For any other status one line stands on `errors`:
-/// `refused asm LINE KIND` (3), `memory` (4), or `read` or `write` (5). What `errors` makes of that line changes no
-/// status. Nothing is written to `output` before the whole text is accepted.
+/// Assembles the text in `input` and writes the bytes of its image to `output`. It doesn't check whether the program can be
+/// loaded. Returns the exit status: 0 if everything went well. With any other status `errors` gets one line: `refused asm LINE
+/// KIND` (3), `memory` (4), or `read` or `write` (5). If `errors` fails, the status stays. Nothing is written to `output`
+/// before the whole text is accepted.
 pub fn asm_cmd<S: Source, K: Sink, E: Sink>(
     alloc: Global,
     input: &mut S,

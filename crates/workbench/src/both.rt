@@ -15,11 +15,10 @@ use byte_ports::{Sink, Source};
 use std::alloc::Global;
 use trace_text::RunEnd;
 
-/// Reads a program text, a line `.run` and a schedule from `input`, plays the program under the schedule and writes the
-/// trace to `output`. Answers the exit status, 0 where all went well. For any other status one line stands on `errors`:
-/// `refused asm LINE KIND`, `refused load KIND [PLACE]` or `refused schedule KIND AT` (3), `memory` (4), or `read` or
-/// `write` (5). What `errors` makes of that line changes no status. Nothing is written to `output` before the input is
-/// read and the program is loaded.
+/// Reads a program text, a line `.run` and a schedule from `input`, plays the program under the schedule, and writes the trace
+/// to `output`. Returns the exit status: 0 if everything went well. With any other status `errors` gets one line: `refused asm
+/// LINE KIND`, `refused load KIND [PLACE]` or `refused schedule KIND AT` (3), `memory` (4), or `read` or `write` (5). If
+/// `errors` fails, the status stays. Nothing is written to `output` before the input is read and the program is loaded.
 pub fn both_cmd<S: Source, K: Sink, E: Sink>(
     alloc: Global,
     input: &mut S,

@@ -9,8 +9,8 @@ use crate::input::pull;
 use byte_ports::Source;
 use debugger::Debugger;
 
-/// Who gives a session its lines, and sees the debugger before each of them. A source of bytes gives its lines as they are, and
-/// doesn't look.
+/// A source of a session's lines, which sees the debugger before each of them. A source of bytes returns its lines as they are,
+/// and doesn't look.
 pub trait Companion {
     // The bytes of the lines that are left. `None`: they aren't told.
     ghost left: { Self → Option (List ℕ) };

@@ -15,11 +15,11 @@ use row_code::Image;
 use std::alloc::Global;
 use trace_compare::{CompareFault, Verdict, compare};
 
-/// WritesVerdict the trace in `trace` with the run of the program in `file`, an image or a text, under the choices that the
-/// trace names, and writes one line to `output`: `same`, `differs LINE` or `not a trace LINE`. Answers the exit status: 0
-/// for `same` and 1 for the other two. For any other status one line stands on `errors`: `refused asm LINE KIND`, `refused
-/// image KIND [PLACE]` or `refused load KIND [PLACE]` (3), `memory` (4), or `read` or `write` (5). What `errors` makes of
-/// that line changes no status. The trace is read a piece at a time, up to the line that decides, however long it is.
+/// Compares the trace in `trace` with the run of the program in `file`, an image or a text, under the choices that the trace
+/// names. Writes one line to `output`: `same`, `differs LINE` or `not a trace LINE`. Returns the exit status: 0 for `same`, and
+/// 1 for the other two. With any other status `errors` gets one line: `refused asm LINE KIND`, `refused image KIND [PLACE]` or
+/// `refused load KIND [PLACE]` (3), `memory` (4), or `read` or `write` (5). If `errors` fails, the status stays. The trace may
+/// have any length. It is read piece by piece, up to the line that decides.
 pub fn compare_cmd<F: Source, S: Source, K: Sink, E: Sink>(
     alloc: Global,
     file: &mut F,
@@ -44,7 +44,7 @@ pub fn compare_cmd<F: Source, S: Source, K: Sink, E: Sink>(
     }
 }
 
-/// Whether a trace is the run's.
+/// Returns how a comparison is done, by its verdict.
 pub fn done_by(verdict: Verdict) -> Done
     ensures { result ≡ done_by verdict }
 {
@@ -77,7 +77,7 @@ pub fn compared<S: Source, K: Sink>(
     }
 }
 
-/// Writes the line of a verdict: `same`, `differs LINE` or `not a trace LINE`. It fails where the output does.
+/// Writes the line of a verdict: `same`, `differs LINE` or `not a trace LINE`. Fails if the output fails.
 pub fn push_verdict<K: Sink>(output: &mut K, verdict: Verdict) -> Result<(), Failed>
     ensures bytes { OnOk result (Appends (K.written output.old) (K.written output.new)
         (verdict_line verdict)) }

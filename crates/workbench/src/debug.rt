@@ -35,13 +35,13 @@ const MOST_KEPT: u16 = 4096;
 /// How many bytes are read of the commands at most, over all lines.
 const MOST_READS: u64 = 1_000_000_000;
 
-/// Debugs the program in `file`, an image or a text: reads a line of `commands`, carries it out, writes its reply to
-/// `output`, and reads on, up to the line `q` or to the end. Answers the exit status, 0 where all went well, also where a
-/// line is no command or its choice is refused. For any other status one line stands on `errors`: `refused asm LINE KIND`,
-/// `refused image KIND [PLACE]` or `refused load KIND [PLACE]` (3), `memory` (4), or `read` or `write` (5). What `errors`
-/// makes of that line changes no status. The commands are read a byte at a time, once the program is loaded: no byte behind
-/// a line's LF is asked for before its reply is handed to `output`, and none after `q`. `output` is handed each reply in one
-/// piece; a port that keeps bytes back has to let them go there.
+/// Debugs the program in `file`, an image or a text. It reads a line of `commands`, carries it out, writes its reply to
+/// `output`, and goes on up to the line `q` or to the end. Returns the exit status: 0 if everything went well, even if a line
+/// is no command or its choice is refused. With any other status `errors` gets one line: `refused asm LINE KIND`, `refused
+/// image KIND [PLACE]` or `refused load KIND [PLACE]` (3), `memory` (4), or `read` or `write` (5). If `errors` fails, the
+/// status stays. The commands are read a byte at a time, after the program is loaded. No byte after a line's LF is read before
+/// its reply is written, and none after `q`. Each reply is written in one piece. If `output` collects bytes, it has to pass
+/// them on there.
 pub fn debug_cmd<F: Source, S: Source, K: Sink, E: Sink>(
     alloc: Global,
     file: &mut F,
@@ -82,7 +82,7 @@ pub fn debug<C: Companion, K: Sink>(
     converse(alloc, &mut debugger, commands, output)
 }
 
-/// `debug` behind runs of choices, which are played first and told as the command `g` tells them.
+/// `debug` after runs of choices, which it plays first. Their reply is that of the command `g`.
 pub fn debug_behind<C: Companion, K: Sink>(
     alloc: Global,
     image: Image,
@@ -105,9 +105,9 @@ pub fn debug_behind<C: Companion, K: Sink>(
     }
 }
 
-/// `debug` behind the choices of a trace, which are played as they are read, so that none is kept, and told as the command `g`
-/// tells them. Where it is no trace, its first line that is no line of one is told as `compare` tells it, and no command is
-/// read. The program is loaded before the trace is looked at.
+/// `debug` after the choices of a trace. They are played as they are read, so none is kept, and their reply is that of the
+/// command `g`. If it isn't a trace, the first wrong line is reported as `compare` does, and no command is read. The program is
+/// loaded before the trace is read.
 pub fn debug_at<T: Source, C: Companion, K: Sink>(
     alloc: Global,
     image: Image,
@@ -135,7 +135,7 @@ pub fn debug_at<T: Source, C: Companion, K: Sink>(
     }
 }
 
-/// What a trace comes to whose choices are played as it is read.
+/// The result of a trace whose choices are played as it is read.
 enum PlayedTrace {
     /// They went so far.
     To(Stop),

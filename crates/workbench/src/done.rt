@@ -6,12 +6,12 @@ ghost use Rattle.workbench.specs.Done.{IsSettled, IsSettledBy, as_asked, done_st
 use crate::fault::Fault;
 use byte_ports::Sink;
 
-/// What a command comes to that meets no fault.
+/// The result of a command without a fault.
 #[derive(Clone, Copy, Debug, PartialEq, Eq)]
 pub enum Done {
-    /// All is as it was asked for.
+    /// Everything is as the caller asked.
     AsAsked,
-    /// A trace isn't the run's, or a run ended otherwise than was expected.
+    /// A trace isn't the run's, or a run ended differently than expected.
     Unlike,
 }
 
@@ -27,7 +27,7 @@ impl Done {
     }
 }
 
-/// What a command comes to that does as it is asked wherever it meets no fault.
+/// Returns the result of a command that does what it is asked unless there is a fault.
 pub fn as_asked<T: Drop>(answer: Result<T, Fault>) -> Result<Done, Fault>
     ensures done { OnOk answer (result ≡ Ok done.AsAsked) }
     ensures fault { IfErr answer (λ fault. result ≡ Err fault) }
@@ -38,7 +38,7 @@ pub fn as_asked<T: Drop>(answer: Result<T, Fault>) -> Result<Done, Fault>
     }
 }
 
-/// `settled`, where a command does as it is asked wherever it meets no fault.
+/// `settled`, for a command that does what it is asked unless there is a fault.
 pub fn settled_as_asked<T: Drop, E: Sink>(answer: Result<T, Fault>, errors: &mut E) -> u8
     ensures { IsSettledBy as_asked answer result (E.has_failed errors.new) (E.written errors.old) (E.written errors.new) }
 {

@@ -1,4 +1,4 @@
-//! What a command comes to once all that it wrote is handed on.
+//! The result of a command after everything that it wrote is passed on.
 
 ghost use Rattle.std.specs.Prelude.{◌≡◌, ◌⊎◌, true, false, Err};
 ghost use Rattle.workbench.specs.declared.fault.Fault.{Fault};
@@ -19,7 +19,7 @@ fn unless_lost<T: Drop>(answer: Result<T, Fault>, is_flushed: bool) -> Result<T,
     }
 }
 
-/// What a command came to, once its output is flushed.
+/// Flushes the output of a command, and returns the command's result.
 pub fn flushed<T: Drop, W: Write>(
     answer: Result<T, Fault>,
     output: &mut WritePort<W>,
@@ -30,7 +30,7 @@ pub fn flushed<T: Drop, W: Write>(
     unless_lost(answer, output.finish().is_ok())
 }
 
-/// What a command came to that wrote blocks, once the last is handed on and its output flushed.
+/// Passes on the last block of a command that wrote blocks, flushes its output, and returns the command's result.
 pub fn handed_on<T: Drop, W: Write + Drop>(
     answer: Result<T, Fault>,
     output: BlockPort<WritePort<W>>,

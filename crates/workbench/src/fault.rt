@@ -47,7 +47,7 @@ pub enum Fault {
     TooLong(PictureKind),
     /// Out of memory.
     Memory,
-    /// A thread can't be started.
+    /// A thread couldn't be started.
     Spawn,
     /// The input failed, or is too long.
     Read,
@@ -56,7 +56,7 @@ pub enum Fault {
 }
 
 impl Fault {
-    /// A run's fault, in the words of the commands.
+    /// Returns a run's fault as a command's fault.
     pub fn of_run(fault: RunFault) -> Fault
         ensures { result ≡ told_as fault }
     {
@@ -90,7 +90,7 @@ fn push_with_count<E: Sink>(errors: &mut E, word: &[u8], count: u64) -> Result<(
     errors.push(Buffer::new().format(count).as_bytes())
 }
 
-/// A line that ends in this number.
+/// Writes a line that ends in this number.
 pub fn push_counted_line<E: Sink>(errors: &mut E, word: &[u8], count: u64) -> Result<(), Failed>
     ensures bytes { OnOk result (Appends (E.written errors.old) (E.written errors.new)
         (counted_line word.now count)) }
@@ -209,7 +209,7 @@ impl Fault {
         }
     }
 
-    /// Writes the line that stands on standard error, piece by piece and without memory.
+    /// Writes the fault's line for standard error, piece by piece and without memory.
     pub fn tell<E: Sink>(self, errors: &mut E) -> Result<(), Failed>
         ensures bytes { OnOk result (Appends (E.written errors.old) (E.written errors.new)
             (line_of self)) }

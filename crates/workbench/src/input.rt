@@ -12,7 +12,7 @@ const MOST_BYTES: usize = 16_777_216;
 /// How many bytes are asked for at a time.
 const PIECE: usize = 4096;
 
-/// The next bytes, put at the start of the piece, and how many there are; none at the end alone.
+/// Reads the next bytes to the start of the piece, and returns how many: none only at the end.
 pub fn pull<S: Source>(source: &mut S, piece: &mut [u8]) -> Result<usize, Fault>
     ensures bytes { ReadConsumes (S.left source.old) (S.left source.new) result piece.new }
     ensures bound { IfOk result (λ n. n ≤ length piece.new) }
@@ -39,7 +39,7 @@ fn append(bytes: &mut Vec<u8>, piece: &[u8]) -> Result<(), Fault>
     bytes.extend_from_slice(piece).map_err(|_| Fault::Memory)
 }
 
-/// All that a source has left, `Read` where it fails or has more than 16,777,216 bytes.
+/// Returns everything that a source has left, or `Read` if it fails or has more than 16,777,216 bytes.
 pub fn read_all<S: Source>(alloc: Global, source: &mut S) -> Result<Vec<u8>, Fault>
     ensures bytes { IfOk result (λ bytes. Consumes (S.left source.old) (S.left source.new) bytes.items) }
     ensures end { IfOk result (λ bytes. IsAtEnd (S.left source.new)) }

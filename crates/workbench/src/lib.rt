@@ -1,7 +1,8 @@
-//! The commands of the workbench, each a function over sources and sinks of bytes that answers the program's exit status.
+//! The commands of the workbench. Each is a function over sources and sinks of bytes that returns the program's exit status.
 //!
 //! `asm_cmd` and `list_cmd` make an image and a canonical text. `run_cmd`, `both_cmd` and `live_cmd` play a program and write
-//! its trace, `compare_cmd` compares one with its run, `debug_cmd` answers commands. `race_cmd` lets real threads meet.
+//! its trace. `compare_cmd` compares a trace with its run, and `debug_cmd` replies to commands. `race_cmd` lets real threads
+//! meet.
 #![tactic(auto)]
 
 pub mod asm;

@@ -25,11 +25,11 @@ use thread_runner::{Gate, LiveFault, NoGate, run_live};
 use trace_text::loaded::run_loaded;
 use trace_text::{PlayFault, RunEnd};
 
-/// Plays the program in `file`, an image or a text, on real threads, one for each of its own, for at most `limit` steps,
-/// and writes the trace of the choices that were recorded to `output`. Answers the exit status, 0 where all went well,
-/// however the run ended. For any other status one line stands on `errors`: `refused asm LINE KIND`, `refused image KIND
-/// [PLACE]` or `refused load KIND [PLACE]` (3), `memory` or `spawn` (4), or `read` or `write` (5). What `errors` makes of that
-/// line changes no status. Nothing is written before the run is over.
+/// Plays the program in `file`, an image or a text, with a real thread for each of its threads, for at most `limit` steps. Then
+/// it writes the trace of the recorded choices to `output`. Returns the exit status: 0 if everything went well, however the run
+/// ended. With any other status `errors` gets one line: `refused asm LINE KIND`, `refused image KIND [PLACE]` or `refused load
+/// KIND [PLACE]` (3), `memory` or `spawn` (4), or `read` or `write` (5). If `errors` fails, the status stays. Nothing is
+/// written before the run is over.
 pub fn live_cmd<R: Threads + Wait + Sync, F: Source, K: Sink, E: Sink>(
     threads: &R,
     alloc: Global,
@@ -50,8 +50,8 @@ pub fn live_cmd<R: Threads + Wait + Sync, F: Source, K: Sink, E: Sink>(
     }
 }
 
-/// Plays an image's program on real threads, writes the trace of the choices that they made, and answers how the
-/// run has ended. Each thread passes a gate before each time that it takes the lock: whom the gate lets go first decides which run
+/// Plays an image's program on real threads, writes the trace of the choices that they made, and returns how the run has ended.
+/// Each thread passes the gate each time before it takes the lock. Which thread the gate lets through first decides which run
 /// it is, and nothing else.
 pub fn live<R: Threads + Wait + Sync, G: Gate + Sync, K: Sink>(
     rt: &R,
@@ -97,7 +97,7 @@ fn loaded(alloc: Global, image: Image) -> Result<Loaded, Fault>
     }
 }
 
-/// Why a live run was broken off, as a command tells it.
+/// Returns why a live run was broken off, as a command's fault.
 pub fn fault_of_live(fault: LiveFault) -> Fault
     ensures fault { result ≡ fault_of_live fault }
     ensures either { (result ≡ Fault.Memory) ⊎ (result ≡ Fault.Spawn) }

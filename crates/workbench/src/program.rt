@@ -1,4 +1,4 @@
-//! A program is a value: its bytes are read and assembled once, and what plays it takes what they stand for.
+//! A program is a value. Its bytes are read and assembled once, and whatever plays it takes what they stand for.
 ghost use Rattle.std.specs.Prelude.{◌≡◌, ℕ, List, IfOk, IfErr, Ok};
 ghost use Rattle.assembler.specs.Meaning.{StandsFor};
 ghost use Rattle.assembler.specs.Symbols.{symbols_in};
@@ -13,7 +13,7 @@ use byte_ports::Source;
 use row_code::{Image, is_image_file, read_image};
 use std::alloc::Global;
 
-/// A program: its bytes, which are an image or a text, the image that they are or stand for, and the names that a text gives.
+/// A program: its bytes, which are an image or a text; the image that they are or stand for; and the names that a text gives.
 #[derive(Drop)]
 pub struct Program<'a> {
     pub bytes: &'a [u8],
@@ -22,7 +22,7 @@ pub struct Program<'a> {
     pub names: Symbols<'a>,
 }
 
-/// The program that a text stands for.
+/// Returns the program that a text stands for.
 pub fn program_of_text(alloc: Global, text: &[u8]) -> Result<Program<'_>, Fault>
     ensures image { IfOk result (λ program. StandsFor text.now program.image) }
     ensures names { IfOk result (λ program. symbols_in text.now ≡ Ok program.names) }
@@ -39,7 +39,7 @@ pub fn program_of_text(alloc: Global, text: &[u8]) -> Result<Program<'_>, Fault>
     }
 }
 
-/// The program in a file: the image that its bytes are, or the one that its text stands for.
+/// Returns the program in a file: the image that its bytes are, or the one that its text stands for.
 pub fn program_in(alloc: Global, file: &[u8]) -> Result<Program<'_>, Fault>
     ensures image { IfOk result (λ program. IsProgramFile file.now program.image) }
     ensures names { IfOk result (λ program. IsNamedProgram program.bytes.now program.image program.names) }
@@ -59,7 +59,7 @@ pub fn program_in(alloc: Global, file: &[u8]) -> Result<Program<'_>, Fault>
     }
 }
 
-/// The image of the program in a source, which is read to its end.
+/// Returns the image of the program in a source, which is read to its end.
 pub fn image_from<F: Source>(alloc: Global, file: &mut F) -> Result<Image, Fault>
     ensures { ReadsProgram result (F.left file.old) (F.left file.new) (F.has_failed file.new) }
 {
@@ -73,7 +73,7 @@ pub fn image_from<F: Source>(alloc: Global, file: &mut F) -> Result<Image, Fault
     }
 }
 
-/// A law: a file is the file of one program alone.
+/// A law: a file is the file of only one program.
 pub fn a_file_is_one_program()
     ensures { (file : List ℕ) (a b : Image) → IsProgramFile file a → IsProgramFile file b → a ≡ b }
 {}

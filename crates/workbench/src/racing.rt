@@ -16,10 +16,10 @@ use std::alloc::Global;
 use std::sync::Wait;
 use std::thread::Threads;
 
-/// `parties` threads call `arriveAndAwaitAdvance` `rounds` times each on one shared phaser of as many parties. Writes
-/// the line `phase A parties B unarrived C` of the closed phaser to `output`, and answers the exit status: 0 where all
-/// went well, 4 with the line `memory` or `spawn` on `errors`, 5 with `write`. It asks nothing of `parties` and
-/// `rounds`: the command line keeps them to 1 to 16 and 1 to 1000000. Neither port is flushed.
+/// `parties` threads call `arriveAndAwaitAdvance` `rounds` times each, on one shared phaser with as many parties. Writes the
+/// line `phase A parties B unarrived C` of the closed phaser to `output`. Returns the exit status: 0 if everything went well, 4
+/// with the line `memory` or `spawn` on `errors`, 5 with `write`. `parties` and `rounds` may be any numbers: the command line
+/// allows 1 to 16 and 1 to 1000000. Neither port is flushed.
 pub fn race_cmd<R: Threads + Wait + Sync, K: Sink, E: Sink>(
     rt: &R,
     alloc: Global,
@@ -43,7 +43,7 @@ pub fn race_cmd<R: Threads + Wait + Sync, K: Sink, E: Sink>(
     )
 }
 
-/// `race_cmd` with the fault that decides the status. Each thread tells `pace` of each meeting.
+/// `race_cmd`, with the fault that decides the status. Each thread reports each meeting to `pace`.
 pub fn race<R: Threads + Wait + Sync, P: Pace + Sync, K: Sink>(
     rt: &R,
     alloc: Global,

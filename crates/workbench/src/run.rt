@@ -13,11 +13,11 @@ use row_code::Image;
 use std::alloc::Global;
 use trace_text::{RunEnd, run_to_end};
 
-/// Plays the program in `file`, an image or a text, under the schedule in `schedule` and writes the trace to `output`.
-/// Answers the exit status, 0 where all went well. For any other status one line stands on `errors`: `refused asm LINE
-/// KIND`, `refused image KIND [PLACE]`, `refused load KIND [PLACE]` or `refused schedule KIND AT` (3), `memory` (4), or
-/// `read` or `write` (5). What `errors` makes of that line changes no status. The schedule is read and played a piece at
-/// a time, once the program is loaded, however long it is.
+/// Plays the program in `file`, an image or a text, under the schedule in `schedule`, and writes the trace to `output`. Returns
+/// the exit status: 0 if everything went well. With any other status `errors` gets one line: `refused asm LINE KIND`, `refused
+/// image KIND [PLACE]`, `refused load KIND [PLACE]` or `refused schedule KIND AT` (3), `memory` (4), or `read` or `write` (5).
+/// If `errors` fails, the status stays. The schedule may have any length. It is read and played piece by piece, after the
+/// program is loaded.
 pub fn run_cmd<F: Source, S: Source, K: Sink, E: Sink>(
     alloc: Global,
     file: &mut F,

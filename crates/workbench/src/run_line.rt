@@ -45,8 +45,8 @@ fn first_line(bytes: &[u8]) -> (&[u8], &[u8])
     }
 }
 
-/// A file's program text, and its schedule: what stands before the first line whose only word is `.run`, and what
-/// follows that line. Without such a line all is text, and the schedule is empty.
+/// Returns a file's program text and its schedule: what precedes the first line whose only word is `.run`, and what follows
+/// that line. Without such a line everything is text, and the schedule is empty.
 pub fn split_at_run(bytes: &[u8]) -> (&[u8], &[u8])
     ensures text { result.0.now ≡ program_part bytes.now }
     ensures schedule { result.1.now ≡ schedule_part bytes.now }

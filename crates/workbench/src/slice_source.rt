@@ -5,7 +5,7 @@ ghost use Rattle.byte_ports.specs.Port.{FailsForGood};
 use byte_ports::{Failed, Source};
 use std::marker::Model;
 
-/// A source over bytes in memory, which never fails.
+/// A source of bytes in memory, which never fails.
 #[derive(Drop)]
 pub struct SliceSource<'a> {
     rest: &'a [u8],
@@ -18,7 +18,7 @@ impl<'a> Model for SliceSource<'a> {
 }
 
 impl<'a> SliceSource<'a> {
-    /// A source of these bytes.
+    /// Makes a source of these bytes.
     pub fn new(bytes: &'a [u8]) -> SliceSource<'a>
         ensures { result ≡ bytes.now }
     {

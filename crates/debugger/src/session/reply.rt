@@ -2,17 +2,16 @@ ghost use Rattle.std.specs.Prelude.{◌≡◌, ◌+◌, ◌≤◌, ◌∷◌, []
 ghost use Rattle.std.specs.Fmt.{decimal};
 ghost use Rattle.std.specs.Io.KnownBytes.{Appends};
 ghost use Rattle.debugger.specs.declared.stop.Stop.{Stop};
-ghost use Rattle.debugger.specs.Command.{MayWantMemory, Back, Break, Clear, Go, Print, Step, Unknown, goes_on, has_tokens, letter_of, line_order, order_of, wants_memory, word_of};
+ghost use Rattle.debugger.specs.Command.{Back, Break, Clear, Go, Print, Step, Unknown, go_by, goes_on, line_order, order_of, runs_in, wants_memory};
 ghost use Rattle.debugger.specs.Reply.{IsCarriedOut, number_line, stop_text};
 
-use crate::command::{Command, command_of, lone_turn};
+use crate::command::{Command, are_tokens, command_by, letter_of, lone_turn, split_word};
 use crate::number_line::{ROOM, put_number_line};
 use crate::session::Debugger;
 use crate::stop::Stop;
 use byte_ports::{Failed, Sink};
 use schedule_reader::Run;
 use std::alloc::AllocError;
-use std::mem::replace;
 use thread_machine::{Choice, StepFault};
 use trace_text::line::{put_event, put_refusal};
 use trace_text::line_end::LineEnd;
@@ -75,7 +74,7 @@ fn say_fault<W: Sink>(output: &mut W, number: u64, fault: StepFault) -> Result<(
     }
 }
 
-/// Writes how far `go` went: the reply of the command `g`. It fails where the output has failed.
+/// Writes how far `go` went: the reply to the command `g`. Fails if the output has failed.
 pub fn say_stop<W: Sink>(output: &mut W, stop: Stop) -> Result<(), Failed>
     ensures line { OnOk result (Appends (W.written output.old) (W.written output.new) (stop_text stop)) }
     ensures failed { OnErr result (IsTrue (W.has_failed output.new)) }
@@ -150,8 +149,8 @@ impl Debugger {
         }
     }
 
-    /// Plays the choices of runs as the command `g` does, and writes its reply. It takes no memory but for what is put out, and
-    /// fails only where the reply can't be written.
+    /// Plays the choices of runs like the command `g`, and writes its reply. It allocates only for values that are put out, and
+    /// fails only if the reply can't be written.
     pub fn go_command<W: Sink>(&mut self, runs: &[Run], output: &mut W) -> Result<(), CommandFault>
         ensures { IsCarriedOut ⊥ result self.old (Go runs.now) self.new
             (W.written output.old) (W.written output.new) (W.has_failed output.new) }
@@ -214,22 +213,50 @@ impl Debugger {
         Ok(())
     }
 
-    /// Reads a line. The runs of its tokens stand in the room that the debugger keeps for them; `g` puts it back.
-    #[inline(never)]
-    fn read(&mut self, line: &[u8]) -> Result<Command, AllocError>
-        ensures session { self.new ≡ self.old }
-        ensures order { IfOk result (λ command. order_of command ≡ line_order line.now) }
-        ensures wants { OnErr result (has_tokens (letter_of (word_of line.now)) ≡ true) }
+    /// Plays the choices that tokens name as the command `g` does, and writes its reply, or `?` where one of them is faulty: then
+    /// nothing was played. It takes no memory but for what is put out, and fails only where the reply can't be written.
+    fn go_line<W: Sink>(&mut self, tokens: &[u8], output: &mut W) -> Result<(), CommandFault>
+        ensures { IsCarriedOut ⊥ result self.old (go_by (runs_in tokens.now)) self.new
+            (W.written output.old) (W.written output.new) (W.has_failed output.new) }
     {
-        let room = replace(&mut self.room, Vec::new(self.alloc));
-        command_of(room, line)
+        if !are_tokens(tokens) {
+            return self.unknown_command(output);
+        }
+        let stop = self.go_tokens(tokens);
+        match say_stop(output, stop) {
+            Ok(()) => Ok(()),
+            Err(_) => Err(CommandFault::Write),
+        }
+    }
+
+    /// Carries out a command and writes its reply; false after `q`.
+    fn carry_out<W: Sink>(
+        &mut self,
+        command: &Command,
+        output: &mut W,
+    ) -> Result<bool, CommandFault>
+        ensures outcome { IsCarriedOut (wants_memory (order_of command.now) ≡ true) result self.old (order_of command.now) self.new
+            (W.written output.old) (W.written output.new) (W.has_failed output.new) }
+        ensures goes_on { IfOk result (λ more. more ≡ goes_on (order_of command.now)) }
+    {
+        match command {
+            Command::Step(choice) => going_on(self.step_command(*choice, output)),
+            Command::Go(runs) => going_on(self.go_command(runs.as_slice(), output)),
+            Command::Back => going_on(self.back_command(output)),
+            Command::Break(row) => going_on(self.break_command(*row, output)),
+            Command::Clear(row) => going_on(self.clear_command(*row, output)),
+            Command::Print => going_on(self.print_command(output)),
+            Command::Quit => Ok(false),
+            Command::Unknown => going_on(self.unknown_command(output)),
+        }
     }
 
     /// Carries out the command of a line and writes its reply; false after `q`. The line is read whole before anything is
-    /// done, so one that is no command leaves the debugger as before. After `Write` the command was carried out, and how much
-    /// of its reply went out is left open; after `Memory` it was not, and nothing was written.
+    /// done, so one that is no command leaves the debugger as before. Its tokens are read from its bytes, so it takes no memory but
+    /// for what is put out and for the state. After `Write` the command was carried out, and how much of its reply went out is left
+    /// open; after `Memory` it was not, and nothing was written.
     pub fn command<W: Sink>(&mut self, line: &[u8], output: &mut W) -> Result<bool, CommandFault>
-        ensures outcome { IsCarriedOut (MayWantMemory line.now) result self.old (line_order line.now) self.new
+        ensures outcome { IsCarriedOut (wants_memory (line_order line.now) ≡ true) result self.old (line_order line.now) self.new
             (W.written output.old) (W.written output.new) (W.has_failed output.new) }
         ensures goes_on { IfOk result (λ more. more ≡ goes_on (line_order line.now)) }
     {
@@ -237,19 +264,10 @@ impl Debugger {
             self.go_command(&[run], output)?;
             return Ok(true);
         }
-        match self.read(line)? {
-            Command::Step(choice) => going_on(self.step_command(choice, output)),
-            Command::Go(runs) => {
-                let done = self.go_command(runs.as_slice(), output);
-                self.room = runs;
-                going_on(done)
-            }
-            Command::Back => going_on(self.back_command(output)),
-            Command::Break(row) => going_on(self.break_command(row, output)),
-            Command::Clear(row) => going_on(self.clear_command(row, output)),
-            Command::Print => going_on(self.print_command(output)),
-            Command::Quit => Ok(false),
-            Command::Unknown => going_on(self.unknown_command(output)),
+        let (word, rest) = split_word(line);
+        match letter_of(word) {
+            b'g' => going_on(self.go_line(rest, output)),
+            letter => self.carry_out(&command_by(letter, rest), output),
         }
     }
 }

@@ -6,7 +6,8 @@ use Rattle.debugger.proofs.session.Debugger.pass.Goals.{else-steps-before-via-th
 
 pub returns-then-stands_at_break : goal.returns-then-stands_at_break
 returns-then-stands_at_break c =
-    let step = is_step c.args.self.now c.step.new.self c.args.choice c.in-Ok.field-0 c.in-Ok.ensures.played c.in-Ok.ensures.session in
+    let step = is_step c.args.self.now c.step.new.self c.args.choice c.in-Ok.field-0 c.in-Ok.ensures.played
+    c.in-Ok.ensures.accepted c.in-Ok.ensures.session in
     let old = c.steps-before.ensures.steps ∙ ap (λ (world : StoredWorld). world.steps) c.machine.ensures in
     let new = c.steps.ensures.steps ∙ ap (λ (world : StoredWorld). world.steps) c.machine-in-Ok.ensures in
     pass_break c.args.self.now c.step.new.self c.args.choice c.in-Ok.ensures.accepted step
@@ -14,7 +15,8 @@ returns-then-stands_at_break c =
 
 pub returns-else-steps-before : goal.returns-else-steps-before
 returns-else-steps-before c =
-    let step = is_step c.args.self.now c.step.new.self c.args.choice c.in-Ok.field-0 c.in-Ok.ensures.played c.in-Ok.ensures.session in
+    let step = is_step c.args.self.now c.step.new.self c.args.choice c.in-Ok.field-0 c.in-Ok.ensures.played
+    c.in-Ok.ensures.accepted c.in-Ok.ensures.session in
     let old = c.steps-before.ensures.steps ∙ ap (λ (world : StoredWorld). world.steps) c.machine.ensures in
     let new = c.steps.ensures.steps ∙ ap (λ (world : StoredWorld). world.steps) c.machine-in-Ok.ensures in
     elim c.else-steps-before.branch [

@@ -1,6 +1,6 @@
-use Rattle.std.proofs.Common.{◌≡◌, ◌∙◌, ap}
+use Rattle.std.proofs.Common.{◌≡◌, ◌∙◌, ap, sym}
 use Rattle.thread_machine.specs.World.{StoredWorld, world_of}
-use Rattle.thread_machine.specs.Step.{Played, played}
+use Rattle.thread_machine.specs.Step.{Played, played, refusal_of}
 use Rattle.debugger.specs.Session.{Session}
 use Rattle.debugger.proofs.Trails.{trail_on, session_on}
 use Rattle.debugger.proofs.Histories.{history_on}
@@ -20,6 +20,7 @@ pub returns-clause-history : goal.returns-clause-history
 returns-clause-history c = λ first choices history.
     let seen : c.self.inside.played ≡ c.args.self.now.machine = ap (λ (s : Session). s.machine) c.self.view_is in
     history_on first choices c.args.choice c.args.self.now _ history (record {
+      accepted = ap (λ (w : StoredWorld). refusal_of (world_of w) c.args.choice) (sym seen) ∙ c.in-Ok.ensures.accepted;
       world = ap (λ (play : Played). play.world) c.in-Ok.ensures.played
           ∙ ap (λ (w : StoredWorld). (played (world_of w) c.args.choice).world) seen;
       session = returns-clause-session c;

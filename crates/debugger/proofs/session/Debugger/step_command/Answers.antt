@@ -24,6 +24,7 @@ returns-in-Ok g c =
     stepped (wants_memory (Step choice) ≡ true) c.say_line-in-Ok.result session _ choice c.put_event.new.line _ _ _
     (step_unless (refusal_of (world_of session.machine) choice) session _ choice accepted
     (record {
+      accepted = accepted;
       world = ap (λ (play : Played). play.world) both;
       session = session_on c.self.inside.played c.step_into.new.self c.step_into.new.undo c.self.inside.undos c.push.new.self
           c.self.inside.marks session c.push.ensures c.in-Ok.ensures.undo c.self.view_is;

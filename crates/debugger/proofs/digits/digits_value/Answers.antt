@@ -1,6 +1,6 @@
 use Rattle.std.proofs.Common.{arith}
 use Rattle.line_reader.proofs.Digits.{digits_value-next, digits_value-next_few}
-use Rattle.debugger.proofs.command.digits_value.Goals as goal
+use Rattle.debugger.proofs.digits.digits_value.Goals as goal
 
 pub overflow_mul-value : goal.overflow_mul-value
 overflow_mul-value c =
