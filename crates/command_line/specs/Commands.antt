@@ -31,11 +31,11 @@ options_rule name = record (option_rule name) { action = Some Append }
 abbrev pub number_rule : Text → Rule
 number_rule name = record (option_rule name) { required = true }
 
--- one that is this where it isn't there
+-- an option with this value if it isn't given
 abbrev pub default_rule : Text → Text → Rule
 default_rule name value = record (option_rule name) { defaults = value ∷ [] }
 
--- how a word of this name is read that stands so
+-- how an argument of this name and kind is read
 abbrev pub rule_of_kind : Text → Kind → Rule
 rule_of_kind name kind.Needed = place_rule name
 rule_of_kind name kind.Given = new_rule name
@@ -85,7 +85,8 @@ commands =
     ∷ option_rule (codes "stir") ∷ option_rule (codes "runs") ∷ expect_rule ∷ [])
     ∷ command (codes "race") (number_rule (codes "parties") ∷ number_rule (codes "rounds") ∷ [])
     ∷ command (codes "choices") (place_rule (codes "TRACE") ∷ [])
-    ∷ command (codes "plan") (file_rule ∷ new_rule (codes "PLAN") ∷ option_rule (codes "seeds") ∷ [])
+    ∷ command (codes "plan") (file_rule ∷ new_rule (codes "PLAN") ∷ option_rule (codes "seeds")
+    ∷ option_rule (codes "limit") ∷ expect_rule ∷ flag_rule (codes "names") ∷ [])
     ∷ command (codes "explain") (words_rule (codes "WORD") ∷ [])
     ∷ []
 
@@ -93,7 +94,7 @@ commands =
 abbrev pub alone : Shape → App
 alone shape = record { top = shape; subs = [] }
 
--- the program by itself, which takes one option where no command is named
+-- the program without a command, which takes one option
 abbrev pub bare : App
 bare = alone (record (command (codes "vuthgal") (expect_rule ∷ [])) { has_version = true })
 

@@ -1,4 +1,4 @@
--- What is told of an option that is wrong: its own name, and what it may be.
+-- What is reported about an option that is wrong: its name, and what it may be.
 use Rattle.std.specs.Prelude.{ℕ, List, ◌++◌, codes}
 use Rattle.command_line.specs.declared.refusal.WrongOption.{WrongOption}
 use Rattle.command_line.specs.declared.refusal.WrongOption.TheVariants as option
@@ -19,3 +19,5 @@ told_of option.Runs = ranged (codes "--runs N: N") (codes "1") (codes "100000")
 told_of option.Early = codes "--expect STATE goes after the command's name"
 told_of option.Plan = codes "--plan 'PLAN', --plan-file FILE, --at TRACE, SCHEDULE: only one of them; quote a PLAN with blanks"
 told_of option.Seeds = codes "--seeds FROM..TO: at most 100000 numbers from 0 to 4294967295, in decimal digits, FROM not above TO, as 1..1000"
+told_of option.SeedLimit = ranged (codes "--limit N: N") (codes "1") (codes "1000000")
+told_of option.NoSeeds = codes "--limit N and --expect STATE need --seeds FROM..TO"

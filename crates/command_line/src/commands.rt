@@ -1,4 +1,4 @@
-//! The commands, their words and options, and what help says of each.
+//! The commands, their arguments and options, and their help.
 ghost use Rattle.std.specs.Prelude.{◌≡◌, IfOk, false, fold, map};
 ghost use Rattle.clap.specs.Words.{app_of, rule_of, with_subcommand};
 ghost use Rattle.command_line.specs.Commands.{alone, bare, command_of, commands, rule_by, vuthgal};
@@ -7,10 +7,10 @@ use crate::texts;
 use clap::{Arg, ArgAction, Command};
 use std::alloc::{AllocError, Global};
 
-/// How a word stands on a command line.
+/// How an argument is given on a command line.
 #[derive(Clone, Copy)]
 pub enum Kind {
-    /// In its place, where there has to be one.
+    /// In its place, and required.
     Needed,
     /// In its place, if there is one.
     Given,
@@ -18,21 +18,21 @@ pub enum Kind {
     Several,
     /// `--NAME`.
     Flag,
-    /// `--NAME VALUE`, if it is there.
+    /// `--NAME VALUE`, if it is given.
     Value(&'static str),
-    /// `--NAME VALUE`, as often as it is there.
+    /// `--NAME VALUE`, as often as it is given.
     Values(&'static str),
-    /// `--NAME VALUE`, which has to be there.
+    /// `--NAME VALUE`, and required.
     NeededValue(&'static str),
-    /// `--NAME VALUE`, and what the value is where it isn't there.
+    /// `--NAME VALUE`, and the value if it isn't given.
     DefaultValue(&'static str, &'static str),
 }
 
-/// A word or an option of a command: its name, how it stands, and what help says of it.
+/// An argument or an option of a command: its name, how it is given, and its help.
 #[derive(Clone, Copy)]
 pub struct Word(pub &'static str, pub Kind, pub &'static str);
 
-/// A command: what it is called, what help says of it in a line, and its words in the order of their places.
+/// A command: its name, its help in a line, and its arguments in order.
 #[derive(Clone, Copy)]
 pub struct Subcommand {
     pub name: &'static str,
@@ -76,7 +76,7 @@ const EXPECT: Word = Word(
     "Exits with 1 if the run ends differently; can be repeated",
 );
 
-/// The commands, in the order in which help lists them.
+/// The commands, in the order of the help.
 static COMMANDS: [Subcommand; 12] = [
     Subcommand {
         name: "asm",
@@ -226,6 +226,21 @@ static COMMANDS: [Subcommand; 12] = [
                 "seeds",
                 Kind::Value("FROM..TO"),
                 "Counts how the runs of these seeds end, such as 1..1000",
+            ),
+            Word(
+                "limit",
+                Kind::Value("N"),
+                "With --seeds: how many choices of each seed, 1 to 1000000",
+            ),
+            Word(
+                "expect",
+                Kind::Values("STATE"),
+                "With --seeds: exits with 1 if a run ends differently; can be repeated",
+            ),
+            Word(
+                "names",
+                Kind::Flag,
+                "Writes the names of the threads instead of their numbers",
             ),
         ],
     },

@@ -1,4 +1,4 @@
-//! Why words that the commands take ask for nothing.
+//! Why arguments that the commands accept ask for nothing.
 ghost use Rattle.std.specs.Prelude.{◌≡◌};
 ghost use Rattle.command_line.specs.Told.{told_of};
 ghost use Rattle.command_line.specs.declared.refusal.Refusal.{Refusal};
@@ -6,7 +6,7 @@ ghost use Rattle.command_line.specs.declared.refusal.Refusal.TheVariants as refu
 
 use std::alloc::AllocError;
 
-/// An option whose value is none that it may have.
+/// An option with a value that it can't have.
 #[derive(Clone, Copy, PartialEq, Eq)]
 pub enum WrongOption {
     Width,
@@ -21,9 +21,13 @@ pub enum WrongOption {
     /// Two of a schedule or a trace, `--plan` and `--plan-file`.
     Plan,
     Seeds,
+    /// How many choices the order of a seed has.
+    SeedLimit,
+    /// `--limit` or `--expect` of `plan` without `--seeds`.
+    NoSeeds,
 }
 
-/// Why words that the commands take ask for nothing.
+/// Why arguments that the commands accept ask for nothing.
 #[derive(Clone, Copy, PartialEq, Eq)]
 pub enum Refusal {
     /// There was no memory for them.
@@ -48,7 +52,7 @@ impl From<WrongOption> for Refusal {
 }
 
 impl WrongOption {
-    /// What is told of it.
+    /// Returns what is reported.
     pub fn told(self) -> &'static str
         ensures { result.now ≡ told_of self }
     {
@@ -66,6 +70,8 @@ impl WrongOption {
                 "--plan 'PLAN', --plan-file FILE, --at TRACE, SCHEDULE: only one of them; quote a PLAN with blanks",
             WrongOption::Seeds =>
                 "--seeds FROM..TO: at most 100000 numbers from 0 to 4294967295, in decimal digits, FROM not above TO, as 1..1000",
+            WrongOption::SeedLimit => "--limit N: N is 1 to 1000000, in decimal digits",
+            WrongOption::NoSeeds => "--limit N and --expect STATE need --seeds FROM..TO",
         }
     }
 }

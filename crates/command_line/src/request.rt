@@ -1,4 +1,4 @@
-//! What the words of a command line ask for.
+//! What the arguments of a command line ask for.
 ghost use Rattle.std.specs.Prelude.{◌≡◌, ◌≢◌, ◌⊎◌, ◌≤◌, IfErr, IfOk, IfSome, List, MatchOption, None, codes, map, option_map, true, ℕ};
 ghost use Rattle.clap.specs.Words.{app_of, kind_of, subcommand_rows_of, takes};
 ghost use Rattle.clap.specs.declared.error.kind.ErrorKind.TheVariants.{OutOfMemory};
@@ -8,7 +8,7 @@ ghost use Rattle.std.specs.List.{list_all};
 ghost use Rattle.trace_text.specs.Expectation.{is_expectation};
 ghost use Rattle.command_line.specs.Commands.{vuthgal};
 ghost use Rattle.command_line.specs.Request.{Asks, ComesTo, ComesToBy, ComesToOf, Fails, IsInRange, rows_in};
-ghost use Rattle.command_line.specs.Request.{AreSeveral, AreSteps, IsExpected, IsFlag, IsNoNumber, IsNoState, IsNumber};
+ghost use Rattle.command_line.specs.Request.{AreInRange, AreOrders, AreSeveral, AreSteps, IsExpected, IsRefusedBy, IsFlag, IsNoNumber, IsNoState, IsNumber};
 ghost use Rattle.command_line.specs.Request.{IsSeeds, Spells, SpellsNone, SpellsSeeds, word_at, word_given, words_at};
 ghost use Rattle.command_line.specs.declared.refusal.Refusal.TheVariants as refusal;
 ghost use Rattle.command_line.specs.declared.refusal.WrongOption.TheVariants as option;
@@ -20,7 +20,7 @@ use clap::{ArgMatches, Command, Error};
 use std::alloc::{AllocError, Global};
 use trace_text::form::is_expectation;
 
-/// What a command line asks for. A file is named as it was written.
+/// What a command line asks for. A file has the name that was given.
 #[derive(PartialEq, Eq, Drop)]
 pub enum Request<'a> {
     /// No command, `[--expect STATE]..`: play what standard input holds.
@@ -83,22 +83,24 @@ pub enum Request<'a> {
     Choices {
         trace: &'a str,
     },
-    /// `plan FILE [PLAN] [--seeds FROM..TO]`; the plan `-` is standard input, and so it is without both.
+    /// `plan FILE [PLAN] [--names] [--seeds FROM..TO [--limit N] [--expect STATE]..]`; the plan `-` is standard input, and so it is
+    /// without a plan and seeds.
     Plan {
         file: &'a str,
         plan: Option<&'a str>,
-        seeds: Option<Seeds>,
+        has_names: bool,
+        orders: Option<Orders<'a>>,
     },
-    /// `explain WORD..`: the words of a line on standard error, none where they are to be listed.
+    /// `explain WORD..`: the words of a line on standard error, or none to list them.
     Explain {
         words: Vec<&'a str>,
     },
 }
 
-/// The choices that a command plays, or begins behind.
+/// The choices that a command plays, or begins after.
 #[derive(Clone, Copy, Debug, PartialEq, Eq)]
 pub enum Steps<'a> {
-    /// Those that stand in the program's own file; a session begins behind none.
+    /// The schedule in the program's own file. A session begins before the first choice.
     Beside,
     /// Those in the file of this name: a schedule, or for a session a trace.
     Named(&'a str),
@@ -113,6 +115,14 @@ pub enum Steps<'a> {
 pub struct Seeds {
     pub first: u32,
     pub last: u32,
+}
+
+/// Orders by seeds: each of at most so many choices, 1 to 1,000,000, where that is said; and how each run has to end.
+#[derive(PartialEq, Eq, Drop)]
+pub struct Orders<'a> {
+    pub seeds: Seeds,
+    pub limit: Option<u32>,
+    pub expected: Vec<&'a str>,
 }
 
 /// The word in this place, which is there where the place has to be filled.
@@ -252,6 +262,28 @@ fn seeds_given(matches: &ArgMatches<'_>) -> Result<Option<Seeds>, WrongOption>
     }
 }
 
+/// The orders that these matches ask for, if they name seeds, where the numbers are in range, and each may end as it is expected
+/// to.
+fn orders_given<'a>(alloc: Global, matches: &ArgMatches<'a>) -> Result<Option<Orders<'a>>, Refusal>
+    ensures range { IfOk result (λ orders. IfSome orders AreInRange) }
+    ensures asked { IfOk result (AreOrders (rows_in matches.now)) }
+    ensures wrong { IfErr result (λ why. IsRefusedBy why (codes "plan") (rows_in matches.now)) }
+{
+    let Some(seeds) = seeds_given(matches)? else {
+        if given(matches, "limit").is_some() || given(matches, "expect").is_some() {
+            return Err(Refusal::Wrong(WrongOption::NoSeeds));
+        }
+        return Ok(None);
+    };
+    let limit = number_given(matches, "limit", 1, 1_000_000, WrongOption::SeedLimit)?;
+    let expected = expected(alloc, matches)?;
+    Ok(Some(Orders {
+        seeds,
+        limit,
+        expected,
+    }))
+}
+
 /// The run that these matches ask for, where it may end as it is expected to.
 fn run<'a>(alloc: Global, matches: &ArgMatches<'a>) -> Result<Request<'a>, Refusal>
     ensures { ComesToBy (codes "run") (rows_in matches.now) result }
@@ -339,14 +371,15 @@ fn race<'a>(matches: &ArgMatches<'a>) -> Result<Request<'a>, Refusal>
 }
 
 /// The schedule of a plan that these matches ask for, or what the orders of seeds come to.
-fn plan<'a>(matches: &ArgMatches<'a>) -> Result<Request<'a>, Refusal>
+fn plan<'a>(alloc: Global, matches: &ArgMatches<'a>) -> Result<Request<'a>, Refusal>
     ensures { ComesToBy (codes "plan") (rows_in matches.now) result }
 {
-    let seeds = seeds_given(matches)?;
+    let orders = orders_given(alloc, matches)?;
     Ok(Request::Plan {
         file: word(matches, "FILE"),
         plan: given(matches, "PLAN"),
-        seeds,
+        has_names: is_set(matches, "names"),
+        orders,
     })
 }
 
@@ -381,7 +414,7 @@ fn request_by<'a>(
         "choices" => Ok(Request::Choices {
             trace: word(matches, "TRACE"),
         }),
-        "plan" => plan(matches),
+        "plan" => plan(alloc, matches),
         "explain" => Ok(Request::Explain {
             words: several(alloc, matches, "WORD")?,
         }),
@@ -422,8 +455,8 @@ fn request_in<'a>(
     }
 }
 
-/// What the words of a command line ask for, the program's own name the first of them. An error is also what `--help` and
-/// `--version` come to, which tells this version: its `exit_code` is 0 then, and 2 where the words are wrong.
+/// Returns what the arguments ask for. The first one is the program's own name. `--help` and `--version`, which prints this
+/// version, are errors, too: their `exit_code` is 0. It is 2 if the arguments are wrong.
 pub fn parse<'a>(alloc: Global, words: &'a [String], version: &'a str) -> Result<Request<'a>, Error>
     ensures range { IfOk result (λ request. IsInRange request) }
     ensures asked { IfOk result (Asks (map string_bytes words.entry.now)) }

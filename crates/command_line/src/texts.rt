@@ -1,4 +1,4 @@
-//! What the help says, in lines of at most 80 columns.
+//! The help, in lines of at most 80 columns.
 
 /// What follows the help of each command.
 pub const STATUSES: &str = "\
@@ -119,7 +119,7 @@ with the choices of the trace in this file. If it isn't a trace, `debug` writes
 `--plan-file FILE` the first command is a `g` with the choices of the plan.
 
 At a terminal `help` lists the commands, and `w` writes the choices so far as a
-schedule. After each reply you see which threads can continue, and at which row.
+plan. After each reply you see which threads can continue, and at which row.
 
 Errors: `refused asm`, `refused image`, `refused load`, `refused plan`,
 `memory`, `read`, `write`.
@@ -205,7 +205,10 @@ to its state.
 
 TRACE is a file of any length, or `-` for standard input. If it isn't a trace,
 `choices` writes `not a trace LINE`, the first line that a trace can't have. It
-plays nothing, so it needs no program.
+plays nothing, so it needs no program. With FILE, the program, this writes the
+names of its threads instead of their numbers:
+
+  vuthgal choices TRACE | vuthgal plan FILE --names
 
 Errors: `memory`, `read`, `write`.
 
@@ -239,7 +242,16 @@ With `--seeds 1..1000` there is a run for each of these seeds: first PLAN, if
 there is one, then any thread that can continue, by the seed, to the end. A line
 is written for each state in which a run ended, the most frequent first: how
 many runs ended in it, `all`, `stuck` or `live`, with `+died` if a thread died,
-and the schedule of the first of them.
+and the seed and the schedule of the first of them.
+
+With `--limit N` each seed makes at most N choices after PLAN, like `?7*N`. With
+`--expect STATE` (`vuthgal run --help`) the exit status is 1 if any run ended
+differently, and standard error names the first such seed: `expected ended: ?7
+state stuck`. At a terminal you see the counts so far. An interrupt (Ctrl-C)
+ends the command: it writes nothing.
+
+With `--names` the threads have their names instead of numbers. What is written
+then is a plan and no schedule: `vuthgal run FILE --plan-file F` plays it.
 
 Errors: `refused asm`, `refused image`, `refused load`, `refused plan`,
 `memory`, `read`, `write`.
@@ -261,7 +273,7 @@ you can ask.
 
 Example: vuthgal explain refused asm 2 5";
 
-/// What the help of a command says at length.
+/// Returns the long help of a command.
 pub fn of(command: &str) -> &'static str {
     match command {
         "asm" => ASM,

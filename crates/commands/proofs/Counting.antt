@@ -13,8 +13,9 @@ use Rattle.commands.specs.Outcomes.{AreOutcomes, Ended, Told, ends_in, is_more_f
 
 -- what is told with one run more
 abbrev pub and_run : Option Told → Ended → Told
-and_run None run = record { times = 1; ending = run.ending; schedule = run.schedule }
-and_run (Some before) run = record { times = before.times + 1; ending = before.ending; schedule = before.schedule }
+and_run None run = record { times = 1; ending = run.ending; seed = run.seed; schedule = run.schedule }
+and_run (Some before) run =
+    record { times = before.times + 1; ending = before.ending; seed = before.seed; schedule = before.schedule }
 
 -- which state a run ended in may be asked either way round
 asked : (a b : List ℕ) → bytes_eq a b ≡ bytes_eq b a

@@ -1,5 +1,6 @@
 pub mod Blanks
 mod Drawings
+mod Naming
 mod NoPicture
 mod Pages
 pub mod PlanLine

@@ -1,13 +1,14 @@
 -- The schedule of a plan, by the parts that it is made of.
 use Rattle.std.proofs.Common.{◌≡◌, ◌∙◌, ◌+◌, ◌≤◌, ◌++◌, ℕ, Bool, List, [], ◌∷◌, length, map, refl, sym, subst, ap, arith}
-use Rattle.std.specs.Prelude.{Err, IfOk, Ok, Option, Result}
+use Rattle.std.specs.Prelude.{Err, IfOk, Ok, Option, Result, Some}
 use Rattle.std.specs.Io.KnownBytes.{Appends}
 use Rattle.std.specs.Borrow.{Bor}
 use Rattle.std.proofs.lemmas.List.{length-map, map-append}
 use Rattle.std.proofs.lemmas.List.FromFn.{length-map-range_with_len, map-range_with_len_more}
 use Rattle.assembler.specs.Symbols.{SymbolTable}
 use Rattle.commands.specs.Choices.{schedule_line}
-use Rattle.commands.specs.Planning.{ComesOfPlan, HasNoSchedule, HasPlanned, HasThreads, Plays, thread_name, thread_names}
+use Rattle.commands.specs.Named.{line_by}
+use Rattle.commands.specs.Planning.{ComesOfPlan, HasNamedPlanned, HasNoSchedule, HasPlanned, HasThreads, Plays, thread_name, thread_names}
 use Rattle.commands.specs.Seeds.{plan_by}
 use Rattle.commands.specs.Unplanned.{unplanned_status}
 use Rattle.commands.specs.declared.unplanned.Unplanned.{Unplanned}
@@ -82,12 +83,34 @@ pub plan_written : (stopped : Bool) (planned : Planned) (program : Program) (pla
 plan_written stopped planned program plan old new (progress, (comes, shows)) are told appends =
     (schedule_line planned.runs.items, (progress, (comes, (planned.runs.items, (are, shows.choices, refl, told ∙ shows.stopped)), appends)))
 
+-- it is written with the names of the threads
+pub named_written : (stopped : Bool) (planned : Planned) (program : Program) (names seen : List (Bor (List ℕ))) (plan : List ℕ) (old new : Option (List ℕ))
+    → (progress : Progress) × (ComesOfPlan program plan progress × Shows planned progress)
+    → HasThreads program.image program.names (map name_seen names) → seen ≡ names → AreRuns planned.runs.items → stopped ≡ planned.stopped
+    → Appends old new (line_by (Some (map name_seen seen)) planned.runs.items) → HasNamedPlanned stopped program plan old new
+named_written stopped planned program names seen plan old new (progress, (comes, shows)) has same are told appends =
+    let line = line_by (Some (map name_seen seen)) planned.runs.items in (
+      map name_seen seen,
+      (
+        line,
+        (
+          progress,
+          (
+            subst (λ (ns : List (Bor (List ℕ))). HasThreads program.image program.names (map name_seen ns)) (sym same) has,
+            comes,
+            (planned.runs.items, (are, shows.choices, refl, told ∙ shows.stopped)),
+            appends,
+          ),
+        ),
+      ),
+    )
+
 -- why the orders of seeds have no schedule
-pub no_orders : (reason : Unplanned) (program : Program) (names : List (List ℕ)) (plan : List ℕ)
+pub no_orders : (reason : Unplanned) (program : Program) (names : List (List ℕ)) (plan : List ℕ) (limit : Option ℕ)
     → HasThreads program.image program.names names
-    → ((f : PlanFault) → reason ≡ why.Plan f → (seed : ℕ) × (words_in_plan names (plan_by plan seed) ≡ Err f))
+    → ((f : PlanFault) → reason ≡ why.Plan f → (seed : ℕ) × (words_in_plan names (plan_by plan limit seed) ≡ Err f))
     → ((f : Fault) → reason ≡ why.Fault f → f ≡ fault.Memory) → unplanned_status reason ≡ 3
-    → (seed : ℕ) × HasNoSchedule reason program (plan_by plan seed)
-no_orders (why.Plan f) program names plan has refused other three =
+    → (seed : ℕ) × HasNoSchedule reason program (plan_by plan limit seed)
+no_orders (why.Plan f) program names plan limit has refused other three =
     let found = refused f refl in (found.0, (names, (has, found.1)))
-no_orders (why.Fault f) program names plan has refused other three = absurd (cc (other f refl, three))
+no_orders (why.Fault f) program names plan limit has refused other three = absurd (cc (other f refl, three))

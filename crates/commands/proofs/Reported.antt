@@ -21,7 +21,7 @@ pub reported : (result : Result Done Fault) (image : Image) (program : Program) 
     (outcomes : List (EndState × Outcome)) (before after : Option (List ℕ)) (failed : Bool)
     → first_fault image ≡ None → IsProgramOf image program
     → AreOutcomesFrom (first_world program asked.limit) asked outcomes → IsMostFrequentFirst outcomes
-    → IfOk result (λ d. d ≡ done_by asked.expected.now outcomes) → OnOk result (Appends before after (report outcomes))
+    → IfOk result (λ d. d ≡ done_by asked.expected.now outcomes) → OnOk result (Appends before after (report None outcomes))
     → IfErr result (λ f. (f ≡ fault.Memory) ⊎ (f ≡ fault.Write)) → (result ≡ Err fault.Memory → after ≡ before)
     → (result ≡ Err fault.Write → IsTrue failed) → Reports asked image result before after failed
 reported (Ok d) image program asked outcomes before after failed loads is came sorted by written which same write = (

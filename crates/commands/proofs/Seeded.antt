@@ -1,12 +1,42 @@
 -- Orders of seeds, one more at a time.
-use Rattle.std.proofs.Common.{◌≡◌, ◌+◌, ℕ, List, [], ◌∷◌, ◌++◌, length, subst, arith}
+use Rattle.std.proofs.Common.{◌≡◌, ◌+◌, ℕ, List, [], ◌∷◌, ◌++◌, Some, None, length, subst, sym, arith}
+use Rattle.std.specs.Global.{Vec}
+use Rattle.std.specs.List.{find}
+use Rattle.std.specs.Option.{option_or}
+use Rattle.std.specs.Prelude.{Option, cond, not}
+use Rattle.std.proofs.lemmas.List.Folds.{find-append}
 use Rattle.loader.specs.Program.{Program as Loaded}
+use Rattle.trace_text.specs.Expectation.{are_met}
 use Rattle.commands.specs.Outcomes.{Ended}
-use Rattle.commands.specs.Seeds.{AreEndsBy, IsEndBy}
+use Rattle.commands.specs.Seeds.{AreEndsBy, IsEndBy, IsFirstUnlike, IsUnlike, is_unlike}
+use Rattle.commands.specs.declared.seeds.Unlike.{Unlike}
 
-pub one_more : (program : Loaded) (names : List (List ℕ)) (plan : List ℕ) (first : ℕ) (runs : List Ended) (run : Ended)
-    → AreEndsBy program names plan first runs → IsEndBy program names plan (first + length runs) run → AreEndsBy program names plan first (runs ++ run ∷ [])
-one_more program names plan first [] run are is = grind arith
-one_more program names plan first (other ∷ runs) run are is =
+pub one_more : (program : Loaded) (names : List (List ℕ)) (plan : List ℕ) (limit : Option ℕ) (first : ℕ) (runs : List Ended) (run : Ended)
+    → AreEndsBy program names plan limit first runs → IsEndBy program names plan limit (first + length runs) run
+    → AreEndsBy program names plan limit first (runs ++ run ∷ [])
+one_more program names plan limit first [] run are is = grind arith
+one_more program names plan limit first (other ∷ runs) run are is =
     let there : first + length (other ∷ runs) ≡ first + 1 + length runs = omega arith in
-    (are.0, one_more program names plan (first + 1) runs run are.1 (subst (λ n. IsEndBy program names plan n run) there is))
+    (are.0, one_more program names plan limit (first + 1) runs run are.1 (subst (λ n. IsEndBy program names plan limit n run) there is))
+
+-- the first of two, where each is told of a run or of none
+either : (run other : Option Ended) (unlike more : Option Unlike) → IsUnlike run unlike → IsUnlike other more
+    → IsUnlike (option_or run other) (option_or unlike more)
+either None other None more is also = also
+either None other (Some unlike) more is also = absurd is
+either (Some run) other None more is also = absurd is
+either (Some run) other (Some unlike) more is also = is
+
+-- the first that ended otherwise, with one run more
+pub one_more_unlike : (expected : List (Vec ℕ)) (runs : List Ended) (run : Ended) (unlike more : Option Unlike)
+    → IsFirstUnlike expected runs unlike → IsFirstUnlike expected (run ∷ []) more
+    → IsFirstUnlike expected (runs ++ run ∷ []) (option_or unlike more)
+one_more_unlike expected runs run unlike more is also =
+    subst (λ r. IsUnlike r (option_or unlike more)) (sym (find-append (is_unlike expected) runs (run ∷ [])))
+    (either (find (is_unlike expected) runs) (find (is_unlike expected) (run ∷ [])) unlike more is also)
+
+-- what is told of one run
+pub judged : (expected : List (Vec ℕ)) (run : Ended) (state : List ℕ) (unlike : Option Unlike) → run.state ≡ state
+    → IsUnlike (cond (not (are_met state expected)) (Some run) None) unlike → IsFirstUnlike expected (run ∷ []) unlike
+judged expected run state unlike is told =
+    subst (λ s. IsUnlike (cond (not (are_met s expected)) (Some run) None) unlike) (sym is) told

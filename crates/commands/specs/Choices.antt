@@ -1,4 +1,4 @@
--- What `choices` makes of a trace.
+-- What `choices` does with a trace.
 use Rattle.std.specs.Prelude.{◌≡◌, ℕ, is_none, All, List, [], ◌∷◌, ◌++◌, Option, Some, None, codes}
 use Rattle.std.specs.Io.KnownBytes.{Appends}
 use Rattle.schedule_reader.specs.declared.run.Run.{Run}
@@ -13,19 +13,19 @@ use Rattle.workbench.specs.Fault.{counted_line}
 abbrev pub schedule_line : List Run → List ℕ
 schedule_line runs = schedule_text runs ++ 10 ∷ []
 
--- the line that tells where the trace is none
+-- the line that says where the trace isn't one
 abbrev pub told_line : Option ℕ → List ℕ
 told_line None = []
 told_line (Some line) = counted_line (codes "not a trace ") line
 
--- the line of choices, joined where they repeat, and behind it where the trace is none
+-- the line of choices, joined if they repeat, and after it where the trace isn't one
 abbrev pub IsTold : Naming → List ℕ → Type 0
 IsTold naming text =
     (runs : List Run)
     × ((naming.choices ≡ choices_of runs) × All IsRun runs × AreJoined runs
     × (text ≡ line_by (is_none naming.no_line) runs ++ told_line naming.no_line))
 
--- the trace was read as far as it has to be, and its choices were written, and where it is no trace
+-- the trace was read as far as necessary; its choices were written, and where it isn't a trace
 abbrev pub HasToldChoices : Naming → (trace_before trace_after output_before output_after : Option (List ℕ)) → Type 0
 HasToldChoices naming trace_before trace_after output_before output_after =
     HasRead trace_before trace_after naming

@@ -9,6 +9,7 @@ pub mod Showing
 pub mod Unplanned
 pub mod Planning
 pub mod Ends
+pub mod Named
 pub mod Outcomes
 pub mod Seeds
 pub mod Runs

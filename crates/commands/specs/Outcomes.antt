@@ -1,4 +1,4 @@
--- What several runs came to.
+-- The results of several runs.
 use Rattle.std.specs.Prelude.{◌≡◌, ℕ, Bool, if◌then◌else◌, List, [], ◌∷◌, ◌++◌, Option, Some, None, bytes_eq, codes, decimal, filter, flat_map, length, nat_lt, option_map, IsSortedBy}
 use Rattle.std.specs.List.{IsDistinct, list_all}
 use Rattle.std.specs.Global.{Vec}
@@ -13,18 +13,21 @@ use Rattle.thread_runner.specs.Replay.{IsReplayOfText}
 use Rattle.commands.specs.declared.end_state.EndState.{EndState}
 use Rattle.commands.specs.declared.outcomes.Outcome.{Outcome}
 use Rattle.commands.specs.Ends.{end_text, ending_word}
+use Rattle.commands.specs.Named.{told_by}
 use Rattle.workbench.specs.declared.done.Done.{Done}
 use Rattle.workbench.specs.declared.done.Done.TheVariants as done
 
--- a run that is over: its schedule, how it ended, and the state that it ended in
+-- a run that is over: the seed of its order if it has one, its schedule, how it ended, and the state that it ended in
 pub record Ended : Type 0 where
+  pub seed : Option ℕ
   pub schedule : List ℕ
   pub ending : Ending
   pub state : List ℕ
 
--- it was played from this world: its schedule leads there, each of its choices a step
+-- it was played from this world, by no seed: its schedule leads there, each of its choices a step
 pub record IsEndedFrom (first : World) (run : Ended) : Type 0 where
   pub world : World
+  pub seed : run.seed ≡ None
   pub replay : IsReplayOfText first run.schedule world
   pub ending : ending_of world ≡ Some run.ending
   pub state : run.state ≡ end_text run.ending world
@@ -33,26 +36,32 @@ pub record IsEndedFrom (first : World) (run : Ended) : Type 0 where
 abbrev pub ends_in : List ℕ → Ended → Bool
 ends_in state run = bytes_eq state run.state
 
--- how often runs ended in a state, how the first of them ended, and its schedule
+-- how often runs ended in a state, how the first of them ended, and its seed and its schedule
 pub record Told : Type 0 where
   pub times : ℕ
   pub ending : Ending
+  pub seed : Option ℕ
   pub schedule : List ℕ
 
 abbrev pub told_of : List Ended → Option Told
 told_of [] = None
-told_of (run ∷ runs) = Some (record { times = length (run ∷ runs); ending = run.ending; schedule = run.schedule })
+told_of (run ∷ runs) = Some (record { times = length (run ∷ runs); ending = run.ending; seed = run.seed; schedule = run.schedule })
 
 abbrev pub told_in : List Ended → List ℕ → Option Told
 told_in runs state = told_of (filter (ends_in state) runs)
 
 abbrev pub told : Outcome → Told
-told outcome = record { times = outcome.times; ending = outcome.ending; schedule = string_bytes outcome.schedule }
+told outcome = record {
+  times = outcome.times;
+  ending = outcome.ending;
+  seed = outcome.seed;
+  schedule = string_bytes outcome.schedule;
+}
 
 abbrev pub is_state : EndState → EndState → Bool
 is_state a b = bytes_eq a.text.items b.text.items
 
--- each state that a run ended in is there once, with what is told of the runs that ended in it, and no other is
+-- each state that a run ended in is there once, with what is reported about the runs that ended in it, and there is no other
 abbrev pub AreOutcomes : List Ended → List (EndState × Outcome) → Type 0
 AreOutcomes runs outcomes =
     IsDistinct is_state (keys_of outcomes)
@@ -65,18 +74,23 @@ is_more_frequent a b = nat_lt b.1.times a.1.times
 abbrev pub IsMostFrequentFirst : List (EndState × Outcome) → Type 0
 IsMostFrequentFirst outcomes = IsSortedBy is_more_frequent outcomes
 
--- what stands behind the word of a state in which a thread has died
+-- what follows the word of a state in which a thread has died
 abbrev pub died_mark : List ℕ → List ℕ
 died_mark state = if has_died state then codes "+died" else []
 
--- the line of an outcome
-abbrev pub outcome_line : EndState × Outcome → List ℕ
-outcome_line (state, outcome) =
-    decimal outcome.times ++ (codes " " ++ (ending_word outcome.ending ++ (died_mark state.text.items
-    ++ (codes " " ++ (string_bytes outcome.schedule ++ codes "\n")))))
+-- the seed before a schedule, as plans have it
+abbrev pub seed_mark : Option ℕ → List ℕ
+seed_mark None = []
+seed_mark (Some seed) = codes "?" ++ (decimal seed ++ codes " ")
 
-abbrev pub report : List (EndState × Outcome) → List ℕ
-report outcomes = flat_map outcome_line outcomes
+-- the line of an outcome, whose schedule is told by these names if there are some
+abbrev pub outcome_line : (names : Option (List (List ℕ))) → EndState × Outcome → List ℕ
+outcome_line names (state, outcome) =
+    decimal outcome.times ++ (codes " " ++ (ending_word outcome.ending ++ (died_mark state.text.items
+    ++ (codes " " ++ (seed_mark outcome.seed ++ (told_by names (string_bytes outcome.schedule) ++ codes "\n"))))))
+
+abbrev pub report : (names : Option (List (List ℕ))) → List (EndState × Outcome) → List ℕ
+report names outcomes = flat_map (outcome_line names) outcomes
 
 -- whether runs that ended in a state ended as they were expected to
 abbrev pub is_as_expected : List (Vec ℕ) → EndState × Outcome → Bool
@@ -85,6 +99,6 @@ is_as_expected expected outcome = are_met outcome.0.text.items expected
 abbrev pub are_as_expected : List (Vec ℕ) → List (EndState × Outcome) → Bool
 are_as_expected expected outcomes = list_all (is_as_expected expected) outcomes
 
--- what the command comes to by it
+-- the command's result
 abbrev pub done_by : List (Vec ℕ) → List (EndState × Outcome) → Done
 done_by expected outcomes = if are_as_expected expected outcomes then done.AsAsked else done.Unlike

@@ -5,7 +5,7 @@ use Rattle.pictures.specs.Page.{IsPageOf}
 use Rattle.pictures.specs.declared.others.OtherRuns.{OtherRuns}
 use Rattle.workbench.specs.ProgramFile.{is_image_file}
 
--- what a page tells of a program as it was written: its text, nothing of an image
+-- the source that a page shows: the program's text, or nothing for an image
 abbrev pub source_of : List ℕ → List ℕ
 source_of program = if is_image_file program then [] else program
 

@@ -13,8 +13,8 @@ use Rattle.workbench.specs.declared.fault.PictureKind.{PictureKind}
 abbrev pub IsLoadable : Image → Type 0
 IsLoadable image = (fault : LoadFault) → IsRefused fault image → ⊥
 
--- why a program and a schedule have no picture of a kind, by the fault that is told: the program isn't loaded; or it is, and the
--- schedule has this fault, or more choices than such a picture shows
+-- why a program and a schedule have no picture of a kind, by the fault that is reported: the program can't be loaded; or it
+-- can, and the schedule has this fault, or more choices than such a picture shows
 abbrev pub HaveNoPicture : PictureKind → Fault → Image → (schedule : List ℕ) → Type 0
 HaveNoPicture kind (fault.Load f) image schedule = IsRefused f image
 HaveNoPicture kind (fault.Schedule f) image schedule = IsLoadable image × ((finished_schedule schedule).fault ≡ Some f)

@@ -7,7 +7,7 @@ use Rattle.workbench.specs.declared.fault.Fault.{Fault}
 use Rattle.workbench.specs.declared.fault.Fault.TheVariants as fault
 use Rattle.workbench.specs.declared.fault.PictureKind.{PictureKind}
 
--- where a schedule has no picture of this kind, and where a program isn't loaded
+-- if a schedule has no picture of this kind, and if a program can't be loaded
 abbrev pub fault_of : PageFault → PictureKind → Fault
 fault_of (page.Load f) kind = fault.Load f
 fault_of (page.Schedule f) kind = fault.Schedule f

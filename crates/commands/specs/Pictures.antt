@@ -9,7 +9,7 @@ use Rattle.workbench.specs.Input.{GivesAll}
 use Rattle.workbench.specs.ProgramFile.{is_image_file}
 use Rattle.workbench.specs.RunLine.{program_part, schedule_part}
 
--- a file that holds a program and its schedule: an image has none, a text has it behind its line `.run`
+-- a file that has a program and its schedule: an image has none, and a text has it after its line `.run`
 abbrev pub program_of : List ℕ → List ℕ
 program_of file = if is_image_file file then file else program_part file
 

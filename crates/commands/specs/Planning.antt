@@ -1,5 +1,5 @@
--- What `plan` makes of a program and a plan.
-use Rattle.std.specs.Prelude.{◌≡◌, ℕ, Bool, List, [], length, map, unwrap_or, Option, None, Ok, Err}
+-- What `plan` does with a program and a plan.
+use Rattle.std.specs.Prelude.{◌≡◌, ℕ, Bool, List, [], length, map, unwrap_or, Option, None, Some, Ok, Err}
 use Rattle.std.specs.Io.KnownBytes.{Appends}
 use Rattle.std.specs.List.{range_with_len}
 use Rattle.assembler.specs.Symbols.{SymbolTable, name_of}
@@ -20,10 +20,12 @@ use Rattle.workbench.specs.declared.fault.Fault.{Fault}
 use Rattle.workbench.specs.declared.fault.Fault.TheVariants as fault
 use Rattle.workbench.specs.declared.program.Program.{Program}
 use Rattle.commands.specs.Choices.{schedule_line}
+use Rattle.commands.specs.Named.{line_by}
 use Rattle.commands.specs.declared.unplanned.Unplanned.{Unplanned}
 use Rattle.commands.specs.declared.unplanned.Unplanned.TheVariants as why
 
--- the threads' names, in order of number; one without a name, as an image's, has an empty one, which no word of a plan spells
+-- the threads' names, in order of number; a thread without a name, as in an image, has an empty one, which no word of a plan
+-- spells
 abbrev pub thread_name : SymbolTable → ℕ → List ℕ
 thread_name symbols thread = unwrap_or (name_of Thread thread symbols) []
 
@@ -44,13 +46,20 @@ ComesOfPlan program plan progress =
     (loaded : Loaded) × ((names : List (List ℕ)) × (HasThreads program.image program.names names
     × IsProgramOf program.image loaded × Plays loaded names plan progress))
 
--- what is written is the schedule of the choices that were made, as one line, and it is told whether the plan wanted one more
+-- what is written is the schedule of the choices that were made, as one line, and the result says whether the plan needed one
+-- more
 abbrev pub Writes : List ℕ → Bool → Progress → Type 0
 Writes text stopped progress =
     (runs : List Run) × (AreRuns runs × (choices_of runs ≡ progress.choices) × (text ≡ schedule_line runs)
     × (stopped ≡ progress.stopped))
 
--- why a program isn't loaded, by the fault that is told
+-- the same with the names of the threads
+abbrev pub WritesNamed : List (List ℕ) → List ℕ → Bool → Progress → Type 0
+WritesNamed names text stopped progress =
+    (runs : List Run) × (AreRuns runs × (choices_of runs ≡ progress.choices) × (text ≡ line_by (Some names) runs)
+    × (stopped ≡ progress.stopped))
+
+-- why a program can't be loaded, by the fault that is reported
 abbrev pub IsUnloadedFor : Fault → Image → Type 0
 IsUnloadedFor (fault.Load f) image = IsRefused f image
 IsUnloadedFor f image = ⊥
@@ -66,3 +75,9 @@ abbrev pub HasPlanned : (stopped : Bool) → Program → (plan : List ℕ) → (
 HasPlanned stopped program plan output_before output_after =
     (text : List ℕ) × ((progress : Progress) × (ComesOfPlan program plan progress × Writes text stopped progress
     × Appends output_before output_after text))
+
+-- it was written with the names of the threads
+abbrev pub HasNamedPlanned : (stopped : Bool) → Program → (plan : List ℕ) → (output_before output_after : Option (List ℕ)) → Type 0
+HasNamedPlanned stopped program plan output_before output_after =
+    (names : List (List ℕ)) × ((text : List ℕ) × ((progress : Progress) × (HasThreads program.image program.names names
+    × ComesOfPlan program plan progress × WritesNamed names text stopped progress × Appends output_before output_after text)))

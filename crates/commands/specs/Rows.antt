@@ -29,7 +29,7 @@ trimmed line =
 abbrev pub line_at : List (List ℕ) → ℕ → List ℕ
 line_at texts number = slice_index_or texts (number - 1) []
 
--- what is told of the row of this number, which stands in the line of that number
+-- what is reported about the row of this number, which is in the line of that number
 abbrev pub text_row_words : List (List ℕ) → (row number : ℕ) → List (List ℕ)
 text_row_words texts row number = decimal row ∷ decimal number ∷ trimmed (line_at texts number) ∷ []
 

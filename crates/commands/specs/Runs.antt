@@ -1,4 +1,4 @@
--- What several live runs of a program's file are told as.
+-- How several live runs of a program's file are reported.
 use Rattle.std.specs.Prelude.{◌≡◌, ℕ, All, Bool, IsTrue, List, length, Option, None, Result, Ok, Err}
 use Rattle.std.specs.Io.KnownBytes.{Appends}
 use Rattle.row_code.specs.declared.image.Image.{Image}
@@ -13,7 +13,7 @@ use Rattle.commands.specs.declared.end_state.EndState.{EndState}
 use Rattle.commands.specs.declared.outcomes.Outcome.{Outcome}
 use Rattle.commands.specs.Outcomes.{AreOutcomes, Ended, IsEndedFrom, IsMostFrequentFirst, report, done_by}
 
--- so many runs from this world came to these outcomes
+-- so many runs from this world had these outcomes
 abbrev pub AreOutcomesFrom : World → Asked → List (EndState × Outcome) → Type 0
 AreOutcomesFrom first asked outcomes =
     (runs : List Ended) × ((length runs ≡ asked.runs) × All (IsEndedFrom first) runs × AreOutcomes runs outcomes)
@@ -24,7 +24,7 @@ HasReported image asked done output_before output_after =
     (first : World) × ((outcomes : List (EndState × Outcome))
     × ((first_fault image ≡ None) × IsFirstOf image asked.limit first × AreOutcomesFrom first asked outcomes
     × IsMostFrequentFirst outcomes × (done ≡ done_by asked.expected.now outcomes)
-    × Appends output_before output_after (report outcomes)))
+    × Appends output_before output_after (report None outcomes)))
 
 -- why no report was written: the output failed; or there was no memory, or no thread could be started, or the program isn't loaded,
 -- and nothing was

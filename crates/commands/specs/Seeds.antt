@@ -1,6 +1,8 @@
--- What the orders of several seeds come to.
-use Rattle.std.specs.Prelude.{◌≡◌, ℕ, ◌+◌, List, [], ◌∷◌, ◌++◌, codes, decimal, length, Option}
+-- What the orders of several seeds lead to.
+use Rattle.std.specs.Prelude.{◌≡◌, ℕ, ◌+◌, Bool, if◌then◌else◌, not, List, [], ◌∷◌, ◌++◌, codes, decimal, length, Option, Some, None}
+use Rattle.std.specs.Global.{Vec}
 use Rattle.std.specs.Io.KnownBytes.{Appends}
+use Rattle.std.specs.List.{find}
 use Rattle.plans.specs.Planned.{AreRuns}
 use Rattle.plans.specs.Progress.{Progress}
 use Rattle.schedule_reader.specs.Schedule.{choices_of}
@@ -8,6 +10,7 @@ use Rattle.schedule_reader.specs.Text.{schedule_text}
 use Rattle.schedule_reader.specs.declared.run.Run.{Run}
 use Rattle.thread_machine.specs.Standing.{standing_of}
 use Rattle.thread_runner.specs.Endings.{standing_at}
+use Rattle.trace_text.specs.Expectation.{are_met}
 use Rattle.commands.specs.Ends.{end_text}
 use Rattle.commands.specs.Outcomes.{AreOutcomes, Ended, IsMostFrequentFirst, report}
 use Rattle.commands.specs.Planning.{HasThreads, Plays}
@@ -17,31 +20,58 @@ use Rattle.loader.specs.Program.{Program as Loaded}
 use Rattle.commands.specs.declared.end_state.EndState.{EndState}
 use Rattle.commands.specs.declared.outcomes.Outcome.{Outcome}
 use Rattle.commands.specs.declared.seeds.Seeds.{Seeds}
+use Rattle.commands.specs.declared.seeds.Unlike.{Unlike}
 
--- the plan of a seed: this plan, and then anybody who can go on, in the order of the seed
-abbrev pub plan_by : List ℕ → ℕ → List ℕ
-plan_by plan seed = plan ++ (codes "\n?" ++ decimal seed)
+-- how many choices an order has at most, as plans say it, where it is said
+abbrev pub limit_mark : Option ℕ → List ℕ
+limit_mark None = []
+limit_mark (Some most) = codes "*" ++ decimal most
 
--- a run is what the plan of a seed comes to: the schedule of its choices, and how the program stands behind them
-abbrev pub IsEndBy : Loaded → (names : List (List ℕ)) → (plan : List ℕ) → (seed : ℕ) → Ended → Type 0
-IsEndBy program names plan seed run =
-    (progress : Progress) × ((runs : List Run) × (Plays program names (plan_by plan seed) progress × AreRuns runs
-    × (choices_of runs ≡ progress.choices) × (run.schedule ≡ schedule_text runs)
+-- the plan of a seed: this plan, and then anybody who can go on, in the order of the seed, up to the limit
+abbrev pub plan_by : List ℕ → (limit : Option ℕ) → (seed : ℕ) → List ℕ
+plan_by plan limit seed = plan ++ (codes "\n?" ++ (decimal seed ++ limit_mark limit))
+
+-- a run is what the plan of a seed leads to: the schedule of its choices, and the word for the program after them
+abbrev pub IsEndBy : Loaded → (names : List (List ℕ)) → (plan : List ℕ) → (limit : Option ℕ) → (seed : ℕ) → Ended → Type 0
+IsEndBy program names plan limit seed run =
+    (progress : Progress) × ((runs : List Run) × (Plays program names (plan_by plan limit seed) progress × AreRuns runs
+    × (choices_of runs ≡ progress.choices) × (run.seed ≡ Some seed) × (run.schedule ≡ schedule_text runs)
     × (standing_at run.ending ≡ standing_of progress.world) × (run.state ≡ end_text run.ending progress.world)))
 
 -- one for each seed, from this one on
-abbrev pub AreEndsBy : Loaded → (names : List (List ℕ)) → (plan : List ℕ) → (first : ℕ) → List Ended → Type 0
-AreEndsBy program names plan first [] = Unit {0}
-AreEndsBy program names plan first (run ∷ runs) = IsEndBy program names plan first run × AreEndsBy program names plan (first + 1) runs
+abbrev pub AreEndsBy : Loaded → (names : List (List ℕ)) → (plan : List ℕ) → (limit : Option ℕ) → (first : ℕ) → List Ended → Type 0
+AreEndsBy program names plan limit first [] = Unit {0}
+AreEndsBy program names plan limit first (run ∷ runs) =
+    IsEndBy program names plan limit first run × AreEndsBy program names plan limit (first + 1) runs
 
--- what the orders of these seeds came to
-abbrev pub AreOutcomesBy : Loaded → (names : List (List ℕ)) → (plan : List ℕ) → Seeds → List (EndState × Outcome) → Type 0
-AreOutcomesBy program names plan seeds outcomes =
-    (runs : List Ended) × ((length runs ≡ seeds.count) × AreEndsBy program names plan seeds.first runs × AreOutcomes runs outcomes)
+-- whether a run ended otherwise than all of these texts expect
+abbrev pub is_unlike : List (Vec ℕ) → Ended → Bool
+is_unlike expected run = not (are_met run.state expected)
 
--- they were written, the most frequent first
-abbrev pub HasReportedSeeds : Program → (plan : List ℕ) → Seeds → (output_before output_after : Option (List ℕ)) → Type 0
-HasReportedSeeds program plan seeds output_before output_after =
+-- what is told of such a run: its seed, and how and in which state it ended
+abbrev pub IsUnlike : Option Ended → Option Unlike → Type 0
+IsUnlike None None = Unit {0}
+IsUnlike None (Some unlike) = ⊥
+IsUnlike (Some run) None = ⊥
+IsUnlike (Some run) (Some unlike) = (run.seed ≡ Some unlike.seed) × (unlike.ending ≡ run.ending) × (unlike.state.items ≡ run.state)
+
+-- the first of some runs that ended otherwise
+abbrev pub IsFirstUnlike : List (Vec ℕ) → List Ended → Option Unlike → Type 0
+IsFirstUnlike expected runs unlike = IsUnlike (find (is_unlike expected) runs) unlike
+
+-- what the orders of these seeds came to, and the first that ended otherwise than expected
+abbrev pub AreOutcomesBy : Loaded → (names : List (List ℕ)) → (plan : List ℕ) → Seeds → List (EndState × Outcome) → Option Unlike → Type 0
+AreOutcomesBy program names plan seeds outcomes unlike =
+    (runs : List Ended) × ((length runs ≡ seeds.count) × AreEndsBy program names plan seeds.limit seeds.first runs
+    × AreOutcomes runs outcomes × IsFirstUnlike seeds.expected.now runs unlike)
+
+-- by which names the schedules are told, none where they have numbers
+abbrev pub names_told : (has_names : Bool) → List (List ℕ) → Option (List (List ℕ))
+names_told has_names names = if has_names then Some names else None
+
+-- they were written, the most frequent first, and the first that ended otherwise is answered
+abbrev pub HasReportedSeeds : Program → (plan : List ℕ) → Seeds → Option Unlike → (output_before output_after : Option (List ℕ)) → Type 0
+HasReportedSeeds program plan seeds unlike output_before output_after =
     (loaded : Loaded) × ((names : List (List ℕ)) × ((outcomes : List (EndState × Outcome))
-    × (HasThreads program.image program.names names × IsProgramOf program.image loaded × AreOutcomesBy loaded names plan seeds outcomes
-    × IsMostFrequentFirst outcomes × Appends output_before output_after (report outcomes))))
+    × (HasThreads program.image program.names names × IsProgramOf program.image loaded × AreOutcomesBy loaded names plan seeds outcomes unlike
+    × IsMostFrequentFirst outcomes × Appends output_before output_after (report (names_told seeds.has_names names) outcomes))))

@@ -1,4 +1,4 @@
--- What a comparison that shows the lines writes, by its answer.
+-- What a comparison that shows the lines writes, by its result.
 use Rattle.std.specs.Prelude.{◌≡◌, ℕ, Bool, List, [], ◌++◌, Option, Some, None, Result, Ok, Err, codes}
 use Rattle.std.specs.Io.KnownBytes.{Appends}
 use Rattle.row_code.specs.declared.image.Image.{Image}
@@ -8,20 +8,20 @@ use Rattle.trace_compare.specs.declared.comparison.Verdict.TheVariants as verdic
 use Rattle.workbench.specs.declared.fault.Fault.{Fault}
 use Rattle.workbench.specs.Compare.{StopsComparing, verdict_line}
 
--- a word and a line, or the word alone
+-- a word and a line, or only the word
 abbrev pub line_behind : List ℕ → Option (List ℕ) → List ℕ
 line_behind word None = word ++ codes "\n"
 line_behind word (Some line) = word ++ (codes " " ++ (line ++ codes "\n"))
 
--- what stands behind a verdict: nothing where the trace is the run's; where a line differs, that of the trace and that of the run
+-- what follows a verdict: nothing if the trace is the run's; if a line differs, that of the trace and that of the run
 abbrev pub StandsBehind : Verdict → (trace run : Option (List ℕ)) → List ℕ → Type 0
 StandsBehind verdict.Same trace run shown = shown ≡ []
 StandsBehind (verdict.Differs n) trace run shown =
     shown ≡ line_behind (codes "trace") trace ++ line_behind (codes "run") run
 StandsBehind (verdict.NotATrace n) trace run shown = Unit {0}
 
--- the trace was read as far as the verdict needs; the line of the verdict was written, and behind one that a line differs that
--- line of the run; or why not, as `compare` stops
+-- the trace was read as far as the verdict needs; the line of the verdict was written, and after a line that differs, that line
+-- of the run; or why not, as `compare` stops
 abbrev pub ShowsComparison : Image → Result Judgement Fault → (trace_before trace_after : Option (List ℕ)) (trace_failed : Bool)
     (output_before output_after : Option (List ℕ)) (output_failed : Bool) → Type 0
 ShowsComparison image (Ok judged) trace_before trace_after trace_failed output_before output_after output_failed =

@@ -1,4 +1,4 @@
--- How it is told that a plan has no schedule.
+-- How a plan without a schedule is reported.
 use Rattle.std.specs.Prelude.{ℕ, List, ◌++◌, Option, Some, None, codes}
 use Rattle.std.specs.Fmt.{decimal}
 use Rattle.plans.specs.FaultNumber.{plan_number}
@@ -11,7 +11,7 @@ abbrev pub unplanned_status : Unplanned → ℕ
 unplanned_status (why.Plan f) = refusal_status (plan_number f.kind)
 unplanned_status (why.Fault f) = status_of f
 
--- the line for a plan's fault in this line of the plan; missing memory is told as such
+-- the line for a plan's fault in this line of the plan; out of memory has its own
 abbrev pub plan_line : ℕ → Option ℕ → List ℕ
 plan_line line (Some number) =
     codes "refused plan " ++ (decimal line ++ (codes " " ++ (decimal number ++ codes "\n")))

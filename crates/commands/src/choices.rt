@@ -10,11 +10,11 @@ use std::alloc::Global;
 use trace_compare::writing::{WritingFault, write_choices};
 use workbench::fault::{Fault, push_counted_line};
 
-/// Writes the schedule of the trace in `trace` to `output`, as one line: its choices up to its state, choices that repeat
-/// joined, each run when the next one begins. What stands behind the word `state` is not looked at. Answers whether it is a
-/// trace: where it is none, the line of the choices before stands there, if there are some, and behind it `not a trace LINE`,
-/// with the first line that is no line of a trace, as `compare` has it. With `Memory` nothing is read; behind `Read` and
-/// `Write` a part of the schedule may stand.
+/// Writes the schedule of the trace in `trace` to `output`, as one line: its choices up to its state, with repeated choices
+/// joined. Each run is written when the next one begins. It doesn't look at what follows the word `state`. Returns whether it
+/// is a trace. If it isn't, the line has the choices before, if there are some, and after it comes `not a trace LINE`, with the
+/// first wrong line, as for `compare`. With `Memory` nothing is read. After `Read` and `Write` a part of the schedule may be
+/// written.
 pub fn choices<S: Source, K: Sink>(
     alloc: Global,
     trace: &mut S,

@@ -1,5 +1,5 @@
 //! The command that plays a program several times.
-ghost use Rattle.std.specs.Prelude.{◌≡◌, ◌⊎◌, ◌≤◌, Err, IsTrue, IfErr, IfOk, OnOk};
+ghost use Rattle.std.specs.Prelude.{◌≡◌, ◌⊎◌, ◌≤◌, Err, IsTrue, IfErr, IfOk, None, OnOk};
 ghost use Rattle.std.specs.Io.KnownBytes.{Appends};
 ghost use Rattle.workbench.specs.declared.fault.Fault.{Fault};
 ghost use Rattle.thread_machine.specs.World.{first_world};
@@ -23,18 +23,19 @@ use workbench::fault::Fault;
 /// Which runs are asked for.
 #[derive(Clone, Copy)]
 pub struct Asked<'a> {
-    /// How many, 1 to 100,000.
+    /// How many runs, 1 to 100,000.
     pub runs: u32,
-    /// How many steps each takes at most, 1 to 1,000,000,000.
+    /// The most steps of each run, 1 to 1,000,000,000.
     pub limit: u32,
     pub pauses: Pauses,
-    /// What is expected of the state that each ends in: texts as `trace_text` has them.
+    /// What is expected of the state at the end of each run: texts as in `trace_text`.
     pub expected: &'a [Vec<u8>],
 }
 
-/// Plays an image's program on real threads as often as it is asked for, and writes to `output` a line for each state that a run ended in, the most frequent first: how often one did, `all`, `stuck` or `live`, with `+died` where a
-/// thread died, and the schedule of the first that did. Nothing is written before all runs are over. The threads of each run pass `gate` behind their
-/// pauses, as in `workbench::live::live`.
+/// Plays an image's program on real threads as often as asked. Writes to `output` a line for each state that a run ended in,
+/// the most frequent first: how often one did, `all`, `stuck` or `live`, with `+died` if a thread died, and the schedule of the
+/// first run that did. Nothing is written before all runs are over. The threads of each run pass `gate` after their pauses, as
+/// in `workbench::live::live`.
 pub fn report_runs<R: Threads + Wait + Sync, G: Gate + Sync, K: Sink>(
     rt: &R,
     alloc: Global,
@@ -98,12 +99,12 @@ fn push_report<K: Sink>(
     output: &mut K,
 ) -> Result<Done, Fault>
     ensures by { IfOk result (λ done. done ≡ done_by expected.now outcomes.now.entries) }
-    ensures report { OnOk result (Appends (K.written output.old) (K.written output.new) (report outcomes.now.entries)) }
+    ensures report { OnOk result (Appends (K.written output.old) (K.written output.new) (report None outcomes.now.entries)) }
     ensures fault { IfErr result (λ fault. (fault ≡ Fault.Memory) ⊎ (fault ≡ Fault.Write)) }
     ensures unchanged { result ≡ Err Fault.Memory → K.written output.new ≡ K.written output.old }
     ensures write { result ≡ Err Fault.Write → IsTrue (K.has_failed output.new) }
 {
-    let Ok(text) = report(alloc, outcomes) else {
+    let Ok(text) = report(alloc, None, outcomes) else {
         return Err(Fault::Memory);
     };
     match output.push(text.as_slice()) {

@@ -13,9 +13,9 @@ use trace_compare::{CompareFault, Judged, Verdict, judge};
 use workbench::compare::push_verdict;
 use workbench::fault::Fault;
 
-/// Compares as `compare_cmd` does, and shows the lines behind a verdict that isn't `same`: behind `differs LINE` the lines `trace
-/// ..` and `run ..`, where a word stands alone if there is no such line; behind `not a trace LINE` the line `trace ..`, and what
-/// a line has to be. Faults and the first line are those of `compare_cmd`. Nothing is written before the lines are known.
+/// Compares like `compare_cmd`, and shows the lines after a verdict other than `same`. After `differs LINE` these are `trace
+/// ..` and `run ..`, with only the word if there is no such line. After `not a trace LINE` it is `trace ..`, and what a line
+/// has to be. Faults and the first line are those of `compare_cmd`. Nothing is written before the lines are known.
 pub fn show_comparison<S: Source, K: Sink>(
     alloc: Global,
     image: Image,

@@ -16,7 +16,7 @@ use trace_text::start::first_machine;
 use workbench::Program;
 use workbench::fault::{Fault, PictureKind};
 
-/// A drawing whose lines have at most `width` columns: a thread a column, a line for each choice.
+/// A drawing whose lines have at most `width` columns: a column for each thread, and a line for each choice.
 #[derive(Clone, Copy)]
 pub struct Drawing {
     pub width: u16,

@@ -12,7 +12,7 @@ use thread_machine::Machine;
 use thread_runner::Ending;
 use trace_text::state::state_text;
 
-/// The state that a run ended in, by its text without the counts of choices and steps.
+/// The state that a run ended in: its text without the counts of choices and steps.
 #[derive(Drop)]
 pub struct EndState {
     pub text: Vec<u8>,
@@ -42,7 +42,7 @@ impl Hash for EndState {
     }
 }
 
-/// The word of a state that a run ended in so.
+/// Returns the word for the state of a run that ended so.
 pub fn word_of(ending: Ending) -> &'static [u8]
     ensures { result.now ≡ ending_word ending }
 {
@@ -69,7 +69,7 @@ fn text_with(alloc: Global, word: &[u8], state: &[u8]) -> Result<Vec<u8>, AllocE
 }
 
 impl EndState {
-    /// The state of a machine whose run ended so.
+    /// Returns the state of a machine whose run ended so.
     pub fn of(alloc: Global, ending: Ending, machine: &Machine) -> Result<EndState, AllocError>
         ensures { IfOk result (λ end. end.text.items ≡ end_text ending (world_of machine.now)) }
     {

@@ -2,14 +2,15 @@
 //!
 //! Before a line is waited for, it is told who may go on and at which row, by the names of the program, which a line may have in
 //! place of numbers. A line may be words of a plan, too, and an empty one is the command before it once more. Two words are
-//! answered here and not handed on: `help`, and `w`, which writes the choices that were played as a schedule.
+//! answered here and not handed on: `help`, and `w`, which writes the choices that were played as a plan.
 
-ghost use Rattle.std.specs.Prelude.{◌≡◌, ◌⊎◌, IfErr, IfOk, IfSome, None};
+ghost use Rattle.std.specs.Prelude.{◌≡◌, ◌≤◌, ◌⊎◌, IfErr, IfOk, IfSome, None, length};
 ghost use Rattle.plans.specs.Planned.{AreRuns};
 ghost use Rattle.workbench.specs.declared.fault.Fault.{Fault};
 ghost use Rattle.workbench.specs.Debug.{HasNoEnd};
 
 use crate::may_go::push_may_go;
+use crate::named::named_text;
 use crate::plan::thread_names;
 use crate::spoken::{in_numbers, near_word};
 use assembler::Symbols;
@@ -20,8 +21,6 @@ use plans::read_plan;
 use schedule_reader::{Run, write_schedule};
 use std::alloc::{AllocError, Global};
 use std::mem::replace;
-use trace_compare::writing::push_token;
-use trace_text::LineEnd;
 use workbench::companion::Companion;
 use workbench::fault::Fault;
 
@@ -38,7 +37,7 @@ const HELP: &[u8] = b"  s tN      one choice: thread N's turn; `s xN`: its timed
   b         one choice back
   k ROW     set a breakpoint at a row; `c ROW` clears it
   p         the state
-  w         the choices so far, as a schedule
+  w         the choices so far, as a plan
   q         end the session
   PLAN      words of a plan: `bob.`, `..`, `?7`, `(ann bob)*3`
   Enter     repeat the last command
@@ -50,21 +49,6 @@ const NO_COMMAND: &[u8] = b"  not a command, or no such thread or row: `help` li
 /// Tells something beside the session. Where it can't be told the session goes on.
 fn note(told: Result<(), Failed>) {
     let _ = told;
-}
-
-/// Writes runs as a schedule, in a line.
-fn write_line<K: Sink>(output: &mut K, runs: &[Run]) -> Result<(), Failed> {
-    let mut left = runs.len();
-    if left == 0 {
-        return output.push(b"\n");
-    }
-    let mut line = LineEnd::new();
-    for run in runs {
-        left = left.saturating_sub(1);
-        let behind = if left == 0 { b'\n' } else { b' ' };
-        push_token(output, &mut line, *run, behind)?;
-    }
-    Ok(())
 }
 
 /// Whether a command is answered with `?`.
@@ -103,7 +87,7 @@ fn put_line(line: &mut Vec<u8>, text: &[u8]) -> Result<(), AllocError>
     Ok(())
 }
 
-/// A person, who gives a session its lines.
+/// A person, the source of a session's lines.
 #[derive(Drop)]
 struct Person<'a, S, K, E> {
     source: S,
@@ -113,13 +97,13 @@ struct Person<'a, S, K, E> {
     symbols: Symbols<'a>,
     /// How many bytes may still be read.
     reads: u64,
-    /// What was said.
+    /// What was typed.
     said: Vec<u8>,
     /// It, or the last that wasn't nothing, as the debugger reads it.
     line: Vec<u8>,
-    /// What it asks for, while it isn't known what that came to.
+    /// What it asks for, until its effect is known.
     command: Command,
-    /// How many choices the machine had made before it.
+    /// How many choices the machine had played before it.
     choices: u64,
     played: Played,
 }
@@ -144,15 +128,30 @@ impl<'a, S: Source + Drop, K: Sink + Drop, E: Sink + Drop> Person<'a, S, K, E> {
         Ok(())
     }
 
+    /// The names of the program's threads, in order of number.
+    #[tactic(auto, using(crate::proofs::PlanParts::few_names))]
+    fn names(&self, debugger: &Debugger) -> Result<Vec<&'a [u8]>, AllocError>
+        ensures { IfOk result (λ names. length names.items ≤ 64) }
+    {
+        let count = debugger.machine().thread_count();
+        thread_names(self.alloc, &self.symbols, count.min(MOST_THREADS))
+    }
+
+    /// Writes the choices that were played, by the names of the threads, in a line.
+    fn write_played(&mut self, debugger: &Debugger) -> Result<(), AllocError> {
+        let names = self.names(debugger)?;
+        let mut line = named_text(self.alloc, names.as_slice(), self.played.runs())?;
+        line.push(b'\n')?;
+        note(self.output.push(line.as_slice()));
+        Ok(())
+    }
+
     /// The choices that a plan makes from where the session stands, where the line is a plan.
     fn planned(&self, debugger: &Debugger) -> Result<Option<Vec<Run>>, AllocError>
         ensures { IfOk result (λ planned. IfSome planned (λ runs. AreRuns runs.items)) }
     {
         let machine = debugger.machine();
-        let names = thread_names(self.alloc, &self.symbols, machine.thread_count())?;
-        if names.len() > MOST_THREADS {
-            return Ok(None);
-        }
+        let names = self.names(debugger)?;
         let Ok(words) = read_plan(self.alloc, self.said.as_slice(), names.as_slice()) else {
             return Ok(None);
         };
@@ -200,7 +199,7 @@ impl<'a, S: Source + Drop, K: Sink + Drop, E: Sink + Drop> Person<'a, S, K, E> {
             }
             match self.line.as_slice().trim_ascii() {
                 b"help" | b"?" => note(self.notes.push(HELP)),
-                b"w" => note(write_line(&mut self.output, self.played.runs())),
+                b"w" => self.write_played(debugger).map_err(|_| Fault::Memory)?,
                 _ => {
                     self.understand(debugger).map_err(|_| Fault::Memory)?;
                     return Ok(is_ended);
@@ -211,7 +210,7 @@ impl<'a, S: Source + Drop, K: Sink + Drop, E: Sink + Drop> Person<'a, S, K, E> {
     }
 }
 
-/// The lines of a person: the debugger's are handed on, and the others answered.
+/// The lines of a person: those of the debugger are passed on, and the others are answered.
 #[derive(Drop)]
 pub struct GuidedCommands<'a, S, K, E> {
     person: Person<'a, S, K, E>,
@@ -219,8 +218,8 @@ pub struct GuidedCommands<'a, S, K, E> {
 }
 
 impl<'a, S: Source + Drop, K: Sink + Drop, E: Sink + Drop> GuidedCommands<'a, S, K, E> {
-    /// Over a source of lines, which are about a program with these names behind runs of choices, if there are some. `output` gets schedules, `notes`
-    /// what stands beside the answers.
+    /// Makes a person from a source of lines, for a program with these names, after runs of choices, if there are some.
+    /// `output` gets schedules, and `notes` what is shown besides the replies.
     pub fn new(
         alloc: Global,
         symbols: Symbols<'a>,

@@ -6,7 +6,7 @@ ghost use Rattle.line_reader.specs.Words.{lines_of};
 ghost use Rattle.schedule_reader.specs.Schedule.{finished_schedule};
 ghost use Rattle.commands.specs.Rows.{AreSaid, IsRowListing, row_lines};
 
-/// What is told of a row is the line that says it: the numbers of the lines are one for each row of the image, and the line
+/// What is reported about a row is the line that says it: there is one number of a line for each row of the image, and the line
 /// there says this row.
 pub fn a_row_is_told_with_the_line_that_says_it()
     ensures { (text : List ℕ) (lines : List (Line Name)) → SayInOrder 1 (lines_of text) lines
@@ -18,7 +18,7 @@ pub fn a_file_has_one_listing()
     ensures { (file a b : List ℕ) → IsRowListing file a → IsRowListing file b → a ≡ b }
 {}
 
-/// An LF behind a schedule makes no other schedule of it, so what is written as a line is read as what it was.
+/// An LF after a schedule doesn't change it, so what is written as a line is read as the same schedule.
 pub fn a_line_of_a_schedule_is_the_schedule()
     ensures { (text : List ℕ) → finished_schedule (text ++ 10 ∷ []) ≡ finished_schedule text }
 {}

@@ -4,13 +4,15 @@
 //! `show` and `draw` are `make`: a picture is made in memory, and then written at once. `show_comparison` adds to the verdict of
 //! `compare_cmd` the lines that differ. `GuidedCommands` is the person from whom `debug` takes lines.
 //! `report_runs` plays a program on real threads as often as asked, and writes a line for each state that a run ended in. With
-//! `Pauses` the workers pause, so that orders come about that are rare otherwise.
+//! `Pauses` the workers pause, so that orders come about that are rare otherwise. `report_seeds` writes such lines for the orders
+//! of seeds, and reports the end of each to an `Observer`.
 #![tactic(auto)]
 
 // Schedules of traces and plans, lines that differ, and rows.
 pub mod choices;
 pub mod difference;
 mod image_rows;
+mod named;
 pub mod plan;
 pub mod rows;
 mod shown;
@@ -33,6 +35,7 @@ mod spoken;
 pub mod command;
 pub mod end_state;
 mod law;
+pub mod observer;
 pub mod outcomes;
 mod report;
 mod runs;

@@ -1,4 +1,4 @@
-//! Who may go on, told to a person.
+//! Shows a person which threads can go on.
 
 ghost use Rattle.std.specs.Prelude.{◌<◌, length};
 
@@ -84,7 +84,7 @@ fn may_go(alloc: Global, symbols: &Symbols<'_>, machine: &Machine) -> Result<Vec
     Ok(text)
 }
 
-/// Tells who may go on, nothing where there is no memory for it.
+/// Writes which threads can go on, or nothing if it is out of memory.
 pub fn push_may_go<E: Sink>(
     alloc: Global,
     notes: &mut E,

@@ -1,4 +1,4 @@
-//! The states that runs ended in, each with how often one did.
+//! The states that runs ended in, each with how often.
 ghost use Rattle.std.specs.Prelude.{◌≡◌, ◌<◌, ◌++◌, ◌∷◌, [], List, IfOk, IfSome, OnOk, nat_lt};
 ghost use Rattle.std.specs.Ordering.{is_lt};
 ghost use Rattle.std.specs.String.{string_bytes};
@@ -11,29 +11,32 @@ use std::alloc::AllocError;
 use std::cmp::Ordering;
 use thread_runner::Ending;
 
-/// What is told of the runs that ended in one state.
+/// What is reported about the runs that ended in one state.
 #[derive(Drop)]
 pub struct Outcome {
-    /// How many runs did.
+    /// How many runs ended so.
     pub times: u32,
     pub ending: Ending,
+    /// The seed of the first, if its order has one.
+    pub seed: Option<u64>,
     /// The schedule of the first.
     pub schedule: String,
 }
 
-/// The states that runs ended in, and what is told of each.
+/// The states that runs ended in, and what is reported about each.
 pub type Outcomes = IndexMap<EndState, Outcome>;
 
-/// One run more, which ended in this state.
+/// One run more, which ended in this state; with a seed, if its order has one.
 pub fn add(
     outcomes: &mut Outcomes,
     state: EndState,
     ending: Ending,
+    seed: Option<u64>,
     schedule: String,
 ) -> Result<(), AllocError>
     requires { (other : EndState) → IfSome (get is_state outcomes.old other) (λ outcome. outcome.times < 4294967295) }
     ensures { (runs : List Ended) → AreOutcomes runs outcomes.old.entries → OnOk result
-        (AreOutcomes (runs ++ (record { schedule = string_bytes schedule; ending = ending; state = state.text.items } ∷ []))
+        (AreOutcomes (runs ++ (record { seed = seed; schedule = string_bytes schedule; ending = ending; state = state.text.items } ∷ []))
         outcomes.new.entries) }
 {
     if let Some(outcome) = outcomes.get_mut(&state) {
@@ -45,6 +48,7 @@ pub fn add(
         Outcome {
             times: 1,
             ending,
+            seed,
             schedule,
         },
     )?;

@@ -16,7 +16,7 @@ use std::alloc::Global;
 use workbench::Program;
 use workbench::fault::{Fault, PictureKind};
 
-/// A page that a browser shows: the program, its text, the run and, where they are asked for, the runs that other choices lead to.
+/// A page for a browser: the program, its text, the run, and if asked for the runs that other choices lead to.
 #[derive(Clone, Copy)]
 pub struct Page {
     pub others: OtherRuns,

@@ -1,4 +1,4 @@
-//! What a picture of a run may be made as.
+//! What a picture of a run can be made as.
 ghost use Rattle.std.specs.Prelude.{◌≡◌, ◌≢◌, ◌≤◌, ℕ, List, Err, IfErr, IfOk, length};
 ghost use Rattle.commands.specs.Picture.{HaveNoPicture};
 ghost use Rattle.workbench.specs.declared.fault.PictureKind.{PictureKind};

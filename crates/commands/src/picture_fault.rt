@@ -1,4 +1,4 @@
-//! Why there is no picture of a run, in the words of the commands.
+//! Why there is no picture of a run, as a command's fault.
 ghost use Rattle.std.specs.Prelude.{◌≡◌};
 ghost use Rattle.commands.specs.PictureFault.{fault_of, start_fault};
 

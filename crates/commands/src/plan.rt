@@ -1,8 +1,8 @@
 //! The schedule of a plan.
-ghost use Rattle.std.specs.Prelude.{◌≡◌, ◌≢◌, ◌⊎◌, ◌≤◌, Err, IfErr, IfOk, IsTrue, Ok, length, map};
+ghost use Rattle.std.specs.Prelude.{◌≡◌, ◌≢◌, ◌⊎◌, ◌≤◌, Err, IfErr, IfOk, IfSome, IsTrue, Ok, length, map};
 ghost use Rattle.std.specs.Io.KnownBytes.{Appends};
-ghost use Rattle.commands.specs.Choices.{schedule_line};
-ghost use Rattle.commands.specs.Planning.{ComesOfPlan, HasNoSchedule, HasPlanned, HasThreads, IsUnloadedFor, Plays, thread_name, thread_names};
+ghost use Rattle.commands.specs.Named.{line_by, names_seen};
+ghost use Rattle.commands.specs.Planning.{ComesOfPlan, HasNamedPlanned, HasNoSchedule, HasPlanned, HasThreads, IsUnloadedFor, Plays, thread_name, thread_names};
 ghost use Rattle.commands.specs.Unplanned.{unplanned_status};
 ghost use Rattle.commands.specs.declared.unplanned.Unplanned.TheVariants as why;
 ghost use Rattle.line_reader.specs.Seen.{name_seen};
@@ -15,6 +15,7 @@ ghost use Rattle.plans.specs.Progress.{Progress};
 ghost use Rattle.workbench.specs.Fault.{status_of};
 ghost use Rattle.workbench.specs.declared.fault.Fault.{Fault};
 
+use crate::named::text_by;
 use crate::unplanned::Unplanned;
 use assembler::Symbols;
 use byte_ports::Sink;
@@ -26,7 +27,6 @@ use plans::planned::Planned;
 use plans::read_plan;
 use plans::words::Words;
 use row_code::Image;
-use schedule_reader::write_schedule;
 use std::alloc::{AllocError, Global};
 use workbench::Program;
 use workbench::fault::Fault;
@@ -41,7 +41,7 @@ fn thread_name<'a>(symbols: &Symbols<'a>, thread: u32) -> &'a [u8]
     }
 }
 
-/// The names of so many threads.
+/// Returns the names of so many threads.
 pub(crate) fn thread_names<'a>(
     alloc: Global,
     symbols: &Symbols<'a>,
@@ -57,7 +57,7 @@ pub(crate) fn thread_names<'a>(
     Ok(names)
 }
 
-/// An image's program, loaded, and the names of its threads by the names of a text.
+/// Loads an image's program, and returns it with the names of its threads.
 pub fn loaded_program<'a>(
     alloc: Global,
     image: Image,
@@ -101,7 +101,7 @@ fn plan_words(alloc: Global, plan: &[u8], names: &[&[u8]]) -> Result<Words, Unpl
     }
 }
 
-/// What a plan comes to on a loaded program whose threads have these names: its runs of choices, and the machine behind them.
+/// Plays a plan on a loaded program whose threads have these names. Returns its runs of choices, and the machine after them.
 pub(crate) fn planned_on(
     alloc: Global,
     program: Loaded,
@@ -126,7 +126,7 @@ pub(crate) fn planned_on(
     }
 }
 
-/// What a plan comes to on a program, which is left as it is: the plan is played on a copy.
+/// Plays a plan on a copy of a program, and returns the result.
 pub fn planned_in(alloc: Global, program: &Program<'_>, plan: &[u8]) -> Result<Planned, Unplanned>
     ensures planned { IfOk result (λ planned. (progress : Progress) × (ComesOfPlan program.now plan.now progress
         × Shows planned progress)) }
@@ -142,27 +142,34 @@ pub fn planned_in(alloc: Global, program: &Program<'_>, plan: &[u8]) -> Result<P
     planned_on(alloc, loaded, names.as_slice(), plan)
 }
 
-/// Writes what a plan came to. Its answer is whether the plan wanted one more choice than there may be.
-fn push_planned<K: Sink>(alloc: Global, planned: &Planned, output: &mut K) -> Result<bool, Fault>
-    requires { AreRuns planned.now.runs.items }
+/// Writes what a plan came to, by the names of the threads if they are given. Its answer is whether the plan wanted one more choice
+/// than there may be.
+fn push_planned<K: Sink>(
+    alloc: Global,
+    planned: &Planned,
+    names: Option<&[&[u8]]>,
+    output: &mut K,
+) -> Result<bool, Fault>
+    requires runs { AreRuns planned.now.runs.items }
+    requires names { IfSome names (λ names. length names.now ≤ 64) }
     ensures stopped { IfOk result (λ stopped. stopped ≡ planned.now.stopped) }
     ensures bytes { IfOk result (λ stopped. Appends (K.written output.old) (K.written output.new)
-        (schedule_line planned.now.runs.items)) }
+        (line_by (names_seen names.entry) planned.now.runs.items)) }
     ensures unwritten { IfErr result (λ fault. fault ≢ Fault.Write → K.written output.new ≡ K.written output.old) }
     ensures fault { IfErr result (λ fault. (fault ≡ Fault.Memory) ⊎ (fault ≡ Fault.Write)) }
     ensures write { result ≡ Err Fault.Write → IsTrue (K.has_failed output.new) }
 {
-    let Ok(text) = write_schedule(alloc, planned.runs.as_slice()) else {
+    let Ok(text) = text_by(alloc, names, planned.runs.as_slice()) else {
         return Err(Fault::Memory);
     };
-    if output.push(text.as_bytes()).is_err() || output.push(b"\n").is_err() {
+    if output.push(text.as_slice()).is_err() || output.push(b"\n").is_err() {
         return Err(Fault::Write);
     }
     Ok(planned.stopped)
 }
 
-/// Writes the schedule that a plan stands for on a program, as one line, which is whole before anything is written. Its answer is
-/// whether the plan wanted one more choice than 1,000,000: then what stands so far is written.
+/// Writes the schedule that a plan stands for on a program, as one line. The line is complete before anything is written.
+/// Returns whether the plan needed more than 1,000,000 choices. Then the choices so far are written.
 pub fn plan<K: Sink>(
     alloc: Global,
     program: Program<'_>,
@@ -181,5 +188,27 @@ pub fn plan<K: Sink>(
         Ok(planned) => planned,
         Err(reason) => return Err(reason),
     };
-    Ok(push_planned(alloc, &planned, output)?)
+    Ok(push_planned(alloc, &planned, None, output)?)
+}
+
+/// Writes it with the names of the threads in place of numbers, so that it is a plan; else as `plan` does.
+pub fn plan_with_names<K: Sink>(
+    alloc: Global,
+    program: Program<'_>,
+    plan: &[u8],
+    output: &mut K,
+) -> Result<bool, Unplanned>
+    ensures done { IfOk result (λ stopped. HasNamedPlanned stopped program.entry plan.now (K.written output.old) (K.written output.new)) }
+    ensures refused { IfErr result (λ reason. unplanned_status reason ≡ 3 → HasNoSchedule reason program.entry plan.now) }
+    ensures unwritten { IfErr result (λ reason. reason ≢ why.Fault Fault.Write
+        → K.written output.new ≡ K.written output.old) }
+    ensures other { (result ≢ Err (why.Fault Fault.Read)) × (result ≢ Err (why.Fault Fault.Spawn)) }
+    ensures write { result ≡ Err (why.Fault Fault.Write) → IsTrue (K.has_failed output.new) }
+{
+    let (loaded, names) = loaded_program(alloc, program.image, &program.names)?;
+    let planned = match planned_on(alloc, loaded, names.as_slice(), plan) {
+        Ok(planned) => planned,
+        Err(reason) => return Err(reason),
+    };
+    Ok(push_planned(alloc, &planned, Some(names.as_slice()), output)?)
 }

@@ -1,15 +1,21 @@
-//! What several runs came to, in lines.
-ghost use Rattle.std.specs.Prelude.{◌≡◌, ◌++◌, IfOk, OnOk};
+//! The results of several runs, as lines.
+ghost use Rattle.std.specs.Prelude.{◌≡◌, ◌≤◌, ◌++◌, IfOk, IfSome, OnOk, length};
+ghost use Rattle.commands.specs.Named.{names_seen, told_by};
 ghost use Rattle.trace_text.specs.Expectation.{are_met};
-ghost use Rattle.commands.specs.Outcomes.{are_as_expected, died_mark, outcome_line, report, done_by};
+ghost use Rattle.commands.specs.Outcomes.{are_as_expected, died_mark, outcome_line, report, done_by, seed_mark};
 
 use crate::end_state::{EndState, word_of};
+use crate::named::named_text;
 use crate::outcomes::{Outcome, Outcomes};
 use itoa::Buffer;
+use schedule_reader::read_schedule;
 use std::alloc::{AllocError, Global};
 use trace_text::meeting::are_met;
 use trace_text::state_line::has_died;
 use workbench::done::Done;
+
+/// How long a schedule is at most: longer than 1,000,000,000 choices are written.
+const LONGEST: usize = 100_000_000_000;
 
 /// What stands behind the word of a state in which a thread has died.
 fn died_mark(state: &EndState) -> &'static [u8]
@@ -22,28 +28,77 @@ fn died_mark(state: &EndState) -> &'static [u8]
     }
 }
 
-/// The line of an outcome.
+/// Adds the seed before a schedule, if there is one, as plans have it.
 #[tactic(auto, using(crate::proofs::Reports::text_steps))]
-fn push_line(text: &mut Vec<u8>, state: &EndState, outcome: &Outcome) -> Result<(), AllocError>
-    ensures { OnOk result (text.new.items ≡ text.old.items ++ outcome_line (state.now, outcome.now)) }
+fn push_seed(text: &mut Vec<u8>, seed: Option<u64>) -> Result<(), AllocError>
+    ensures { OnOk result (text.new.items ≡ text.old.items ++ seed_mark seed) }
+{
+    if let Some(seed) = seed {
+        text.extend_from_slice(b"?")?;
+        text.extend_from_slice(Buffer::new().format(seed).as_bytes())?;
+        text.extend_from_slice(b" ")?;
+    }
+    Ok(())
+}
+
+/// Adds a schedule as it is, or by these names. One that is kept has no fault.
+fn push_schedule(
+    alloc: Global,
+    text: &mut Vec<u8>,
+    names: Option<&[&[u8]]>,
+    schedule: &str,
+) -> Result<(), AllocError>
+    requires { IfSome names (λ names. length names.now ≤ 64) }
+    ensures { OnOk result (text.new.items ≡ text.old.items ++ told_by (names_seen names.entry) schedule.now) }
+{
+    let Some(names) = names else {
+        return text.extend_from_slice(schedule.as_bytes());
+    };
+    if schedule.len() > LONGEST {
+        return Err(AllocError);
+    }
+    match read_schedule(alloc, schedule.as_bytes()) {
+        Ok(runs) => text.extend_from_slice(named_text(alloc, names, runs.as_slice())?.as_slice()),
+        Err(_) => Err(AllocError),
+    }
+}
+
+/// Adds the line of an outcome, whose schedule is told by these names if there are some.
+#[tactic(auto, using(crate::proofs::Reports::text_steps))]
+fn push_line(
+    alloc: Global,
+    text: &mut Vec<u8>,
+    names: Option<&[&[u8]]>,
+    state: &EndState,
+    outcome: &Outcome,
+) -> Result<(), AllocError>
+    requires { IfSome names (λ names. length names.now ≤ 64) }
+    ensures { OnOk result (text.new.items ≡ text.old.items
+        ++ outcome_line (names_seen names.entry) (state.now, outcome.now)) }
 {
     text.extend_from_slice(Buffer::new().format(outcome.times).as_bytes())?;
     text.extend_from_slice(b" ")?;
     text.extend_from_slice(word_of(outcome.ending))?;
     text.extend_from_slice(died_mark(state))?;
     text.extend_from_slice(b" ")?;
-    text.extend_from_slice(outcome.schedule.as_bytes())?;
+    push_seed(text, outcome.seed)?;
+    push_schedule(alloc, text, names, outcome.schedule.as_str())?;
     text.extend_from_slice(b"\n")
 }
 
-/// The lines of all outcomes.
-pub fn report(alloc: Global, outcomes: &Outcomes) -> Result<Vec<u8>, AllocError>
-    ensures { IfOk result (λ text. text.items ≡ report outcomes.now.entries) }
+/// The lines of all outcomes, whose schedules are told by these names if there are some.
+pub fn report(
+    alloc: Global,
+    names: Option<&[&[u8]]>,
+    outcomes: &Outcomes,
+) -> Result<Vec<u8>, AllocError>
+    requires { IfSome names (λ names. length names.now ≤ 64) }
+    ensures { IfOk result (λ text. text.items ≡ report (names_seen names.entry) outcomes.now.entries) }
 {
     let mut text = Vec::new(alloc);
     for place in 0..outcomes.len() {
         if let Some((state, outcome)) = outcomes.get_index(place) {
-            push_line(&mut text, state, outcome)?;
+            push_line(alloc, &mut text, names, state, outcome)?;
         }
     }
     Ok(text)
@@ -70,7 +125,7 @@ fn are_as_expected(expected: &[Vec<u8>], outcomes: &Outcomes) -> bool
     true
 }
 
-/// What the outcomes come to: whether all runs ended as they were expected to.
+/// Returns the result for these outcomes: whether all runs ended as expected.
 pub fn done_by(expected: &[Vec<u8>], outcomes: &Outcomes) -> Done
     ensures { result ≡ done_by expected.now outcomes.now.entries }
 {

@@ -80,7 +80,7 @@ fn add_run(alloc: Global, run: LiveRun, outcomes: &mut Outcomes) -> Result<(), F
         return Err(Fault::Memory);
     };
     let schedule = shown(alloc, run.schedule.as_slice())?;
-    match add(outcomes, state, run.ending, schedule) {
+    match add(outcomes, state, run.ending, None, schedule) {
         Ok(()) => Ok(()),
         Err(_) => Err(Fault::Memory),
     }

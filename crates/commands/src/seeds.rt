@@ -1,5 +1,5 @@
-//! What the orders of several seeds come to.
-ghost use Rattle.std.specs.Prelude.{◌≡◌, ◌≢◌, ◌<◌, ◌≤◌, ◌+◌, ◌++◌, ◌∷◌, [], List, ℕ, Err, IfErr, IfOk, IfSome, OnOk, IsTrue, length, map};
+//! What the orders of several seeds lead to.
+ghost use Rattle.std.specs.Prelude.{◌≡◌, ◌≢◌, ◌<◌, ◌≤◌, ◌+◌, ◌++◌, ◌∷◌, [], List, Some, ℕ, Err, IfErr, IfOk, IfSome, OnOk, IsTrue, length, map};
 ghost use Rattle.line_reader.specs.Seen.{name_seen};
 ghost use Rattle.std.specs.Io.KnownBytes.{Appends};
 ghost use Rattle.indexmap.specs.IndexMap.{get};
@@ -12,10 +12,11 @@ ghost use Rattle.commands.specs.Planning.{HasNoSchedule};
 ghost use Rattle.commands.specs.Unplanned.{unplanned_status};
 ghost use Rattle.plans.specs.Plan.{words_in_plan};
 ghost use Rattle.plans.specs.declared.fault.PlanFault.{PlanFault};
-ghost use Rattle.commands.specs.Seeds.{AreOutcomesBy, HasReportedSeeds, IsEndBy, plan_by};
+ghost use Rattle.commands.specs.Seeds.{AreOutcomesBy, HasReportedSeeds, IsEndBy, IsFirstUnlike, limit_mark, plan_by};
 ghost use Rattle.commands.specs.declared.unplanned.Unplanned.TheVariants as why;
 
 use crate::end_state::EndState;
+use crate::observer::Observer;
 use crate::outcomes::{Outcomes, add, sort};
 use crate::plan::{loaded_program, planned_on};
 use crate::report::report;
@@ -27,25 +28,56 @@ use schedule_reader::write_schedule;
 use std::alloc::{AllocError, Global};
 use thread_machine::{Machine, Standing};
 use thread_runner::Ending;
+use trace_text::meeting::are_met;
 use workbench::Program;
 use workbench::fault::Fault;
 
-/// Which orders are asked for.
-#[derive(Clone, Copy, PartialEq, Eq)]
-pub struct Seeds {
+/// Which orders are asked for, and how they are told.
+#[derive(Clone, Copy)]
+pub struct Seeds<'a> {
     /// The first seed.
     pub first: u32,
-    /// How many there are, 1 to 100,000: each is the one before it and 1.
+    /// How many seeds there are, 1 to 100,000. Each is one more than the seed before it.
     pub count: u32,
+    /// How many choices the order of a seed has at most, 1 to 1,000,000, where that is said.
+    pub limit: Option<u32>,
+    /// What is expected of the state that each run ends in: texts as `trace_text` has them.
+    pub expected: &'a [Vec<u8>],
+    /// Whether schedules have the names of the threads in place of numbers.
+    pub has_names: bool,
 }
 
-/// The plan of a seed: this plan, and then anybody who can go on, in the order of the seed.
-fn plan_by(alloc: Global, plan: &[u8], seed: u64) -> Result<Vec<u8>, AllocError>
-    ensures { IfOk result (λ text. text.items ≡ plan_by plan.now seed) }
+/// A run that ended otherwise than it was expected to.
+#[derive(Drop)]
+pub struct Unlike {
+    /// The seed of its order.
+    pub seed: u64,
+    pub ending: Ending,
+    /// The text of the state that it ended in, without the counts of choices and steps.
+    pub state: Vec<u8>,
+}
+
+/// Adds how many choices an order has at most, where that is said.
+#[tactic(auto, using(crate::proofs::Reports::text_steps))]
+fn push_limit(text: &mut Vec<u8>, limit: Option<u32>) -> Result<(), AllocError>
+    ensures { OnOk result (text.new.items ≡ text.old.items ++ limit_mark limit) }
+{
+    if let Some(most) = limit {
+        text.extend_from_slice(b"*")?;
+        text.extend_from_slice(Buffer::new().format(most).as_bytes())?;
+    }
+    Ok(())
+}
+
+/// The plan of a seed: this plan, and then anybody who can go on, in the order of the seed, up to the limit.
+#[tactic(auto, using(crate::proofs::Reports::text_steps))]
+fn plan_by(alloc: Global, plan: &[u8], limit: Option<u32>, seed: u64) -> Result<Vec<u8>, AllocError>
+    ensures { IfOk result (λ text. text.items ≡ plan_by plan.now limit seed) }
 {
     let mut text = Vec::from_slice(alloc, plan)?;
     text.extend_from_slice(b"\n?")?;
     text.extend_from_slice(Buffer::new().format(seed).as_bytes())?;
+    push_limit(&mut text, limit)?;
     Ok(text)
 }
 
@@ -60,24 +92,58 @@ fn ending_of(machine: &Machine) -> Ending
     }
 }
 
+/// What is told of a run of this seed that ended in this state, where it was expected to end otherwise.
+#[tactic(auto, using(crate::proofs::Seeded::judged))]
+fn judged(
+    alloc: Global,
+    expected: &[Vec<u8>],
+    seed: u64,
+    ending: Ending,
+    state: &EndState,
+) -> Result<Option<Unlike>, AllocError>
+    ensures { IfOk result (λ unlike. (run : Ended) → run.seed ≡ Some seed → run.ending ≡ ending
+        → run.state ≡ state.now.text.items → IsFirstUnlike expected.now (run ∷ []) unlike) }
+{
+    if are_met(state.text.as_slice(), expected) {
+        return Ok(None);
+    }
+    let state = Vec::from_slice(alloc, state.text.as_slice())?;
+    Ok(Some(Unlike {
+        seed,
+        ending,
+        state,
+    }))
+}
+
+/// How the order of a seed ended.
+#[derive(Drop)]
+struct OrderEnd {
+    ending: Ending,
+    /// It, where it ended otherwise than it was expected to.
+    unlike: Option<Unlike>,
+}
+
 /// Adds what the order of a seed comes to.
 fn add_order(
     alloc: Global,
     program: &Loaded,
     names: &[&[u8]],
     plan: &[u8],
+    seeds: &Seeds<'_>,
     seed: u64,
     outcomes: &mut Outcomes,
-) -> Result<(), Unplanned>
+) -> Result<OrderEnd, Unplanned>
     requires names { length names.now ≤ 64 }
     requires few { (other : EndState) → IfSome (get is_state outcomes.old other) (λ outcome. outcome.times < 4294967295) }
-    ensures added { (runs : List Ended) → AreOutcomes runs outcomes.old.entries → OnOk result
-        ((ended : Ended) × (IsEndBy program.now (map name_seen names.now) plan.now seed ended × AreOutcomes (runs ++ ended ∷ []) outcomes.new.entries)) }
+    ensures added { (runs : List Ended) → AreOutcomes runs outcomes.old.entries → IfOk result (λ end.
+        (ended : Ended) × (IsEndBy program.now (map name_seen names.now) plan.now seeds.now.limit seed ended
+        × AreOutcomes (runs ++ ended ∷ []) outcomes.new.entries
+        × IsFirstUnlike seeds.now.expected.now (ended ∷ []) end.unlike)) }
     ensures refused { (f : PlanFault) → result ≡ Err (Unplanned.Plan f)
-        → words_in_plan (map name_seen names.now) (plan_by plan.now seed) ≡ Err f }
+        → words_in_plan (map name_seen names.now) (plan_by plan.now seeds.now.limit seed) ≡ Err f }
     ensures other { (f : Fault) → result ≡ Err (Unplanned.Fault f) → f ≡ Fault.Memory }
 {
-    let Ok(text) = plan_by(alloc, plan, seed) else {
+    let Ok(text) = plan_by(alloc, plan, seeds.limit, seed) else {
         return Err(Unplanned::Fault(Fault::Memory));
     };
     let Ok(program) = program.copy(alloc) else {
@@ -91,73 +157,93 @@ fn add_order(
     let Ok(state) = EndState::of(alloc, ending, &planned.machine) else {
         return Err(Unplanned::Fault(Fault::Memory));
     };
+    let Ok(unlike) = judged(alloc, seeds.expected, seed, ending, &state) else {
+        return Err(Unplanned::Fault(Fault::Memory));
+    };
     let Ok(schedule) = write_schedule(alloc, planned.runs.as_slice()) else {
         return Err(Unplanned::Fault(Fault::Memory));
     };
-    match add(outcomes, state, ending, schedule) {
-        Ok(()) => Ok(()),
+    match add(outcomes, state, ending, Some(seed), schedule) {
+        Ok(()) => Ok(OrderEnd { ending, unlike }),
         Err(_) => Err(Unplanned::Fault(Fault::Memory)),
     }
 }
 
-/// What the orders of all seeds come to, the most frequent first.
-fn outcomes_of(
+/// What the orders of seeds came to, the most frequent first, and the first run that ended otherwise than expected.
+#[derive(Drop)]
+struct Tally {
+    outcomes: Outcomes,
+    unlike: Option<Unlike>,
+}
+
+/// What the orders of all seeds come to. As soon as a run has ended it is told.
+fn tally_of<O: Observer>(
     alloc: Global,
     program: &Loaded,
     names: &[&[u8]],
     plan: &[u8],
-    seeds: Seeds,
-) -> Result<Outcomes, Unplanned>
+    seeds: &Seeds<'_>,
+    observer: &O,
+) -> Result<Tally, Unplanned>
     requires names { length names.now ≤ 64 }
-    requires few { seeds.count ≤ 100000 }
-    ensures outcomes { IfOk result (λ outcomes. AreOutcomesBy program.now (map name_seen names.now) plan.now seeds outcomes.entries) }
-    ensures sorted { IfOk result (λ outcomes. IsMostFrequentFirst outcomes.entries) }
+    requires few { seeds.now.count ≤ 100000 }
+    ensures outcomes { IfOk result (λ tally. AreOutcomesBy program.now (map name_seen names.now) plan.now seeds.now
+        tally.outcomes.entries tally.unlike) }
+    ensures sorted { IfOk result (λ tally. IsMostFrequentFirst tally.outcomes.entries) }
     ensures refused { (f : PlanFault) → result ≡ Err (Unplanned.Plan f)
-        → (seed : ℕ) × (words_in_plan (map name_seen names.now) (plan_by plan.now seed) ≡ Err f) }
+        → (seed : ℕ) × (words_in_plan (map name_seen names.now) (plan_by plan.now seeds.now.limit seed) ≡ Err f) }
     ensures other { (f : Fault) → result ≡ Err (Unplanned.Fault f) → f ≡ Fault.Memory }
 {
     let mut outcomes = Outcomes::new(alloc);
+    let mut unlike = None;
     for number in 0..seeds.count {
         let seed = u64::from(seeds.first) + u64::from(number);
-        match add_order(alloc, program, names, plan, seed, &mut outcomes) {
-            Ok(()) => {}
+        match add_order(alloc, program, names, plan, seeds, seed, &mut outcomes) {
+            Ok(end) => {
+                observer.ended(end.ending);
+                unlike = unlike.or(end.unlike);
+            }
             Err(reason) => return Err(reason),
         }
     }
     match sort(&mut outcomes) {
-        Ok(()) => Ok(outcomes),
+        Ok(()) => Ok(Tally { outcomes, unlike }),
         Err(_) => Err(Unplanned::Fault(Fault::Memory)),
     }
 }
 
 /// Plays, for each seed, a plan and behind it anybody who can go on in the order of the seed, on a program.
 /// Writes to `output` a line for each state that one ended in, the most frequent first, as `report_runs` does of live runs:
-/// how often one did, `all`, `stuck` or `live`, with `+died` where a thread died, and the schedule of the first that did.
-pub fn report_seeds<K: Sink>(
+/// how often one did, `all`, `stuck` or `live`, with `+died` where a thread died, and the seed and the schedule of the first that did.
+/// Its answer is the first run that ended otherwise than expected.
+pub fn report_seeds<O: Observer, K: Sink>(
     alloc: Global,
     program: Program<'_>,
     plan: &[u8],
-    seeds: Seeds,
+    seeds: &Seeds<'_>,
+    observer: &O,
     output: &mut K,
-) -> Result<(), Unplanned>
-    requires { seeds.count ≤ 100000 }
-    ensures done { OnOk result (HasReportedSeeds program.entry plan.now seeds (K.written output.old) (K.written output.new)) }
+) -> Result<Option<Unlike>, Unplanned>
+    requires { seeds.now.count ≤ 100000 }
+    ensures done { IfOk result (λ unlike. HasReportedSeeds program.entry plan.now seeds.now unlike
+        (K.written output.old) (K.written output.new)) }
     ensures refused { IfErr result (λ reason. unplanned_status reason ≡ 3
-        → (seed : ℕ) × HasNoSchedule reason program.entry (plan_by plan.now seed)) }
+        → (seed : ℕ) × HasNoSchedule reason program.entry (plan_by plan.now seeds.now.limit seed)) }
     ensures unwritten { IfErr result (λ reason. reason ≢ why.Fault Fault.Write → K.written output.new ≡ K.written output.old) }
     ensures write { result ≡ Err (why.Fault Fault.Write) → IsTrue (K.has_failed output.new) }
     ensures other { (result ≢ Err (why.Fault Fault.Read)) × (result ≢ Err (why.Fault Fault.Spawn)) }
 {
     let (loaded, names) = loaded_program(alloc, program.image, &program.names)?;
-    let outcomes = match outcomes_of(alloc, &loaded, names.as_slice(), plan, seeds) {
-        Ok(outcomes) => outcomes,
+    let tally = match tally_of(alloc, &loaded, names.as_slice(), plan, seeds, observer) {
+        Ok(tally) => tally,
         Err(reason) => return Err(reason),
     };
-    let Ok(text) = report(alloc, &outcomes) else {
+    let told = seeds.has_names.then_some(names.as_slice());
+    let Ok(text) = report(alloc, told, &tally.outcomes) else {
         return Err(Unplanned::Fault(Fault::Memory));
     };
     match output.push(text.as_slice()) {
-        Ok(()) => Ok(()),
+        Ok(()) => Ok(tally.unlike),
         Err(_) => Err(Unplanned::Fault(Fault::Write)),
     }
 }

@@ -40,7 +40,7 @@ fn not_a_trace(alloc: Global, trace: Option<&[u8]>) -> Result<Vec<u8>, AllocErro
     Ok(text)
 }
 
-/// What follows a verdict: nothing where the trace is the run's.
+/// Returns what follows a verdict: nothing if the trace is the run's.
 pub fn shown(alloc: Global, judged: &Judged) -> Result<Vec<u8>, AllocError>
     ensures { IfOk result (λ text. StandsBehind judged.now.told.verdict judged.now.trace judged.now.told.line text.items) }
 {

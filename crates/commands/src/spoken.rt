@@ -1,4 +1,4 @@
-//! A person's line as the debugger reads it: the names of threads in place of their numbers.
+//! A person's line as the debugger reads it: with the numbers of threads instead of their names.
 
 use assembler::Symbols;
 use instruction_table::OperandKind;
@@ -22,8 +22,8 @@ const CALLED_ELSEWHERE: [(&[u8], &[u8]); 12] = [
     (b"print", b"p"),
 ];
 
-/// What the first word of a line may have been meant as: the command that is called so elsewhere, or the thread with this name
-/// in other letters.
+/// Returns what the first word of a line may have been meant as: the command that has this name elsewhere, or the thread with
+/// this name in other letters.
 pub fn near_word<'a>(symbols: &Symbols<'a>, said: &[u8]) -> Option<&'a [u8]> {
     let word = said
         .split(|byte| is_blank(*byte))
@@ -90,7 +90,8 @@ fn is_whole_command(word: &[u8]) -> bool {
     matches!(word, b"b" | b"help" | b"p" | b"q" | b"w")
 }
 
-/// The line that the debugger reads, without an end: `s t0` for `s ann` and for `ann` alone. What names nobody stays as it is.
+/// Returns the line that the debugger reads, without an end: `s t0` for `s ann` and for only `ann`. What names nobody stays as
+/// it is.
 pub fn in_numbers(
     alloc: Global,
     symbols: &Symbols<'_>,

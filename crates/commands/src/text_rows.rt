@@ -1,4 +1,4 @@
-//! The rows of a text, each with the line in which it stands.
+//! The rows of a text, each with its line.
 ghost use Rattle.std.specs.Prelude.{◌≡◌, ◌++◌, ◌∷◌, [], IfOk, OnOk, decimal, map};
 ghost use Rattle.std.specs.List.{flat_map, slice_split};
 ghost use Rattle.line_reader.specs.Seen.{name_seen};
@@ -67,7 +67,7 @@ fn push_text_rows(listing: &mut Vec<u8>, lines: &[&[u8]], numbers: &[u64]) -> Re
     Ok(())
 }
 
-/// The rows of a text that stand in the lines of these numbers.
+/// Returns the rows of a text that are in the lines of these numbers.
 pub fn rows_in_text(alloc: Global, text: &[u8], numbers: &[u64]) -> Result<Vec<u8>, AllocError>
     ensures { IfOk result (λ listing. listing.items
         ≡ flat_map line_text (numbered (text_row_words (lines_of text.now)) 0 numbers.now)) }

@@ -1,4 +1,4 @@
-//! Why a plan has no schedule, and how that is told.
+//! Why a plan has no schedule, and how that is reported.
 ghost use Rattle.std.specs.Prelude.{◌≡◌, IsTrue, OnErr, OnOk};
 ghost use Rattle.std.specs.Io.KnownBytes.{Appends};
 ghost use Rattle.commands.specs.Unplanned.{plan_line, unplanned_line, unplanned_status};
@@ -58,7 +58,7 @@ impl Unplanned {
         }
     }
 
-    /// Writes the line that stands on standard error, piece by piece and without memory.
+    /// Writes the line for standard error, piece by piece and without memory.
     pub fn tell<E: Sink>(self, errors: &mut E) -> Result<(), Failed>
         ensures bytes { OnOk result (Appends (E.written errors.old) (E.written errors.new)
             (unplanned_line self)) }

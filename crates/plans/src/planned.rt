@@ -1,13 +1,13 @@
 use schedule_reader::Run;
 use thread_machine::Machine;
 
-/// What a plan came to on a program.
+/// The result of a plan on a program.
 #[derive(Drop)]
 pub struct Planned {
-    /// The program behind the last choice.
+    /// The program after the last choice.
     pub machine: Machine,
-    /// The choices, joined where they can be.
+    /// The choices, joined if they can be.
     pub runs: Vec<Run>,
-    /// Whether the plan wanted one more choice than 1,000,000.
+    /// Whether the plan needed more than 1,000,000 choices.
     pub stopped: bool,
 }

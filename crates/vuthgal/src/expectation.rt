@@ -112,11 +112,27 @@ fn push_near<E: Sink>(alloc: Global, errors: &mut E, program: &[u8], text: &[u8]
     }
 }
 
+/// Adds the seed of a run, if its order has one, as plans have it.
+fn push_seed<E: Sink>(errors: &mut E, seed: Option<u64>) -> Result<(), Failed> {
+    if let Some(seed) = seed {
+        errors.push(b"?")?;
+        errors.push(Buffer::new().format(seed).as_bytes())?;
+        errors.push(b" ")?;
+    }
+    Ok(())
+}
+
 /// Adds what is expected, and what stands in its place.
-fn push_unmet<E: Sink>(errors: &mut E, text: &[u8], line: &[u8]) -> Result<(), Failed> {
+fn push_unmet<E: Sink>(
+    errors: &mut E,
+    text: &[u8],
+    seed: Option<u64>,
+    line: &[u8],
+) -> Result<(), Failed> {
     errors.push(b"expected ")?;
     errors.push(text)?;
     errors.push(b": ")?;
+    push_seed(errors, seed)?;
     errors.push(line)?;
     errors.push(b"\n")
 }
@@ -130,6 +146,7 @@ fn without_end(line: &[u8]) -> &[u8] {
 fn push_all_unmet<E: Sink>(
     errors: &mut E,
     expected: &[Vec<u8>],
+    seed: Option<u64>,
     end: &RunEnd,
 ) -> Result<(), Failed> {
     for text in expected {
@@ -141,15 +158,22 @@ fn push_all_unmet<E: Sink>(
             Some(refused) => without_end(refused.line.as_slice()),
             None => line_against(end.state.as_slice(), text).unwrap_or(b"no such line"),
         };
-        push_unmet(errors, text, line)?;
+        push_unmet(errors, text, seed, line)?;
     }
     Ok(())
 }
 
-/// Reports what differs from what was expected, a line for each, and at a terminal which name may have been meant.
-pub fn tell_unmet(rt: &HostRuntime, program: &[u8], expected: &[Vec<u8>], end: &RunEnd) {
+/// Reports what differs from what was expected at the end of a run, whose order may have a seed: a line for each, and at a
+/// terminal which name may have been meant.
+pub fn tell_unmet(
+    rt: &HostRuntime,
+    program: &[u8],
+    expected: &[Vec<u8>],
+    seed: Option<u64>,
+    end: &RunEnd,
+) {
     let mut errors = WritePort::new(printable::errors(rt));
-    let _ = push_all_unmet(&mut errors, expected, end);
+    let _ = push_all_unmet(&mut errors, expected, seed, end);
     if end.refused.is_some() || !is_explained(rt) {
         return;
     }

@@ -108,13 +108,15 @@ fn done<'a, R: Threads + Wait + Sync>(
         Request::Plan {
             file,
             plan,
-            seeds: None,
-        } => write_plan(rt, file, plan),
+            has_names,
+            orders: None,
+        } => write_plan(rt, file, plan, has_names),
         Request::Plan {
             file,
             plan,
-            seeds: Some(seeds),
-        } => count_orders(rt, file, plan, seeds),
+            has_names,
+            orders: Some(orders),
+        } => count_orders(rt, file, plan, has_names, &orders),
         Request::Explain { words } => explain_words(rt, words.as_slice()),
     }
 }

@@ -1,19 +1,23 @@
 //! The schedules of plans.
 
-ghost use Rattle.std.specs.Prelude.{◌<◌, ◌≤◌, ◌+◌, IfOk};
+ghost use Rattle.std.specs.Prelude.{IfOk};
+ghost use Rattle.command_line.specs.Request.{AreInRange};
 ghost use Rattle.plans.specs.Planned.{AreRuns};
 
+use crate::expectation::{expectations, tell_unmet};
 use crate::input::Input;
+use crate::progress::{BehindProgress, OrderMeter};
 use crate::trouble::Trouble;
 use crate::{files, notes};
 use byte_ports::{ReadPort, Sink, WritePort};
-use command_line::request::Seeds;
+use command_line::request::Orders;
 use commands::making::parts_of;
-use commands::plan::{plan, planned_in};
-use commands::seeds::{self, report_seeds};
+use commands::plan::{plan, plan_with_names, planned_in};
+use commands::seeds::{Seeds, Unlike, report_seeds};
 use schedule_reader::Run;
+use trace_text::RunEnd;
 use workbench::Program;
-use workbench::done::{Done, as_asked};
+use workbench::done::Done;
 use workbench::ending::flushed;
 use workbench::input::read_all;
 use workbench::program::program_in;
@@ -38,11 +42,13 @@ pub fn runs_of_plan<'a>(
     Ok(planned.runs)
 }
 
-/// Writes the schedule that a plan stands for on the program in a file. The plan is standard input if no other is named.
+/// Writes the schedule that a plan stands for on the program in a file, with the names of the threads if asked for. The plan is
+/// standard input if no other is named.
 pub fn write_plan<'a>(
     rt: &HostRuntime,
     file: &'a str,
     steps: Option<&'a str>,
+    has_names: bool,
 ) -> Result<Done, Trouble<'a>> {
     let program = files::read(rt, file)?;
     let steps = match steps {
@@ -54,7 +60,11 @@ pub fn write_plan<'a>(
     let steps = read_all(rt.alloc(), &mut ReadPort::new(steps))?;
     let program = program_in(rt.alloc(), parts_of(file.as_slice()).0)?;
     let mut output = WritePort::new(rt.stdout());
-    let planned = plan(rt.alloc(), program, steps.as_slice(), &mut output)?;
+    let planned = if has_names {
+        plan_with_names(rt.alloc(), program, steps.as_slice(), &mut output)?
+    } else {
+        plan(rt.alloc(), program, steps.as_slice(), &mut output)?
+    };
     if flushed(Ok(planned), &mut output)? {
         push_stopped(rt);
         return Ok(Done::Unlike);
@@ -62,28 +72,75 @@ pub fn write_plan<'a>(
     Ok(Done::AsAsked)
 }
 
-/// Writes what the orders of seeds lead to, each after a plan if there is one.
+/// Returns the plan before the orders of seeds, or an empty one if none is named.
+fn plan_before<'a>(rt: &HostRuntime, steps: Option<&'a str>) -> Result<Vec<u8>, Trouble<'a>> {
+    match steps {
+        Some(word) => Ok(read_all(rt.alloc(), &mut ReadPort::new(Input::named(rt, word)?))?),
+        None => Ok(Vec::new(rt.alloc())),
+    }
+}
+
+/// Returns the result of orders with these expectations. The first run that ended differently is reported.
+fn settled_by(
+    rt: &HostRuntime,
+    program: &[u8],
+    expected: &[Vec<u8>],
+    unlike: Option<Unlike>,
+) -> Done {
+    let Some(
+        Unlike {
+            seed,
+            ending,
+            state,
+        },
+    ) = unlike
+    else {
+        return Done::AsAsked;
+    };
+    let end = RunEnd {
+        standing: ending.standing(),
+        state,
+        refused: None,
+    };
+    tell_unmet(rt, program, expected, Some(seed), &end);
+    Done::Unlike
+}
+
+/// Writes what the orders of seeds lead to, each after a plan if there is one, with the names of the threads if asked for.
 pub fn count_orders<'a>(
     rt: &HostRuntime,
     file: &'a str,
     steps: Option<&'a str>,
-    seeds: Seeds,
+    has_names: bool,
+    orders: &Orders<'_>,
 ) -> Result<Done, Trouble<'a>>
-    requires first { seeds.first ≤ seeds.last }
-    requires few { seeds.last < seeds.first + 100000 }
+    requires { AreInRange orders.now }
 {
     let program = files::read(rt, file)?;
-    let plan = match steps {
-        Some(word) => read_all(rt.alloc(), &mut ReadPort::new(Input::named(rt, word)?))?,
-        None => Vec::new(rt.alloc()),
-    };
+    let plan = plan_before(rt, steps)?;
     let file = read_all(rt.alloc(), &mut ReadPort::new(program))?;
     let program = program_in(rt.alloc(), parts_of(file.as_slice()).0)?;
-    let seeds = seeds::Seeds {
-        first: seeds.first,
-        count: seeds.last - seeds.first + 1,
+    let text = program.bytes;
+    let expected = expectations(rt.alloc(), &program.names, orders.expected.as_slice())?;
+    let seeds = Seeds {
+        first: orders.seeds.first,
+        count: orders.seeds.last - orders.seeds.first + 1,
+        limit: orders.limit,
+        expected: expected.as_slice(),
+        has_names,
     };
-    let mut output = WritePort::new(rt.stdout());
-    report_seeds(rt.alloc(), program, plan.as_slice(), seeds, &mut output)?;
-    Ok(as_asked(flushed(Ok(()), &mut output))?)
+    let shown = OrderMeter::new(rt, seeds.count);
+    let mut output = WritePort::new(BehindProgress::new(rt.stdout(), shown.meter()));
+    let answer = report_seeds(
+        rt.alloc(),
+        program,
+        plan.as_slice(),
+        &seeds,
+        &shown,
+        &mut output,
+    );
+    shown.meter().end();
+    let unlike = answer?;
+    flushed(Ok(()), &mut output)?;
+    Ok(settled_by(rt, text, expected.as_slice(), unlike))
 }

@@ -1,23 +1,24 @@
 //! How far a long run has come, for a person who waits for it.
 //!
 //! It is shown if standard error is a terminal and standard output goes to a file, about once a second, in one line that is
-//! overwritten. For many live runs, which write only at their end, it is shown whenever standard error is a terminal. It
-//! changes nothing else.
+//! overwritten. For many live runs and for the orders of seeds, which write only at their end, it is shown whenever standard error
+//! is a terminal. It changes nothing else.
 ghost use Rattle.std.specs.Io.{WritesAtMost};
 ghost use Rattle.std.specs.Io.KnownBytes.{WriteAppends};
-ghost use Rattle.std.specs.Prelude.{◌≡◌, ◌≤◌, ◌+◌, IfOk, length};
+ghost use Rattle.std.specs.Prelude.{◌≡◌, ◌≤◌, ◌+◌, IfOk, IfSome, length};
 ghost use Rattle.std.specs.Io.KnownBytes.{ReadConsumes};
 ghost use Rattle.byte_ports.specs.Port.{FailsForGood};
 
 use crate::files::writes_to_pipe;
 use byte_ports::{BlockPort, Failed, Source, WritePort};
+use commands::observer::Observer;
 use race::Pace;
 use std::alloc::AllocError;
 use std::io;
 use std::io::{IsTerminal, Stdout, Write};
 use std::sync::atomic::{AtomicU64, Ordering};
 use std::time::Instant;
-use thread_runner::Gate;
+use thread_runner::{Ending, Gate};
 
 /// The time, where somebody sees standard error.
 fn began(rt: &HostRuntime) -> Option<Instant> {
@@ -87,18 +88,26 @@ impl<'a> Meter<'a> {
         Meter::new(rt, began_beside_output(rt), ("about ", "arrivals"))
     }
 
-    /// Shows so many, and how much of a file was read where that is known, unless somebody did in this second.
-    fn show(&self, done: u64, percent: Option<u64>) {
-        let Some(began) = self.began else {
-            return;
-        };
+    /// How many seconds have gone by, at least one, where somebody looks and nothing was shown in this second.
+    fn second(&self) -> Option<u64>
+        ensures { IfSome result (λ seconds. 1 ≤ seconds) }
+    {
+        let began = self.began?;
         let Ok(time) = began.elapsed(self.rt) else {
-            return;
+            return None;
         };
         let seconds = time.as_secs();
         if seconds == 0 || self.shown.swap(seconds, Ordering::SeqCst) >= seconds {
-            return;
+            return None;
         }
+        Some(seconds)
+    }
+
+    /// Shows so many, and how much of a file was read where that is known, unless somebody did in this second.
+    fn show(&self, done: u64, percent: Option<u64>) {
+        let Some(seconds) = self.second() else {
+            return;
+        };
         let rate = done / seconds;
         let (about, unit) = self.words;
         let _ = match percent {
@@ -135,6 +144,63 @@ impl<'a> Meter<'a> {
         if self.shown.swap(0, Ordering::SeqCst) > 0 {
             let _ = eprintln!(self.rt; "");
         }
+    }
+}
+
+/// A line on standard error that says how the orders of seeds have ended so far.
+#[derive(Drop)]
+pub struct OrderMeter<'a> {
+    meter: Meter<'a>,
+    /// How many there will be.
+    count: u32,
+    all: AtomicU64,
+    stuck: AtomicU64,
+    live: AtomicU64,
+}
+
+impl<'a> OrderMeter<'a> {
+    /// Before the first of so many, behind which alone something goes to standard output.
+    pub fn new(rt: &'a HostRuntime, count: u32) -> OrderMeter<'a> {
+        OrderMeter {
+            meter: Meter::new(rt, began(rt), ("", "seeds")),
+            count,
+            all: AtomicU64::new(0),
+            stuck: AtomicU64::new(0),
+            live: AtomicU64::new(0),
+        }
+    }
+
+    /// The line, which is ended before something else is told.
+    pub fn meter(&self) -> &Meter<'a> {
+        &self.meter
+    }
+
+    /// Shows how many have ended so far, and how, unless somebody did in this second.
+    fn show(&self) {
+        let Some(seconds) = self.meter.second() else {
+            return;
+        };
+        let all = self.all.load(Ordering::SeqCst);
+        let stuck = self.stuck.load(Ordering::SeqCst);
+        let live = self.live.load(Ordering::SeqCst);
+        let done = all.saturating_add(stuck).saturating_add(live);
+        let rate = done / seconds;
+        let count = self.count;
+        let _ = eprint!(self.meter.rt;
+            "\r{done} of {count} seeds: {all} all, {stuck} stuck, {live} live, {rate} a second  "
+        );
+    }
+}
+
+impl<'a> Observer for OrderMeter<'a> {
+    fn ended(&self, ending: Ending) {
+        let ends = match ending {
+            Ending::AllEnded => &self.all,
+            Ending::Stuck => &self.stuck,
+            Ending::Limit => &self.live,
+        };
+        ends.fetch_add(1, Ordering::SeqCst);
+        self.show();
     }
 }
 

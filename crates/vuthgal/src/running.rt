@@ -42,7 +42,7 @@ pub fn ended<'a>(
     notes::push_refused(rt, &end);
     let done = as_expected(expected, &end);
     if done == Done::Unlike {
-        tell_unmet(rt, program, expected, &end);
+        tell_unmet(rt, program, expected, None, &end);
     }
     if end.refused.is_none() && end.standing == Standing::Live {
         push_explained(rt, live);

@@ -11,9 +11,9 @@ use Rattle.commands.proofs.outcomes.add.Goals as goal
 pub returns-in-Some : goal.returns-in-Some
 returns-in-Some c = λ runs are.
     let old = c.args.outcomes.now in
-    let run : Ended = record { schedule = string_bytes c.args.schedule; ending = c.args.ending; state = c.args.state.text.items } in
+    let run : Ended = record { seed = c.args.seed; schedule = string_bytes c.args.schedule; ending = c.args.ending; state = c.args.state.text.items } in
     let kept = c.in-Some.outcome.now in
-    let w : Outcome = record { times = kept.times + 1; ending = kept.ending; schedule = kept.schedule } in
+    let w : Outcome = record { times = kept.times + 1; ending = kept.ending; seed = kept.seed; schedule = kept.schedule } in
     let there : get is_state old c.args.state ≡ Some kept = search rules in
     let wrote = c.get_mut.follows.holds w in
     let before : Some (told kept) ≡ told_in runs c.args.state.text.items = ap (option_map told) (sym there) ∙ are.1 c.args.state in (
@@ -25,8 +25,8 @@ returns-in-Some c = λ runs are.
 pub returns : goal.returns
 returns c = λ runs are.
     let old = c.args.outcomes.now in
-    let run : Ended = record { schedule = string_bytes c.args.schedule; ending = c.args.ending; state = c.args.state.text.items } in
-    let w : Outcome = record { times = 1; ending = c.args.ending; schedule = c.args.schedule } in
+    let run : Ended = record { seed = c.args.seed; schedule = string_bytes c.args.schedule; ending = c.args.ending; state = c.args.state.text.items } in
+    let w : Outcome = record { times = 1; ending = c.args.ending; seed = c.args.seed; schedule = c.args.schedule } in
     let none : get is_state old c.args.state ≡ None = search rules in
     let updates : (state : EndState) → get is_state c.insert.new.self state ≡ cond (is_state c.args.state state) (Some w) (get is_state old state) = search rules in
     let before : None ≡ told_in runs c.args.state.text.items = ap (option_map told) (sym none) ∙ are.1 c.args.state in (

@@ -2,6 +2,7 @@ use Rattle.std.proofs.Common.{◌≡◌, ◌∙◌, ◌+◌, ◌++◌, ap, appen
 use Rattle.std.specs.Prelude.{Some, is_some, slice_get}
 use Rattle.commands.specs.declared.end_state.EndState.{EndState}
 use Rattle.commands.specs.declared.outcomes.Outcome.{Outcome}
+use Rattle.commands.specs.Named.{names_seen}
 use Rattle.commands.specs.Outcomes.{outcome_line, report}
 use Rattle.commands.proofs.Reports.{texts-at}
 use Rattle.commands.proofs.report.report.Goals.{in-Some+in_ok-push_line, in_default}
@@ -14,9 +15,9 @@ loop-place-preserved c =
     elim c.match-get_index.branch [
       | in-Some+in_ok-push_line w ↦
           let at : slice_get entries i ≡ Some (w.in-Some.state.now, w.in-Some.outcome.now) = search rules in
-          let lines = texts-at (λ (outcome : EndState × Outcome). outcome_line outcome) entries i (w.in-Some.state.now, w.in-Some.outcome.now) at in
-          ap (λ t. t ++ report (drop (i + 1) entries)) (ap (λ text. text.items) w.text-is ∙ w.in_ok-push_line.ensures)
-          ∙ append_assoc c.loop-place.text.items (outcome_line (w.in-Some.state.now, w.in-Some.outcome.now)) (report (drop (i + 1) entries))
+          let lines = texts-at (λ (outcome : EndState × Outcome). outcome_line (names_seen c.args.names) outcome) entries i (w.in-Some.state.now, w.in-Some.outcome.now) at in
+          ap (λ t. t ++ report (names_seen c.args.names) (drop (i + 1) entries)) (ap (λ text. text.items) w.text-is ∙ w.in_ok-push_line.ensures)
+          ∙ append_assoc c.loop-place.text.items (outcome_line (names_seen c.args.names) (w.in-Some.state.now, w.in-Some.outcome.now)) (report (names_seen c.args.names) (drop (i + 1) entries))
           ∙ ap (λ rest. c.loop-place.text.items ++ rest) (sym lines) ∙ c.loop-place.invariant
       | in_default w ↦
           let there = c.get_index.ensures.found.1 (omega (arith, c.loop-place-test.true, c.len-place-end.ensures.len)) in

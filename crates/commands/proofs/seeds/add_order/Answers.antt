@@ -1,4 +1,4 @@
-use Rattle.std.proofs.Common.{◌∙◌, ap, map, subst}
+use Rattle.std.proofs.Common.{◌∙◌, Some, ap, map, refl, subst}
 use Rattle.line_reader.specs.Seen.{name_seen}
 use Rattle.loader.specs.Program.{Program as Loaded}
 use Rattle.std.specs.String.{string_bytes}
@@ -13,7 +13,7 @@ use Rattle.commands.proofs.seeds.add_order.Goals as goal
 pub returns-in-Ok-add-clause-added : goal.returns-in-Ok-add-clause-added
 returns-in-Ok-add-clause-added c = λ runs are.
     let ending = c.ending_of-ending.result in
-    let run : Ended = record { schedule = string_bytes c.in-Ok-write_schedule.schedule; ending = ending; state = c.in-Ok-of.state.text.items } in
+    let run : Ended = record { seed = Some c.args.seed; schedule = string_bytes c.in-Ok-write_schedule.schedule; ending = ending; state = c.in-Ok-of.state.text.items } in
     let planned = c.in-Ok-planned_on.ensures.planned in
     let shows = planned.1.1 in
     let names = map name_seen c.args.names.now in
@@ -29,6 +29,7 @@ returns-in-Ok-add-clause-added c = λ runs are.
               plays,
               c.in-Ok-planned_on.ensures.runs,
               shows.choices,
+              refl,
               c.in-Ok-write_schedule.ensures.text ∙ ap schedule_text c.as_slice-2.ensures.value,
               c.ending_of-ending.ensures ∙ ap (λ (world : World). standing_of world) shows.world,
               c.in-Ok-of.ensures ∙ ap (λ (world : World). end_text ending world) shows.world,
@@ -36,5 +37,6 @@ returns-in-Ok-add-clause-added c = λ runs are.
           ),
         ),
         c.in-Ok-add.ensures runs are,
+        c.in-Ok-judged.ensures run refl refl refl,
       ),
     )
