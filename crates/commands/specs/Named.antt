@@ -32,7 +32,7 @@ abbrev pub is_only : Choice → Result (List Word) PlanFault → Bool
 is_only choice (Ok (word ∷ [])) = is_once choice word
 is_only choice _ = false
 
--- by name where a plan reads the name as this choice: another thread may be called so, and one of an image has no name
+-- by name if a plan reads the name as this choice: another thread may have this name, and a thread of an image has none
 abbrev pub choice_word : List (List ℕ) → Choice → List ℕ
 choice_word names choice =
     if is_only choice (words_in_plan names (name_word names choice)) then name_word names choice else number_word choice
@@ -63,7 +63,7 @@ text_by (Some names) runs = named_text names runs
 abbrev pub line_by : (names : Option (List (List ℕ))) → List Run → List ℕ
 line_by names runs = text_by names runs ++ 10 ∷ []
 
--- what a schedule's text is told as
+-- the text that is written for a schedule
 abbrev pub told_by : (names : Option (List (List ℕ))) → (schedule : List ℕ) → List ℕ
 told_by None schedule = schedule
 told_by (Some names) schedule = named_text names (finished_schedule schedule).runs

@@ -83,7 +83,7 @@ abbrev pub seed_mark : Option ℕ → List ℕ
 seed_mark None = []
 seed_mark (Some seed) = codes "?" ++ (decimal seed ++ codes " ")
 
--- the line of an outcome, whose schedule is told by these names if there are some
+-- the line of an outcome; its schedule has these names, if there are some
 abbrev pub outcome_line : (names : Option (List (List ℕ))) → EndState × Outcome → List ℕ
 outcome_line names (state, outcome) =
     decimal outcome.times ++ (codes " " ++ (ending_word outcome.ending ++ (died_mark state.text.items

@@ -22,7 +22,7 @@ use Rattle.commands.specs.declared.outcomes.Outcome.{Outcome}
 use Rattle.commands.specs.declared.seeds.Seeds.{Seeds}
 use Rattle.commands.specs.declared.seeds.Unlike.{Unlike}
 
--- how many choices an order has at most, as plans say it, where it is said
+-- the most choices of an order, as a plan has it, if that is given
 abbrev pub limit_mark : Option ℕ → List ℕ
 limit_mark None = []
 limit_mark (Some most) = codes "*" ++ decimal most
@@ -48,7 +48,7 @@ AreEndsBy program names plan limit first (run ∷ runs) =
 abbrev pub is_unlike : List (Vec ℕ) → Ended → Bool
 is_unlike expected run = not (are_met run.state expected)
 
--- what is told of such a run: its seed, and how and in which state it ended
+-- what is reported about such a run: its seed, and how and in which state it ended
 abbrev pub IsUnlike : Option Ended → Option Unlike → Type 0
 IsUnlike None None = Unit {0}
 IsUnlike None (Some unlike) = ⊥
@@ -65,7 +65,7 @@ AreOutcomesBy program names plan seeds outcomes unlike =
     (runs : List Ended) × ((length runs ≡ seeds.count) × AreEndsBy program names plan seeds.limit seeds.first runs
     × AreOutcomes runs outcomes × IsFirstUnlike seeds.expected.now runs unlike)
 
--- by which names the schedules are told, none where they have numbers
+-- the names that the schedules have, or none if they have numbers
 abbrev pub names_told : (has_names : Bool) → List (List ℕ) → Option (List (List ℕ))
 names_told has_names names = if has_names then Some names else None
 

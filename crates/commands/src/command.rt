@@ -60,7 +60,7 @@ pub fn report_runs<R: Threads + Wait + Sync, G: Gate + Sync, K: Sink>(
     push_report(alloc, asked.expected, &outcomes, output)
 }
 
-/// What the runs of a program came to, the most frequent first.
+/// Returns the outcomes of a program's runs, the most frequent first.
 fn outcomes_of<R: Threads + Wait + Sync, G: Gate + Sync>(
     rt: &R,
     alloc: Global,
@@ -91,7 +91,7 @@ fn outcomes_of<R: Threads + Wait + Sync, G: Gate + Sync>(
     }
 }
 
-/// Writes what the runs came to, in one piece, and answers whether they ended as expected.
+/// Writes the outcomes of all runs in one piece, and returns whether they ended as expected.
 fn push_report<K: Sink>(
     alloc: Global,
     expected: &[Vec<u8>],

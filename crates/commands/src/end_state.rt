@@ -49,7 +49,7 @@ pub fn word_of(ending: Ending) -> &'static [u8]
     ending.standing().name()
 }
 
-/// What stands behind the first line of a text.
+/// Returns what follows the first line of a text.
 fn behind_first_line(text: &[u8]) -> &[u8]
     ensures { result.now ≡ behind_first_line text.now }
 {
@@ -57,7 +57,7 @@ fn behind_first_line(text: &[u8]) -> &[u8]
     &text[end..]
 }
 
-/// The text that tells one end state from another: its word, and behind it the lines of the state.
+/// Returns the text by which end states differ: its word, and then the lines of the state.
 fn text_with(alloc: Global, word: &[u8], state: &[u8]) -> Result<Vec<u8>, AllocError>
     ensures { IfOk result (λ text. text.items ≡ codes "state " ++ (word.now ++ (10 ∷ behind_first_line state.now))) }
 {

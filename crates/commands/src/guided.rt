@@ -1,8 +1,8 @@
 //! The commands of a person at a terminal.
 //!
-//! Before a line is waited for, it is told who may go on and at which row, by the names of the program, which a line may have in
-//! place of numbers. A line may be words of a plan, too, and an empty one is the command before it once more. Two words are
-//! answered here and not handed on: `help`, and `w`, which writes the choices that were played as a plan.
+//! Before it waits for a line, it shows which threads can go on and at which row, with the names of the program. A line may
+//! have these names instead of numbers. A line may also be words of a plan, and an empty one repeats the command before it. Two
+//! words are answered here and aren't passed on: `help`, and `w`, which writes the choices that were played as a plan.
 
 ghost use Rattle.std.specs.Prelude.{◌≡◌, ◌≤◌, ◌⊎◌, IfErr, IfOk, IfSome, None, length};
 ghost use Rattle.plans.specs.Planned.{AreRuns};
@@ -43,10 +43,10 @@ const HELP: &[u8] = b"  s tN      one choice: thread N's turn; `s xN`: its timed
   Enter     repeat the last command
 ";
 
-/// What is told of a line that was answered with `?`.
+/// What is shown after the reply `?`.
 const NO_COMMAND: &[u8] = b"  not a command, or no such thread or row: `help` lists the commands\n";
 
-/// Tells something beside the session. Where it can't be told the session goes on.
+/// Shows something besides the session. If it can't be shown, the session goes on.
 fn note(told: Result<(), Failed>) {
     let _ = told;
 }
@@ -146,7 +146,7 @@ impl<'a, S: Source + Drop, K: Sink + Drop, E: Sink + Drop> Person<'a, S, K, E> {
         Ok(())
     }
 
-    /// The choices that a plan makes from where the session stands, where the line is a plan.
+    /// Returns the choices that a plan makes from the session's machine on, if the line is a plan.
     fn planned(&self, debugger: &Debugger) -> Result<Option<Vec<Run>>, AllocError>
         ensures { IfOk result (λ planned. IfSome planned (λ runs. AreRuns runs.items)) }
     {
@@ -159,7 +159,7 @@ impl<'a, S: Source + Drop, K: Sink + Drop, E: Sink + Drop> Person<'a, S, K, E> {
         Ok(Some(planned.runs))
     }
 
-    /// Reads what the line asks the debugger for: where it is no command, maybe the choices of a plan, as `g` has them.
+    /// Reads what the line asks the debugger for. If it is no command, it may be the choices of a plan, as for `g`.
     fn understand(&mut self, debugger: &Debugger) -> Result<(), AllocError> {
         self.command = command_of(Vec::new(self.alloc), self.line.as_slice())?;
         let Command::Unknown = &self.command else {

@@ -41,7 +41,7 @@ pub fn make<P: Picture, S: Source, K: Sink>(
     write(alloc, picture, program, choices.as_slice(), output)
 }
 
-/// The program and the schedule of a file: an image has none, a text has it behind its line `.run`.
+/// Returns the program and the schedule of a file: an image has none, and a text has it after its line `.run`.
 pub fn parts_of(file: &[u8]) -> (&[u8], &[u8])
     ensures program { result.0.now ≡ program_of file.now }
     ensures schedule { result.1.now ≡ schedule_behind file.now }

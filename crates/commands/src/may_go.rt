@@ -20,7 +20,7 @@ fn push_choice(text: &mut Vec<u8>, letter: u8, thread: u8) -> Result<(), AllocEr
     text.extend_from_slice(Buffer::new().format(thread).as_bytes())
 }
 
-/// What its next choice does, where it isn't its row.
+/// Returns what its next choice does, if that isn't its row.
 fn standing(machine: &Machine, thread: u8) -> &'static [u8]
     requires { thread < length machine.now.scene.threads }
 {

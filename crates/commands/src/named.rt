@@ -77,7 +77,7 @@ fn is_only(alloc: Global, names: &[&[u8]], text: &[u8], choice: Choice) -> Resul
     Ok(is_once(choice, first))
 }
 
-/// A choice by name where a plan reads the name as this choice, else by number.
+/// Returns a choice by name if a plan reads the name as this choice, and otherwise by number.
 fn choice_word(alloc: Global, names: &[&[u8]], choice: Choice) -> Result<Vec<u8>, AllocError>
     requires { length names.now ≤ 64 }
     ensures { IfOk result (λ word. word.items ≡ choice_word (map name_seen names.now) choice) }
@@ -89,7 +89,7 @@ fn choice_word(alloc: Global, names: &[&[u8]], choice: Choice) -> Result<Vec<u8>
     number_word(alloc, choice)
 }
 
-/// How often, where it is more than once.
+/// Appends the count, if it is above 1.
 fn push_times(text: &mut Vec<u8>, times: u32) -> Result<(), AllocError>
     ensures { OnOk result (text.new.items ≡ text.old.items ++ times_text times) }
 {

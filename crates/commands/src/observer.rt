@@ -1,8 +1,8 @@
-//! Who is told how far several runs have come.
+//! A report of how far several runs have come.
 
 use thread_runner::Ending;
 
-/// What the command that plays several runs tells as soon as each has ended.
+/// The command that plays several runs reports the end of each run here.
 pub trait Observer {
     fn ended(&self, ending: Ending);
 }

@@ -22,7 +22,7 @@ pub struct Page {
     pub others: OtherRuns,
 }
 
-/// What a page tells of a program as it was written.
+/// Returns the source of a program as it was written.
 fn source_of(program: &[u8]) -> &[u8]
     ensures { result.now ≡ source_of program.now }
 {

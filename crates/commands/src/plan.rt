@@ -31,7 +31,7 @@ use std::alloc::{AllocError, Global};
 use workbench::Program;
 use workbench::fault::Fault;
 
-/// The name of a thread, empty where it has none.
+/// Returns the name of a thread, or an empty one if it has none.
 fn thread_name<'a>(symbols: &Symbols<'a>, thread: u32) -> &'a [u8]
     ensures { result.now ≡ thread_name symbols.now thread }
 {

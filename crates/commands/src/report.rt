@@ -17,7 +17,7 @@ use workbench::done::Done;
 /// How long a schedule is at most: longer than 1,000,000,000 choices are written.
 const LONGEST: usize = 100_000_000_000;
 
-/// What stands behind the word of a state in which a thread has died.
+/// Returns what follows the word of a state in which a thread has died.
 fn died_mark(state: &EndState) -> &'static [u8]
     ensures { result.now ≡ died_mark state.now.text.items }
 {
@@ -63,7 +63,7 @@ fn push_schedule(
     }
 }
 
-/// Adds the line of an outcome, whose schedule is told by these names if there are some.
+/// Appends the line of an outcome. Its schedule has these names, if there are some.
 #[tactic(auto, using(crate::proofs::Reports::text_steps))]
 fn push_line(
     alloc: Global,
@@ -86,7 +86,7 @@ fn push_line(
     text.extend_from_slice(b"\n")
 }
 
-/// The lines of all outcomes, whose schedules are told by these names if there are some.
+/// Returns the lines of all outcomes. Their schedules have these names, if there are some.
 pub fn report(
     alloc: Global,
     names: Option<&[&[u8]]>,

@@ -32,14 +32,14 @@ use trace_text::meeting::are_met;
 use workbench::Program;
 use workbench::fault::Fault;
 
-/// Which orders are asked for, and how they are told.
+/// Which orders are asked for, and how they are written.
 #[derive(Clone, Copy)]
 pub struct Seeds<'a> {
     /// The first seed.
     pub first: u32,
     /// How many seeds there are, 1 to 100,000. Each is one more than the seed before it.
     pub count: u32,
-    /// How many choices the order of a seed has at most, 1 to 1,000,000, where that is said.
+    /// The most choices of the order of a seed, 1 to 1,000,000, if that is given.
     pub limit: Option<u32>,
     /// What is expected of the state that each run ends in: texts as `trace_text` has them.
     pub expected: &'a [Vec<u8>],
@@ -57,7 +57,7 @@ pub struct Unlike {
     pub state: Vec<u8>,
 }
 
-/// Adds how many choices an order has at most, where that is said.
+/// Appends the most choices of an order, if that is given.
 #[tactic(auto, using(crate::proofs::Reports::text_steps))]
 fn push_limit(text: &mut Vec<u8>, limit: Option<u32>) -> Result<(), AllocError>
     ensures { OnOk result (text.new.items ≡ text.old.items ++ limit_mark limit) }
@@ -81,7 +81,7 @@ fn plan_by(alloc: Global, plan: &[u8], limit: Option<u32>, seed: u64) -> Result<
     Ok(text)
 }
 
-/// How the program of a machine stands, where no more is played: what could go on stays live.
+/// Returns how a machine's run ended if nothing more is played: what could go on is `live`.
 fn ending_of(machine: &Machine) -> Ending
     ensures { standing_at result ≡ standing_of (world_of machine.now) }
 {
@@ -92,7 +92,7 @@ fn ending_of(machine: &Machine) -> Ending
     }
 }
 
-/// What is told of a run of this seed that ended in this state, where it was expected to end otherwise.
+/// Returns what is reported about the run of this seed that ended in this state, if another end was expected.
 #[tactic(auto, using(crate::proofs::Seeded::judged))]
 fn judged(
     alloc: Global,
@@ -119,11 +119,11 @@ fn judged(
 #[derive(Drop)]
 struct OrderEnd {
     ending: Ending,
-    /// It, where it ended otherwise than it was expected to.
+    /// The first run that ended differently than expected.
     unlike: Option<Unlike>,
 }
 
-/// Adds what the order of a seed comes to.
+/// Adds the outcome of the order of a seed.
 fn add_order(
     alloc: Global,
     program: &Loaded,
@@ -176,7 +176,7 @@ struct Tally {
     unlike: Option<Unlike>,
 }
 
-/// What the orders of all seeds come to. As soon as a run has ended it is told.
+/// Plays the orders of all seeds, and returns their outcomes. The end of each run is reported at once.
 fn tally_of<O: Observer>(
     alloc: Global,
     program: &Loaded,
@@ -212,10 +212,10 @@ fn tally_of<O: Observer>(
     }
 }
 
-/// Plays, for each seed, a plan and behind it anybody who can go on in the order of the seed, on a program.
-/// Writes to `output` a line for each state that one ended in, the most frequent first, as `report_runs` does of live runs:
-/// how often one did, `all`, `stuck` or `live`, with `+died` where a thread died, and the seed and the schedule of the first that did.
-/// Its answer is the first run that ended otherwise than expected.
+/// Plays, for each seed, a plan and then any thread that can go on, in the order of the seed, on a program. Writes to `output`
+/// a line for each state that a run ended in, the most frequent first, as `report_runs` does for live runs: how often one did,
+/// `all`, `stuck` or `live`, with `+died` if a thread died, and the seed and the schedule of the first that did. Returns the
+/// first run that ended differently than expected, if one did.
 pub fn report_seeds<O: Observer, K: Sink>(
     alloc: Global,
     program: Program<'_>,

@@ -9,7 +9,7 @@ use trace_compare::{Judged, Verdict};
 const WANTED: &[u8] =
     b"wanted STEP tN ROW WHAT, STEP xN ROW WHAT, or the lines of a state, from state CHOICES STEPS WORD on\n";
 
-/// A line behind a word; the word alone where there is none.
+/// Appends a line after a word, or only the word if there is no line.
 fn push_line(text: &mut Vec<u8>, word: &[u8], line: Option<&[u8]>) -> Result<(), AllocError>
     ensures { OnOk result (text.new.items ≡ text.old.items ++ line_behind word.now (option_map (λ l. l.now) line.entry)) }
 {

@@ -6,7 +6,7 @@ use itoa::Buffer;
 use line_reader::words::is_blank;
 use std::alloc::{AllocError, Global};
 
-/// What a command is called elsewhere, and its letter here.
+/// The names of a command elsewhere, and its letter here.
 const CALLED_ELSEWHERE: [(&[u8], &[u8]); 12] = [
     (b"quit", b"q"),
     (b"exit", b"q"),
@@ -53,8 +53,8 @@ fn thread_called(symbols: &Symbols<'_>, name: &[u8]) -> Option<u16> {
     None
 }
 
-/// The letter and the number of the choice that a word names, where it has a declared name: `ann`, or `xann` for the end of her
-/// wait's time.
+/// Returns the letter and the number of the choice that a word names, if it has a declared name: `ann`, or `xann` for the
+/// expiry of her wait.
 fn choice_called(symbols: &Symbols<'_>, word: &[u8]) -> Option<(u8, u16)> {
     if let Some(thread) = thread_called(symbols, word) {
         return Some((b't', thread));

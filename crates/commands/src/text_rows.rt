@@ -10,7 +10,7 @@ use itoa::Buffer;
 use line_reader::words::is_line_end;
 use std::alloc::{AllocError, Global};
 
-/// What stands between the line ends of a text; behind the last one it may be nothing.
+/// Returns what is between the line ends of a text. After the last one it may be empty.
 fn split_lines(alloc: Global, text: &[u8]) -> Result<Vec<&[u8]>, AllocError>
     ensures { IfOk result (λ lines. map name_seen lines.items ≡ slice_split is_line_end text.now) }
 {
@@ -36,7 +36,7 @@ fn trimmed(line: &[u8]) -> &[u8]
     line.trim_ascii()
 }
 
-/// A row's line behind the two numbers.
+/// Appends a row's line after the two numbers.
 #[tactic(auto, using(line_reader::proofs::ListedTexts::word_steps))]
 fn push_text_row(
     listing: &mut Vec<u8>,

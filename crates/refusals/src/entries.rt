@@ -1,4 +1,4 @@
-//! The entries of the lines that programs are told, of exit statuses, of exceptions and of the rows together, a file for each group.
+//! The entries for lines on standard error, exit statuses, exceptions, and the rows as a whole, a file for each group.
 
 pub mod asm;
 pub mod declare;

@@ -9,8 +9,8 @@ use itoa::Buffer;
 /// What is said about words.
 #[derive(Clone, Copy)]
 pub struct Entry {
-    /// The patterns of the words, the word `refused` left out. A word that begins with a blank stands for a number, and is what that
-    /// counts; `_` stands for any word, and `..` behind the others for any words.
+    /// The patterns of the words, without the word `refused`. A word that begins with a blank is a number, and what it counts.
+    /// `_` is any word, and `..` after the others is any words.
     pub asked: &'static [&'static [&'static str]],
     /// The words of the line, with a word in capitals for a place.
     pub told: &'static str,
@@ -42,7 +42,7 @@ pub fn push_line<W: Sink>(output: &mut W, label: &[u8], text: &str) -> Result<()
     output.push(b"\n")
 }
 
-/// The line of a place, where there is one.
+/// Writes the line of a place, if there is one.
 fn push_place<W: Sink>(output: &mut W, place: Option<Place>) -> Result<(), Failed>
     ensures bytes { OnOk result (Appends (W.written output.old) (W.written output.new) (place_line place)) }
     ensures failed { OnErr result (IsTrue (W.has_failed output.new)) }

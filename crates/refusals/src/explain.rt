@@ -52,7 +52,7 @@ pub fn push_no_line<E: Sink>(errors: &mut E) -> Result<(), Failed>
     push_questions(errors)
 }
 
-/// The entry of the one word that is asked for, where it is one of the language.
+/// Returns the entry of the one word that is asked for, if it is a word of the language.
 fn entry_asked(words: &[&str]) -> Option<WordEntry>
     ensures { MatchOption result (AreNoWord (texts words.now)) (λ e. AreItsWord e (texts words.now)) }
 {

@@ -7,7 +7,7 @@ use line_reader::words::{before_comment, is_blank};
 use schedule_reader::read_schedule;
 use std::alloc::Global;
 
-/// What helps where operands are parted by commas.
+/// What helps if operands are separated by commas.
 const AT_COMMA: &str = "no commas: put blanks between operands, as in `paaa r0 p`";
 
 /// What helps if a comment begins as in other languages.
@@ -32,7 +32,7 @@ pub fn has_comment_sign(word: &[u8]) -> bool {
     word.starts_with(b"#") || word.starts_with(b"//") || word.starts_with(b"/*")
 }
 
-/// Whether a word begins such a comment where `#` and a number may stand, too.
+/// Returns whether a word begins such a comment where `#` and a number may be, too.
 fn begins_other_comment(word: &[u8]) -> bool {
     match word {
         [b'/', b'/' | b'*', ..] => true,
@@ -57,7 +57,7 @@ fn is_number(word: &[u8]) -> bool {
             .all(|byte| byte.is_ascii_digit() || *byte == b'-')
 }
 
-/// Whether a word behind this one begins an instruction, or is a colon.
+/// Returns whether a word after this one begins an instruction, or is a colon.
 fn has_statement_behind(line: &[u8], word: &[u8]) -> bool {
     let mut words = line
         .split(|byte| is_blank(*byte))
@@ -80,7 +80,7 @@ pub fn word_assigned(line: &[u8]) -> Option<&[u8]> {
     Some(words.next().unwrap_or(&[]))
 }
 
-/// Whether a word is all that a line says, and an operand of another line.
+/// Returns whether a line is only a word, which is an operand of another line.
 fn is_label_alone(text: &[u8], line: &[u8], word: &[u8]) -> bool {
     before_comment(line).trim_ascii() == word
         && text.split(|byte| *byte == b'\n').any(|other| {
@@ -129,7 +129,7 @@ fn is_in_place_of_name(line: &[u8], word: &[u8]) -> bool {
     words.next().is_some_and(|first| is_directive(first)) && words.next() == Some(word)
 }
 
-/// What helps where no word of the language begins what a line says.
+/// Returns what helps if no word of the language begins the line.
 fn helps_at_word(text: &[u8], line: &[u8], word: &[u8]) -> Option<&'static str> {
     if word == b".run".as_slice() {
         Some(

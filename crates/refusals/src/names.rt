@@ -70,7 +70,7 @@ impl Nearest {
         }
     }
 
-    /// This word where it is nearer.
+    /// Returns this word if it is nearer.
     fn or(self, alloc: Global, word: &'static str, small: &[u8]) -> Result<Nearest, AllocError> {
         let far = distance(alloc, word.as_bytes(), small)?;
         if far < self.far {

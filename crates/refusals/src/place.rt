@@ -59,7 +59,7 @@ impl From<AllocError> for Unshown {
 /// More bytes than the line of a fault has.
 const LONGEST_LINE: usize = 64;
 
-/// What was shown of a place: whether the line of a file was, and what helps there, where that is more than its entry says.
+/// What was shown of a place: whether the file's line was, and what helps there, if that is more than its entry says.
 #[derive(Clone, Copy)]
 struct Shown {
     has_line: bool,
@@ -149,7 +149,7 @@ fn push_operands<E: Sink>(errors: &mut E, form: &[u8]) -> Result<(), Unshown> {
     Ok(errors.push(b"`")?)
 }
 
-/// The operands of a word of the language, and where more is told of it.
+/// Writes the operands of a word of the language, and where there is more about it.
 fn push_form_of<E: Sink>(errors: &mut E, word: &[u8]) -> Result<(), Unshown> {
     if let Some(entry) = word_of(word) {
         errors.push(b"  Form:    ")?;
@@ -161,7 +161,7 @@ fn push_form_of<E: Sink>(errors: &mut E, word: &[u8]) -> Result<(), Unshown> {
     Ok(())
 }
 
-/// The operands of what the line says, where the wrong word is one of them or there are too few.
+/// Writes the operands of what the line says, if the wrong word is one of them or there are too few.
 fn push_form<E: Sink>(errors: &mut E, line: &[u8], wrong: WordPlace) -> Result<(), Unshown> {
     match place_of_first(line) {
         Some(first) if wrong.at >= first.at => push_form_of(errors, word_at(line, first)),
@@ -169,8 +169,8 @@ fn push_form<E: Sink>(errors: &mut E, line: &[u8], wrong: WordPlace) -> Result<(
     }
 }
 
-/// The word of the language that may have been meant where none stands, with its operands: on a line as Java's the row of the
-/// method that is called behind `=`.
+/// Writes the word of the language that may have been meant if there is none, with its operands. For a line like Java's it is
+/// the row of the method that is called after `=`.
 fn push_near_word<E: Sink>(
     alloc: Global,
     errors: &mut E,
@@ -188,7 +188,7 @@ fn push_near_word<E: Sink>(
     }
 }
 
-/// What is told of a word of the language.
+/// Returns the entry of a word of the language.
 fn word_of(word: &[u8]) -> Option<WordEntry> {
     match str::from_utf8(word) {
         Ok(word) => word_entry(word),
@@ -211,7 +211,7 @@ fn push_given<E: Sink>(errors: &mut E, text: &[u8], word: &[u8]) -> Result<(), U
     Ok(())
 }
 
-/// The fault that a text has, where it is this one.
+/// Returns the fault that a text has, if it is this one.
 fn fault_in(alloc: Global, text: &[u8], line: u64, kind: AsmFaultKind) -> Option<PlacedFault> {
     match assemble_placed(alloc, text) {
         Err(placed) if placed.fault.line == line && placed.fault.kind == kind => Some(placed),
@@ -219,7 +219,7 @@ fn fault_in(alloc: Global, text: &[u8], line: u64, kind: AsmFaultKind) -> Option
     }
 }
 
-/// The fault of a program's text, whether or not the command read a schedule behind it.
+/// Returns the fault of a program's text, whether or not the command read a schedule after it.
 fn fault_of(
     alloc: Global,
     program: ProgramFile<'_>,
@@ -402,7 +402,8 @@ fn made_in(fault: LoadFault) -> Option<(OperandKind, u64)> {
     }
 }
 
-/// The line of what a load fault is about; where a thread could go on past the last row, that row's. Answers whether there is one.
+/// Writes the line of what a load fault is about. If a thread could go on after the last row, it is that row's line. Returns
+/// whether there is one.
 fn push_load_place<E: Sink>(
     alloc: Global,
     errors: &mut E,
@@ -441,7 +442,7 @@ fn push_token_place<E: Sink>(
     Ok(false)
 }
 
-/// The token of a schedule, which stands in a file of its own or behind the program's text. Answers whether it is shown.
+/// Writes the token of a schedule, which is in its own file or after the program's text. Returns whether it is shown.
 fn push_schedule_place<E: Sink>(
     errors: &mut E,
     program: ProgramFile<'_>,
@@ -463,7 +464,7 @@ fn push_schedule_place<E: Sink>(
     }
 }
 
-/// What helps where a schedule is refused, where that is more than its entry says.
+/// Returns what helps if a schedule is refused, if that is more than its entry says.
 fn helps_at_schedule(
     alloc: Global,
     program: ProgramFile<'_>,
@@ -531,13 +532,13 @@ fn file_of<'a>(
     }
 }
 
-/// Whether what is told is that there was no memory.
+/// Returns whether it is out of memory.
 fn is_of_memory(why: Unplanned) -> bool {
     why.status() == 4 && !matches!(why, Unplanned::Fault(Fault::Spawn))
 }
 
-/// Writes what the line means that tells this, as `explain` does with the line's words, but for what helps where that is known
-/// better. No memory is needed where there was none.
+/// Writes what a line means, like `explain` with the line's words, except what helps if something more specific is known. It
+/// doesn't allocate if it was out of memory.
 pub fn push_meaning<E: Sink>(
     alloc: Global,
     errors: &mut E,
@@ -558,7 +559,7 @@ pub fn push_meaning<E: Sink>(
     Ok(())
 }
 
-/// Writes where the place of a fault is, or which file it is of, and then the words of its entry.
+/// Writes the place of a fault, or which file it is in, and then its entry.
 pub fn push_place<E: Sink>(
     alloc: Global,
     fault: Fault,

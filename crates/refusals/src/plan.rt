@@ -34,7 +34,7 @@ fn word_places(alloc: Global, line: &[u8]) -> Result<Vec<WordPlace>, AllocError>
     Ok(places)
 }
 
-/// The parenthesis that is never closed: the last that is opened where none is open.
+/// Returns the parenthesis that is never closed: the last that is opened when none is open.
 fn never_closed(alloc: Global, plan: &[u8]) -> Result<Option<WordPlace>, AllocError> {
     let mut found = None;
     let mut depth: u8 = 0;
@@ -55,7 +55,7 @@ fn never_closed(alloc: Global, plan: &[u8]) -> Result<Option<WordPlace>, AllocEr
     Ok(found)
 }
 
-/// Whether this fault comes already where a plan ends here.
+/// Returns whether this fault comes even if a plan ends here.
 fn comes_before(alloc: Global, plan: &[u8], names: &[&[u8]], fault: PlanFault, end: usize) -> bool
     requires { length names.now ≤ 64 }
 {
@@ -65,7 +65,7 @@ fn comes_before(alloc: Global, plan: &[u8], names: &[&[u8]], fault: PlanFault, e
     }
 }
 
-/// The word that makes a fault: the first of its line with which the fault comes.
+/// Returns the word that makes a fault: the first of its line with which the fault comes.
 fn faulty_word(
     alloc: Global,
     plan: &[u8],
@@ -144,7 +144,7 @@ struct Near<'a> {
     expiry: bool,
 }
 
-/// The nearer of the name that was found and the nearest of these names to this one, where it is near at all.
+/// Returns the nearer of the name that was found and the nearest of these names, if it is near.
 fn nearer<'a>(
     alloc: Global,
     found: Option<Near<'a>>,
@@ -199,7 +199,7 @@ fn byte_before(line: &[u8], place: WordPlace) -> Option<u8> {
     before.last().copied()
 }
 
-/// What helps at a word of a plan's line, where that is more than its fault's entry says.
+/// Returns what helps at a word of a plan's line, if that is more than its fault's entry says.
 fn helps_in(
     plan: &[u8],
     kind: PlanFaultKind,
@@ -217,8 +217,8 @@ fn helps_in(
     }
 }
 
-/// Shows the line of a plan's fault, with a mark below the word that is wrong, or else which plan it is of. Answers what helps
-/// there, where that is more than its entry says.
+/// Shows the line of a plan's fault, with a mark below the wrong word, or else which plan it is in. Returns what helps there,
+/// if that is more than its entry says.
 fn push_shown_place<E: Sink>(
     alloc: Global,
     errors: &mut E,

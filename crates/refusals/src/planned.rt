@@ -1,4 +1,4 @@
-//! What a word of a plan may have been meant as, where that is more than its fault's entry says.
+//! What a word of a plan may have been meant as, if that is more than its fault's entry says.
 
 use crate::meant::{AT_COMMENT, has_comment_sign};
 
@@ -18,7 +18,7 @@ fn begins_with_count(word: &[u8]) -> bool {
     }
 }
 
-/// What helps where a count is wrong, by the byte before the word.
+/// Returns what helps if a count is wrong, by the byte before the word.
 fn helps_at_count(word: &[u8], before: Option<u8>) -> Option<&'static str> {
     if word.starts_with(b"*") {
         Some("no blank before a count, as in `ann*3` and `( ann. )*3`")
@@ -33,7 +33,7 @@ fn helps_at_count(word: &[u8], before: Option<u8>) -> Option<&'static str> {
     }
 }
 
-/// What helps where dots are wrong.
+/// Returns what helps if dots are wrong.
 fn helps_at_dots(word: &[u8]) -> Option<&'static str> {
     if word.starts_with(b"...") || word.starts_with(&ELLIPSIS) {
         Some("`..` has two dots: it plays all threads in turn")
@@ -46,7 +46,7 @@ fn helps_at_dots(word: &[u8]) -> Option<&'static str> {
     }
 }
 
-/// What helps where a dot isn't the last byte of a word.
+/// Returns what helps if a dot isn't the last byte of a word.
 fn helps_at_dot(word: &[u8]) -> Option<&'static str> {
     let dot = word.iter().position(|byte| *byte == b'.')?;
     match word.get(dot.saturating_add(1)..) {

@@ -39,7 +39,7 @@ fn number(text: &str) -> Option<u64>
     }
 }
 
-/// The place that a word tells, where it is a number.
+/// Returns the place that a word has, if it is a number.
 fn place_told(asked: &'static str, word: &str) -> Option<Place>
     ensures { MatchOption result ((place : Option Place) → IsPlace asked.now word.now place → ⊥)
         (λ place. IsPlace asked.now word.now (Some place)) }
@@ -51,7 +51,7 @@ fn place_told(asked: &'static str, word: &str) -> Option<Place>
     })
 }
 
-/// The place that words tell, if they tell one, where they fit a pattern.
+/// Returns the place that words have, if they have one, if they fit a pattern.
 fn fitted(pattern: &[&'static str], words: &[&str]) -> Option<Option<Place>>
     ensures { MatchOption result ((place : Option Place) → Fits (texts pattern.now) (texts words.now) place → ⊥)
         (Fits (texts pattern.now) (texts words.now)) }
@@ -81,7 +81,7 @@ fn fitted(pattern: &[&'static str], words: &[&str]) -> Option<Option<Place>>
     }
 }
 
-/// The place that words tell, if they tell one, where they fit one of several patterns: the first.
+/// Returns the place that words have, if they have one, by the first of several patterns that they fit.
 fn fitted_one(patterns: &[&'static [&'static str]], words: &[&str]) -> Option<Option<Place>>
     ensures { MatchOption result ((place : Option Place) → FitOne patterns.now (texts words.now) place → ⊥)
         (FitOne patterns.now (texts words.now)) }
@@ -126,7 +126,7 @@ fn question_among(tables: &[&[Entry]], words: &[&str]) -> Option<Question>
     }
 }
 
-/// The words behind `refused`, or all of them.
+/// Returns the words after `refused`, or all of them.
 fn without_refused<'a, 'b>(words: &'b [&'a str]) -> &'b [&'a str]
     ensures { texts result.now ≡ without_refused (texts words.now) }
 {

@@ -12,7 +12,7 @@ use byte_ports::Sink;
 use line_reader::label::is_label;
 use std::alloc::{AllocError, Global};
 
-/// What a directive may say behind a name, and the directive.
+/// What a directive may say after a name, and the directive.
 static OPTIONS: [(&str, &str); 6] = [
     ("parent", ".phaser"),
     ("phase", ".phaser"),
@@ -73,7 +73,7 @@ fn kind_named(name: &str) -> Option<&'static [&'static str]> {
     None
 }
 
-/// The word of the language that a line of a program begins with, behind its label.
+/// Returns the word of the language that a line of a program begins with, after its label.
 fn first_of_line(words: &[&str]) -> Option<&'static str> {
     match words {
         [label, word, ..] if is_label(label.as_bytes()) => spelled(word.as_bytes()),
@@ -82,7 +82,7 @@ fn first_of_line(words: &[&str]) -> Option<&'static str> {
     }
 }
 
-/// The words that ask for what was meant by words that ask for nothing, none where that isn't known.
+/// Returns the words that ask for what was meant by words that ask for nothing, or none if that isn't known.
 pub fn words_sought(alloc: Global, words: &[&str]) -> Result<Vec<&'static str>, AllocError> {
     let mut sought = Vec::new(alloc);
     if let [word] = words {

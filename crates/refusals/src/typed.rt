@@ -1,4 +1,4 @@
-//! A command as it should be typed, where the words of a plan stand among its words without quotes, or where a file should.
+//! A command as it should be typed, if the words of a plan are among its arguments without quotes, or instead of a file.
 
 use crate::place::Unshown;
 use byte_ports::{Failed, Sink};
@@ -8,7 +8,7 @@ use std::alloc::{AllocError, Global};
 /// The commands that play a plan or a schedule.
 static PLAYING: [&str; 5] = ["run", "show", "draw", "debug", "plan"];
 
-/// The words behind a command: its file, those that stand in the place of a schedule or a plan, and the options.
+/// The arguments after a command: its file, those in the place of a schedule or a plan, and the options.
 #[derive(Drop)]
 struct Typed<'a> {
     file: Option<&'a str>,
@@ -193,8 +193,8 @@ fn taken(command: &str, typed: &Typed<'_>) -> &'static [u8] {
     }
 }
 
-/// Writes a command as it should be typed, with these words behind its name, where a plan or a schedule isn't where it should be.
-/// Answers whether that is so.
+/// Writes a command as it should be typed, with these arguments, if a plan or a schedule isn't where it should be. Returns
+/// whether that is so.
 pub fn push_typed<E: Sink>(
     alloc: Global,
     errors: &mut E,
@@ -225,7 +225,7 @@ pub fn push_typed<E: Sink>(
     Ok(true)
 }
 
-/// Whether a word stands where a schedule or a plan should, and is a plan itself.
+/// Returns whether an argument is in the place of a schedule or a plan, and is a plan itself.
 pub fn is_unquoted_plan(alloc: Global, word: &str, words: &[String]) -> Result<bool, AllocError> {
     let typed = Typed::new(alloc, words)?;
     Ok(typed.file != Some(word) && are_plan(&[word]))

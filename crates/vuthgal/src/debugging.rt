@@ -22,8 +22,8 @@ use workbench::ending::flushed;
 use workbench::fault::{Fault, push_counted_line};
 use workbench::program::program_in;
 
-/// Carries out commands on an image's program, behind runs of choices if there are some. Nothing is kept back: standard output is
-/// flushed at each line's end.
+/// Carries out commands on an image's program, after runs of choices if there are some. Nothing is kept back: standard output
+/// is flushed at each line's end.
 fn session<'a, C: Companion>(
     rt: &HostRuntime,
     image: Image,
@@ -38,7 +38,7 @@ fn session<'a, C: Companion>(
     Ok(as_asked(flushed(answer, &mut output))?)
 }
 
-/// The session of a person, who is told beside the replies who may go on.
+/// The session of a person. Besides the replies it shows which threads can go on.
 fn session_of_person<'a>(
     rt: &HostRuntime,
     program: Program<'_>,
@@ -57,7 +57,7 @@ fn session_of_person<'a>(
     session(rt, image, runs, &mut commands)
 }
 
-/// The session behind the choices of a trace, which are played as they are read.
+/// The session after the choices of a trace, which are played as they are read.
 fn session_at<'a>(rt: &HostRuntime, image: Image, trace: Input<'_>) -> Answer<'a> {
     let mut trace = ReadPort::new(trace);
     let mut commands = BlockSource::new(rt.alloc(), ReadPort::new(rt.stdin()))?;
@@ -76,7 +76,7 @@ fn not_a_trace<'a>(rt: &HostRuntime, line: u64) -> Answer<'a> {
     Ok(flushed(answer, &mut output)?)
 }
 
-/// The session of a person behind the choices of a trace, which are kept for `w`.
+/// The session of a person after the choices of a trace, which are kept for `w`.
 fn session_of_person_at<'a>(
     rt: &HostRuntime,
     program: Program<'_>,

@@ -28,8 +28,8 @@ fn letter_of(kind: OperandKind) -> Option<&'static [u8]> {
     }
 }
 
-/// Adds the word with which the line of the thing of this name begins, or the name itself where nothing has it: a declared name
-/// goes before a number, so that `t0` is the thread 0 only where nothing else is called so.
+/// Appends the word that begins the line of what has this name, or the name itself if nothing has it. A declared name goes
+/// before a number, so `t0` is thread 0 only if nothing else has this name.
 fn push_subject(text: &mut Vec<u8>, symbols: &Symbols<'_>, name: &[u8]) -> Result<(), AllocError> {
     for index in 0..symbols.len() {
         let Some(symbol) = symbols.get(index) else {
@@ -45,7 +45,7 @@ fn push_subject(text: &mut Vec<u8>, symbols: &Symbols<'_>, name: &[u8]) -> Resul
     text.extend_from_slice(name)
 }
 
-/// What is expected, by the numbers of things where it names them.
+/// Returns what is expected, with numbers instead of names.
 fn numbered(alloc: Global, symbols: &Symbols<'_>, text: &[u8]) -> Result<Vec<u8>, AllocError> {
     let mut numbered = Vec::new(alloc);
     if end_words(text).is_some() {
@@ -90,7 +90,7 @@ pub fn as_expected(expected: &[Vec<u8>], end: &RunEnd) -> Done
     }
 }
 
-/// The line of a state that says otherwise than a text expects, none where there is no such line.
+/// Returns the line of a state that differs from what a text expects, or nothing if there is no such line.
 fn line_against<'a>(state: &'a [u8], text: &[u8]) -> Option<&'a [u8]> {
     if end_words(text).is_none() {
         return line_of(state, subject_of(text));
@@ -103,7 +103,7 @@ fn line_against<'a>(state: &'a [u8], text: &[u8]) -> Option<&'a [u8]> {
     line_of(state, b"state")
 }
 
-/// Tells which name of the program is nearly the one that a text expects something of, where nothing is called so.
+/// Says which name of the program is nearest to the name in a text, if nothing has that name.
 fn push_near<E: Sink>(alloc: Global, errors: &mut E, program: &[u8], text: &[u8]) {
     if let Ok(Some(name)) = nearest_name(alloc, program, subject_of(text)) {
         let _ = errors.push(b"Near: ");

@@ -46,7 +46,7 @@ fn said_in(word: &[u8]) -> Option<When> {
     }
 }
 
-/// The option that begins with the word in this place, where it does.
+/// Returns the option that the argument in this place begins, if it does.
 fn option_at(rt: &HostRuntime, number: usize, word: &[u8]) -> Option<Chosen> {
     let behind = word.strip_prefix(OPTION)?;
     if let Some(value) = behind.strip_prefix(b"=".as_slice()) {
@@ -128,7 +128,7 @@ fn push_wrong_value<E: Sink>(errors: &mut E, value: &[u8]) -> Result<(), Failed>
     errors.push(b" counts for nothing\n")
 }
 
-/// Whether the lines come, where they would. Says so if the environment's value is none, and the words say nothing.
+/// Returns whether the lines come. Reports a value of the environment that is none, if the arguments don't say anything.
 pub fn is_to_be_explained(rt: &HostRuntime) -> bool {
     let mut errors = WritePort::new(printable::errors(rt));
     let mut room = [0u8; ROOM];

@@ -39,7 +39,7 @@ fn is_one_file(a: &Metadata, b: &Metadata) -> bool {
     b.is_file() && a.dev() == b.dev() && a.ino() == b.ino()
 }
 
-/// Makes a file empty, but not where it is the one that is read from.
+/// Makes a file empty, but not if it is the file that is read from.
 fn make_empty<'a>(path: &'a str, file: &File, source: &File) -> Result<(), NoCommand<'a>> {
     let target = file
         .metadata()

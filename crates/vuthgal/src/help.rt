@@ -20,7 +20,7 @@ use workbench::run_line::split_at_run;
 /// How long a file is that is read again.
 const LONGEST: u64 = 16_777_216;
 
-/// The name of standard input as a file, and as it is told.
+/// The name of standard input as a file, and as it is shown.
 const INPUT: &str = "/dev/stdin";
 
 const STANDARD_INPUT: &str = "standard input";
@@ -28,14 +28,14 @@ const STANDARD_INPUT: &str = "standard input";
 /// The name of standard output as a file.
 const OUTPUT: &str = "/dev/stdout";
 
-/// The files that a refusal may be about: the program's, and the schedule's, the plan's or the trace's where it isn't the same. A
-/// plan may be a word itself.
+/// The files that a refusal may be about: the program's, and the schedule's, the plan's or the trace's if it is another one. A
+/// plan may be an argument itself.
 #[derive(Clone, Copy)]
 pub struct Files<'a> {
     program: &'a str,
     schedule: Option<&'a str>,
     plan: Option<&'a str>,
-    /// The file that is written, where that isn't standard output.
+    /// The file that is written, if that isn't standard output.
     output: Option<&'a str>,
     /// What was read of standard input, if that is known.
     input: Option<&'a [u8]>,
@@ -56,7 +56,7 @@ fn words_of<'a>(steps: Steps<'a>) -> (Option<&'a str>, Option<&'a str>) {
     }
 }
 
-/// The file that is written, where that isn't standard output.
+/// Returns the file that is written, if that isn't standard output.
 fn output_of<'a>(request: &Request<'a>) -> Option<&'a str> {
     match request {
         Request::Asm { image, .. } => Some(*image),
@@ -102,7 +102,7 @@ impl<'a> Files<'a> {
     }
 }
 
-/// What a file holds, nothing where it can't be read twice.
+/// Returns what a file has, or nothing if it can't be read twice.
 fn contents(rt: &HostRuntime, path: &str) -> Vec<u8> {
     let read = match fs::metadata(rt, path) {
         Ok(metadata) if metadata.is_file() && metadata.len() <= LONGEST => fs::read(rt, path).ok(),
@@ -111,7 +111,7 @@ fn contents(rt: &HostRuntime, path: &str) -> Vec<u8> {
     read.unwrap_or(Vec::new(rt.alloc()))
 }
 
-/// A program's file, with what stands before its line `.run` and where the schedule begins that follows it.
+/// Returns a program's file: its text before the line `.run`, and where the schedule after it begins.
 fn program_file<'a>(name: &'a str, bytes: &'a [u8]) -> ProgramFile<'a> {
     let (text, schedule) = split_at_run(bytes);
     ProgramFile {
@@ -121,12 +121,12 @@ fn program_file<'a>(name: &'a str, bytes: &'a [u8]) -> ProgramFile<'a> {
     }
 }
 
-/// A file's name as it is told.
+/// Returns a file's name as it is shown.
 fn told(path: &str) -> &str {
     if path == INPUT { STANDARD_INPUT } else { path }
 }
 
-/// Says which file can't be read, where it isn't there any more, is a folder, or is longer than may be. Answers whether it is so.
+/// Says which file can't be read, because it is gone, is a folder, or is too long. Returns whether this is so.
 fn push_unreadable(rt: &HostRuntime, path: &str) -> bool {
     let name = told(path);
     let metadata = match fs::metadata(rt, path) {
@@ -188,7 +188,7 @@ pub fn push_help(rt: &HostRuntime, fault: Fault, files: Files<'_>) {
     match fault {
         Fault::Write if files.output.is_none() && writes_to_pipe(rt) => {}
         _ if !is_to_be_explained(rt) => {}
-        // No file is read again where there was no memory.
+        // No file is read again if it was out of memory.
         _ if fault.status() == 4 => push_place_of(
             rt,
             fault,
@@ -218,7 +218,7 @@ fn push_place_of(
     let _ = push_place(rt.alloc(), fault, program, schedule, &mut errors);
 }
 
-/// Shows where the fault of a file is, which is read again, and says what it means.
+/// Shows the place of a file's fault, for which the file is read again, and says what the fault means.
 fn push_refusal(rt: &HostRuntime, fault: Fault, files: Files<'_>) {
     let program = contents(rt, files.program);
     let program = program_file(files.program, program.as_slice());
@@ -337,8 +337,8 @@ pub fn push_text(rt: &HostRuntime, text: Result<String, AllocError>) {
     }
 }
 
-/// Says what may have been meant by the name of a file that can't be opened, among these words: a file whose name has `.asm`
-/// behind it, or a plan.
+/// Says what may have been meant by the name of a file that can't be opened, among these arguments: a file with `.asm` after
+/// its name, or a plan.
 fn push_meant(rt: &HostRuntime, path: &str, words: &[String]) {
     if path == "-" {
         push_text(

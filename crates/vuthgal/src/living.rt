@@ -19,7 +19,7 @@ use workbench::ending::flushed;
 use workbench::program::program_in;
 use workbench::{Program, racing};
 
-/// Plays a program on real threads, which pause a little where there is a seed.
+/// Plays a program on real threads, which pause a little if there is a seed.
 fn live<'a, R: Threads + Wait + Sync>(
     threads: &R,
     rt: &HostRuntime,

@@ -129,7 +129,7 @@ fn is_run(request: &Request<'_>) -> bool {
     )
 }
 
-/// Does what the words ask for, and answers the exit status. On a terminal what a fault means follows its line.
+/// Does what the arguments ask for, and returns the exit status. At a terminal the meaning of a fault follows its line.
 fn main(rt: HostRuntime) -> ExitCode {
     let words = match words::given(&rt) {
         Ok(words) => words,

@@ -16,10 +16,10 @@ use workbench::fault::Fault;
 /// The status if the arguments are wrong.
 pub const WRONG_WORDS: u8 = 2;
 
-/// What is told of a word that is no text.
+/// What is written about an argument that isn't text.
 const NOT_TEXT: &str = "error: an argument isn't UTF-8";
 
-/// What is told where `--explain` has a value that is none.
+/// What is written if `--explain` has a wrong value.
 const WRONG_WHEN: &str = "error: --explain WHEN: WHEN is always, auto or never";
 
 /// What plays kept runs again.
@@ -51,7 +51,7 @@ impl<'a> From<AllocError> for NoCommand<'a> {
     }
 }
 
-/// The status of what there is before a command, whose line is told where it is a fault.
+/// Returns the status of what precedes a command, and reports its fault.
 fn ended(rt: &HostRuntime, answer: Result<Done, Fault>) -> u8 {
     settled(answer, &mut WritePort::new(rt.stderr()))
 }
@@ -93,7 +93,7 @@ fn tell_words(rt: &HostRuntime, error: &WordsError, words: &[String]) -> u8 {
     status
 }
 
-/// Whether what is told has this part.
+/// Returns whether a text has this part.
 fn has_part(told: &Result<String, AllocError>, part: &str) -> bool {
     match told {
         Ok(text) => text.as_str().find(part).is_some(),
@@ -101,7 +101,7 @@ fn has_part(told: &Result<String, AllocError>, part: &str) -> bool {
     }
 }
 
-/// Whether what is told is enough: what may have been meant, or which option there isn't.
+/// Returns whether a text says enough: what may have been meant, or which option doesn't exist.
 fn is_enough(told: &Result<String, AllocError>) -> bool {
     let has_own_tip = has_part(told, "unexpected argument '--out")
         || has_part(told, "unexpected argument '--plan'")

@@ -44,7 +44,7 @@ fn shown(byte: u8) -> u8 {
 }
 
 impl<W: Write> Write for Printable<W> {
-    // What a terminal is shown isn't told.
+    // What a terminal shows is unknown.
     ghost contents = { λ w. if w.is_terminal then None else W.contents w.writer };
 
     fn write(&mut self, bytes: &[u8]) -> io::Result<usize>

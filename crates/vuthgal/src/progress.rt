@@ -20,7 +20,7 @@ use std::sync::atomic::{AtomicU64, Ordering};
 use std::time::Instant;
 use thread_runner::{Ending, Gate};
 
-/// The time, where somebody sees standard error.
+/// Returns the time, if somebody sees standard error.
 fn began(rt: &HostRuntime) -> Option<Instant> {
     if !rt.stderr().is_terminal() {
         return None;
@@ -28,8 +28,8 @@ fn began(rt: &HostRuntime) -> Option<Instant> {
     Instant::now(rt).ok()
 }
 
-/// The time, where somebody sees standard error, and standard output goes elsewhere: what is shown doesn't stand among it, nor
-/// over what another program makes of it.
+/// Returns the time, if somebody sees standard error and standard output goes elsewhere. Then the progress isn't mixed with the
+/// output, nor with what another program makes of it.
 fn began_beside_output(rt: &HostRuntime) -> Option<Instant> {
     if rt.stdout().is_terminal() || writes_to_pipe(rt) {
         return None;
@@ -88,7 +88,7 @@ impl<'a> Meter<'a> {
         Meter::new(rt, began_beside_output(rt), ("about ", "arrivals"))
     }
 
-    /// How many seconds have gone by, at least one, where somebody looks and nothing was shown in this second.
+    /// Returns how many seconds have gone by, at least one, if somebody looks and nothing was shown in this second.
     fn second(&self) -> Option<u64>
         ensures { IfSome result (λ seconds. 1 ≤ seconds) }
     {
@@ -103,7 +103,7 @@ impl<'a> Meter<'a> {
         Some(seconds)
     }
 
-    /// Shows so many, and how much of a file was read where that is known, unless somebody did in this second.
+    /// Shows this count, and how much of a file was read if that is known, unless it was shown in this second.
     fn show(&self, done: u64, percent: Option<u64>) {
         let Some(seconds) = self.second() else {
             return;
@@ -159,7 +159,7 @@ pub struct OrderMeter<'a> {
 }
 
 impl<'a> OrderMeter<'a> {
-    /// Before the first of so many, behind which alone something goes to standard output.
+    /// Makes one before the first of so many runs, which write to standard output only at their end.
     pub fn new(rt: &'a HostRuntime, count: u32) -> OrderMeter<'a> {
         OrderMeter {
             meter: Meter::new(rt, began(rt), ("", "seeds")),
@@ -170,7 +170,7 @@ impl<'a> OrderMeter<'a> {
         }
     }
 
-    /// The line, which is ended before something else is told.
+    /// Returns the line, which is ended before anything else is written.
     pub fn meter(&self) -> &Meter<'a> {
         &self.meter
     }
@@ -281,7 +281,7 @@ impl<'a, S> ShownSource<'a, S> {
         }
     }
 
-    /// How much was read, where the size is known.
+    /// Returns how much was read, if the size is known.
     fn percent(&self) -> Option<u64> {
         self.read.saturating_mul(100).checked_div(self.size)
     }

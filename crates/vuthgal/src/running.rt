@@ -24,7 +24,7 @@ use workbench::slice_source::SliceSource;
 /// Where the trace of a run goes.
 pub type TracePort<'a> = BlockPort<WritePort<ShownWriter<'a, Stdout>>>;
 
-/// What `live` means where the schedule ended the run.
+/// What `live` means if the schedule ended the run.
 const SCHEDULE_ENDS: &str =
     "live: some threads could still continue, but the schedule has no more choices\n";
 

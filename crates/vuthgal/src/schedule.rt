@@ -44,7 +44,7 @@ impl Seen {
         })
     }
 
-    /// Whether a picture needs nothing behind this byte: it makes the schedule's fault, or ends a choice too many.
+    /// Returns whether a picture needs nothing after this byte: it makes the schedule's fault, or ends one choice too many.
     fn is_enough_with(&mut self, byte: u8) -> bool {
         let was_between = self.is_between;
         self.is_between = byte == b'\n' || is_blank(byte);
@@ -59,7 +59,7 @@ impl Seen {
         told.is_err() || self.choices > MOST_CHOICES as u64
     }
 
-    /// How many of these bytes a picture needs, where it needs nothing behind one of them.
+    /// Returns how many of these bytes a picture needs, if it needs nothing after one of them.
     fn needed(&mut self, bytes: &[u8]) -> Option<usize>
         ensures { IfSome result (λ n. n ≤ length bytes.now) }
     {
@@ -133,7 +133,7 @@ impl<'a, F: Read + Drop, S: Read + Drop> ScheduleOf<'a, F, S> {
 }
 
 impl<'a, F: Read, S: Read> Source for ScheduleOf<'a, F, S> {
-    // What was read of its input that it didn't hand on is told of none.
+    // What it has read of its input and not passed on is unknown.
     ghost left = { λ s. unless_cut s.is_over s.seen (left_of F.remaining S.remaining s.source.inner) };
 
     ghost has_failed = { λ s. if s.is_over then false else s.source.failed };

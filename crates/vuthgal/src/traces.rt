@@ -15,7 +15,7 @@ use workbench::ending::{flushed, handed_on};
 use workbench::input::read_all;
 use workbench::program::program_in;
 
-/// What a verdict on the trace of this name comes to. On a terminal it is told how a trace is made, where there is none.
+/// Returns the result of a verdict on the trace of this name. At a terminal it says how a trace is made, if it isn't one.
 fn ended(rt: &HostRuntime, trace: &str, verdict: Verdict) -> Done {
     if matches!(verdict, Verdict::NotATrace { .. }) {
         push_no_trace(rt, trace);

@@ -11,12 +11,12 @@ use strsim::osa_distance;
 /// How long a word may be that is looked at; no command has a longer name.
 const LONGEST_WORD: usize = 64;
 
-/// Whether a word's next is its value, also where no command stands before it.
+/// Returns whether the next argument is this option's value, also without a command before it.
 fn is_option_with_value(word: &[u8]) -> bool {
     word == b"--expect".as_slice() || word == b"--explain".as_slice()
 }
 
-/// The first word that is no option, and not the value of one, where it is a command's name: the command that was meant.
+/// Returns the first argument that is neither an option nor the value of one, if it is the name of a command.
 fn meant(rt: &HostRuntime) -> Option<&'static str> {
     let mut room = [0u8; LONGEST_WORD];
     let mut is_value = false;
@@ -98,7 +98,8 @@ fn usage_line(help: &str) -> &str {
         .unwrap_or("")
 }
 
-/// The text of a help, which words that ask for one bring as an error. Without memory another error comes in its place.
+/// Returns the text of a help, which arguments that ask for help bring as an error. If it is out of memory, there is another
+/// error instead.
 fn text_of(rt: &HostRuntime, help: &WordsError) -> Result<String, AllocError> {
     if help.kind() == ErrorKind::OutOfMemory {
         return Err(AllocError);
@@ -121,8 +122,8 @@ pub fn with_usage(rt: &HostRuntime, why: &str) -> Result<String, AllocError> {
     format!(in rt.alloc(); "{why}\n\n{usage}\n\nFor more information, try '--help'.\n")
 }
 
-/// How much of a text tells what is wrong, where it has no usage of the command that was meant: that of an option's value has the
-/// program's, and that of a value that is missing none.
+/// Returns how much of a text says what is wrong, if it doesn't have the usage of the command that was meant: for an option's
+/// value it has the program's usage, and for a missing value none.
 fn length_of_why(text: &str, kind: ErrorKind) -> Option<usize> {
     match text.find("\n\nUsage: ") {
         Some(length) if kind == ErrorKind::ValueValidation => Some(length),
@@ -138,7 +139,7 @@ fn quoted_in(why: &str) -> Option<&str> {
     Some(word)
 }
 
-/// Whether what an error says first is enough: what else it says would lead elsewhere than what is told behind it.
+/// Returns whether what an error says first is enough, because the rest would be misleading.
 fn is_enough_first(why: &str, kind: ErrorKind) -> bool {
     if kind == ErrorKind::InvalidSubcommand {
         return quoted_in(why).is_some_and(|word| is_other_name(word));
