@@ -15,6 +15,8 @@ final class BurstKit {
     private static final int ROUNDS_ON_THE_JDK = 2_000;
     private static final int ROUNDS_ON_THE_RIGHT_ONE = 1_000;
     private static final int ROUNDS_TO_FIND = 20_000;
+    /** Calls of a long burst: more than the search for an order could try without a stack of its own. */
+    private static final int LONG_ONE = 6_000;
     /** A race is a matter of chance, and of free processors: what the bursts of one seed don't find, those of another may. */
     private static final int SEEDS_TO_FIND = 4;
     /** What is wrong may be taken to wait for ever sooner. */
@@ -65,14 +67,30 @@ final class BurstKit {
             + "    thread 0: arrive 0\n    thread 1: arrive 0\n");
         String right = report(new Told(0, arrive, 1, 2, Answer.value(0)), new Told(2, await, 1, Long.MAX_VALUE, null));
         part.take("a wait that has to be", !right.contains("no order explains these"), right);
+        checkLongOne(arrive);
+    }
+
+    /** So many calls come where a wait hangs, and the player goes on for it. */
+    private void checkLongOne(Request arrive) {
+        Told[] calls = new Told[LONG_ONE];
+        for (int number = 0; number < LONG_ONE; number++) {
+            calls[number] = new Told(0, arrive, 2 * number + 1, 2 * number + 2, Answer.value(number / 2));
+        }
+        String words = BurstJudge.judge(history(calls)).words();
+        part.take("a long burst", words == null, words);
     }
 
     /** A call as it is put into a history; it has no answer where that is null. */
     private record Told(int thread, Request request, long begin, long end, Answer answer) {
     }
 
-    /** Of a burst of three threads at a phaser of two parties. */
     private static String report(Told... calls) {
+        BurstHistory history = history(calls);
+        return new BurstReport(history, BurstJudge.judge(history)).text();
+    }
+
+    /** Of a burst of three threads at a phaser of two parties. */
+    private static BurstHistory history(Told... calls) {
         BurstMaker make = new BurstMaker("meetings", 1, 0, 1);
         make.root(2);
         for (int thread = 0; thread < 3; thread++) {
@@ -86,7 +104,7 @@ final class BurstKit {
                 entry.finish(call.answer(), call.end(), call.end());
             }
         }
-        return new BurstReport(history, BurstJudge.judge(history)).text();
+        return history;
     }
 
     private void checkSays(String report, String words) {

@@ -82,12 +82,12 @@ final class Bursts {
             for (Turn turn = next(); turn != null; turn = next()) {
                 playOne(place, turn);
             }
-        } catch (IOException | RuntimeException thrown) {
+        } catch (IOException | RuntimeException | Error thrown) {
             fail(thrown);
         }
     }
 
-    private synchronized void fail(Exception thrown) {
+    private synchronized void fail(Throwable thrown) {
         failed = thrown instanceof RuntimeException unchecked ? unchecked : new IllegalStateException(thrown);
     }
 

@@ -16,6 +16,8 @@ import java.util.Set;
 final class LegalHistory {
     /** A time that isn't over before a burst is, in nanoseconds. */
     private static final long LONG = 3_600_000_000_000L;
+    /** A search through so many calls needs no stack of its own. */
+    private static final int FEW = 200;
 
     private final BurstHistory history;
     private final List<List<BurstEntry>> lines;
@@ -103,7 +105,8 @@ final class LegalHistory {
     }
 
     private boolean explains() {
-        return goesOn(new HistoryPoint(history.burst().model(), lines.size()));
+        HistoryPoint begin = new HistoryPoint(history.burst().model(), lines.size());
+        return history.entries().size() <= FEW ? goesOn(begin) : DeepStack.ask(() -> goesOn(begin));
     }
 
     private boolean goesOn(HistoryPoint at) {

@@ -14,7 +14,7 @@ final class ReplayChecks {
     /** Where all stand still, so many times as long at each try, since the machine may be busy; more and a time would be over. */
     private static final List<String> PATIENCE = List.of("2", "4", "4");
     private static final String RIGHT = " same, 0 different, 0 left out\n";
-    /** So few that it takes some seconds; of the two growths of a heap that `kit/soak` looks at one is without a step. */
+    /** So few that it takes some seconds. Where a heap still grows then, `kit/soak` makes twice as many. */
     private static final int WAITS = 24_000;
     private static final long LONGEST_SECONDS = 240;
 

@@ -34,7 +34,7 @@ Fault fault_of_environment() {
   const char* names[] = {"", "check-push-park", "park-once", "register-by-adding", "arrive-by-subtracting",
                          "advance-in-two-steps", "force-by-storing", "stale-answer", "sixteen-are-woken",
                          "nodes-used-again", "phase-before-counts", "end-by-storing",
-                         "taken-off-by-comparing"};
+                         "taken-off-by-comparing", "queued-for-good"};
   for (int at = 1; name && at < static_cast<int>(std::size(names)); at++) {
     if (std::strcmp(name, names[at]) == 0) {
       return static_cast<Fault>(at);
@@ -277,7 +277,9 @@ void Phaser::release_all() {
   int count = 0;
   for (Node* node = waiters_.exchange(nullptr); node; count++) {
     Node* next = node->next;
-    node->queued = false;
+    if (fault != Fault::kQueuedForGood) {
+      node->queued = false;
+    }
     if (count < most) {
       node->parker.unpark();
     }

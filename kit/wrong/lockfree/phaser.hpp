@@ -23,6 +23,7 @@ enum class Fault {
   kPhaseBeforeCounts,
   kEndByStoring,
   kTakenOffByComparing,
+  kQueuedForGood,
 };
 
 /// All its numbers are one word (docs/FORMATS.md, "Packed word"), which calls exchange by comparing. Who waits pushes a node
