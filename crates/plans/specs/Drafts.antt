@@ -1,4 +1,4 @@
--- A draft as the code stores it.
+-- A draft as the code has it.
 use Rattle.plans.specs.declared.draft.Reading.{Reading}
 use Rattle.plans.specs.Plan.{Draft}
 

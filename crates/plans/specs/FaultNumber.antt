@@ -1,4 +1,4 @@
--- The numbers that a plan's faults are reported with.
+-- The numbers that a plan's faults are told with.
 use Rattle.std.specs.Prelude.{ℕ, Option, Some, None}
 use Rattle.plans.specs.declared.fault.PlanFaultKind.{PlanFaultKind}
 use Rattle.plans.specs.declared.fault.PlanFaultKind.TheVariants as fault

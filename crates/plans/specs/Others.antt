@@ -1,5 +1,5 @@
--- Where a choice leads that isn't the run's own: its thread goes on until it waits or ends; then the run's own choices follow,
--- without those that would do nothing; then the threads take turns.
+-- What another choice than the run's own leads to: its thread goes on until it waits or ends; then the run's own choices
+-- follow, without those that would do nothing; then the threads turn about.
 use Rattle.std.specs.Prelude.{ℕ, ◌&&◌, nat_lt, if◌then◌else◌, Bool, List, [], ◌∷◌}
 use Rattle.thread_machine.specs.declared.choice.Choice.{Choice}
 use Rattle.thread_machine.specs.Ready.{is_choice_ready}
@@ -18,7 +18,7 @@ unfoldable pub is_step_in : World → Choice → Bool
 is_step_in world choice =
     nat_lt choice.thread (thread_count world) && is_choice_ready world.program choice world.scene
 
--- a choice of the run is left out if it would do nothing
+-- a choice of the run is left out where it would do nothing
 unfoldable pub kept : Choice → Progress → Progress
 kept choice progress = if is_step_in progress.world choice then chosen choice progress else progress
 
@@ -30,8 +30,7 @@ all_kept (choice ∷ choices) progress = all_kept choices (kept choice progress)
 unfoldable pub turned_about : Progress → Progress
 turned_about progress = followed rule.TurnAbout progress.left 0 progress
 
--- the choices from this world on, at most so many: this one and its thread's, then the run's own from there, then turns of all
--- threads
+-- the choices from this world on, so many at most: this one and its thread's, then the run's own from there, then the others'
 abbrev pub other_choices : World → ℕ → Choice → List Choice → List Choice
 other_choices world most choice own =
     (turned_about (all_kept own (gone_ahead choice (record (begun_at world) { left = most })))).choices

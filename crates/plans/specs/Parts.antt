@@ -1,4 +1,4 @@
--- How words are stored. Only proofs use this: no promise depends on it.
+-- How words are stored. It carries the proof alone: no public contract names it, and nobody has to believe it.
 use Rattle.std.specs.Prelude.{◌≡◌, ℕ, if◌then◌else◌, Bool, true, false, List, [], ◌∷◌, drop, Some, None}
 use Rattle.plans.specs.declared.part.Part.{Part}
 use Rattle.plans.specs.declared.part.Part.TheVariants as part
@@ -41,13 +41,13 @@ word_with part.Open number seed = word.Open
 word_with part.Close number seed = word.Close 1
 word_with part.CloseTimes number seed = word.Close number
 
--- a word that is stored; what it doesn't have is 0
+-- a word that is stored: what it doesn't take is 0
 pub record Holds (stored : Stored) (one : Word) : Type 0 where
   pub word : word_with stored.part stored.number stored.seed ≡ one
   pub number : takes_number stored.part ≡ false → stored.number ≡ 0
   pub seed : takes_seed stored.part ≡ false → stored.seed ≡ 0
 
--- the first of some numbers, if it is taken, and the numbers after it
+-- the first of some numbers, where it is taken, and those behind it
 abbrev pub first_of : List ℕ → ℕ
 first_of [] = 0
 first_of (number ∷ numbers) = number
@@ -61,7 +61,7 @@ left_of takes numbers = if takes then drop 1 numbers else numbers
 abbrev pub put_of : Bool → ℕ → List ℕ
 put_of takes number = if takes then number ∷ [] else []
 
--- the words of these parts, which take the numbers and the seeds in order
+-- the words of these parts, the numbers and the seeds that they take in order
 abbrev pub words_of_parts : List Part → List ℕ → List ℕ → List Word
 words_of_parts [] numbers seeds = []
 words_of_parts (one ∷ parts) numbers seeds =

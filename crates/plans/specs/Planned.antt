@@ -1,4 +1,4 @@
--- What is returned: the schedule of a plan, and the world after it.
+-- What is handed out: the schedule of a plan, and the world behind it.
 use Rattle.std.specs.Prelude.{◌≡◌, All, List}
 use Rattle.loader.specs.Program.{Program}
 use Rattle.thread_machine.specs.World.{World, world_of}
@@ -12,7 +12,7 @@ use Rattle.plans.specs.declared.planned.Planned.{Planned}
 use Rattle.plans.specs.Progress.{Progress, begun, begun_at}
 use Rattle.plans.specs.Play.{plays}
 
--- runs that tokens can spell, joined if they can be
+-- runs that tokens can spell, joined where they can be
 pub record AreRuns (runs : List Run) : Type 0 where
   pub spelled : All IsRun runs
   pub joined : AreJoined runs

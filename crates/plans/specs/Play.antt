@@ -9,13 +9,13 @@ use Rattle.plans.specs.Tree.{Plan, Done, Then, Group}
 use Rattle.plans.specs.Progress.{Progress, chosen}
 use Rattle.plans.specs.Rules.{next_choice}
 
--- a progress after so many repetitions
+-- a progress that is played on so many times
 unfoldable pub repeated : ℕ → (Progress → Progress) → Progress → Progress
 repeated zero play progress = progress
 repeated (suc times) play progress = repeated times play (play progress)
 
--- at most so many choices of a rule, from choice k on: each is the rule's choice in the world after those before it, until the
--- rule has none
+-- so many choices of a rule at most, from choice k on: each is the rule's in the world that those before it left, until it
+-- has none
 abbrev pub followed_by : Option Choice → (Progress → Progress) → Progress → Progress
 followed_by None later progress = progress
 followed_by (Some choice) later progress = later (chosen choice progress)
@@ -37,7 +37,7 @@ unfoldable pub step_played : Step → Progress → Progress
 step_played (step.Make who times) progress = repeated times (chosen (choice_of who)) progress
 step_played (step.Follow rule most) progress = followed rule (most_of most progress) 0 progress
 
--- one step after another; a group is played once, and then again until it was played so many times
+-- one step after another; a group once, and then again until it was played so many times
 unfoldable pub plays : Plan → Progress → Progress
 plays Done progress = progress
 plays (Then step rest) progress = plays rest (step_played step progress)

@@ -1,4 +1,4 @@
--- How far a plan has come, and what one choice adds to that.
+-- How far a plan has come, and what one choice makes of that.
 use Rattle.std.specs.Prelude.{ℕ, ◌+◌, ◌-◌, ◌==◌, if◌then◌else◌, Bool, true, false, List, [], ◌∷◌, ◌++◌, Option, Some, None}
 use Rattle.loader.specs.Program.{Program}
 use Rattle.thread_machine.specs.declared.choice.Choice.{Choice}
@@ -6,8 +6,8 @@ use Rattle.thread_machine.specs.declared.fault.StepFault.{StepFault}
 use Rattle.thread_machine.specs.World.{World, first_world}
 use Rattle.thread_machine.specs.Step.{played, refusal_of}
 
--- the world, the choices that led to it, the number after that of the thread that was chosen last, how many choices may still
--- follow, and whether one was needed when none was left
+-- the world, the choices that led to it, the number behind the thread that was chosen last, how many choices there may be
+-- yet, and whether one was wanted for which none was left
 pub record Progress : Type 0 where
   pub world : World
   pub choices : List Choice
@@ -40,7 +40,7 @@ chosen_by None choice progress = record {
   stopped = progress.stopped;
 }
 
--- one more choice, if one is left
+-- one choice more, where one is left
 unfoldable pub chosen : Choice → Progress → Progress
 chosen choice progress =
     if progress.left == 0 then record progress { stopped = true }

@@ -20,7 +20,7 @@ Name = List ℕ
 abbrev pub Said : Type 0 → Type 0
 Said A = Result A PlanFaultKind
 
--- 42 is the star: what precedes it, and the count after it
+-- 42 is the star: what stands before it, and what is asked for behind it
 abbrev pub is_star : ℕ → Bool
 is_star byte = byte == 42
 
@@ -44,7 +44,7 @@ is_turn_about stem = bytes_eq stem (codes "..")
 abbrev pub is_seeded : List ℕ → Bool
 is_seeded stem = slice_index stem 0 == 63
 
--- 46 is the dot after a name
+-- 46 is the dot, behind a name
 abbrev pub has_dot : List ℕ → Bool
 has_dot stem = slice_index stem (length stem - 1) == 46
 
@@ -80,7 +80,7 @@ abbrev pub is_numbered : ℕ → List ℕ → Bool
 is_numbered letter name =
     (slice_index name 0 == letter) && are_digits (length name) (drop 1 name)
 
--- the thread of this number, among so many; a number has one or two digits
+-- the thread of this number, among so many: a number has one or two digits
 abbrev pub numbered_by : ℕ → Bool → Option ℕ → Said Chosen
 numbered_by count expiry None = Err fault.NoThread
 numbered_by count expiry (Some thread) =
@@ -105,14 +105,14 @@ abbrev pub named_by : List Name → Name → Option ℕ → Said Chosen
 named_by names name (Some thread) = Ok (record { thread = thread; expiry = false })
 named_by names name None = expiry_named names name
 
--- by a number, if no thread has this name
+-- by a number, where nothing is called so
 abbrev pub or_numbered : Said Chosen → ℕ → Name → Said Chosen
 or_numbered (Ok chosen) count name = Ok chosen
 or_numbered (Err why) count name =
     if is_numbered 116 name then numbered_by count false (number_in 2 63 (drop 1 name))
     else (if is_numbered 120 name then numbered_by count true (number_in 2 63 (drop 1 name)) else Err why)
 
--- whose choice it is: first a name, then `x` and a name; `t3` and `x3` are numbers if no thread has this name
+-- whose choice: a name first, then `x` and a name; `t3` and `x3` are numbers where no thread is called so
 abbrev pub chosen_by : List Name → Name → Said Chosen
 chosen_by names name = or_numbered (named_by names name (thread_named names name)) (length names) name
 
@@ -121,7 +121,7 @@ abbrev pub make : Option ℕ → Chosen → Said Word
 make times chosen =
     Ok (word.Step (step.Make chosen (or_once times)))
 
--- turns of only this thread; no dot can follow an expiry
+-- turns of this thread alone: a dot stands behind no expiry
 abbrev pub alone : Chosen → Said Word
 alone chosen =
     if chosen.expiry then Err fault.BadWord else Ok (word.Step (step.Follow (rule.Alone chosen.thread) None))
@@ -140,7 +140,7 @@ meaning names stem times =
     else (if has_dot stem then (chosen_by names (before_dot stem) >>= alone)
     else (chosen_by names stem >>= make times)))))
 
--- what a word says; of its faults the first in the order of their numbers, but `x3.` comes last
+-- what a word says: of its faults the first in the order of their numbers, but that `x3.` is told last
 abbrev pub word_of : List Name → List ℕ → Said Word
 word_of names bytes =
     if is_spelled bytes then (times_in bytes >>= meaning names (stem_of bytes)) else Err fault.BadWord

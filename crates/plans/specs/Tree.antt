@@ -1,5 +1,4 @@
--- Which words of a plan belong together: a plan has steps and groups, and a group is a plan of its own that is played so many
--- times.
+-- Which words of a plan belong together: a plan is steps and groups, and a group is a plan of its own, played so many times.
 use Rattle.std.specs.Prelude.{◌≡◌, ℕ, List, [], ◌∷◌, ◌++◌}
 use Rattle.plans.specs.declared.word.Step.{Step}
 use Rattle.plans.specs.declared.word.Word.{Word}
@@ -10,7 +9,7 @@ pub data Plan : Type 0 where
   Then : Step → Plan → Plan
   Group : Plan → ℕ → Plan → Plan
 
--- the words that it is written as; those of a group are between its parentheses
+-- the words that it is written as: a group's stand between its parentheses
 abbrev pub words_of_plan : Plan → List Word
 words_of_plan Done = []
 words_of_plan (Then step rest) = word.Step step ∷ words_of_plan rest

@@ -45,8 +45,8 @@ fn is_parenthesis(byte: u8) -> bool
     byte == b'(' || byte == b')'
 }
 
-/// Returns how many bytes the word has that a line begins with, or 0 if the line begins with a blank. A parenthesis is a word
-/// of its own, with its count if it has one.
+/// How many bytes the word has that a line begins with, none where it begins with a blank. A parenthesis is a word of its own,
+/// with its count if it has one.
 pub fn word_length(line: &[u8]) -> usize
     requires { 0 < length line.now }
     ensures word { words_in (spread line.now) ≡ word_alone (take result line.now) ++ words_in (spread (drop result line.now)) }
@@ -64,7 +64,7 @@ pub fn word_length(line: &[u8]) -> usize
     1
 }
 
-/// Returns what precedes a place.
+/// What stands before a place.
 pub fn before(text: &[u8], place: usize) -> &[u8]
     requires { place ≤ length text.now }
     ensures { result.now ≡ take place text.now }
@@ -72,7 +72,7 @@ pub fn before(text: &[u8], place: usize) -> &[u8]
     &text[..place]
 }
 
-/// Returns what follows from a place on.
+/// What stands from a place on.
 pub fn from(text: &[u8], place: usize) -> &[u8]
     requires { place ≤ length text.now }
     ensures { result.now ≡ drop place text.now }

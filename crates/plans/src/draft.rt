@@ -150,8 +150,8 @@ impl Reading {
     }
 }
 
-/// Reads a plan for a program whose threads have these names, in order of number. Returns the words of the text, or the first
-/// fault. A parenthesis that is never closed is reported only if nothing else is wrong.
+/// Reads a plan for a program whose threads have these names, in order of number. Its answer is the words of the text, or
+/// the first fault; a parenthesis that is never closed is told only where nothing else is wrong.
 pub fn read_plan(alloc: Global, text: &[u8], names: &[&[u8]]) -> Result<Words, PlanFault>
     requires { length names.now ≤ 64 }
     ensures read { AnswersPlan (λ words. words) result (words_in_plan (map name_seen names.now) text.now) }

@@ -6,15 +6,15 @@ ghost use Rattle.plans.specs.FaultNumber.{plan_number};
 pub enum PlanFaultKind {
     /// No word of a plan is spelled so.
     BadWord,
-    /// No number from 1 to 1,000,000 follows the star.
+    /// Behind the star stands no number from 1 to 1,000,000.
     BadCount,
-    /// No number below 2 to the 64th follows the question mark.
+    /// Behind the question mark stands no number below 2 to the 64th.
     BadSeed,
     /// No thread has this name.
     NotNamed,
     /// No thread has this number.
     NoThread,
-    /// Parentheses are nested seventeen deep.
+    /// A seventeenth parenthesis is opened in one another.
     TooDeep,
     /// A parenthesis is closed that wasn't opened.
     NotOpened,
@@ -25,7 +25,7 @@ pub enum PlanFaultKind {
 }
 
 impl PlanFaultKind {
-    /// Returns the number that the fault is reported with. `Memory` has none.
+    /// The number that the fault is told with: missing memory has none.
     pub fn number(self) -> Option<u8>
         ensures { result ≡ plan_number self }
     {
@@ -43,8 +43,8 @@ impl PlanFaultKind {
     }
 }
 
-/// What is wrong with a plan, and in which line, from 1. For a parenthesis that is never closed it is the line of the
-/// parenthesis, and of several the outermost.
+/// What is wrong with a plan, and in which line, from 1. A parenthesis that is never closed is told with its own line: of
+/// several the outermost.
 #[derive(Clone, Copy, Debug, PartialEq, Eq)]
 pub struct PlanFault {
     pub line: u64,

@@ -1,8 +1,8 @@
-//! Plans: texts that a person writes to say whose turn it is.
+//! Plans: texts that a person writes, and that say whose turn it is.
 //!
-//! `read_plan` returns a plan's words (`specs/Plan.antt`, `specs/Tree.antt`), or the first fault and its line. `plan_runs`
-//! plays them on a program. `specs/Play.antt` says what a plan plays, and `specs/Rules.antt` which choice comes next if the
-//! plan doesn't name one. A plan makes at most 1,000,000 choices.
+//! `read_plan` answers a plan's words (`specs/Plan.antt`, `specs/Tree.antt`), or the first fault with its line. `plan_runs`
+//! plays them on a program: `specs/Play.antt` says what a plan plays, `specs/Rules.antt` who makes the next choice where the
+//! plan leaves it open. A plan makes 1,000,000 choices at most.
 #![tactic(auto)]
 
 // A plan's text.
@@ -15,10 +15,10 @@ mod reading;
 pub mod word;
 pub mod words;
 
-// Where a choice leads that isn't the run's own.
+// What another choice than a run's own leads to.
 pub mod others;
 
-// A plan that is played, and the schedule that it stands for.
+// A plan that is played: the schedule that it stands for.
 pub mod plan_runs;
 pub mod planned;
 mod player;

@@ -13,7 +13,7 @@ fn all_digits(word: &[u8]) -> bool
     word.iter().all(|byte| byte.is_ascii_digit())
 }
 
-/// Returns whether these are digits, at least one and at most so many.
+/// Whether these are digits, one to so many.
 pub fn are_digits(most: usize, word: &[u8]) -> bool
     ensures { result ≡ are_digits most word.now }
 {
@@ -33,7 +33,7 @@ fn digits_value(digits: &[u8]) -> u128
     value
 }
 
-/// Returns the number that at most so many digits spell, if it isn't above the maximum.
+/// The number that so many digits at most spell, if it is at most so large.
 pub fn number_in(most_digits: usize, most: u64, word: &[u8]) -> Option<u64>
     requires { most_digits ≤ 20 }
     ensures { result ≡ number_in most_digits most word.now }
@@ -48,7 +48,7 @@ pub fn number_in(most_digits: usize, most: u64, word: &[u8]) -> Option<u64>
     Some(value as u64)
 }
 
-/// Returns a count: 1 to 1,000,000, without a leading zero.
+/// How often: 1 to 1,000,000, without a leading zero.
 pub fn count_in(word: &[u8]) -> Option<u32>
     ensures { result ≡ count_in word.now }
 {
@@ -61,7 +61,7 @@ pub fn count_in(word: &[u8]) -> Option<u32>
     }
 }
 
-/// Returns a seed.
+/// A seed.
 pub fn seed_in(word: &[u8]) -> Option<u64>
     ensures { result ≡ seed_in word.now }
 {

@@ -63,8 +63,8 @@ impl Player {
     }
 }
 
-/// Returns where a choice leads from this machine on, instead of the run's own choices: the choice and further turns of its
-/// thread, then the run's own choices that still do something, and then turns of all threads, at most `most` choices in all.
+/// What a choice leads to from where a machine stands in a run, in the place of the run's own choices: that choice and its
+/// thread's turns, the run's own choices that still do something, and then turns of all threads, `most` choices at most.
 pub fn other_choices(
     alloc: Global,
     machine: Machine,

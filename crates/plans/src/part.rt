@@ -1,4 +1,4 @@
-//! A word of a plan in two bytes, with its number and its seed stored besides.
+//! A word of a plan in two bytes, and its number and its seed beside it.
 ghost use Rattle.std.specs.Prelude.{◌≡◌, false};
 ghost use Rattle.plans.specs.Parts.{Holds, takes_number, takes_seed, word_with};
 
@@ -24,7 +24,7 @@ pub enum Part {
     CloseTimes,
 }
 
-/// A word's part, its number and its seed, or 0 if it has none.
+/// A word's part, its number and its seed, 0 where it has none.
 #[derive(Clone, Copy)]
 pub struct Stored {
     pub part: Part,
@@ -32,7 +32,7 @@ pub struct Stored {
     pub seed: u64,
 }
 
-/// Returns whether a word has a number besides its part.
+/// Whether a word has a number beside its part.
 pub fn takes_number(part: Part) -> bool
     ensures { result ≡ takes_number part }
 {
@@ -48,7 +48,7 @@ pub fn takes_number(part: Part) -> bool
     )
 }
 
-/// Returns whether it has a seed besides its part.
+/// Whether it has a seed beside its part.
 pub fn takes_seed(part: Part) -> bool
     ensures { result ≡ takes_seed part }
 {
@@ -119,7 +119,7 @@ fn stored_rule(rule: Rule, most: Option<u32>) -> Stored
     }
 }
 
-/// Returns how a word is stored.
+/// How a word is stored.
 pub fn stored_word(word: Word) -> Stored
     ensures { Holds result word }
 {
@@ -147,7 +147,7 @@ fn rule(rule: Rule, most: Option<u32>) -> Word
     Word::Step(Step::Follow { rule, most })
 }
 
-/// Returns the word of a part with this number and this seed.
+/// The word of a part with this number and this seed.
 pub fn word_with(part: Part, number: u32, seed: u64) -> Word
     ensures { result ≡ word_with part number seed }
 {

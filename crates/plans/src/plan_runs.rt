@@ -23,7 +23,7 @@ pub fn plan_runs(
     Ok(player.into_planned())
 }
 
-/// Plays a plan from this machine on. Returns the schedule, and the machine that it leads to.
+/// The schedule of a plan that is played from where a machine stands, and the machine that it leads to.
 pub fn plan_runs_at(
     alloc: Global,
     machine: Machine,

@@ -1,13 +1,13 @@
 use schedule_reader::Run;
 use thread_machine::Machine;
 
-/// The result of a plan on a program.
+/// What a plan came to on a program.
 #[derive(Drop)]
 pub struct Planned {
-    /// The program after the last choice.
+    /// The program behind the last choice.
     pub machine: Machine,
-    /// The choices, joined if they can be.
+    /// The choices, joined where they can be.
     pub runs: Vec<Run>,
-    /// Whether the plan needed more than 1,000,000 choices.
+    /// Whether the plan wanted one more choice than 1,000,000.
     pub stopped: bool,
 }

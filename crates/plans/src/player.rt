@@ -19,7 +19,7 @@ const MOST_STEPS: u32 = 1_000_000_000;
 /// How many choices a plan makes at most.
 const MOST_CHOICES: u32 = 1_000_000;
 
-/// A machine, the choices that led to it, and how many may still follow.
+/// A machine, the choices that led to it, and how many there may be yet.
 #[derive(Drop)]
 pub struct Player {
     machine: Machine,
@@ -50,7 +50,7 @@ impl Model for Player {
 }
 
 impl Player {
-    /// Makes a player before the first choice, at this machine.
+    /// Before the first choice from where a machine stands.
     #[tactic(auto, unfolding(crate::specs::Progress::begun_at))]
     pub fn at(alloc: Global, machine: Machine) -> Player
         ensures { result ≡ begun_at (world_of machine) }
@@ -64,7 +64,7 @@ impl Player {
         }
     }
 
-    /// The same, with at most so many choices.
+    /// The same with room for so many choices at most.
     #[tactic(auto, unfolding(crate::specs::Progress::begun_at))]
     pub fn with_room(alloc: Global, machine: Machine, most: u32) -> Player
         requires { most ≤ 1000000 }
@@ -87,7 +87,7 @@ impl Player {
         Ok(Player::at(alloc, Machine::new(alloc, program, MOST_STEPS)?))
     }
 
-    /// Returns the result.
+    /// What has come of it.
     pub fn into_planned(self) -> Planned
         ensures choices { choices_of result.runs.items ≡ self.choices }
         ensures world { world_of result.machine ≡ self.world }
@@ -101,7 +101,7 @@ impl Player {
         }
     }
 
-    /// Returns how many choices may still follow.
+    /// How many choices there may be yet.
     pub fn left(&self) -> u32
         ensures left { result ≡ self.now.left }
         ensures most { result ≤ 1000000 }
@@ -109,14 +109,14 @@ impl Player {
         self.left
     }
 
-    /// Returns whether a choice was needed when none was left. Then nothing changes any more.
+    /// Whether a choice was wanted for which none was left: then nothing changes any more.
     pub fn is_over(&self) -> bool
         ensures { result ≡ ((self.now.left == 0) && self.now.stopped) }
     {
         self.left == 0 && self.stopped
     }
 
-    /// Returns how many threads there are.
+    /// How many threads there are.
     pub fn thread_count(&self) -> usize
         ensures count { result ≡ thread_count self.now.world }
         ensures few { result ≤ 64 }
@@ -124,7 +124,7 @@ impl Player {
         self.machine.thread_count()
     }
 
-    /// Returns whether a thread's turn would be a step.
+    /// Whether a thread's turn would be a step.
     #[tactic(auto, unfolding(crate::specs::Rules::is_ready_in))]
     pub fn is_ready(&self, thread: u8) -> bool
         requires { thread < thread_count self.now.world }
@@ -133,7 +133,7 @@ impl Player {
         self.machine.is_ready(thread)
     }
 
-    /// Returns whether a thread's timed wait can expire.
+    /// Whether the time of a thread's wait may run out.
     #[tactic(auto, unfolding(crate::specs::Rules::can_expire_in))]
     pub fn can_expire(&self, thread: u8) -> bool
         requires { thread < thread_count self.now.world }
@@ -142,7 +142,7 @@ impl Player {
         self.machine.can_expire(thread)
     }
 
-    /// Returns whether a choice of a thread can take a step.
+    /// Whether a choice of a thread may take a step.
     pub fn is_choice_ready(&self, choice: Choice) -> bool
         requires { choice.thread < thread_count self.now.world }
         ensures { result ≡ is_choice_ready self.now.world.program choice self.now.world.scene }
@@ -154,7 +154,7 @@ impl Player {
         }
     }
 
-    /// Returns the number after that of the thread that was chosen last.
+    /// The number behind the thread that was chosen last.
     pub fn next(&self) -> u8
         ensures { result ≡ self.now.next }
     {
@@ -188,7 +188,7 @@ impl Player {
         }
     }
 
-    /// Makes one choice, if one is left.
+    /// Makes one choice more, where one is left.
     #[tactic(auto, unfolding(crate::specs::Progress::chosen), using(crate::proofs::Choosing::none_refused))]
     pub fn choose(&mut self, choice: Choice) -> Result<(), AllocError>
         ensures { OnOk result (self.new ≡ chosen choice self.old) }

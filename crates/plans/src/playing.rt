@@ -7,8 +7,8 @@ use crate::words::WordsFrom;
 use std::alloc::{AllocError, Global};
 
 impl Player {
-    /// Plays words up to the parenthesis that closes their group, and takes that parenthesis, or up to their end. Returns how
-    /// often the group is to be played.
+    /// Plays words up to the parenthesis that closes their group, and takes that too, or to their end. Its answer is how often
+    /// the group is to be played.
     #[cycle(words)]
     pub fn play_words(
         &mut self,

@@ -271,7 +271,7 @@ fn meaning(names: &[&[u8]], stem: &[u8], times: Option<u32>) -> Result<Word, Pla
     make(times, chosen_by(names, stem)?)
 }
 
-/// Returns what a word says.
+/// What a word says.
 pub fn word_of(names: &[&[u8]], word: &[u8]) -> Result<Word, PlanFaultKind>
     requires { length names.now ≤ 64 }
     ensures { result ≡ word_of (map name_seen names.now) word.now }

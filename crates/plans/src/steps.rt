@@ -30,7 +30,7 @@ impl Player {
         Ok(())
     }
 
-    /// Makes the choices of a rule, at most so many.
+    /// Makes the choices of a rule, so many at most.
     pub fn follow(&mut self, alloc: Global, rule: Rule, most: u32) -> Result<(), AllocError>
         ensures { OnOk result (self.new ≡ followed rule most 0 self.old) }
     {

@@ -1,7 +1,7 @@
-/// Which choice comes next if a plan doesn't name one. These choices are never idle.
+/// Who makes the next choice, where a plan leaves it open. No choice of these is idle.
 #[derive(Clone, Copy, Debug, PartialEq, Eq)]
 pub enum Rule {
-    /// Only this thread, as long as it can take a turn: `ann.`
+    /// This thread, as long as it can take a turn: `ann.`
     Alone(u8),
     /// The threads turn about: `..`
     TurnAbout,
@@ -21,7 +21,7 @@ pub struct Chosen {
 pub enum Step {
     /// This choice, so many times: `ann`, `x3`, `ann*3`
     Make { chosen: Chosen, times: u32 },
-    /// Choices by a rule, at most so many, or all if no number is given.
+    /// Choices by a rule, so many at most: all that there are, where no number is given.
     Follow { rule: Rule, most: Option<u32> },
 }
 

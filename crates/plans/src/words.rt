@@ -1,4 +1,4 @@
-//! The words of a plan, stored as compactly as they are written: at most two bytes for one byte of the text.
+//! The words of a plan, stored as shortly as they are written: at most two bytes for one of the text.
 ghost use Rattle.std.specs.Prelude.{◌≡◌, ◌<◌, ◌++◌, [], ◌∷◌, IfSome, OnOk, None, drop, length};
 ghost use Rattle.std.specs.Vec.{vec_capacity, vec_len};
 ghost use Rattle.plans.specs.Parts.{left_of, put_of, taken_of};
@@ -80,7 +80,7 @@ impl Words {
         }
     }
 
-    /// Appends a word.
+    /// Adds a word.
     pub fn push(&mut self, word: Word) -> Result<(), AllocError>
         ensures { OnOk result (self.new ≡ self.old ++ word ∷ []) }
     {
