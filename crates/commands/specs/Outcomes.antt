@@ -83,11 +83,14 @@ abbrev pub seed_mark : Option ℕ → List ℕ
 seed_mark None = []
 seed_mark (Some seed) = codes "?" ++ (decimal seed ++ codes " ")
 
--- the line of an outcome; its schedule has these names, if there are some
+-- the seed and the schedule of an outcome, which end its line; the schedule has these names, if there are some
+abbrev pub order_text : (names : Option (List (List ℕ))) → Outcome → List ℕ
+order_text names outcome = seed_mark outcome.seed ++ (told_by names (string_bytes outcome.schedule) ++ codes "\n")
+
 abbrev pub outcome_line : (names : Option (List (List ℕ))) → EndState × Outcome → List ℕ
 outcome_line names (state, outcome) =
     decimal outcome.times ++ (codes " " ++ (ending_word outcome.ending ++ (died_mark state.text.items
-    ++ (codes " " ++ (seed_mark outcome.seed ++ (told_by names (string_bytes outcome.schedule) ++ codes "\n"))))))
+    ++ (codes " " ++ order_text names outcome))))
 
 abbrev pub report : (names : Option (List (List ℕ))) → List (EndState × Outcome) → List ℕ
 report names outcomes = flat_map (outcome_line names) outcomes

@@ -2,7 +2,7 @@
 ghost use Rattle.std.specs.Prelude.{◌≡◌, ◌≤◌, ◌++◌, IfOk, IfSome, OnOk, length};
 ghost use Rattle.commands.specs.Named.{names_seen, told_by};
 ghost use Rattle.trace_text.specs.Expectation.{are_met};
-ghost use Rattle.commands.specs.Outcomes.{are_as_expected, died_mark, outcome_line, report, done_by, seed_mark};
+ghost use Rattle.commands.specs.Outcomes.{are_as_expected, died_mark, order_text, outcome_line, report, done_by, seed_mark};
 
 use crate::end_state::{EndState, word_of};
 use crate::named::named_text;
@@ -63,6 +63,23 @@ fn push_schedule(
     }
 }
 
+/// Adds the seed and the schedule of an outcome, and ends its line.
+#[tactic(auto, using(crate::proofs::Reports::text_steps))]
+fn push_order(
+    alloc: Global,
+    text: &mut Vec<u8>,
+    names: Option<&[&[u8]]>,
+    outcome: &Outcome,
+) -> Result<(), AllocError>
+    requires { IfSome names (λ names. length names.now ≤ 64) }
+    ensures { OnOk result (text.new.items ≡ text.old.items
+        ++ order_text (names_seen names.entry) outcome.now) }
+{
+    push_seed(text, outcome.seed)?;
+    push_schedule(alloc, text, names, outcome.schedule.as_str())?;
+    text.extend_from_slice(b"\n")
+}
+
 /// Appends the line of an outcome. Its schedule has these names, if there are some.
 #[tactic(auto, using(crate::proofs::Reports::text_steps))]
 fn push_line(
@@ -81,9 +98,7 @@ fn push_line(
     text.extend_from_slice(word_of(outcome.ending))?;
     text.extend_from_slice(died_mark(state))?;
     text.extend_from_slice(b" ")?;
-    push_seed(text, outcome.seed)?;
-    push_schedule(alloc, text, names, outcome.schedule.as_str())?;
-    text.extend_from_slice(b"\n")
+    push_order(alloc, text, names, outcome)
 }
 
 /// Returns the lines of all outcomes. Their schedules have these names, if there are some.

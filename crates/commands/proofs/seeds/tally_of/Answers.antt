@@ -29,7 +29,7 @@ loop-number-preserved g c =
         one_more c.args.program.now names c.args.plan.now c.args.seeds.now.limit c.args.seeds.now.first so.0 more.0 so.1.1
             (subst (λ n. IsEndBy c.args.program.now names c.args.plan.now c.args.seeds.now.limit n more.0) (omega (arith, so.1.0, c.from.ensures, c.from-in-loop-number.ensures)) more.1.0),
         more.1.1,
-        subst (λ u. IsFirstUnlike c.args.seeds.now.expected.now (so.0 ++ more.0 ∷ []) u) (sym c.or.ensures)
+        subst (λ u. IsFirstUnlike c.args.seeds.now.expected.now (so.0 ++ more.0 ∷ []) u) (sym c.or-unlike.ensures)
             (one_more_unlike c.args.seeds.now.expected.now so.0 more.0 _ _ so.1.3 more.1.2),
       ),
     )
