@@ -2,4 +2,4 @@
 
 /// The version, the kit whose logic proves it, and the sum of the sources but for this file.
 pub const VERSION: &str =
-    "1.2.0\nkit rattle-kit-13f logic dac8208d650f15bf\nsources 92c76843d45d3999c7e08837850df2feb8c0d10d2059dc27e639b6e190d4930f";
+    "1.2.0\nkit rattle-kit-13f logic dac8208d650f15bf\nsources 45aa878827c62858e34c57c90f9ec230a97b151ab4aee9fc1fdb696514418528";
