@@ -124,7 +124,7 @@ def definitions(crate, its, all_believed):
     if types:
         text += item("Types of the code that these and the contracts name: " + ", ".join(types))
     text += item("*Abstract*: contracts pass them from call to call: " + "; ".join(abstract)) if abstract else ""
-    return text + (item("*You need not believe* these, since no public contract names them: " + "; ".join(others)) if others else "")
+    return text + (item("No public contract names these definitions, so *you need not believe* them: " + "; ".join(others)) if others else "")
 
 
 def laws(crate):
@@ -185,7 +185,7 @@ def edits_of(crate):
             name, clauses = found or ("", [])
             where.append(f"{name}{in_brackets(clauses)} in `{file}`" if name else f"`{file}`")
         text += item(f"{words[0].upper()}{words[1:]}: {'; '.join(where)}")
-    return text
+    return f"Each of these changes makes a function wrong, and its contract has to refuse it:\n\n{text}" if text else ""
 
 
 # -- what promises name
