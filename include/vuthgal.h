@@ -101,7 +101,8 @@ uint8_t vuthgal_debug(const uint8_t *program, size_t program_length,
                       uint8_t *output, size_t output_room, size_t *output_length,
                       uint8_t *line, size_t line_room, size_t *line_length);
 
-/* Says what words of a line mean, as `vuthgal explain WORDS`. The words stand in one text, with blanks between them. */
+/* Says what words of a line mean, as `vuthgal explain WORDS`. The words are in one text, with blanks between them. They are those of the
+ * line: only the program takes other names, too, such as Java's. */
 uint8_t vuthgal_explain(const uint8_t *words, size_t words_length,
                         uint8_t *output, size_t output_room, size_t *output_length,
                         uint8_t *line, size_t line_room, size_t *line_length);

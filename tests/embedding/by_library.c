@@ -5,7 +5,9 @@
  *   VUTHGAL=by_library tests/run
  *
  * runs all cases in this way. The library does a command if its words are files that can be read, and no descriptor is a terminal
- * or a device. Otherwise PROGRAM does it, and `debug` with commands from a pipe, since the library takes them all. Each call adds a line with its name to the file that VUTHGAL_CALLS names.
+ * or a device. Otherwise PROGRAM does it. PROGRAM also does `debug` with commands from a pipe, since the library takes them all, and
+ * `explain` with words that the library doesn't know, since only the program looks for other names. Each call adds a line with its name
+ * to the file that VUTHGAL_CALLS names.
  */
 #include <signal.h>
 #include <stdio.h>
@@ -110,6 +112,7 @@ int main(int count, char **words) {
   signal(SIGPIPE, SIG_IGN);
   int status = call(command, 0, 0);
   status = call(command, output.length, line.length);
+  if (status == 2 && strcmp(command, "explain") == 0) execv(PROGRAM, words);
   if (fwrite(output.bytes, 1, output.length, stdout) != output.length || fflush(stdout) != 0) {
     fputs("write\n", stderr);
     return 5;
