@@ -112,7 +112,13 @@ int main(int count, char **words) {
   signal(SIGPIPE, SIG_IGN);
   int status = call(command, 0, 0);
   status = call(command, output.length, line.length);
-  if (status == 2 && strcmp(command, "explain") == 0) execv(PROGRAM, words);
+  if (status == 2 && strcmp(command, "explain") == 0) {
+    /* what the library returns for words that it doesn't know is checked here, since the program writes more */
+    const char *known = "error: `explain` doesn't know these words.";
+    if (output.length != 0 || line.length < strlen(known) || memcmp(line.bytes, known, strlen(known)) != 0) return 99;
+    execv(PROGRAM, words);
+    return 127;
+  }
   if (fwrite(output.bytes, 1, output.length, stdout) != output.length || fflush(stdout) != 0) {
     fputs("write\n", stderr);
     return 5;
