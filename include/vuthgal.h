@@ -4,15 +4,15 @@
  *   cc example.c $(pkg-config --cflags --libs vuthgal)
  *
  * Inputs. An input is bytes and their count. PROGRAM holds a program text or an image, which begins with "PBW1" or "PBW2"; the
- * other inputs are texts. docs/README.md lists the formats. An input of a program, of a text, of a plan, and of the schedule of a
- * picture has 16,777,216 bytes at most; the call returns 5 if one has more. A trace, a schedule that is run, and commands are
- * read a piece at a time, so they may be longer.
+ * other inputs are texts. LANGUAGE.md, TRACES.md and FORMATS.md describe them; bin/install puts them into share/doc/vuthgal/docs.
+ * An input of a program, of a text, of a plan, and of the schedule of a picture has 16,777,216 bytes at most; the call returns 5
+ * if one has more. A trace, a schedule that is run, and commands are read a piece at a time, so they may be longer.
  *
  * Output. A call writes to your memory as snprintf does: it writes as many bytes as fit ROOM, and sets *LENGTH to the count of
  * all. If *LENGTH is more than ROOM, the bytes end at ROOM, and the rest is as usual: call again with more room.
  * Nothing is written after the bytes. No zero byte ends them. LINE gets, in the same way, the one line that the program
  * `vuthgal` writes to standard error, with its line feed; it is empty if the status is 0, and for nearly all calls if it is 1.
- * VUTHGAL_LINE bytes are enough for every line.
+ * VUTHGAL_LINE bytes are enough for every line but that of vuthgal_explain, which goes on with a list of what can be asked.
  *
  * Status. Each call returns the exit status of the program:
  *   0   done
@@ -41,7 +41,7 @@
 extern "C" {
 #endif
 
-/* Room for every line that a call but `vuthgal_explain` writes. */
+/* Room for the line of every call but vuthgal_explain. */
 #define VUTHGAL_LINE 96
 
 /* Plays a program under a schedule, as `vuthgal run FILE SCHEDULE`. The output is the trace. */
@@ -89,7 +89,8 @@ uint8_t vuthgal_show(const uint8_t *program, size_t program_length,
                      uint8_t *output, size_t output_room, size_t *output_length,
                      uint8_t *line, size_t line_room, size_t *line_length);
 
-/* Draws a run, as `vuthgal draw FILE SCHEDULE --width WIDTH`. The output is text. */
+/* Draws a run, as `vuthgal draw FILE SCHEDULE --width WIDTH`. The output is text, in lines of at most WIDTH bytes. The program
+   takes a WIDTH from 60 to 1000. The call takes any, and cuts what has no room, so that less leaves little to read. */
 uint8_t vuthgal_draw(const uint8_t *program, size_t program_length,
                      const uint8_t *schedule, size_t schedule_length, uint16_t width,
                      uint8_t *output, size_t output_room, size_t *output_length,
@@ -101,8 +102,8 @@ uint8_t vuthgal_debug(const uint8_t *program, size_t program_length,
                       uint8_t *output, size_t output_room, size_t *output_length,
                       uint8_t *line, size_t line_room, size_t *line_length);
 
-/* Says what words of a line mean, as `vuthgal explain WORDS`. The words are in one text, with blanks between them. They are those of the
- * line: only the program takes other names, too, such as Java's. */
+/* Says what words of a line mean, as `vuthgal explain WORDS`. The words are in one text, with blanks between them. They are
+   those of the line: only the program takes other names, too, such as Java's. */
 uint8_t vuthgal_explain(const uint8_t *words, size_t words_length,
                         uint8_t *output, size_t output_room, size_t *output_length,
                         uint8_t *line, size_t line_room, size_t *line_length);
@@ -129,7 +130,7 @@ void vuthgal_version(uint8_t *output, size_t output_room, size_t *output_length)
  *     uint8_t status = vuthgal_run((const uint8_t *)program, strlen(program), (const uint8_t *)schedule, strlen(schedule),
  *                                  trace, sizeof trace, &length, line, sizeof line, &line_length);
  *     fwrite(trace, 1, length < sizeof trace ? length : sizeof trace, stdout);
- *     fwrite(line, 1, line_length, stderr);
+ *     fwrite(line, 1, line_length < sizeof line ? line_length : sizeof line, stderr);
  *     return status;
  *   }
  */

@@ -122,9 +122,9 @@ def definitions(crate, its, all_believed):
             others.append(f"{len(rest)} in {file}")
     types = [f"`{key[2]}`" for key, it in its.items() if key[1] == "declared" and key in all_believed]
     if types:
-        text += item("Types of the code that these and the contracts name: " + ", ".join(types))
-    text += item("*Abstract*: contracts pass them from call to call: " + "; ".join(abstract)) if abstract else ""
-    return text + (item("No public contract names these definitions, so *you need not believe* them: " + "; ".join(others)) if others else "")
+        text += item("Types of the code that appear in these definitions and in the contracts: " + ", ".join(types))
+    text += item("*Abstract*, so that contracts only pass them from call to call, are " + "; ".join(abstract)) if abstract else ""
+    return text + (item("*You need not believe* the following definitions, because no public contract names them: " + "; ".join(others)) if others else "")
 
 
 def laws(crate):

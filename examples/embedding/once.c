@@ -1,5 +1,7 @@
 /* Prints the trace of two threads that meet. From the top of the clone:
  *   cc -I include examples/embedding/once.c lib/libvuthgal.a -o once && ./once
+ * With an installed library, where the loader finds it:
+ *   cc once.c $(pkg-config --cflags --libs vuthgal) -o once && ./once
  */
 #include <stdio.h>
 #include <string.h>
@@ -13,6 +15,6 @@ int main(void) {
   uint8_t status = vuthgal_run((const uint8_t *)program, strlen(program), (const uint8_t *)schedule, strlen(schedule),
                                trace, sizeof trace, &length, line, sizeof line, &line_length);
   fwrite(trace, 1, length < sizeof trace ? length : sizeof trace, stdout);
-  fwrite(line, 1, line_length, stderr);
+  fwrite(line, 1, line_length < sizeof line ? line_length : sizeof line, stderr);
   return status;
 }

@@ -28,6 +28,7 @@ final class BurstCount {
     private int findings;
     private long firstFound;
     private long firstTry;
+    private String firstAfter;
     private int overtaken;
     private long overtakenSince;
 
@@ -55,8 +56,8 @@ final class BurstCount {
     }
 
     /** How a burst went whose threads all came to their end. */
-    synchronized void overlaps(BurstHistory history) {
-        overlap.add(history);
+    synchronized void overlaps(BurstOverlap.One one) {
+        overlap.add(one);
     }
 
     /** A burst was played, with so many calls and interrupts. */
@@ -72,6 +73,7 @@ final class BurstCount {
         if (findings++ == 0) {
             firstFound = burst.round();
             firstTry = rounds;
+            firstAfter = seconds();
         }
         suite.fails(burst.kind(), text);
     }
@@ -108,7 +110,7 @@ final class BurstCount {
         String kinds = kindsPlayed.size() == 1 ? " kind, " : " kinds, ";
         to.println(rounds + (asked > rounds ? " of " + asked : "") + " bursts of " + kindsPlayed.size() + kinds + calls
             + " calls and interrupts, " + seconds() + ": " + findings + " found"
-            + (findings == 0 || round >= 0 ? "" : ", the first at try " + firstTry + ", in round " + firstFound)
+            + (findings == 0 || round >= 0 ? "" : ", the first at try " + firstTry + ", in round " + firstFound + ", after " + firstAfter)
             + (overtaken == 0 ? "" : "; an interrupt won over the end of a phase " + overtaken + " times"));
         overlap.tell(to);
         if (round >= 0) {

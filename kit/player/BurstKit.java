@@ -142,7 +142,7 @@ final class BurstKit {
         for (String name : adapters.names()) {
             Stage stage = adapters.stage(name);
             boolean right = name.equals(RIGHT);
-            String finding = right ? new Bursts(List.of(stage), Bursts.PATIENT, null, part.to).find(1, ROUNDS_ON_THE_RIGHT_ONE, null)
+            String finding = right ? findingOnTheRightOne(stage)
                 : finding(stage, kind(adapters.folder().resolve(name + ".java")));
             part.take(name, right == (finding == null), right ? "it is right, and found: " + finding : "no burst finds it");
             if (!right && finding != null) {
@@ -151,6 +151,10 @@ final class BurstKit {
             }
         }
         part.to.println("wrong adapters that bursts have to find: " + found + " found");
+    }
+
+    private String findingOnTheRightOne(Stage stage) {
+        return new Bursts(List.of(stage), Bursts.PATIENT, null, part.to).find(1, ROUNDS_ON_THE_RIGHT_ONE, null, PointSeeds.OFF);
     }
 
     /** The kind of burst that the comment of an adapter names. */
@@ -165,15 +169,14 @@ final class BurstKit {
     /** What bursts find in something wrong: many of this kind, else with points where it has some, else many of all kinds. */
     private String finding(Stage stage, String kind) {
         Bursts bursts = new Bursts(List.of(stage), IMPATIENT, null, part.to);
+        Bursts withPoints = new Bursts(List.of(stage), IMPATIENT, null, part.to);
         String finding = null;
         for (String only : Arrays.asList(kind, null)) {
             for (int seed = 1; seed <= SEEDS_TO_FIND && finding == null; seed++) {
-                finding = bursts.find(seed, ROUNDS_TO_FIND, only);
+                finding = bursts.find(seed, ROUNDS_TO_FIND, only, PointSeeds.OFF);
                 if (finding == null && only != null && !stage.isHere()) {
-                    stage.startWithPoints(seed);
-                    finding = bursts.find(seed, ROUNDS_TO_FIND, only);
+                    finding = withPoints.find(seed, ROUNDS_TO_FIND, only, seed);
                     finding = finding == null ? null : finding + ", with points";
-                    stage.startWithPoints(PointSeeds.OFF);
                 }
             }
         }

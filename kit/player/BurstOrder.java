@@ -30,7 +30,7 @@ record BurstOrder(long seed, long round, long count, long seconds, Set<String> k
     }
 
     boolean wants(String kind) {
-        return kinds.isEmpty() || playsOneRound() || kinds.contains(kind);
+        return kinds.isEmpty() || kinds.contains(kind);
     }
 
     /** The burst of a file that was kept; null where it is none, or where that round is of another kind now. */

@@ -33,7 +33,9 @@ final class BurstPlayer {
 
     /** Its history; calls that wait for ever have no answer in it. Unplayable where the real side can't make the objects. */
     BurstHistory play(Burst burst) {
-        return stage.takesLists() ? playByLists(burst) : playByCalls(burst);
+        BurstHistory history = stage.takesLists() ? playByLists(burst) : playByCalls(burst);
+        stage.checkWarnings();
+        return history;
     }
 
     private BurstHistory playByLists(Burst burst) {

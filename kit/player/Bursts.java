@@ -127,10 +127,12 @@ final class Bursts {
 
     /**
      * Plays until something is found, but for a real side that breaks down; answers that in words, or null. Of the rounds it
-     * plays those of one kind alone, where {@code kind} isn't null.
+     * plays those of one kind alone, where {@code kind} isn't null; {@code points} is the seed of the points, or
+     * {@code PointSeeds.OFF}.
      */
-    String find(long seed, long rounds, String kind) {
+    String find(long seed, long rounds, String kind, long points) {
         Place place = places.get(0);
+        place.stage().startWithPoints(points);
         for (long round = 0; round < rounds; round++) {
             if (kind != null && !BurstKind.of(round).name().equals(kind)) {
                 continue;
@@ -139,7 +141,7 @@ final class Bursts {
                 continue;
             }
             BurstHistory history = historyUnlessBroken(place, place.burst(seed, round));
-            BurstJudge.Finding finding = history == null ? null : judge(history);
+            BurstJudge.Finding finding = history == null ? null : judge(history, points);
             if (finding != null) {
                 return history.burst().kind() + ", round " + round + ": " + finding.words();
             }
@@ -159,7 +161,7 @@ final class Bursts {
     private void playOne(Place place, Turn turn) throws IOException {
         place.stage().startWithPoints(turn.points());
         Burst burst = place.burst(order.seed(), turn.round());
-        String text = whatFails(place, burst);
+        String text = whatFails(place, burst, turn.points());
         if (text != null) {
             String with = turn.points() == PointSeeds.OFF ? "" : "  with " + PointSeeds.VARIABLE + "=" + turn.points() + "\n";
             tellFailure(burst, text + with, PointSeeds.option(turn.points()));
@@ -182,10 +184,10 @@ final class Bursts {
     }
 
     /** In words; null where it is right, and where the real side can't make the objects. */
-    private String whatFails(Place place, Burst burst) {
+    private String whatFails(Place place, Burst burst, long points) {
         try {
             BurstHistory history = history(place, burst);
-            BurstJudge.Finding finding = history == null ? null : judge(history);
+            BurstJudge.Finding finding = history == null ? null : judge(history, points);
             return finding == null ? null : new BurstReport(history, finding).text();
         } catch (Breakdown broken) {
             count.played(burst, 0, 0);
@@ -201,7 +203,7 @@ final class Bursts {
             BurstHistory history = place.player().play(burst);
             count.played(burst, history.entries().size(), System.nanoTime() - begun);
             if (!history.hasOpen()) {
-                count.overlaps(history);
+                count.overlaps(BurstOverlap.One.of(history));
             }
             return history;
         } catch (Unplayable why) {
@@ -210,10 +212,10 @@ final class Bursts {
         }
     }
 
-    /** Null where the history is right. */
-    private BurstJudge.Finding judge(BurstHistory history) {
+    /** Null where the history is right, of a real side with these points. */
+    private BurstJudge.Finding judge(BurstHistory history, long points) {
         BurstJudge.Finding finding = BurstJudge.judge(history);
-        return finding.isRight() || finding.overtaken() && !count.countsOvertaking(!order.points().areNone()) ? null : finding;
+        return finding.isRight() || finding.overtaken() && !count.countsOvertaking(points != PointSeeds.OFF) ? null : finding;
     }
 
     /** The counts, in some lines. */

@@ -80,6 +80,7 @@ final class CommandChecks {
             new Check(2, "--for" + NO_NUMBER, "--for", "0"),
             new Check(2, "--kind wants --burst or --for", "--kind", "trips", reset),
             new Check(2, "there is no kind trip; these are:\nmeetings ", "--burst", "1", "--kind", "trip"),
+            new Check(2, "--kind goes with no --round and no --burst FILE", "--burst", "1", "--round", "5", "--kind", "trips"),
             new Check(2, "--points wants --port", "--burst", "1", "--points", "1"),
             new Check(2, "--points" + NO_NUMBER, "--burst", "1", "--port", "true", "--points", "7..6"),
             new Check(0, "\ntrips ", "--kinds"),
@@ -195,6 +196,7 @@ final class CommandChecks {
         check(new Check(1, "kept; again: --burst " + burst + "\n", "--burst", "1", "--keep", kept.toString(),
             "--port", port + "'0 did' 'exit 3'"));
         check(new Check(1, "round 0 failed at try 1\n", "--burst", burst.toString(), "--port", port + "'0 did' 'exit 3'"));
+        check(new Check(2, "--kind goes with no --round and no --burst FILE", "--burst", burst.toString(), "--kind", "trips"));
     }
 
     /** What a port that isn't whole, or that has to be killed, comes to. */
@@ -211,6 +213,7 @@ final class CommandChecks {
                 "--burst", "1", "--port", port + "'0 did' 'exit 3'"),
             new Check(1, "  thread 0 is in no call, and doesn't end its list\n", "--burst", "1", "--patience", "0.1",
                 "--port", port + "'0 end' 'say '"),
+            new Check(1, ": 1 found, the first at try 1, in round 0, after ", "--burst", "1", "--port", port + "'0 did' 'exit 3'"),
             new Check(1, "round 0 failed at try 1\n", "--burst", "3", "--round", "0", "--port", port + "'0 did' 'exit 3'"),
             new Check(0, " same, 0 different, 0 left out\n", "--port", right(python), kit.resolve("differences").toString()),
             new Check(0, " not as the JDK, but as ours, as in differences/own-reset\n", "--known", "--port", right(python),
@@ -226,6 +229,8 @@ final class CommandChecks {
                 "--burst", "1", "--points", "7..9", "--port", port + "'0 did' 'exit 3'"),
             new Check(1, "burst 1 0 meetings\n  the port's race detector warns:\n    WARNING: DATA RACE, as kit/faults/port.py"
                 + " has it\n    Read by thread 0\n", "--burst", "20", "--port", port + "'0 did' 'warn Read by thread 0'"),
+            new Check(1, "burst 1 0 meetings\n  the port's race detector warns:\n    WARNING: DATA RACE, as kit/faults/port.py"
+                + " has it\n    the last answer\n", "--burst", "1", "--port", port + "'64 end' 'warn the last answer'"),
             new Check(0, "before the first case: an interrupt doesn't end awaitAdvanceInterruptibly 0 2 " + Caller.HOUR
                 + " of t0 (its last line is `0 = 2`" + stands, "--port", wrong + "ignores_interrupts.py", folder("phase-numbers")),
             new Check(1, "before the first case: the port doesn't answer: case (it has written nothing" + stands
@@ -240,6 +245,8 @@ final class CommandChecks {
                 "--port", wrong + "loses_wake_ups.py 7", folder("phase-numbers")),
             new Check(1, " same, 0 different, 2 stuck, 0 left out; 2 played again with more patience\n", "--port", wrong + "loses_wake_ups.py", folder("waiting")));
         AtOnce.each(checks, this::check);
+        checkScript(new Check(0, "1 bursts of 1 kind, ", "--burst", "1", "--port", "[ -z \"${POINTS+set}\" ] && " + right(python)),
+            "env", PointSeeds.VARIABLE + "=5");
         checkScript(new Check(1, "--keep FOLDER writes it\n", "--random", "1", "--port", port + "'64 = ' 'say 64 = x\\n'"));
         checkNothingIsWritten();
         checkKept(port);
@@ -347,11 +354,12 @@ final class CommandChecks {
         }
     }
 
-    /** By the command as it is. */
-    private void checkScript(Check check) {
+    /** By the command as it is, started by these words. */
+    private void checkScript(Check check, String... starts) {
         try {
             Path told = Files.createTempFile("vuthgal", ".told");
-            List<String> command = new ArrayList<>(List.of(kit.resolve("play").toString(), "--vuthgal", vuthgal.toString()));
+            List<String> command = new ArrayList<>(List.of(starts));
+            command.addAll(List.of(kit.resolve("play").toString(), "--vuthgal", vuthgal.toString()));
             command.addAll(List.of(check.words()));
             Process process = start(told, command);
             boolean ended = process.waitFor(LONGEST_SECONDS, TimeUnit.SECONDS);

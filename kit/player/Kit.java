@@ -84,6 +84,7 @@ public final class Kit {
         Map<String, Body> atOnce = new LinkedHashMap<>();
         atOnce.put("commands", part -> commands(part).checkWords());
         atOnce.put("forms of cases", part -> commands(part).checkForms());
+        atOnce.put("pieces of the player", part -> new PieceChecks(part).check());
         atOnce.put("kept classes", part -> commands(part).checkCompile());
         if (!python.isEmpty()) {
             atOnce.put("commands on ports", part -> commands(part).checkPorts(python));

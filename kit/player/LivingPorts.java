@@ -17,11 +17,13 @@ final class LivingPorts {
     private LivingPorts() {
     }
 
-    /** {@code points} is the seed of its points. */
+    /** {@code points} is the seed of its points; those of the player's own environment aren't handed on. */
     static synchronized Process start(String command, long points) throws IOException {
         check();
         ProcessBuilder builder = new ProcessBuilder("bash", "-c", command);
-        if (points != PointSeeds.OFF) {
+        if (points == PointSeeds.OFF) {
+            builder.environment().remove(PointSeeds.VARIABLE);
+        } else {
             builder.environment().put(PointSeeds.VARIABLE, Long.toString(points));
         }
         Process process = builder.start();

@@ -17,8 +17,8 @@ final class Options {
         kit/play [OPTION].. PROGRAM SCHEDULE [--trace FILE]
         kit/play [OPTION].. FOLDER.. [--transcripts FOLDER]
         kit/play [OPTION].. --random N [--seed S] [--keep FOLDER]
-        kit/play [OPTION].. --burst ROUNDS [--for SECONDS] [--seed S] [--round R] [--kind NAMES] [--points N] [--keep FOLDER]
-        kit/play [OPTION].. --for SECONDS [--seed S] [--round R] [--kind NAMES] [--points N] [--keep FOLDER]
+        kit/play [OPTION].. --burst ROUNDS [--for SECONDS] [--seed S] [--round R | --kind NAMES] [--points N] [--keep FOLDER]
+        kit/play [OPTION].. --for SECONDS [--seed S] [--round R | --kind NAMES] [--points N] [--keep FOLDER]
         kit/play [OPTION].. --burst FILE [--for SECONDS] [--points N]
         kit/play --kinds
           --factory NAME     a class on the class path KIT_CLASSPATH that implements kit.player.Factory
@@ -32,7 +32,7 @@ final class Options {
           --burst ROUNDS     plays so many bursts: several calls at once on threads that run freely
           --for SECONDS      plays bursts for so long, and no more than ROUNDS where these are given
           --burst FILE       plays a burst that was kept until it fails, 20000 times at most
-          --kind NAME[,NAME] plays bursts of these kinds alone
+          --kind NAME[,NAME] plays bursts of these kinds alone; goes with no --round and no --burst FILE
           --kinds            lists the kinds of bursts, with a sentence each
           --points N         starts a port that has points with the seeds 1 to N, each for its share of the bursts;
                              FIRST..LAST names others
@@ -150,6 +150,9 @@ final class Options {
         if (!kinds.isEmpty() && !playsBursts()) {
             throw new Wrong("--kind wants --burst or --for");
         }
+        if (!kinds.isEmpty() && (round >= 0 || keptBurst() != null)) {
+            throw new Wrong("--kind goes with no --round and no --burst FILE: such a burst has its own");
+        }
         if (!points.areNone() && (!playsBursts() || port == null)) {
             throw new Wrong("--points wants --port, and --burst or --for");
         }
@@ -170,6 +173,11 @@ final class Options {
         long first = ends.length == 1 ? 1 : number("--points", List.of(ends[0]).iterator(), 0, MOST_SCENARIOS);
         long last = number("--points", List.of(ends[ends.length - 1]).iterator(), first, MOST_SCENARIOS);
         return new PointSeeds(first, (int) (last - first + 1));
+    }
+
+    /** The file of --burst FILE, or null. */
+    private Path keptBurst() {
+        return burst != null && Files.isRegularFile(Path.of(burst)) ? Path.of(burst) : null;
     }
 
     private boolean playsBursts() {
@@ -237,9 +245,8 @@ final class Options {
         if (burst == null) {
             return seconds == 0 ? null : new BurstOrder(seed, round, MOST_ROUNDS, seconds);
         }
-        Path file = Path.of(burst);
-        if (Files.isRegularFile(file)) {
-            BurstOrder kept = BurstOrder.ofFile(file, seconds);
+        if (keptBurst() != null) {
+            BurstOrder kept = BurstOrder.ofFile(keptBurst(), seconds);
             if (kept == null) {
                 throw new Wrong(burst + " is no burst that was kept");
             }

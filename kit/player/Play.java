@@ -136,8 +136,8 @@ final class Play {
     }
 
     /**
-     * Lets all real threads out of their calls, and clears their interrupted statuses. Where the real side breaks down or
-     * somebody stays inside it is abandoned; that somebody stays tells nothing of the case.
+     * Lets all real threads out of their calls, and clears their interrupted statuses. Where the real side breaks down, has warned
+     * of a race, or somebody stays inside it is abandoned; that somebody stays tells nothing of the case.
      */
     void clear() {
         if (breakdown != null) {
@@ -147,6 +147,7 @@ final class Play {
         try {
             leaveAll();
             clearStatuses();
+            scene.stage.checkWarnings();
         } catch (Hangs stays) {
             scene.stage.abandon();
         } catch (Breakdown down) {

@@ -2,8 +2,12 @@ package kit.player;
 
 import java.io.IOException;
 import java.io.InputStream;
+import java.util.concurrent.locks.LockSupport;
 
-/** A port's standard error. It is passed on as it comes, and the first warning of a race detector is kept. */
+/**
+ * A port's standard error. It is passed on as it comes, and the first warning of a race detector is kept. While the port lives
+ * nobody stands in a read, so that whoever wants to know what it has written until now can read it.
+ */
 final class PortErrors {
     private static final String OF_GO = "WARNING: DATA RACE";
     private static final String OF_THREAD_SANITIZER = "WARNING: ThreadSanitizer:";
@@ -13,15 +17,21 @@ final class PortErrors {
     private static final int CHUNK = 8_192;
     private static final int LONGEST = 1_000;
     private static final long MILLISECONDS_TO_THE_END = 1_000;
+    /** So often it is read. */
+    private static final long LOOK = 20_000_000;
 
+    private final Process process;
     private final InputStream from;
-    private final Thread reader = new Thread(this::read, "errors of the port");
+    private final Thread reader = new Thread(this::readToTheEnd, "errors of the port");
+    private final byte[] chunk = new byte[CHUNK];
     private final StringBuilder line = new StringBuilder();
     private StringBuilder warning;
     private int lines;
     private volatile String whole;
+    private boolean ended;
 
     PortErrors(Process process) {
+        this.process = process;
         from = process.getErrorStream();
         reader.setDaemon(true);
         reader.start();
@@ -42,20 +52,47 @@ final class PortErrors {
         return whole;
     }
 
-    private void read() {
-        byte[] chunk = new byte[CHUNK];
+    /** Reads what the port has written until now. */
+    synchronized void read() {
         try {
-            for (int count = from.read(chunk); count >= 0; count = from.read(chunk)) {
-                System.err.write(chunk, 0, count);
-                System.err.flush();
-                for (int at = 0; at < count; at++) {
-                    take((char) (chunk[at] & 0xff));
-                }
+            while (!ended && from.available() > 0) {
+                readSome();
+            }
+        } catch (IOException closed) {
+            // the port has ended
+        }
+    }
+
+    private void readToTheEnd() {
+        while (process.isAlive()) {
+            read();
+            LockSupport.parkNanos(LOOK);
+        }
+        synchronized (this) {
+            ended = true;
+        }
+        try {
+            boolean goesOn = true;
+            while (goesOn) {
+                goesOn = readSome();
             }
         } catch (IOException closed) {
             // the port has ended
         }
         end();
+    }
+
+    /** Waits for something where nothing is there; false at the end. */
+    private boolean readSome() throws IOException {
+        int count = from.read(chunk);
+        if (count > 0) {
+            System.err.write(chunk, 0, count);
+            System.err.flush();
+        }
+        for (int at = 0; at < count; at++) {
+            take((char) (chunk[at] & 0xff));
+        }
+        return count >= 0;
     }
 
     private void take(char letter) {

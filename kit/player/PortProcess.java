@@ -18,6 +18,8 @@ final class PortProcess {
     private static final long SECOND = 1_000_000_000L;
     /** How long the first answer may take, since a start takes its time. */
     private static final long LONGEST_START = 4 * SECOND;
+    /** So many times as long where it isn't at rest: a script that starts the port runs, too, and a busy machine is slow. */
+    private static final int TIMES_AT_START = 15;
     /** How long its output may be read once it has ended. */
     private static final long LONGEST_END = 30 * SECOND;
     private static final long LOOK = SECOND / 1_000;
@@ -114,13 +116,7 @@ final class PortProcess {
     void order(String command) {
         asked = true;
         write(command);
-        Reply reply = reply();
-        for (int time = 1; reply == null && time < RealThread.TIMES_FOR_THE_BUSY && !staysAtRest(); time++) {
-            reply = reply();
-        }
-        if (reply == null) {
-            reply = replies.poll();     // the look at its threads took its time
-        }
+        Reply reply = awaitReply();
         check();
         if (reply == null) {
             throw new Hangs("the port doesn't answer: " + command + state(), !answered);
@@ -131,6 +127,18 @@ final class PortProcess {
         if (reply.said().kind() == PortLine.Kind.REFUSED) {
             throw new ProtocolFault("`" + command + "` " + Answer.thrown(reply.said().number(0)).told());
         }
+    }
+
+    /** Null where none comes. Before the first one a script may still start the port, and rest meanwhile: it may be seen so once. */
+    private Reply awaitReply() {
+        int most = answered ? RealThread.TIMES_FOR_THE_BUSY : TIMES_AT_START;
+        int rests = answered ? 1 : 0;
+        Reply reply = reply();
+        for (int time = 1; reply == null && rests < 2 && time < most; time++) {
+            rests += staysAtRest() ? 1 : 0;
+            reply = rests < 2 ? reply() : null;
+        }
+        return reply == null ? replies.poll() : reply;     // the look at its threads took its time
     }
 
     /** The next answer; null where none comes for as long as one may take. */
@@ -191,6 +199,12 @@ final class PortProcess {
             LivingPorts.check();
             throw breakdown;
         }
+    }
+
+    /** Throws where a race detector has warned until now: whatever it wrote before the last answer is read. */
+    void checkWarnings() {
+        errors.read();
+        check();
     }
 
     /** What can be seen of a port that owes an answer: what it wrote last, and whether it runs. */

@@ -98,6 +98,13 @@ final class PortStage implements Stage {
     }
 
     @Override
+    public void checkWarnings() {
+        if (process != null) {
+            process.checkWarnings();
+        }
+    }
+
+    @Override
     public void startWithPoints(long seed) {
         if (seed != points) {
             points = seed;

@@ -17,6 +17,8 @@ final class ReplayChecks {
     /** So few that it takes some seconds. Where a heap still grows then, `kit/soak` makes twice as many. */
     private static final int WAITS = 24_000;
     private static final long LONGEST_SECONDS = 240;
+    /** Longer than what many a reader of lines has room for. */
+    private static final int LONG_LINE = 100_000;
 
     /** The status of a replay and what it has to say, the command of the port, and folders of cases. */
     private record Check(int status, String says, String command, String folders) {
@@ -44,6 +46,12 @@ final class ReplayChecks {
         checks.add(() -> soak(0, "left out: it makes no barrier\n", python + " " + kit.resolve("faults/port.py") + " without barrier"));
         checks.add(() -> soak(1, " 0.0 bytes a wait are left, resident\n", wrong + "polls.py"));
         checks.add(() -> soak(1, "while 60 threads wait: 0.", wrong + "keeps_waits.py"));
+        checks.add(() -> soak(2, "case has to have the answers ok, and has okay\n",
+            python + " " + kit.resolve("faults/port.py") + " ok 'say okay\\n'"));
+        checks.add(() -> check(2, "kit/soak COMMAND [WAITS]", Map.of(), python + " '" + kit.resolve("soak") + "'"));
+        checks.add(() -> check(1, "/reset: a-broken-one-is-whole-again fails\n0 passed, 2 failed\n", Map.of("VUTHGAL", "false"),
+            "cd '" + kit + "' && ./traces cases/action cases/reset"));
+        ports.forEach(port -> checks.add(() -> checkPoints(port.command())));
         for (Kit.Port port : ports) {
             for (String folder : folders()) {
                 Check right = right(port.command(), folder);
@@ -59,6 +67,7 @@ final class ReplayChecks {
         wrongPorts().forEach(each -> checks.add(() -> check(each)));
         AtOnce.each(checks, Runnable::run);
         checkExamples(ports);
+        checkAgain();
         checkWithoutJdk();
     }
 
@@ -84,6 +93,14 @@ final class ReplayChecks {
         return new Check(1, "constructors/" + transcript + " differs, at line ", wrong + "constructs_all.py " + what, "constructors");
     }
 
+    /** An empty seed of points is none, and another word that is no number is refused. */
+    private void checkPoints(String command) {
+        check(0, "ok\n", Map.of(PointSeeds.VARIABLE, ""), "echo case | " + command);
+        for (String word : List.of("12x", "+5", "18446744073709551616")) {
+            check(2, "POINTS has to be a number, and is " + word + "\n", Map.of(PointSeeds.VARIABLE, word), command + " < /dev/null");
+        }
+    }
+
     /** What a port costs that waits, by {@code kit/soak}. */
     private void soak(int status, String says, String command) {
         String words = "'" + command.replace("'", "'\\''") + "' " + WAITS;
@@ -103,7 +120,7 @@ final class ReplayChecks {
         return new Check(0, transcripts.lines().filter(line -> line.startsWith("# ")).count() + RIGHT, command, folder);
     }
 
-    /** The examples of the port protocol are played as they stand in its page, without their remarks. */
+    /** The examples of the port protocol are played as they stand in its page, without their remarks, and a line that is long. */
     private void checkExamples(List<Kit.Port> ports) throws IOException {
         String page = Files.readString(kit.resolve("PROTOCOL.md"));
         StringBuilder examples = new StringBuilder();
@@ -114,10 +131,11 @@ final class ReplayChecks {
                 examples.append(said.equals("> case") ? "# example " + ++number + ": of the page\n" : "").append(said).append('\n');
             }
         }
+        examples.append("# a long line: with blanks behind it\n> case").append(" ".repeat(LONG_LINE)).append("\n< ok\n");
         Path file = Files.createTempFile("vuthgal", ".txt");
         Files.writeString(file, examples);
         for (Kit.Port port : ports) {
-            replay(0, number + RIGHT, port.command(), " " + file);
+            replay(0, number + 1 + RIGHT, port.command(), " " + file);
         }
         Files.delete(file);
     }
@@ -144,6 +162,21 @@ final class ReplayChecks {
             }
         }
         part.take(words, told.is(status, says), told.toString());
+    }
+
+    /** The factor of patience has its bounds, and a port that differs is dead before another is started in its place. */
+    private void checkAgain() throws IOException {
+        String replay = python + " '" + kit.resolve("replay") + "'";
+        check(2, "--patience wants a factor from 0.1 to 100, and not 0\n", Map.of(), replay + " --patience 0 true");
+        Path room = Files.createTempDirectory("vuthgal-again");
+        Path file = Files.writeString(room.resolve("case.txt"), "# a case: which begins\n> case\n< ok\n");
+        Path first = room.resolve("first");
+        String differs = "echo $$ > " + first + "; echo okay; exec sleep 600";
+        String isRight = "! kill -0 $(cat " + first + ") && " + python + " " + kit.resolve("ports/python/port.py");
+        check(0, "1" + RIGHT, Map.of(), replay + " 'if [ -e " + first + " ]; then " + isRight + "; else " + differs + "; fi' " + file);
+        Files.delete(first);
+        Files.delete(file);
+        Files.delete(room);
     }
 
     /** With a path on which the commands of the system stand, but no {@code javac}. */

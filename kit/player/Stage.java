@@ -64,6 +64,10 @@ interface Stage {
         throw new IllegalStateException("it takes no lists");
     }
 
+    /** All has been answered: throws where a race detector has warned meanwhile. */
+    default void checkWarnings() {
+    }
+
     /** From now on it runs with this seed of points, in a process of its own; {@code PointSeeds.OFF} is without. */
     default void startWithPoints(long seed) {
         if (seed != PointSeeds.OFF) {

@@ -2,6 +2,7 @@ package kit.player;
 
 import java.io.IOException;
 import java.nio.charset.StandardCharsets;
+import java.nio.file.DirectoryIteratorException;
 import java.nio.file.DirectoryStream;
 import java.nio.file.Files;
 import java.nio.file.Path;
@@ -28,8 +29,13 @@ final class Tasks {
     private Map<Path, Seen> before = Map.of();
 
     Tasks(Process process) {
-        folders = Stream.concat(Stream.of(process.toHandle()), process.descendants())
-            .map(each -> Path.of("/proc/" + each.pid() + "/task")).toList();
+        this(Stream.concat(Stream.of(process.toHandle()), process.descendants())
+            .map(each -> Path.of("/proc/" + each.pid() + "/task")).toList());
+    }
+
+    /** {@code folders} have a folder for each task. */
+    Tasks(List<Path> folders) {
+        this.folders = folders;
     }
 
     /** Whether they are at rest whenever one looks, for a while. */
@@ -82,21 +88,21 @@ final class Tasks {
         for (Path folder : folders) {
             try (DirectoryStream<Path> tasks = Files.newDirectoryStream(folder)) {
                 tasks.forEach(task -> look(task, seen));
-            } catch (IOException | RuntimeException gone) {
+            } catch (IOException | DirectoryIteratorException gone) {
                 continue;
             }
         }
         return seen;
     }
 
-    /** A task that has ended meanwhile isn't there. */
+    /** A task that ends meanwhile isn't there, or has files without their words. */
     private static void look(Path task, Map<Path, Seen> seen) {
         try {
             String stat = text(task.resolve("stat"));
             char state = stat.charAt(stat.lastIndexOf(')') + 2);
             String[] times = (HAS_TIMES ? text(task.resolve("schedstat")).strip() : "0 0 0").split(" ");
             seen.put(task, new Seen(state != 'R' && state != 'D', Long.parseLong(times[0]), Long.parseLong(times[2])));
-        } catch (IOException gone) {
+        } catch (IOException | RuntimeException gone) {
             seen.remove(task);
         }
     }

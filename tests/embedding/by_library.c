@@ -103,6 +103,7 @@ int main(int count, char **words) {
   off_t place = input_place();
   const char *command = inputs_of(count - 1, words + 1);
   if (!command) {
+    if (place >= 0) lseek(0, place, SEEK_SET); /* a part of an input that is too long has been read */
     execv(PROGRAM, words);
     return 127;
   }

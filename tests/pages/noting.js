@@ -1,6 +1,7 @@
 // Goes through all choices of a page as its reader does, and notes what is drawn of each: the lines of its tables, what it says,
-// and what it says of each thread that could be next. Then goes to each other run by a click on the name, and by its address, and
-// notes the same of it, behind a line `other` with the address of its first choice and its schedule, as it is copied.
+// and what it says of each thread that could be next. Then goes to each other run by a click on the name, by a touch and a key, and
+// by its address, from its fork on with the first run by a key, and notes the same of it, behind a line `other` with the address of
+// its first choice and its schedule, as it is copied.
 (function () {
   const id = name => document.getElementById(name), noted = [];
   const cells = row => [...row.cells].map(cell => cell.textContent);
@@ -52,24 +53,47 @@
   }
   noteAll();
   // the choices that could be next behind each choice of the run, in the order in which the page names them
-  const next = [];
+  const next = [], made = [];
   for (const line of id("run").textContent.split("\n")) {
     if (line.startsWith("state ")) next.push([]);
     else if (line.startsWith("next ")) next[next.length - 1].push(line.split(" ")[2]);
+    else if (/^\d/.test(line)) made.push(line.split(" ")[1]);
+  }
+  const nameAt = k => id("next").querySelectorAll(".choice")[k], isOther = () => id("crumbs").getClientRects().length > 0;
+  const escape = () => document.dispatchEvent(new KeyboardEvent("keydown", { key: "Escape", bubbles: true }));
+  // a click that a key makes has no detail
+  const click = (k, detail) => { if (nameAt(k)) nameAt(k).dispatchEvent(new MouseEvent("click", { bubbles: true, detail: detail })); };
+  function touch(k) {
+    if (nameAt(k)) nameAt(k).dispatchEvent(new PointerEvent("pointerdown", { bubbles: true, pointerType: "touch" }));
+    click(k, 1);
   }
   const wrong = (name, what) => noted.push("wrong " + name + " " + what + ": " + address);
   const forks = id("others").textContent.split(/^other /m).slice(1).map(text => text.split(/[ \n]/).slice(0, 2));
   for (const [fork, token] of forks) {
     const name = "#" + (+fork + 1) + token + "." + (+fork + 1), named = next[fork].filter(one => one[0] === "t").concat(next[fork].filter(one => one[0] === "x"));
     goTo("#" + fork);
-    if (address !== "#" + fork || id("crumbs").getClientRects().length) wrong(name, "the run isn't shown");
-    const button = id("next").querySelectorAll(".choice")[named.indexOf(token)];
-    if (button) button.click();
+    if (address !== "#" + fork || isOther()) wrong(name, "the run isn't shown");
+    const k = named.indexOf(token), first = named.indexOf(made[fork]);
+    click(k, 1);
     if (address !== name) wrong(name, "a click leads elsewhere");
-    document.dispatchEvent(new KeyboardEvent("keydown", { key: "Escape", bubbles: true }));
+    escape();
     if (address !== "#" + fork) wrong(name, "Escape leads elsewhere");
+    touch(k);
+    if (address !== "#" + fork) wrong(name, "a first touch goes on");
+    click(k, 0);
+    if (address !== name) wrong(name, "a key behind a touch leads elsewhere");
+    if (!document.activeElement.matches(".leave")) wrong(name, "the focus isn't at the way back");
+    escape();
+    if (document.activeElement !== nameAt(k)) wrong(name, "the focus isn't at the name again");
     goTo(name);
-    if (address !== name || !id("crumbs").getClientRects().length) wrong(name, "it isn't there");
+    if (address !== name || !isOther()) wrong(name, "it isn't there");
+    id("back").click();
+    if (nameAt(first)) {
+      click(first, 0);
+      if (address !== "#" + (+fork + 1) || isOther()) wrong(name, "a key at its fork doesn't go on with the first run");
+      if (nameAt(0) && !document.activeElement.matches("#next .choice")) wrong(name, "the focus is lost at the first run's choice");
+    }
+    goTo(name);
     id("whole").click();
     noted.push("other " + name + " " + id("copied").value);
     noteAll();
@@ -78,7 +102,7 @@
   for (const to of ["#0t0.3", "#0x1.0", "#1t99.3", "#start"]) {
     goTo("#1");
     goTo(to);
-    if (address !== "#0" || id("crumbs").getClientRects().length) wrong(to, "it doesn't lead to the start");
+    if (address !== "#0" || isOther()) wrong(to, "it doesn't lead to the start");
   }
   id("noted").textContent = "\n" + noted.join("\n") + "\n";
 })();

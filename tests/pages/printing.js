@@ -35,6 +35,18 @@
     return found;
   }
 
+  // prints all states, once it is told how many sheets they take; who has moved on is told anew
+  function printAll() {
+    const usual = id("states").textContent;
+    id("states").click();
+    if (id("states").textContent === usual) return;
+    id("back").click();
+    id("forth").click();
+    if (id("states").textContent !== usual) wrong.add("the number of sheets is an old one");
+    id("states").click();
+    id("states").click();
+  }
+
   id("first").click();
   for (let k = 0; k < 5000; k++) {
     texts.push(id("what").textContent);
@@ -60,11 +72,11 @@
 
   if (!id("states") || !id("sheet")) wrong.add("there is no way to print all states, or a worksheet");
   else {
-    const states = onPaper(() => id("states").click());
+    const states = onPaper(printAll);
     if (states.moments.join("|") !== texts.join("|") || states.tables !== all) wrong.add("there are the states of " + states.moments.length + " moments, and not of " + all);
     if (states.state) wrong.add("the state of one choice stands beside all");
     id("hide").click();
-    const few = onPaper(() => id("states").click());
+    const few = onPaper(printAll);
     if (few.moments.join("|") !== texts.slice(0, middle + 1).join("|")) wrong.add("the states of " + few.moments.length + " moments are on paper, though what comes later is hidden");
     id("hide").click();
     const sheet = onPaper(() => id("sheet").click());

@@ -1,3 +1,4 @@
 pub mod Parsing
 pub mod Words
 pub mod Growing
+pub mod Seeds

@@ -89,12 +89,20 @@ SpellsSeeds text seeds =
     × Spells first 0 4294967295 seeds.first × Spells last 0 4294967295 seeds.last
     × (seeds.first ≤ seeds.last) × (seeds.last < seeds.first + 100000)))
 
+abbrev pub SpellsNoSeeds : Text → Type 0
+SpellsNoSeeds text = (seeds : Seeds) → SpellsSeeds text seeds → ⊥
+
 -- the seeds, or nothing if none are given
 abbrev pub IsSeeds : Option Text → Option Seeds → Type 0
 IsSeeds None None = Unit {0}
 IsSeeds None (Some seeds) = ⊥
 IsSeeds (Some text) None = ⊥
 IsSeeds (Some text) (Some seeds) = SpellsSeeds text seeds
+
+-- there is a text, and it spells no seeds
+abbrev pub AreNoSeeds : Option Text → Type 0
+AreNoSeeds None = ⊥
+AreNoSeeds (Some text) = SpellsNoSeeds text
 
 -- without seeds no orders are asked for, and nothing is said of any; with seeds they are, by at most so many choices of each, and as
 -- they are expected to end
@@ -183,7 +191,7 @@ IsWrong option.Expect name rows =
 IsWrong option.Stir name rows = (name ≡ codes "live") × IsNoNumber 0 4294967295 (word_given (codes "stir") rows)
 IsWrong option.Runs name rows = (name ≡ codes "live") × IsNoNumber 1 100000 (word_given (codes "runs") rows)
 IsWrong option.Early name rows = ⊥
-IsWrong option.Seeds name rows = (name ≡ codes "plan") × (word_given (codes "seeds") rows ≢ None)
+IsWrong option.Seeds name rows = (name ≡ codes "plan") × AreNoSeeds (word_given (codes "seeds") rows)
 IsWrong option.SeedLimit name rows = (name ≡ codes "plan") × IsNoNumber 1 1000000 (word_given (codes "limit") rows)
 IsWrong option.NoSeeds name rows = (name ≡ codes "plan") × (word_given (codes "seeds") rows ≡ None)
     × ((word_given (codes "limit") rows ≢ None) ⊎ (word_given (codes "expect") rows ≢ None))

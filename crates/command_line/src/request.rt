@@ -8,8 +8,8 @@ ghost use Rattle.std.specs.List.{list_all};
 ghost use Rattle.trace_text.specs.Expectation.{is_expectation};
 ghost use Rattle.command_line.specs.Commands.{vuthgal};
 ghost use Rattle.command_line.specs.Request.{Asks, ComesTo, ComesToBy, ComesToOf, Fails, IsInRange, rows_in};
-ghost use Rattle.command_line.specs.Request.{AreInRange, AreOrders, AreSeveral, AreSteps, IsExpected, IsRefusedBy, IsFlag, IsNoNumber, IsNoState, IsNumber};
-ghost use Rattle.command_line.specs.Request.{IsSeeds, Spells, SpellsNone, SpellsSeeds, word_at, word_given, words_at};
+ghost use Rattle.command_line.specs.Request.{AreInRange, AreNoSeeds, AreOrders, AreSeveral, AreSteps, IsExpected, IsRefusedBy, IsFlag, IsNoNumber, IsNoState, IsNumber};
+ghost use Rattle.command_line.specs.Request.{IsSeeds, Spells, SpellsNoSeeds, SpellsNone, SpellsSeeds, word_at, word_given, words_at};
 ghost use Rattle.command_line.specs.declared.refusal.Refusal.TheVariants as refusal;
 ghost use Rattle.command_line.specs.declared.refusal.WrongOption.TheVariants as option;
 
@@ -236,7 +236,7 @@ fn steps_by<'a>(matches: &ArgMatches<'a>, name: &str) -> Result<Steps<'a>, Wrong
 
 /// The seeds that a text spells as `1..1000`.
 fn seeds_in(text: &str) -> Option<Seeds>
-    ensures { IfSome result (SpellsSeeds text.now) }
+    ensures { MatchOption result (SpellsNoSeeds text.now) (λ seeds. SpellsSeeds text.now seeds) }
 {
     let (first, last) = text.split_once("..")?;
     let first = number(first, 0, 4_294_967_295)?;
@@ -251,7 +251,7 @@ fn seeds_in(text: &str) -> Option<Seeds>
 /// The seeds that these matches name, if they name some.
 fn seeds_given(matches: &ArgMatches<'_>) -> Result<Option<Seeds>, WrongOption>
     ensures asked { IfOk result (IsSeeds (word_given (codes "seeds") (rows_in matches.now))) }
-    ensures wrong { IfErr result (λ why. (why ≡ option.Seeds) × (word_given (codes "seeds") (rows_in matches.now) ≢ None)) }
+    ensures wrong { IfErr result (λ why. (why ≡ option.Seeds) × AreNoSeeds (word_given (codes "seeds") (rows_in matches.now))) }
 {
     let Some(text) = given(matches, "seeds") else {
         return Ok(None);

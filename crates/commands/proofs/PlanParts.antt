@@ -8,9 +8,10 @@ use Rattle.std.proofs.lemmas.List.FromFn.{length-map-range_with_len, map-range_w
 use Rattle.assembler.specs.Symbols.{SymbolTable}
 use Rattle.commands.specs.Choices.{schedule_line}
 use Rattle.commands.specs.Named.{line_by}
-use Rattle.commands.specs.Planning.{ComesOfPlan, HasNamedPlanned, HasNoSchedule, HasPlanned, HasThreads, Plays, thread_name, thread_names}
-use Rattle.commands.specs.Seeds.{plan_by}
+use Rattle.commands.specs.Planning.{ComesOfPlan, HasNamedPlanned, HasPlanned, HasThreads, Plays, thread_name, thread_names}
+use Rattle.commands.specs.Seeds.{HaveNoReport, IsSeedOf, plan_by}
 use Rattle.commands.specs.Unplanned.{unplanned_status}
+use Rattle.commands.specs.declared.seeds.Seeds.{Seeds}
 use Rattle.commands.specs.declared.unplanned.Unplanned.{Unplanned}
 use Rattle.commands.specs.declared.unplanned.Unplanned.TheVariants as why
 use Rattle.loader.specs.Program.{IsProgramOf}
@@ -105,12 +106,12 @@ named_written stopped planned program names seen plan old new (progress, (comes,
       ),
     )
 
--- why the orders of seeds have no schedule
-pub no_orders : (reason : Unplanned) (program : Program) (names : List (List ℕ)) (plan : List ℕ) (limit : Option ℕ)
+-- why the orders of seeds are not reported
+pub no_report : (reason : Unplanned) (program : Program) (names : List (List ℕ)) (plan : List ℕ) (seeds : Seeds)
     → HasThreads program.image program.names names
-    → ((f : PlanFault) → reason ≡ why.Plan f → (seed : ℕ) × (words_in_plan names (plan_by plan limit seed) ≡ Err f))
+    → ((f : PlanFault) → reason ≡ why.Plan f
+    → (seed : ℕ) × (IsSeedOf seeds seed × (words_in_plan names (plan_by plan seeds.limit seed) ≡ Err f)))
     → ((f : Fault) → reason ≡ why.Fault f → f ≡ fault.Memory) → unplanned_status reason ≡ 3
-    → (seed : ℕ) × HasNoSchedule reason program (plan_by plan limit seed)
-no_orders (why.Plan f) program names plan limit has refused other three =
-    let found = refused f refl in (found.0, (names, (has, found.1)))
-no_orders (why.Fault f) program names plan limit has refused other three = absurd (cc (other f refl, three))
+    → HaveNoReport reason program plan seeds
+no_report (why.Plan f) program names plan seeds has refused other three = (names, (has, refused f refl))
+no_report (why.Fault f) program names plan seeds has refused other three = absurd (cc (other f refl, three))

@@ -1,14 +1,17 @@
 -- Orders of seeds, one more at a time.
-use Rattle.std.proofs.Common.{◌≡◌, ◌+◌, ℕ, List, [], ◌∷◌, ◌++◌, Some, None, length, subst, sym, arith}
+use Rattle.std.proofs.Common.{◌≡◌, ◌+◌, ◌<◌, ℕ, List, [], ◌∷◌, ◌++◌, Some, None, length, subst, sym, arith}
 use Rattle.std.specs.Global.{Vec}
 use Rattle.std.specs.List.{find}
 use Rattle.std.specs.Option.{option_or}
-use Rattle.std.specs.Prelude.{Option, cond, not}
+use Rattle.std.specs.Prelude.{Err, Option, cond, not}
 use Rattle.std.proofs.lemmas.List.Folds.{find-append}
 use Rattle.loader.specs.Program.{Program as Loaded}
+use Rattle.plans.specs.Plan.{words_in_plan}
+use Rattle.plans.specs.declared.fault.PlanFault.{PlanFault}
 use Rattle.trace_text.specs.Expectation.{are_met}
 use Rattle.commands.specs.Outcomes.{Ended}
-use Rattle.commands.specs.Seeds.{AreEndsBy, IsEndBy, IsFirstUnlike, IsUnlike, is_unlike}
+use Rattle.commands.specs.Seeds.{AreEndsBy, IsEndBy, IsFirstUnlike, IsSeedOf, IsUnlike, is_unlike, plan_by}
+use Rattle.commands.specs.declared.seeds.Seeds.{Seeds}
 use Rattle.commands.specs.declared.seeds.Unlike.{Unlike}
 
 pub one_more : (program : Loaded) (names : List (List ℕ)) (plan : List ℕ) (limit : Option ℕ) (first : ℕ) (runs : List Ended) (run : Ended)
@@ -18,6 +21,12 @@ one_more program names plan limit first [] run are is = grind arith
 one_more program names plan limit first (other ∷ runs) run are is =
     let there : first + length (other ∷ runs) ≡ first + 1 + length runs = omega arith in
     (are.0, one_more program names plan limit (first + 1) runs run are.1 (subst (λ n. IsEndBy program names plan limit n run) there is))
+
+-- the plan of one of the seeds has this fault
+pub one_is_refused : (seeds : Seeds) (names : List (List ℕ)) (plan : List ℕ) (f : PlanFault) (number seed : ℕ)
+    → number < seeds.count → seed ≡ seeds.first + number → words_in_plan names (plan_by plan seeds.limit seed) ≡ Err f
+    → (n : ℕ) × (IsSeedOf seeds n × (words_in_plan names (plan_by plan seeds.limit n) ≡ Err f))
+one_is_refused seeds names plan f number seed less is refused = (seed, ((omega (arith, is), omega (arith, less, is)), refused))
 
 -- the first of two, where each is told of a run or of none
 either : (run other : Option Ended) (unlike more : Option Unlike) → IsUnlike run unlike → IsUnlike other more

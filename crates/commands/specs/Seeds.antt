@@ -1,8 +1,9 @@
 -- What the orders of several seeds lead to.
-use Rattle.std.specs.Prelude.{◌≡◌, ℕ, ◌+◌, Bool, if◌then◌else◌, not, List, [], ◌∷◌, ◌++◌, codes, decimal, length, Option, Some, None}
+use Rattle.std.specs.Prelude.{◌≡◌, ℕ, ◌+◌, ◌<◌, ◌≤◌, Bool, Err, if◌then◌else◌, not, List, [], ◌∷◌, ◌++◌, codes, decimal, length, Option, Some, None}
 use Rattle.std.specs.Global.{Vec}
 use Rattle.std.specs.Io.KnownBytes.{Appends}
 use Rattle.std.specs.List.{find}
+use Rattle.plans.specs.Plan.{words_in_plan}
 use Rattle.plans.specs.Planned.{AreRuns}
 use Rattle.plans.specs.Progress.{Progress}
 use Rattle.schedule_reader.specs.Schedule.{choices_of}
@@ -13,7 +14,7 @@ use Rattle.thread_runner.specs.Endings.{standing_at}
 use Rattle.trace_text.specs.Expectation.{are_met}
 use Rattle.commands.specs.Ends.{end_text}
 use Rattle.commands.specs.Outcomes.{AreOutcomes, Ended, IsMostFrequentFirst, report}
-use Rattle.commands.specs.Planning.{HasThreads, Plays}
+use Rattle.commands.specs.Planning.{HasThreads, IsUnloadedFor, Plays}
 use Rattle.workbench.specs.declared.program.Program.{Program}
 use Rattle.loader.specs.Program.{IsProgramOf}
 use Rattle.loader.specs.Program.{Program as Loaded}
@@ -21,6 +22,8 @@ use Rattle.commands.specs.declared.end_state.EndState.{EndState}
 use Rattle.commands.specs.declared.outcomes.Outcome.{Outcome}
 use Rattle.commands.specs.declared.seeds.Seeds.{Seeds}
 use Rattle.commands.specs.declared.seeds.Unlike.{Unlike}
+use Rattle.commands.specs.declared.unplanned.Unplanned.{Unplanned}
+use Rattle.commands.specs.declared.unplanned.Unplanned.TheVariants as why
 
 -- the most choices of an order, as a plan has it, if that is given
 abbrev pub limit_mark : Option ℕ → List ℕ
@@ -58,6 +61,17 @@ IsUnlike (Some run) (Some unlike) = (run.seed ≡ Some unlike.seed) × (unlike.e
 -- the first of some runs that ended otherwise
 abbrev pub IsFirstUnlike : List (Vec ℕ) → List Ended → Option Unlike → Type 0
 IsFirstUnlike expected runs unlike = IsUnlike (find (is_unlike expected) runs) unlike
+
+-- one of the seeds that are asked for
+abbrev pub IsSeedOf : Seeds → ℕ → Type 0
+IsSeedOf seeds seed = (seeds.first ≤ seed) × (seed < seeds.first + seeds.count)
+
+-- why the orders of these seeds are not reported: the program isn't loaded, or it is, and the plan of one of them has this fault
+abbrev pub HaveNoReport : Unplanned → Program → (plan : List ℕ) → Seeds → Type 0
+HaveNoReport (why.Plan f) program plan seeds =
+    (names : List (List ℕ)) × (HasThreads program.image program.names names
+    × ((seed : ℕ) × (IsSeedOf seeds seed × (words_in_plan names (plan_by plan seeds.limit seed) ≡ Err f))))
+HaveNoReport (why.Fault f) program plan seeds = IsUnloadedFor f program.image
 
 -- what the orders of these seeds came to, and the first that ended otherwise than expected
 abbrev pub AreOutcomesBy : Loaded → (names : List (List ℕ)) → (plan : List ℕ) → Seeds → List (EndState × Outcome) → Option Unlike → Type 0

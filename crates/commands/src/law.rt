@@ -6,14 +6,14 @@ ghost use Rattle.line_reader.specs.Words.{lines_of};
 ghost use Rattle.schedule_reader.specs.Schedule.{finished_schedule};
 ghost use Rattle.commands.specs.Rows.{AreSaid, IsRowListing, row_lines};
 
-/// What is reported about a row is the line that says it: there is one number of a line for each row of the image, and the line
-/// there says this row.
+/// A row is reported with the line that spells it: each row of the image has one line number, and the line there spells this
+/// row.
 pub fn a_row_is_told_with_the_line_that_says_it()
     ensures { (text : List ℕ) (lines : List (Line Name)) → SayInOrder 1 (lines_of text) lines
         → AreSaid (lines_of text) lines (image_of lines).rows (row_lines lines) }
 {}
 
-/// A file has one listing.
+/// A file has only one listing.
 pub fn a_file_has_one_listing()
     ensures { (file a b : List ℕ) → IsRowListing file a → IsRowListing file b → a ≡ b }
 {}

@@ -1,11 +1,13 @@
-//! The commands beyond those of `workbench`: pictures of a run, listed rows, schedules of traces and plans, lines that
+//! The commands that `workbench` doesn't have: pictures of a run, listed rows, schedules of traces and plans, lines that
 //! differ, a debugger for a person, and many live runs of one program.
 //!
-//! `show` and `draw` are `make`: a picture is made in memory, and then written at once. `show_comparison` adds to the verdict of
-//! `compare_cmd` the lines that differ. `GuidedCommands` is the person from whom `debug` takes lines.
-//! `report_runs` plays a program on real threads as often as asked, and writes a line for each state that a run ended in. With
-//! `Pauses` the workers pause, so that orders come about that are rare otherwise. `report_seeds` writes such lines for the orders
-//! of seeds, and reports the end of each to an `Observer`.
+//! - `make` is the commands `show` and `draw`. It makes a picture in memory, and then writes it at once.
+//! - `show_comparison` writes the verdict of `compare_cmd`, and then the lines that differ.
+//! - `GuidedCommands` reads the lines that a person types at `debug`, and writes what each of them leads to.
+//! - `report_runs` plays a program many times on real threads, and writes a line for each state in which runs ended. With
+//!   `Pauses` the threads pause now and then, which gives orders that are rare otherwise.
+//! - `report_seeds` plays a program in the orders of some seeds, and writes the same kind of lines. It calls an `Observer`
+//!   with the end of each run.
 #![tactic(auto)]
 
 // Schedules of traces and plans, lines that differ, and rows.

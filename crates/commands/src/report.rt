@@ -14,7 +14,7 @@ use trace_text::meeting::are_met;
 use trace_text::state_line::has_died;
 use workbench::done::Done;
 
-/// How long a schedule is at most: longer than 1,000,000,000 choices are written.
+/// More bytes than a schedule has: a run makes at most 1,000,000,000 choices, and none of them takes 100 bytes.
 const LONGEST: usize = 100_000_000_000;
 
 /// Returns what follows the word of a state in which a thread has died.
@@ -41,7 +41,8 @@ fn push_seed(text: &mut Vec<u8>, seed: Option<u64>) -> Result<(), AllocError>
     Ok(())
 }
 
-/// Adds a schedule as it is, or by these names. One that is kept has no fault.
+/// Adds a schedule as it is, or by these names. The schedule of a run is short enough and has no fault, so the only error is
+/// that there is no memory.
 fn push_schedule(
     alloc: Global,
     text: &mut Vec<u8>,

@@ -8,11 +8,10 @@ ghost use Rattle.thread_machine.specs.World.{world_of};
 ghost use Rattle.thread_runner.specs.Endings.{standing_at};
 ghost use Rattle.workbench.specs.declared.fault.Fault.{Fault};
 ghost use Rattle.commands.specs.Outcomes.{AreOutcomes, Ended, IsMostFrequentFirst, is_state};
-ghost use Rattle.commands.specs.Planning.{HasNoSchedule};
 ghost use Rattle.commands.specs.Unplanned.{unplanned_status};
 ghost use Rattle.plans.specs.Plan.{words_in_plan};
 ghost use Rattle.plans.specs.declared.fault.PlanFault.{PlanFault};
-ghost use Rattle.commands.specs.Seeds.{AreOutcomesBy, HasReportedSeeds, IsEndBy, IsFirstUnlike, limit_mark, plan_by};
+ghost use Rattle.commands.specs.Seeds.{AreOutcomesBy, HasReportedSeeds, HaveNoReport, IsEndBy, IsFirstUnlike, IsSeedOf, limit_mark, plan_by};
 ghost use Rattle.commands.specs.declared.unplanned.Unplanned.TheVariants as why;
 
 use crate::end_state::EndState;
@@ -191,7 +190,8 @@ fn tally_of<O: Observer>(
         tally.outcomes.entries tally.unlike) }
     ensures sorted { IfOk result (λ tally. IsMostFrequentFirst tally.outcomes.entries) }
     ensures refused { (f : PlanFault) → result ≡ Err (Unplanned.Plan f)
-        → (seed : ℕ) × (words_in_plan (map name_seen names.now) (plan_by plan.now seeds.now.limit seed) ≡ Err f) }
+        → (seed : ℕ) × (IsSeedOf seeds.now seed
+        × (words_in_plan (map name_seen names.now) (plan_by plan.now seeds.now.limit seed) ≡ Err f)) }
     ensures other { (f : Fault) → result ≡ Err (Unplanned.Fault f) → f ≡ Fault.Memory }
 {
     let mut outcomes = Outcomes::new(alloc);
@@ -227,8 +227,7 @@ pub fn report_seeds<O: Observer, K: Sink>(
     requires { seeds.now.count ≤ 100000 }
     ensures done { IfOk result (λ unlike. HasReportedSeeds program.entry plan.now seeds.now unlike
         (K.written output.old) (K.written output.new)) }
-    ensures refused { IfErr result (λ reason. unplanned_status reason ≡ 3
-        → (seed : ℕ) × HasNoSchedule reason program.entry (plan_by plan.now seeds.now.limit seed)) }
+    ensures refused { IfErr result (λ reason. unplanned_status reason ≡ 3 → HaveNoReport reason program.entry plan.now seeds.now) }
     ensures unwritten { IfErr result (λ reason. reason ≢ why.Fault Fault.Write → K.written output.new ≡ K.written output.old) }
     ensures write { result ≡ Err (why.Fault Fault.Write) → IsTrue (K.has_failed output.new) }
     ensures other { (result ≢ Err (why.Fault Fault.Read)) × (result ≢ Err (why.Fault Fault.Spawn)) }

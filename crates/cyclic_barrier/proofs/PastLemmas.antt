@@ -11,7 +11,7 @@ use Rattle.cyclic_barrier.specs.PlainBarrier as plain
 use Rattle.cyclic_barrier.specs.PlainBarrier.{PlainBarrier, Wait, End, state_after, state_of_wait, wait_of, state_of, is_unreleased, end_generation}
 use Rattle.cyclic_barrier.specs.Barrier as now
 use Rattle.cyclic_barrier.specs.Barrier.{BarrierState, number_waiting, IsBarrier}
-use Rattle.cyclic_barrier.specs.Past.{StandsFor, HasPast, HasBegun, OneWaitEach, Agrees, FollowsPast}
+use Rattle.cyclic_barrier.specs.Past.{IsStateAfter, HasPast, HasBegun, OneWaitEach, Agrees, FollowsPast}
 use Rattle.cyclic_barrier.proofs.PlainBarrierLemmas.{ended_by, state_of-end, none_waiting, begun_still, waiting_now, wait_of-others, waiting-others, one_each-others}
 use Rattle.cyclic_barrier.proofs.WaitsLemmas.{wait_at-release, wait_at-set}
 
@@ -29,8 +29,8 @@ none_left end (x ∷ waits) = sum_by-cons _ (released (state_after (Some end)) x
 
 -- the generation ends
 pub stands-end :
-    (end : End) (b : BarrierState) (p : PlainBarrier) → StandsFor b p →
-    StandsFor (record b { waits = release (state_after (Some end)) b.waits }) (end_generation end p)
+    (end : End) (b : BarrierState) (p : PlainBarrier) → IsStateAfter b p →
+    IsStateAfter (record b { waits = release (state_after (Some end)) b.waits }) (end_generation end p)
 stands-end end b p s = record {
   parties = s.parties;
   action = s.action;
@@ -45,15 +45,15 @@ stands-end end b p s = record {
 
 -- the flag that the barrier is broken
 stands-flag :
-    (flag : Bool) (b : BarrierState) (p : PlainBarrier) → StandsFor b p → StandsFor (record b { broken = flag }) (record p { broken = flag })
+    (flag : Bool) (b : BarrierState) (p : PlainBarrier) → IsStateAfter b p → IsStateAfter (record b { broken = flag }) (record p { broken = flag })
 stands-flag flag b p s = grind arith
 
 -- the runner
 pub stands-runner :
-    (runner : Option ℕ) (b : BarrierState) (p : PlainBarrier) → StandsFor b p → StandsFor (record b { runner = runner }) (record p { runner = runner })
+    (runner : Option ℕ) (b : BarrierState) (p : PlainBarrier) → IsStateAfter b p → IsStateAfter (record b { runner = runner }) (record p { runner = runner })
 stands-runner runner b p s = grind arith
 
-pub stands-break : (b : BarrierState) (p : PlainBarrier) → StandsFor b p → StandsFor (now.break b) (plain.break p)
+pub stands-break : (b : BarrierState) (p : PlainBarrier) → IsStateAfter b p → IsStateAfter (now.break b) (plain.break p)
 stands-break b p s = stands-flag true _ _ (stands-end plain.broken b p s)
 
 -- the state of a thread once another, or this one, has left
@@ -73,8 +73,8 @@ count-set waits i wait within none = grind (arith, sum_by-set)
 
 -- a released thread leaves
 pub stands-leave :
-    (gone : ℕ) (b : BarrierState) (p : PlainBarrier) → gone < length b.waits → wait_at b.waits gone ≢ Some state.Waiting → StandsFor b p →
-    StandsFor (now.leave gone b) (plain.leave gone p)
+    (gone : ℕ) (b : BarrierState) (p : PlainBarrier) → gone < length b.waits → wait_at b.waits gone ≢ Some state.Waiting → IsStateAfter b p →
+    IsStateAfter (now.leave gone b) (plain.leave gone p)
 stands-leave gone b p there out s = record {
   parties = s.parties;
   action = s.action;
@@ -98,7 +98,7 @@ absent ends o e = grind arith
 
 -- a thread waits
 pub stands-add :
-    (thread : ℕ) (b : BarrierState) (p : PlainBarrier) → thread < length b.waits → wait_at b.waits thread ≡ None → StandsFor b p →
+    (thread : ℕ) (b : BarrierState) (p : PlainBarrier) → thread < length b.waits → wait_at b.waits thread ≡ None → IsStateAfter b p →
     Agrees (now.add_wait thread b) (plain.add_wait thread p)
 stands-add thread b p there none s =
     let wait : Wait = record { thread = thread; generation = length p.ends } in
@@ -124,14 +124,14 @@ either P false false e p q = q
 either _ _ _ e p q = cc
 
 stands-arrive_last :
-    (thread : ℕ) (b : BarrierState) (p : PlainBarrier) → StandsFor b p → Agrees (now.arrive_last thread b) (plain.arrive_last thread p)
+    (thread : ℕ) (b : BarrierState) (p : PlainBarrier) → IsStateAfter b p → Agrees (now.arrive_last thread b) (plain.arrive_last thread p)
 stands-arrive_last thread b p s = either Agrees b.action p.action s.action
     (record { barrier = stands-runner (Some thread) b p s; answer = refl })
     (record { barrier = stands-end plain.tripped b p s; answer = refl })
 
 stands-arrive :
     (thread : ℕ) (interrupted no_wait : Bool) (b : BarrierState) (p : PlainBarrier) → thread < length b.waits →
-    wait_at b.waits thread ≡ None → StandsFor b p → Agrees (now.arrive thread interrupted no_wait b) (plain.arrive thread interrupted no_wait p)
+    wait_at b.waits thread ≡ None → IsStateAfter b p → Agrees (now.arrive thread interrupted no_wait b) (plain.arrive thread interrupted no_wait p)
 stands-arrive thread interrupted no_wait b p there none s =
     either Agrees b.broken p.broken s.broken (record { barrier = s; answer = refl })
     (either Agrees interrupted interrupted refl (record { barrier = stands-break b p s; answer = refl })
@@ -141,20 +141,20 @@ stands-arrive thread interrupted no_wait b p there none s =
 
 pub stands-beside :
     (r q : Option ℕ) (thread : ℕ) (interrupted no_wait : Bool) (b : BarrierState) (p : PlainBarrier) → q ≡ r → thread < length b.waits →
-    wait_at b.waits thread ≡ None → StandsFor b p →
+    wait_at b.waits thread ≡ None → IsStateAfter b p →
     Agrees (now.enter_beside r thread interrupted no_wait b) (plain.enter_beside q thread interrupted no_wait p)
 stands-beside r q thread interrupted no_wait b p e there none s = grind (arith, stands-arrive)
 
-pub stands-end_action : (returned : Bool) (b : BarrierState) (p : PlainBarrier) → StandsFor b p → StandsFor (now.end_action returned b) (plain.end_action returned p)
+pub stands-end_action : (returned : Bool) (b : BarrierState) (p : PlainBarrier) → IsStateAfter b p → IsStateAfter (now.end_action returned b) (plain.end_action returned p)
 stands-end_action returned b p s =
-    let rested : StandsFor (record b { runner = None }) (record p { runner = None }) = stands-runner None b p s in
-    either StandsFor returned returned refl (stands-end plain.tripped _ _ rested) (stands-break _ _ rested)
+    let rested : IsStateAfter (record b { runner = None }) (record p { runner = None }) = stands-runner None b p s in
+    either IsStateAfter returned returned refl (stands-end plain.tripped _ _ rested) (stands-break _ _ rested)
 
 gone_or_released : (wait : Option WaitState) → released state.Broken wait ≢ Some state.Waiting
 gone_or_released wait e = grind arith
 
 pub stands-interrupt :
-    (thread : ℕ) (b : BarrierState) (p : PlainBarrier) → thread < length b.waits → StandsFor b p → StandsFor (now.interrupt thread b) (plain.interrupt thread p)
+    (thread : ℕ) (b : BarrierState) (p : PlainBarrier) → thread < length b.waits → IsStateAfter b p → IsStateAfter (now.interrupt thread b) (plain.interrupt thread p)
 stands-interrupt thread b p there s = stands-leave thread _ _ (rw (length-map b.waits (released state.Broken)) there) (λ e. gone_or_released _ (sym (wait_at-release state.Broken b.waits thread) ∙ e)) (stands-break b p s)
 
 -- where nobody waits nobody is released
@@ -165,9 +165,9 @@ none_released (Some state.Waiting ∷ waits) e = absurd (omega (arith, sum_by-co
 none_released (Some state.Tripped ∷ waits) e = ap (λ ws. Some state.Tripped ∷ ws) (none_released waits e)
 none_released (Some state.Broken ∷ waits) e = ap (λ ws. Some state.Broken ∷ ws) (none_released waits e)
 
-pub stands-reset : (b : BarrierState) (p : PlainBarrier) → StandsFor b p → StandsFor (now.reset b) (plain.reset p)
+pub stands-reset : (b : BarrierState) (p : PlainBarrier) → IsStateAfter b p → IsStateAfter (now.reset b) (plain.reset p)
 stands-reset b p s = stands-flag false (record b { waits = release state.Broken b.waits }) (cond (0 == plain.number_waiting p) p (end_generation plain.broken p))
-    (elim (cases_eq 0 (plain.number_waiting p)) as (λ _. StandsFor (record b { waits = release state.Broken b.waits }) (cond (0 == plain.number_waiting p) p (end_generation plain.broken p))) [
+    (elim (cases_eq 0 (plain.number_waiting p)) as (λ _. IsStateAfter (record b { waits = release state.Broken b.waits }) (cond (0 == plain.number_waiting p) p (end_generation plain.broken p))) [
       | inl e ↦ rw (eq-eqb _ _ e, none_released b.waits (sym (e ∙ s.number_waiting))) s
       | inr n ↦ rw (ne_eqb _ _ n) (stands-end plain.broken b p s)
     ])
@@ -243,7 +243,7 @@ none_at : (n t : ℕ) → wait_at (replicate n None) t ≡ None
 none_at (suc n) (suc t) = none_at n t
 none_at _ _ = refl
 
-pub stands-fresh : (parties : ℕ) (action : Bool) → StandsFor (now.fresh parties action) (plain.fresh parties action)
+pub stands-fresh : (parties : ℕ) (action : Bool) → IsStateAfter (now.fresh parties action) (plain.fresh parties action)
 stands-fresh parties action = search (rules, none_at)
 
 pub follows_past : (b : BarrierState) → IsBarrier b → FollowsPast b

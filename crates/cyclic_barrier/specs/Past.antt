@@ -15,7 +15,7 @@ abbrev pub HasBegun : List End → Wait → Type 0
 HasBegun ends wait = wait.generation ≤ length ends
 
 -- the plain barrier, with its past, is now this one
-pub record StandsFor (b : BarrierState) (past : PlainBarrier) : Type 0 where
+pub record IsStateAfter (b : BarrierState) (past : PlainBarrier) : Type 0 where
   pub parties : past.parties ≡ b.parties
   pub action : past.action ≡ b.action
   pub broken : past.broken ≡ b.broken
@@ -27,20 +27,20 @@ pub record StandsFor (b : BarrierState) (past : PlainBarrier) : Type 0 where
 
 -- there is a past that leads to this barrier
 abbrev pub HasPast : BarrierState → Type 0
-HasPast b = (past : PlainBarrier) × StandsFor b past
+HasPast b = (past : PlainBarrier) × IsStateAfter b past
 
 -- the call turns each past that leads to one barrier into a past that leads to the other
 abbrev pub Becomes : (PlainBarrier → PlainBarrier) → BarrierState → BarrierState → Type 0
 Becomes call before after =
-    (past : PlainBarrier) → StandsFor before past → StandsFor after (call past)
+    (past : PlainBarrier) → IsStateAfter before past → IsStateAfter after (call past)
 
 -- the result is the same for each past that leads to the barrier
 abbrev pub Answers : {A : Type 0} → (PlainBarrier → A) → BarrierState → A → Type 0
-Answers call b answer = (past : PlainBarrier) → StandsFor b past → call past ≡ answer
+Answers call b answer = (past : PlainBarrier) → IsStateAfter b past → call past ≡ answer
 
 -- an entry leaves the same barrier, and has the same result, with the past as without it
 pub record Agrees (entry : Entry) (with_past : plain.Entry) : Type 0 where
-  pub barrier : StandsFor entry.barrier with_past.barrier
+  pub barrier : IsStateAfter entry.barrier with_past.barrier
   pub answer : with_past.answer ≡ entry.answer
 
 -- each call at this barrier is that call at each past that leads to it
@@ -48,7 +48,7 @@ pub record FollowsPast (b : BarrierState) : Type 0 where
   pub look : (thread : ℕ) → Answers (state_of thread) b (wait_at b.waits thread)
   pub enter : (thread : ℕ) (interrupted no_wait : Bool) →
       thread < 64 → wait_at b.waits thread ≡ None →
-      (past : PlainBarrier) → StandsFor b past →
+      (past : PlainBarrier) → IsStateAfter b past →
       Agrees (enter_timed thread interrupted no_wait b)
       (plain.enter_timed thread interrupted no_wait past)
   pub end_action : (returned : Bool) →

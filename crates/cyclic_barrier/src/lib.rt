@@ -1,8 +1,9 @@
 //! Java's `CyclicBarrier`, played one call at a time. A barrier is a value that needs no memory from the heap, and is copied
 //! like a number.
 //!
-//! No call waits: a thread that would wait gets its arrival index, and asks later for the state of its wait. The contract of
-//! each call is one equation on a plain record. A law says that the calls do what Java says about generations.
+//! No call waits: a thread that would wait gets its arrival index, and later calls `look` for the state of its wait. The
+//! contract of each call is one equation: it gives the result and the new state, as plain values. By a law, each waiter
+//! learns how its own generation ended, as in Java.
 #![tactic(auto)]
 
 mod answer;

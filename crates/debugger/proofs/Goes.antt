@@ -14,7 +14,7 @@ use Rattle.debugger.specs.declared.stop.Stop.{Stop}
 use Rattle.debugger.specs.declared.stop.Stop.TheVariants as stop
 use Rattle.debugger.specs.declared.session.go.Went.{Went}
 use Rattle.debugger.specs.Session.{Session, went_on, world_after, IsHistory}
-use Rattle.debugger.specs.Moves.{IsStep, AreSteps}
+use Rattle.debugger.specs.Moves.{IsSessionStep, AreSteps}
 use Rattle.debugger.specs.Go.{is_at_break, is_break, Refuses, PlaysOn, Ends, Breaks, Faults, Stops}
 use Rattle.debugger.specs.Goes.{Goes}
 use Rattle.debugger.specs.Reply.{IsStepUnless}
@@ -23,7 +23,7 @@ use Rattle.debugger.proofs.Histories.{history_on}
 -- what a step's answer says
 pub is_step : (before after : Session) (choice : Choice) (event : Event)
     → (let both : Played = record { world = world_of after.machine; event = event } in both ≡ played (world_of before.machine) choice)
-    → refusal_of (world_of before.machine) choice ≡ None → after ≡ went_on before after.machine → IsStep before choice after
+    → refusal_of (world_of before.machine) choice ≡ None → after ≡ went_on before after.machine → IsSessionStep before choice after
 is_step before after choice event both accepted session = grind arith
 
 refuses : (why : StepFault) (world : World) (choice : Choice) (result : Result Event StepFault) → result ≡ Err why
@@ -53,13 +53,13 @@ ready_by : (outcome : Option Outcome) (world : World)
 ready_by outcome world other = grind arith
 
 -- where a thread stands after a step, by the session and by the definition
-at_break_after : (session after : Session) (choice : Choice) (is : Bool) → IsStep session choice after
+at_break_after : (session after : Session) (choice : Choice) (is : Bool) → IsSessionStep session choice after
     → is_at_break after.breaks (thread_at (scene_of after.machine.scene) choice.thread) ≡ is
     → is_at_break session.breaks (thread_at (played (world_of session.machine) choice).world.scene choice.thread) ≡ is
 at_break_after session after choice is step at = grind arith
 
 pub pass_break : (session after : Session) (choice : Choice) → refusal_of (world_of session.machine) choice ≡ None
-    → IsStep session choice after → (after.machine.steps ≡ session.machine.steps → ⊥)
+    → IsSessionStep session choice after → (after.machine.steps ≡ session.machine.steps → ⊥)
     → is_at_break after.breaks (thread_at (scene_of after.machine.scene) choice.thread) ≡ true
     → Breaks session (choice ∷ []) after
 pass_break session after choice accepted step counted at =
@@ -80,11 +80,11 @@ pass_break session after choice accepted step counted at =
     }
 
 pub pass_idle : (session after : Session) (choice : Choice) → refusal_of (world_of session.machine) choice ≡ None
-    → IsStep session choice after → after.machine.steps ≡ session.machine.steps → Ends session (choice ∷ []) after
+    → IsSessionStep session choice after → after.machine.steps ≡ session.machine.steps → Ends session (choice ∷ []) after
 pass_idle session after choice accepted step same = grind arith
 
 pub pass_on : (session after : Session) (choice : Choice) → refusal_of (world_of session.machine) choice ≡ None
-    → IsStep session choice after
+    → IsSessionStep session choice after
     → is_at_break after.breaks (thread_at (scene_of after.machine.scene) choice.thread) ≡ false
     → Ends session (choice ∷ []) after
 pass_on session after choice accepted step at = search (rules, at_break_after)
@@ -281,5 +281,5 @@ history_of_steps (choice ∷ more) first choices before after history steps =
 
 -- a step that wasn't refused
 pub step_unless : (refusal : Option StepFault) (session after : Session) (choice : Choice) → refusal ≡ None
-    → IsStep session choice after → IsStepUnless refusal session choice after
+    → IsSessionStep session choice after → IsStepUnless refusal session choice after
 step_unless refusal session after choice is step = subst (λ r. IsStepUnless r session choice after) (sym is) step

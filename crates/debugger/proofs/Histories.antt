@@ -7,7 +7,7 @@ use Rattle.thread_machine.specs.Step.{played, refusal_of}
 use Rattle.thread_machine.specs.Execution.{Execution, execution, execution_by, extended, extended_by}
 use Rattle.thread_machine.proofs.Executions.{execution-snoc}
 use Rattle.debugger.specs.Session.{Session, went_back, back_to, world_after, worlds_before, IsHistory}
-use Rattle.debugger.specs.Moves.{IsStep}
+use Rattle.debugger.specs.Moves.{IsSessionStep}
 
 -- an execution without a refusal leads where each choice's row does
 world_by : (refusal : Option StepFault) (world : World) (first : Choice) (choices : List Choice)
@@ -61,7 +61,7 @@ shown-take-drop (suc n) (world ∷ worlds) = ap (λ ws. world_of world ∷ ws) (
 
 -- one choice more
 pub history_on : (first : World) (choices : List Choice) (choice : Choice) (before after : Session) → IsHistory first choices before
-    → IsStep before choice after → IsHistory first (choices ++ choice ∷ []) after
+    → IsSessionStep before choice after → IsHistory first (choices ++ choice ∷ []) after
 history_on first choices choice before after history step =
     let longer = before.machine ∷ before.past in
     let on = accepted_on first choices choice history.accepted

@@ -9,7 +9,7 @@ use Rattle.schedule_reader.specs.Schedule.{choices_of}
 use Rattle.debugger.specs.declared.stop.Stop.{Stop}
 use Rattle.debugger.specs.declared.stop.Stop.TheVariants as stop
 use Rattle.debugger.specs.Session.{Session, IsHistory, went_back, back_to}
-use Rattle.debugger.specs.Moves.{IsStep, AreSteps}
+use Rattle.debugger.specs.Moves.{IsSessionStep, AreSteps}
 use Rattle.debugger.specs.Go.{Stops}
 use Rattle.debugger.specs.Command.{Order, Step, Go, Back, Break, Clear, Print, Quit, Unknown}
 use Rattle.debugger.specs.Reply.{Replies, IsStepUnless}

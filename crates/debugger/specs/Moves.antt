@@ -11,7 +11,7 @@ pub data Move : Type 0 where
   Back : Move
 
 -- the choice wasn't refused, and has led from the session before to the one after
-pub record IsStep (before : Session) (choice : Choice) (after : Session) : Type 0 where
+pub record IsSessionStep (before : Session) (choice : Choice) (after : Session) : Type 0 where
   pub accepted : refusal_of (world_of before.machine) choice ≡ None
   pub world : world_of after.machine ≡ (played (world_of before.machine) choice).world
   pub session : after ≡ went_on before after.machine
@@ -20,12 +20,12 @@ pub record IsStep (before : Session) (choice : Choice) (after : Session) : Type 
 abbrev pub AreSteps : Session → List Choice → Session → Type 0
 AreSteps before [] after = after ≡ before
 AreSteps before (choice ∷ choices) after =
-    (next : Session) × IsStep before choice next × AreSteps next choices after
+    (next : Session) × IsSessionStep before choice next × AreSteps next choices after
 
 -- these moves have, and each step back found a record
 abbrev pub AreMoves : Session → List Move → Session → Type 0
 AreMoves before [] after = after ≡ before
-AreMoves before (Step choice ∷ moves) after = (next : Session) × IsStep before choice next × AreMoves next moves after
+AreMoves before (Step choice ∷ moves) after = (next : Session) × IsSessionStep before choice next × AreMoves next moves after
 AreMoves before (Back ∷ moves) after = (before.past ≢ []) × AreMoves (went_back before) moves after
 
 -- so many steps back

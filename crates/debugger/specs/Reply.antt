@@ -15,7 +15,7 @@ use Rattle.trace_text.specs.Trace.{lines_of}
 use Rattle.debugger.specs.declared.stop.Stop.{Stop}
 use Rattle.debugger.specs.declared.stop.Stop.TheVariants as stop
 use Rattle.debugger.specs.Session.{Session, went_back}
-use Rattle.debugger.specs.Moves.{IsStep}
+use Rattle.debugger.specs.Moves.{IsSessionStep}
 use Rattle.debugger.specs.Go.{Stops}
 use Rattle.debugger.specs.Command.{Order, Step, Go, Back, Break, Clear, Print, Quit, Unknown}
 
@@ -47,7 +47,7 @@ stop_text (stop.Fault n why) = codes "fault " ++ (decimal n ++ fault_text why)
 -- `s`: the session after a choice that may be refused
 abbrev pub IsStepUnless : Option StepFault → Session → Choice → Session → Type 0
 IsStepUnless (Some why) session choice after = after ≡ session
-IsStepUnless None session choice after = IsStep session choice after
+IsStepUnless None session choice after = IsSessionStep session choice after
 
 -- the session after a command, and the text that was written
 abbrev pub Replies : Session → Order → Session → List ℕ → Type 0

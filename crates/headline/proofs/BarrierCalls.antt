@@ -8,7 +8,7 @@ use Rattle.cyclic_barrier.specs.PlainBarrier as plain
 use Rattle.cyclic_barrier.specs.PlainBarrier.{PlainBarrier, state_of}
 use Rattle.cyclic_barrier.specs.Barrier as now
 use Rattle.cyclic_barrier.specs.Barrier.{BarrierState}
-use Rattle.cyclic_barrier.specs.Past.{StandsFor}
+use Rattle.cyclic_barrier.specs.Past.{IsStateAfter}
 use Rattle.cyclic_barrier.proofs.PastLemmas.{stands-beside, stands-end_action, stands-interrupt, stands-leave, stands-reset}
 use Rattle.thread_state.specs.declared.event.What.{What}
 use Rattle.headline.specs.Pasts.{BarrierCall, GoesOn, MakesNone, Enter, EndAction, Leave, Interrupt, Expire, Reset}
@@ -16,10 +16,10 @@ use Rattle.headline.specs.Pasts.{BarrierCall, GoesOn, MakesNone, Enter, EndActio
 -- each past of the one barrier stays or goes on by one of these calls to a past of the other
 abbrev pub GoesTo : What → (PlainBarrier → BarrierCall → Type 0) → BarrierState → BarrierState → Type 0
 GoesTo shown makes before after =
-    (past : PlainBarrier) → StandsFor before past → (next : PlainBarrier) × (GoesOn shown (makes past) past next × StandsFor after next)
+    (past : PlainBarrier) → IsStateAfter before past → (next : PlainBarrier) × (GoesOn shown (makes past) past next × IsStateAfter after next)
 
 pub nowhere : (shown : What) (makes : PlainBarrier → BarrierCall → Type 0) (gate : BarrierState)
-    → ((past : PlainBarrier) → StandsFor gate past → (call : BarrierCall) → makes past call → MakesNone shown) → GoesTo shown makes gate gate
+    → ((past : PlainBarrier) → IsStateAfter gate past → (call : BarrierCall) → makes past call → MakesNone shown) → GoesTo shown makes gate gate
 nowhere shown makes gate none past stands = (past, (inl (refl, none past stands), stands))
 
 pub goes_entered : (shown : What) (makes : PlainBarrier → BarrierCall → Type 0) (t : ℕ) (interrupted no_wait : Bool) (gate : BarrierState)

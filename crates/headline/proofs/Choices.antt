@@ -15,7 +15,7 @@ use Rattle.thread_machine.specs.Execution.{execution, execution_by}
 use Rattle.thread_machine.specs.DirectCounts.{counts_after, counts_by}
 use Rattle.thread_machine.proofs.SafeEnds.{Goes, goes_through}
 use Rattle.thread_state.specs.declared.event.What.{What}
-use Rattle.headline.specs.Pasts.{MakesCall}
+use Rattle.headline.specs.Pasts.{MakesBarrierCall}
 use Rattle.headline.specs.PhaseEnds.{row_of}
 use Rattle.headline.proofs.BarrierCalls.{GoesTo}
 use Rattle.headline.proofs.Turns.{GoIf, turn_goes, expiry_goes}
@@ -33,7 +33,7 @@ by_kind false row t scene late turn a b = b
 -- what a choice makes of the barriers and of the trees
 abbrev pub ChoiceGoes : What → Option Row → ℕ → World → World → Type 0
 ChoiceGoes shown row t before after =
-    ((b : ℕ) → GoesTo shown (MakesCall row t (thread_at before.scene t) b) (barrier_at before.scene b) (barrier_at after.scene b))
+    ((b : ℕ) → GoesTo shown (MakesBarrierCall row t (thread_at before.scene t) b) (barrier_at before.scene b) (barrier_at after.scene b))
     × TreesGo row (thread_at before.scene t) before.scene.phasers after.scene.phasers
 
 by_outcome : (outcome : Option Outcome) (row : Option Row) (t : ℕ) (world : World) → GoIf row t world.scene outcome

@@ -8,7 +8,7 @@ use Rattle.loader.specs.Declarations.{declared_origin, new_barrier}
 use Rattle.cyclic_barrier.specs.Barrier.{BarrierState, fresh}
 use Rattle.cyclic_barrier.specs.PlainBarrier as plain
 use Rattle.cyclic_barrier.specs.PlainBarrier.{PlainBarrier}
-use Rattle.cyclic_barrier.specs.Past.{StandsFor}
+use Rattle.cyclic_barrier.specs.Past.{IsStateAfter}
 use Rattle.cyclic_barrier.proofs.PastLemmas.{stands-fresh}
 use Rattle.machine_scene.specs.Scene.{barrier_at}
 use Rattle.thread_machine.specs.declared.choice.Choice.{Choice}
@@ -25,7 +25,7 @@ if_accepted : (why : Option StepFault) (later : Type 0) → (why ≡ None → la
 if_accepted why later so = grind arith
 
 records : (choices : List Choice) (b : ℕ) (past : PlainBarrier) (world : World) (origin : Origin) → Goes world origin
-    → StandsFor (barrier_at world.scene b) past → RecordsOnePast b past world choices
+    → IsStateAfter (barrier_at world.scene b) past → RecordsOnePast b past world choices
 records [] b past world origin goes stands = stands
 records (choice ∷ choices) b past world origin goes stands = (
   stands,
@@ -58,5 +58,5 @@ have_pasts image (within, loads) choices b =
     let gate = barrier_at (start image).scene b in
     records choices b (plain.fresh gate.parties gate.action) (start image) (declared_origin image.phasers)
     (goes_first image 1000000000 within loads (omega arith))
-    (subst (λ (gate' : BarrierState). StandsFor gate' (plain.fresh gate.parties gate.action)) (sym (new_at image b))
+    (subst (λ (gate' : BarrierState). IsStateAfter gate' (plain.fresh gate.parties gate.action)) (sym (new_at image b))
     (stands-fresh gate.parties gate.action))

@@ -21,7 +21,7 @@ use Rattle.cyclic_barrier.specs.declared.answer.WaitState.TheVariants as state
 use Rattle.cyclic_barrier.specs.Waits.{wait_at}
 use Rattle.cyclic_barrier.specs.Barrier.{BarrierState, Entry, fresh, enter_timed, has_wait}
 use Rattle.cyclic_barrier.specs.PlainBarrier.{PlainBarrier, state_of}
-use Rattle.cyclic_barrier.specs.Past.{StandsFor}
+use Rattle.cyclic_barrier.specs.Past.{IsStateAfter}
 use Rattle.std.proofs.lemmas.Bool.{and_parts, eqb-true}
 use Rattle.tier_tree.proofs.Stands.{same-is}
 use Rattle.loader.specs.Program.{Program, IsNamed, row_at}
@@ -52,7 +52,7 @@ use Rattle.machine_scene.proofs.BarrierRows.{seat}
 use Rattle.machine_scene.proofs.CallRows.{can_turn_on_top}
 use Rattle.machine_scene.proofs.Facts.{top_named}
 use Rattle.machine_scene.proofs.Outcomes.{stands_at}
-use Rattle.headline.specs.Pasts.{BarrierCall, Enter, EndAction, Leave, Interrupt, Expire, Reset, IsInAction, MakesCall, MakesNone}
+use Rattle.headline.specs.Pasts.{BarrierCall, Enter, EndAction, Leave, Interrupt, Expire, Reset, IsInAction, MakesBarrierCall, MakesNone}
 use Rattle.headline.specs.PhaseEnds.{answer_of_ret, row_in}
 use Rattle.headline.proofs.BarrierCalls.{GoesTo, nowhere, goes_entered, goes_ended, goes_left, goes_interrupted, goes_expired, goes_reset}
 use Rattle.headline.proofs.TreeCalls.{AsksPolicy, IsQuiet, TreesGo, trees_stay, trees_registered, trees_forced, trees_counted, trees_advanced, trees_ended}
@@ -70,14 +70,14 @@ shown_by None = what.Idle
 -- the past of each barrier stays or goes on by a call of the thread, and the trees go on as they may at this row
 abbrev pub GoIf : Option Row → ℕ → Scene → Option Outcome → Type 0
 GoIf row t scene outcome =
-    ((b : ℕ) → GoesTo (shown_by outcome) (MakesCall row t (thread_at scene t) b) (barrier_at scene b) (barrier_at (scene_after outcome scene) b))
+    ((b : ℕ) → GoesTo (shown_by outcome) (MakesBarrierCall row t (thread_at scene t) b) (barrier_at scene b) (barrier_at (scene_after outcome scene) b))
     × TreesGo row (thread_at scene t) scene.phasers (scene_after outcome scene).phasers
 
 -- whatever call there is to be made at barrier b, with a past that leads to it, this is so
 abbrev AtEachCall : Option Row → ℕ → Scene → (ℕ → Type 0) → Type 0
 AtEachCall row t scene so =
-    (b : ℕ) (past : PlainBarrier) → StandsFor (barrier_at scene b) past → (call : BarrierCall)
-    → MakesCall row t (thread_at scene t) b past call → so b
+    (b : ℕ) (past : PlainBarrier) → IsStateAfter (barrier_at scene b) past → (call : BarrierCall)
+    → MakesBarrierCall row t (thread_at scene t) b past call → so b
 
 -- no call is to be made
 abbrev MakesNoCall : Option Row → ℕ → Scene → Type 0
@@ -89,27 +89,27 @@ none_made row t scene shown none b past leads call made = absurd (none b past le
 -- the barriers stay
 aside : {row : Option Row} {after : List PhaserState} (shown : What) (t : ℕ) (scene : Scene) → AtEachCall row t scene (λ b. MakesNone shown)
     → TreesGo row (thread_at scene t) scene.phasers after
-    → ((b : ℕ) → GoesTo shown (MakesCall row t (thread_at scene t) b) (barrier_at scene b) (barrier_at scene b))
+    → ((b : ℕ) → GoesTo shown (MakesBarrierCall row t (thread_at scene t) b) (barrier_at scene b) (barrier_at scene b))
     × TreesGo row (thread_at scene t) scene.phasers after
 aside {row = row} shown t scene none goes =
-    (λ b. nowhere shown (MakesCall row t (thread_at scene t) b) (barrier_at scene b) (none b), goes)
+    (λ b. nowhere shown (MakesBarrierCall row t (thread_at scene t) b) (barrier_at scene b) (none b), goes)
 
 -- and so do the trees
 stay : {row : Option Row} (shown : What) (t : ℕ) → IsQuiet row → (scene : Scene) → AtEachCall row t scene (λ b. MakesNone shown)
-    → ((b : ℕ) → GoesTo shown (MakesCall row t (thread_at scene t) b) (barrier_at scene b) (barrier_at scene b))
+    → ((b : ℕ) → GoesTo shown (MakesBarrierCall row t (thread_at scene t) b) (barrier_at scene b) (barrier_at scene b))
     × TreesGo row (thread_at scene t) scene.phasers scene.phasers
 stay {row = row} shown t quiet scene none =
     aside {row = row} shown t scene none (trees_stay row (thread_at scene t) scene.phasers quiet)
 
 -- a choice that makes no call, and leaves the trees as they are
 rest : {row : Option Row} (shown : What) (t : ℕ) → IsQuiet row → (scene : Scene) → MakesNoCall row t scene
-    → ((b : ℕ) → GoesTo shown (MakesCall row t (thread_at scene t) b) (barrier_at scene b) (barrier_at scene b))
+    → ((b : ℕ) → GoesTo shown (MakesBarrierCall row t (thread_at scene t) b) (barrier_at scene b) (barrier_at scene b))
     × TreesGo row (thread_at scene t) scene.phasers scene.phasers
 rest {row = row} shown t quiet scene none = stay {row = row} shown t quiet scene (none_made row t scene shown none)
 
 -- an idle one
 idles : {row : Option Row} (t : ℕ) → IsQuiet row → (scene : Scene)
-    → ((b : ℕ) → GoesTo what.Idle (MakesCall row t (thread_at scene t) b) (barrier_at scene b) (barrier_at scene b))
+    → ((b : ℕ) → GoesTo what.Idle (MakesBarrierCall row t (thread_at scene t) b) (barrier_at scene b) (barrier_at scene b))
     × TreesGo row (thread_at scene t) scene.phasers scene.phasers
 idles {row = row} t quiet scene = stay {row = row} what.Idle t quiet scene (λ b past leads call made. record { held = tt })
 
@@ -119,7 +119,7 @@ CallsAt row t scene b = AtEachCall row t scene (λ c. c ≡ b)
 
 put : (shown : What) (makes : ℕ → PlainBarrier → BarrierCall → Type 0) (barriers : List BarrierState) (b : ℕ) (gate : BarrierState)
     → b < length barriers
-    → ((c : ℕ) (past : PlainBarrier) → StandsFor (slice_index_or barriers c (fresh 1 false)) past → (call : BarrierCall) → makes c past call → c ≡ b)
+    → ((c : ℕ) (past : PlainBarrier) → IsStateAfter (slice_index_or barriers c (fresh 1 false)) past → (call : BarrierCall) → makes c past call → c ≡ b)
     → GoesTo shown (makes b) (slice_index_or barriers b (fresh 1 false)) gate → (c : ℕ)
     → GoesTo shown (makes c) (slice_index_or barriers c (fresh 1 false)) (slice_index_or (slice_set barriers b gate) c (fresh 1 false))
 put shown makes [] b gate here only goes c = absurd (omega (arith, here))
@@ -133,11 +133,11 @@ put shown makes (x ∷ barriers) (suc b) gate here only goes (suc c) =
     (λ n past leads call made. let is = only (suc n) past leads call made in omega (arith, is)) goes c
 
 at_gate : {row : Option Row} (shown : What) (t : ℕ) → IsQuiet row → (b : ℕ) (scene : Scene) (gate : BarrierState) → b < length scene.barriers
-    → CallsAt row t scene b → GoesTo shown (MakesCall row t (thread_at scene t) b) (barrier_at scene b) gate
-    → ((c : ℕ) → GoesTo shown (MakesCall row t (thread_at scene t) c) (barrier_at scene c) (barrier_at (with_barrier gate b scene) c))
+    → CallsAt row t scene b → GoesTo shown (MakesBarrierCall row t (thread_at scene t) b) (barrier_at scene b) gate
+    → ((c : ℕ) → GoesTo shown (MakesBarrierCall row t (thread_at scene t) c) (barrier_at scene c) (barrier_at (with_barrier gate b scene) c))
     × TreesGo row (thread_at scene t) scene.phasers scene.phasers
 at_gate {row = row} shown t quiet b scene gate here only goes = (
-  λ c. put shown (MakesCall row t (thread_at scene t)) scene.barriers b gate here only goes c,
+  λ c. put shown (MakesBarrierCall row t (thread_at scene t)) scene.barriers b gate here only goes c,
   trees_stay row (thread_at scene t) scene.phasers quiet,
 )
 
@@ -192,7 +192,7 @@ ret (Some (frame.Advance root registers back)) program steps t scene stands is =
 ret (Some (frame.Action b registers back)) program steps t scene stands is =
     at_gate _ t tt b scene _ (top_named program steps scene t (frame.Action b registers back) stands.sound stands.there is).1
     (λ c past leads call made. ap action_in (sym made.0.1.1 ∙ is))
-    (goes_ended _ (MakesCall (Some Ret) t (thread_at scene t) b) true (barrier_at scene b) (λ past. ((registers, (back, is)), refl)))
+    (goes_ended _ (MakesBarrierCall (Some Ret) t (thread_at scene t) b) true (barrier_at scene b) (λ past. ((registers, (back, is)), refl)))
 ret _ program steps t scene stands is = rest _ t tt scene (λ b past leads call made. cc (is, made.0.1.1))
 
 call_row : (row : Row) (program : Program) (steps t : ℕ) (scene : Scene) → IsQuiet (Some row)
@@ -294,7 +294,7 @@ phaser_row _ program steps t scene stands = idles t tt scene
 
 in_entered : (row : Row) (answer : Entered) (into : Reg) (b t : ℕ) (program : Program) (scene : Scene) (gate : BarrierState)
     → IsQuiet (Some row) → b < length scene.barriers → CallsAt (Some row) t scene b
-    → ((shown : What) → GoesTo shown (MakesCall (Some row) t (thread_at scene t) b) (barrier_at scene b) gate)
+    → ((shown : What) → GoesTo shown (MakesBarrierCall (Some row) t (thread_at scene t) b) (barrier_at scene b) gate)
     → GoIf (Some row) t scene (outcome_of_entered answer into b t program (with_barrier gate b scene))
 in_entered row entered.Busy into b t program scene gate quiet here only goes = idles t quiet scene
 in_entered row _ into b t program scene gate quiet here only goes = at_gate _ t quiet b scene gate here only (goes _)
@@ -305,7 +305,7 @@ MayEnter b t scene = (t < length (barrier_at scene b).waits) × (wait_at (barrie
 
 in_await : (row : Row) (no_wait : Bool) (into : Reg) (b t : ℕ) (program : Program) (scene : Scene) → IsQuiet (Some row) → MayEnter b t scene
     → b < length scene.barriers → CallsAt (Some row) t scene b
-    → ((past : PlainBarrier) → MakesCall (Some row) t (thread_at scene t) b past (Enter t (thread_at scene t).interrupted no_wait))
+    → ((past : PlainBarrier) → MakesBarrierCall (Some row) t (thread_at scene t) b past (Enter t (thread_at scene t).interrupted no_wait))
     → GoIf (Some row) t scene (outcome_of_await_at no_wait into b t program scene)
 in_await row no_wait into b t program scene quiet may here only made =
     let gate = barrier_at scene b in
@@ -314,7 +314,7 @@ in_await row no_wait into b t program scene quiet may here only made =
     {b = outcome_of_entered all.answer into b t program (with_barrier all.barrier b scene)}
     (stay _ t quiet scene (λ c past leads call due. record { held = inr refl }))
     (in_entered row all.answer into b t program scene all.barrier quiet here only
-    (λ shown. goes_entered shown (MakesCall (Some row) t (thread_at scene t) b) t (thread_at scene t).interrupted no_wait gate made may.0 may.1))
+    (λ shown. goes_entered shown (MakesBarrierCall (Some row) t (thread_at scene t) b) t (thread_at scene t).interrupted no_wait gate made may.0 may.1))
 
 in_unless_busy : (row : Row) (b t : ℕ) (scene : Scene) (outcome : Option Outcome) → IsQuiet (Some row) → GoIf (Some row) t scene outcome
     → GoIf (Some row) t scene (unless_busy b t scene outcome)
@@ -342,7 +342,7 @@ barrier_row (Cawaitt into b time) t program scene quiet named may =
 barrier_row (Creset b) t program scene quiet named may =
     in_unless_busy _ b t scene _ quiet (in_unless_runner _ b t scene (Some _) quiet
     (at_gate _ t quiet b scene _ named (λ c past leads call made. sym made.0)
-    (goes_reset _ (MakesCall (Some (Creset b)) t (thread_at scene t) b) (barrier_at scene b) (λ past. (refl, refl)))))
+    (goes_reset _ (MakesBarrierCall (Some (Creset b)) t (thread_at scene t) b) (barrier_at scene b) (λ past. (refl, refl)))))
 barrier_row (Cbroken into b) t program scene quiet named may = in_unless_busy _ b t scene (Some _) quiet (rest _ t quiet scene (λ b past leads call made. made))
 barrier_row (Cwaiting into b) t program scene quiet named may =
     in_unless_busy _ b t scene _ quiet (in_unless_runner _ b t scene (Some _) quiet (rest _ t quiet scene (λ b past leads call made. made)))
@@ -356,7 +356,7 @@ no_wait wait is = grind arith
 
 -- a thread that waits at no barrier has no wait in any of its pasts
 none_there : (program : Program) (steps t : ℕ) (scene : Scene) (of : Status) (row : Row) → StandsAt program steps t scene of row
-    → (b : ℕ) → awaits b of row ≡ false → (past : PlainBarrier) → StandsFor (barrier_at scene b) past → state_of t past ≡ None
+    → (b : ℕ) → awaits b of row ≡ false → (past : PlainBarrier) → IsStateAfter (barrier_at scene b) past → state_of t past ≡ None
 none_there program steps t scene of row stands b free past leads =
     leads.waits t ∙ no_wait (wait_at (barrier_at scene b).waits t)
     (stands.sound.waits b t ∙ ap (λ (state : Status). awaits b state (row_at program.rows (thread_at scene t).pc)) stands.status
@@ -368,7 +368,7 @@ isnt wait none (inr is) = cc (none, is)
 
 -- without a row, a thread that has no wait makes only the call of an action that it throws out of
 only_ends : (t b : ℕ) (thread : ThreadState) (past : PlainBarrier) → state_of t past ≡ None → (call : BarrierCall)
-    → MakesCall None t thread b past call → IsInAction b thread × ((code : ℤ) × (thread.status ≡ status.Throws code))
+    → MakesBarrierCall None t thread b past call → IsInAction b thread × ((code : ℤ) × (thread.status ≡ status.Throws code))
 only_ends t b thread past none (EndAction false) made = made
 only_ends t b thread past none (EndAction true) made = absurd made
 only_ends t b thread past none (Enter u interrupted no_wait) made = absurd made
@@ -384,7 +384,7 @@ in_popped (Some (frame.Action b registers back)) code program steps t scene row 
     at_gate _ t tt b scene _ (top_named program steps scene t (frame.Action b registers back) stands.sound stands.there is).1
     (λ c past leads call made. let ends = only_ends t c (thread_at scene t) past
     (none_there program steps t scene (status.Throws code) row stands c refl past leads) call made in ap action_in (sym ends.0.1.1 ∙ is))
-    (goes_ended _ (MakesCall None t (thread_at scene t) b) false (barrier_at scene b) (λ past. ((registers, (back, is)), (code, stands.status))))
+    (goes_ended _ (MakesBarrierCall None t (thread_at scene t) b) false (barrier_at scene b) (λ past. ((registers, (back, is)), (code, stands.status))))
 in_popped _ code program steps t scene row stands is =
     rest _ t tt scene (λ c past leads call made. let ends = only_ends t c (thread_at scene t) past
     (none_there program steps t scene (status.Throws code) row stands c refl past leads) call made in cc (is, ends.0.1.1))
@@ -413,15 +413,15 @@ in_release : (wait : Option WaitState) (into : Reg) (index : ℤ) (b t : ℕ) (s
     → GoIf None t scene (outcome_of_release wait into index b t scene)
 in_release (Some state.Tripped) into index b t scene there here only is =
     at_gate _ t tt b scene _ here only
-    (goes_left _ (MakesCall None t (thread_at scene t) b) t (barrier_at scene b) there (inl is) (λ past over. (refl, over)))
+    (goes_left _ (MakesBarrierCall None t (thread_at scene t) b) t (barrier_at scene b) there (inl is) (λ past over. (refl, over)))
 in_release (Some state.Broken) into index b t scene there here only is =
     at_gate _ t tt b scene _ here only
-    (goes_left _ (MakesCall None t (thread_at scene t) b) t (barrier_at scene b) there (inr is) (λ past over. (refl, over)))
+    (goes_left _ (MakesBarrierCall None t (thread_at scene t) b) t (barrier_at scene b) there (inr is) (λ past over. (refl, over)))
 in_release (Some state.Waiting) into index b t scene there here only is =
     let interrupted = (thread_at scene t).interrupted in
     either_so (GoIf None t scene) (interrupted && not (is_some (barrier_at scene b).runner)) {b = None}
     (λ so. at_gate _ t tt b scene _ here only
-    (goes_interrupted _ (MakesCall None t (thread_at scene t) b) t (barrier_at scene b) there is (λ past waits. (refl, ((and_parts interrupted _ so).0, waits)))))
+    (goes_interrupted _ (MakesBarrierCall None t (thread_at scene t) b) t (barrier_at scene b) there is (λ past waits. (refl, ((and_parts interrupted _ so).0, waits)))))
     (λ other. idles t tt scene)
 in_release None into index b t scene there here only is = idles t tt scene
 
@@ -459,7 +459,7 @@ in_barrier_timeout (Cawaitt into b time) index t program scene named seats waits
     let wait = wait_at (barrier_at scene b).waits t in
     either (GoIf None t scene) (is_some (barrier_at scene b).runner) {a = None} (idles t tt scene)
     (at_gate _ t tt b scene _ named (λ c past leads call made. sym (eqb-true b c (only c past leads call made)))
-    (goes_expired _ (MakesCall None t (thread_at scene t) b) t (barrier_at scene b) (seats b named) (still_waits wait into index b t scene unready (waits b ∙ same-is b))
+    (goes_expired _ (MakesBarrierCall None t (thread_at scene t) b) t (barrier_at scene b) (seats b named) (still_waits wait into index b t scene unready (waits b ∙ same-is b))
     (λ past still. (refl, still))))
 in_barrier_timeout _ index t program scene named seats waits only unready = idles t tt scene
 

@@ -1,21 +1,24 @@
 -- THE HEADLINE. For every accepted program and every list of choices:
---   1. The machine that plays them is what the rows of the instruction table give, applied in that order: its registers,
---      cells, phasers, barriers, exceptions and waiting threads, its counts of choices and of steps, and its limit
---      (GivesTheRows).
+--   1. The machine that plays them is, up to the first that is refused, what the rows of the instruction table give, applied in
+--      that order. This is the whole machine: each thread's row, registers, stack, output, status and interrupted status, the
+--      cells, phasers and barriers, the counts of choices and of steps, and the limit (GivesTheRows).
 --   2. No phase ends while a registered party has neither arrived nor left, unless an unregistered party has ever arrived in
 --      that tree of phasers (EndsNoPhaseEarly). Parties have no names, as in Java. So an arrival is that of an unregistered
 --      party only if none of the parties registered with that phaser is left to arrive. A thread that takes another's place
 --      isn't one.
 --      With the same exception, and in a tree that isn't terminated, the choice with which the last registered party arrives
---      or leaves ends the phase, or its thread enters the tree's routine, whose `ret` ends the phase (PhasesEndInTime). A
---      routine that throws never ends it. The arrival of a registered party there isn't refused (ArrivalsAreTaken).
+--      or leaves ends the phase, or its thread enters the tree's routine. The `ret` out of the routine ends the phase, unless
+--      the tree was terminated meanwhile (PhasesEndInTime). A routine that an exception leaves never ends it
+--      (TerminationsAreSaid). In such a tree an arrival doesn't throw while a party registered with its phaser is left to
+--      arrive, unless its thread runs the tree's routine or has no room on its stack to enter one (ArrivalsAreTaken).
 --      A phase ends only if `onAdvance` returns a result, from a policy at an arrival in the tree or from a routine at its
---      `ret`, and never in a terminated tree. If the result is true, which is Java's default if no registered party is left,
---      the tree is terminated, as by force. Nothing else terminates it, and it stays terminated (TerminationsAreSaid). A
---      phaser comes into the next phase when a phase of its tree ends, and otherwise stays in its own (NumbersChangeAtEnds).
+--      `ret`, and never in a terminated tree. If the result is true, the tree is terminated. Java's default is true if no
+--      party is registered; with the same exception this is so exactly if everybody has left. Force terminates the tree, too,
+--      and ends no phase. Nothing else terminates it, and it stays terminated (TerminationsAreSaid). A phaser comes into the
+--      phase after its root's when a phase of its tree ends, and otherwise stays in its own (NumbersChangeAtEnds).
 --   3. Each step back restores the state before (BackRestores, and for a single choice StepsAndReturns).
---   4. Each barrier has one past, and each state of the run is its record, so that a thread that waits there meets the end of
---      its own generation. The past goes on by calls that the threads make by their rows, their stacks and their waits
+--   4. Each barrier has a past, and each state of the run is its record, so that a thread that waits there meets the end of its
+--      own generation. The past continues by calls that the threads make by their rows, their stacks and their waits
 --      (BarriersHavePasts).
 -- 1 is what `play` leaves (src/machine.rt). 2 and 4 are laws (src/law.rt). 3 is what `step` and `step_and_back` do to a
 -- machine, and `steps_and_backs` to a debugging session (src/back.rt). Each `use` line names the file that defines its names:
@@ -23,9 +26,9 @@
 -- lock of a live run protects, and the word that real threads share. EndToEnd.antt, beside this file, says that the commands
 -- show this of what they read.
 --
--- The program calls none of these functions, only those of src/shown.rt. Its runs step with `Machine::step` and
--- `Machine::idle`, and its debugger with `Machine::step_into` and `Debugger::back`. Their contracts say the same of each choice
--- (thread_machine/src/machine.rt, debugger/src/session.rt). A session begins in a world whose phasers may be stored differently
+-- The program calls none of these functions, only those of src/shown.rt. Its runs step with `Machine::step`, and its debugger
+-- with `Machine::step_into` and `Debugger::back`. Their contracts say the same of each choice (thread_machine/src/machine.rt,
+-- debugger/src/session.rt). A session begins in a world whose phasers may be stored differently
 -- than those of `start`, which makes no difference (StoredAlike). A law says that its world is at each line that of the choices
 -- played and not taken back, of which none is refused: `sessions_give_the_rows` (src/shown.rt).
 --
@@ -72,12 +75,15 @@ abbrev pub GivesTheRows : Image → List Choice → World → Type 0
 GivesTheRows image choices left =
     record left { program = without_words left.program } ≡ (execution (start image) choices).world
 
--- 2. Whatever is chosen from the start on, no choice that isn't refused ends a phase early. Each party that a phaser is
--- declared with is registered with it and has not arrived; from there on the rows count who is registered and has arrived.
+-- 2. Whatever is chosen from the start on, no choice that isn't refused ends a phase early, unless a party that wasn't registered
+-- has arrived in that tree (stray). At first the parties that each phaser is declared with are registered and haven't arrived
+-- (`declared_origin`). Each registration and each arrival that doesn't throw goes into the counts (`counts_through`).
 abbrev pub EndsNoPhaseEarly : Type 0
 EndsNoPhaseEarly = (image : Image) → Accepted image → NoPhaseEndsEarlyFrom (start image) (declared_origin image.phasers)
 
--- And each phase does end with the choice with which the last of its parties arrives or leaves, or at the `ret` of its routine.
+-- In a tree that isn't terminated and where no unregistered party has arrived, the choice with which the last registered party
+-- arrives or leaves ends the phase, or its thread enters the tree's routine (EndsInTime). The `ret` out of the routine ends it,
+-- unless the tree was terminated meanwhile (RoutineEnds). That a routine comes to its `ret` isn't said.
 abbrev pub PhasesEndInTime : Type 0
 PhasesEndInTime =
     (image : Image) → Accepted image → (choices : List Choice) (choice : Choice)
@@ -86,7 +92,8 @@ PhasesEndInTime =
     → EndsInTime now choice (played now choice).world (counts_through (start image) choices (declared_origin image.phasers))
     × RoutineEnds now choice (played now choice).world
 
--- Nor is a registered party's arrival refused.
+-- In such a tree an arrival doesn't throw while a party registered with its phaser is left to arrive, unless its thread runs the
+-- tree's routine or has no room on its stack to enter one.
 abbrev pub ArrivalsAreTaken : Type 0
 ArrivalsAreTaken =
     (image : Image) → Accepted image → (choices : List Choice) (choice : Choice)
@@ -94,8 +101,9 @@ ArrivalsAreTaken =
     refusal_of now choice ≡ None
     → TakesArrivals now choice (played now choice).world (counts_through (start image) choices (declared_origin image.phasers))
 
--- A choice terminates a phaser only by force, or when a phase of its tree ends and `onAdvance` says so. The parties that
--- `onAdvance` gets are those who are registered by the counts.
+-- A choice terminates a phaser only by force, or when a phase of its tree ends and `onAdvance` returns true. `onAdvance` gets 0
+-- parties exactly if by the counts everybody who registered with the tree has left, unless an unregistered party arrived
+-- (AreCounted). Other numbers aren't compared, since a root also counts its children.
 abbrev pub TerminationsAreSaid : Type 0
 TerminationsAreSaid =
     (image : Image) → Accepted image → (choices : List Choice) (choice : Choice)
@@ -114,8 +122,8 @@ NumbersChangeAtEnds =
     → NumbersStay now.scene.phasers (played now choice).world.scene.phasers
     × NumbersGoOn now.scene.phasers (played now choice).world.scene.phasers
 
--- 3. None of these choices is refused if they are played in this order. These are their events. After as many steps back
--- everything is as before, to the stored word.
+-- 3. None of these choices is refused if they are played in this order, these are their events, and `after` is `before`, to the
+-- stored word. This is what a call leaves that plays them and then takes as many steps back. The states between aren't described.
 abbrev pub BackRestores : StoredWorld → List Choice → List Event → StoredWorld → Type 0
 BackRestores before choices events after =
     let done : Execution = execution (world_of before) choices in
@@ -128,9 +136,9 @@ StepsAndReturns before choice event kept middle =
     (refusal_of (world_of before) choice ≡ None) × (record { world = world_of middle; event = event } ≡ played (world_of before) choice)
     × (undone kept middle ≡ before)
 
--- 4. It begins without a generation that has ended. Each choice that isn't refused makes the call there that its thread's row,
--- stack or wait names (MakesCall), or leaves the past as it is. It leaves it only if nothing names a call, or if it is idle or
--- its row throws before it calls (GoesOn).
+-- 4. A barrier's past begins without an ended generation. Each choice that isn't refused adds the call there that its thread's
+-- row, stack or wait names (MakesBarrierCall), or adds nothing: only if nothing names a call, or if the choice is idle or throws
+-- exception 1 or 6 (GoesOn).
 abbrev pub BarriersHavePasts : Type 0
 BarriersHavePasts =
     (image : Image) → Accepted image → (choices : List Choice) (b : ℕ)
@@ -153,9 +161,9 @@ StoredAlike =
     × (state_text shown.world ≡ state_text rows.world)
 
 -- Below: what a caller of the word that threads share knows after a call. There may be calls of others. Everything that it had
--- seen, then these calls, then its own call are one legal history (linearizable). It has exactly the calls of its own that the
--- caller made. That all callers see one history is said by `join`, where callers are joined, and by `close`, where the phaser
--- is closed.
+-- seen, then these calls, then its own call are one legal history, with exactly the calls of its own that the caller made. Here
+-- the histories of different callers aren't compared. After `join`, the first caller has seen a history that begins with what
+-- either had seen. After `close`, the word is the last of a history that begins with what the first caller had seen.
 abbrev pub MakesLegalCall : Known → Call → Answer → Known → Type 0
 MakesLegalCall before call answer after =
     ((others : List Entry) × (after ≡ making before (before.seen ++ others) call answer))

@@ -5,7 +5,7 @@ use Rattle.instruction_table.specs.declared.row.Row.TheVariants.{Ret, Cawait, Ca
 use Rattle.instruction_table.specs.Registers.{value_in}
 use Rattle.cyclic_barrier.specs.declared.answer.WaitState.TheVariants as state
 use Rattle.cyclic_barrier.specs.PlainBarrier.{PlainBarrier, state_of, enter_timed, end_action, leave, interrupt, expire, reset}
-use Rattle.cyclic_barrier.specs.Past.{StandsFor}
+use Rattle.cyclic_barrier.specs.Past.{IsStateAfter}
 use Rattle.thread_state.specs.declared.frame.Frame.TheVariants as frame
 use Rattle.thread_state.specs.declared.status.Status.TheVariants as status
 use Rattle.thread_state.specs.declared.event.What.{What}
@@ -43,23 +43,24 @@ IsInAction b thread = (registers : List ℤ) × ((row : ℕ) × (top_of thread.s
 -- The call that a choice of thread t makes at barrier b, if it makes one there. A row makes the call that it names, at the
 -- barrier that it names, with the thread's interrupted status, and without a wait if no time is left. `ret` ends the action
 -- that it leaves. Without a row, a thread breaks the barrier whose action it throws out of; it leaves a wait that has ended;
--- and it breaks a wait that hasn't, if it is interrupted or its time is over. No other row and no other thread makes a call.
-abbrev pub MakesCall : Option Row → ℕ → ThreadState → ℕ → PlainBarrier → BarrierCall → Type 0
-MakesCall (Some (Cawait into c)) t thread b past call = (c ≡ b) × (call ≡ Enter t thread.interrupted false)
-MakesCall (Some (Cawaitt into c time)) t thread b past call =
+-- and it breaks a wait that hasn't, if it is interrupted, or by an expiry. That the choice is an expiry isn't asked for here. No
+-- other row and no other thread makes a call.
+abbrev pub MakesBarrierCall : Option Row → ℕ → ThreadState → ℕ → PlainBarrier → BarrierCall → Type 0
+MakesBarrierCall (Some (Cawait into c)) t thread b past call = (c ≡ b) × (call ≡ Enter t thread.interrupted false)
+MakesBarrierCall (Some (Cawaitt into c time)) t thread b past call =
     (c ≡ b) × (call ≡ Enter t thread.interrupted (not (int_lt (pos 0) (value_in thread.registers time))))
-MakesCall (Some (Creset c)) t thread b past call = (c ≡ b) × (call ≡ Reset)
-MakesCall (Some Ret) t thread b past call = IsInAction b thread × (call ≡ EndAction true)
-MakesCall (Some row) t thread b past call = ⊥
-MakesCall None t thread b past (EndAction false) = IsInAction b thread × ((code : ℤ) × (thread.status ≡ status.Throws code))
-MakesCall None t thread b past (Leave u) =
+MakesBarrierCall (Some (Creset c)) t thread b past call = (c ≡ b) × (call ≡ Reset)
+MakesBarrierCall (Some Ret) t thread b past call = IsInAction b thread × (call ≡ EndAction true)
+MakesBarrierCall (Some row) t thread b past call = ⊥
+MakesBarrierCall None t thread b past (EndAction false) = IsInAction b thread × ((code : ℤ) × (thread.status ≡ status.Throws code))
+MakesBarrierCall None t thread b past (Leave u) =
     (u ≡ t) × ((state_of t past ≡ Some state.Tripped) ⊎ (state_of t past ≡ Some state.Broken))
-MakesCall None t thread b past (Interrupt u) = (u ≡ t) × ((thread.interrupted ≡ true) × (state_of t past ≡ Some state.Waiting))
-MakesCall None t thread b past (Expire u) = (u ≡ t) × (state_of t past ≡ Some state.Waiting)
-MakesCall None t thread b past call = ⊥
+MakesBarrierCall None t thread b past (Interrupt u) = (u ≡ t) × ((thread.interrupted ≡ true) × (state_of t past ≡ Some state.Waiting))
+MakesBarrierCall None t thread b past (Expire u) = (u ≡ t) × (state_of t past ≡ Some state.Waiting)
+MakesBarrierCall None t thread b past call = ⊥
 
--- What a choice shows that makes no call though its row names one: it is idle, or its row throws before it calls. That is exception
--- 1 if the thread itself runs the barrier's action, and 6 if its stack has no room for one.
+-- What a choice shows that makes no call though its row names one: it is idle, or its row throws before it calls. It throws
+-- exception 1 if the thread itself runs the barrier's action, and 6 if its stack has no room for one.
 abbrev pub IsHeldBack : What → Type 0
 IsHeldBack what.Idle = Unit {0}
 IsHeldBack (what.Throws code) = (code ≡ pos 1) ⊎ (code ≡ pos 6)
@@ -80,13 +81,13 @@ abbrev pub IfAccepted : Option StepFault → Type 0 → Type 0
 IfAccepted None later = later
 IfAccepted (Some fault) later = Unit {0}
 
--- From this past of barrier b on, one past goes on choice by choice, up to the first that is refused, and each state is its
--- record (`StandsFor`): the state of a thread's wait is how the generation that it waits for ended, whatever came after.
+-- From this past of barrier b on, a past continues choice by choice, up to the first that is refused, and each state is its
+-- record (`IsStateAfter`): the state of a thread's wait is how the generation that it waits for ended, whatever came after.
 abbrev pub RecordsOnePast : ℕ → PlainBarrier → World → List Choice → Type 0
-RecordsOnePast b past now [] = StandsFor (barrier_at now.scene b) past
+RecordsOnePast b past now [] = IsStateAfter (barrier_at now.scene b) past
 RecordsOnePast b past now (choice ∷ choices) =
-    StandsFor (barrier_at now.scene b) past
+    IsStateAfter (barrier_at now.scene b) past
     × IfAccepted (refusal_of now choice)
     ((next : PlainBarrier)
-    × (GoesOn (played now choice).event.what (MakesCall (row_of now choice) choice.thread (thread_at now.scene choice.thread) b past) past next
+    × (GoesOn (played now choice).event.what (MakesBarrierCall (row_of now choice) choice.thread (thread_at now.scene choice.thread) b past) past next
     × RecordsOnePast b next (played now choice).world choices))

@@ -32,7 +32,7 @@ row_of world choice =
     let thread = thread_at world.scene choice.thread in
     if choice.expiry then None else row_in thread.status (row_at world.program.rows thread.pc)
 
--- it terminates the tree of this root
+-- the row is `pforce` at a phaser of this root's tree
 abbrev pub is_force : Option Row → ℕ → List PhaserState → Bool
 is_force (Some (Pforce p)) root phasers = root_at phasers p == root
 is_force _ root phasers = false
@@ -60,8 +60,8 @@ on_advance (Some Ret) thread root phasers parties = answer_of_ret (top_of thread
 on_advance _ thread root phasers parties = None
 
 -- A phase ends only in a tree that isn't terminated, and at a row for which `onAdvance` returns a result. Then each phaser of
--- the tree is terminated exactly if the result is true. If no phase of its tree ends, a phaser stays terminated, stays as it
--- is, or is terminated by force, which always terminates.
+-- the tree is terminated exactly if the result is true. If no phase of its tree ends, a phaser is terminated afterwards exactly
+-- if it was before, or if the row is `pforce` in its tree.
 abbrev pub TerminateAsSaid : Option Row → ThreadState → List PhaserState → List PhaserState → Type 0
 TerminateAsSaid row thread before after =
     (id : ℕ) → id < length before

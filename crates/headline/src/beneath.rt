@@ -3,7 +3,7 @@ ghost use Rattle.std.specs.Prelude.{◌≡◌, ◌↔◌, Err, IfOk, OnErr, OnOk
 ghost use Rattle.thread_machine.specs.Step.{puts_out, refusal_of};
 ghost use Rattle.thread_machine.specs.World.{world_of};
 ghost use Rattle.thread_machine.specs.declared.fault.StepFault.TheVariants as fault;
-ghost use Rattle.thread_runner.specs.Recording.{world_after};
+ghost use Rattle.thread_runner.specs.Recording.{recorded_world};
 ghost use Rattle.thread_runner.specs.Replay.{IsReplay};
 ghost use Rattle.shared_phaser.specs.Known.{EndsAs, JoinsCaller, phaser_of};
 ghost use Rattle.shared_phaser.specs.declared.history.Call.TheVariants.{Arrive};
@@ -28,14 +28,16 @@ pub fn step(machine: &mut Machine, choice: Choice) -> Result<Event, StepFault>
     machine.step(choice)
 }
 
-/// What the lock of a live run protects: a machine, and the choices that led to it.
-pub fn record(journaled: &Journaled)
-    ensures { IsReplay journaled.now (world_after journaled.now) }
+/// What the lock of a live run protects: the machine, and the choices that led to it.
+pub fn record(journaled: &Journaled) -> &Machine
+    ensures replay { IsReplay journaled.now (recorded_world journaled.now) }
+    ensures machine { world_of result.now ≡ recorded_world journaled.now }
 {
     journaled.each_record_is_a_replay();
+    journaled.machine()
 }
 
-/// A call on the word that threads share: an arrival. The other calls are the same in this.
+/// A call on the word that threads share: an arrival. The other calls promise the same (`made`, shared_phaser/src).
 pub fn arrive<R: Wait>(rt: &R, phaser: &SharedPhaser, party: &mut Party) -> Reply
     requires { phaser_of party.old ≡ phaser.now }
     ensures phaser { phaser_of party.new ≡ phaser.now }

@@ -115,7 +115,7 @@ impl Loaded {
         })
     }
 
-    /// A law: what is true of every loaded program. Nothing runs.
+    /// A law: every loaded program fulfils this. Nothing runs.
     pub fn each_program_is_whole(&self)
         ensures { IsProgram self.now }
     {

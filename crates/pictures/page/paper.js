@@ -30,17 +30,17 @@ function sheetsOf() {
   const all = (to - lines.from) * (4 + tallest + 2 * (beside - 1)) * 4.4 + (rows.length + to - lines.from) * 6;
   return Math.ceil(all / 273);
 }
-// many sheets are told before they are printed
+// many sheets are told before they are printed, and told anew once they may be more or fewer
 let isTold = false;
 
+function tellSheets(sheets) {
+  isTold = sheets > 0;
+  id("states").textContent = isTold ? "Print about " + sheets + " sheets" : "Print all states";
+}
 function printStates() {
   const sheets = sheetsOf();
-  if (sheets > MANY && !isTold) {
-    isTold = true;
-    id("states").textContent = "Print about " + sheets + " sheets";
-    return;
-  }
-  print("states");
+  if (sheets > MANY && !isTold) tellSheets(sheets);
+  else print("states");
 }
 // paper is light
 function beforePrint() {
@@ -53,7 +53,5 @@ function afterPrint() {
   document.documentElement.classList.remove("paper");
   document.body.classList.remove("states", "sheet");
   id("handout").textContent = "";
-  id("states").textContent = "Print all states";
-  isTold = false;
   arrange();
 }

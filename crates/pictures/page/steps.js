@@ -62,7 +62,7 @@ function fillNext(i, isWhole) {
 }
 function drawChoice(box, e) {
   const button = add(box, "button", "choice", threadName(e.thread));
-  let isTold = true;
+  let goesOn = true;
   button.style.setProperty("--hue", hueOf(e.thread));
   button.classList.toggle("second", isSecond(e.thread));
   button.setAttribute("data-choice", tokenOf(e));
@@ -70,10 +70,11 @@ function drawChoice(box, e) {
   button.onfocus = () => whatIf(button, e);
   button.onpointerenter = event => { if (event.pointerType !== "touch") whatIf(button, e); };
   // a finger can't point, so its first touch tells
-  button.addEventListener("pointerdown", event => { isTold = event.pointerType !== "touch" || chosen === e; }, true);
+  button.addEventListener("pointerdown", event => { goesOn = event.pointerType !== "touch" || chosen === e; }, true);
   button.onclick = event => {
-    if (isTold) goWith(e, event);
+    if (goesOn) goWith(e, event);
     else whatIf(button, e);
+    goesOn = true;
   };
 }
 // what the choices that could be next would do. Where what comes later is hidden, it isn't told before a click
@@ -92,19 +93,24 @@ function whatIf(button, e) {
 }
 
 // ---- other runs: each goes on with another choice than the first run, and comes to its own end. Who went there by a key has
-// the focus at the way back, and then again at the name
+// the focus at the way back, and then again at the name; and at a name, too, who went on with the first run
 function goWith(e, event) {
-  const k = runBy(run, at, tokenOf(e)), isOther = k >= 0 && k !== run;
+  const k = runBy(run, at, tokenOf(e)), isByKey = k >= 0 && k !== run && !event.detail;
   if (k < 0) return;
   go(at + 1, k);
-  if (isOther && !event.detail) id("crumbs").querySelector(".leave").focus();
+  if (isByKey && k) id("crumbs").querySelector(".leave").focus();
+  else if (isByKey) focusName(tokenOf(e));
+}
+// the focus to the name of this choice, or to the first name where this one can't be next
+function focusName(token) {
+  const name = id("next").querySelector("[data-choice=" + token + "]") || id("next").querySelector(".choice");
+  if (name) name.focus();
 }
 // back to the moment at which this run forks from the first
 function leave(event) {
   const token = tokenOf(forkOf(run)), isByKey = !(event && event.detail) && id("crumbs").contains(document.activeElement);
   go(runs[run].fork, 0);
-  const name = isByKey && id("next").querySelector("[data-choice=" + token + "]");
-  if (name) name.focus();
+  if (isByKey) focusName(token);
 }
 function take(k) {
   run = k;
@@ -182,6 +188,7 @@ function show(i, isTried) {
   id("things").classList.toggle("slim", layout.isSlim && isWider(id("things")));
   markLines();
   if (isTried) return;
+  tellSheets(0);
   bringTimeline(i);
   markMap();
   bringThread();
@@ -296,16 +303,16 @@ function grow() {
   const hasRoom = () => !rest.some(isTaller) && !rest.concat(time).some(isWider) && isNarrow === wasNarrow
     && time.clientHeight >= Math.min(time.scrollHeight, least * linePitch());
   const drawAt = steps => {
-    setSize(Math.pow(GROWTH, drawn = steps));
+    setSize(Math.pow(GROWTH, tried = steps));
     draw(!wasNarrow);
   };
-  let low = 0, high = hasRoom() ? GROWN : 0, drawn = 0;
+  let low = 0, high = hasRoom() ? GROWN : 0, tried = 0;
   while (low < high) {
     drawAt(Math.ceil((low + high) / 2));
-    if (hasRoom()) low = drawn;
-    else high = drawn - 1;
+    if (hasRoom()) low = tried;
+    else high = tried - 1;
   }
-  if (drawn !== low) drawAt(low);
+  if (tried !== low) drawAt(low);
 }
 // all of it is drawn anew
 function arrange() {
@@ -363,6 +370,7 @@ function listen() {
     document.body.classList.toggle("hiding", id("hide").checked);
     drawCrumbs();
     whatIf(null, null);
+    tellSheets(0);
     markMap();
   };
   id("lanes").onclick = event => {

@@ -5,7 +5,7 @@
 pub const HEAD: &[u8] = b"\
 <!doctype html>\n<html lang=\"en\">\n<head>\n<meta charset=\"utf-8\">\n<meta name=\"viewport\" content=\"width=device-width, initial-scale=1\
 \">\n<meta http-equiv=\"Content-Security-Policy\" content=\"default-src 'none'; style-src 'sha256-i/5SLUQK4cItayKgeOKWyrUUOrd/rVfI8EboOj3p9T\
-Y='; script-src 'sha256-jkyQEfejKzb1Nm1UfE9EedmLSXIYHQAuwWC8q4gJjYU='\">\n<meta name=\"generator\" content=\"vuthgal show\">\n<title>A run, \
+Y='; script-src 'sha256-ZsnTu7N0uix/pJUwKEwh3nJ2wNWAHXMZQE1UskjIOAg='\">\n<meta name=\"generator\" content=\"vuthgal show\">\n<title>A run, \
 step by step</title>\n<style>\n:root {\n  color-scheme: light;\n  --ink: #111; --soft: #505050; --faint: #666; --rule: #bbb; --line: #777; -\
 -paper: #fff; --now: #fff3b8; --branch: #d9e8ff; --branch-edge: #1a4fb0; --edge: #111; --face: #f2f2f2; --pressed: #ddd; --focus: #0b57d0;\n  \
 --h0: #4664d1; --h1: #d56819; --h2: #599462; --h3: #b280af; --h4: #5a5200; --h5: #0098ff; --h6: #31318d; --h7: #78002f;\n  --map-off: #fff; \
@@ -767,152 +767,155 @@ ne of words takes 4.4 mm of 273: each state its sentence, its tables beside\n// 
 he program and the timeline\nfunction sheetsOf() {\n  const lines = linesOnPaper(), to = id(\"hide\").checked ? lineNumber[at] + 1 : lines.t\
 o, tables = id(\"things\").querySelectorAll(\"table\");\n  const tallest = Array.from(tables).reduce((most, table) => Math.max(most, table.r\
 ows.length), 0), beside = Math.max(1, Math.ceil(tables.length / 3));\n  const all = (to - lines.from) * (4 + tallest + 2 * (beside - 1)) * 4\
-.4 + (rows.length + to - lines.from) * 6;\n  return Math.ceil(all / 273);\n}\n// many sheets are told before they are printed\nlet isTold = \
-false;\n\nfunction printStates() {\n  const sheets = sheetsOf();\n  if (sheets > MANY && !isTold) {\n    isTold = true;\n    id(\"states\").\
-textContent = \"Print about \" + sheets + \" sheets\";\n    return;\n  }\n  print(\"states\");\n}\n// paper is light\nfunction beforePrint() \
-{\n  const lines = linesOnPaper();\n  document.documentElement.classList.add(\"paper\");\n  readColours();\n  drawLines(lines.from, lines.to\
-);\n}\nfunction afterPrint() {\n  document.documentElement.classList.remove(\"paper\");\n  document.body.classList.remove(\"states\", \"shee\
-t\");\n  id(\"handout\").textContent = \"\";\n  id(\"states\").textContent = \"Print all states\";\n  isTold = false;\n  arrange();\n}\n\n// \
----- steps\nlet at = -1, timer = null;\n\nfunction fill(box, texts) {\n  box.textContent = \"\";\n  for (const text of texts) {\n    if (typ\
-eof text === \"string\") box.appendChild(document.createTextNode(text));\n    else add(box, \"b\", \"\", text[0]);\n  }\n}\n// a text in whi\
-ch what stands between backquotes is code\nfunction fillTalk(box, text) {\n  box.textContent = \"\";\n  text.split(\"`\").forEach((part, k) \
-=> { if (part) add(box, k % 2 ? \"code\" : \"span\", \"\", part); });\n}\n// scrolls a box so that what stands from `top` to `foot` is in vi\
-ew, below its head; or its top, where there is no room for all.\n// What came before it stays in view: where it would be above the middle, a\
-nd what comes later is hidden, or where it was out of\n// view, it stands in the middle\nfunction scrollTo(box, top, foot, cover, isLate) {\n  \
-const highest = Math.max(0, top - cover - 4), middle = Math.max(0, Math.min(highest, (top + foot - cover - box.clientHeight) / 2));\n  if (i\
-sLate && (id(\"hide\").checked ? middle : top - cover) < box.scrollTop) box.scrollTop = middle;\n  else if (top - cover < box.scrollTop) box\
-.scrollTop = highest;\n  else if (foot > box.scrollTop + box.clientHeight) box.scrollTop = Math.min(highest, foot - box.clientHeight + 4);\n\
-}\n// the same of an element in it, wherever it is nested\nfunction bring(box, element, cover, more, isLate) {\n  const outer = box.getBound\
-ingClientRect(), inner = element.getBoundingClientRect(), top = inner.top - outer.top - box.clientTop + box.scrollTop;\n  scrollTo(box, top, \
-top + inner.height * (1 + (more || 0)), cover, isLate);\n}\nfunction bringTimeline(i) {\n  const box = timeBox(), cover = id(\"lanes\").tHea\
-d.offsetHeight, k = lineNumber[i];\n  if (isWhole()) bring(box, lineOf.get(i), cover, .5, true);\n  else {\n    scrollTo(box, cover + k * li\
-nePitch(), cover + (k + 3) * linePitch(), cover, true);\n    drawInView();\n  }\n  if (i === moments.length - 1) box.scrollTop = box.scrollH\
-eight;\n  if (isCrowd()) return;\n  const line = lineOf.get(i), dot = line && line.querySelector(\".dot\"), cell = dot && dot.parentNode, si\
-de = line ? line.cells[0].offsetWidth : 0;\n  if (!cell) return;\n  if (cell.offsetLeft - side < box.scrollLeft) box.scrollLeft = cell.offse\
-tLeft - side;\n  else if (cell.offsetLeft + cell.offsetWidth > box.scrollLeft + box.clientWidth) box.scrollLeft = cell.offsetLeft + cell.off\
-setWidth - box.clientWidth;\n}\nfunction bringThread() {\n  const line = id(\"things\").querySelector(\".its\");\n  if (line) bring(id(\"thi\
-ngs\"), line, line.closest(\"table\").tHead.offsetHeight);\n  else id(\"things\").scrollTop = 0;\n}\n// ---- what could be next: each of the\
-se choices is a button, which tells what it would do\nlet chosen = null;\n\nfunction fillNext(i, isWhole) {\n  const box = id(\"next\");\n  \
-box.textContent = \"\";\n  for (const part of moments[i].refused ? [] : nextText(i, isWhole)) {\n    if (typeof part === \"string\") box.app\
-endChild(document.createTextNode(part));\n    else if (part.more) add(box, \"button\", \"choice\", part.more + \" others\").onclick = () => \
-fillNext(i, true);\n    else drawChoice(box, part);\n  }\n  whatIf(null, null);\n}\nfunction drawChoice(box, e) {\n  const button = add(box, \
-\"button\", \"choice\", threadName(e.thread));\n  let isTold = true;\n  button.style.setProperty(\"--hue\", hueOf(e.thread));\n  button.clas\
-sList.toggle(\"second\", isSecond(e.thread));\n  button.setAttribute(\"data-choice\", tokenOf(e));\n  button.title = threadTitle(e.thread) + \
-\": what it would do, and a click goes on with it\";\n  button.onfocus = () => whatIf(button, e);\n  button.onpointerenter = event => { if (\
-event.pointerType !== \"touch\") whatIf(button, e); };\n  // a finger can't point, so its first touch tells\n  button.addEventListener(\"poi\
-nterdown\", event => { isTold = event.pointerType !== \"touch\" || chosen === e; }, true);\n  button.onclick = event => {\n    if (isTold) g\
-oWith(e, event);\n    else whatIf(button, e);\n  };\n}\n// what the choices that could be next would do. Where what comes later is hidden, i\
-t isn't told before a click\nfunction whatIf(button, e) {\n  const old = id(\"next\").querySelector(\".asked\"), isThere = e && runBy(run, a\
-t, tokenOf(e)) >= 0, isHidden = id(\"hide\").checked;\n  const asks = matchMedia(\"(hover: none)\").matches ? \"Tap a name.\" : \"Point at a \
-name; a click goes on with it.\";\n  if (old) old.classList.remove(\"asked\");\n  if (button) button.classList.add(\"asked\");\n  chosen = e\
-;\n  fill(id(\"would\"), (e ? isHidden ? [] : whatIfText(at, e) : [\"What if another went? \" + asks]).concat(e && !isThere ? \" How it woul\
-d go on isn't in this page.\" : []));\n  id(\"if\").className = e ? \"\" : \"note\";\n  id(\"branch\").hidden = !e;\n  id(\"goon\").hidden = \
-!isThere;\n  id(\"goon\").textContent = e ? \"Go on\" : \"\";\n  if (e) add(id(\"goon\"), \"span\", \"word\", \" with \" + chosenText(e));\n\
-}\n\n// ---- other runs: each goes on with another choice than the first run, and comes to its own end. Who went there by a key has\n// the \
-focus at the way back, and then again at the name\nfunction goWith(e, event) {\n  const k = runBy(run, at, tokenOf(e)), isOther = k >= 0 && \
-k !== run;\n  if (k < 0) return;\n  go(at + 1, k);\n  if (isOther && !event.detail) id(\"crumbs\").querySelector(\".leave\").focus();\n}\n// \
-back to the moment at which this run forks from the first\nfunction leave(event) {\n  const token = tokenOf(forkOf(run)), isByKey = !(event \
-&& event.detail) && id(\"crumbs\").contains(document.activeElement);\n  go(runs[run].fork, 0);\n  const name = isByKey && id(\"next\").query\
-Selector(\"[data-choice=\" + token + \"]\");\n  if (name) name.focus();\n}\nfunction take(k) {\n  run = k;\n  moments = momentsOf(k);\n  rea\
-dParts();\n  readStrays();\n  id(\"slider\").max = moments.length - 1;\n  document.body.classList.toggle(\"other\", run > 0);\n}\n// which r\
-un is shown, and how it and the first one end; what stands there stays, and so does the focus\nfunction drawCrumbs() {\n  const box = id(\"c\
-rumbs\"), isLast = at === moments.length - 1, isOver = isLast || !id(\"hide\").checked;\n  box.hidden = !run;\n  if (box.getAttribute(\"data\
--run\") !== \"\" + run) drawWay(box);\n  if (!run) return;\n  const ends = box.querySelector(\".ends\");\n  ends.classList.toggle(\"over\", \
-isLast);\n  if (isOver !== ends.hasChildNodes()) fill(ends, isOver ? bothEnds() : []);\n}\nfunction drawWay(box) {\n  box.setAttribute(\"dat\
-a-run\", run);\n  box.textContent = \"\";\n  if (!run) return;\n  add(box, \"button\", \"\", \"The run\").onclick = leave;\n  add(box, \"spa\
-n\", \"\", \" \\u203A \");\n  const crumb = add(box, \"b\", \"crumb\", momentsOf(run)[runs[run].fork].step + 1 + \": \" + chosenText(forkOf(\
-run)));\n  crumb.setAttribute(\"aria-current\", \"true\");\n  add(crumb, \"span\", \"instead\", insteadText(run));\n  const back = add(box, \
-\"button\", \"leave\", \"Back to the fork \");\n  add(back, \"kbd\", \"\", \"Esc\");\n  back.onclick = leave;\n  add(box, \"span\", \"ends\"\
-);\n}\n// a schedule of these choices\nfunction scheduleOf(events) {\n  const runs = [];\n  for (const e of events) {\n    const word = toke\
-nOf(e), last = runs[runs.length - 1];\n    if (last && last.word === word) last.times++;\n    else runs.push({ word: word, times: 1 });\n  }\
-\n  return runs.map(run => run.word + (run.times > 1 ? \"*\" + run.times : \"\")).join(\" \");\n}\n// the command that makes the page of a s\
-chedule\nconst commandOf = schedule => \"./vuthgal show PROGRAM - <<< '\" + schedule + \"' > page.html\";\n// copies a text, and shows it; w\
-here the browser doesn't copy it is marked, to copy by hand\nfunction copy(text) {\n  const box = id(\"copied\"), mark = () => box.select();\
-\n  box.value = text;\n  box.hidden = false;\n  try { navigator.clipboard.writeText(text).catch(mark); } catch (error) { mark(); }\n}\n// wh\
-at a moment's line says\nconst saidOf = i => isFolded(lineNumber[i]) ? foldedText(lineNumber[i]) : sentence(i);\nconst eventsTo = i => momen\
-ts.slice(1, i + 1).map(moment => moment.event);\n\nfunction show(i, isTried) {\n  i = shown[lineNumber[Math.max(0, Math.min(moments.length - \
-1, i))]];\n  if (i === at) return;\n  const s = stateAt(i), e = moments[i].event, final = moments.length - 1;\n  at = i;\n  id(\"slider\").v\
-alue = i;\n  id(\"slider\").setAttribute(\"aria-valuetext\", e ? \"choice \" + e.step : \"start\");\n  id(\"where\").textContent = e ? \"cho\
-ice \" + e.step + \" of \" + moments[final].event.step : \"start\";\n  id(\"back\").disabled = id(\"first\").disabled = i === 0;\n  id(\"for\
-th\").disabled = id(\"last\").disabled = i === final;\n  drawCrumbs();\n  fill(id(\"what\"), saidOf(i));\n  fillNext(i, false);\n  id(\"next\
-\").className = s.word === \"stuck\" ? \"halt\" : \"\";\n  markProgram(e, s);\n  id(\"after\").textContent = stateTitle(i);\n  drawState(id(\
-\"things\"), i);\n  id(\"things\").classList.remove(\"slim\");\n  id(\"things\").classList.toggle(\"slim\", layout.isSlim && isWider(id(\"th\
-ings\")));\n  markLines();\n  if (isTried) return;\n  bringTimeline(i);\n  markMap();\n  bringThread();\n  if (e && e.row >= 0) bring(codeBo\
-x(), lineOfRow[e.row], 0);\n  try { history.replaceState(null, \"\", address()); } catch (error) { /* a page in a frame may not */ }\n}\nfun\
-ction stop() {\n  clearInterval(timer);\n  timer = null;\n  id(\"play\").textContent = \"Play\";\n  id(\"play\").setAttribute(\"aria-pressed\
-\", \"false\");\n}\nfunction play() {\n  if (timer !== null) {\n    stop();\n    return;\n  }\n  if (at === moments.length - 1) show(0);\n  \
-timer = setInterval(() => { if (at >= moments.length - 1) stop(); else show(next(1)); }, 1000 * id(\"speed\").value);\n  id(\"play\").textCo\
-ntent = \"Pause\";\n  id(\"play\").setAttribute(\"aria-pressed\", \"true\");\n}\n// the moment of the next line, or of the one before\nconst \
-next = by => shown[Math.max(0, Math.min(shown.length - 1, lineNumber[at] + by))];\n\n// what is in view of the past that two runs have stays \
-there\nfunction goTo(k, i) {\n  stop();\n  if (k !== run) {\n    const top = timeBox().scrollTop;\n    take(k);\n    at = Math.max(0, Math.m\
-in(moments.length - 1, i));\n    drawTimeline(hasWideColumns);\n    drawMap();\n    timeBox().scrollTop = top;\n    at = -1;\n  }\n  show(i)\
-;\n}\n// goes to a moment of this run, or of another, from which the browser comes back\nfunction go(i, k) {\n  if (k !== undefined && k !== \
-run) try { history.pushState(null, \"\", \"#\"); } catch (error) { /* a page in a frame may not */ }\n  goTo(k === undefined ? run : k, i);\n\
-}\n// an address names a choice by its number; in another run the choice at which it forks stands before it, as `7t2.9`\nconst address = () \
-=> \"#\" + (run ? momentsOf(run)[runs[run].fork].step + 1 + tokenOf(forkOf(run)) + \".\" : \"\") + (at ? moments[at].event.step : 0);\n// th\
-e run and the moment that the page's address names, as far as they are there; the start where it names none\nfunction fromAddress() {\n  con\
-st m = /^#(?:(\\d+)([tx]\\d+)\\.)?(\\d+)$/.exec(location.hash), first = runMoments()[0].step;\n  if (!m) return { run: 0, at: 0 };\n  const \
-fork = m[1] - 1 - first, k = m[1] ? Math.max(0, runBy(0, fork, m[2])) : 0;\n  return { run: k, at: m[1] && !k && !makes(runMoments()[fork + \
-1], m[2]) ? fork : m[3] - first };\n}\n// ---- size and layout. The reader's size is remembered, where the browser has a place for it. Witho\
-ut one, the text grows in a\n// wide window while all has room.\nconst SIZE = \"vuthgal-size\", STEP = 1.1, GROWTH = 1.05, GROWN = 12, LINES \
-= 14;\nlet size = 1, chosenSize = 0, fullest = 0;\n\nfunction remembered() {\n  try { return +localStorage.getItem(SIZE) || 0; } catch (erro\
-r) { return 0; }\n}\nfunction choose(to) {\n  chosenSize = Math.round(1e4 * (to && Math.max(.6, Math.min(3, to)))) / 1e4;\n  try { localStor\
-age.setItem(SIZE, chosenSize); } catch (error) { /* a page may have no such place */ }\n  arrange();\n}\nfunction setSize(to) {\n  size = to\
-;\n  document.documentElement.style.setProperty(\"--zoom\", size);\n}\n// the moment with the most to be shown\nfunction findFullest() {\n  \
-const lengthOf = i => moments[i].refused ? 0 : stateText(i).length;\n  moments.forEach((_, i) => { if (lengthOf(i) > lengthOf(fullest)) full\
-est = i; });\n}\nconst codeBox = () => id(\"code\").querySelector(\".scroll\");\nconst isWider = box => box.scrollWidth > box.clientWidth;\n\
-const isTaller = box => box.scrollHeight > box.clientHeight;\nconst isWide = () => document.body.classList.contains(\"wide\");\n\n// The lay\
-outs: the panes side by side, with wide columns or narrow ones in the timeline; in two columns; the same with tables\n// that may be slim; b\
-elow one another.\nconst LAYOUTS = [\n  { columns: 3, isWide: true, isSlim: false }, { columns: 3, isWide: false, isSlim: false }, { columns\
-: 2, isWide: true, isSlim: false },\n  { columns: 3, isWide: false, isSlim: true }, { columns: 2, isWide: true, isSlim: true }, { columns: 1\
-, isWide: true, isSlim: true }\n];\nlet layout = LAYOUTS[0], hasWideColumns = true;\n\n// draws it all, as far as its size depends on it\nfu\
-nction draw(isWideTried) {\n  document.body.classList.toggle(\"wide\", layout.columns > 1);\n  id(\"panes\").classList.toggle(\"two\", layou\
-t.columns === 2);\n  drawProgram();\n  at = Math.min(fullest, moments.length - 1);\n  drawTimeline(isWideTried && layout.isWide);\n  at = -1\
-;\n  show(fullest, true);\n}\n// draws in the first of the layouts that the window has room for in which nothing is wider than its box\nfunc\
-tion layOut() {\n  const wide = innerWidth / rem(), tall = innerHeight / rem(), boxes = [codeBox(), id(\"things\")].concat(isCrowd() ? [] : \
-timeBox());\n  const hasRoom = columns => columns === 1 || (wide >= 56 && tall >= 34 && (isCrowd() ? columns === 2 : columns === 3 || tall >\
-= 46));\n  for (layout of LAYOUTS.filter(one => hasRoom(one.columns))) {\n    draw(layout.isWide);\n    if (!boxes.some(isWider)) return;\n  \
-}\n}\n// makes the text as large as it may be while the panes hold all of it, of a long timeline some lines, and its columns stay as\n// the\
-y are\nfunction grow() {\n  const time = timeBox(), rest = [codeBox(), id(\"things\")], wasNarrow = isNarrow, least = isTaller(time) ? LINES \
-: Infinity;\n  const hasRoom = () => !rest.some(isTaller) && !rest.concat(time).some(isWider) && isNarrow === wasNarrow\n    && time.clientH\
-eight >= Math.min(time.scrollHeight, least * linePitch());\n  const drawAt = steps => {\n    setSize(Math.pow(GROWTH, drawn = steps));\n    \
-draw(!wasNarrow);\n  };\n  let low = 0, high = hasRoom() ? GROWN : 0, drawn = 0;\n  while (low < high) {\n    drawAt(Math.ceil((low + high) \
-/ 2));\n    if (hasRoom()) low = drawn;\n    else high = drawn - 1;\n  }\n  if (drawn !== low) drawAt(low);\n}\n// all of it is drawn anew\n\
-function arrange() {\n  const now = at < 0 ? fromAddress() : { run: run, at: at };\n  if (now.run !== run) take(now.run);\n  readColours();\n  \
-setSize(chosenSize || 1);\n  layOut();\n  if (!chosenSize && isWide()) grow();\n  hasWideColumns = !isNarrow;\n  drawMap();\n  at = -1;\n  s\
-how(now.at);\n}\nfunction standAlone() {\n  document.body.classList.toggle(\"alone\", id(\"alone\").checked);\n  arrange();\n}\n// what a ke\
-y does, wherever the focus is but in a box that has a use for it of its own\nfunction actionOf(key, on) {\n  const slides = on === id(\"slid\
-er\"), scrolls = on.classList && on.classList.contains(\"scroll\"), writes = on === id(\"speed\") || on === id(\"copied\");\n  if (key === \"\
-PageDown\") return () => go(next(1));\n  if (key === \"PageUp\") return () => go(next(-1));\n  if (writes) return null;\n  if (key === \"Arr\
-owRight\" || (key === (slides ? \"ArrowUp\" : \"ArrowDown\") && !scrolls)) return () => go(next(1));\n  if (key === \"ArrowLeft\" || (key ==\
-= (slides ? \"ArrowDown\" : \"ArrowUp\") && !scrolls)) return () => go(next(-1));\n  if (key === \" \") return slides || !/^(INPUT|BUTTON|SU\
-MMARY)$/.test(on.tagName) ? play : null;\n  if (key === \"Escape\") return run ? leave : null;\n  return { Home: () => go(0), End: () => go(\
-moments.length - 1), \"+\": () => choose(size * STEP), \"=\": () => choose(size * STEP), \"-\": () => choose(size / STEP),\n    0: () => cho\
-ose(0), f: () => id(\"alone\").click() }[key];\n}\nfunction pressed(event) {\n  const act = event.altKey || event.ctrlKey || event.metaKey ? \
-null : actionOf(event.key, event.target);\n  if (!act) return;\n  act();\n  event.preventDefault();\n}\nfunction listen() {\n  id(\"first\")\
-.onclick = () => go(0);\n  id(\"back\").onclick = () => go(next(-1));\n  id(\"forth\").onclick = () => go(next(1));\n  id(\"last\").onclick \
-= () => go(moments.length - 1);\n  id(\"play\").onclick = play;\n  id(\"speed\").onchange = () => { if (timer !== null) { stop(); play(); } \
-};\n  id(\"branch\").onclick = () => copy(scheduleOf(eventsTo(at).concat(chosen)));\n  id(\"goon\").onclick = event => goWith(chosen, event)\
-;\n  id(\"whole\").onclick = () => copy(scheduleOf(eventsTo(moments.length - 1)));\n  id(\"command\").onclick = () => copy(commandOf(schedul\
-eOf(eventsTo(moments.length - 1))));\n  id(\"slider\").oninput = () => go(+id(\"slider\").value);\n  id(\"fold\").onchange = id(\"java\").on\
-change = arrange;\n  id(\"alone\").onchange = standAlone;\n  id(\"states\").onclick = printStates;\n  id(\"sheet\").onclick = () => print(\"\
-sheet\");\n  id(\"hide\").onchange = () => {\n    document.body.classList.toggle(\"hiding\", id(\"hide\").checked);\n    drawCrumbs();\n    \
-whatIf(null, null);\n    markMap();\n  };\n  id(\"lanes\").onclick = event => {\n    const line = event.target.closest(\"tr[data-i]\");\n    \
-if (line) go(+line.getAttribute(\"data-i\"));\n  };\n  // the names of the columns of a picture\n  id(\"lanes\").onmousemove = event => {\n    \
-if (event.target.tagName === \"CANVAS\") event.target.title = threadTitle(Math.min(threads.length - 1, Math.floor(event.offsetX / column)));\
-\n  };\n  id(\"map\").onclick = event => {\n    const canvas = id(\"map\").querySelector(\"canvas\"), box = canvas.getBoundingClientRect();\n    \
-go(shown[Math.min(shown.length - 1, Math.floor((event.clientY - box.top) / box.height * shown.length))]);\n  };\n  timeBox().onscroll = () =\
-> {\n    drawInView();\n    markMap();\n  };\n  // on a phone the height changes as the page is scrolled\n  let width = innerWidth, height = \
-innerHeight;\n  window.onresize = () => {\n    if (innerWidth === width && (innerHeight === height || !isWide())) return;\n    width = inner\
-Width;\n    height = innerHeight;\n    arrange();\n  };\n  for (const way of [\"(prefers-color-scheme: dark)\", \"(forced-colors: active)\"]\
-) matchMedia(way).onchange = arrange;\n  window.onhashchange = () => {\n    const to = fromAddress();\n    goTo(to.run, to.at);\n  };\n  win\
-dow.onbeforeprint = beforePrint;\n  window.onafterprint = afterPrint;\n  document.addEventListener(\"keydown\", pressed);\n}\nfunction nameT\
-hePage() {\n  const name = about ? about.split(/[.:]( |$)/)[0] : \"A run of \" + listed(threads.slice(0, 8).map((_, t) => threadName(t)).con\
-cat(threads.length > 8 ? [\"others\"] : []));\n  const more = about.slice(name.length + 1).trim();\n  document.title = name.replace(/`/g, \"\
-\");\n  fillTalk(id(\"title\"), name);\n  fillTalk(id(\"about\"), more.charAt(0).toUpperCase() + more.slice(1));\n  id(\"about\").hidden = !\
-more;\n}\nfunction begin() {\n  readListing();\n  readSource();\n  readRun();\n  readParts();\n  readStrays();\n  nameThePage();\n  findUses\
-();\n  id(\"slider\").max = moments.length - 1;\n  id(\"panes\").classList.toggle(\"crowd\", isCrowd());\n  id(\"tool\").hidden = id(\"view\"\
-).hidden = false;\n  id(\"text\").open = false;\n  document.body.classList.toggle(\"hiding\", id(\"hide\").checked);\n  document.body.classL\
-ist.toggle(\"alone\", id(\"alone\").checked);\n  chosenSize = remembered();\n  findFullest();\n  listen();\n  arrange();\n}\n\ntry {\n  begi\
-n();\n} catch (error) {\n  id(\"why\").textContent = error.message;\n  id(\"broken\").hidden = false;\n  id(\"tool\").hidden = id(\"view\").\
-hidden = true;\n  id(\"text\").open = true;\n}\n})();\n</script>\n</body>\n</html>\n";
+.4 + (rows.length + to - lines.from) * 6;\n  return Math.ceil(all / 273);\n}\n// many sheets are told before they are printed, and told anew \
+once they may be more or fewer\nlet isTold = false;\n\nfunction tellSheets(sheets) {\n  isTold = sheets > 0;\n  id(\"states\").textContent = \
+isTold ? \"Print about \" + sheets + \" sheets\" : \"Print all states\";\n}\nfunction printStates() {\n  const sheets = sheetsOf();\n  if (s\
+heets > MANY && !isTold) tellSheets(sheets);\n  else print(\"states\");\n}\n// paper is light\nfunction beforePrint() {\n  const lines = lin\
+esOnPaper();\n  document.documentElement.classList.add(\"paper\");\n  readColours();\n  drawLines(lines.from, lines.to);\n}\nfunction afterP\
+rint() {\n  document.documentElement.classList.remove(\"paper\");\n  document.body.classList.remove(\"states\", \"sheet\");\n  id(\"handout\"\
+).textContent = \"\";\n  arrange();\n}\n\n// ---- steps\nlet at = -1, timer = null;\n\nfunction fill(box, texts) {\n  box.textContent = \"\"\
+;\n  for (const text of texts) {\n    if (typeof text === \"string\") box.appendChild(document.createTextNode(text));\n    else add(box, \"b\
+\", \"\", text[0]);\n  }\n}\n// a text in which what stands between backquotes is code\nfunction fillTalk(box, text) {\n  box.textContent = \
+\"\";\n  text.split(\"`\").forEach((part, k) => { if (part) add(box, k % 2 ? \"code\" : \"span\", \"\", part); });\n}\n// scrolls a box so t\
+hat what stands from `top` to `foot` is in view, below its head; or its top, where there is no room for all.\n// What came before it stays i\
+n view: where it would be above the middle, and what comes later is hidden, or where it was out of\n// view, it stands in the middle\nfuncti\
+on scrollTo(box, top, foot, cover, isLate) {\n  const highest = Math.max(0, top - cover - 4), middle = Math.max(0, Math.min(highest, (top + \
+foot - cover - box.clientHeight) / 2));\n  if (isLate && (id(\"hide\").checked ? middle : top - cover) < box.scrollTop) box.scrollTop = midd\
+le;\n  else if (top - cover < box.scrollTop) box.scrollTop = highest;\n  else if (foot > box.scrollTop + box.clientHeight) box.scrollTop = M\
+ath.min(highest, foot - box.clientHeight + 4);\n}\n// the same of an element in it, wherever it is nested\nfunction bring(box, element, cove\
+r, more, isLate) {\n  const outer = box.getBoundingClientRect(), inner = element.getBoundingClientRect(), top = inner.top - outer.top - box.\
+clientTop + box.scrollTop;\n  scrollTo(box, top, top + inner.height * (1 + (more || 0)), cover, isLate);\n}\nfunction bringTimeline(i) {\n  \
+const box = timeBox(), cover = id(\"lanes\").tHead.offsetHeight, k = lineNumber[i];\n  if (isWhole()) bring(box, lineOf.get(i), cover, .5, t\
+rue);\n  else {\n    scrollTo(box, cover + k * linePitch(), cover + (k + 3) * linePitch(), cover, true);\n    drawInView();\n  }\n  if (i ==\
+= moments.length - 1) box.scrollTop = box.scrollHeight;\n  if (isCrowd()) return;\n  const line = lineOf.get(i), dot = line && line.querySel\
+ector(\".dot\"), cell = dot && dot.parentNode, side = line ? line.cells[0].offsetWidth : 0;\n  if (!cell) return;\n  if (cell.offsetLeft - s\
+ide < box.scrollLeft) box.scrollLeft = cell.offsetLeft - side;\n  else if (cell.offsetLeft + cell.offsetWidth > box.scrollLeft + box.clientW\
+idth) box.scrollLeft = cell.offsetLeft + cell.offsetWidth - box.clientWidth;\n}\nfunction bringThread() {\n  const line = id(\"things\").que\
+rySelector(\".its\");\n  if (line) bring(id(\"things\"), line, line.closest(\"table\").tHead.offsetHeight);\n  else id(\"things\").scrollTop \
+= 0;\n}\n// ---- what could be next: each of these choices is a button, which tells what it would do\nlet chosen = null;\n\nfunction fillNex\
+t(i, isWhole) {\n  const box = id(\"next\");\n  box.textContent = \"\";\n  for (const part of moments[i].refused ? [] : nextText(i, isWhole)\
+) {\n    if (typeof part === \"string\") box.appendChild(document.createTextNode(part));\n    else if (part.more) add(box, \"button\", \"cho\
+ice\", part.more + \" others\").onclick = () => fillNext(i, true);\n    else drawChoice(box, part);\n  }\n  whatIf(null, null);\n}\nfunction \
+drawChoice(box, e) {\n  const button = add(box, \"button\", \"choice\", threadName(e.thread));\n  let goesOn = true;\n  button.style.setProp\
+erty(\"--hue\", hueOf(e.thread));\n  button.classList.toggle(\"second\", isSecond(e.thread));\n  button.setAttribute(\"data-choice\", tokenO\
+f(e));\n  button.title = threadTitle(e.thread) + \": what it would do, and a click goes on with it\";\n  button.onfocus = () => whatIf(butto\
+n, e);\n  button.onpointerenter = event => { if (event.pointerType !== \"touch\") whatIf(button, e); };\n  // a finger can't point, so its f\
+irst touch tells\n  button.addEventListener(\"pointerdown\", event => { goesOn = event.pointerType !== \"touch\" || chosen === e; }, true);\n  \
+button.onclick = event => {\n    if (goesOn) goWith(e, event);\n    else whatIf(button, e);\n    goesOn = true;\n  };\n}\n// what the choice\
+s that could be next would do. Where what comes later is hidden, it isn't told before a click\nfunction whatIf(button, e) {\n  const old = i\
+d(\"next\").querySelector(\".asked\"), isThere = e && runBy(run, at, tokenOf(e)) >= 0, isHidden = id(\"hide\").checked;\n  const asks = matc\
+hMedia(\"(hover: none)\").matches ? \"Tap a name.\" : \"Point at a name; a click goes on with it.\";\n  if (old) old.classList.remove(\"aske\
+d\");\n  if (button) button.classList.add(\"asked\");\n  chosen = e;\n  fill(id(\"would\"), (e ? isHidden ? [] : whatIfText(at, e) : [\"What \
+if another went? \" + asks]).concat(e && !isThere ? \" How it would go on isn't in this page.\" : []));\n  id(\"if\").className = e ? \"\" : \
+\"note\";\n  id(\"branch\").hidden = !e;\n  id(\"goon\").hidden = !isThere;\n  id(\"goon\").textContent = e ? \"Go on\" : \"\";\n  if (e) ad\
+d(id(\"goon\"), \"span\", \"word\", \" with \" + chosenText(e));\n}\n\n// ---- other runs: each goes on with another choice than the first r\
+un, and comes to its own end. Who went there by a key has\n// the focus at the way back, and then again at the name; and at a name, too, who \
+went on with the first run\nfunction goWith(e, event) {\n  const k = runBy(run, at, tokenOf(e)), isByKey = k >= 0 && k !== run && !event.det\
+ail;\n  if (k < 0) return;\n  go(at + 1, k);\n  if (isByKey && k) id(\"crumbs\").querySelector(\".leave\").focus();\n  else if (isByKey) foc\
+usName(tokenOf(e));\n}\n// the focus to the name of this choice, or to the first name where this one can't be next\nfunction focusName(token\
+) {\n  const name = id(\"next\").querySelector(\"[data-choice=\" + token + \"]\") || id(\"next\").querySelector(\".choice\");\n  if (name) n\
+ame.focus();\n}\n// back to the moment at which this run forks from the first\nfunction leave(event) {\n  const token = tokenOf(forkOf(run))\
+, isByKey = !(event && event.detail) && id(\"crumbs\").contains(document.activeElement);\n  go(runs[run].fork, 0);\n  if (isByKey) focusName\
+(token);\n}\nfunction take(k) {\n  run = k;\n  moments = momentsOf(k);\n  readParts();\n  readStrays();\n  id(\"slider\").max = moments.leng\
+th - 1;\n  document.body.classList.toggle(\"other\", run > 0);\n}\n// which run is shown, and how it and the first one end; what stands ther\
+e stays, and so does the focus\nfunction drawCrumbs() {\n  const box = id(\"crumbs\"), isLast = at === moments.length - 1, isOver = isLast |\
+| !id(\"hide\").checked;\n  box.hidden = !run;\n  if (box.getAttribute(\"data-run\") !== \"\" + run) drawWay(box);\n  if (!run) return;\n  c\
+onst ends = box.querySelector(\".ends\");\n  ends.classList.toggle(\"over\", isLast);\n  if (isOver !== ends.hasChildNodes()) fill(ends, isO\
+ver ? bothEnds() : []);\n}\nfunction drawWay(box) {\n  box.setAttribute(\"data-run\", run);\n  box.textContent = \"\";\n  if (!run) return;\n  \
+add(box, \"button\", \"\", \"The run\").onclick = leave;\n  add(box, \"span\", \"\", \" \\u203A \");\n  const crumb = add(box, \"b\", \"crum\
+b\", momentsOf(run)[runs[run].fork].step + 1 + \": \" + chosenText(forkOf(run)));\n  crumb.setAttribute(\"aria-current\", \"true\");\n  add(\
+crumb, \"span\", \"instead\", insteadText(run));\n  const back = add(box, \"button\", \"leave\", \"Back to the fork \");\n  add(back, \"kbd\"\
+, \"\", \"Esc\");\n  back.onclick = leave;\n  add(box, \"span\", \"ends\");\n}\n// a schedule of these choices\nfunction scheduleOf(events) \
+{\n  const runs = [];\n  for (const e of events) {\n    const word = tokenOf(e), last = runs[runs.length - 1];\n    if (last && last.word ==\
+= word) last.times++;\n    else runs.push({ word: word, times: 1 });\n  }\n  return runs.map(run => run.word + (run.times > 1 ? \"*\" + run.\
+times : \"\")).join(\" \");\n}\n// the command that makes the page of a schedule\nconst commandOf = schedule => \"./vuthgal show PROGRAM - <\
+<< '\" + schedule + \"' > page.html\";\n// copies a text, and shows it; where the browser doesn't copy it is marked, to copy by hand\nfuncti\
+on copy(text) {\n  const box = id(\"copied\"), mark = () => box.select();\n  box.value = text;\n  box.hidden = false;\n  try { navigator.cli\
+pboard.writeText(text).catch(mark); } catch (error) { mark(); }\n}\n// what a moment's line says\nconst saidOf = i => isFolded(lineNumber[i]\
+) ? foldedText(lineNumber[i]) : sentence(i);\nconst eventsTo = i => moments.slice(1, i + 1).map(moment => moment.event);\n\nfunction show(i, \
+isTried) {\n  i = shown[lineNumber[Math.max(0, Math.min(moments.length - 1, i))]];\n  if (i === at) return;\n  const s = stateAt(i), e = mom\
+ents[i].event, final = moments.length - 1;\n  at = i;\n  id(\"slider\").value = i;\n  id(\"slider\").setAttribute(\"aria-valuetext\", e ? \"\
+choice \" + e.step : \"start\");\n  id(\"where\").textContent = e ? \"choice \" + e.step + \" of \" + moments[final].event.step : \"start\";\
+\n  id(\"back\").disabled = id(\"first\").disabled = i === 0;\n  id(\"forth\").disabled = id(\"last\").disabled = i === final;\n  drawCrumbs\
+();\n  fill(id(\"what\"), saidOf(i));\n  fillNext(i, false);\n  id(\"next\").className = s.word === \"stuck\" ? \"halt\" : \"\";\n  markProg\
+ram(e, s);\n  id(\"after\").textContent = stateTitle(i);\n  drawState(id(\"things\"), i);\n  id(\"things\").classList.remove(\"slim\");\n  i\
+d(\"things\").classList.toggle(\"slim\", layout.isSlim && isWider(id(\"things\")));\n  markLines();\n  if (isTried) return;\n  tellSheets(0)\
+;\n  bringTimeline(i);\n  markMap();\n  bringThread();\n  if (e && e.row >= 0) bring(codeBox(), lineOfRow[e.row], 0);\n  try { history.repla\
+ceState(null, \"\", address()); } catch (error) { /* a page in a frame may not */ }\n}\nfunction stop() {\n  clearInterval(timer);\n  timer \
+= null;\n  id(\"play\").textContent = \"Play\";\n  id(\"play\").setAttribute(\"aria-pressed\", \"false\");\n}\nfunction play() {\n  if (time\
+r !== null) {\n    stop();\n    return;\n  }\n  if (at === moments.length - 1) show(0);\n  timer = setInterval(() => { if (at >= moments.len\
+gth - 1) stop(); else show(next(1)); }, 1000 * id(\"speed\").value);\n  id(\"play\").textContent = \"Pause\";\n  id(\"play\").setAttribute(\"\
+aria-pressed\", \"true\");\n}\n// the moment of the next line, or of the one before\nconst next = by => shown[Math.max(0, Math.min(shown.len\
+gth - 1, lineNumber[at] + by))];\n\n// what is in view of the past that two runs have stays there\nfunction goTo(k, i) {\n  stop();\n  if (k \
+!== run) {\n    const top = timeBox().scrollTop;\n    take(k);\n    at = Math.max(0, Math.min(moments.length - 1, i));\n    drawTimeline(has\
+WideColumns);\n    drawMap();\n    timeBox().scrollTop = top;\n    at = -1;\n  }\n  show(i);\n}\n// goes to a moment of this run, or of anot\
+her, from which the browser comes back\nfunction go(i, k) {\n  if (k !== undefined && k !== run) try { history.pushState(null, \"\", \"#\"); \
+} catch (error) { /* a page in a frame may not */ }\n  goTo(k === undefined ? run : k, i);\n}\n// an address names a choice by its number; i\
+n another run the choice at which it forks stands before it, as `7t2.9`\nconst address = () => \"#\" + (run ? momentsOf(run)[runs[run].fork]\
+.step + 1 + tokenOf(forkOf(run)) + \".\" : \"\") + (at ? moments[at].event.step : 0);\n// the run and the moment that the page's address nam\
+es, as far as they are there; the start where it names none\nfunction fromAddress() {\n  const m = /^#(?:(\\d+)([tx]\\d+)\\.)?(\\d+)$/.exec(\
+location.hash), first = runMoments()[0].step;\n  if (!m) return { run: 0, at: 0 };\n  const fork = m[1] - 1 - first, k = m[1] ? Math.max(0, \
+runBy(0, fork, m[2])) : 0;\n  return { run: k, at: m[1] && !k && !makes(runMoments()[fork + 1], m[2]) ? fork : m[3] - first };\n}\n// ---- s\
+ize and layout. The reader's size is remembered, where the browser has a place for it. Without one, the text grows in a\n// wide window whil\
+e all has room.\nconst SIZE = \"vuthgal-size\", STEP = 1.1, GROWTH = 1.05, GROWN = 12, LINES = 14;\nlet size = 1, chosenSize = 0, fullest = \
+0;\n\nfunction remembered() {\n  try { return +localStorage.getItem(SIZE) || 0; } catch (error) { return 0; }\n}\nfunction choose(to) {\n  c\
+hosenSize = Math.round(1e4 * (to && Math.max(.6, Math.min(3, to)))) / 1e4;\n  try { localStorage.setItem(SIZE, chosenSize); } catch (error) \
+{ /* a page may have no such place */ }\n  arrange();\n}\nfunction setSize(to) {\n  size = to;\n  document.documentElement.style.setProperty\
+(\"--zoom\", size);\n}\n// the moment with the most to be shown\nfunction findFullest() {\n  const lengthOf = i => moments[i].refused ? 0 : \
+stateText(i).length;\n  moments.forEach((_, i) => { if (lengthOf(i) > lengthOf(fullest)) fullest = i; });\n}\nconst codeBox = () => id(\"cod\
+e\").querySelector(\".scroll\");\nconst isWider = box => box.scrollWidth > box.clientWidth;\nconst isTaller = box => box.scrollHeight > box.\
+clientHeight;\nconst isWide = () => document.body.classList.contains(\"wide\");\n\n// The layouts: the panes side by side, with wide columns \
+or narrow ones in the timeline; in two columns; the same with tables\n// that may be slim; below one another.\nconst LAYOUTS = [\n  { column\
+s: 3, isWide: true, isSlim: false }, { columns: 3, isWide: false, isSlim: false }, { columns: 2, isWide: true, isSlim: false },\n  { columns\
+: 3, isWide: false, isSlim: true }, { columns: 2, isWide: true, isSlim: true }, { columns: 1, isWide: true, isSlim: true }\n];\nlet layout = \
+LAYOUTS[0], hasWideColumns = true;\n\n// draws it all, as far as its size depends on it\nfunction draw(isWideTried) {\n  document.body.class\
+List.toggle(\"wide\", layout.columns > 1);\n  id(\"panes\").classList.toggle(\"two\", layout.columns === 2);\n  drawProgram();\n  at = Math.\
+min(fullest, moments.length - 1);\n  drawTimeline(isWideTried && layout.isWide);\n  at = -1;\n  show(fullest, true);\n}\n// draws in the fir\
+st of the layouts that the window has room for in which nothing is wider than its box\nfunction layOut() {\n  const wide = innerWidth / rem(\
+), tall = innerHeight / rem(), boxes = [codeBox(), id(\"things\")].concat(isCrowd() ? [] : timeBox());\n  const hasRoom = columns => columns \
+=== 1 || (wide >= 56 && tall >= 34 && (isCrowd() ? columns === 2 : columns === 3 || tall >= 46));\n  for (layout of LAYOUTS.filter(one => ha\
+sRoom(one.columns))) {\n    draw(layout.isWide);\n    if (!boxes.some(isWider)) return;\n  }\n}\n// makes the text as large as it may be whi\
+le the panes hold all of it, of a long timeline some lines, and its columns stay as\n// they are\nfunction grow() {\n  const time = timeBox(\
+), rest = [codeBox(), id(\"things\")], wasNarrow = isNarrow, least = isTaller(time) ? LINES : Infinity;\n  const hasRoom = () => !rest.some(\
+isTaller) && !rest.concat(time).some(isWider) && isNarrow === wasNarrow\n    && time.clientHeight >= Math.min(time.scrollHeight, least * lin\
+ePitch());\n  const drawAt = steps => {\n    setSize(Math.pow(GROWTH, tried = steps));\n    draw(!wasNarrow);\n  };\n  let low = 0, high = h\
+asRoom() ? GROWN : 0, tried = 0;\n  while (low < high) {\n    drawAt(Math.ceil((low + high) / 2));\n    if (hasRoom()) low = tried;\n    els\
+e high = tried - 1;\n  }\n  if (tried !== low) drawAt(low);\n}\n// all of it is drawn anew\nfunction arrange() {\n  const now = at < 0 ? fro\
+mAddress() : { run: run, at: at };\n  if (now.run !== run) take(now.run);\n  readColours();\n  setSize(chosenSize || 1);\n  layOut();\n  if \
+(!chosenSize && isWide()) grow();\n  hasWideColumns = !isNarrow;\n  drawMap();\n  at = -1;\n  show(now.at);\n}\nfunction standAlone() {\n  d\
+ocument.body.classList.toggle(\"alone\", id(\"alone\").checked);\n  arrange();\n}\n// what a key does, wherever the focus is but in a box th\
+at has a use for it of its own\nfunction actionOf(key, on) {\n  const slides = on === id(\"slider\"), scrolls = on.classList && on.classList\
+.contains(\"scroll\"), writes = on === id(\"speed\") || on === id(\"copied\");\n  if (key === \"PageDown\") return () => go(next(1));\n  if \
+(key === \"PageUp\") return () => go(next(-1));\n  if (writes) return null;\n  if (key === \"ArrowRight\" || (key === (slides ? \"ArrowUp\" \
+: \"ArrowDown\") && !scrolls)) return () => go(next(1));\n  if (key === \"ArrowLeft\" || (key === (slides ? \"ArrowDown\" : \"ArrowUp\") && \
+!scrolls)) return () => go(next(-1));\n  if (key === \" \") return slides || !/^(INPUT|BUTTON|SUMMARY)$/.test(on.tagName) ? play : null;\n  \
+if (key === \"Escape\") return run ? leave : null;\n  return { Home: () => go(0), End: () => go(moments.length - 1), \"+\": () => choose(siz\
+e * STEP), \"=\": () => choose(size * STEP), \"-\": () => choose(size / STEP),\n    0: () => choose(0), f: () => id(\"alone\").click() }[key\
+];\n}\nfunction pressed(event) {\n  const act = event.altKey || event.ctrlKey || event.metaKey ? null : actionOf(event.key, event.target);\n  \
+if (!act) return;\n  act();\n  event.preventDefault();\n}\nfunction listen() {\n  id(\"first\").onclick = () => go(0);\n  id(\"back\").oncli\
+ck = () => go(next(-1));\n  id(\"forth\").onclick = () => go(next(1));\n  id(\"last\").onclick = () => go(moments.length - 1);\n  id(\"play\"\
+).onclick = play;\n  id(\"speed\").onchange = () => { if (timer !== null) { stop(); play(); } };\n  id(\"branch\").onclick = () => copy(sche\
+duleOf(eventsTo(at).concat(chosen)));\n  id(\"goon\").onclick = event => goWith(chosen, event);\n  id(\"whole\").onclick = () => copy(schedu\
+leOf(eventsTo(moments.length - 1)));\n  id(\"command\").onclick = () => copy(commandOf(scheduleOf(eventsTo(moments.length - 1))));\n  id(\"s\
+lider\").oninput = () => go(+id(\"slider\").value);\n  id(\"fold\").onchange = id(\"java\").onchange = arrange;\n  id(\"alone\").onchange = \
+standAlone;\n  id(\"states\").onclick = printStates;\n  id(\"sheet\").onclick = () => print(\"sheet\");\n  id(\"hide\").onchange = () => {\n    \
+document.body.classList.toggle(\"hiding\", id(\"hide\").checked);\n    drawCrumbs();\n    whatIf(null, null);\n    tellSheets(0);\n    markM\
+ap();\n  };\n  id(\"lanes\").onclick = event => {\n    const line = event.target.closest(\"tr[data-i]\");\n    if (line) go(+line.getAttribu\
+te(\"data-i\"));\n  };\n  // the names of the columns of a picture\n  id(\"lanes\").onmousemove = event => {\n    if (event.target.tagName =\
+== \"CANVAS\") event.target.title = threadTitle(Math.min(threads.length - 1, Math.floor(event.offsetX / column)));\n  };\n  id(\"map\").oncl\
+ick = event => {\n    const canvas = id(\"map\").querySelector(\"canvas\"), box = canvas.getBoundingClientRect();\n    go(shown[Math.min(sho\
+wn.length - 1, Math.floor((event.clientY - box.top) / box.height * shown.length))]);\n  };\n  timeBox().onscroll = () => {\n    drawInView()\
+;\n    markMap();\n  };\n  // on a phone the height changes as the page is scrolled\n  let width = innerWidth, height = innerHeight;\n  wind\
+ow.onresize = () => {\n    if (innerWidth === width && (innerHeight === height || !isWide())) return;\n    width = innerWidth;\n    height = \
+innerHeight;\n    arrange();\n  };\n  for (const way of [\"(prefers-color-scheme: dark)\", \"(forced-colors: active)\"]) matchMedia(way).onc\
+hange = arrange;\n  window.onhashchange = () => {\n    const to = fromAddress();\n    goTo(to.run, to.at);\n  };\n  window.onbeforeprint = b\
+eforePrint;\n  window.onafterprint = afterPrint;\n  document.addEventListener(\"keydown\", pressed);\n}\nfunction nameThePage() {\n  const n\
+ame = about ? about.split(/[.:]( |$)/)[0] : \"A run of \" + listed(threads.slice(0, 8).map((_, t) => threadName(t)).concat(threads.length > \
+8 ? [\"others\"] : []));\n  const more = about.slice(name.length + 1).trim();\n  document.title = name.replace(/`/g, \"\");\n  fillTalk(id(\"\
+title\"), name);\n  fillTalk(id(\"about\"), more.charAt(0).toUpperCase() + more.slice(1));\n  id(\"about\").hidden = !more;\n}\nfunction beg\
+in() {\n  readListing();\n  readSource();\n  readRun();\n  readParts();\n  readStrays();\n  nameThePage();\n  findUses();\n  id(\"slider\").\
+max = moments.length - 1;\n  id(\"panes\").classList.toggle(\"crowd\", isCrowd());\n  id(\"tool\").hidden = id(\"view\").hidden = false;\n  \
+id(\"text\").open = false;\n  document.body.classList.toggle(\"hiding\", id(\"hide\").checked);\n  document.body.classList.toggle(\"alone\", \
+id(\"alone\").checked);\n  chosenSize = remembered();\n  findFullest();\n  listen();\n  arrange();\n}\n\ntry {\n  begin();\n} catch (error) \
+{\n  id(\"why\").textContent = error.message;\n  id(\"broken\").hidden = false;\n  id(\"tool\").hidden = id(\"view\").hidden = true;\n  id(\"\
+text\").open = true;\n}\n})();\n</script>\n</body>\n</html>\n";

@@ -6,14 +6,14 @@ use Rattle.plans.specs.Tree.{Plan, words_of_plan}
 use Rattle.plans.specs.Progress.{Progress}
 use Rattle.plans.specs.Play.{plays, repeated}
 
--- what may stand behind a plan: the parenthesis that closes its group, or nothing
+-- what may follow a plan: the parenthesis that closes its group, or nothing
 abbrev pub IsEnd : List Word → Type 0
 IsEnd [] = Unit {0}
 IsEnd (word.Step step ∷ rest) = ⊥
 IsEnd (word.Open ∷ rest) = ⊥
 IsEnd (word.Close times ∷ rest) = Unit {0}
 
--- what stands where words end: the parenthesis that closes their group and what follows it, or nothing
+-- what is where words end: the parenthesis that closes their group and what follows it, or nothing
 abbrev pub ending : Option ℕ → List Word → List Word
 ending (Some times) rest = word.Close times ∷ rest
 ending None rest = []
@@ -27,7 +27,7 @@ abbrev pub HasPlayed : List Word → Option ℕ → List Word → Progress → P
 HasPlayed words times rest before after =
     (plan : Plan) (tail : List Word) → words ≡ words_of_plan plan ++ tail → IsEnd tail → Played plan tail times rest before after
 
--- a group behind its first parenthesis
+-- a group after its first parenthesis
 pub record PlayedGroup (body : Plan) (times : ℕ) (tail rest : List Word) (before later : Progress) : Type 0 where
   pub behind : rest ≡ tail
   pub after : later ≡ repeated (times - 1) (λ p. plays body p) (plays body before)

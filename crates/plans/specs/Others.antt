@@ -1,5 +1,5 @@
--- What another choice than the run's own leads to: its thread goes on until it waits or ends; then the run's own choices
--- follow, without those that would do nothing; then the threads turn about.
+-- What follows if another choice than the run's own is made: its thread continues until it waits or ends; then the run's own
+-- choices follow, without those that would do nothing; then the threads take turns.
 use Rattle.std.specs.Prelude.{ℕ, ◌&&◌, nat_lt, if◌then◌else◌, Bool, List, [], ◌∷◌}
 use Rattle.thread_machine.specs.declared.choice.Choice.{Choice}
 use Rattle.thread_machine.specs.Ready.{is_choice_ready}
@@ -9,7 +9,7 @@ use Rattle.plans.specs.Play.{followed}
 use Rattle.plans.specs.Progress.{Progress, begun_at, chosen}
 use Rattle.plans.specs.Rules.{thread_count}
 
--- the chosen thread, for 100 turns at most
+-- the chosen thread, for at most 100 turns
 unfoldable pub gone_ahead : Choice → Progress → Progress
 gone_ahead choice progress = followed (rule.Alone choice.thread) 99 0 (chosen choice progress)
 
@@ -18,7 +18,7 @@ unfoldable pub is_step_in : World → Choice → Bool
 is_step_in world choice =
     nat_lt choice.thread (thread_count world) && is_choice_ready world.program choice world.scene
 
--- a choice of the run is left out where it would do nothing
+-- a choice of the run is left out if it would do nothing
 unfoldable pub kept : Choice → Progress → Progress
 kept choice progress = if is_step_in progress.world choice then chosen choice progress else progress
 
@@ -26,7 +26,7 @@ unfoldable pub all_kept : List Choice → Progress → Progress
 all_kept [] progress = progress
 all_kept (choice ∷ choices) progress = all_kept choices (kept choice progress)
 
--- turn about, for as many choices as are left
+-- the threads take turns, for as many choices as are left
 unfoldable pub turned_about : Progress → Progress
 turned_about progress = followed rule.TurnAbout progress.left 0 progress
 

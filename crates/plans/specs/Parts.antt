@@ -47,7 +47,7 @@ pub record Holds (stored : Stored) (one : Word) : Type 0 where
   pub number : takes_number stored.part ≡ false → stored.number ≡ 0
   pub seed : takes_seed stored.part ≡ false → stored.seed ≡ 0
 
--- the first of some numbers, where it is taken, and those behind it
+-- the first of some numbers, if the part has one, and those after it
 abbrev pub first_of : List ℕ → ℕ
 first_of [] = 0
 first_of (number ∷ numbers) = number

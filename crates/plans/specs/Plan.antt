@@ -20,7 +20,7 @@ pub record Draft : Type 0 where
 abbrev pub no_words : Draft
 no_words = record { words = []; depth = 0; opened = 0 }
 
--- behind `(` in this line one more is open
+-- after `(` in this line one more is open
 abbrev pub draft_opened : ℕ → Draft → Said Draft
 draft_opened line draft =
     if nat_le 16 draft.depth then Err fault.TooDeep
@@ -29,18 +29,18 @@ draft_opened line draft =
       opened = if draft.depth == 0 then line else draft.opened;
     })
 
--- behind `)` one less is
+-- after `)` one less is open
 abbrev pub draft_closed : Draft → Said Draft
 draft_closed draft =
     if draft.depth == 0 then Err fault.NotOpened else Ok (record draft { depth = draft.depth - 1 })
 
--- the parentheses behind a word in this line
+-- the parentheses after a word in this line
 abbrev pub draft_open : ℕ → Draft → Word → Said Draft
 draft_open line draft (word.Step step) = Ok draft
 draft_open line draft word.Open = draft_opened line draft
 draft_open line draft (word.Close times) = draft_closed draft
 
--- one word more
+-- one more word
 abbrev pub with_word : Word → Draft → Said Draft
 with_word word draft = Ok (record draft { words = draft.words ++ word ∷ [] })
 
@@ -56,7 +56,7 @@ abbrev pub word_behind : List Name → ℕ → Draft → List ℕ → Result Dra
 word_behind names line draft bytes =
     placed line (said_behind names line draft bytes)
 
--- the words of a line, each behind those before it, up to the first that is faulty
+-- the words of a line, each after those before it, up to the first that is faulty
 abbrev pub words_behind : List Name → ℕ → Draft → List (List ℕ) → Result Draft PlanFault
 words_behind names line draft [] = Ok draft
 words_behind names line draft (bytes ∷ words) =
@@ -80,12 +80,12 @@ words_in_lines names lines = lines_behind names 1 no_words lines >>= finished
 abbrev pub words_in_plan : List Name → List ℕ → Result (List Word) PlanFault
 words_in_plan names text = words_in_lines names (slice_split is_line_end text)
 
--- whether a fault is want of memory, which can stand in place of any answer
+-- whether a fault is `Memory`, which can be in place of any result
 abbrev pub is_memory : PlanFaultKind → Bool
 is_memory fault.Memory = true
 is_memory _ = false
 
--- what was answered, seen by view, is what is read, unless memory was refused
+-- what was returned, by its view, is what is read, unless memory was refused
 abbrev pub AnswersSaid : {X Y : Type 0} → (X → Y) → Said X → Said Y → Type 0
 AnswersSaid view answered read = Answers is_memory view answered read
 

@@ -1,4 +1,4 @@
--- What is handed out: the schedule of a plan, and the world behind it.
+-- What is returned: the schedule of a plan, and the world after it.
 use Rattle.std.specs.Prelude.{◌≡◌, All, List}
 use Rattle.loader.specs.Program.{Program}
 use Rattle.thread_machine.specs.World.{World, world_of}
@@ -17,7 +17,7 @@ pub record AreRuns (runs : List Run) : Type 0 where
   pub spelled : All IsRun runs
   pub joined : AreJoined runs
 
--- the choices that were made, the world that they lead to, and whether the most choices cut the plan
+-- the choices that were made, the world that they lead to, and whether the limit of choices cut the plan
 pub record Shows (planned : Planned) (progress : Progress) : Type 0 where
   pub choices : choices_of planned.runs.items ≡ progress.choices
   pub world : world_of planned.machine ≡ progress.world

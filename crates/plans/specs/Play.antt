@@ -9,13 +9,13 @@ use Rattle.plans.specs.Tree.{Plan, Done, Then, Group}
 use Rattle.plans.specs.Progress.{Progress, chosen}
 use Rattle.plans.specs.Rules.{next_choice}
 
--- a progress that is played on so many times
+-- a progress that is played so many more times
 unfoldable pub repeated : ℕ → (Progress → Progress) → Progress → Progress
 repeated zero play progress = progress
 repeated (suc times) play progress = repeated times play (play progress)
 
--- so many choices of a rule at most, from choice k on: each is the rule's in the world that those before it left, until it
--- has none
+-- at most so many choices of a rule, from choice k on: each is the rule's in the world that those before it left, until the
+-- rule has none
 abbrev pub followed_by : Option Choice → (Progress → Progress) → Progress → Progress
 followed_by None later progress = progress
 followed_by (Some choice) later progress = later (chosen choice progress)
@@ -25,7 +25,7 @@ followed rule zero k progress = progress
 followed rule (suc most) k progress =
     followed_by (next_choice rule k progress) (λ after. followed rule most (k + 1) after) progress
 
--- as many as may be made at all, and one more, for which none is left
+-- as many as are allowed at all, and one more, for which none is left
 abbrev pub most_of : Option ℕ → Progress → ℕ
 most_of None progress = progress.left + 1
 most_of (Some most) progress = most

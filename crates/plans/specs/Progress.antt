@@ -1,4 +1,4 @@
--- How far a plan has come, and what one choice makes of that.
+-- How far a plan has been played, and how one choice changes that.
 use Rattle.std.specs.Prelude.{ℕ, ◌+◌, ◌-◌, ◌==◌, if◌then◌else◌, Bool, true, false, List, [], ◌∷◌, ◌++◌, Option, Some, None}
 use Rattle.loader.specs.Program.{Program}
 use Rattle.thread_machine.specs.declared.choice.Choice.{Choice}
@@ -40,7 +40,7 @@ chosen_by None choice progress = record {
   stopped = progress.stopped;
 }
 
--- one choice more, where one is left
+-- one more choice, if one is left
 unfoldable pub chosen : Choice → Progress → Progress
 chosen choice progress =
     if progress.left == 0 then record progress { stopped = true }

@@ -20,7 +20,7 @@ Name = List ℕ
 abbrev pub Said : Type 0 → Type 0
 Said A = Result A PlanFaultKind
 
--- 42 is the star: what stands before it, and what is asked for behind it
+-- 42 is the star: what is before it, and what is asked for after it
 abbrev pub is_star : ℕ → Bool
 is_star byte = byte == 42
 
@@ -44,7 +44,7 @@ is_turn_about stem = bytes_eq stem (codes "..")
 abbrev pub is_seeded : List ℕ → Bool
 is_seeded stem = slice_index stem 0 == 63
 
--- 46 is the dot, behind a name
+-- 46 is the dot, after a name
 abbrev pub has_dot : List ℕ → Bool
 has_dot stem = slice_index stem (length stem - 1) == 46
 
@@ -63,7 +63,7 @@ may_repeat stem = is_closing stem || is_turn_about stem || is_seeded stem || is_
 abbrev pub is_spelled : List ℕ → Bool
 is_spelled bytes = may_repeat (stem_of bytes) || (not (has_star bytes) && (is_opening bytes || is_alone bytes))
 
--- how often, if that is said
+-- the count, if there is one
 abbrev pub times_by : Option ℕ → Said (Option ℕ)
 times_by None = Err fault.BadCount
 times_by (Some times) = Ok (Some times)
@@ -105,14 +105,14 @@ abbrev pub named_by : List Name → Name → Option ℕ → Said Chosen
 named_by names name (Some thread) = Ok (record { thread = thread; expiry = false })
 named_by names name None = expiry_named names name
 
--- by a number, where nothing is called so
+-- by a number, if no thread has this name
 abbrev pub or_numbered : Said Chosen → ℕ → Name → Said Chosen
 or_numbered (Ok chosen) count name = Ok chosen
 or_numbered (Err why) count name =
     if is_numbered 116 name then numbered_by count false (number_in 2 63 (drop 1 name))
     else (if is_numbered 120 name then numbered_by count true (number_in 2 63 (drop 1 name)) else Err why)
 
--- whose choice: a name first, then `x` and a name; `t3` and `x3` are numbers where no thread is called so
+-- whose choice: a name first, then `x` and a name; `t3` and `x3` are numbers if no thread has that name
 abbrev pub chosen_by : List Name → Name → Said Chosen
 chosen_by names name = or_numbered (named_by names name (thread_named names name)) (length names) name
 
@@ -121,7 +121,7 @@ abbrev pub make : Option ℕ → Chosen → Said Word
 make times chosen =
     Ok (word.Step (step.Make chosen (or_once times)))
 
--- turns of this thread alone: a dot stands behind no expiry
+-- turns of this thread alone: no dot follows an expiry
 abbrev pub alone : Chosen → Said Word
 alone chosen =
     if chosen.expiry then Err fault.BadWord else Ok (word.Step (step.Follow (rule.Alone chosen.thread) None))
@@ -130,7 +130,7 @@ abbrev pub seeded_by : Option ℕ → Option ℕ → Said Word
 seeded_by times None = Err fault.BadSeed
 seeded_by times (Some seed) = Ok (word.Step (step.Follow (rule.BySeed seed) times))
 
--- what a stem says with a count
+-- what a stem means with a count
 abbrev pub meaning : List Name → List ℕ → Option ℕ → Said Word
 meaning names stem times =
     if is_opening stem then Ok word.Open
@@ -140,7 +140,7 @@ meaning names stem times =
     else (if has_dot stem then (chosen_by names (before_dot stem) >>= alone)
     else (chosen_by names stem >>= make times)))))
 
--- what a word says: of its faults the first in the order of their numbers, but that `x3.` is told last
+-- what a word means: of its faults the first in the order of their numbers, but `x3.` is reported last
 abbrev pub word_of : List Name → List ℕ → Said Word
 word_of names bytes =
     if is_spelled bytes then (times_in bytes >>= meaning names (stem_of bytes)) else Err fault.BadWord

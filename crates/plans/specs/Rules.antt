@@ -1,4 +1,4 @@
--- Who makes the next choice, where a plan leaves it open. None of these choices is idle.
+-- Which choice is next, if a plan leaves it open. None of these choices is idle.
 use Rattle.std.specs.Prelude.{ℕ, ◌-◌, ◌%◌, nat_lt, ◌&&◌, if◌then◌else◌, Bool, true, false, List, length, slice_get, Option, Some, None}
 use Rattle.std.specs.List.{filter_map, find, range_with_len}
 use Rattle.rand_pcg.specs.Lcg.{advance, increment_of, started}
@@ -21,7 +21,7 @@ expiry_of t = record { thread = t; expiry = true }
 abbrev pub thread_count : World → ℕ
 thread_count world = length world.scene.threads
 
--- the turn of thread t would be a step; its wait may run out
+-- the turn of thread t would be a step; its wait may time out
 unfoldable pub is_ready_in : World → ℕ → Bool
 is_ready_in world t = is_ready t world.program world.scene
 
@@ -36,8 +36,8 @@ threads_from low world = range_with_len low (thread_count world - low)
 abbrev pub alone : ℕ → World → Option Choice
 alone t world = if nat_lt t (thread_count world) && is_ready_in world t then Some (turn_of t) else None
 
--- turn about: the next that is ready behind the one chosen last, or else from the first; time passes only where nobody is
--- ready, for the lowest whose wait may run out
+-- in turn: the next that is ready after the one chosen last, or else from the first; time passes only if nobody is ready, for
+-- the lowest whose wait may time out
 abbrev pub expiry_by : Option ℕ → Option Choice
 expiry_by (Some t) = Some (expiry_of t)
 expiry_by None = None
@@ -57,12 +57,12 @@ unfoldable pub word_at : ℕ → ℕ → ℕ
 word_at seed k =
     (pcg32 (advance 64 multiplier_64 k (started 64 multiplier_64 seed (increment_of 64 0)))).0
 
--- the choice by which thread t can go on: its turn where it is ready, or its expiry
+-- the choice by which thread t can continue: its turn if it is ready, or its expiry
 abbrev pub choice_in : World → ℕ → Option Choice
 choice_in world t =
     if is_ready_in world t then Some (turn_of t) else (if can_expire_in world t then Some (expiry_of t) else None)
 
--- those of all threads that can go on, in order of number
+-- those of all threads that can continue, in order of number
 unfoldable pub able : World → List Choice
 able world = filter_map (choice_in world) (threads_from 0 world)
 

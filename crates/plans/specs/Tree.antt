@@ -9,7 +9,7 @@ pub data Plan : Type 0 where
   Then : Step → Plan → Plan
   Group : Plan → ℕ → Plan → Plan
 
--- the words that it is written as: a group's stand between its parentheses
+-- the words that it is written as: a group's are between its parentheses
 abbrev pub words_of_plan : Plan → List Word
 words_of_plan Done = []
 words_of_plan (Then step rest) = word.Step step ∷ words_of_plan rest

@@ -11,7 +11,7 @@ abbrev pub begins_count : List ℕ → Bool
 begins_count [] = false
 begins_count (byte ∷ rest) = byte == 42
 
--- a parenthesis stands for itself, as if there were a blank before it and behind it; behind `)` a star goes on
+-- a parenthesis is a word of its own, as if there were a blank before it and after it; after `)` a star continues it
 abbrev pub blank_behind : ℕ → List ℕ → List ℕ
 blank_behind byte rest = if (byte == 41) && begins_count rest then [] else 32 ∷ []
 

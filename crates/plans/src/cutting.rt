@@ -7,21 +7,21 @@ ghost use Rattle.plans.specs.Words.{begins_count, is_parenthesis, spread};
 
 use line_reader::words::is_blank;
 
-/// Whether a word can't go on with this byte.
+/// Returns whether a word ends before this byte.
 fn parts_words(byte: u8) -> bool
     ensures { result ≡ parts_words byte }
 {
     is_parenthesis(byte) || is_blank(byte)
 }
 
-/// Where the first byte stands that parts words.
+/// Returns the place of the first byte that separates words.
 fn place_of_part(text: &[u8]) -> Option<usize>
     ensures { result ≡ position parts_words text.now }
 {
     text.iter().position(|byte| parts_words(*byte))
 }
 
-/// How many bytes there are before it.
+/// Returns the number of bytes before it.
 #[tactic(auto, using(line_reader::proofs::Places::position_some, line_reader::proofs::Places::position_none))]
 fn length_to_part(text: &[u8]) -> usize
     ensures length { result ≡ position_or_len parts_words text.now }
@@ -45,7 +45,7 @@ fn is_parenthesis(byte: u8) -> bool
     byte == b'(' || byte == b')'
 }
 
-/// How many bytes the word has that a line begins with, none where it begins with a blank. A parenthesis is a word of its own,
+/// Returns the number of bytes of a line's first word, 0 if the line begins with a blank. A parenthesis is a word of its own,
 /// with its count if it has one.
 pub fn word_length(line: &[u8]) -> usize
     requires { 0 < length line.now }
@@ -64,7 +64,7 @@ pub fn word_length(line: &[u8]) -> usize
     1
 }
 
-/// What stands before a place.
+/// Returns the bytes before a place.
 pub fn before(text: &[u8], place: usize) -> &[u8]
     requires { place ≤ length text.now }
     ensures { result.now ≡ take place text.now }
@@ -72,7 +72,7 @@ pub fn before(text: &[u8], place: usize) -> &[u8]
     &text[..place]
 }
 
-/// What stands from a place on.
+/// Returns the bytes from a place on.
 pub fn from(text: &[u8], place: usize) -> &[u8]
     requires { place ≤ length text.now }
     ensures { result.now ≡ drop place text.now }

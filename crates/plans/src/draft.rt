@@ -15,7 +15,7 @@ use crate::words::Words;
 use line_reader::words::{before_comment, length_before};
 use std::alloc::Global;
 
-/// How many parentheses stand open at once at most.
+/// The most parentheses that are open at once.
 const DEEPEST: u8 = 16;
 
 /// The words so far, how many parentheses are open, and the line of the outermost of them.
@@ -150,8 +150,8 @@ impl Reading {
     }
 }
 
-/// Reads a plan for a program whose threads have these names, in order of number. Its answer is the words of the text, or
-/// the first fault; a parenthesis that is never closed is told only where nothing else is wrong.
+/// Reads a plan for a program whose threads have these names, in order of number. Returns the words of the text, or the first
+/// fault. A parenthesis that is never closed is reported only if nothing else is wrong.
 pub fn read_plan(alloc: Global, text: &[u8], names: &[&[u8]]) -> Result<Words, PlanFault>
     requires { length names.now ≤ 64 }
     ensures read { AnswersPlan (λ words. words) result (words_in_plan (map name_seen names.now) text.now) }

@@ -43,8 +43,8 @@ impl PlanFaultKind {
     }
 }
 
-/// What is wrong with a plan, and in which line, from 1. A parenthesis that is never closed is told with its own line: of
-/// several the outermost.
+/// What is wrong with a plan, and its line, from 1. A parenthesis that is never closed has its own line, the outermost if there
+/// are several.
 #[derive(Clone, Copy, Debug, PartialEq, Eq)]
 pub struct PlanFault {
     pub line: u64,

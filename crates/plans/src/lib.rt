@@ -1,8 +1,8 @@
-//! Plans: texts that a person writes, and that say whose turn it is.
+//! Plans: texts that a person writes, and that say which thread takes the next step.
 //!
-//! `read_plan` answers a plan's words (`specs/Plan.antt`, `specs/Tree.antt`), or the first fault with its line. `plan_runs`
-//! plays them on a program: `specs/Play.antt` says what a plan plays, `specs/Rules.antt` who makes the next choice where the
-//! plan leaves it open. A plan makes 1,000,000 choices at most.
+//! `read_plan` returns a plan's words (`specs/Plan.antt`, `specs/Tree.antt`), or the first fault with its line. `plan_runs`
+//! plays them on a program. `specs/Play.antt` says what a plan plays, and `specs/Rules.antt` which choice is next if the plan
+//! leaves it open. A plan makes at most 1,000,000 choices.
 #![tactic(auto)]
 
 // A plan's text.
@@ -18,7 +18,7 @@ pub mod words;
 // What another choice than a run's own leads to.
 pub mod others;
 
-// A plan that is played: the schedule that it stands for.
+// A plan that is played: the schedule that it makes.
 pub mod plan_runs;
 pub mod planned;
 mod player;

@@ -4,7 +4,7 @@ ghost use Rattle.std.specs.List.{AllPass, list_all};
 ghost use Rattle.std.specs.Str.Parse.{digits_value};
 ghost use Rattle.plans.specs.Numbers.{are_digits, count_in, number_in, seed_in};
 
-/// How often a word asks for something at most.
+/// The largest count that a word may ask for.
 const MOST_TIMES: u64 = 1_000_000;
 
 fn all_digits(word: &[u8]) -> bool
@@ -13,14 +13,14 @@ fn all_digits(word: &[u8]) -> bool
     word.iter().all(|byte| byte.is_ascii_digit())
 }
 
-/// Whether these are digits, one to so many.
+/// Returns whether these are digits, from one to `most`.
 pub fn are_digits(most: usize, word: &[u8]) -> bool
     ensures { result ≡ are_digits most word.now }
 {
     !word.is_empty() && word.len() <= most && all_digits(word)
 }
 
-/// The number that at most twenty digits spell.
+/// Returns the number that these digits spell. There are at most twenty.
 fn digits_value(digits: &[u8]) -> u128
     requires few { length digits.now ≤ 20 }
     requires digits { AllPass is_ascii_digit digits.now }
@@ -33,7 +33,7 @@ fn digits_value(digits: &[u8]) -> u128
     value
 }
 
-/// The number that so many digits at most spell, if it is at most so large.
+/// Returns the number that these digits spell, if there aren't too many and it isn't too large.
 pub fn number_in(most_digits: usize, most: u64, word: &[u8]) -> Option<u64>
     requires { most_digits ≤ 20 }
     ensures { result ≡ number_in most_digits most word.now }
@@ -48,7 +48,7 @@ pub fn number_in(most_digits: usize, most: u64, word: &[u8]) -> Option<u64>
     Some(value as u64)
 }
 
-/// How often: 1 to 1,000,000, without a leading zero.
+/// Returns a count: 1 to 1,000,000, without a leading zero.
 pub fn count_in(word: &[u8]) -> Option<u32>
     ensures { result ≡ count_in word.now }
 {
@@ -61,7 +61,7 @@ pub fn count_in(word: &[u8]) -> Option<u32>
     }
 }
 
-/// A seed.
+/// Returns a seed.
 pub fn seed_in(word: &[u8]) -> Option<u64>
     ensures { result ≡ seed_in word.now }
 {

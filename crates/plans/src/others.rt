@@ -10,7 +10,7 @@ use crate::word::Rule;
 use std::alloc::{AllocError, Global};
 use thread_machine::{Choice, Machine};
 
-/// How many turns the chosen thread has at most behind its first choice.
+/// The most turns that the chosen thread takes after its first choice.
 const MOST_TURNS: u32 = 99;
 
 impl Player {
@@ -63,8 +63,8 @@ impl Player {
     }
 }
 
-/// What a choice leads to from where a machine stands in a run, in the place of the run's own choices: that choice and its
-/// thread's turns, the run's own choices that still do something, and then turns of all threads, `most` choices at most.
+/// Returns what follows if another choice is made at this point of a run, at most `most` choices: the choice and turns of its
+/// thread, then the run's own choices that still do something, and then turns of all threads.
 pub fn other_choices(
     alloc: Global,
     machine: Machine,

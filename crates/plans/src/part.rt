@@ -32,7 +32,7 @@ pub struct Stored {
     pub seed: u64,
 }
 
-/// Whether a word has a number beside its part.
+/// Returns whether a word has a number beside its part.
 pub fn takes_number(part: Part) -> bool
     ensures { result ≡ takes_number part }
 {
@@ -48,14 +48,14 @@ pub fn takes_number(part: Part) -> bool
     )
 }
 
-/// Whether it has a seed beside its part.
+/// Returns whether it has a seed beside its part.
 pub fn takes_seed(part: Part) -> bool
     ensures { result ≡ takes_seed part }
 {
     matches!(part, Part::BySeed | Part::BySeedMost)
 }
 
-/// A part and nothing beside it.
+/// Returns a part with nothing beside it.
 fn alone(part: Part) -> Stored
     ensures { result ≡ record { part = part; number = 0; seed = 0 } }
 {
@@ -66,7 +66,7 @@ fn alone(part: Part) -> Stored
     }
 }
 
-/// A part and its number.
+/// Returns a part with its number.
 fn numbered(part: Part, number: u32) -> Stored
     ensures { result ≡ record { part = part; number = number; seed = 0 } }
 {
@@ -119,7 +119,7 @@ fn stored_rule(rule: Rule, most: Option<u32>) -> Stored
     }
 }
 
-/// How a word is stored.
+/// Returns how a word is stored.
 pub fn stored_word(word: Word) -> Stored
     ensures { Holds result word }
 {
@@ -147,7 +147,7 @@ fn rule(rule: Rule, most: Option<u32>) -> Word
     Word::Step(Step::Follow { rule, most })
 }
 
-/// The word of a part with this number and this seed.
+/// Returns the word of a part with this number and this seed.
 pub fn word_with(part: Part, number: u32, seed: u64) -> Word
     ensures { result ≡ word_with part number seed }
 {

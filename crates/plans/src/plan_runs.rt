@@ -9,7 +9,7 @@ use loader::Loaded;
 use std::alloc::{AllocError, Global};
 use thread_machine::Machine;
 
-/// The schedule of a plan for a program, and the machine that it leads to.
+/// Plays a plan from the beginning of a program. Returns its schedule and the machine after it.
 pub fn plan_runs(
     alloc: Global,
     program: Loaded,
@@ -23,7 +23,7 @@ pub fn plan_runs(
     Ok(player.into_planned())
 }
 
-/// The schedule of a plan that is played from where a machine stands, and the machine that it leads to.
+/// Plays a plan from a machine's present state. Returns its schedule and the machine after it.
 pub fn plan_runs_at(
     alloc: Global,
     machine: Machine,

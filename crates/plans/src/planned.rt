@@ -1,7 +1,7 @@
 use schedule_reader::Run;
 use thread_machine::Machine;
 
-/// What a plan came to on a program.
+/// What a plan has played on a program.
 #[derive(Drop)]
 pub struct Planned {
     /// The program behind the last choice.

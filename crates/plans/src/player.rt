@@ -14,12 +14,12 @@ use std::alloc::{AllocError, Global};
 use std::marker::Model;
 use thread_machine::{Choice, Machine, StepFault};
 
-/// How many effective steps the machine may take: more than there are choices.
+/// The machine's limit of effective steps: more than there are choices.
 const MOST_STEPS: u32 = 1_000_000_000;
-/// How many choices a plan makes at most.
+/// The most choices that a plan makes.
 const MOST_CHOICES: u32 = 1_000_000;
 
-/// A machine, the choices that led to it, and how many there may be yet.
+/// A machine, the choices that led to it, and how many more are allowed.
 #[derive(Drop)]
 pub struct Player {
     machine: Machine,
@@ -50,7 +50,7 @@ impl Model for Player {
 }
 
 impl Player {
-    /// Before the first choice from where a machine stands.
+    /// Returns a player before its first choice, from a machine's present state.
     #[tactic(auto, unfolding(crate::specs::Progress::begun_at))]
     pub fn at(alloc: Global, machine: Machine) -> Player
         ensures { result ≡ begun_at (world_of machine) }
@@ -64,7 +64,7 @@ impl Player {
         }
     }
 
-    /// The same with room for so many choices at most.
+    /// Returns a player before its first choice that makes at most so many.
     #[tactic(auto, unfolding(crate::specs::Progress::begun_at))]
     pub fn with_room(alloc: Global, machine: Machine, most: u32) -> Player
         requires { most ≤ 1000000 }
@@ -79,7 +79,7 @@ impl Player {
         }
     }
 
-    /// Before the first choice of a program.
+    /// Returns a player before the first choice of a program.
     #[tactic(auto, unfolding(crate::specs::Progress::begun))]
     pub fn new(alloc: Global, program: Loaded) -> Result<Player, AllocError>
         ensures { IfOk result (λ player. player ≡ begun program) }
@@ -87,7 +87,7 @@ impl Player {
         Ok(Player::at(alloc, Machine::new(alloc, program, MOST_STEPS)?))
     }
 
-    /// What has come of it.
+    /// Returns what it has played.
     pub fn into_planned(self) -> Planned
         ensures choices { choices_of result.runs.items ≡ self.choices }
         ensures world { world_of result.machine ≡ self.world }
@@ -101,7 +101,7 @@ impl Player {
         }
     }
 
-    /// How many choices there may be yet.
+    /// Returns how many more choices are allowed.
     pub fn left(&self) -> u32
         ensures left { result ≡ self.now.left }
         ensures most { result ≤ 1000000 }
@@ -109,14 +109,14 @@ impl Player {
         self.left
     }
 
-    /// Whether a choice was wanted for which none was left: then nothing changes any more.
+    /// Returns whether a choice was asked for when none was left. Then nothing changes any more.
     pub fn is_over(&self) -> bool
         ensures { result ≡ ((self.now.left == 0) && self.now.stopped) }
     {
         self.left == 0 && self.stopped
     }
 
-    /// How many threads there are.
+    /// Returns the number of threads.
     pub fn thread_count(&self) -> usize
         ensures count { result ≡ thread_count self.now.world }
         ensures few { result ≤ 64 }
@@ -124,7 +124,7 @@ impl Player {
         self.machine.thread_count()
     }
 
-    /// Whether a thread's turn would be a step.
+    /// Returns whether a thread's turn would be a step.
     #[tactic(auto, unfolding(crate::specs::Rules::is_ready_in))]
     pub fn is_ready(&self, thread: u8) -> bool
         requires { thread < thread_count self.now.world }
@@ -133,7 +133,7 @@ impl Player {
         self.machine.is_ready(thread)
     }
 
-    /// Whether the time of a thread's wait may run out.
+    /// Returns whether a thread's wait may time out.
     #[tactic(auto, unfolding(crate::specs::Rules::can_expire_in))]
     pub fn can_expire(&self, thread: u8) -> bool
         requires { thread < thread_count self.now.world }
@@ -142,7 +142,7 @@ impl Player {
         self.machine.can_expire(thread)
     }
 
-    /// Whether a choice of a thread may take a step.
+    /// Returns whether a choice of a thread may take a step.
     pub fn is_choice_ready(&self, choice: Choice) -> bool
         requires { choice.thread < thread_count self.now.world }
         ensures { result ≡ is_choice_ready self.now.world.program choice self.now.world.scene }
@@ -154,21 +154,21 @@ impl Player {
         }
     }
 
-    /// The number behind the thread that was chosen last.
+    /// Returns the number after that of the thread that was chosen last.
     pub fn next(&self) -> u8
         ensures { result ≡ self.now.next }
     {
         self.next
     }
 
-    /// Notes that a choice was wanted for which none was left.
+    /// Notes that a choice was asked for when none was left.
     fn stop(&mut self)
         ensures { self.new ≡ record self.old { stopped = true } }
     {
         self.stopped = true;
     }
 
-    /// Makes a choice that is left, unless the machine refuses it.
+    /// Makes one of the choices that are left, unless the machine refuses it.
     fn make(&mut self, choice: Choice) -> Result<(), AllocError>
         requires thread { choice.thread < thread_count self.old.world }
         requires few { thread_count self.old.world ≤ 64 }
@@ -188,7 +188,7 @@ impl Player {
         }
     }
 
-    /// Makes one choice more, where one is left.
+    /// Makes one more choice, if one is left.
     #[tactic(auto, unfolding(crate::specs::Progress::chosen), using(crate::proofs::Choosing::none_refused))]
     pub fn choose(&mut self, choice: Choice) -> Result<(), AllocError>
         ensures { OnOk result (self.new ≡ chosen choice self.old) }

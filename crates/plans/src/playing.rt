@@ -7,8 +7,8 @@ use crate::words::WordsFrom;
 use std::alloc::{AllocError, Global};
 
 impl Player {
-    /// Plays words up to the parenthesis that closes their group, and takes that too, or to their end. Its answer is how often
-    /// the group is to be played.
+    /// Plays words up to and including the parenthesis that closes their group, or to their end. Returns how often the group is
+    /// to be played.
     #[cycle(words)]
     pub fn play_words(
         &mut self,
@@ -28,7 +28,7 @@ impl Player {
         }
     }
 
-    /// Plays a group behind its first parenthesis, once where that makes no choice.
+    /// Plays a group from after its first parenthesis, only once if that makes no choice.
     #[cycle(words)]
     fn play_group(&mut self, alloc: Global, words: &mut WordsFrom<'_>) -> Result<(), AllocError>
         ensures played { OnOk result (HasPlayedGroup words.old words.new self.old self.new) }
@@ -44,8 +44,7 @@ impl Player {
         Ok(())
     }
 
-    /// Plays words that were played once again, until they were played so many times: no more often where a pass makes no
-    /// choice.
+    /// Plays words that were played once again, until they were played so many times, or until a pass makes no choice.
     #[cycle(words)]
     fn play_again(
         &mut self,

@@ -11,7 +11,7 @@ use crate::word::{Chosen, Rule, Step, Word};
 use line_reader::name::name_at;
 use line_reader::words::{is_word, length_before};
 
-/// What stands before the star.
+/// Returns what is before the star.
 fn stem_of(word: &[u8]) -> &[u8]
     ensures { result.now ≡ stem_of word.now }
 {
@@ -24,7 +24,7 @@ fn has_star(word: &[u8]) -> bool
     length_before(b'*', word) < word.len()
 }
 
-/// What stands behind the star.
+/// Returns what is after the star.
 fn behind_star(word: &[u8]) -> &[u8]
     requires { has_star word.now ≡ true }
     ensures { result.now ≡ after_first is_star word.now }
@@ -54,7 +54,7 @@ fn has_dot(stem: &[u8]) -> bool
     !stem.is_empty() && stem[stem.len() - 1] == b'.'
 }
 
-/// What stands before the last byte.
+/// Returns a word without its last byte.
 fn before_dot(stem: &[u8]) -> &[u8]
     ensures { result.now ≡ before_dot stem.now }
 {
@@ -73,14 +73,14 @@ fn may_repeat(stem: &[u8]) -> bool
     is_word(stem, ")") || is_word(stem, "..") || is_seeded(stem) || is_name(stem)
 }
 
-/// Whether a word of a plan is spelled so.
+/// Returns whether a word of a plan is spelled so.
 fn is_spelled(word: &[u8]) -> bool
     ensures { result ≡ is_spelled word.now }
 {
     may_repeat(stem_of(word)) || (!has_star(word) && (is_word(word, "(") || is_alone(word)))
 }
 
-/// How often, if that is said.
+/// Returns the count, if there is one.
 fn times_in(word: &[u8]) -> Result<Option<u32>, PlanFaultKind>
     ensures { result ≡ times_in word.now }
 {
@@ -102,14 +102,14 @@ fn or_once(times: Option<u32>) -> u32
     }
 }
 
-/// Whether a name is a letter and digits.
+/// Returns whether a name is a letter and digits.
 fn is_numbered(letter: u8, name: &[u8]) -> bool
     ensures { result ≡ is_numbered letter name.now }
 {
     !name.is_empty() && name[0] == letter && are_digits(name.len(), behind_first(name))
 }
 
-/// The choice of the thread with this number, among so many.
+/// Returns the choice of the thread with this number, among so many.
 fn numbered(count: usize, expiry: bool, digits: &[u8]) -> Result<Chosen, PlanFaultKind>
     ensures { result ≡ numbered_by count expiry (number_in 2 63 digits.now) }
 {
@@ -128,7 +128,7 @@ fn numbered(count: usize, expiry: bool, digits: &[u8]) -> Result<Chosen, PlanFau
     }
 }
 
-/// The thread of this name.
+/// Returns the thread of this name.
 fn thread_named(names: &[&[u8]], name: &[u8]) -> Option<u8>
     requires { length names.now ≤ 64 }
     ensures { result ≡ thread_named (map name_seen names.now) name.now }
@@ -139,7 +139,7 @@ fn thread_named(names: &[&[u8]], name: &[u8]) -> Option<u8>
     }
 }
 
-/// What stands behind the first byte.
+/// Returns a word without its first byte.
 fn behind_first(bytes: &[u8]) -> &[u8]
     requires { 0 < length bytes.now }
     ensures { result.now ≡ drop 1 bytes.now }
@@ -153,7 +153,7 @@ fn begins_expiry(name: &[u8]) -> bool
     matches!(name, [b'x', ..])
 }
 
-/// The expiry of the thread whose name stands behind an `x`.
+/// Returns the expiry of the thread whose name follows an `x`.
 fn expiry_named(names: &[&[u8]], name: &[u8]) -> Result<Chosen, PlanFaultKind>
     requires { length names.now ≤ 64 }
     ensures { result ≡ expiry_named (map name_seen names.now) name.now }
@@ -170,7 +170,7 @@ fn expiry_named(names: &[&[u8]], name: &[u8]) -> Result<Chosen, PlanFaultKind>
     }
 }
 
-/// The choice of the thread with this name, or with that behind an `x`.
+/// Returns the choice of the thread with this name, or with the name after an `x`.
 fn named(names: &[&[u8]], name: &[u8]) -> Result<Chosen, PlanFaultKind>
     requires { length names.now ≤ 64 }
     ensures { result ≡ named_by (map name_seen names.now) name.now
@@ -185,7 +185,7 @@ fn named(names: &[&[u8]], name: &[u8]) -> Result<Chosen, PlanFaultKind>
     }
 }
 
-/// The choice that a number names, among so many threads, where it is none for this reason by name.
+/// Returns the choice that a number names, among so many threads, if no thread has the word as its name, for this reason.
 fn or_numbered(why: PlanFaultKind, count: usize, name: &[u8]) -> Result<Chosen, PlanFaultKind>
     ensures { result ≡ or_numbered (Err why) count name.now }
 {
@@ -198,7 +198,7 @@ fn or_numbered(why: PlanFaultKind, count: usize, name: &[u8]) -> Result<Chosen, 
     Err(why)
 }
 
-/// Whose choice, by a name, or else by a number.
+/// Returns whose choice it is, by a name, or else by a number.
 fn chosen_by(names: &[&[u8]], name: &[u8]) -> Result<Chosen, PlanFaultKind>
     requires { length names.now ≤ 64 }
     ensures { result ≡ chosen_by (map name_seen names.now) name.now }
@@ -209,7 +209,7 @@ fn chosen_by(names: &[&[u8]], name: &[u8]) -> Result<Chosen, PlanFaultKind>
     }
 }
 
-/// This choice, so many times.
+/// Returns this choice, so many times.
 fn make(times: Option<u32>, chosen: Chosen) -> Result<Word, PlanFaultKind>
     ensures { result ≡ make times chosen }
 {
@@ -219,7 +219,7 @@ fn make(times: Option<u32>, chosen: Chosen) -> Result<Word, PlanFaultKind>
     }))
 }
 
-/// Turns of this thread alone.
+/// Returns turns of this thread alone.
 fn alone(chosen: Chosen) -> Result<Word, PlanFaultKind>
     ensures { result ≡ alone chosen }
 {
@@ -232,7 +232,7 @@ fn alone(chosen: Chosen) -> Result<Word, PlanFaultKind>
     }))
 }
 
-/// An order by the seed that these digits spell.
+/// Returns an order by the seed that these digits spell.
 fn seeded(times: Option<u32>, digits: &[u8]) -> Result<Word, PlanFaultKind>
     ensures { result ≡ seeded_by times (seed_in digits.now) }
 {
@@ -245,7 +245,7 @@ fn seeded(times: Option<u32>, digits: &[u8]) -> Result<Word, PlanFaultKind>
     }
 }
 
-/// What a stem says with a count.
+/// Returns what a stem means with a count.
 fn meaning(names: &[&[u8]], stem: &[u8], times: Option<u32>) -> Result<Word, PlanFaultKind>
     requires { length names.now ≤ 64 }
     ensures { result ≡ meaning (map name_seen names.now) stem.now times }
@@ -271,7 +271,7 @@ fn meaning(names: &[&[u8]], stem: &[u8], times: Option<u32>) -> Result<Word, Pla
     make(times, chosen_by(names, stem)?)
 }
 
-/// What a word says.
+/// Returns what a word means.
 pub fn word_of(names: &[&[u8]], word: &[u8]) -> Result<Word, PlanFaultKind>
     requires { length names.now ≤ 64 }
     ensures { result ≡ word_of (map name_seen names.now) word.now }

@@ -9,7 +9,7 @@ use rand_pcg::Pcg32;
 use std::alloc::{AllocError, Global};
 use thread_machine::Choice;
 
-/// A word of a seed.
+/// Returns a word of a seed's numbers.
 #[tactic(auto, unfolding(crate::specs::Rules::word_at))]
 fn word_at(seed: u64, k: u32) -> u32
     ensures { result ≡ word_at seed k }
@@ -19,7 +19,7 @@ fn word_at(seed: u64, k: u32) -> u32
     words.next_word()
 }
 
-/// One of these choices, by a word.
+/// Returns one of these choices, by a word.
 fn picked(word: u32, choices: &[Choice]) -> Option<Choice>
     ensures { result ≡ picked word choices.now }
 {
@@ -38,7 +38,7 @@ fn turn_of(thread: u8) -> Choice
     }
 }
 
-/// Adds a choice, if there is one.
+/// Appends a choice, if there is one.
 fn push_made(choices: &mut Vec<Choice>, choice: Option<Choice>) -> Result<(), AllocError>
     ensures { OnOk result (choices.new.items ≡ choices.old.items ++ cons_option choice []) }
 {

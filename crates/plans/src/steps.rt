@@ -30,7 +30,7 @@ impl Player {
         Ok(())
     }
 
-    /// Makes the choices of a rule, so many at most.
+    /// Makes the choices of a rule, at most so many.
     pub fn follow(&mut self, alloc: Global, rule: Rule, most: u32) -> Result<(), AllocError>
         ensures { OnOk result (self.new ≡ followed rule most 0 self.old) }
     {
@@ -46,7 +46,7 @@ impl Player {
         Ok(())
     }
 
-    /// How many choices of a rule there may be.
+    /// Returns how many choices of a rule are allowed.
     fn most_of(&self, most: Option<u32>) -> u32
         ensures { result ≡ most_of most self.now }
     {

@@ -1,4 +1,4 @@
-/// Who makes the next choice, where a plan leaves it open. No choice of these is idle.
+/// Which choice is next, if a plan leaves it open. None of these choices is idle.
 #[derive(Clone, Copy, Debug, PartialEq, Eq)]
 pub enum Rule {
     /// This thread, as long as it can take a turn: `ann.`

@@ -1,4 +1,4 @@
-//! The words of a plan, stored as shortly as they are written: at most two bytes for one of the text.
+//! The words of a plan, stored in at most two bytes for each byte of the text.
 ghost use Rattle.std.specs.Prelude.{◌≡◌, ◌<◌, ◌++◌, [], ◌∷◌, IfSome, OnOk, None, drop, length};
 ghost use Rattle.std.specs.Vec.{vec_capacity, vec_len};
 ghost use Rattle.plans.specs.Parts.{left_of, put_of, taken_of};
@@ -30,7 +30,7 @@ impl Model for Words {
         × (length words.seeds.items ≡ count_by takes_seed words.parts.items) };
 }
 
-/// The words of a plan from one of them on.
+/// The words of a plan, from one of them on.
 #[derive(Drop)]
 pub struct WordsFrom<'a> {
     parts: &'a [Part],
@@ -48,7 +48,7 @@ impl<'a> Model for WordsFrom<'a> {
     ghost view = { λ words. words_of_parts words.parts.now words.numbers.now words.seeds.now };
 }
 
-/// Adds a number, where it is taken and there is room.
+/// Appends a number, if the part has one and there is room.
 fn put_number(numbers: &mut Vec<u32>, takes: bool, number: u32)
     requires { vec_len numbers.old < vec_capacity numbers.old }
     ensures { numbers.new.items ≡ numbers.old.items ++ put_of takes number }
@@ -58,7 +58,7 @@ fn put_number(numbers: &mut Vec<u32>, takes: bool, number: u32)
     }
 }
 
-/// Adds a seed, where it is taken and there is room.
+/// Appends a seed, if the part has one and there is room.
 fn put_seed(seeds: &mut Vec<u64>, takes: bool, seed: u64)
     requires { vec_len seeds.old < vec_capacity seeds.old }
     ensures { seeds.new.items ≡ seeds.old.items ++ put_of takes seed }
@@ -106,7 +106,7 @@ impl Words {
     }
 }
 
-/// The first of some numbers, where it is taken.
+/// Returns the first of some numbers, if the part has one.
 fn taken_number(takes: bool, numbers: &[u32]) -> u32
     ensures { result ≡ taken_of takes numbers.now }
 {
@@ -117,7 +117,7 @@ fn taken_number(takes: bool, numbers: &[u32]) -> u32
     }
 }
 
-/// The first of some seeds, where it is taken.
+/// Returns the first of some seeds, if the part has one.
 fn taken_seed(takes: bool, seeds: &[u64]) -> u64
     ensures { result ≡ taken_of takes seeds.now }
 {
@@ -128,7 +128,7 @@ fn taken_seed(takes: bool, seeds: &[u64]) -> u64
     }
 }
 
-/// The numbers behind the first, where it is taken.
+/// Returns the numbers after the first, if the part has one.
 fn numbers_left(takes: bool, numbers: &[u32]) -> &[u32]
     ensures { result.now ≡ left_of takes numbers.now }
 {
@@ -139,7 +139,7 @@ fn numbers_left(takes: bool, numbers: &[u32]) -> &[u32]
     }
 }
 
-/// The seeds behind the first, where it is taken.
+/// Returns the seeds after the first, if the part has one.
 fn seeds_left(takes: bool, seeds: &[u64]) -> &[u64]
     ensures { result.now ≡ left_of takes seeds.now }
 {
@@ -150,7 +150,7 @@ fn seeds_left(takes: bool, seeds: &[u64]) -> &[u64]
     }
 }
 
-/// The parts behind the first.
+/// Returns the parts after the first.
 fn parts_left(parts: &[Part]) -> &[Part]
     requires { 0 < length parts.now }
     ensures { result.now ≡ drop 1 parts.now }

@@ -1,9 +1,9 @@
 //! What the program's refusals mean, in words, and where one is in the file that it is about.
 //!
-//! An entry has the patterns of the words that ask for it, what is wrong, what helps, a command that makes just this refusal, and
-//! where the documents say more. A terminal is told the entry that the words of the line ask for, so it is the one that `explain`
-//! tells. A place is shown as the line, a mark below the word, and what may have been meant: the file is read again, and the
-//! assembler is asked, so nothing is parsed a second way.
+//! An entry has the patterns of the words that ask for it, what is wrong, what helps, a command that leads to exactly this
+//! refusal, and where the documents say more. A terminal shows the entry that the words of the line ask for, so it is the one
+//! that `explain` shows. A place is shown as the line, a mark below the word, and what may have been meant. For this the file
+//! is read and assembled again, so nothing is parsed in a second way.
 #![tactic(auto)]
 
 // An entry, how it is written, the table of them, and that of the words of the language.
@@ -36,5 +36,5 @@ pub mod plan;
 mod shown;
 
 pub use names::nearest_name;
-pub use place::push_place;
-pub use plan::push_plan_place;
+pub use place::{push_choice_place, push_place};
+pub use plan::{push_plan_place, push_stopped_plan};

@@ -10,6 +10,12 @@ use std::alloc::Global;
 /// What helps if operands are separated by commas.
 const AT_COMMA: &str = "no commas: put blanks between operands, as in `paaa r0 p`";
 
+/// What helps if a line has a sign of equality.
+const AT_EQUALS: &str = "no `=`: as in `.phaser p 2` and `ldi r0 5`";
+
+/// What helps if a label in the place of an operand has a colon.
+const AT_COLON: &str = "a label has a colon only in its own line: `.thread ann main`, `main: halt`";
+
 /// What helps if a comment begins as in other languages.
 pub const AT_COMMENT: &str = "a comment begins with `;`";
 
@@ -57,17 +63,26 @@ fn is_number(word: &[u8]) -> bool {
             .all(|byte| byte.is_ascii_digit() || *byte == b'-')
 }
 
-/// Returns whether a word after this one begins an instruction, or is a colon.
-fn has_statement_behind(line: &[u8], word: &[u8]) -> bool {
-    let mut words = line
+/// Returns the word behind this one, if this one is the first of a line.
+fn word_behind<'a>(line: &'a [u8], word: &[u8]) -> Option<&'a [u8]> {
+    let mut words = before_comment(line)
         .split(|byte| is_blank(*byte))
         .filter(|word| !word.is_empty());
-    match (words.next(), words.next()) {
-        (Some(first), Some(second)) => {
-            first == word && (second == b":".as_slice() || is_word_of_the_language(second))
-        }
-        _ => false,
+    if words.next() == Some(word) {
+        words.next()
+    } else {
+        None
     }
+}
+
+/// Whether an instruction follows the first word of a line.
+fn has_statement_behind(line: &[u8], word: &[u8]) -> bool {
+    word_behind(line, word).is_some_and(|second| is_word_of_the_language(second))
+}
+
+/// Whether a colon follows the first word of a line, behind a blank.
+fn has_colon_behind(line: &[u8], word: &[u8]) -> bool {
+    word_behind(line, word).is_some_and(|second| second.starts_with(b":"))
 }
 
 /// Returns the word after the one that is `=`, if a line has one.
@@ -113,6 +128,45 @@ fn is_absent(word: &[u8]) -> bool {
         .any(|absent| absent.as_bytes().eq_ignore_ascii_case(name))
 }
 
+/// Classes of Java and types, and how the language declares what they are for.
+static DECLARED: [(&str, &str); 7] = [
+    ("phaser", "`.phaser p 2` declares a phaser of 2 parties"),
+    (
+        "cyclicbarrier",
+        "`.barrier b 2` declares a barrier of 2 parties",
+    ),
+    ("barrier", "`.barrier b 2` declares a barrier of 2 parties"),
+    (
+        "thread",
+        "`.thread ann main` declares a thread that begins at `main:`",
+    ),
+    (
+        "int",
+        "a thread has the registers r0 to r7; `.cell sum` declares a cell that all threads share",
+    ),
+    (
+        "long",
+        "a thread has the registers r0 to r7; `.cell sum` declares a cell that all threads share",
+    ),
+    (
+        "atomicinteger",
+        "`.cell sum` declares a cell that all threads share",
+    ),
+];
+
+/// How the language declares what this class or type is for.
+fn declaration_of(word: &[u8]) -> Option<&'static str> {
+    DECLARED
+        .iter()
+        .find(|(class, _)| class.as_bytes().eq_ignore_ascii_case(word))
+        .map(|(_, helps)| *helps)
+}
+
+/// Whether a word ends with a colon, and isn't the first of its line.
+fn is_operand_with_colon(line: &[u8], word: &[u8]) -> bool {
+    word.ends_with(b":") && !line.trim_ascii_start().starts_with(word)
+}
+
 /// Whether a word of the language follows the colon of a label without a blank.
 fn has_statement_within(word: &[u8]) -> bool {
     match word.iter().position(|byte| *byte == b':') {
@@ -138,6 +192,8 @@ fn helps_at_word(text: &[u8], line: &[u8], word: &[u8]) -> Option<&'static str> 
         )
     } else if has_comment_sign(word) {
         Some(AT_COMMENT)
+    } else if let Some(helps) = declaration_of(word) {
+        Some(helps)
     } else if word_assigned(line).is_some() {
         Some("the instruction is first, then the register of its result, as in `ldi r0 5`")
     } else if is_absent(word) {
@@ -146,6 +202,8 @@ fn helps_at_word(text: &[u8], line: &[u8], word: &[u8]) -> Option<&'static str> 
         Some("put a blank behind the colon, as in `main: paaa r0 p`")
     } else if is_label_alone(text, line, word) {
         Some("a label needs a colon, as in `main:`")
+    } else if has_colon_behind(line, word) {
+        Some("no blank before the colon of a label, as in `main: paaa r0 p`")
     } else if has_statement_behind(line, word) {
         Some("a label needs a colon, as in `main: paaa r0 p`")
     } else {
@@ -186,9 +244,15 @@ pub fn helps_at(
         AsmFaultKind::BadOption if has_comment_sign(word) => Some(AT_COMMENT),
         AsmFaultKind::OperandCount if has_other_comment(line) => Some(AT_COMMENT),
         AsmFaultKind::OperandCount if before_comment(line).contains(&b',') => Some(AT_COMMA),
+        AsmFaultKind::OperandCount
+        | AsmFaultKind::BadRegister
+        | AsmFaultKind::BadNumber
+        | AsmFaultKind::BadOption
+            if before_comment(line).contains(&b'=') => Some(AT_EQUALS),
         AsmFaultKind::BadRegister if is_number(word) => Some(
             "put the number into a register first, as in `ldi r1 1`",
         ),
+        AsmFaultKind::BadName if is_operand_with_colon(line, word) => Some(AT_COLON),
         AsmFaultKind::BadName if is_in_place_of_name(line, word) => Some(
             "a declaration begins with its name, as in `.phaser p 2`",
         ),

@@ -19,7 +19,7 @@ use instruction_table::OperandKind;
 use itoa::Buffer;
 use line_reader::asm_fault::AsmFaultKind;
 use line_reader::label::{before_last, is_label};
-use line_reader::words::{before_comment, is_blank};
+use line_reader::words::{before_comment, is_blank, length_before};
 use loader::{LoadFault, Place};
 use schedule_reader::ScheduleFault;
 use std::alloc::{AllocError, Global};
@@ -341,7 +341,7 @@ fn place_of_statement(line: &[u8]) -> Option<WordPlace> {
     })
 }
 
-/// The line that makes the thing of this number, from 0. Answers whether there is one.
+/// The line that makes the thing of this number, from 0. Returns whether there is one.
 fn push_made_place<E: Sink>(
     alloc: Global,
     errors: &mut E,
@@ -360,7 +360,7 @@ fn push_made_place<E: Sink>(
     Ok(false)
 }
 
-/// The line of the last row. Answers whether there is one.
+/// The line of the last row. Returns whether there is one.
 fn push_last_row<E: Sink>(
     alloc: Global,
     errors: &mut E,
@@ -420,7 +420,7 @@ fn push_load_place<E: Sink>(
     }
 }
 
-/// The token of a schedule at an offset, marked in its line. Answers whether there is one.
+/// The token of a schedule at an offset, marked in its line. Returns whether there is one.
 fn push_token_place<E: Sink>(
     errors: &mut E,
     file: Named<'_>,
@@ -464,16 +464,77 @@ fn push_schedule_place<E: Sink>(
     }
 }
 
+/// The bytes of a schedule, which is in its own file or after the program's text.
+fn schedule_bytes<'a>(program: ProgramFile<'a>, schedule: Option<Named<'a>>) -> &'a [u8] {
+    match schedule {
+        Some(schedule) => schedule.bytes,
+        None => program.file.bytes.get(program.schedule_at..).unwrap_or(&[]),
+    }
+}
+
+/// How many choices a token of a schedule stands for.
+fn times_of(token: &[u8]) -> u64 {
+    let digits = token
+        .get(length_before(b'*', token).saturating_add(1)..)
+        .unwrap_or(&[]);
+    match str::from_utf8(digits).unwrap_or("").parse::<u64>() {
+        Ok(times) => times,
+        Err(_) => 1,
+    }
+}
+
+/// Where the token of a choice begins in a schedule, by the choice's number, from 1.
+fn offset_of_choice(schedule: &[u8], number: u64) -> Option<u64> {
+    let mut begin: usize = 0;
+    let mut played: u64 = 0;
+    for token in schedule.split(|byte| *byte == b'\n' || is_blank(*byte)) {
+        if !token.is_empty() {
+            played = played.saturating_add(times_of(token));
+        }
+        if played >= number {
+            return Some(begin as u64);
+        }
+        begin = begin.saturating_add(token.len()).saturating_add(1);
+    }
+    None
+}
+
+/// Writes the entry that these words ask for.
+pub(crate) fn push_entry<E: Sink>(errors: &mut E, words: &[&str]) -> Result<(), Unshown> {
+    if let Some(question) = question_of(&tables(), words) {
+        question.entry.push_words(errors, question.place)?;
+    }
+    Ok(())
+}
+
+/// Writes the place of a choice of a thread that doesn't exist, by the choice's number, from 1, and what that means.
+pub fn push_choice_place<E: Sink>(
+    errors: &mut E,
+    program: ProgramFile<'_>,
+    schedule: Option<Named<'_>>,
+    number: u64,
+) -> Result<(), Unshown> {
+    let has_line = match offset_of_choice(schedule_bytes(program, schedule), number) {
+        Some(offset) => push_schedule_place(errors, program, schedule, offset)?,
+        None => false,
+    };
+    if !has_line {
+        let file = match schedule {
+            Some(schedule) => schedule.name,
+            None => program.file.name,
+        };
+        push_file_alone(errors, file)?;
+    }
+    push_entry(errors, &["none"])
+}
+
 /// Returns what helps if a schedule is refused, if that is more than its entry says.
 fn helps_at_schedule(
     alloc: Global,
     program: ProgramFile<'_>,
     schedule: Option<Named<'_>>,
 ) -> Option<&'static str> {
-    let bytes = match schedule {
-        Some(schedule) => schedule.bytes,
-        None => program.file.bytes.get(program.schedule_at..).unwrap_or(&[]),
-    };
+    let bytes = schedule_bytes(program, schedule);
     if let Some(helps) = helps_at_encoding(bytes) {
         Some(helps)
     } else if is_trace(bytes) {

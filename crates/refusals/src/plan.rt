@@ -3,8 +3,8 @@ ghost use Rattle.std.specs.Prelude.{◌≤◌, length};
 
 use crate::meant::helps_at_encoding;
 use crate::names::distance;
-use crate::place::{Named, ProgramFile, Unshown, push_meaning};
-use crate::planned::{helps_at_name, helps_at_word};
+use crate::place::{Named, ProgramFile, Unshown, push_entry, push_meaning};
+use crate::planned::{helps_at_name, helps_at_star, helps_at_word};
 use crate::shown::{push_file, push_file_alone, push_line, push_marked, push_shown, word_at};
 use assembler::word_place::{WordPlace, line_at};
 use byte_ports::Sink;
@@ -212,6 +212,7 @@ fn helps_in(
     let word = word_at(line, place);
     match kind {
         PlanFaultKind::BadWord => helps_at_word(word, byte_before(line, place)),
+        PlanFaultKind::BadCount => helps_at_star(word),
         PlanFaultKind::NotNamed => helps_at_name(word),
         _ => None,
     }
@@ -263,4 +264,10 @@ pub fn push_plan_place<E: Sink>(
         }
     }
     push_meaning(alloc, errors, Unplanned::Plan(fault), helps)
+}
+
+/// Writes which plan was stopped, and what that means.
+pub fn push_stopped_plan<E: Sink>(errors: &mut E, plan: &str) -> Result<(), Unshown> {
+    push_file_alone(errors, plan)?;
+    push_entry(errors, &["stopped"])
 }

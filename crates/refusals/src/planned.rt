@@ -33,9 +33,25 @@ fn helps_at_count(word: &[u8], before: Option<u8>) -> Option<&'static str> {
     }
 }
 
+/// What helps if a dot has a count.
+const AT_COUNTED_DOT: &str = "a dot has no count: `ann*3`, or `( ann. )*3`";
+
+/// What helps at a star, if its count isn't only too small or too large.
+pub fn helps_at_star(word: &[u8]) -> Option<&'static str> {
+    if word.ends_with(b".") {
+        Some(AT_COUNTED_DOT)
+    } else if word.ends_with(b"*") {
+        Some("a count follows a star without a blank, as in `ann*3`")
+    } else {
+        None
+    }
+}
+
 /// Returns what helps if dots are wrong.
 fn helps_at_dots(word: &[u8]) -> Option<&'static str> {
-    if word.starts_with(b"...") || word.starts_with(&ELLIPSIS) {
+    if word == b".".as_slice() {
+        Some("`..` plays all threads in turn; `ann.` plays ann until it waits")
+    } else if word.starts_with(b"...") || word.starts_with(&ELLIPSIS) {
         Some("`..` has two dots: it plays all threads in turn")
     } else if word.starts_with(b"..") {
         Some("a count follows a star, as in `..*5`")
@@ -50,7 +66,7 @@ fn helps_at_dots(word: &[u8]) -> Option<&'static str> {
 fn helps_at_dot(word: &[u8]) -> Option<&'static str> {
     let dot = word.iter().position(|byte| *byte == b'.')?;
     match word.get(dot.saturating_add(1)..) {
-        Some([b'*', ..]) => Some("a dot has no count: `ann*3`, or `( ann. )*3`"),
+        Some([b'*', ..]) => Some(AT_COUNTED_DOT),
         Some([_, ..]) => Some("put a blank behind a dot, as in `ann. bob.`"),
         _ => None,
     }

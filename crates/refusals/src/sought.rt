@@ -100,7 +100,7 @@ pub fn words_sought(alloc: Global, words: &[&str]) -> Result<Vec<&'static str>, 
 /// How many letters a row's beginning has at least that is near to it.
 const LEAST: usize = 2;
 
-/// Writes the rows that begin so. Answers whether there is one.
+/// Writes the rows that begin so. Returns whether there is one.
 fn push_rows_from<E: Sink>(errors: &mut E, beginning: &str) -> Result<bool, Unshown> {
     let mut is_first = true;
     for opcode in 0..=255 {

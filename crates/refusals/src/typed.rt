@@ -1,29 +1,87 @@
-//! A command as it should be typed, if the words of a plan are among its arguments without quotes, or instead of a file.
+//! A command as it should be typed, if the words of a plan or of a STATE are among its arguments without quotes, or a plan instead
+//! of a file.
 
 use crate::place::Unshown;
 use byte_ports::{Failed, Sink};
 use line_reader::words::is_blank;
 use std::alloc::{AllocError, Global};
+use trace_text::form::end_words;
 
 /// The commands that play a plan or a schedule.
 static PLAYING: [&str; 5] = ["run", "show", "draw", "debug", "plan"];
+
+/// What the next argument is.
+#[derive(Clone, Copy)]
+enum Next {
+    /// An option, a file or a step.
+    Any,
+    /// The value of an option.
+    Value,
+    /// A STATE.
+    State,
+    /// Perhaps another word of the STATE before it.
+    OfState,
+}
+
+/// How an argument is quoted.
+#[derive(Clone, Copy, PartialEq, Eq)]
+enum Quotes {
+    /// By itself, if a shell needs it.
+    Own,
+    /// It begins a STATE that other arguments may belong to.
+    Begun,
+    /// It belongs to the STATE before it.
+    Within,
+}
+
+/// An option, or a value of one.
+#[derive(Clone, Copy)]
+struct Written<'a> {
+    word: &'a str,
+    quotes: Quotes,
+}
 
 /// The arguments after a command: its file, those in the place of a schedule or a plan, and the options.
 #[derive(Drop)]
 struct Typed<'a> {
     file: Option<&'a str>,
     steps: Vec<&'a str>,
-    options: Vec<&'a str>,
+    options: Vec<Written<'a>>,
     /// Whether `--schedule` is among them.
     has_schedule: bool,
+    /// Whether `--plan` is among them.
+    has_plan: bool,
+    /// Whether a STATE without quotes is among them.
+    has_open_state: bool,
 }
 
-/// Whether an option's next word is its value.
-fn has_value(option: &str) -> bool {
-    matches!(
-        option,
-        "--expect" | "--width" | "--at" | "--plan-file" | "--seeds"
-    )
+/// What follows an option.
+fn behind(option: &str) -> Next {
+    match option {
+        "--expect" => Next::State,
+        "--width" | "--at" | "--plan-file" | "--seeds" | "--limit" | "--stir" | "--runs" =>
+            Next::Value,
+        _ => Next::Any,
+    }
+}
+
+/// Whether a STATE is whole: a word for an end, or several words.
+fn is_whole_state(state: &str) -> bool {
+    let text = state.as_bytes();
+    end_words(text).is_some() || text.iter().any(|byte| is_blank(*byte))
+}
+
+/// Whether a byte may be in a later word of a STATE.
+fn is_of_state(byte: u8) -> bool {
+    is_of_name(byte) || byte == b'-' || byte == b':'
+}
+
+/// Whether an argument may be a later word of a STATE: no option, no file, and no sure word of a plan.
+fn may_be_of_state(word: &str) -> bool {
+    word != "-"
+        && !word.starts_with("--")
+        && !is_of_plan(word.as_bytes())
+        && word.as_bytes().iter().all(|byte| is_of_state(*byte))
 }
 
 impl<'a> Typed<'a> {
@@ -34,25 +92,66 @@ impl<'a> Typed<'a> {
             steps: Vec::new(alloc),
             options: Vec::new(alloc),
             has_schedule: false,
+            has_plan: false,
+            has_open_state: false,
         };
-        let mut is_value = false;
+        let mut next = Next::Any;
         for word in words {
-            let word = word.as_str();
-            if is_value {
-                typed.options.push(word)?;
-                is_value = false;
-            } else if word == "--schedule" {
-                typed.has_schedule = true;
-            } else if let Some(plan) = word.strip_prefix("--plan=") {
-                typed.steps.push(plan)?;
-            } else if word.starts_with("--") && word != "--plan" {
-                typed.options.push(word)?;
-                is_value = has_value(word);
-            } else if word != "--plan" {
-                typed.push_place(word)?;
-            }
+            next = typed.push(word.as_str(), next)?;
         }
         Ok(typed)
+    }
+
+    /// A word. Returns what the next one is.
+    fn push(&mut self, word: &'a str, next: Next) -> Result<Next, AllocError> {
+        match next {
+            Next::Value => self.push_option(word, Quotes::Own, Next::Any),
+            Next::State => self.push_state(word, word),
+            Next::OfState if may_be_of_state(word) => {
+                self.has_open_state = true;
+                self.push_option(word, Quotes::Within, Next::OfState)
+            }
+            _ => self.push_any(word),
+        }
+    }
+
+    /// A word that is an option, or in the next place.
+    fn push_any(&mut self, word: &'a str) -> Result<Next, AllocError> {
+        if word == "--schedule" {
+            self.has_schedule = true;
+        } else if word == "--plan" || word == "-p" {
+            self.has_plan = true;
+        } else if let Some(plan) = word.strip_prefix("--plan=") {
+            self.has_plan = true;
+            self.steps.push(plan)?;
+        } else if let Some(state) = word.strip_prefix("--expect=") {
+            return self.push_state(word, state);
+        } else if word.starts_with("--") {
+            return self.push_option(word, Quotes::Own, behind(word));
+        } else {
+            self.push_place(word)?;
+        }
+        Ok(Next::Any)
+    }
+
+    /// An option or a value.
+    fn push_option(
+        &mut self,
+        word: &'a str,
+        quotes: Quotes,
+        next: Next,
+    ) -> Result<Next, AllocError> {
+        self.options.push(Written { word, quotes })?;
+        Ok(next)
+    }
+
+    /// A word with this STATE.
+    fn push_state(&mut self, word: &'a str, state: &str) -> Result<Next, AllocError> {
+        if is_whole_state(state) {
+            self.push_option(word, Quotes::Own, Next::Any)
+        } else {
+            self.push_option(word, Quotes::Begun, Next::OfState)
+        }
     }
 
     /// A word in the next place.
@@ -101,13 +200,13 @@ fn is_of_plan(word: &[u8]) -> bool {
     }
 }
 
-/// Whether words stand for a plan: each of them may be of one, and there are several or one that is.
+/// Whether words stand for a plan: each of them may be of one, and there are several or one that is. One dot is a folder.
 fn are_plan(steps: &[&str]) -> bool {
     let mut count: usize = 0;
     let mut is_sure = false;
     for step in steps {
         for word in step.as_bytes().split(|byte| is_blank(*byte)) {
-            if !may_be_of_plan(word) {
+            if word == b".".as_slice() || !may_be_of_plan(word) {
                 return false;
             }
             count = count.saturating_add(1);
@@ -159,7 +258,7 @@ fn push_joined<E: Sink>(errors: &mut E, words: &[&str]) -> Result<(), Failed> {
     errors.push(b"'")
 }
 
-/// Writes how a command takes these steps: a plan, or the file of a schedule.
+/// Writes how a command takes these steps: none, a plan, or the file of a schedule or a plan.
 fn push_steps<E: Sink>(
     errors: &mut E,
     command: &str,
@@ -167,6 +266,7 @@ fn push_steps<E: Sink>(
     is_plan: bool,
 ) -> Result<(), Failed> {
     match (is_plan, steps) {
+        (_, []) => Ok(()),
         (false, [file]) => {
             errors.push(b" ")?;
             push_word(errors, file)
@@ -182,9 +282,35 @@ fn push_steps<E: Sink>(
     }
 }
 
-/// What a command takes in this place.
+/// Writes the options, and the words of a STATE as one.
+fn push_options<E: Sink>(errors: &mut E, options: &[Written<'_>]) -> Result<(), Failed> {
+    let mut is_within = false;
+    for option in options {
+        if is_within && option.quotes != Quotes::Within {
+            errors.push(b"'")?;
+        }
+        errors.push(b" ")?;
+        if option.quotes == Quotes::Begun {
+            errors.push(b"'")?;
+        }
+        is_within = option.quotes != Quotes::Own;
+        if is_within {
+            push_within_quotes(errors, option.word)?;
+        } else {
+            push_word(errors, option.word)?;
+        }
+    }
+    if is_within {
+        errors.push(b"'")?;
+    }
+    Ok(())
+}
+
+/// What has to be otherwise.
 fn taken(command: &str, typed: &Typed<'_>) -> &'static [u8] {
-    if command == "plan" {
+    if typed.has_open_state {
+        b"quote the STATE"
+    } else if command == "plan" {
         b"PLAN is a file or `-`"
     } else if typed.has_schedule {
         b"SCHEDULE is a file or `-`"
@@ -193,8 +319,14 @@ fn taken(command: &str, typed: &Typed<'_>) -> &'static [u8] {
     }
 }
 
-/// Writes a command as it should be typed, with these arguments, if a plan or a schedule isn't where it should be. Returns
-/// whether that is so.
+/// Whether a command can take these steps: none, or if it plays some, a plan or one file.
+fn can_take(command: &str, steps: &[&str], is_plan: bool) -> bool {
+    let is_playing = PLAYING.iter().any(|playing| *playing == command);
+    steps.is_empty() || is_playing && (is_plan || steps.len() == 1)
+}
+
+/// Writes a command as it should be typed, with these arguments, if a plan or a schedule isn't where it should be, or a STATE has no
+/// quotes. Returns whether that is so.
 pub fn push_typed<E: Sink>(
     alloc: Global,
     errors: &mut E,
@@ -202,13 +334,13 @@ pub fn push_typed<E: Sink>(
     words: &[String],
 ) -> Result<bool, Unshown> {
     let typed = Typed::new(alloc, words)?;
-    let steps = typed.steps.as_slice();
-    let (Some(file), [_, ..]) = (typed.file, steps) else {
+    let Some(file) = typed.file else {
         return Ok(false);
     };
-    let has_plan = words.iter().any(|word| word.as_str().starts_with("--plan"));
-    let is_plan = are_plan(steps) || has_plan && command == "plan";
-    if !PLAYING.iter().any(|playing| *playing == command) || !(is_plan || typed.has_schedule) {
+    let steps = typed.steps.as_slice();
+    let is_plan = are_plan(steps) || typed.has_plan && (command == "plan" || steps.len() == 1);
+    let is_misplaced = !steps.is_empty() && (is_plan || typed.has_schedule);
+    if !can_take(command, steps, is_plan) || !(is_misplaced || typed.has_open_state) {
         return Ok(false);
     }
     errors.push(taken(command, &typed))?;
@@ -217,10 +349,7 @@ pub fn push_typed<E: Sink>(
     errors.push(b" ")?;
     push_word(errors, file)?;
     push_steps(errors, command, steps, is_plan)?;
-    for option in &typed.options {
-        errors.push(b" ")?;
-        push_word(errors, option)?;
-    }
+    push_options(errors, typed.options.as_slice())?;
     errors.push(b"`\n")?;
     Ok(true)
 }

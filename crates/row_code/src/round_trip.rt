@@ -18,7 +18,7 @@ pub fn image_again()
     ensures { (i : Image) → IsImage i → image_of (image_bytes i) ≡ Ok i }
 {}
 
-/// Bytes that are read as an image are that image's.
+/// Bytes that are read as an image are the bytes of that image.
 pub fn one_spelling()
     ensures { (bytes : List ℕ) (i : Image) → All (λ byte. byte < 256) bytes →
         image_of bytes ≡ Ok i → bytes ≡ image_bytes i }

@@ -26,7 +26,7 @@ use Rattle.thread_machine.specs.World.{World, StoredWorld, world_of, first_of}
 use Rattle.thread_machine.specs.Ready.{outcome_of_choice, is_choice_ready}
 use Rattle.thread_machine.specs.Step.{Played, played, played_by, refusal_of}
 use Rattle.thread_machine.specs.Execution.{execution, execution_by}
-use Rattle.thread_machine.specs.DirectCounts.{with_turn, counts_at_end, counts_after, EndsNoPhaseEarly, NoPhaseEndsEarly, NoPhaseEndsEarlyFrom, NumbersStay, counts_by, counts_through}
+use Rattle.thread_machine.specs.DirectCounts.{with_turn, counts_at_end, counts_after, ChoiceEndsNoPhaseEarly, NoPhaseEndsEarly, NoPhaseEndsEarlyFrom, NumbersStay, counts_by, counts_through}
 use Rattle.thread_machine.specs.Sound.{IsMachine}
 use Rattle.thread_machine.proofs.PhaseEnds.{Fares}
 use Rattle.thread_machine.proofs.DirectCounts.{phasers_after, FaresTo, IsAside, aside_fares, timeout_aside, turn_fares}
@@ -62,7 +62,7 @@ choice_fares world choice origin sound few there stands =
 -- what a step of the machine may say of the counts
 pub record Keeps (before : World) (choice : Choice) (after : World) (origin : Origin) : Type 0 where
   pub counts : AreTallied after.scene.phasers (counts_after before choice after origin)
-  pub safe : EndsNoPhaseEarly before choice after origin
+  pub safe : ChoiceEndsNoPhaseEarly before choice after origin
   pub numbers : NumbersStay before.scene.phasers after.scene.phasers
 
 choice_keeps : (world : World) (choice : Choice) (origin : Origin) → IsSound world.program world.steps world.scene

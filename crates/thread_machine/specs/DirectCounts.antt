@@ -78,8 +78,8 @@ counts_after before choice after counts =
 
 -- if this choice ended a phase, everybody who registered directly with a phaser of the tree has arrived or left, unless a party
 -- arrived there that wasn't registered so
-abbrev pub EndsNoPhaseEarly : World → Choice → World → Origin → Type 0
-EndsNoPhaseEarly before choice after counts =
+abbrev pub ChoiceEndsNoPhaseEarly : World → Choice → World → Origin → Type 0
+ChoiceEndsNoPhaseEarly before choice after counts =
     (root : ℕ) → has_ended_phase root before.scene.phasers after.scene.phasers ≡ true
     → (counts_at_end before choice counts).stray root ≡ false
     → HaveAllArrived (counts_at_end before choice counts) root before.scene.phasers
@@ -101,7 +101,7 @@ NoPhaseEndsEarlyFrom first counts =
     (choices : List Choice) (choice : Choice)
     → let now : World = (execution first choices).world in
     refusal_of now choice ≡ None
-    → EndsNoPhaseEarly now choice (played now choice).world (counts_through first choices counts)
+    → ChoiceEndsNoPhaseEarly now choice (played now choice).world (counts_through first choices counts)
 
 -- the same of a program, within a limit that a machine may have
 abbrev pub NoPhaseEndsEarly : Program → Origin → Type 0

@@ -11,7 +11,7 @@ use Rattle.thread_machine.specs.declared.fault.StepFault.TheVariants as fault
 use Rattle.thread_machine.specs.World.{StoredWorld, world_of}
 use Rattle.thread_machine.specs.Ready.{is_choice_ready}
 use Rattle.thread_machine.specs.Step.{played, refusal_of, puts_out}
-use Rattle.thread_machine.specs.DirectCounts.{counts_after, EndsNoPhaseEarly, NumbersStay}
+use Rattle.thread_machine.specs.DirectCounts.{counts_after, ChoiceEndsNoPhaseEarly, NumbersStay}
 use Rattle.thread_machine.specs.Undo.{undone, CanUndo}
 
 -- the choice is played, and what is saved of the world before undoes it; or it is refused for its reason, and nothing has
@@ -29,7 +29,7 @@ pub record IsStep (old : StoredWorld) (choice : Choice) (result : Result Event S
   pub counts : OnOk result ((counts : Origin) → AreTallied (phasers_of old.scene.phasers) counts
       → AreTallied (phasers_of new.scene.phasers) (counts_after (world_of old) choice (world_of new) counts))
   pub safe : OnOk result ((counts : Origin) → AreTallied (phasers_of old.scene.phasers) counts
-      → EndsNoPhaseEarly (world_of old) choice (world_of new) counts)
+      → ChoiceEndsNoPhaseEarly (world_of old) choice (world_of new) counts)
   pub numbers : OnOk result (NumbersStay (phasers_of old.scene.phasers) (phasers_of new.scene.phasers))
   pub err : OnErr result (new ≡ old)
 

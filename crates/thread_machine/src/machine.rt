@@ -318,7 +318,7 @@ impl Machine {
         }
     }
 
-    /// A law: what is true of every machine. Nothing runs.
+    /// A law: every machine fulfils this. Nothing runs.
     fn is_sound(&self)
         ensures { IsMachine self.now }
     {

@@ -11,8 +11,8 @@ pub record Recording : Type 0 where
   pub choices : List Choice
 
 -- the world that the choices lead to
-abbrev pub world_after : Recording → World
-world_after recording = (execution recording.first recording.choices).world
+abbrev pub recorded_world : Recording → World
+recorded_world recording = (execution recording.first recording.choices).world
 
 -- nothing was chosen yet
 abbrev pub begun : World → Recording

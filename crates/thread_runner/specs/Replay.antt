@@ -6,13 +6,13 @@ use Rattle.schedule_reader.specs.Record.{IsNamed, record_text}
 use Rattle.schedule_reader.specs.Schedule.{finished_schedule}
 use Rattle.thread_runner.specs.declared.fault.LiveFault.{LiveFault}
 use Rattle.thread_runner.specs.declared.fault.LiveFault.TheVariants as fault
-use Rattle.thread_runner.specs.Recording.{Recording, recording_of, world_after}
+use Rattle.thread_runner.specs.Recording.{Recording, recording_of, recorded_world}
 use Rattle.thread_runner.specs.Turns.{AreDue}
 
 -- the choices, played from the first world, lead to this one; each was accepted and took a step, so that none was idle and
 -- they are at most as many as the limit; and each was one that its thread had to make
 pub record IsReplay (recording : Recording) (world : World) : Type 0 where
-  pub leads : world_after recording ≡ world
+  pub leads : recorded_world recording ≡ world
   pub accepted : (execution recording.first recording.choices).refusal ≡ None
   pub due : AreDue recording.first recording.choices
   pub choices : world.choices ≡ length recording.choices

@@ -4,7 +4,7 @@ ghost use Rattle.thread_machine.specs.Ready.{is_choice_ready};
 ghost use Rattle.thread_machine.specs.Step.{played};
 ghost use Rattle.schedule_reader.specs.Schedule.{choices_of, finished_schedule};
 ghost use Rattle.schedule_reader.specs.Record.{record_text};
-ghost use Rattle.thread_runner.specs.Recording.{world_after, begun, recording_of, with_choice};
+ghost use Rattle.thread_runner.specs.Recording.{recorded_world, begun, recording_of, with_choice};
 ghost use Rattle.thread_runner.specs.Turns.{turn_of, expiry_of, choice_in, is_ready_in, can_expire_in, is_due, may_choose, some_turn, some_lower, IsDue};
 ghost use Rattle.thread_runner.specs.Replay.{IsRecordOf, IsReplay};
 ghost use Rattle.thread_runner.specs.Endings.{ending_of};
@@ -55,13 +55,13 @@ impl Journaled {
     /// Takes a thread's turn, and records it.
     pub fn take_step(&mut self, thread: u8) -> Result<Event, TakeFault>
         requires { thread < length self.old.first.scene.threads }
-        ensures played { IfOk result (λ event. record { world = world_after self.new; event = event }
-            ≡ played (world_after self.old) (turn_of thread)) }
+        ensures played { IfOk result (λ event. record { world = recorded_world self.new; event = event }
+            ≡ played (recorded_world self.old) (turn_of thread)) }
         ensures recorded { OnOk result (self.new ≡ with_choice (turn_of thread) self.old) }
         ensures not_ready { (result ≡ Err TakeFault.NotReady)
-            ↔ (is_ready_in (world_after self.old) thread ≡ false) }
-        ensures limit { (result ≡ Err TakeFault.StepLimit) ↔ ((is_ready_in (world_after self.old) thread ≡ true)
-            × ((world_after self.old).limit ≤ (world_after self.old).steps)) }
+            ↔ (is_ready_in (recorded_world self.old) thread ≡ false) }
+        ensures limit { (result ≡ Err TakeFault.StepLimit) ↔ ((is_ready_in (recorded_world self.old) thread ≡ true)
+            × ((recorded_world self.old).limit ≤ (recorded_world self.old).steps)) }
         ensures err { OnErr result (self.new ≡ self.old) }
     {
         if !self.machine.is_ready(thread) {
@@ -77,13 +77,13 @@ impl Journaled {
     /// thread first.
     pub fn take_expiry(&mut self, thread: u8) -> Result<Event, TakeFault>
         requires { thread < length self.old.first.scene.threads }
-        ensures played { IfOk result (λ event. record { world = world_after self.new; event = event }
-            ≡ played (world_after self.old) (expiry_of thread)) }
+        ensures played { IfOk result (λ event. record { world = recorded_world self.new; event = event }
+            ≡ played (recorded_world self.old) (expiry_of thread)) }
         ensures recorded { OnOk result (self.new ≡ with_choice (expiry_of thread) self.old) }
         ensures not_ready { (result ≡ Err TakeFault.NotReady)
-            ↔ (is_due (world_after self.old) thread ≡ false) }
-        ensures limit { (result ≡ Err TakeFault.StepLimit) ↔ ((is_due (world_after self.old) thread ≡ true)
-            × ((world_after self.old).limit ≤ (world_after self.old).steps)) }
+            ↔ (is_due (recorded_world self.old) thread ≡ false) }
+        ensures limit { (result ≡ Err TakeFault.StepLimit) ↔ ((is_due (recorded_world self.old) thread ≡ true)
+            × ((recorded_world self.old).limit ≤ (recorded_world self.old).steps)) }
         ensures err { OnErr result (self.new ≡ self.old) }
     {
         self.has_few_threads();
@@ -99,14 +99,14 @@ impl Journaled {
     /// Plays a choice that is ready, and records it. There is room in the record before anything is played.
     fn take(&mut self, choice: Choice) -> Result<Event, TakeFault>
         requires thread { choice.thread < length self.old.first.scene.threads }
-        requires ready { is_choice_ready (world_after self.old).program choice (world_after self.old).scene ≡ true }
-        requires due { IsDue (world_after self.old) choice }
-        ensures played { IfOk result (λ event. record { world = world_after self.new; event = event }
-            ≡ played (world_after self.old) choice) }
+        requires ready { is_choice_ready (recorded_world self.old).program choice (recorded_world self.old).scene ≡ true }
+        requires due { IsDue (recorded_world self.old) choice }
+        ensures played { IfOk result (λ event. record { world = recorded_world self.new; event = event }
+            ≡ played (recorded_world self.old) choice) }
         ensures recorded { OnOk result (self.new ≡ with_choice choice self.old) }
         ensures ready { result ≢ Err TakeFault.NotReady }
         ensures limit { (result ≡ Err TakeFault.StepLimit)
-            ↔ ((world_after self.old).limit ≤ (world_after self.old).steps) }
+            ↔ ((recorded_world self.old).limit ≤ (recorded_world self.old).steps) }
         ensures err { OnErr result (self.new ≡ self.old) }
     {
         self.has_few_threads();
@@ -128,7 +128,7 @@ impl Journaled {
     /// Returns how many threads there are, 1 to 64.
     pub fn thread_count(&self) -> usize
         ensures count { result ≡ length self.now.first.scene.threads }
-        ensures now { result ≡ length (world_after self.now).scene.threads }
+        ensures now { result ≡ length (recorded_world self.now).scene.threads }
         ensures few { result ≤ 64 }
     {
         self.machine.thread_count()
@@ -137,7 +137,7 @@ impl Journaled {
     /// A law: there are at most 64 threads, and as many as at first. Nothing of it is used.
     fn has_few_threads(&self)
         ensures few { length self.now.first.scene.threads ≤ 64 }
-        ensures now { length (world_after self.now).scene.threads ≡ length self.now.first.scene.threads }
+        ensures now { length (recorded_world self.now).scene.threads ≡ length self.now.first.scene.threads }
     {
         let _ = self.thread_count();
     }
@@ -145,7 +145,7 @@ impl Journaled {
     /// Returns whether a thread's turn would be a step.
     pub fn is_ready(&self, thread: u8) -> bool
         requires { thread < length self.now.first.scene.threads }
-        ensures { result ≡ is_ready_in (world_after self.now) thread }
+        ensures { result ≡ is_ready_in (recorded_world self.now) thread }
     {
         self.machine.is_ready(thread)
     }
@@ -153,7 +153,7 @@ impl Journaled {
     /// Returns whether a thread's wait is the next to expire.
     pub fn is_due(&self, thread: u8) -> bool
         requires { thread < length self.now.first.scene.threads }
-        ensures { result ≡ is_due (world_after self.now) thread }
+        ensures { result ≡ is_due (recorded_world self.now) thread }
     {
         self.can_expire(thread) && !self.some_turn() && !self.some_lower(thread)
     }
@@ -161,7 +161,7 @@ impl Journaled {
     /// Returns whether the thread's timed wait can expire.
     fn can_expire(&self, thread: u8) -> bool
         requires { thread < length self.now.first.scene.threads }
-        ensures { result ≡ can_expire_in (world_after self.now) thread }
+        ensures { result ≡ can_expire_in (recorded_world self.now) thread }
     {
         self.machine.can_expire(thread)
     }
@@ -169,7 +169,7 @@ impl Journaled {
     /// Returns whether a thread has a choice to make: it is ready, or its wait is the next to expire.
     pub fn may_choose(&self, thread: u8) -> bool
         requires { thread < length self.now.first.scene.threads }
-        ensures { result ≡ may_choose (world_after self.now) thread }
+        ensures { result ≡ may_choose (recorded_world self.now) thread }
     {
         self.is_ready(thread) || self.is_due(thread)
     }
@@ -177,7 +177,7 @@ impl Journaled {
     /// Returns whether a thread has ended or died.
     pub fn has_finished(&self, thread: u8) -> bool
         requires { thread < length self.now.first.scene.threads }
-        ensures { result ≡ has_finished (world_after self.now) thread }
+        ensures { result ≡ has_finished (recorded_world self.now) thread }
     {
         matches!(self.machine.status(thread), Status::Ended | Status::Died(_))
     }
@@ -186,11 +186,11 @@ impl Journaled {
     pub fn take_choice(&mut self, thread: u8) -> Result<Event, TakeFault>
         requires { thread < length self.old.first.scene.threads }
         ensures recorded { OnOk result
-            (self.new ≡ with_choice (choice_in (world_after self.old) thread) self.old) }
+            (self.new ≡ with_choice (choice_in (recorded_world self.old) thread) self.old) }
         ensures not_ready { (result ≡ Err TakeFault.NotReady)
-            ↔ (may_choose (world_after self.old) thread ≡ false) }
-        ensures limit { (result ≡ Err TakeFault.StepLimit) ↔ ((may_choose (world_after self.old) thread ≡ true)
-            × ((world_after self.old).limit ≤ (world_after self.old).steps)) }
+            ↔ (may_choose (recorded_world self.old) thread ≡ false) }
+        ensures limit { (result ≡ Err TakeFault.StepLimit) ↔ ((may_choose (recorded_world self.old) thread ≡ true)
+            × ((recorded_world self.old).limit ≤ (recorded_world self.old).steps)) }
         ensures err { OnErr result (self.new ≡ self.old) }
     {
         if self.is_ready(thread) {
@@ -205,7 +205,7 @@ impl Journaled {
     /// Makes the choice of the lowest thread that has one to make.
     #[tactic(auto, using(crate::proofs::Choosing::step_left))]
     pub fn take_next(&mut self) -> Result<Event, TakeFault>
-        requires { ending_of (world_after self.old) ≡ None }
+        requires { ending_of (recorded_world self.old) ≡ None }
         ensures first { self.new.first ≡ self.old.first }
         ensures more { OnOk result (length self.new.choices ≡ length self.old.choices + 1) }
         ensures memory { IfErr result (λ fault. fault ≡ TakeFault.Memory) }
@@ -219,16 +219,16 @@ impl Journaled {
         unreachable!()
     }
 
-    /// A law: what is true of every record. Nothing runs.
+    /// A law: every record is a replay. Nothing runs.
     pub fn each_record_is_a_replay(&self)
-        ensures { IsReplay self.now (world_after self.now) }
+        ensures { IsReplay self.now (recorded_world self.now) }
     {
         let _ = &self.schedule;
     }
 
     /// Returns whether some thread is ready.
     fn some_turn(&self) -> bool
-        ensures { result ≡ some_turn (world_after self.now) }
+        ensures { result ≡ some_turn (recorded_world self.now) }
     {
         for t in 0..self.thread_count() {
             if self.is_ready(t as u8) {
@@ -241,7 +241,7 @@ impl Journaled {
     /// Returns whether the timed wait of some lower thread can expire.
     fn some_lower(&self, thread: u8) -> bool
         requires { thread < length self.now.first.scene.threads }
-        ensures { result ≡ some_lower (world_after self.now) thread }
+        ensures { result ≡ some_lower (recorded_world self.now) thread }
     {
         for t in 0..thread {
             if self.can_expire(t) {
@@ -253,7 +253,7 @@ impl Journaled {
 
     /// The machine that the recorded choices lead to.
     pub fn machine(&self) -> &Machine
-        ensures world { world_of result.now ≡ world_after self.now }
+        ensures world { world_of result.now ≡ recorded_world self.now }
         ensures threads { length result.now.scene.threads ≡ length self.now.first.scene.threads }
     {
         &self.machine
@@ -280,7 +280,7 @@ impl Journaled {
 
     /// Returns how the run has ended, or `None` if some choice can still take a step.
     pub fn ending(&self) -> Option<Ending>
-        ensures { result ≡ ending_of (world_after self.now) }
+        ensures { result ≡ ending_of (recorded_world self.now) }
     {
         if self.machine.ended() {
             return Some(Ending::AllEnded);

@@ -1,6 +1,6 @@
 ghost use Rattle.std.specs.Prelude.{◌≡◌, ◌⊎◌, ◌<◌, length, true, false, is_some, Some, None};
 ghost use Rattle.thread_machine.specs.World.{World};
-ghost use Rattle.thread_runner.specs.Recording.{world_after, with_choice, no_world};
+ghost use Rattle.thread_runner.specs.Recording.{recorded_world, with_choice, no_world};
 ghost use Rattle.thread_runner.specs.Turns.{choice_in};
 ghost use Rattle.thread_runner.specs.Waiting.{leaves, waits};
 
@@ -56,7 +56,7 @@ impl<O: Origin> Live<O> {
     /// Returns whether the worker of a thread stops.
     pub fn leaves(&self, thread: u8) -> bool
         requires { thread < length O.first.scene.threads }
-        ensures { result ≡ leaves self.now.broken (world_after self.now.journaled) thread }
+        ensures { result ≡ leaves self.now.broken (recorded_world self.now.journaled) thread }
     {
         self.broken.is_some()
             || self.journaled.has_finished(thread)
@@ -66,7 +66,7 @@ impl<O: Origin> Live<O> {
     /// Returns whether the worker of a thread waits.
     pub fn waits(&self, thread: u8) -> bool
         requires { thread < length O.first.scene.threads }
-        ensures { result ≡ waits self.now.broken (world_after self.now.journaled) thread }
+        ensures { result ≡ waits self.now.broken (recorded_world self.now.journaled) thread }
     {
         !self.journaled.may_choose(thread) && !self.leaves(thread)
     }
@@ -74,7 +74,7 @@ impl<O: Origin> Live<O> {
     /// Returns whether the worker of a thread waits, and notes it.
     pub fn falls_asleep(&mut self, thread: u8) -> bool
         requires { thread < length O.first.scene.threads }
-        ensures waits { result ≡ waits self.old.broken (world_after self.old.journaled) thread }
+        ensures waits { result ≡ waits self.old.broken (recorded_world self.old.journaled) thread }
         ensures journaled { self.new.journaled ≡ self.old.journaled }
         ensures broken { self.new.broken ≡ self.old.broken }
     {
@@ -101,14 +101,14 @@ impl<O: Origin> Live<O> {
     /// The turn of a worker that needn't wait: it makes its thread's choice and goes on, or it stops.
     pub fn turn(&mut self, thread: u8) -> bool
         requires there { thread < length O.first.scene.threads }
-        requires waits { waits self.old.broken (world_after self.old.journaled) thread ≡ false }
+        requires waits { waits self.old.broken (recorded_world self.old.journaled) thread ≡ false }
         ensures goes_on { result ≡ true
-            → (leaves self.old.broken (world_after self.old.journaled) thread ≡ false)
+            → (leaves self.old.broken (recorded_world self.old.journaled) thread ≡ false)
             × (self.new.broken ≡ self.old.broken)
             × (self.new.journaled
-            ≡ with_choice (choice_in (world_after self.old.journaled) thread) self.old.journaled) }
+            ≡ with_choice (choice_in (recorded_world self.old.journaled) thread) self.old.journaled) }
         ensures stops { result ≡ false → (self.new.journaled ≡ self.old.journaled)
-            × (((leaves self.old.broken (world_after self.old.journaled) thread ≡ true)
+            × (((leaves self.old.broken (recorded_world self.old.journaled) thread ≡ true)
             × (self.new.broken ≡ self.old.broken)) ⊎ (self.new.broken ≡ Some Break.Memory)) }
     {
         if self.leaves(thread) {

@@ -2,7 +2,7 @@ ghost use Rattle.std.specs.Prelude.{◌≡◌, ◌≢◌, ◌↔◌, ◌*◌, �
 ghost use Rattle.std.specs.Thread.{IsSend, IsSync};
 ghost use Rattle.thread_machine.specs.World.{world_of, first_world};
 ghost use Rattle.thread_runner.specs.declared.live.Break.{Break};
-ghost use Rattle.thread_runner.specs.Recording.{world_after};
+ghost use Rattle.thread_runner.specs.Recording.{recorded_world};
 ghost use Rattle.thread_runner.specs.Replay.{HasLeft, IsRecordOf};
 ghost use Rattle.thread_runner.specs.Endings.{ending_of};
 ghost use Rattle.thread_runner.specs.Waiting.{waits};
@@ -56,7 +56,7 @@ fn work<O: Origin, R: Wait, G: Gate>(
             lock.lock(rt),
             |live| -> bool
                 requires { thread < length O.first.scene.threads }
-                ensures { (result ≡ waits live.old.broken (world_after live.old.journaled) thread)
+                ensures { (result ≡ waits live.old.broken (recorded_world live.old.journaled) thread)
                     × (live.new.journaled ≡ live.old.journaled) × (live.new.broken ≡ live.old.broken) }
             { live.falls_asleep(thread) },
         );
@@ -113,7 +113,7 @@ fn start<O: Origin + Send + Sync, R: Threads + Wait + Sync, G: Gate + Sync>(
 /// Plays a run that isn't over to its end, choice by choice. The workers have left none to play.
 fn play_on(mut journaled: Journaled) -> Result<(Journaled, Ending), LiveFault>
     ensures first { IfOk result (λ both. both.0.first ≡ journaled.first) }
-    ensures ending { IfOk result (λ both. ending_of (world_after both.0) ≡ Some both.1) }
+    ensures ending { IfOk result (λ both. ending_of (recorded_world both.0) ≡ Some both.1) }
     ensures left { IfErr result (HasLeft journaled.first) }
     ensures spawn { result ≢ Err LiveFault.Spawn }
 {
@@ -140,7 +140,7 @@ fn out_of_memory(journaled: Journaled) -> LiveFault
 /// Returns what the workers left, when all have ended.
 fn end<O: Origin>(live: Live<O>) -> Result<(Journaled, Ending), LiveFault>
     ensures first { IfOk result (λ both. both.0.first ≡ O.first) }
-    ensures ending { IfOk result (λ both. ending_of (world_after both.0) ≡ Some both.1) }
+    ensures ending { IfOk result (λ both. ending_of (recorded_world both.0) ≡ Some both.1) }
     ensures left { IfErr result (HasLeft O.first) }
     ensures spawn { (result ≡ Err LiveFault.Spawn) ↔ (live.broken ≡ Some Break.Spawn) }
 {
@@ -159,7 +159,7 @@ fn run_of<O: Origin + Send + Sync, R: Threads + Wait + Sync, G: Gate + Sync>(
 ) -> Result<(Journaled, Ending), LiveFault>
     requires { journaled.first ≡ O.first }
     ensures first { IfOk result (λ both. both.0.first ≡ O.first) }
-    ensures ending { IfOk result (λ both. ending_of (world_after both.0) ≡ Some both.1) }
+    ensures ending { IfOk result (λ both. ending_of (recorded_world both.0) ≡ Some both.1) }
     ensures left { IfErr result (HasLeft O.first) }
 {
     let count = journaled.thread_count() as u8;
@@ -188,7 +188,7 @@ fn recorded<R: Threads + Wait + Sync, G: Gate + Sync>(
     gate: &G,
 ) -> Result<(Journaled, Ending), LiveFault>
     ensures first { IfOk result (λ both. both.0.first ≡ journaled.first) }
-    ensures ending { IfOk result (λ both. ending_of (world_after both.0) ≡ Some both.1) }
+    ensures ending { IfOk result (λ both. ending_of (recorded_world both.0) ≡ Some both.1) }
     ensures left { IfErr result (HasLeft journaled.first) }
 {
     run_of::<Brand, R, G>(rt, journaled, gate)
@@ -196,7 +196,7 @@ fn recorded<R: Threads + Wait + Sync, G: Gate + Sync>(
 
 /// A record whose run has ended.
 fn ended(journaled: Journaled, ending: Ending) -> LiveRun
-    requires { ending_of (world_after journaled) ≡ Some ending }
+    requires { ending_of (recorded_world journaled) ≡ Some ending }
     ensures record { IsRecordOf journaled.first result.schedule.items (world_of result.machine) }
     ensures ending { ending_of (world_of result.machine) ≡ Some result.ending }
 {

@@ -21,9 +21,9 @@ pub fn what_is_the_same_is_the_trace_of_its_choices()
         → trace ≡ trace_of world (choices_of_trace trace) }
 {}
 
-/// The trace of any choices of threads from 0 to 63 has the verdict `Same`, from whatever world they are played: with the law
-/// above, the traces of choices are just those that are the same. Where a program begins no choice was made yet, so there the
-/// bound says nothing.
+/// The trace of any choices of threads from 0 to 63 has the verdict `Same`, from whatever world they are played. So, with the
+/// law above, a text has the verdict `Same` exactly if it is the trace of choices. At the beginning of a program no choice
+/// was made yet, so the bound holds there.
 pub fn the_trace_of_any_choices_is_the_same()
     ensures { (world : World) (choices : List Choice) → world.choices ≤ 1000000000000
         → All (λ choice. choice.thread ≤ 63) choices → verdict_of world (trace_of world choices) ≡ Same }
@@ -51,7 +51,7 @@ pub fn the_choices_of_a_trace_are_those_that_it_shows()
         → shown world choices ≡ choices }
 {}
 
-/// And they have that trace: nothing of what a trace says is lost with its schedule.
+/// The choices that a trace shows have this trace, so a trace can be made again from its schedule.
 pub fn the_choices_of_a_trace_have_that_trace()
     ensures { (world : World) (choices : List Choice) → trace_of world (shown world choices) ≡ trace_of world choices }
 {}

@@ -110,8 +110,8 @@ fn guide<'a>(rt: &HostRuntime, program: Program<'_>, steps: OpenSteps<'_>) -> An
     greet(rt, &program)?;
     match steps {
         OpenSteps::Beside => session_of_person(rt, program, None),
-        OpenSteps::Plan(plan) => {
-            let runs = runs_of_plan(rt, &program, plan.as_slice())?;
+        OpenSteps::Plan(name, plan) => {
+            let runs = runs_of_plan(rt, &program, name, plan.as_slice())?;
             session_of_person(rt, program, Some(runs.as_slice()))
         }
         OpenSteps::Named(trace) => session_of_person_at(rt, program, trace),
@@ -119,29 +119,25 @@ fn guide<'a>(rt: &HostRuntime, program: Program<'_>, steps: OpenSteps<'_>) -> An
 }
 
 /// Carries out the commands on standard input on the program in a file, after the choices that the arguments name. A person at
-/// a terminal is guided.
+/// a terminal is guided. If the file of a trace isn't a trace, this is explained.
 pub fn debug<'a>(rt: &HostRuntime, file: &'a str, steps: Steps<'a>) -> Answer<'a> {
-    let done = debugged(rt, file, steps)?;
+    let (file, open) = opened(rt, file, steps, Holds::Trace)?;
+    let program = program_in(rt.alloc(), file.as_slice())?;
+    let done = if rt.stdin().is_terminal() && rt.stderr().is_terminal() {
+        guide(rt, program, open)?
+    } else {
+        let mut commands = BlockSource::new(rt.alloc(), ReadPort::new(rt.stdin()))?;
+        match open {
+            OpenSteps::Beside => session(rt, program.image, None, &mut commands)?,
+            OpenSteps::Plan(name, plan) => {
+                let runs = runs_of_plan(rt, &program, name, plan.as_slice())?;
+                session(rt, program.image, Some(runs.as_slice()), &mut commands)?
+            }
+            OpenSteps::Named(trace) => session_at(rt, program.image, trace)?,
+        }
+    };
     if let (Done::Unlike, Steps::Named(trace)) = (done, steps) {
         push_no_trace(rt, trace);
     }
     Ok(done)
-}
-
-/// The session itself.
-fn debugged<'a>(rt: &HostRuntime, file: &'a str, steps: Steps<'a>) -> Answer<'a> {
-    let (file, steps) = opened(rt, file, steps, Holds::Trace)?;
-    let program = program_in(rt.alloc(), file.as_slice())?;
-    if rt.stdin().is_terminal() && rt.stderr().is_terminal() {
-        return guide(rt, program, steps);
-    }
-    let mut commands = BlockSource::new(rt.alloc(), ReadPort::new(rt.stdin()))?;
-    match steps {
-        OpenSteps::Beside => session(rt, program.image, None, &mut commands),
-        OpenSteps::Plan(plan) => {
-            let runs = runs_of_plan(rt, &program, plan.as_slice())?;
-            session(rt, program.image, Some(runs.as_slice()), &mut commands)
-        }
-        OpenSteps::Named(trace) => session_at(rt, program.image, trace),
-    }
 }

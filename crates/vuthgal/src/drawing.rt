@@ -1,6 +1,6 @@
 //! Pictures of a run: the page, and the text.
 
-use crate::help;
+use crate::help::{Files, push_missing};
 use crate::schedule::Schedule;
 use crate::steps::{Holds, opened};
 use crate::trouble::{Answer, Trouble};
@@ -19,6 +19,7 @@ pub fn draw<'a, P: Picture>(
     file: &'a str,
     steps: Steps<'a>,
 ) -> Answer<'a> {
+    let files = Files::of_run(file, steps);
     let (file, steps) = opened(rt, file, steps, Holds::Schedule)?;
     let (text, beside) = steps.parts(rt, file.as_slice());
     let program = program_in(rt.alloc(), text)?;
@@ -31,6 +32,6 @@ pub fn draw<'a, P: Picture>(
     );
     let missing = schedule.told(made)?;
     let missing = flushed(Ok(missing), &mut output)?;
-    help::push_missing(rt, missing);
+    push_missing(rt, missing, files);
     Ok(Done::AsAsked)
 }

@@ -7,9 +7,9 @@ use byte_ports::{Failed, Sink, WritePort};
 use command_line::request::{Request, Steps};
 use commands::unplanned::Unplanned;
 use plans::fault::PlanFault;
-use refusals::place::{Named, ProgramFile, push_meaning, push_place};
-use refusals::push_plan_place;
+use refusals::place::{Named, ProgramFile, push_meaning};
 use refusals::typed::{is_unquoted_plan, push_typed, push_word};
+use refusals::{push_choice_place, push_place, push_plan_place, push_stopped_plan};
 use std::alloc::AllocError;
 use std::fmt::Display;
 use std::fs;
@@ -24,6 +24,9 @@ const LONGEST: u64 = 16_777_216;
 const INPUT: &str = "/dev/stdin";
 
 const STANDARD_INPUT: &str = "standard input";
+
+/// The name of a plan that is an argument itself.
+pub const ARGUMENT: &str = "--plan";
 
 /// The name of standard output as a file.
 const OUTPUT: &str = "/dev/stdout";
@@ -42,7 +45,7 @@ pub struct Files<'a> {
 }
 
 /// A word that may name standard input.
-fn named(word: &str) -> &str {
+pub fn named(word: &str) -> &str {
     if word == "-" { INPUT } else { word }
 }
 
@@ -93,6 +96,23 @@ impl<'a> Files<'a> {
         }
     }
 
+    /// Those of a run: the program's, and that of its steps.
+    pub fn of_run(program: &'a str, steps: Steps<'a>) -> Files<'a> {
+        let (schedule, plan) = words_of(steps);
+        Files {
+            program,
+            schedule,
+            plan,
+            output: None,
+            input: None,
+        }
+    }
+
+    /// Standard input, with a program and its schedule.
+    pub fn of_input() -> Files<'static> {
+        Files::of_run(INPUT, Steps::Beside)
+    }
+
     /// Returns the files, with this much read of standard input.
     pub fn with_input(self, input: &'a [u8]) -> Files<'a> {
         Files {
@@ -132,7 +152,14 @@ fn push_unreadable(rt: &HostRuntime, path: &str) -> bool {
     let metadata = match fs::metadata(rt, path) {
         Ok(metadata) => metadata,
         Err(error) => {
-            push_text(rt, format!(in rt.alloc(); "{name}: {error}\n"));
+            push_text(
+                rt,
+                if path == INPUT {
+                    format!(in rt.alloc(); "{name}: it is closed\n")
+                } else {
+                    format!(in rt.alloc(); "{name}: {error}\n")
+                },
+            );
             return true;
         }
     };
@@ -151,13 +178,16 @@ fn push_unreadable(rt: &HostRuntime, path: &str) -> bool {
     }
 }
 
-/// Says which file can't be read.
-fn push_unread(rt: &HostRuntime, files: Files<'_>) {
+/// Says which file can't be read, and if its name among these arguments is a plan, how that should be typed.
+fn push_unread(rt: &HostRuntime, files: Files<'_>, words: &[String]) {
     let is_program = push_unreadable(rt, files.program);
     let is_other = match files.schedule {
         Some(schedule) => push_unreadable(rt, schedule),
         None => false,
     };
+    if let (true, Some(schedule)) = (is_other, files.schedule) {
+        push_plan_meant(rt, schedule, words);
+    }
     if !is_program && !is_other {
         let name = told(files.schedule.unwrap_or(files.program));
         push_text(rt, format!(in rt.alloc(); "{name}: a read failed\n"));
@@ -183,8 +213,9 @@ pub fn push_words(rt: &HostRuntime, fault: Fault) {
     }
 }
 
-/// Shows the place of a fault, and says what it means. It says nothing about a pipe that takes no more: its reader has gone.
-pub fn push_help(rt: &HostRuntime, fault: Fault, files: Files<'_>) {
+/// Shows the place of a fault of a command with these words, and says what it means. It says nothing about a pipe that takes no
+/// more: its reader has gone.
+pub fn push_help(rt: &HostRuntime, fault: Fault, files: Files<'_>, words: &[String]) {
     match fault {
         Fault::Write if files.output.is_none() && writes_to_pipe(rt) => {}
         _ if !is_to_be_explained(rt) => {}
@@ -196,7 +227,7 @@ pub fn push_help(rt: &HostRuntime, fault: Fault, files: Files<'_>) {
             None,
         ),
         Fault::Read => {
-            push_unread(rt, files);
+            push_unread(rt, files, words);
             push_place_of(rt, fault, program_file(files.program, &[]), None);
         }
         Fault::Write => {
@@ -239,6 +270,20 @@ fn push_refusal(rt: &HostRuntime, fault: Fault, files: Files<'_>) {
     push_place_of(rt, fault, program, schedule);
 }
 
+/// Says how the plan in a file is played, if an argument that is to be a plan is the name of one.
+fn push_plan_is_file(rt: &HostRuntime, plan: &str) {
+    let is_file = match fs::metadata(rt, plan) {
+        Ok(metadata) => metadata.is_file(),
+        Err(_) => false,
+    };
+    if is_file {
+        push_text(
+            rt,
+            format!(in rt.alloc(); "{plan} is a file: `--plan-file {plan}` plays the plan in it\n"),
+        );
+    }
+}
+
 /// Shows the place of a plan's fault, and says what it means.
 pub fn push_plan_help(rt: &HostRuntime, fault: PlanFault, files: Files<'_>) {
     if !is_to_be_explained(rt) {
@@ -247,26 +292,23 @@ pub fn push_plan_help(rt: &HostRuntime, fault: PlanFault, files: Files<'_>) {
     let program = contents(rt, files.program);
     let program = program_file(files.program, program.as_slice());
     let name = files.schedule.unwrap_or(INPUT);
-    let bytes = match files.plan {
-        Some(_) => Vec::new(rt.alloc()),
-        None => contents(rt, name),
+    let bytes = match (files.plan, files.input) {
+        (None, None) => contents(rt, name),
+        _ => Vec::new(rt.alloc()),
     };
-    let plan = match files.plan {
-        Some(plan) => {
-            if fs::metadata(rt, plan).is_ok() {
-                push_text(
-                    rt,
-                    format!(in rt.alloc();
-                        "{plan} is a file: `--plan-file {plan}` plays the plan in it\n"
-                    ),
-                );
-            }
+    let plan = match (files.plan, files.input) {
+        (Some(plan), _) => {
+            push_plan_is_file(rt, plan);
             Named {
-                name: "--plan",
+                name: ARGUMENT,
                 bytes: plan.as_bytes(),
             }
         }
-        None => Named {
+        (None, Some(bytes)) => Named {
+            name: STANDARD_INPUT,
+            bytes,
+        },
+        (None, None) => Named {
             name,
             bytes: bytes.as_slice(),
         },
@@ -275,8 +317,32 @@ pub fn push_plan_help(rt: &HostRuntime, fault: PlanFault, files: Files<'_>) {
     let _ = push_plan_place(rt.alloc(), fault, program, plan, &mut errors);
 }
 
-/// Reports the choice of a thread that doesn't exist, if one ended the run that was shown.
-pub fn push_missing(rt: &HostRuntime, missing: Option<(u64, Choice)>) {
+/// Reports which plan wanted one more choice than it may make, and says what helps.
+pub fn push_stopped(rt: &HostRuntime, plan: &str) {
+    let _ = WritePort::new(rt.stderr()).push(b"stopped at 1000000 choices\n");
+    if is_to_be_explained(rt) {
+        let _ = push_stopped_plan(&mut WritePort::new(printable::errors(rt)), plan);
+    }
+}
+
+/// Shows the choice of this number, from 1, for which its file is read again, and says why it is refused.
+fn push_choice(rt: &HostRuntime, number: u64, files: Files<'_>) {
+    let program = contents(rt, files.program);
+    let program = program_file(files.program, program.as_slice());
+    let bytes = match files.schedule {
+        Some(name) => contents(rt, name),
+        None => Vec::new(rt.alloc()),
+    };
+    let schedule = files.schedule.map(|name| Named {
+        name,
+        bytes: bytes.as_slice(),
+    });
+    let mut errors = WritePort::new(printable::errors(rt));
+    let _ = push_choice_place(&mut errors, program, schedule, number);
+}
+
+/// Reports the choice of a thread that doesn't exist, if one ended the run of these files, and shows where it is.
+pub fn push_missing(rt: &HostRuntime, missing: Option<(u64, Choice)>, files: Files<'_>) {
     let Some((step, Choice { thread, expiry })) = missing else {
         return;
     };
@@ -288,6 +354,7 @@ pub fn push_missing(rt: &HostRuntime, missing: Option<(u64, Choice)>) {
                 "{step} {letter}{thread} - none: the program has no such thread; the rest wasn't played\n"
             ),
         );
+        push_choice(rt, step, files);
     }
 }
 
@@ -337,28 +404,64 @@ pub fn push_text(rt: &HostRuntime, text: Result<String, AllocError>) {
     }
 }
 
+/// Whether `-` is the value of `--plan-file` among these arguments.
+fn is_plan_file(words: &[String]) -> bool {
+    let mut is_value = false;
+    for word in words {
+        let word = word.as_str();
+        if is_value && word == "-" || word == "--plan-file=-" {
+            return true;
+        }
+        is_value = word == "--plan-file";
+    }
+    false
+}
+
+/// What is said if `-` isn't standard input.
+const NOT_INPUT: &str =
+    "`-` is standard input as SCHEDULE, TRACE or PLAN, but not as FILE; `vuthgal < FILE` plays a text with its schedule\n";
+
+/// The same for the plan's file.
+const NOT_PLAN_INPUT: &str = "`--plan-file /dev/stdin` reads the plan from standard input\n";
+
+/// Says how a plan should be typed, if a word in the place of a file is one among these arguments.
+fn push_plan_meant(rt: &HostRuntime, word: &str, words: &[String]) {
+    if let [_, command, words @ ..] = words {
+        if let Ok(true) = is_unquoted_plan(rt.alloc(), word, words) {
+            let mut errors = WritePort::new(printable::errors(rt));
+            let _ = push_typed(rt.alloc(), &mut errors, command.as_str(), words);
+        }
+    }
+}
+
 /// Says what may have been meant by the name of a file that can't be opened, among these arguments: a file with `.asm` after
 /// its name, or a plan.
 fn push_meant(rt: &HostRuntime, path: &str, words: &[String]) {
-    if path == "-" {
-        push_text(
-            rt,
-            format!(in rt.alloc();
-                "`-` is standard input as SCHEDULE, TRACE or PLAN, but not as FILE; \
-                `vuthgal < FILE` plays a text with its schedule\n"
-            ),
-        );
+    if path == "-" && is_plan_file(words) {
+        push_explained(rt, NOT_PLAN_INPUT);
+    } else if path == "-" {
+        push_explained(rt, NOT_INPUT);
     }
     if let Ok(near) = format!(in rt.alloc(); "{path}.asm") {
         if fs::metadata(rt, near.as_str()).is_ok() {
             push_text(rt, format!(in rt.alloc(); "  Near:    {near}\n"));
         }
     }
-    if let [_, command, words @ ..] = words {
-        if let Ok(true) = is_unquoted_plan(rt.alloc(), path, words) {
-            let mut errors = WritePort::new(printable::errors(rt));
-            let _ = push_typed(rt.alloc(), &mut errors, command.as_str(), words);
-        }
+    push_plan_meant(rt, path, words);
+}
+
+/// Returns what helps if this file among these arguments can't be opened, if that is more than its entry says: a plan is no file.
+fn helps_at_unread(path: &str, words: &[String]) -> Option<&'static str> {
+    let [_, command, file, ..] = words else {
+        return None;
+    };
+    match command.as_str() {
+        _ if file.as_str() == path => None,
+        "run" | "show" | "draw" | "debug" => Some(
+            "an existing file of up to 16777216 bytes, or `--plan PLAN` for a plan",
+        ),
+        "plan" => Some("an existing file of up to 16777216 bytes, or `-` for standard input"),
+        _ => None,
     }
 }
 
@@ -373,7 +476,9 @@ pub fn push_reason<R: Display>(
     if is_to_be_explained(rt) {
         push_text(rt, format!(in rt.alloc(); "{path}: {reason}\n"));
         push_meant(rt, path, words);
-        push_place_of(rt, fault, program_file(path, &[]), None);
+        let mut errors = WritePort::new(printable::errors(rt));
+        let helps = helps_at_unread(path, words);
+        let _ = push_meaning(rt.alloc(), &mut errors, Unplanned::Fault(fault), helps);
     }
 }
 

@@ -4,11 +4,13 @@ ghost use Rattle.std.specs.Prelude.{◌≤◌, IfSome};
 
 use crate::expectation::expectations;
 use crate::explaining::is_explained;
+use crate::help::Files;
 use crate::progress::{BehindProgress, Meter, trace_port};
 use crate::running::ended;
 use crate::trouble::Answer;
 use crate::{files, notes};
 use byte_ports::WritePort;
+use command_line::request::Steps;
 use commands::{Asked, Pauses, report_runs};
 use headline::shown;
 use row_code::Image;
@@ -23,6 +25,7 @@ use workbench::{Program, racing};
 fn live<'a, R: Threads + Wait + Sync>(
     threads: &R,
     rt: &HostRuntime,
+    files: Files<'_>,
     program: Program<'_>,
     limit: u32,
     pauses: Pauses,
@@ -49,6 +52,7 @@ fn live<'a, R: Threads + Wait + Sync>(
         program.bytes,
         expected,
         "live: some threads could still continue, but the limit of steps was reached\n",
+        files,
     )
 }
 
@@ -86,12 +90,13 @@ pub fn play_live<'a, R: Threads + Wait + Sync>(
     requires limit { limit ≤ 1000000000 }
     requires count { IfSome runs (λ n. n ≤ 100000) }
 {
+    let names = Files::of_run(file, Steps::Beside);
     let file = files::contents(rt, file)?;
     let program = program_in(rt.alloc(), file.as_slice())?;
     let expected = expectations(rt.alloc(), &program.names, expected)?;
     let expected = expected.as_slice();
     let Some(runs) = runs else {
-        return live(threads, rt, program, limit, pauses, expected);
+        return live(threads, rt, names, program, limit, pauses, expected);
     };
     let asked = Asked {
         runs,

@@ -1,8 +1,8 @@
-//! The program: finds the command that its words ask for, opens the files, and hands them to the command.
+//! The program: finds the command that its arguments ask for, opens the files, and passes them to the command.
 //!
-//! Each command is a function of a library, over ports. Here stands what meets the world: which ports a command gets (`running`,
-//! `drawing`, `living`, `texts`, `traces`, `planning`, `debugging`), files and streams (`files`, `input`, `steps`, `schedule`),
-//! the status of what went wrong (`trouble`), and what a person is told (`notes`, `progress`, `printable`, `help`,
+//! Each command is a function of a library, over ports. This crate has what meets the system: which ports a command gets
+//! (`running`, `drawing`, `living`, `texts`, `traces`, `planning`, `debugging`), files and streams (`files`, `input`, `steps`,
+//! `schedule`), the exit status of an error (`trouble`), and what a person is shown (`notes`, `progress`, `printable`, `help`,
 //! `explaining`).
 #![tactic(auto)]
 
@@ -121,11 +121,17 @@ fn done<'a, R: Threads + Wait + Sync>(
     }
 }
 
-/// Whether what is asked for is a run, of whose end something may be expected.
+/// Whether what is asked for is a run, or several, of whose end something may be expected.
 fn is_run(request: &Request<'_>) -> bool {
     matches!(
         request,
-        Request::Both { .. } | Request::Run { .. } | Request::Live { .. }
+        Request::Both { .. }
+            | Request::Run { .. }
+            | Request::Live { .. }
+            | Request::Plan {
+                orders: Some(_),
+                ..
+            }
     )
 }
 

@@ -1,5 +1,6 @@
 //! Why no command is begun.
 
+use crate::files::writes_to_pipe;
 use crate::help::{push_file_hint, push_reason, push_text, push_words};
 use crate::{printable, usage};
 use byte_ports::{Sink, WritePort};
@@ -21,6 +22,9 @@ const NOT_TEXT: &str = "error: an argument isn't UTF-8";
 
 /// What is written if `--explain` has a wrong value.
 const WRONG_WHEN: &str = "error: --explain WHEN: WHEN is always, auto or never";
+
+/// How a STATE of several words is written.
+const QUOTE: &str = "quote the STATE: `vuthgal --expect 'ann out 1'`";
 
 /// What plays kept runs again.
 const OF_CHECK: &[u8] =
@@ -56,14 +60,14 @@ fn ended(rt: &HostRuntime, answer: Result<Done, Fault>) -> u8 {
     settled(answer, &mut WritePort::new(rt.stderr()))
 }
 
-/// Tells that there is no memory. Answers the status.
+/// Reports that there is no memory. Returns the exit status.
 fn tell_memory(rt: &HostRuntime) -> u8 {
     let status = ended(rt, Err(Fault::Memory));
     push_words(rt, Fault::Memory);
     status
 }
 
-/// Tells what is wrong with the words, if there was memory for it. Answers the status.
+/// Reports what is wrong with the words, if there was memory for it. Returns the exit status.
 fn push_wrong(rt: &HostRuntime, text: Result<String, AllocError>) -> u8 {
     match text {
         Ok(text) => {
@@ -74,23 +78,47 @@ fn push_wrong(rt: &HostRuntime, text: Result<String, AllocError>) -> u8 {
     }
 }
 
-/// Tells why the words ask for nothing, or the help that they ask for. Answers the status.
+/// Writes a help or the version, and at a terminal why that isn't possible. Returns the exit status.
+fn tell_help(rt: &HostRuntime, help: &WordsError) -> u8 {
+    let Ok(text) = usage::help_of(rt, help) else {
+        return tell_memory(rt);
+    };
+    match print!(rt; "{text}") {
+        Ok(()) => ended(rt, Ok(Done::AsAsked)),
+        Err(_) if writes_to_pipe(rt) => ended(rt, Err(Fault::Write)),
+        Err(reason) => tell_reason(rt, Fault::Write, "standard output", &reason),
+    }
+}
+
+/// Reports why the words ask for nothing, or the help that they ask for. Returns the exit status.
 fn tell_words(rt: &HostRuntime, error: &WordsError, words: &[String]) -> u8 {
     if error.kind() == ErrorKind::OutOfMemory {
         return tell_memory(rt);
     }
     if !error.use_stderr() {
-        let printed = error.print(rt).map_err(|_| Fault::Write);
-        return ended(rt, printed.map(|()| Done::AsAsked));
+        return tell_help(rt, error);
     }
     let told = usage::told(rt, error);
+    let way = other_way(&told, error.kind());
     let is_enough = is_enough(&told);
-    let is_of_steps = has_part(&told, "only one of them");
+    let is_of_quotes = has_part(&told, "only one of them")
+        || has_part(&told, "--expect STATE: STATE is");
     let status = push_wrong(rt, told);
-    if status == WRONG_WORDS && !is_enough {
-        push_tip(rt, error.kind(), words, is_of_steps);
+    match way {
+        _ if status != WRONG_WORDS => {}
+        Some(way) => push_text(rt, format!(in rt.alloc(); "{way}\n")),
+        None if is_enough => {}
+        None => push_tip(rt, error.kind(), words, is_of_quotes),
     }
     status
+}
+
+/// Returns what to type instead of an unknown option, if it is known.
+fn other_way(told: &Result<String, AllocError>, kind: ErrorKind) -> Option<&'static str> {
+    match told {
+        Ok(text) if kind == ErrorKind::UnknownArgument => usage::other_way(text.as_str()),
+        _ => None,
+    }
 }
 
 /// Returns whether a text has this part.
@@ -110,11 +138,13 @@ fn is_enough(told: &Result<String, AllocError>) -> bool {
     has_part(told, "tip: a similar") || is_option && !has_own_tip
 }
 
-/// Tells what may have been meant by words that ask for nothing, or that name several of a schedule and a plan.
-fn push_tip(rt: &HostRuntime, kind: ErrorKind, words: &[String], is_of_steps: bool) {
+/// Reports what may have been meant by words that ask for nothing, or that may have no quotes.
+fn push_tip(rt: &HostRuntime, kind: ErrorKind, words: &[String], is_of_quotes: bool) {
     match (kind, words) {
         (ErrorKind::InvalidSubcommand, [_, help, word, ..]) if help.as_str() == "help" =>
             push_near_command(rt, word.as_str()),
+        (ErrorKind::InvalidSubcommand, [_, option, ..]) if option.as_str() == "--expect" =>
+            push_text(rt, format!(in rt.alloc(); "{QUOTE}\n")),
         (ErrorKind::InvalidSubcommand, [_, word, ..]) => {
             if !push_file_hint(rt, word.as_str()) {
                 push_near_command(rt, word.as_str());
@@ -125,20 +155,20 @@ fn push_tip(rt: &HostRuntime, kind: ErrorKind, words: &[String], is_of_steps: bo
             command.as_str(),
             rest,
         ),
-        (_, [_, command, rest @ ..]) if is_of_steps => {
+        (_, [_, command, rest @ ..]) if is_of_quotes => {
             let _ = push_as_typed(rt, command.as_str(), rest);
         }
         _ => {}
     }
 }
 
-/// Tells how a command should be typed that has a plan or a schedule in the wrong place. Answers whether it has.
+/// Reports how a command should be typed that has a plan or a schedule in the wrong place. Returns whether it has.
 fn push_as_typed(rt: &HostRuntime, command: &str, words: &[String]) -> bool {
     let mut errors = WritePort::new(printable::errors(rt));
     push_typed(rt.alloc(), &mut errors, command, words).unwrap_or(false)
 }
 
-/// Tells which command is called so by others, or nearly so.
+/// Reports which command is called so by others, or nearly so.
 fn push_near_command(rt: &HostRuntime, word: &str) {
     if word == usage::CHECK {
         let _ = WritePort::new(printable::errors(rt)).push(OF_CHECK);
@@ -161,7 +191,7 @@ fn is_for_output(word: &str) -> bool {
     word.starts_with("-o") || word.starts_with("--out")
 }
 
-/// Tells how what a command doesn't take is asked for.
+/// Reports how what a command doesn't take is asked for.
 fn push_other_way(rt: &HostRuntime, command: &str, words: &[String]) {
     if push_as_typed(rt, command, words) {
         return;
@@ -178,14 +208,14 @@ fn push_other_way(rt: &HostRuntime, command: &str, words: &[String]) {
     push_text(rt, format!(in rt.alloc(); "{way}\n"));
 }
 
-/// Tells a fault of a file in its one line, and on a terminal which file it is, and why. Answers the status.
+/// Reports a fault of a file in its one line, and on a terminal which file it is, and why. Returns the exit status.
 fn tell_reason<R: Display>(rt: &HostRuntime, fault: Fault, path: &str, reason: &R) -> u8 {
     let status = ended(rt, Err(fault));
     push_reason(rt, fault, path, reason, &[]);
     status
 }
 
-/// Tells in the same way which file can't be opened, and if it is no file but a plan, how that should be typed.
+/// Reports in the same way which file can't be opened, and if it is no file but a plan, how that should be typed.
 fn tell_unread<R: Display>(rt: &HostRuntime, path: &str, reason: &R, words: &[String]) -> u8 {
     let status = ended(rt, Err(Fault::Read));
     push_reason(rt, Fault::Read, path, reason, words);
@@ -193,7 +223,7 @@ fn tell_unread<R: Display>(rt: &HostRuntime, path: &str, reason: &R, words: &[St
 }
 
 impl<'a> NoCommand<'a> {
-    /// Tells it in its one line; wrong words with the usage, or the help, as the commands' table has them. Answers the status.
+    /// Reports it in its one line; wrong words with the usage, or the help, as the commands' table has them. Returns the exit status.
     pub fn tell(&self, rt: &HostRuntime, words: &[String]) -> u8 {
         match self {
             NoCommand::Words(error) => tell_words(rt, error, words),

@@ -5,17 +5,15 @@ use crate::input::Input;
 use crate::printable;
 use byte_ports::{Sink, WritePort};
 use std::io::IsTerminal;
-use thread_machine::StepFault;
-use trace_text::{Refusal, RunEnd};
 
-/// Tells a person at a terminal.
+/// Reports a person at a terminal.
 fn push_note(rt: &HostRuntime, text: &[u8]) {
     if rt.stderr().is_terminal() {
         let _ = WritePort::new(printable::errors(rt)).push(text);
     }
 }
 
-/// Tells a person at a terminal what is waited for.
+/// Reports a person at a terminal what is waited for.
 pub fn push_waiting(rt: &HostRuntime, text: &[u8]) {
     if rt.stdin().is_terminal() {
         push_note(rt, text);
@@ -48,26 +46,6 @@ pub fn push_plan_waited_for(rt: &HostRuntime, steps: &Input) {
             b"reading a plan from the terminal (plan --help lists its words)\n",
         );
     }
-}
-
-/// The choice of a thread that doesn't exist ends a run.
-pub fn push_refused(rt: &HostRuntime, end: &RunEnd) {
-    let Some(
-        Refusal {
-            line,
-            why: StepFault::NoSuchThread,
-            ..
-        },
-    ) = &end.refused
-    else {
-        return;
-    };
-    let line = line.as_slice();
-    push_note(rt, line.strip_suffix(b"\n").unwrap_or(line));
-    push_note(
-        rt,
-        b": the program has no such thread; the rest wasn't played\n",
-    );
 }
 
 /// Not all of several runs ended as they were expected to.

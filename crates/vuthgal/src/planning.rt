@@ -5,15 +5,17 @@ ghost use Rattle.command_line.specs.Request.{AreInRange};
 ghost use Rattle.plans.specs.Planned.{AreRuns};
 
 use crate::expectation::{expectations, tell_unmet};
+use crate::help::{named, push_stopped};
 use crate::input::Input;
 use crate::progress::{BehindProgress, OrderMeter};
 use crate::trouble::Trouble;
 use crate::{files, notes};
-use byte_ports::{ReadPort, Sink, WritePort};
+use byte_ports::{ReadPort, WritePort};
 use command_line::request::Orders;
 use commands::making::parts_of;
 use commands::plan::{plan, plan_with_names, planned_in};
 use commands::seeds::{Seeds, Unlike, report_seeds};
+use commands::unplanned::Unplanned;
 use schedule_reader::Run;
 use trace_text::RunEnd;
 use workbench::Program;
@@ -22,24 +24,34 @@ use workbench::ending::flushed;
 use workbench::input::read_all;
 use workbench::program::program_in;
 
-/// Tells that a plan wanted one more choice than it may make.
-fn push_stopped(rt: &HostRuntime) {
-    let _ = WritePort::new(rt.stderr()).push(b"stopped at 1000000 choices\n");
-}
-
-/// Returns the choices of a plan on a program, as runs. If the plan needs more choices than it may make, this is reported.
+/// Returns the choices of a plan on a program, as runs. If the plan needs more choices than it may make, this is reported by its
+/// file's name.
 pub fn runs_of_plan<'a>(
     rt: &HostRuntime,
     program: &Program<'_>,
+    name: &str,
     plan: &[u8],
 ) -> Result<Vec<Run>, Trouble<'a>>
     ensures { IfOk result (λ runs. AreRuns runs.items) }
 {
     let planned = planned_in(rt.alloc(), program, plan)?;
     if planned.stopped {
-        push_stopped(rt);
+        push_stopped(rt, name);
     }
     Ok(planned.runs)
+}
+
+/// Returns a result, with the plan if it is refused and was standard input.
+fn told<'a, A: Drop>(
+    answer: Result<A, Unplanned>,
+    plan: Vec<u8>,
+    is_input: bool,
+) -> Result<A, Trouble<'a>> {
+    match answer {
+        Ok(done) => Ok(done),
+        Err(Unplanned::Plan(fault)) if is_input => Err(Trouble::PlanOfInput(fault, plan)),
+        Err(why) => Err(Trouble::from(why)),
+    }
 }
 
 /// Writes the schedule that a plan stands for on the program in a file, with the names of the threads if asked for. The plan is
@@ -51,22 +63,22 @@ pub fn write_plan<'a>(
     has_names: bool,
 ) -> Result<Done, Trouble<'a>> {
     let program = files::read(rt, file)?;
-    let steps = match steps {
-        Some(word) => Input::named(rt, word)?,
-        None => Input::Standard(rt.stdin()),
-    };
+    let name = steps.unwrap_or("-");
+    let steps = Input::named(rt, name)?;
+    let is_input = matches!(steps, Input::Standard(_));
     notes::push_plan_waited_for(rt, &steps);
     let file = read_all(rt.alloc(), &mut ReadPort::new(program))?;
     let steps = read_all(rt.alloc(), &mut ReadPort::new(steps))?;
     let program = program_in(rt.alloc(), parts_of(file.as_slice()).0)?;
     let mut output = WritePort::new(rt.stdout());
     let planned = if has_names {
-        plan_with_names(rt.alloc(), program, steps.as_slice(), &mut output)?
+        plan_with_names(rt.alloc(), program, steps.as_slice(), &mut output)
     } else {
-        plan(rt.alloc(), program, steps.as_slice(), &mut output)?
+        plan(rt.alloc(), program, steps.as_slice(), &mut output)
     };
+    let planned = told(planned, steps, is_input)?;
     if flushed(Ok(planned), &mut output)? {
-        push_stopped(rt);
+        push_stopped(rt, named(name));
         return Ok(Done::Unlike);
     }
     Ok(Done::AsAsked)
@@ -140,7 +152,7 @@ pub fn count_orders<'a>(
         &mut output,
     );
     shown.meter().end();
-    let unlike = answer?;
+    let unlike = told(answer, plan, steps == Some("-"))?;
     flushed(Ok(()), &mut output)?;
     Ok(settled_by(rt, text, expected.as_slice(), unlike))
 }

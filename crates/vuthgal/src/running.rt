@@ -1,7 +1,7 @@
 //! Runs: a program that is played under a schedule, and what is expected of its end.
 
 use crate::expectation::{as_expected, expectations, tell_unmet};
-use crate::help::push_explained;
+use crate::help::{Files, push_explained, push_missing};
 use crate::notes;
 use crate::progress::{ShownWriter, trace_port};
 use crate::schedule::Schedule;
@@ -11,8 +11,8 @@ use byte_ports::{BlockPort, ReadPort, WritePort};
 use command_line::request::Steps;
 use headline::shown;
 use std::io::Stdout;
-use thread_machine::Standing;
-use trace_text::RunEnd;
+use thread_machine::{Choice, Standing, StepFault};
+use trace_text::{Refusal, RunEnd};
 use workbench::done::Done;
 use workbench::ending::handed_on;
 use workbench::fault::Fault;
@@ -28,8 +28,33 @@ pub type TracePort<'a> = BlockPort<WritePort<ShownWriter<'a, Stdout>>>;
 const SCHEDULE_ENDS: &str =
     "live: some threads could still continue, but the schedule has no more choices\n";
 
-/// Returns the result of a run whose trace was passed on: whether it ended as expected. It reports what didn't, and at a
-/// terminal also a choice of a thread that doesn't exist, and what `live` means.
+/// The number that a line begins with.
+fn number_of(line: &[u8]) -> Option<u64> {
+    let (number, _) = str::from_utf8(line).unwrap_or("").split_once(' ')?;
+    match number.parse::<u64>() {
+        Ok(number) => Some(number),
+        Err(_) => None,
+    }
+}
+
+/// The choice of a thread that doesn't exist, with its number, if one ended a run.
+fn missing_in(end: &RunEnd) -> Option<(u64, Choice)> {
+    let Some(
+        Refusal {
+            line,
+            choice,
+            why: StepFault::NoSuchThread,
+        },
+    ) = &end.refused
+    else {
+        return None;
+    };
+    let number = number_of(line.as_slice())?;
+    Some((number, *choice))
+}
+
+/// Returns the result of a run of these files whose trace was passed on: whether it ended as expected. It reports what didn't, and
+/// at a terminal also a choice of a thread that doesn't exist, and what `live` means.
 pub fn ended<'a>(
     rt: &HostRuntime,
     answer: Result<RunEnd, Fault>,
@@ -37,13 +62,14 @@ pub fn ended<'a>(
     program: &[u8],
     expected: &[Vec<u8>],
     live: &str,
+    files: Files<'_>,
 ) -> Answer<'a> {
     let end = handed_on(answer, output)?;
-    notes::push_refused(rt, &end);
     let done = as_expected(expected, &end);
     if done == Done::Unlike {
         tell_unmet(rt, program, expected, None, &end);
     }
+    push_missing(rt, missing_in(&end), files);
     if end.refused.is_none() && end.standing == Standing::Live {
         push_explained(rt, live);
     }
@@ -69,11 +95,21 @@ pub fn play_both<'a>(rt: &HostRuntime, expected: &[&str]) -> Answer<'a> {
     if answer.is_ok() && text.len() == bytes.len() {
         notes::push_no_schedule(rt);
     }
-    ended(rt, answer, output, text, expected.as_slice(), SCHEDULE_ENDS)
+    let files = Files::of_input();
+    ended(
+        rt,
+        answer,
+        output,
+        text,
+        expected.as_slice(),
+        SCHEDULE_ENDS,
+        files,
+    )
 }
 
 /// Plays the program in a file.
 pub fn run<'a>(rt: &HostRuntime, file: &'a str, steps: Steps<'a>, expected: &[&str]) -> Answer<'a> {
+    let files = Files::of_run(file, steps);
     let (file, steps) = opened(rt, file, steps, Holds::Schedule)?;
     let (text, beside) = steps.parts(rt, file.as_slice());
     let program = program_in(rt.alloc(), text)?;
@@ -84,5 +120,14 @@ pub fn run<'a>(rt: &HostRuntime, file: &'a str, steps: Steps<'a>, expected: &[&s
     let answer = shown::run(rt.alloc(), program.image, &mut schedule, &mut output).map_err(
         |fault| Fault::of_run(fault),
     );
-    schedule.told(ended(rt, answer, output, text, expected.as_slice(), SCHEDULE_ENDS))
+    let done = ended(
+        rt,
+        answer,
+        output,
+        text,
+        expected.as_slice(),
+        SCHEDULE_ENDS,
+        files,
+    );
+    schedule.told(done)
 }

@@ -1,5 +1,6 @@
 //! What is played: a program in a file, and the steps that the arguments name.
 
+use crate::help::ARGUMENT;
 use crate::input::Input;
 use crate::planning::runs_of_plan;
 use crate::trouble::Trouble;
@@ -26,8 +27,8 @@ pub enum OpenSteps<'a> {
     Beside,
     /// A schedule, or a trace.
     Named(Input<'a>),
-    /// The choices of this plan.
-    Plan(Vec<u8>),
+    /// The choices of a plan: the name of its file, and what it holds.
+    Plan(&'a str, Vec<u8>),
 }
 
 /// The file that a word names: a schedule may be standard input, a trace stands in a file.
@@ -50,8 +51,11 @@ pub fn opened<'a>(
     let steps = match steps {
         Steps::Beside => OpenSteps::Beside,
         Steps::Named(word) => OpenSteps::Named(named(rt, word, holds)?),
-        Steps::Plan(plan) => OpenSteps::Plan(Vec::from_slice(rt.alloc(), plan.as_bytes())?),
-        Steps::PlanFile(word) => OpenSteps::Plan(files::contents(rt, word)?),
+        Steps::Plan(plan) => OpenSteps::Plan(
+            ARGUMENT,
+            Vec::from_slice(rt.alloc(), plan.as_bytes())?,
+        ),
+        Steps::PlanFile(word) => OpenSteps::Plan(word, files::contents(rt, word)?),
     };
     let program = read_all(rt.alloc(), &mut ReadPort::new(program))?;
     Ok((program, steps))
@@ -76,10 +80,10 @@ impl<'a> OpenSteps<'a> {
         rt: &HostRuntime,
         program: &Program<'_>,
     ) -> Result<String, Trouble<'b>> {
-        let OpenSteps::Plan(plan) = self else {
+        let OpenSteps::Plan(name, plan) = self else {
             return Ok(String::new(rt.alloc()));
         };
-        let runs = runs_of_plan(rt, program, plan.as_slice())?;
+        let runs = runs_of_plan(rt, program, *name, plan.as_slice())?;
         match write_schedule(rt.alloc(), runs.as_slice()) {
             Ok(text) => Ok(text),
             Err(_) => Err(Trouble::Fault(Fault::Memory)),
@@ -91,7 +95,7 @@ impl<'a> OpenSteps<'a> {
         match self {
             OpenSteps::Beside => Input::Text(beside),
             OpenSteps::Named(schedule) => schedule,
-            OpenSteps::Plan(_) => Input::Text(planned.as_bytes()),
+            OpenSteps::Plan(_, _) => Input::Text(planned.as_bytes()),
         }
     }
 }

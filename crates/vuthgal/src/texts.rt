@@ -50,7 +50,7 @@ fn words_of<'a>(alloc: Global, texts: &[&'a str]) -> Result<Vec<&'a str>, AllocE
     Ok(words)
 }
 
-/// Tells what words mean, or else what was meant by them. Answers whether that is known.
+/// Reports what words mean, or else what was meant by them. Returns whether that is known.
 fn explained<W: Sink>(alloc: Global, words: &[&str], output: &mut W) -> Result<bool, Fault> {
     if explain(&tables(), words, output).map_err(|_| Fault::Write)? {
         return Ok(true);
@@ -62,7 +62,7 @@ fn explained<W: Sink>(alloc: Global, words: &[&str], output: &mut W) -> Result<b
     explain(&tables(), sought.as_slice(), output).map_err(|_| Fault::Write)
 }
 
-/// Tells what the words of a line mean.
+/// Reports what the words of a line mean.
 pub fn explain_words<'a>(rt: &HostRuntime, texts: &[&'a str]) -> Answer<'a> {
     let words = words_of(rt.alloc(), texts)?;
     let mut output = WritePort::new(rt.stdout());

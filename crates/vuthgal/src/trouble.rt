@@ -26,6 +26,8 @@ pub enum Trouble<'a> {
     OfInput(Fault, Vec<u8>),
     /// A fault of a plan.
     Plan(PlanFault),
+    /// A fault of the plan on standard input, which was this.
+    PlanOfInput(PlanFault, Vec<u8>),
     /// The words that are to be explained are those of no line.
     NoLine,
 }
@@ -57,14 +59,14 @@ impl<'a> From<Unplanned> for Trouble<'a> {
     }
 }
 
-/// Tells a fault in its one line, and on a terminal what it means. Answers the status.
-fn tell_fault(rt: &HostRuntime, fault: Fault, files: Files<'_>) -> u8 {
+/// Reports a fault in its one line, and on a terminal what it means. Returns the exit status.
+fn tell_fault(rt: &HostRuntime, fault: Fault, files: Files<'_>, words: &[String]) -> u8 {
     let status = settled(Err(fault), &mut WritePort::new(rt.stderr()));
-    push_help(rt, fault, files);
+    push_help(rt, fault, files, words);
     status
 }
 
-/// Tells a plan's fault in the same way.
+/// Reports a plan's fault in the same way.
 fn tell_plan(rt: &HostRuntime, fault: PlanFault, files: Files<'_>) -> u8 {
     let why = Unplanned::Plan(fault);
     let _ = why.tell(&mut WritePort::new(rt.stderr()));
@@ -72,7 +74,7 @@ fn tell_plan(rt: &HostRuntime, fault: PlanFault, files: Files<'_>) -> u8 {
     why.status()
 }
 
-/// Tells that no line has the words, what can be asked, and what is near to them. Answers the status.
+/// Reports that no line has the words, what can be asked, and what is near to them. Returns the exit status.
 fn tell_no_line(rt: &HostRuntime, words: &[String]) -> u8 {
     let _ = push_no_line(&mut WritePort::new(rt.stderr()));
     if let [_, _, word] = words {
@@ -87,13 +89,19 @@ impl<'a> Trouble<'a> {
     pub fn tell(&self, rt: &HostRuntime, words: &[String], files: Files<'_>) -> u8 {
         match self {
             Trouble::NoCommand(no_command) => no_command.tell(rt, words),
-            Trouble::Fault(fault) => tell_fault(rt, *fault, files),
+            Trouble::Fault(fault) => tell_fault(rt, *fault, files, words),
             Trouble::OfInput(fault, input) => tell_fault(
                 rt,
                 *fault,
                 files.with_input(input.as_slice()),
+                words,
             ),
             Trouble::Plan(fault) => tell_plan(rt, *fault, files),
+            Trouble::PlanOfInput(fault, plan) => tell_plan(
+                rt,
+                *fault,
+                files.with_input(plan.as_slice()),
+            ),
             Trouble::NoLine => tell_no_line(rt, words),
         }
     }

@@ -91,7 +91,7 @@ pub fn about(command: &str) -> &'static str {
         .map_or("", |listed| listed.about)
 }
 
-/// The line of a help that tells the usage.
+/// The line of a help that has the usage.
 fn usage_line(help: &str) -> &str {
     help.lines()
         .find(|line| line.starts_with("Usage: "))
@@ -105,6 +105,24 @@ fn text_of(rt: &HostRuntime, help: &WordsError) -> Result<String, AllocError> {
         return Err(AllocError);
     }
     format!(in rt.alloc(); "{help}")
+}
+
+/// The line of a help before which the last option of a command stands.
+const HELP_OPTION: &str = "\n  -h, --help\n";
+
+/// The option of all commands, which isn't among those of their table.
+const EXPLAIN_OPTION: &str =
+    "\n      --explain <WHEN>\n          Explains what is refused: always, auto (at a terminal) or never\n";
+
+/// Returns the text of a help with this option, if it has a paragraph for each option.
+pub fn help_of(rt: &HostRuntime, help: &WordsError) -> Result<String, AllocError> {
+    let text = format!(in rt.alloc(); "{help}")?;
+    match text.as_str().split_once(HELP_OPTION) {
+        Some((before, behind)) => format!(in rt.alloc();
+            "{before}{EXPLAIN_OPTION}{HELP_OPTION}{behind}"
+        ),
+        None => Ok(text),
+    }
 }
 
 /// Returns why the arguments ask for nothing, the usage of the command that was meant, and where there is more to read.
@@ -139,12 +157,81 @@ fn quoted_in(why: &str) -> Option<&str> {
     Some(word)
 }
 
+/// What to type instead of an option that the command doesn't have, and that another command or program has.
+static OTHER_OPTIONS: [(&str, &str); 13] = [
+    (
+        "--seed",
+        "`--plan '?7'` plays the order of seed 7, `plan FILE --seeds 1..100` those of 100 seeds; `live` has `--stir SEED`",
+    ),
+    (
+        "--seeds",
+        "`plan FILE --seeds 1..100` counts how the runs of 100 seeds end",
+    ),
+    (
+        "--runs",
+        "`live FILE --runs 100` counts how 100 runs of real threads end, `plan FILE --seeds 1..100` those of 100 seeds",
+    ),
+    (
+        "--stir",
+        "`live FILE --stir SEED` makes threads pause before some of their turns",
+    ),
+    (
+        "--limit",
+        "`live FILE --limit N` plays at most N steps; in a plan `..*50` plays at most 50 choices",
+    ),
+    (
+        "--expect",
+        "`run FILE SCHEDULE --expect STATE` compares the end of a run; `live` and `plan --seeds` have this option too",
+    ),
+    (
+        "--plan-file",
+        "`plan FILE PLAN` reads the plan in the file PLAN; `run`, `show`, `draw` and `debug` have this option",
+    ),
+    (
+        "--rows",
+        "`list FILE --rows` writes each row with its number",
+    ),
+    (
+        "--show",
+        "`compare FILE TRACE --show` writes the two lines that differ",
+    ),
+    (
+        "--names",
+        "`plan FILE PLAN --names` writes the names of the threads",
+    ),
+    (
+        "--at",
+        "`debug FILE --at TRACE` begins after the choices of a trace",
+    ),
+    (
+        "--verbose",
+        "`--explain always` explains what is refused; `draw` and `show` explain a run",
+    ),
+    (
+        "-v",
+        "`--explain always` explains what is refused; `draw` and `show` explain a run",
+    ),
+];
+
+/// Returns what to type instead of the unknown option of an error, if it is known.
+pub fn other_way(why: &str) -> Option<&'static str> {
+    let option = quoted_in(why)?;
+    OTHER_OPTIONS
+        .iter()
+        .find(|(name, _)| *name == option)
+        .map(|(_, way)| *way)
+}
+
 /// Returns whether what an error says first is enough, because the rest would be misleading.
 fn is_enough_first(why: &str, kind: ErrorKind) -> bool {
     if kind == ErrorKind::InvalidSubcommand {
         return quoted_in(why).is_some_and(|word| is_other_name(word));
     }
-    why.starts_with("error: unexpected argument '-o")
+    if kind == ErrorKind::UnknownArgument && other_way(why).is_some() {
+        return true;
+    }
+    why.starts_with("error: unexpected argument '-") && why.find("tip: to pass ").is_some()
+        || why.starts_with("error: unexpected argument '-o")
         || why.starts_with("error: unexpected argument '--plan'")
         || why.starts_with("error: unexpected argument '--schedule'")
 }

@@ -57,12 +57,14 @@ IsUnplannedFor reason file steps =
     ⊎ ((program : Program) × (IsProgramIn (program_of file) program × HasNoSchedule reason program steps))
 
 -- the schedule of a plan was written; or why not, and then nothing was, unless the output failed
-pub record PlansSteps (file steps : List ℕ) (answer : Result Bool Unplanned) (output_before output_after : Option (List ℕ)) : Type 0 where
+pub record PlansSteps (file steps : List ℕ) (answer : Result Bool Unplanned) (output_before output_after : Option (List ℕ))
+    (output_failed : Bool) : Type 0 where
   pub done : IfOk answer (λ stopped. (program : Program) × (IsProgramIn (program_of file) program
       × HasPlanned stopped program steps output_before output_after))
   pub refused : IfErr answer (λ reason. unplanned_status reason ≡ 3 → IsUnplannedFor reason file steps)
   pub unwritten : IfErr answer (λ reason. reason ≢ why.Fault fault.Write → output_after ≡ output_before)
   pub read : answer ≡ Err (why.Fault fault.Read) → IsTooMuch file steps
+  pub write : answer ≡ Err (why.Fault fault.Write) → IsTrue output_failed
   pub spawn : answer ≢ Err (why.Fault fault.Spawn)
 
 -- the status of a plan's result, and its line, which also says where the plan was stopped
@@ -75,7 +77,7 @@ SettlesPlan (Err reason) status line_failed line_before line_after =
 
 abbrev pub Plans : (file steps : List ℕ) (status : ℕ) (schedule line : List ℕ) → Type 0
 Plans file steps status schedule line =
-    (answer : Result Bool Unplanned) × (PlansSteps file steps answer (Some []) (Some schedule)
+    (answer : Result Bool Unplanned) × (PlansSteps file steps answer (Some []) (Some schedule) false
     × SettlesPlan answer status false (Some []) (Some line))
 
 -- why a program and a schedule are refused a picture: the file holds no program; or they have none
@@ -85,17 +87,18 @@ IsUnmadeFor kind f file schedule =
 
 -- the picture of a program and a schedule was written; or why not, and then nothing was, unless the output failed
 pub record MakesPicture (IsPicture : Program → List ℕ → List ℕ → Type 0) (kind : PictureKind) (file schedule : List ℕ)
-    (answer : Result (Unit {0}) Fault) (output_before output_after : Option (List ℕ)) : Type 0 where
+    (answer : Result (Unit {0}) Fault) (output_before output_after : Option (List ℕ)) (output_failed : Bool) : Type 0 where
   pub done : OnOk answer ((program : Program) × (IsProgramIn file program
       × HasWritten (IsPicture program schedule) output_before output_after))
   pub refused : IfErr answer (λ f. status_of f ≡ 3 → IsUnmadeFor kind f file schedule)
   pub unwritten : IfErr answer (λ f. f ≢ fault.Write → output_after ≡ output_before)
   pub read : answer ≡ Err fault.Read
       → (most_bytes < length file) ⊎ ((left : Option (List ℕ)) × GivesTooMuch (Some schedule) left)
+  pub write : answer ≡ Err fault.Write → IsTrue output_failed
   pub spawn : answer ≢ Err fault.Spawn
 
 abbrev pub Makes : (IsPicture : Program → List ℕ → List ℕ → Type 0) → PictureKind → (file schedule : List ℕ)
     (status : ℕ) (picture line : List ℕ) → Type 0
 Makes IsPicture kind file schedule status picture line =
-    (answer : Result (Unit {0}) Fault) × (MakesPicture IsPicture kind file schedule answer (Some []) (Some picture)
+    (answer : Result (Unit {0}) Fault) × (MakesPicture IsPicture kind file schedule answer (Some []) (Some picture) false
     × Settles as_asked answer status line)

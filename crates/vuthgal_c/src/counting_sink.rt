@@ -1,5 +1,5 @@
 //! A sink in memory that counts all bytes, and keeps only the first ones.
-ghost use Rattle.std.specs.Prelude.{◌≡◌, ◌≤◌, ◌+◌, ◌++◌, [], ℕ, List, Some, IsTrue, false, length, min};
+ghost use Rattle.std.specs.Prelude.{◌≡◌, ◌≤◌, ◌↔◌, ◌+◌, ◌++◌, [], ℕ, List, Some, IsTrue, false, length, min};
 ghost use Rattle.std.specs.Io.KnownBytes.{Appends};
 ghost use Rattle.byte_ports.specs.Port.{FailsForGood};
 ghost use Rattle.vuthgal_c.specs.Counting.{AreFirst, Tally, most_counted};
@@ -57,7 +57,7 @@ impl CountingSink {
 
     /// Returns whether it has kept everything that fits a buffer of this size.
     pub fn has_kept(&self, room: usize) -> bool
-        ensures { IsTrue result → min (length self.now.written) room ≤ length self.now.kept }
+        ensures { IsTrue result ↔ (min (length self.now.written) room ≤ length self.now.kept) }
     {
         self.kept.len() >= self.count.min(room)
     }

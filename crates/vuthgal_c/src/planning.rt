@@ -21,7 +21,7 @@ fn planned<K: Sink>(
     steps: &[u8],
     output: &mut K,
 ) -> Result<bool, Unplanned>
-    ensures { PlansSteps file.now steps.now result (K.written output.old) (K.written output.new) }
+    ensures { PlansSteps file.now steps.now result (K.written output.old) (K.written output.new) (K.has_failed output.new) }
 {
     if !is_within(file) || !is_within(steps) {
         return Err(Unplanned::Fault(Fault::Read));

@@ -29,7 +29,8 @@ fn made<P: Picture, K: Sink>(
     schedule: &[u8],
     output: &mut K,
 ) -> Result<(), Fault>
-    ensures { MakesPicture (P.is_picture picture.now) P.kind file.now schedule.now result (K.written output.old) (K.written output.new) }
+    ensures { MakesPicture (P.is_picture picture.now) P.kind file.now schedule.now result
+        (K.written output.old) (K.written output.new) (K.has_failed output.new) }
 {
     if !is_within(file) {
         return Err(Fault::Read);

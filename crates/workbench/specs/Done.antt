@@ -3,7 +3,7 @@ use Rattle.std.specs.Prelude.{◌≡◌, ℕ, Bool, List, Option, Result, Ok, Er
 use Rattle.workbench.specs.declared.fault.Fault.{Fault}
 use Rattle.workbench.specs.declared.done.Done.{Done}
 use Rattle.workbench.specs.declared.done.Done.TheVariants as done
-use Rattle.workbench.specs.Fault.{HasTold, status_of}
+use Rattle.workbench.specs.Fault.{HasReported, status_of}
 
 -- the exit status without a fault
 abbrev pub done_status : Done → ℕ
@@ -15,7 +15,7 @@ abbrev pub IsSettled : Result Done Fault → (status : ℕ) (errors_failed : Boo
 IsSettled (Ok d) status has_failed errors_before errors_after =
     (status ≡ done_status d) × (errors_after ≡ errors_before)
 IsSettled (Err f) status has_failed errors_before errors_after =
-    (status ≡ status_of f) × HasTold f has_failed errors_before errors_after
+    (status ≡ status_of f) × HasReported f has_failed errors_before errors_after
 
 -- the same for a command's own result; `done_by` says how its Ok is done
 abbrev pub IsSettledBy : {A : Type 0} → (done_by : A → Done) → Result A Fault → (status : ℕ) (errors_failed : Bool)

@@ -93,6 +93,6 @@ line_of fault.Write = codes "write\n"
 line_of f = refusal_line (word_of f) (number_of f) (place_of f)
 
 -- the line of a fault was written, unless the port failed
-abbrev pub HasTold : Fault → Bool → Option (List ℕ) → Option (List ℕ) → Type 0
-HasTold f has_failed errors_before errors_after =
+abbrev pub HasReported : Fault → Bool → Option (List ℕ) → Option (List ℕ) → Type 0
+HasReported f has_failed errors_before errors_after =
     IsTrue has_failed ⊎ Appends errors_before errors_after (line_of f)

@@ -54,7 +54,7 @@ pub fn done_by(verdict: Verdict) -> Done
     }
 }
 
-/// WritesVerdict a trace with the run of an image's program, and writes the line of the verdict.
+/// Compares a trace with the run of an image's program, and writes the line of the verdict.
 pub fn compared<S: Source, K: Sink>(
     alloc: Global,
     image: Image,

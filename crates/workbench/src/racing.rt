@@ -5,7 +5,7 @@ ghost use Rattle.packed_phaser.specs.Word.{record_of};
 ghost use Rattle.race.specs.Race.{IsFinal, line_of};
 ghost use Rattle.race.specs.declared.fault.RaceFault.{RaceFault};
 ghost use Rattle.workbench.specs.declared.fault.Fault.{Fault};
-ghost use Rattle.workbench.specs.Fault.{HasTold, status_of};
+ghost use Rattle.workbench.specs.Fault.{HasReported, status_of};
 ghost use Rattle.workbench.specs.Racing.{fault_of_race};
 
 use crate::done::{as_asked, settled};
@@ -33,7 +33,7 @@ pub fn race_cmd<R: Threads + Wait + Sync, K: Sink, E: Sink>(
         × Appends (K.written output.old) (K.written output.new) (line_of (record_of word))) }
     ensures told { ((result ≡ 0) × (E.written errors.new ≡ E.written errors.old))
         ⊎ ((fault : RaceFault) × ((result ≡ status_of (fault_of_race fault))
-        × HasTold (fault_of_race fault) (E.has_failed errors.new) (E.written errors.old) (E.written errors.new))) }
+        × HasReported (fault_of_race fault) (E.has_failed errors.new) (E.written errors.old) (E.written errors.new))) }
     ensures unchanged { result ≡ 4 → K.written output.new ≡ K.written output.old }
     ensures port { result ≡ 5 → IsTrue (K.has_failed output.new) }
 {

@@ -7,9 +7,11 @@
 #pragma once
 
 #include <atomic>
+#include <cerrno>
 #include <chrono>
 #include <condition_variable>
 #include <cstdint>
+#include <cstdio>
 #include <cstdlib>
 #include <mutex>
 #include <thread>
@@ -32,9 +34,18 @@ inline thread_local Count left = 0;   // so many points before it stands; 0 wher
 inline thread_local Count more = 0;   // so often it stands after that
 
 inline void start() {
-  if (const char* text = std::getenv("POINTS")) {
-    seed = std::strtoull(text, nullptr, 10) * 2 + 1;
+  const char* text = std::getenv("POINTS");
+  if (text == nullptr || *text == '\0') {
+    return;
   }
+  char* end = nullptr;
+  errno = 0;
+  const Count number = std::strtoull(text, &end, 10);
+  if (*text < '0' || *text > '9' || *end != '\0' || errno != 0) {
+    std::fprintf(stderr, "POINTS has to be a number, and is %s\n", text);
+    std::exit(2);
+  }
+  seed = number * 2 + 1;
 }
 
 /// The next number of the thread, from 0, below this one.

@@ -214,21 +214,27 @@ func (p *Phaser) ArriveAndAwaitAdvance(t *Thread) (int32, error) {
 // ---------------------------------------------------------------- waiting
 
 func (p *Phaser) AwaitAdvance(t *Thread, phase int32) (int32, error) {
-	p.tree.Lock()
-	defer p.tree.Unlock()
-	if p.tree.isRunner(t) {
-		return 0, ErrIllegalState
-	}
-	if phase < 0 {
-		return phase, nil
-	}
-	for p.tree.view() == phase {
+	return p.await(t, phase, func() error {
 		p.tree.Wait()
-	}
-	return p.tree.view(), nil
+		return nil
+	})
 }
 
 func (p *Phaser) AwaitAdvanceInterruptibly(t *Thread, phase int32, time Time) (int32, error) {
+	return p.await(t, phase, func() error {
+		if t.ClearInterrupted() {
+			return ErrInterrupted
+		}
+		if time.IsOver() {
+			return ErrTimedOut
+		}
+		p.tree.WaitInterruptibly(t, time)
+		return nil
+	})
+}
+
+// await waits, one wake-up after the other, until the phase is another one. wait is called under the lock.
+func (p *Phaser) await(t *Thread, phase int32, wait func() error) (int32, error) {
 	p.tree.Lock()
 	defer p.tree.Unlock()
 	if p.tree.isRunner(t) {
@@ -238,13 +244,9 @@ func (p *Phaser) AwaitAdvanceInterruptibly(t *Thread, phase int32, time Time) (i
 		return phase, nil
 	}
 	for p.tree.view() == phase {
-		if t.ClearInterrupted() {
-			return 0, ErrInterrupted
+		if err := wait(); err != nil {
+			return 0, err
 		}
-		if time.IsOver() {
-			return 0, ErrTimedOut
-		}
-		p.tree.WaitInterruptibly(t, time)
 	}
 	return p.tree.view(), nil
 }

@@ -26,6 +26,9 @@ import (
 // processors are as many as threads may spin at once: who spins keeps one, whatever the machine has.
 const processors = 72
 
+// longestLine is how many bytes a command may have; a Scanner alone takes no more than 64 KiB.
+const longestLine = 1 << 24
+
 var writing sync.Mutex
 
 // say writes a line at once. Many threads have something to say.
@@ -480,9 +483,14 @@ func carryOut(command string, words []string) {
 func main() {
 	runtime.GOMAXPROCS(processors)
 	lines := bufio.NewScanner(os.Stdin)
+	lines.Buffer(nil, longestLine)
 	for lines.Scan() {
 		words := strings.Split(lines.Text(), " ")
 		carryOut(words[0], words[1:])
+	}
+	if err := lines.Err(); err != nil {
+		fmt.Fprintln(os.Stderr, "standard input:", err)
+		os.Exit(1)
 	}
 	os.Exit(0) // whatever the threads do
 }

@@ -8,10 +8,14 @@ anything overlaps at all.
 
 import os
 import random
+import sys
 import threading
 import time
 
-SEED = os.environ.get("POINTS")
+SEED = os.environ.get("POINTS") or None
+if SEED and not (SEED.isascii() and SEED.isdecimal() and len(SEED) <= 20 and int(SEED) < 1 << 64):
+    print("POINTS has to be a number, and is", SEED, file=sys.stderr)
+    sys.exit(2)
 MOST_PASSED = 7             # who stands lets so many points of all threads go by: two to this power at most
 LONGEST = 0.02              # seconds: all others may be waiting for the one that stands
 

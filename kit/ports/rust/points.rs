@@ -32,10 +32,17 @@ thread_local! {
 }
 
 pub fn start() {
-    if let Ok(seed) = std::env::var("POINTS") {
-        SEED.store(seed.parse().expect("POINTS is a number"), Relaxed);
-        ON.store(true, Ordering::SeqCst);
+    let text = std::env::var_os("POINTS").unwrap_or_default();
+    if text.is_empty() {
+        return;
     }
+    let digits = text.to_str().filter(|text| text.bytes().all(|letter| letter.is_ascii_digit()));
+    let Some(seed) = digits.and_then(|digits| digits.parse().ok()) else {
+        eprintln!("POINTS has to be a number, and is {}", text.to_string_lossy());
+        std::process::exit(2);
+    };
+    SEED.store(seed, Relaxed);
+    ON.store(true, Ordering::SeqCst);
 }
 
 /// The next number of the thread, from 0, below this one.

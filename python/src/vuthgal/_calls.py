@@ -29,7 +29,9 @@ def _told(status: int, output: bytes, line: bytes) -> bytes:
         raise Refused(line.decode("ascii").rstrip("\n"), output)
     if status == 4:
         raise OutOfMemory(output)
-    raise TooLong("an input has more than 16,777,216 bytes")
+    if status == 5:
+        raise TooLong("an input has more than 16,777,216 bytes")
+    raise AssertionError(f"the library returns status {status}")
 
 
 def _one(name: str, text: bytes) -> bytes:

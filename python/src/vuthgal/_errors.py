@@ -41,6 +41,9 @@ class Differs(AssertionError):
         #: the first line that differs, from 1
         self.line: int = line
 
+    def __reduce__(self) -> Tuple[object, ...]:
+        return type(self), (self.args[0], self.line), self.__dict__
+
 
 class NotATrace(Differs):
     """It is no trace: `line` is the first that is no line of one. `before` is the schedule of the lines before it."""

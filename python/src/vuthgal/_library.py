@@ -3,12 +3,13 @@ import ctypes
 import os
 import threading
 from pathlib import Path
-from typing import Tuple
+from typing import List, Tuple
 
 _HERE = Path(__file__).resolve().parent
 
-# how many bytes a thread's buffer has at first
+# how many bytes a room for the output has at first, and how many it may have to be kept
 _ROOM = 1 << 16
+_KEPT_ROOM = 1 << 24
 _LINE_ROOM = 1 << 12
 
 
@@ -53,40 +54,58 @@ _library.vuthgal_version.argtypes = _out
 _library.vuthgal_version.restype = None
 
 
-class _Room(threading.local):
-    """What a thread's calls write to."""
+class _Room:
+    """What a call writes to, and `places`, as the call takes them."""
+
+    __slots__ = ("size", "places", "_output", "_line", "_count", "_line_count")
+
+    def __init__(self, size: int) -> None:
+        self.size = size
+        self._output = ctypes.create_string_buffer(size)
+        self._line = ctypes.create_string_buffer(_LINE_ROOM)
+        self._count = _size()
+        self._line_count = _size()
+        self.places = (
+            ctypes.addressof(self._output), size, ctypes.addressof(self._count),
+            ctypes.addressof(self._line), _LINE_ROOM, ctypes.addressof(self._line_count),
+        )
+
+    @property
+    def count(self) -> int:
+        return self._count.value
+
+    def output(self) -> bytes:
+        return ctypes.string_at(self._output, self._count.value)
+
+    def line(self) -> bytes:
+        return ctypes.string_at(self._line, min(self._line_count.value, _LINE_ROOM))
+
+
+class _Thread(threading.local):
+    """The room of a thread while no call has it: a handler of a signal may call while another call of its thread goes on."""
 
     def __init__(self) -> None:
-        self.line = ctypes.create_string_buffer(_LINE_ROOM)
-        self.line_at = ctypes.addressof(self.line)
-        self.count = _size()
-        self.line_count = _size()
-        self.count_at = ctypes.addressof(self.count)
-        self.line_count_at = ctypes.addressof(self.line_count)
-        self.grow(_ROOM)
-
-    def grow(self, size: int) -> None:
-        self.size = size
-        self.output = ctypes.create_string_buffer(size)
-        self.at = ctypes.addressof(self.output)
+        self.free: List[_Room] = []
 
 
-_room = _Room()
+_thread = _Thread()
 
 
 def called(name: str, *words: object) -> Tuple[int, bytes, bytes]:
     """The status, the output and the line of a call. Where the output doesn't fit, the call is made again with more room."""
     call = _calls[name]
-    here = _room
-    status = call(*words, here.at, here.size, here.count_at, here.line_at, _LINE_ROOM, here.line_count_at)
-    if here.count.value > here.size:
-        here.grow(here.count.value)
-        status = call(*words, here.at, here.size, here.count_at, here.line_at, _LINE_ROOM, here.line_count_at)
-    string_at = ctypes.string_at
-    output = string_at(here.at, here.count.value)
-    if here.size > 1 << 24:
-        here.grow(_ROOM)
-    line = string_at(here.line_at, min(here.line_count.value, _LINE_ROOM)) if here.line_count.value else b""
+    free = _thread.free
+    try:
+        here = free.pop()
+    except IndexError:
+        here = _Room(_ROOM)
+    status = call(*words, *here.places)
+    while here.count > here.size:
+        here = _Room(here.count)
+        status = call(*words, *here.places)
+    output, line = here.output(), here.line()
+    if here.size <= _KEPT_ROOM and not free:
+        free.append(here)
     return status, output, line
 
 

@@ -133,7 +133,9 @@ class Trace:
 
     def _read(self) -> None:
         texts = self._bytes.decode("ascii").split("\n")[:-1]
-        at = next(n for n, text in enumerate(texts) if text.startswith("state "))
+        at = next((n for n, text in enumerate(texts) if text.startswith("state ")), None)
+        if at is None:
+            raise ValueError("a trace has a line that begins with `state`")
         self._lines = tuple(map(_line, texts[:at]))
         self._state = _state(texts[at:])
 

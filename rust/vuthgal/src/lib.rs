@@ -21,17 +21,20 @@ pub enum Fault {
     Memory { output: Vec<u8> },
     /// An input has more than 16,777,216 bytes.
     TooLong,
+    /// The library returned what none does that this crate knows: a status, or a line.
+    Unknown { answer: String },
 }
 
 impl fmt::Display for Fault {
     fn fmt(&self, f: &mut fmt::Formatter<'_>) -> fmt::Result {
         match self {
             Fault::Refused { line, .. } => match explain(line) {
-                Some(meaning) => write!(f, "{line}\n{meaning}"),
-                None => f.write_str(line),
+                Ok(Some(meaning)) => write!(f, "{line}\n{meaning}"),
+                _ => f.write_str(line),
             },
             Fault::Memory { .. } => f.write_str("memory"),
             Fault::TooLong => f.write_str("an input has more than 16,777,216 bytes"),
+            Fault::Unknown { answer } => write!(f, "the library answers `{answer}`"),
         }
     }
 }
@@ -59,6 +62,9 @@ pub struct Planned {
     pub schedule: String,
     pub stopped: bool,
 }
+
+/// Up to how many bytes for the output a thread keeps for its next call.
+const KEPT: usize = 1 << 24;
 
 /// Where a thread's calls write.
 struct Room {
@@ -90,8 +96,12 @@ fn called(call: Call<'_>) -> (u8, Vec<u8>, Vec<u8>) {
                 &mut line_length,
             );
             if length <= room.output.len() {
-                let line = &room.line[..line_length.min(room.line.len())];
-                return (status, room.output[..length].to_vec(), line.to_vec());
+                let line = room.line[..line_length.min(room.line.len())].to_vec();
+                let output = room.output[..length].to_vec();
+                if room.output.len() > KEPT {
+                    room.output = Vec::new();
+                }
+                return (status, output, line);
             }
             room.output.resize(length, 0);
         }
@@ -108,8 +118,13 @@ fn answer((status, output, line): (u8, Vec<u8>, Vec<u8>)) -> Result<(bool, Vec<u
         0 | 1 => Ok((status == 1, output)),
         3 => Err(Fault::Refused { line: text(line).trim_end().to_owned(), output }),
         4 => Err(Fault::Memory { output }),
-        _ => Err(Fault::TooLong),
+        5 => Err(Fault::TooLong),
+        _ => Err(unknown(format!("status {status}"))),
     }
+}
+
+fn unknown(answer: impl Into<String>) -> Fault {
+    Fault::Unknown { answer: answer.into() }
 }
 
 macro_rules! call {
@@ -141,20 +156,20 @@ pub fn list(program: &[u8]) -> Result<String, Fault> {
     Ok(text(call!(vuthgal_list, program)?.1))
 }
 
-/// The number at the end of a line.
-fn number_in(line: &str) -> u64 {
-    line.rsplit(' ').next().and_then(|word| word.trim_end().parse().ok()).unwrap_or(0)
+/// The verdict that a line tells.
+fn verdict(told: &str) -> Result<Verdict, Fault> {
+    let (what, line) = told.rsplit_once(' ').unwrap_or((told, ""));
+    match (what, line.parse()) {
+        ("same", _) => Ok(Verdict::Same),
+        ("differs", Ok(line)) => Ok(Verdict::Differs { line }),
+        ("not a trace", Ok(line)) => Ok(Verdict::NotATrace { line }),
+        _ => Err(unknown(told)),
+    }
 }
 
 /// Compares a trace with the run that it names.
 pub fn compare(program: &[u8], trace: &[u8]) -> Result<Verdict, Fault> {
-    let told = text(call!(vuthgal_compare, program, trace)?.1);
-    let line = number_in(&told);
-    Ok(match told.as_bytes().first() {
-        Some(b's') => Verdict::Same,
-        Some(b'd') => Verdict::Differs { line },
-        _ => Verdict::NotATrace { line },
-    })
+    verdict(text(call!(vuthgal_compare, program, trace)?.1).trim_end())
 }
 
 /// The schedule of a trace.
@@ -162,7 +177,14 @@ pub fn choices(trace: &[u8]) -> Result<Choices, Fault> {
     let (is_none, output) = call!(vuthgal_choices, trace)?;
     let told = text(output);
     let mut lines: Vec<&str> = told.lines().collect();
-    let no_line = if is_none { lines.pop().map(number_in) } else { None };
+    let no_line = if is_none {
+        match verdict(lines.pop().unwrap_or_default())? {
+            Verdict::NotATrace { line } => Some(line),
+            _ => return Err(unknown(told)),
+        }
+    } else {
+        None
+    };
     Ok(Choices { schedule: lines.concat(), no_line })
 }
 
@@ -188,11 +210,18 @@ pub fn debug(program: &[u8], commands: &[u8]) -> Result<String, Fault> {
 }
 
 /// What the words of a line mean; without words, what can be asked. None where no line has them.
-pub fn explain(words: &str) -> Option<String> {
-    let (status, output, _) = called(&|output, room, length, line, line_room, line_length| unsafe {
+pub fn explain(words: &str) -> Result<Option<String>, Fault> {
+    let told = called(&|output, room, length, line, line_room, line_length| unsafe {
         sys::vuthgal_explain(words.as_ptr(), words.len(), output, room, length, line, line_room, line_length)
     });
-    (status == 0).then(|| text(output))
+    explained(told)
+}
+
+fn explained(told: (u8, Vec<u8>, Vec<u8>)) -> Result<Option<String>, Fault> {
+    if told.0 == 2 {
+        return Ok(None);
+    }
+    Ok(Some(text(answer(told)?.1)))
 }
 
 /// The version of the library, the kit that proved it, and the sum of its sources, a line each.
@@ -201,4 +230,29 @@ pub fn version() -> String {
     let mut length = 0;
     unsafe { sys::vuthgal_version(output.as_mut_ptr(), output.len(), &mut length) };
     text(output[..length.min(output.len())].to_vec())
+}
+
+#[cfg(test)]
+mod tests {
+    use super::*;
+
+    fn explained_by(status: u8) -> Result<Option<String>, Fault> {
+        explained((status, b"a beginning".to_vec(), Vec::new()))
+    }
+
+    #[test]
+    fn only_status_2_is_no_line() {
+        assert_eq!(explained_by(2), Ok(None));
+        assert_eq!(explained_by(4), Err(Fault::Memory { output: b"a beginning".to_vec() }));
+        assert_eq!(explained_by(5), Err(Fault::TooLong));
+        assert_eq!(explained_by(9), Err(Fault::Unknown { answer: "status 9".into() }));
+    }
+
+    #[test]
+    fn only_a_verdict_is_one() {
+        assert_eq!(verdict("differs 7"), Ok(Verdict::Differs { line: 7 }));
+        for told in ["", "differs", "differs x", "not a trace ", "something else 1"] {
+            assert_eq!(verdict(told), Err(Fault::Unknown { answer: told.into() }));
+        }
+    }
 }

@@ -38,6 +38,7 @@ fn tells() {
     let refused = vuthgal::run(b"ldi r8 1\n", b"").unwrap_err();
     assert!(matches!(&refused, Fault::Refused { line, .. } if line == "refused asm 1 5"));
     assert!(refused.to_string().contains("BadRegister"));
-    assert_eq!(vuthgal::explain("hm hm"), None);
+    assert!(vuthgal::explain("memory").unwrap().is_some());
+    assert_eq!(vuthgal::explain("hm hm"), Ok(None));
     assert_eq!(vuthgal::version().lines().count(), 3);
 }

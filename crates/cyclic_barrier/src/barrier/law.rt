@@ -1,12 +1,12 @@
 ghost use Rattle.std.specs.Prelude.{◌≡◌, ℕ, Bool};
 ghost use Rattle.cyclic_barrier.specs.Barrier.{BarrierState, IsBarrier, fresh};
 ghost use Rattle.cyclic_barrier.specs.PlainBarrier as plain;
-ghost use Rattle.cyclic_barrier.specs.Past.{StandsFor, HasPast, FollowsPast};
+ghost use Rattle.cyclic_barrier.specs.Past.{IsStateAfter, HasPast, FollowsPast};
 ghost use Rattle.cyclic_barrier.specs.WhoWaits.{TellsWhoWaits};
 
 use super::Barrier;
 
-/// What is true of every barrier, so that no caller has to ensure it.
+/// Every barrier fulfils `IsBarrier`, so no caller has to ensure it.
 pub fn each_barrier_is_sound(barrier: &Barrier)
     ensures { IsBarrier barrier.now }
 {
@@ -14,20 +14,20 @@ pub fn each_barrier_is_sound(barrier: &Barrier)
     let _parties = barrier.parties;
 }
 
-/// Some past leads to each barrier, and that without any generation to a new one.
+/// Each barrier is the end of some past, which says how each generation ended. The past of a new barrier has no generation.
 pub fn each_barrier_has_a_past()
     ensures new { (parties : ℕ) → (action : Bool)
-        → StandsFor (fresh parties action) (plain.fresh parties action) }
+        → IsStateAfter (fresh parties action) (plain.fresh parties action) }
     ensures each { (b : BarrierState) → HasPast b }
 {}
 
-/// Each call at a barrier is that call at every past that leads to it: a waiter's outcome is the
-/// end of its own generation, and indices count down from parties - 1.
+/// Each call does the same at a barrier and at every past that leads to it: a waiter's outcome is the end of its own
+/// generation, and indices count down from parties - 1.
 pub fn calls_agree_with_the_past()
     ensures { (b : BarrierState) → IsBarrier b → FollowsPast b }
 {}
 
-/// Which threads have a wait after each call, and which thread runs the action after an entry.
+/// These threads have a wait after each call, and which thread runs the action after an entry.
 pub fn calls_tell_who_waits()
     ensures { (b : BarrierState) → IsBarrier b → TellsWhoWaits b }
 {}

@@ -38,7 +38,7 @@ pub static ENDING: [Entry; 6] = [
         asked: &[&["read"]],
         told: "read",
         means: "a file or standard input can't be read, doesn't exist, or is too long",
-        helps: "an existing file of up to 16777216 bytes, or `--plan PLAN` for a plan",
+        helps: "an existing file of up to 16777216 bytes",
         example: "vuthgal list no-such-file",
         more: "docs/COMMANDS.md, \"Exit statuses\"",
     },

@@ -29,14 +29,14 @@ pub static FINDING: [Entry; 10] = [
     Entry {
         asked: &[&["stopped"], &["stopped", "at", "1000000", "choices"]],
         told: "stopped at 1000000 choices",
-        means: "the plan needs more choices: the schedule so far was written",
-        helps: "a count after `..`, `?` or `)`, such as `..*50`, or a smaller one",
+        means: "the plan needs more choices: only the first 1000000 are written or played",
+        helps: "a count after `..`, `?` or `)`, as in `..*50`; with --seeds, `--limit N`",
         example: "printf '.thread t #0\\njmp #0\\n' > a.txt; echo .. | vuthgal plan a.txt",
         more: "docs/TRACES.md, \"Plan text\"",
     },
     Entry {
         asked: &[&["stuck"], &["state", "_", "_", "stuck"]],
-        told: "state STEPS CHOICES stuck",
+        told: "state CHOICES STEPS stuck",
         means: "some threads haven't ended, and none of them can continue",
         helps: "`vuthgal draw` shows which thread waits, and where",
         example: "printf '.phaser p 2\\n.thread t #0\\npaaa r0 p\\nhalt\\n.run\\nt0\\n' | vuthgal",
@@ -44,7 +44,7 @@ pub static FINDING: [Entry; 10] = [
     },
     Entry {
         asked: &[&["live"], &["state", "_", "_", "live"]],
-        told: "state STEPS CHOICES live",
+        told: "state CHOICES STEPS live",
         means: "the run has ended, but some thread can still continue",
         helps: "more choices; `..` at the end of a plan plays all threads in turn",
         example: "printf '.thread t #0\\nhalt\\n' | vuthgal",

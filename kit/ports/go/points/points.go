@@ -7,6 +7,7 @@
 package points
 
 import (
+	"fmt"
 	"os"
 	"strconv"
 	"sync"
@@ -29,7 +30,8 @@ func init() {
 	if text := os.Getenv("POINTS"); text != "" {
 		number, err := strconv.ParseUint(text, 10, 64)
 		if err != nil {
-			panic(err)
+			fmt.Fprintln(os.Stderr, "POINTS has to be a number, and is", text)
+			os.Exit(2)
 		}
 		seed = (2*number + 1) * 0x9e3779b97f4a7c15
 	}

@@ -4,12 +4,12 @@ use Rattle.std.specs.Borrow.{Bor}
 use Rattle.line_reader.specs.Seen.{name_seen}
 use Rattle.commands.specs.Planning.{HasThreads}
 use Rattle.commands.specs.Seeds.{AreOutcomesBy}
-use Rattle.commands.proofs.PlanParts.{no_orders}
+use Rattle.commands.proofs.PlanParts.{no_report}
 use Rattle.commands.proofs.seeds.report_seeds.Goals as goal
 
 pub returns-in-Err-clause-refused : goal.returns-in-Err-clause-refused
 returns-in-Err-clause-refused g c =
-    no_orders c.in-Err.reason c.args.program (map name_seen c.as_slice.result.now) c.args.plan.now c.args.seeds.now.limit
+    no_report c.in-Err.reason c.args.program (map name_seen c.as_slice.result.now) c.args.plan.now c.args.seeds.now
     (subst (λ (ns : List (Bor (List ℕ))). HasThreads c.args.program.image c.args.program.names (map name_seen ns)) (sym c.as_slice.ensures.value) c.in_ok-loaded.ensures.names)
     (λ f is. c.in-Err.ensures.refused f (ap Err is)) (λ f is. c.in-Err.ensures.other f (ap Err is))
 

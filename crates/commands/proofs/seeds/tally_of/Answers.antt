@@ -1,11 +1,13 @@
-use Rattle.std.proofs.Common.{◌∷◌, [], ◌++◌, arith, map, refl, subst, sym}
+use Rattle.std.proofs.Common.{◌≡◌, ◌∷◌, [], ◌++◌, ap, arith, map, refl, subst, sym}
+use Rattle.std.specs.Prelude.{Err}
 use Rattle.line_reader.specs.Seen.{name_seen}
 use Rattle.std.proofs.lemmas.List.{length-append}
 use Rattle.commands.specs.Outcomes.{AreOutcomes, is_state}
 use Rattle.commands.specs.Seeds.{IsEndBy, IsFirstUnlike}
+use Rattle.commands.specs.declared.unplanned.Unplanned.TheVariants as why
 use Rattle.indexmap.specs.IndexMap.{get}
 use Rattle.commands.proofs.Counting.{few, nothing}
-use Rattle.commands.proofs.Seeded.{one_more, one_more_unlike}
+use Rattle.commands.proofs.Seeded.{one_is_refused, one_more, one_more_unlike}
 use Rattle.commands.proofs.seeds.tally_of.Goals as goal
 
 pub loop-number-init : goal.loop-number-init
@@ -33,6 +35,12 @@ loop-number-preserved g c =
             (one_more_unlike c.args.seeds.now.expected.now so.0 more.0 _ _ so.1.3 more.1.2),
       ),
     )
+
+pub returns-in-Err-clause-refused : goal.returns-in-Err-clause-refused
+returns-in-Err-clause-refused g c = λ f is.
+    let same : c.in-Err.reason ≡ why.Plan f = cc is in
+    one_is_refused c.args.seeds.now (map name_seen c.args.names.now) c.args.plan.now f c.loop-number.number _ c.loop-number-test.true
+    (omega (arith, c.from.ensures, c.from-in-loop-number.ensures)) (c.in-Err.ensures.refused f (ap Err same))
 
 pub returns-in-Ok-sort-clause-outcomes : goal.returns-in-Ok-sort-clause-outcomes
 returns-in-Ok-sort-clause-outcomes g c =

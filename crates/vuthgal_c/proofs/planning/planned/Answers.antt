@@ -12,5 +12,6 @@ returns-in-Ok g c =
       refused = refused_in_file c.plan.result c.args.file.now c.args.steps.now c.in-Ok.program is c.plan.ensures.refused;
       unwritten = c.plan.ensures.unwritten;
       read = λ e. absurd (c.plan.ensures.other.0 e);
+      write = c.plan.ensures.write;
       spawn = c.plan.ensures.other.1;
     }

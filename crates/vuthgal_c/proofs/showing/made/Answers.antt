@@ -17,5 +17,6 @@ returns-in-Err-make g c = record {
       subst (λ (s : List ℕ). GivesTooMuch (Some s) (Some c.make.new.schedule)) c.new-schedule.ensures much,
     )
   ];
+  write = λ e. c.make.ensures.write (err_again _ _ _ _ refl c.in-Err-make.is e);
   spawn = search rules;
 }

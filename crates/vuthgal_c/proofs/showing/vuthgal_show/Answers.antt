@@ -1,4 +1,4 @@
-use Rattle.std.proofs.Common.{rules, ℕ, List, [], Some, inl, inr, subst, ap, refl, codes}
+use Rattle.std.proofs.Common.{rules, ℕ, false, List, [], Some, inl, inr, subst, ap, refl, codes}
 use Rattle.commands.specs.Page.{IsPageIn}
 use Rattle.pictures.specs.declared.others.OtherRuns.TheVariants as others
 use Rattle.workbench.specs.declared.fault.PictureKind.TheVariants as picture
@@ -11,7 +11,7 @@ pub returns : goal.returns
 returns c =
     let begun = ap (λ (t : Tally). t.written) c.new-shown.ensures in
     let made = subst (λ (w : List ℕ). MakesPicture (λ program schedule page. IsPageIn others.Told program.image program.bytes.now schedule page)
-    picture.Page c.args.program.now c.args.schedule.now c.made-answer.result (Some w) (Some c.made-answer.new.output.written)) begun c.made-answer.ensures in
+    picture.Page c.args.program.now c.args.schedule.now c.made-answer.result (Some w) (Some c.made-answer.new.output.written) false) begun c.made-answer.ensures in
     (c.made-answer.new.output.written, (c.settled_as_asked-status.new.errors.written, (search rules, search rules, inl (c.made-answer.result, (made, search rules)))))
 
 -- there was no memory

@@ -1,8 +1,8 @@
 use Rattle.std.proofs.Common.{◌≡◌, ◌<◌, ℕ, false}
-use Rattle.thread_runner.specs.Recording.{world_after}
+use Rattle.thread_runner.specs.Recording.{recorded_world}
 use Rattle.thread_runner.specs.Turns.{is_ready_in}
 use Rattle.thread_runner.proofs.journaled.Journaled.some_turn.Given as goal
 
 -- none of the threads so far is ready
 abbrev pub invariant-loop-t : goal.invariant-loop-t
-invariant-loop-t l = (k : ℕ) → k < l.t → is_ready_in (world_after l.self) k ≡ false
+invariant-loop-t l = (k : ℕ) → k < l.t → is_ready_in (recorded_world l.self) k ≡ false

@@ -2,7 +2,7 @@ use Rattle.std.proofs.Common.{◌≡◌, ◌∙◌, ap, arith, rules, sym, subst
 use Rattle.thread_machine.specs.World.{World, world_of, first_world}
 use Rattle.thread_machine.specs.Ready.{is_choice_ready}
 use Rattle.thread_machine.specs.Step.{Played, played}
-use Rattle.thread_runner.specs.Recording.{recording_of, world_after, with_choice}
+use Rattle.thread_runner.specs.Recording.{recording_of, recorded_world, with_choice}
 use Rattle.thread_runner.specs.Turns.{IsDue}
 use Rattle.thread_runner.proofs.Replays.{recorded_more, replay_more, same_first}
 use Rattle.thread_runner.proofs.journaled.Journaled.take.Goals as goal
@@ -13,7 +13,7 @@ invariant_of-self-in-Ok c =
     let after = c.step.new.self in
     let old = c.self.inside.schedule.items in
     let first = first_world m.program m.limit in
-    let here : world_after c.args.self.now ≡ world_of m = ap world_after (sym c.self.view_is) ∙ c.self.invariant.replay.replay.leads in
+    let here : recorded_world c.args.self.now ≡ world_of m = ap recorded_world (sym c.self.view_is) ∙ c.self.invariant.replay.replay.leads in
     let ready : is_choice_ready m.program c.args.choice (world_of m).scene ≡ true =
     subst (λ (w : World). is_choice_ready w.program c.args.choice w.scene ≡ true) here c.requires.ready in
     let due : IsDue (world_of m) c.args.choice = subst (λ (w : World). IsDue w c.args.choice) here c.requires.due in
@@ -31,7 +31,7 @@ returns-in-Ok-clause-recorded c =
     let after = c.step.new.self in
     let old = c.self.inside.schedule.items in
     let first = first_world m.program m.limit in
-    let here : world_after c.args.self.now ≡ world_of m = ap world_after (sym c.self.view_is) ∙ c.self.invariant.replay.replay.leads in
+    let here : recorded_world c.args.self.now ≡ world_of m = ap recorded_world (sym c.self.view_is) ∙ c.self.invariant.replay.replay.leads in
     let ready : is_choice_ready m.program c.args.choice (world_of m).scene ≡ true =
     subst (λ (w : World). is_choice_ready w.program c.args.choice w.scene ≡ true) here c.requires.ready in
     let due : IsDue (world_of m) c.args.choice = subst (λ (w : World). IsDue w c.args.choice) here c.requires.due in
@@ -47,7 +47,7 @@ returns-in-Ok-clause-recorded c =
 pub returns-in-Ok-clause-played : goal.returns-in-Ok-clause-played
 returns-in-Ok-clause-played c =
     let m = c.self.inside.machine in
-    let here : world_after c.args.self.now ≡ world_of m = ap world_after (sym c.self.view_is) ∙ c.self.invariant.replay.replay.leads in
+    let here : recorded_world c.args.self.now ≡ world_of m = ap recorded_world (sym c.self.view_is) ∙ c.self.invariant.replay.replay.leads in
     let recorded = invariant_of-self-in-Ok c in
     ap (λ w. record { world = w; event = c.in-Ok.event }) recorded.replay.replay.leads
     ∙ c.in-Ok.ensures.played ∙ ap (λ w. played w c.args.choice) (sym here)

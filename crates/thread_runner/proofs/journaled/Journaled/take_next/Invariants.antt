@@ -1,8 +1,8 @@
 use Rattle.std.proofs.Common.{◌≡◌, ◌<◌, ℕ, false}
-use Rattle.thread_runner.specs.Recording.{world_after}
+use Rattle.thread_runner.specs.Recording.{recorded_world}
 use Rattle.thread_runner.specs.Turns.{may_choose}
 use Rattle.thread_runner.proofs.journaled.Journaled.take_next.Given as goal
 
 -- nothing was chosen yet, and none of the threads so far has a choice to make
 abbrev pub invariant-loop-t : goal.invariant-loop-t
-invariant-loop-t l = (l.self ≡ l.initial.self) × ((k : ℕ) → k < l.t → may_choose (world_after l.self) k ≡ false)
+invariant-loop-t l = (l.self ≡ l.initial.self) × ((k : ℕ) → k < l.t → may_choose (recorded_world l.self) k ≡ false)
