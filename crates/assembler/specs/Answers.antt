@@ -1,4 +1,4 @@
--- The result of a call, compared with what is read. Any call may be out of memory instead.
+-- The result of a call, compared with what the definitions read. Any call may be out of memory instead.
 use Rattle.std.specs.Prelude.{ℕ, Bool, true, false, Result, Ok, Err}
 use Rattle.row_code.specs.Answers.{Answers, FailsUnless}
 use Rattle.line_reader.specs.declared.asm_fault.AsmFault.{AsmFault}

@@ -1,4 +1,4 @@
--- The image that a text stands for.
+-- The image that a text represents.
 use Rattle.std.specs.Prelude.{◌≡◌, ◌⊎◌, ℕ, ◌+◌, ◌&&◌, Bool, true, pos, List, [], ◌∷◌, Option, Some, None, option_map, is_some}
 use Rattle.std.specs.List.{flat_map, list_all}
 use Rattle.instruction_table.specs.declared.register.Reg.TheVariants.{R0}

@@ -1,4 +1,4 @@
--- The names of a text, and what each names: what a reader of the image would call its things.
+-- The names in a text, and what each name refers to.
 use Rattle.std.specs.Prelude.{ℕ, ◌==◌, ◌&&◌, Bool, List, [], ◌∷◌, find, Option, Some, None, option_map, Result, Ok}
 use Rattle.std.specs.List.{flat_map}
 use Rattle.instruction_table.specs.declared.shape.OperandKind.{OperandKind}

@@ -1,8 +1,8 @@
 //! The assembler: from a program's text to its image, and back.
 //!
-//! `assemble` returns the image that a text stands for, or the text's first fault and its line. What a text stands for is a
-//! relation that knows nothing of how it is read. `disassemble` writes the canonical text of an image, which stands for no
-//! other image. No choice of names makes `assemble` slow (`name_hash` says why).
+//! `assemble` returns the image that a text represents, or the first fault of the text, with its line. The relation `StandsFor`
+//! says which image a text represents. It doesn't depend on how a text is read. `disassemble` writes the canonical text of an
+//! image. This text represents no other image. No choice of names makes `assemble` slow (`name_hash` says why).
 #![tactic(auto)]
 
 // How a line is read after the lines before it.

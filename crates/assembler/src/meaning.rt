@@ -6,17 +6,17 @@ ghost use Rattle.line_reader.specs.Listing.{canonical};
 ghost use Rattle.assembler.specs.Meaning.{StandsFor};
 ghost use Rattle.assembler.specs.Passes.{assembled};
 
-/// No text stands for two images.
+/// No text represents two images.
 pub fn one_image()
     ensures { (text : List ℕ) (i j : Image) → StandsFor text i → StandsFor text j → i ≡ j }
 {}
 
-/// The canonical text of an image stands for it.
+/// The canonical text of an image represents this image.
 pub fn canonical_means_image()
     ensures { (i : Image) → IsImage i → StandsFor (canonical i) i }
 {}
 
-/// The canonical text of an image is assembled to this image.
+/// If the canonical text of an image is assembled, the result is this image.
 pub fn canonical_is_assembled()
     ensures { (i : Image) → IsImage i → assembled (canonical i) ≡ Ok i }
 {}

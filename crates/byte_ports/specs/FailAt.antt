@@ -1,4 +1,4 @@
--- The call at which a port in memory is to fail, counted from 0 for the next one. With None no call fails.
+-- Which call of a port in memory fails: 0 is the next call. With None no call fails.
 use Rattle.std.specs.Prelude.{ℕ, ◌-◌, ◌==◌, Bool, false, Option, None, Some}
 
 -- it is the next call

@@ -1,4 +1,4 @@
--- How every port fails, and what a port over a reader or a writer is.
+-- How each port fails, and what a port is that uses a reader or a writer.
 use Rattle.std.specs.Prelude.{Bool, Result, IsErr, IsTrue, ◌↔◌}
 
 -- a call returns an error exactly if the port has failed, and a port that has failed stays so

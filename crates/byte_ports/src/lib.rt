@@ -1,8 +1,8 @@
 //! Where bytes come from, and where they go.
 //!
-//! The workbench reads from a `Source` and writes to a `Sink`. It never sees a file or a terminal, and the contracts of other
-//! crates can name the bytes. The ports are like Java's streams, with `Failed` for `IOException`. A port that has failed
-//! returns `Failed` for ever.
+//! The workbench reads bytes from a `Source` and writes bytes to a `Sink`. It never sees a file or a terminal. Sources and
+//! sinks are called ports, and contracts of other crates can name their bytes. Ports are like Java's streams, but a call
+//! returns `Failed` where Java throws `IOException`. After a port has failed, each later call returns `Failed`, too.
 #![tactic(auto)]
 
 // The error.

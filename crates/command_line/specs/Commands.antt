@@ -1,4 +1,4 @@
--- The program's commands, by what is read of them when words are parsed.
+-- The program's commands, as far as they matter when arguments are parsed.
 use Rattle.std.specs.Prelude.{List, [], ◌∷◌, Some, true, false, codes, map}
 use Rattle.clap.specs.Words.{App, Rule, Shape, Text, new_app, new_rule}
 use Rattle.clap.specs.declared.builder.action.ArgAction.TheVariants.{Append, SetTrue}

@@ -1,7 +1,7 @@
-//! The command line: the table of commands, and what the arguments after the program's name ask for.
+//! The command line: the table of commands, and how the arguments after the program's name are read.
 //!
-//! `commands` is the table, with the arguments and options of each command and the texts of their help. `request` reads
-//! arguments by it.
+//! `commands` is the table. It has the arguments and options of each command, and the texts of their help. `request` uses this
+//! table to read arguments.
 #![tactic(auto)]
 
 // The table, and the texts of the help, in lines of at most 80 columns.

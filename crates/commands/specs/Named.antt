@@ -1,4 +1,4 @@
--- A schedule by the names of the threads: words of a plan, each of which a plan reads as its choice.
+-- A schedule with the names of the threads: it consists of words of a plan, and a plan reads each word as its choice.
 use Rattle.std.specs.Prelude.{ℕ, ◌==◌, ◌&&◌, if◌then◌else◌, Bool, false, not, List, [], ◌∷◌, ◌++◌, Option, Some, None, Result, Ok, map, option_map, slice_get, unwrap_or}
 use Rattle.std.specs.Borrow.{Bor}
 use Rattle.std.specs.Fmt.{decimal}

@@ -1,4 +1,4 @@
--- Why there is no picture of a run, in the words of the commands.
+-- Why there is no picture of a run, as a fault of the commands.
 use Rattle.pictures.specs.declared.page.PageFault.{PageFault}
 use Rattle.pictures.specs.declared.page.PageFault.TheVariants as page
 use Rattle.trace_text.specs.declared.start.StartFault.{StartFault}

@@ -1,4 +1,4 @@
--- What the commands read and write, whatever the picture: IsPicture schedule bytes says which bytes are one.
+-- What the commands read and write for any kind of picture: `IsPicture schedule bytes` says which bytes are a picture.
 use Rattle.std.specs.Prelude.{ℕ, if◌then◌else◌, List, [], Option}
 use Rattle.std.specs.Io.KnownBytes.{Appends}
 use Rattle.row_code.specs.declared.image.Image.{Image}

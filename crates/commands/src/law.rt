@@ -6,8 +6,7 @@ ghost use Rattle.line_reader.specs.Words.{lines_of};
 ghost use Rattle.schedule_reader.specs.Schedule.{finished_schedule};
 ghost use Rattle.commands.specs.Rows.{AreSaid, IsRowListing, row_lines};
 
-/// A row is reported with the line that spells it: each row of the image has one line number, and the line there spells this
-/// row.
+/// Each row of an image is reported with one line number of the text, and this line spells the row.
 pub fn a_row_is_told_with_the_line_that_says_it()
     ensures { (text : List ℕ) (lines : List (Line Name)) → SayInOrder 1 (lines_of text) lines
         → AreSaid (lines_of text) lines (image_of lines).rows (row_lines lines) }
@@ -18,7 +17,7 @@ pub fn a_file_has_one_listing()
     ensures { (file a b : List ℕ) → IsRowListing file a → IsRowListing file b → a ≡ b }
 {}
 
-/// An LF after a schedule doesn't change it, so what is written as a line is read as the same schedule.
+/// An LF after a schedule doesn't change the schedule. So a schedule that is written as a line is read as the same schedule.
 pub fn a_line_of_a_schedule_is_the_schedule()
     ensures { (text : List ℕ) → finished_schedule (text ++ 10 ∷ []) ≡ finished_schedule text }
 {}

@@ -1,3 +1,4 @@
+-- Which threads have a wait after each call.
 use Rattle.std.specs.Prelude.{◌≡◌, ℕ, ◌<◌, Bool, not, ◌&&◌, ◌||◌, ◌==◌}
 use Rattle.cyclic_barrier.specs.Barrier.{BarrierState, has_wait, is_wait, runner_after, enter_timed, end_action, leave, interrupt, expire, reset}
 

@@ -1,9 +1,13 @@
-//! Java's `CyclicBarrier`, played one call at a time. A barrier is a value that needs no memory from the heap, and is copied
-//! like a number.
+//! Java's `CyclicBarrier`, played one call at a time. A `Barrier` is a value. It is copied like a number, and needs no memory
+//! from the heap.
 //!
-//! No call waits: a thread that would wait gets its arrival index, and later calls `look` for the state of its wait. The
-//! contract of each call is one equation: it gives the result and the new state, as plain values. By a law, each waiter
-//! learns how its own generation ended, as in Java.
+//! No call waits. If a thread would wait, `enter` returns the thread's arrival index, and the barrier keeps the wait. Call
+//! `look` later for the state of this wait. The contract of each call is one equation. It gives the result and the new state as
+//! plain values.
+//!
+//! A generation is one round of arrivals, and ends as tripped or as broken. A past of a barrier says how each finished
+//! generation ended, and for which generation each thread waits. Laws about pasts say that each waiting thread learns how its
+//! own generation ended, as in Java.
 #![tactic(auto)]
 
 mod answer;

@@ -1,4 +1,4 @@
--- What a line of the debugger asks for.
+-- Which command a line of the debugger is.
 use Rattle.std.specs.Prelude.{ℕ, ◌==◌, ◌&&◌, ◌||◌, not, nat_le, if◌then◌else◌, Bool, true, false, List, [], ◌∷◌, length, take, drop, Option, Some, None}
 use Rattle.std.specs.List.{position_or_len, list_all, list_any}
 use Rattle.std.specs.Char.{is_ascii_digit}

@@ -1,4 +1,4 @@
--- A debugged machine: its world, the worlds that it can go back to, and its breakpoints.
+-- A debugged machine: its world, the worlds to which it can go back, and its breakpoints.
 use Rattle.std.specs.Prelude.{◌≡◌, ℕ, Bool, List, [], ◌∷◌, ◌++◌, map, take, Option, None}
 use Rattle.machine_scene.specs.Undo.{Note}
 use Rattle.thread_machine.specs.World.{World, StoredWorld, world_of}

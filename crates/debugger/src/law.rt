@@ -7,27 +7,28 @@ ghost use Rattle.debugger.specs.Command.{Order};
 ghost use Rattle.debugger.specs.Reply.{Replies};
 ghost use Rattle.debugger.specs.Standing.{Stands};
 
-/// After any steps and steps back, the session is that of the choices that were not taken back.
+/// After any steps and steps back, the session is the result of the choices that were not taken back.
 pub fn what_is_not_taken_back_was_played()
     ensures { (first : World) (choices : List Choice) (before after : Session) (moves : List Move)
         → IsHistory first choices before → AreMoves before moves after
         → IsHistory first (choices_left choices moves) after }
 {}
 
-/// Choices that are played one after another, by `step` or by `go`, follow those before them in the history.
+/// If choices are played one after another, by `step` or by `go`, they are added at the end of the history.
 pub fn choices_in_a_row_extend_the_history()
     ensures { (first : World) (choices more : List Choice) (before after : Session)
         → IsHistory first choices before → AreSteps before more after → IsHistory first (choices ++ more) after }
 {}
 
-/// After each command the session is that of the choices that have been played and not taken back.
+/// After each command the session is the result of the choices that were played and not taken back.
 pub fn each_command_leaves_a_history()
     ensures { (first : World) (choices : List Choice) (before after : Session) (order : Order) (reply : List ℕ)
         → IsHistory first choices before → Replies before order after reply
         → (now : List Choice) × (Stands before choices order now × IsHistory first now after) }
 {}
 
-/// Some steps and the same number of steps back restore the machine word for word, if that number is kept.
+/// Some steps and the same number of steps back restore the machine, word for word. The session must be able to keep so many
+/// steps.
 pub fn steps_and_as_many_back_are_nothing()
     ensures { (before after : Session) (choices : List Choice) → length choices ≤ before.kept
         → length before.past ≤ before.kept → AreSteps before choices after

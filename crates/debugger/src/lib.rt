@@ -1,7 +1,7 @@
 //! A debugger for the machine: single steps, steps back and breakpoints.
 //!
-//! At each moment its machine is that of the choices played and not taken back, to the stored words. `command` carries out a
-//! line, and writes exactly the reply of `specs/Reply.antt`.
+//! At each moment the debugger's machine is the result of the choices that were played and not taken back, word for word.
+//! `command` carries out one line. It writes exactly the reply that `specs/Reply.antt` defines.
 #![tactic(auto)]
 
 mod command;

@@ -1,4 +1,4 @@
--- The past of a barrier, over whole runs: how each of its generations ended, and which generation each wait is for.
+-- The past of a barrier during a whole run: how each of its generations ended, and for which generation each thread waits.
 use Rattle.std.specs.Prelude.{◌≡◌, ◌⊎◌, ℕ, ℤ, pos, not, int_lt, Bool, true, false, List, [], ◌∷◌, Option, Some, None}
 use Rattle.instruction_table.specs.declared.row.Row.{Row}
 use Rattle.instruction_table.specs.declared.row.Row.TheVariants.{Ret, Cawait, Cawaitt, Creset}

@@ -1,4 +1,4 @@
--- One choice of those that are played, and some of them.
+-- What one of the played choices does, and what several of them do.
 use Rattle.std.specs.Prelude.{◌≡◌, Bool, true, false, List, ◌++◌, is_some, None}
 use Rattle.thread_machine.specs.declared.choice.Choice.{Choice}
 use Rattle.thread_machine.specs.World.{World}

@@ -14,8 +14,9 @@ pub fn no_phase_ends_early()
     ensures { EndsNoPhaseEarly }
 {}
 
-/// The last arrival of those who registered with a tree ends its phase, or enters its routine, whose `ret` ends it. This is not
-/// about trees that are terminated, or that an unregistered party has arrived in.
+/// The choice with which the last registered party of a tree arrives or leaves ends the phase, or its thread enters the tree's
+/// routine. The `ret` out of the routine ends the phase. This isn't about trees that are terminated, or in which an
+/// unregistered party has arrived.
 pub fn phases_end_in_time()
     ensures { PhasesEndInTime }
 {}
@@ -25,22 +26,24 @@ pub fn arrivals_are_taken()
     ensures { ArrivalsAreTaken }
 {}
 
-/// A phase ends only if `onAdvance` returns a result, and a phaser is terminated only by its result true, or by force.
+/// A phase ends only if `onAdvance` returns a result. A phaser is terminated only if this result is true, or by force.
 pub fn terminations_are_said()
     ensures { TerminationsAreSaid }
 {}
 
-/// The number of a phaser's phase becomes the one after its root's when a phase of its tree ends, and stays otherwise.
+/// When a phase of its tree ends, a phaser gets the phase number that follows that of its root. Otherwise its phase number
+/// doesn't change.
 pub fn numbers_change_at_ends()
     ensures { NumbersChangeAtEnds }
 {}
 
-/// Each barrier has a past, of which each state of a run is the record.
+/// Each barrier has a past, to which the calls of the threads are added. In each state of a run, the barrier is what this past
+/// leads to.
 pub fn barriers_have_pasts()
     ensures { BarriersHavePasts }
 {}
 
-/// However a program's phasers are stored at first, its executions are one.
+/// It makes no difference to the executions of a program how its phasers are stored at first.
 pub fn phasers_may_be_stored_otherwise()
     ensures { StoredAlike }
 {}

@@ -1,8 +1,9 @@
-//! What the whole project promises about a program's machine and the shared phaser (`specs/Headline.antt`), and what its
-//! commands then show (`specs/EndToEnd.antt`): two pages, and the functions that keep these promises.
+//! What the whole project promises, on two pages, and the functions that keep these promises.
 //!
-//! `play` leaves what the rows give. `law` says what holds whatever is chosen. `back` takes back what it has played. `beneath`
-//! is about trees whose words lag, and about the word that threads share. `shown` has the functions that the program calls.
+//! `specs/Headline.antt` is about the machine of a program, and about the shared phaser. `specs/EndToEnd.antt` says what the
+//! commands then show. The module `play` plays what the rows say. The laws in `law` hold whatever is chosen. The module `back`
+//! takes back what it has played. `beneath` is about trees whose words lag, and about the word that threads share. `shown` has
+//! the functions that the program calls.
 #![tactic(auto)]
 
 // What a program's choices leave.

@@ -118,7 +118,7 @@ pub fn live<R: Threads + Wait + Sync, G: Gate + Sync, K: Sink>(
     workbench::live::live(threads, alloc, limit, gate, image, output)
 }
 
-/// A text whose program the loader refuses is never shown, for example one with a thread without a row.
+/// If the loader refuses the program of a text, no run of this text is ever shown. An example is a thread without a row.
 pub fn what_is_refused_is_never_shown()
     ensures { (text : List ℕ) (image : Image) (why : LoadFault) (before after : Option (List ℕ))
         → StandsFor (program_part text) image → first_fault image ≡ Some why
@@ -130,7 +130,7 @@ pub fn sessions_give_the_rows()
     ensures { SessionsGiveTheRows }
 {}
 
-/// A live run that may take a step makes a choice: no accepted program is over before its first one.
+/// A live run that may take a step makes at least one choice: no accepted program is over before its first choice.
 pub fn a_live_run_chooses()
     ensures { (limit : ℕ) (image : Image) (choices : List Choice)
         → 0 < limit → Accepted image → IsRecorded image limit choices → choices ≢ [] }

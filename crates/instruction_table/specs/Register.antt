@@ -1,3 +1,4 @@
+-- The numbers of the registers.
 use Rattle.std.specs.Prelude.{ℕ}
 use Rattle.instruction_table.specs.declared.register.Reg.{Reg}
 use Rattle.instruction_table.specs.declared.register.Reg.TheVariants.{R0, R1, R2, R3, R4, R5, R6, R7}

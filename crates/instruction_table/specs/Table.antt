@@ -1,3 +1,4 @@
+-- The instruction table: for each kind of row its opcode, its word, and the kinds of its operands.
 use Rattle.std.specs.Prelude.{ℕ, List, [], ◌∷◌, codes, bytes_eq, find, Option, Some, None, if◌then◌else◌, slice_index_or}
 use Rattle.std.specs.Borrow.{Bor}
 use Rattle.instruction_table.specs.declared.row.Row.{Row}

@@ -1,7 +1,7 @@
 //! The instruction set of the machine: what each row of a program is, and how it is written.
 //!
-//! A table gives each kind of row its opcode, its word, and the kinds of its operands. `local` is the whole effect of the eight
-//! kinds that use only their own thread's registers.
+//! The table has an entry for each kind of row: its opcode, its word, and the kinds of its operands. Eight kinds of rows use
+//! only registers of their own thread. `local` returns everything that such a row changes.
 #![tactic(auto)]
 
 // The rows, and the registers that they name.

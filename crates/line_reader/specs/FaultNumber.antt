@@ -1,4 +1,4 @@
--- The numbers that the faults of a program's text are reported with.
+-- The number of each fault of a program's text, as it is reported.
 use Rattle.std.specs.Prelude.{ℕ, Option, Some, None}
 use Rattle.line_reader.specs.declared.asm_fault.AsmFaultKind.{AsmFaultKind}
 use Rattle.line_reader.specs.declared.asm_fault.AsmFaultKind.TheVariants as kind

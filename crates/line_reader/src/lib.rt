@@ -1,7 +1,7 @@
-//! What one line of a program's text says: its words and their meaning, and the lines that an image is written in.
+//! What one line of a program's text says: its words and their meaning. An image is also written as such lines.
 //!
-//! A line is read on its own. Which names exist, and what other lines say, is left to the assembler. `specs/Spelling.antt` is
-//! the grammar, and `specs/Reading.antt` says which of a line's faults is reported.
+//! Each line is read by itself. The assembler checks which names exist, and what other lines say. `specs/Spelling.antt` is the
+//! grammar. `specs/Reading.antt` says which fault of a line is reported.
 #![tactic(auto)]
 
 // The parts of a line.

@@ -1,4 +1,4 @@
--- What the declarations of an image stand for.
+-- What the declarations of an image mean.
 use Rattle.std.specs.Prelude.{◌≡◌, ℕ, pos, nat_abs, false, List, [], length, take, fold, slice_index_or, Option, None, is_some, unwrap_or}
 use Rattle.std.specs.Option.{option_map}
 use Rattle.packed_phaser.specs.declared.policy.Policy.{Policy}

@@ -1,4 +1,4 @@
--- What a row names, and after which rows no thread goes to the next one.
+-- Which object a row names, and after which rows a thread never continues with the next row.
 use Rattle.std.specs.Prelude.{ℕ, nat_abs, Bool, true, false, List, [], ◌∷◌}
 use Rattle.instruction_table.specs.declared.row.Row.{Row}
 use Rattle.instruction_table.specs.declared.row.Row.TheVariants.{Halt, Jmp, Ret, Throw}

@@ -1,7 +1,7 @@
 //! The checks that a program passes before it is played.
 //!
-//! `load` returns the program that an image declares, or the first fault in a fixed order, with its place. What was checked is
-//! true of every `Loaded`, as the checks of Java's verifier are true of a class.
+//! `load` returns the program that an image declares, or the first fault in a fixed order, with its place. Every `Loaded` has
+//! passed these checks, so the machine can rely on them, as a JVM relies on the checks of its verifier.
 #![tactic(auto)]
 
 // Why an image is refused.

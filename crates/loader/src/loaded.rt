@@ -115,7 +115,7 @@ impl Loaded {
         })
     }
 
-    /// A law: every loaded program fulfils this. Nothing runs.
+    /// A law: every loaded program fulfils `IsProgram`. The function itself does nothing.
     pub fn each_program_is_whole(&self)
         ensures { IsProgram self.now }
     {

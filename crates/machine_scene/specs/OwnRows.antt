@@ -1,4 +1,4 @@
--- Rows that touch nothing but their own thread's registers and place, and `halt`.
+-- Rows that change only the registers and the place of their own thread, and the row `halt`.
 use Rattle.std.specs.Prelude.{ℕ, Option, Some, None, if◌then◌else◌}
 use Rattle.instruction_table.specs.declared.row.Row.{Row}
 use Rattle.instruction_table.specs.declared.row.Row.TheVariants.{Halt}

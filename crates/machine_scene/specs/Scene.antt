@@ -1,4 +1,4 @@
--- What the rows of a program act on, and what a turn leaves of it.
+-- What the rows of a program act on, and how a turn changes it.
 use Rattle.std.specs.Prelude.{ℕ, ℤ, pos, false, List, [], length, map, replicate, slice_index_or, slice_set}
 use Rattle.tier_tree.specs.Forest.{PhaserState}
 use Rattle.tier_tree.specs.Stored.{Stored, phasers_of}

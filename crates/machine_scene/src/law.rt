@@ -7,8 +7,8 @@ ghost use Rattle.machine_scene.specs.Sound.{IsSound};
 
 use loader::Loaded;
 
-/// A turn is ready exactly if the list of statuses and rows names it. A wait can expire exactly if the thread's turn isn't
-/// ready and the list of timed waits names it. Nothing runs.
+/// A thread's turn is ready exactly if `is_listed` names its status and its row. Its wait can expire exactly if its turn isn't
+/// ready and `can_run_out` names its status and its row.
 #[tactic(auto, using(crate::proofs::ReadyThreads::ready_as_listed, crate::proofs::ReadyThreads::expiry_as_listed))]
 pub fn who_is_ready()
     ensures turns { (t : ℕ) (program : Program) (scene : Scene) → is_ready t program scene
@@ -18,7 +18,7 @@ pub fn who_is_ready()
         && can_run_out (thread_at scene t).status (row_at program.rows (thread_at scene t).pc) scene) }
 {}
 
-/// The first scene of a loaded program is sound, whatever the limit of steps is.
+/// The first scene of a loaded program is sound, for any limit of steps.
 #[tactic(auto, using(crate::proofs::Start::first_scene_is_sound))]
 pub fn a_first_scene_is_sound(program: &Loaded)
     ensures { (steps : ℕ) → IsSound program.now steps (first_scene program.now) }

@@ -1,4 +1,4 @@
--- What the results of a word's calls say about the phasers that the words stand for.
+-- The results of a word's calls, as results of the calls that `Flat.antt` defines.
 use Rattle.packed_phaser.specs.declared.word.Registered.{Registered}
 use Rattle.packed_phaser.specs.declared.word.Registered.TheVariants as registered
 use Rattle.packed_phaser.specs.declared.word.Arrived.{Arrived}

@@ -1,4 +1,4 @@
--- A phaser with neither parent nor children as plain counts, and what each call does to it.
+-- The state of a phaser that has no parent and no children, as plain values, and what each call does to it.
 use Rattle.std.specs.Prelude.{◌≡◌, ℕ, ℤ, pos, ◌+◌, ◌-◌, ◌^◌, ◌<◌, ◌≤◌, ◌==◌, nat_lt}
 use Rattle.std.specs.Prelude.{if◌then◌else◌, Bool, true, false}
 use Rattle.phase_number.specs.Phase.{next_phase, phase_view}

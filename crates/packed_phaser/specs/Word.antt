@@ -1,4 +1,4 @@
--- Which 64-bit words stand for which phaser.
+-- Which 64-bit numbers are words, and which state of a phaser each word represents.
 use Rattle.std.specs.Prelude.{ℕ, ◌-◌, ◌/◌, ◌%◌, ◌^◌, ◌<◌, ◌≤◌, ◌==◌, ◌&&◌, not, max, if◌then◌else◌}
 use Rattle.packed_phaser.specs.declared.word.Fields.{Fields}
 use Rattle.packed_phaser.specs.Flat.{Flat}

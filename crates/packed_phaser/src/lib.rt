@@ -1,29 +1,32 @@
 //! One `java.util.concurrent.Phaser` without tiers, packed into 64 bits.
 //!
-//! Each call on a `Word` returns a new word, by the rules of a phaser as plain counts (`specs/Flat.antt`). No call allocates.
+//! A `Word` is the state of a phaser. A call that changes the state returns a new word. `specs/Flat.antt` defines each call for
+//! a state of plain values: the phase, the parties, how many of them have arrived, and whether the phaser is turned or
+//! terminated. No call allocates memory.
 //!
 //! | Bits | Field | What it says |
 //! |---|---|---|
 //! | 0 to 15 | unarrived | how many parties are still to arrive in this phase |
-//! | 16 to 31 | parties | how many are registered |
+//! | 16 to 31 | parties | how many parties are registered |
 //! | 32 to 62 | phase | the number of the phase; 0 comes after 2147483647 |
-//! | 63 | ended | 1 once the phaser is terminated |
+//! | 63 | ended | 1 if the phaser is terminated |
 //!
-//! An arrival subtracts 1 from the word. The arrival of a party that leaves subtracts 65537: one from each of the two counts. A
-//! registration adds to both. Four values mean more than their counts say:
+//! An arrival subtracts 1 from the word. If the party also leaves, the call subtracts 65537, which is 1 from each of the two
+//! counts. A registration of n parties adds n to both counts. In four cases the counts have a special meaning:
 //!
-//! - If unarrived is 0, nobody is still to arrive. The phaser is turned: its phase is about to end, and until then nobody
-//!   arrives or registers. `advance` ends the phase, and then all parties are to arrive again.
-//! - If parties is 0 and unarrived is 1, nobody is registered. This 1 is no party: no arrival may subtract it, or an empty
-//!   phaser would turn. The first registration replaces it.
-//! - If both are 0, the last party has left, and the phase is about to end. `advance` ends it, and `vacate` makes the phaser
-//!   empty in the same phase.
-//! - If ended is 1, unarrived means nothing, and all parties count as arrived. From then on the phase stays.
+//! - If unarrived is 0, no party is still to arrive. The phaser is *turned*: its phase is about to end, and until then no party
+//!   can arrive or register. `advance` ends the phase. After that, all parties have to arrive again.
+//! - If parties is 0 and unarrived is 1, no party is registered, and the phaser is *empty*. This 1 isn't a party. No arrival
+//!   may subtract it, because an empty phaser would then be turned. The first registration replaces it.
+//! - If both are 0, the last party has left, and the phaser is turned. `advance` ends the phase. `vacate` makes the phaser
+//!   empty instead, and keeps the phase.
+//! - If ended is 1, unarrived has no meaning, and all parties count as arrived. After termination the phase doesn't change.
 //!
-//! *Why no field changes its neighbour.* Unarrived is never more than parties, or than 1 if there are no parties (`IsWord`). So
-//! an arrival never borrows from the next field. At most 65535 parties register, so no sum carries over. Every phaser has a
-//! word, and only one until it is terminated. `record_of` in `specs/Word.antt` says which, and contracts see a word as its
-//! number. `Policy` says what `onAdvance` returns.
+//! *Why no field changes its neighbour.* Unarrived is at most parties, or at most 1 if parties is 0 (`IsWord`). So an arrival
+//! never borrows from the next field. At most 65535 parties can be registered, so a sum never carries into the next field.
+//!
+//! In contracts a word is a 64-bit number, and `record_of` in `specs/Word.antt` gives the state that this number represents.
+//! Each state of a phaser has a word, and only one word if the phaser isn't terminated. `Policy` says what `onAdvance` returns.
 #![tactic(auto)]
 
 mod law;

@@ -1,7 +1,8 @@
-//! Gates that let the workers of a live run pause before some of their turns, so that orders come about that are rare otherwise.
+//! Gates at which the workers of a live run pause before some of their turns. With pauses, orders happen that are rare
+//! otherwise.
 //!
-//! A seed gives each thread of each run its own pauses: the same seed gives the same ones. Only the order in which the workers
-//! take the lock depends on them. What a run records and replays doesn't.
+//! A seed determines the pauses of each thread in each run. The same seed gives the same pauses. The pauses influence only the
+//! order in which the workers take the lock. A run is recorded and replayed in the same way with and without pauses.
 #![tactic(auto)]
 
 mod pause;

@@ -1,4 +1,4 @@
--- What a choice is shown as: in the column of its thread, and after the columns.
+-- How a choice is shown: in the column of its thread, and after the columns.
 use Rattle.std.specs.Prelude.{ℕ, ℤ, pos, negsuc, Bool, true, false, if◌then◌else◌, List, [], ◌++◌, codes, decimal}
 use Rattle.assembler.specs.Symbols.{SymbolTable}
 use Rattle.instruction_table.specs.declared.shape.OperandKind.TheVariants as kind

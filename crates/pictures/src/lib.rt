@@ -1,8 +1,8 @@
-//! Shows a run: as a page that any browser opens without a network, and as a text for a terminal.
+//! Two ways to show a run: a page that any browser opens without a network, and a text for a terminal.
 //!
 //! A page has fixed parts and four texts between them: the listing, the source, the run, and the other runs
-//! (`specs/Others.antt`). They are proved to be those of the program and the schedule. The page's script draws them, and plays
-//! nothing. `bin/made` makes the fixed parts, `src/fixed.rt`, from the sources in `page/`.
+//! (`specs/Others.antt`). It is proved that these texts are those of the program and the schedule. The page's script draws the
+//! texts, and plays nothing. `bin/made` makes the fixed parts, `src/fixed.rt`, from the sources in `page/`.
 //!
 //! A text for a terminal is exactly what `specs/Picture.antt` defines: a column for each thread, and a line for each choice.
 //! Threads that don't fit side by side get another block.

@@ -1,4 +1,4 @@
--- The numbers that a plan's faults are told with.
+-- The number of each fault of a plan, as it is reported.
 use Rattle.std.specs.Prelude.{ℕ, Option, Some, None}
 use Rattle.plans.specs.declared.fault.PlanFaultKind.{PlanFaultKind}
 use Rattle.plans.specs.declared.fault.PlanFaultKind.TheVariants as fault

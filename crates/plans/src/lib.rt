@@ -1,8 +1,8 @@
-//! Plans: texts that a person writes, and that say which thread takes the next step.
+//! Plans: texts in which a person says which thread takes the next step.
 //!
-//! `read_plan` returns a plan's words (`specs/Plan.antt`, `specs/Tree.antt`), or the first fault with its line. `plan_runs`
-//! plays them on a program. `specs/Play.antt` says what a plan plays, and `specs/Rules.antt` which choice is next if the plan
-//! leaves it open. A plan makes at most 1,000,000 choices.
+//! `read_plan` returns the words of a plan (`specs/Plan.antt`, `specs/Tree.antt`), or the first fault with its line.
+//! `plan_runs` plays these words on a program. `specs/Play.antt` says what a plan plays. `specs/Rules.antt` says which choice
+//! is next if the plan leaves it open. A plan makes at most 1,000,000 choices.
 #![tactic(auto)]
 
 // A plan's text.

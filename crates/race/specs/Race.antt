@@ -1,4 +1,4 @@
--- What a race leaves, and what the command writes.
+-- The result of a race, and what the command writes.
 use Rattle.std.specs.Prelude.{◌≡◌, ◌++◌, ◌⊎◌, ◌<◌, ◌≤◌, ℕ, ℤ, false, List, [], ◌∷◌, length, flat_map, All, codes}
 use Rattle.std.specs.Fmt.{decimal}
 use Rattle.packed_phaser.specs.declared.policy.Policy.TheVariants.{Default}

@@ -1,9 +1,10 @@
-//! What the program's refusals mean, in words, and where one is in the file that it is about.
+//! Explains in words why the program refused something, and shows the place in the file.
 //!
-//! An entry has the patterns of the words that ask for it, what is wrong, what helps, a command that leads to exactly this
-//! refusal, and where the documents say more. A terminal shows the entry that the words of the line ask for, so it is the one
-//! that `explain` shows. A place is shown as the line, a mark below the word, and what may have been meant. For this the file
-//! is read and assembled again, so nothing is parsed in a second way.
+//! An entry says what is wrong, what helps, which command leads to exactly this refusal, and where the documents say more. It
+//! also has patterns: the words that fit one of its patterns ask for this entry. When a terminal shows a refusal, it shows the
+//! entry for the words of the refusal's line. `explain` shows the same entry for these words. A place is shown as the line,
+//! with a mark below the word, and a guess of what was meant. For this the file is read and assembled again, by the same
+//! functions.
 #![tactic(auto)]
 
 // An entry, how it is written, the table of them, and that of the words of the language.

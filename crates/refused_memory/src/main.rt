@@ -1,5 +1,6 @@
-//! Lets each request for memory be refused in turn, call by call, and writes the results. A library that is loaded before the C
-//! library refuses them (`tests/memory/refuse.c`). Without it, the program reports of each call that nothing was refused.
+//! Makes calls in which each request for memory is refused in turn, and writes the results. A library that is loaded before the
+//! C library refuses the requests (`tests/memory/refuse.c`). Without this library, the program reports for each call that
+//! nothing was refused.
 #![tactic(auto)]
 
 // What is refused, the one trial that all calls have, and what trials are made of.

@@ -1,4 +1,4 @@
--- The numbers that the faults of an image are reported with.
+-- The number of each fault of an image, as it is reported.
 use Rattle.std.specs.Prelude.{ℕ, Option, Some, None}
 use Rattle.row_code.specs.declared.image_fault.ImageFault.{ImageFault}
 use Rattle.row_code.specs.declared.image_fault.ImageFault.TheVariants as fault

@@ -1,4 +1,4 @@
--- Numbers in a file: the lowest byte first, and a negative one as Java's `int` keeps it.
+-- Numbers in a file: the lowest byte comes first, and a negative number is in two's complement, like Java's `int`.
 use Rattle.std.specs.Prelude.{ℕ, ℤ, List}
 use Rattle.std.specs.Int.{w16, w32, to_le_bytes, from_le_bytes, cast_unsigned, cast_signed}
 

@@ -1,7 +1,8 @@
 //! Rows and whole programs as bytes: the image format.
 //!
-//! Each row and each image has exactly one encoding. `encode` and `write_image` write it. `decode` and `read_image` accept this
-//! encoding and nothing else; otherwise they return the first fault and its place.
+//! Each row and each image has exactly one encoding. `encode` and `write_image` write this encoding. `decode` and `read_image`
+//! accept it and nothing else. For other bytes `decode` returns `None`, and `read_image` returns the first fault with its
+//! place.
 #![tactic(auto)]
 
 // The operands of a row, in their fields, and the bytes of a row.

@@ -8,17 +8,17 @@ ghost use Rattle.row_code.specs.RowOperands.{row_in};
 ghost use Rattle.row_code.specs.Image.{IsImage, image_bytes};
 ghost use Rattle.row_code.specs.Reading.{image_of};
 
-/// A row's bytes are read as that row.
+/// If a row is encoded as bytes, the bytes are read as the same row.
 pub fn row_again()
     ensures { (row : Row) → IsRow row → row_in (bytes_of row) ≡ Some row }
 {}
 
-/// An image's bytes are read as that image.
+/// If an image is encoded as bytes, the bytes are read as the same image.
 pub fn image_again()
     ensures { (i : Image) → IsImage i → image_of (image_bytes i) ≡ Ok i }
 {}
 
-/// Bytes that are read as an image are the bytes of that image.
+/// If bytes are read as an image, they are the encoding of this image.
 pub fn one_spelling()
     ensures { (bytes : List ℕ) (i : Image) → All (λ byte. byte < 256) bytes →
         image_of bytes ≡ Ok i → bytes ≡ image_bytes i }

@@ -1,4 +1,4 @@
--- The numbers that the faults of a schedule are reported with.
+-- The number of each fault of a schedule, as it is reported.
 use Rattle.std.specs.Prelude.{ℕ, Option, Some, None}
 use Rattle.schedule_reader.specs.declared.fault.ScheduleFault.{ScheduleFault}
 use Rattle.schedule_reader.specs.declared.fault.ScheduleFault.TheVariants as fault

@@ -1,4 +1,4 @@
--- Runs that are joined if they can be.
+-- Joined lists of runs: if two neighbours have the same choice, the first one has the largest count of a token.
 use Rattle.std.specs.Prelude.{◌≡◌, List, [], ◌∷◌}
 use Rattle.schedule_reader.specs.declared.run.Run.{Run}
 

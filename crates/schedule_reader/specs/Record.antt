@@ -1,4 +1,4 @@
--- The text of choices that are recorded when they are made.
+-- The text of recorded choices: a token for each choice.
 use Rattle.std.specs.Prelude.{◌≤◌, ℕ, List, map}
 use Rattle.thread_machine.specs.declared.choice.Choice.{Choice}
 use Rattle.schedule_reader.specs.declared.run.Run.{Run}

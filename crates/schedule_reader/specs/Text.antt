@@ -1,4 +1,4 @@
--- The text that runs are written as.
+-- The text of a list of runs.
 use Rattle.std.specs.Prelude.{ℕ, ◌==◌, if◌then◌else◌, Bool, true, false, List, [], ◌∷◌, ◌++◌}
 use Rattle.std.specs.Fmt.{decimal}
 use Rattle.schedule_reader.specs.declared.run.Run.{Run}

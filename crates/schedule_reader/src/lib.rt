@@ -1,8 +1,9 @@
 //! Schedules: texts that say whose turn it is.
 //!
-//! A token `t3` is a turn of thread 3, `x3` is the expiry of its timed wait, and `t3*20` is twenty turns. A `Reader` takes a
-//! text in pieces of any size (`specs/Schedule.antt`), and `read_schedule` takes a whole one. `write_schedule` writes a text.
-//! `push_choice` writes one choice at a time, as choices are made (`specs/Record.antt`).
+//! A schedule is a list of tokens. The token `t3` is a turn of thread 3, `x3` is the expiry of its timed wait, and `t3*20` is
+//! twenty turns. Each token is read as a run: a choice, and how often it is made. A `Reader` reads a text that comes in pieces
+//! of any size, and `read_schedule` reads a whole text (`specs/Schedule.antt`). `write_schedule` returns the text of a list of
+//! runs. `push_choice` appends one choice to a text, while choices are being made (`specs/Record.antt`).
 #![tactic(auto)]
 
 mod fault;

@@ -36,7 +36,7 @@ fn push_once(text: &mut Vec<u8>, choice: Choice)
     text.push_reserved(b'0' + choice.thread % 10);
 }
 
-/// A law: a record is read as exactly the choices that it was made of.
+/// A law: if choices of threads from 0 to 63 are recorded as a text, the text is read as exactly these choices.
 pub fn a_record_is_read_as_its_choices()
     ensures { (choices : List Choice) → All IsNamed choices
         → finished_schedule (record_text choices) ≡ record { runs = once_each choices; fault = None } }

@@ -1,8 +1,8 @@
 //! One `java.util.concurrent.Phaser` without tiers, shared by the threads of a process.
 //!
-//! It is one packed word, which each call exchanges at most once. Each thread calls with its own token, a `Party`. Whatever the
-//! threads do at once, one legal history has all their calls (`specs/History.antt`). The `.._within` calls never wait. The
-//! calls that take `Wait` try until they have a result.
+//! The phaser is one packed word. Each call exchanges this word at most once. Each thread passes its own token, a `Party`, to
+//! its calls. Even if the threads call at the same time, there is one legal history of all their calls (`specs/History.antt`).
+//! The `.._within` calls never wait. The calls that take `Wait` try again until they have a result.
 #![tactic(auto)]
 
 mod attempt;

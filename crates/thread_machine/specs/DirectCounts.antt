@@ -1,4 +1,5 @@
--- Who registered and arrived where, from choice to choice: counts that no row shows, and the safe end of a phase.
+-- Counts that no row shows: how many parties are registered directly with each phaser, and how many of these are still to
+-- arrive, after each choice. They say which end of a phase is early.
 use Rattle.std.specs.Prelude.{◌≡◌, ◌≤◌, ℕ, ℤ, pos, nat_abs, int_lt, ◌==◌, ◌&&◌, ◌||◌, not, Bool, true, false, if◌then◌else◌, List, [], ◌∷◌, Option, Some, None}
 use Rattle.instruction_table.specs.declared.row.Row.{Row}
 use Rattle.instruction_table.specs.declared.row.Row.TheVariants.{Preg, Pbulk, Parr, Pdereg, Paaa}

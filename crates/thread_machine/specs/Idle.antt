@@ -1,4 +1,4 @@
--- Idle choices in a row.
+-- An idle choice that is made several times.
 use Rattle.std.specs.Prelude.{ℕ, ◌-◌, if◌then◌else◌, min}
 use Rattle.thread_state.specs.declared.event.Event.{Event}
 use Rattle.thread_state.specs.declared.event.What.TheVariants as what

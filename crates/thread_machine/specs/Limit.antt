@@ -1,4 +1,4 @@
--- The same under another limit of steps.
+-- The same world or execution with another limit of steps.
 use Rattle.std.specs.Prelude.{ℕ}
 use Rattle.thread_machine.specs.World.{World}
 use Rattle.thread_machine.specs.Execution.{Execution}

@@ -1,4 +1,4 @@
--- All that a machine is.
+-- The whole state of a machine.
 use Rattle.std.specs.Prelude.{◌≡◌, ℕ}
 use Rattle.row_code.specs.declared.image.Image.{Image}
 use Rattle.loader.specs.Declarations.{forest_of}

@@ -14,24 +14,24 @@ ghost use Rattle.thread_machine.specs.Limit.{under_limit, with_limit};
 
 use loader::Loaded;
 
-/// The execution of some choices and one more is that of the first, extended by the choice in the world that they left:
-/// who plays choice by choice has at each moment the execution of the choices so far.
+/// If one more choice is played after some choices, their execution is extended by this choice. So somebody who plays choice by
+/// choice has, at each moment, the execution of the choices so far.
 pub fn one_more_choice_extends_the_execution()
     ensures { (world : World) (choices : List Choice) (choice : Choice)
         → execution world (choices ++ choice ∷ []) ≡ extended (execution world choices) choice }
 {}
 
-/// A higher limit of steps makes no difference to choices that were all accepted: they show the same events, and lead to the
-/// same world except for the limit.
+/// If all choices are accepted, a higher limit of steps changes nothing: the events are the same, and the last world differs
+/// only in its limit.
 pub fn a_higher_limit_changes_nothing_that_was_accepted()
     ensures { (limit : ℕ) (world : World) (choices : List Choice) → world.limit ≤ limit
         → (execution world choices).refusal ≡ None
         → execution (with_limit limit world) choices ≡ under_limit limit (execution world choices) }
 {}
 
-/// No phase of a loaded program ends early: whatever was chosen before, if an accepted choice ends a phase, every party that
-/// registered directly with a phaser of the tree has arrived or left, unless a party arrived in that tree that wasn't
-/// registered so. A termination by force ends no phase, so it needs no exception.
+/// No phase of a loaded program ends early, whatever was chosen before. If an accepted choice ends a phase, every party that
+/// registered directly with a phaser of the tree has arrived or left. The only exception is a tree in which somebody arrived
+/// who wasn't registered directly. A termination by force ends no phase, so it needs no exception.
 pub fn no_phase_ends_early(program: &Loaded)
     ensures declared { (image : Image) → IsProgramOf image program.now
         → NoPhaseEndsEarly program.now (declared_origin image.phasers) }
@@ -42,7 +42,7 @@ pub fn no_phase_ends_early(program: &Loaded)
     program.phasers().is_forest();
 }
 
-/// Nor does any phase of an image without a fault, whether or not it is ever loaded.
+/// No phase of an image without a fault ends early, even if the image is never loaded.
 pub fn no_phase_of_an_image_ends_early()
     ensures { (image : Image) (limit : ℕ) → IsImage image → first_fault image ≡ None → limit ≤ 1000000000
         → NoPhaseEndsEarlyFrom (first_of image limit) (declared_origin image.phasers) }

@@ -1,8 +1,8 @@
 //! The machine that plays small thread programs with phasers and barriers, one choice at a time.
 //!
-//! A choice names the thread whose turn it is, or whose timed wait expires. `Machine::step` does exactly what the definitions
-//! say. It allocates only for a value that is put out, and a refused step changes nothing. `machine_scene` defines what the
-//! rows do, and `thread_state` what a turn does to its own thread.
+//! A choice names a thread, and is either a turn of this thread or the expiry of its timed wait. `Machine::step` does exactly
+//! what the definitions say. It allocates memory only if the choice outputs a value, and a refused step changes nothing.
+//! `machine_scene` defines what the rows do. `thread_state` defines what a turn does to its own thread.
 #![tactic(auto)]
 
 mod choice;

@@ -1,4 +1,4 @@
--- A machine, by where it began and what was chosen since.
+-- A machine, given by the world in which it began and the choices since then.
 use Rattle.std.specs.Prelude.{ℕ, List, [], ◌∷◌, ◌++◌}
 use Rattle.schedule_reader.specs.Schedule.{choices_of, finished_schedule}
 use Rattle.thread_machine.specs.declared.choice.Choice.{Choice}

@@ -219,7 +219,8 @@ impl Journaled {
         unreachable!()
     }
 
-    /// A law: every record is a replay. Nothing runs.
+    /// A law: every record is a replay: its machine is the one to which the recorded choices lead. The function itself does
+    /// nothing.
     pub fn each_record_is_a_replay(&self)
         ensures { IsReplay self.now (recorded_world self.now) }
     {

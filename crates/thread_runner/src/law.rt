@@ -14,13 +14,13 @@ pub fn a_run_goes_on_or_is_over()
         → (t : ℕ) × (t < length world.scene.threads) × (may_choose world t ≡ true) }
 {}
 
-/// In no world do all workers wait.
+/// In each world at least one worker doesn't wait.
 pub fn some_worker_does_not_wait()
     ensures { (broken : Option Break) (world : World) → 0 < length world.scene.threads
         → ((t : ℕ) → t < length world.scene.threads → waits broken world t ≡ true) → ⊥ }
 {}
 
-/// In the record of a run no wait times out while a thread is ready.
+/// In the record of a run, no wait times out while a thread is ready.
 pub fn no_time_passes_while_a_thread_is_ready()
     ensures { (first last : World) (before rest : List Choice) (waiting t : ℕ)
         → IsReplay (record { first = first; choices = before ++ expiry_of waiting ∷ rest }) last

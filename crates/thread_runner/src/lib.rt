@@ -1,7 +1,8 @@
 //! Real threads that play a loaded program under one lock, and the record of what they did.
 //!
-//! A thread that gets the lock finds a `Journaled`, the replay of the recorded choices. Their text is made when they are
-//! played. `run_live` has a worker for each of the program's threads, and returns that schedule, the machine and the ending.
+//! The lock protects a `Journaled`: a machine, and the text of the choices that led to it. The text of a choice is written when
+//! the choice is played. `run_live` has a worker for each thread of the program. It returns this text as the schedule, the
+//! machine, and how the run ended.
 #![tactic(auto)]
 
 mod ending;

@@ -1,4 +1,4 @@
--- What is saved of a thread before a turn, and the thread that it restores.
+-- What is saved of a thread before a turn, and how this restores the thread.
 use Rattle.std.specs.Prelude.{ℕ, ℤ, ◌-◌, Bool, List, ◌++◌, length, take, option_to_list, Option}
 use Rattle.thread_state.specs.declared.frame.Frame.{Frame}
 use Rattle.thread_state.specs.declared.status.Status.{Status}

@@ -1,7 +1,7 @@
 //! One thread of a program: its place in the rows, its registers, its stack, its status and its output.
 //!
-//! Each method does what one kind of turn does to the thread itself, and returns what the turn shows. Phasers, barriers, cells
-//! and other threads are in other crates.
+//! Each method changes the thread as one kind of turn does, and returns what a trace shows of this turn. Phasers, barriers,
+//! cells and other threads are in other crates.
 #![tactic(auto)]
 
 mod event;

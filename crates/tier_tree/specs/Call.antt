@@ -1,4 +1,4 @@
--- What every call at a phaser leaves of its forest, whatever it returns.
+-- What a call at a phaser can change in its forest, whatever the call returns.
 use Rattle.std.specs.Prelude.{ℕ, List}
 use Rattle.tier_tree.specs.Answer.{KeepsPlaces}
 use Rattle.tier_tree.specs.Origin.{Origin, Carries}

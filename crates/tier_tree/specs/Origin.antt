@@ -1,4 +1,5 @@
--- Who registered and arrived where: counts beside a forest, which no call shows.
+-- Counts that no call returns: how many parties are registered directly with each phaser, and how many of these are still to
+-- arrive.
 use Rattle.std.specs.Prelude.{◌≡◌, ◌≢◌, ℕ, ◌+◌, ◌-◌, ◌<◌, ◌≤◌, ◌==◌, ◌&&◌, not, Bool, true, false, if◌then◌else◌, List, [], ◌∷◌, length}
 use Rattle.packed_phaser.specs.Flat.{Flat, is_empty, unarrived_of}
 use Rattle.tier_tree.specs.declared.registered.Registered.{Registered}

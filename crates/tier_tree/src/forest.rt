@@ -184,15 +184,16 @@ impl Forest {
 
 /// Laws: what is true of every forest. Nothing runs.
 impl Forest {
-    /// At most 64 phasers, in lines that lead up to roots; no word is too far behind, and none is terminated before its root.
-    /// The lemmas of other crates require this.
+    /// A forest has at most 64 phasers, and the line of each leads up to a root. The word of a phaser is behind the phase of
+    /// its root by at most as many phases as have ended in this tree. No phaser is terminated before its root. The lemmas of
+    /// other crates require these facts.
     pub fn is_forest(&self)
         ensures { IsStored self.now }
     {
         let _ = &self.nodes;
     }
 
-    /// Each phaser shows the phase of its root, and is terminated with it.
+    /// Each phaser is in the phase of its root, and is terminated exactly if its root is terminated.
     #[tactic(auto, using(crate::proofs::Calls::one_phase))]
     pub fn each_tree_has_one_phase(&self)
         ensures { HaveOnePhase (phasers_of self.now) }
@@ -200,7 +201,8 @@ impl Forest {
         let _ = &self.nodes;
     }
 
-    /// While the root of a tree without strays is turned, nobody registers or arrives in the tree.
+    /// An arrival is stray if it is by somebody who isn't registered directly with the phaser. In a tree that had no stray
+    /// arrival, nobody can register or arrive while the root is turned.
     #[tactic(auto, using(crate::proofs::Between::between))]
     pub fn nobody_comes_between(&self)
         ensures { NobodyComesBetween (phasers_of self.now) }

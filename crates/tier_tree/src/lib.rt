@@ -1,9 +1,10 @@
 //! Trees of phasers, as `java.util.concurrent.Phaser` makes them with `new Phaser(parent, parties)`.
 //!
-//! A `Forest` has up to 64 phasers, each a root or a child of one that was declared before it. A call names one phaser. If any
-//! phaser on the way up refuses the call, nothing changes. The phase of a tree ends in two calls, `arrive` and `finish_turn`,
-//! so that a routine can run between them. `save` and `restore` undo one call, word for word. Only `Forest::new`, `declare` and
-//! `copy` allocate.
+//! A `Forest` has up to 64 phasers. Each is a root, or the child of a phaser that was declared before it. A call names one
+//! phaser, and may also change its parent, the parent of that one, and so on up to the root. If one of these phasers refuses
+//! the call, nothing changes. The phase of a tree ends in two calls, `arrive` and `finish_turn`, and a routine can run between
+//! the two. `save` keeps what one call can change, and `restore` undoes this call, word for word. Only `Forest::new`, `declare`
+//! and `copy` allocate memory.
 #![tactic(auto)]
 
 mod arrived;

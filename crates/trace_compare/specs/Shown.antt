@@ -1,4 +1,4 @@
--- The choices that a trace has a line for.
+-- The choices for which a trace has a line.
 use Rattle.std.specs.Prelude.{List, [], ◌∷◌, Option, Some, None}
 use Rattle.thread_machine.specs.declared.choice.Choice.{Choice}
 use Rattle.thread_machine.specs.declared.fault.StepFault.{StepFault}

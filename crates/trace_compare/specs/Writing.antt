@@ -1,4 +1,4 @@
--- A schedule that is written while its choices come.
+-- A schedule that is written while its choices are read.
 use Rattle.std.specs.Prelude.{◌≡◌, Bool, true, false, ℕ, All, List, [], ◌∷◌, ◌++◌, Option, Some, None}
 use Rattle.std.specs.Io.KnownBytes.{Appends, Consumes}
 use Rattle.schedule_reader.specs.declared.run.Run.{Run}

@@ -15,22 +15,22 @@ ghost use Rattle.thread_machine.specs.Execution.{execution};
 ghost use Rattle.trace_compare.specs.Naming.{choices_named};
 ghost use Rattle.trace_compare.specs.Shown.{shown};
 
-/// A trace whose verdict is `Same` is, byte for byte, the trace of the choices that its lines name.
+/// If a trace has the verdict `Same`, the trace is, byte for byte, that of the choices that its lines name.
 pub fn what_is_the_same_is_the_trace_of_its_choices()
     ensures { (world : World) (trace : List ℕ) → verdict_of world trace ≡ Same
         → trace ≡ trace_of world (choices_of_trace trace) }
 {}
 
-/// The trace of any choices of threads from 0 to 63 has the verdict `Same`, from whatever world they are played. So, with the
-/// law above, a text has the verdict `Same` exactly if it is the trace of choices. At the beginning of a program no choice
-/// was made yet, so the bound holds there.
+/// The trace of any choices of threads from 0 to 63 has the verdict `Same`. The choices may be played from any world in which
+/// at most 1000000000000 choices were made, and at the beginning of a program none was made. So, with the law above, a text has
+/// the verdict `Same` exactly if it is the trace of choices.
 pub fn the_trace_of_any_choices_is_the_same()
     ensures { (world : World) (choices : List Choice) → world.choices ≤ 1000000000000
         → All (λ choice. choice.thread ≤ 63) choices → verdict_of world (trace_of world choices) ≡ Same }
 {}
 
-/// If a run that comes to its end wrote a trace, a comparison with its program returns `Same`, whether it read a schedule or
-/// the choices were known.
+/// If a run ends and has written a trace, a comparison of this trace with the run's program returns `Same`. The run may have
+/// read its choices from a schedule (`read`), or known them before (`known`).
 pub fn what_a_run_writes_is_the_same()
     ensures read { (image : Image) (end : RunEnd) (schedule_before schedule_after output_before output_after : Option (List ℕ))
         (schedule_failed output_failed : Bool)
@@ -41,8 +41,8 @@ pub fn what_a_run_writes_is_the_same()
         → HasWrittenTheSame image output_before output_after }
 {}
 
-/// The choices of the trace of a schedule are the schedule's choices: up to the first that is refused, which has a line, too,
-/// or all of them if none is.
+/// The trace of choices of threads from 0 to 63 names these choices, up to the first refused one, which also has a line. If no
+/// choice is refused, it names all of them.
 pub fn the_choices_of_a_trace_are_those_that_it_shows()
     ensures choices { (world : World) (choices : List Choice) → world.choices ≤ 1000000000000
         → All (λ choice. choice.thread ≤ 63) choices
@@ -51,7 +51,7 @@ pub fn the_choices_of_a_trace_are_those_that_it_shows()
         → shown world choices ≡ choices }
 {}
 
-/// The choices that a trace shows have this trace, so a trace can be made again from its schedule.
+/// If the choices that a trace shows are played again from the same world, they have the same trace.
 pub fn the_choices_of_a_trace_have_that_trace()
     ensures { (world : World) (choices : List Choice) → trace_of world (shown world choices) ≡ trace_of world choices }
 {}

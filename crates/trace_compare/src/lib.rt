@@ -1,10 +1,11 @@
-//! Reads traces: compares a trace with the run that it names, and extracts its schedule.
+//! Traces are read here: a trace is compared with the run that it names, and its schedule is extracted.
 //!
-//! `compare` plays the choices that a trace's lines name, and returns the first line that isn't the run's. `judge` does the
-//! same, and also has that line of the trace and of the run. `choices_in` returns the runs of a trace's choices, or the first
-//! line that isn't a line of a trace. `write_choices` writes each run when the next one begins. Both play nothing. `next_name`
-//! reads one line, for callers that play the choices as they come. `trace_text` says how a trace is written; this crate
-//! re-exports its names.
+//! `compare` plays the choices that the lines of a trace name. It returns the verdict `Same`, or says at which line the trace
+//! first differs from the run. `judge` does the same, and also returns this line of the trace and of the run. `choices_in`
+//! returns the choices of a trace as runs (a choice, and how often it is made), or the number of the first line that isn't a
+//! line of a trace. `write_choices` writes each of these runs when the next one begins. Both functions play nothing.
+//! `next_name` reads one line, for a caller that plays the choices one by one. The crate `trace_text` says how a trace is
+//! written. Its names can also be used from this crate.
 #![tactic(auto)]
 
 // A trace beside the run that it names.

@@ -1,7 +1,7 @@
-//! The text of a run: a line for each choice, the state after the last, and what a line tells a reader.
+//! The text of a run: a line for each choice, and the state after the last choice. Such lines are also read here.
 //!
-//! `run_text` plays an image's program under a schedule, which it reads piece by piece, and writes each line when the choice is
-//! played. Expectations about the state at the end are compared with the lines of the state.
+//! `run_text` plays the program of an image under a schedule. It reads the schedule piece by piece, and writes the line of each
+//! choice when the choice has been played. `is_met` compares an expectation about the end of a run with the lines of the state.
 #![tactic(auto)]
 
 // The lines of choices, as they are written.

@@ -1,4 +1,4 @@
--- What those calls promise whose commands aren't in `workbench`: plans, pictures, schedules of traces.
+-- What the calls promise whose commands are not in `workbench`: plans, pictures, schedules of traces.
 use Rattle.std.specs.Prelude.{◌≡◌, ◌≢◌, ◌⊎◌, ◌<◌, ℕ, Bool, true, false, IsTrue, List, [], length, Option, Some, Result, Ok, Err, IfOk, IfErr, OnOk, is_none, codes}
 use Rattle.std.specs.Io.KnownBytes.{Appends}
 use Rattle.commands.specs.Picture.{HaveNoPicture}

@@ -1,5 +1,4 @@
--- What each call promises about its status, its output and the line of its fault: what its command promises, for bytes in
--- memory.
+-- What each call promises about its status, its output and the line of its fault: the same as its command for ports in memory.
 use Rattle.std.specs.Prelude.{◌≡◌, ℕ, false, List, [], Option, Some, None, Result}
 use Rattle.trace_compare.specs.declared.comparison.Verdict.{Verdict}
 use Rattle.trace_text.specs.declared.run_end.RunEnd.{RunEnd}

@@ -1,4 +1,4 @@
--- What an export leaves in its caller's memory.
+-- What an exported call writes to its caller's memory.
 use Rattle.std.specs.Prelude.{◌≡◌, ◌⊎◌, ℕ, List, [], ◌++◌, length, take, drop, min, codes}
 use Rattle.vuthgal_c.specs.Counting.{most_counted}
 

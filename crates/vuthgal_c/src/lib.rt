@@ -1,8 +1,8 @@
 //! The commands that need no threads, as calls for C and for languages that call C.
 //!
-//! A call takes bytes, and writes to memory of its caller like `snprintf`: the bytes that fit, and the count of all. Output,
-//! status and line are those that its command promises for ports in memory. Nothing is kept between calls. `include/vuthgal.h`
-//! declares them.
+//! A call takes bytes, and writes to memory of its caller, like `snprintf`: as many bytes as fit, and the count of all bytes.
+//! Each call belongs to a command. Its output, its status and its line are what this command promises for ports in memory.
+//! Nothing is kept between calls. `include/vuthgal.h` declares the calls.
 #![tactic(auto)]
 
 // A sink that counts all bytes, and how its bytes are passed to the caller.

@@ -14,20 +14,22 @@ pub fn each_barrier_is_sound(barrier: &Barrier)
     let _parties = barrier.parties;
 }
 
-/// Each barrier is the end of some past, which says how each generation ended. The past of a new barrier has no generation.
+/// Each barrier has a past, which says how each finished generation ended, and for which generation each thread waits. A new
+/// barrier has a past without finished generations and without waits.
 pub fn each_barrier_has_a_past()
     ensures new { (parties : ℕ) → (action : Bool)
         → IsStateAfter (fresh parties action) (plain.fresh parties action) }
     ensures each { (b : BarrierState) → HasPast b }
 {}
 
-/// Each call does the same at a barrier and at every past that leads to it: a waiter's outcome is the end of its own
-/// generation, and indices count down from parties - 1.
+/// Each call returns the same at a barrier and at each of its pasts, and changes both in the same way. So a waiting thread
+/// learns how its own generation ended, and arrival indices count down from parties - 1.
 pub fn calls_agree_with_the_past()
     ensures { (b : BarrierState) → IsBarrier b → FollowsPast b }
 {}
 
-/// These threads have a wait after each call, and which thread runs the action after an entry.
+/// `TellsWhoWaits` says for each call which threads have a wait after it. For a call of `enter` or `enter_timed` it also says
+/// which thread runs the action.
 pub fn calls_tell_who_waits()
     ensures { (b : BarrierState) → IsBarrier b → TellsWhoWaits b }
 {}
