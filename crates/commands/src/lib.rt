@@ -1,13 +1,13 @@
-//! The commands that `workbench` doesn't have: pictures of a run, listed rows, schedules of traces and plans, lines that
-//! differ, a debugger for a person, and many live runs of one program.
+//! The commands that `workbench` doesn't have. They show pictures of a run, rows, and lines that differ. They write the
+//! schedules of traces and plans. They debug for a person, and play many live runs of one program.
 //!
 //! - `make` is the commands `show` and `draw`. It makes a picture in memory, and then writes it at once.
 //! - `show_comparison` writes the verdict of `compare_cmd`, and then the lines that differ.
 //! - `GuidedCommands` reads the lines that a person types at `debug`, and writes what each of them leads to.
 //! - `report_runs` plays a program many times on real threads, and writes a line for each state in which runs ended. With
 //!   `Pauses` the threads pause now and then, which gives orders that are rare otherwise.
-//! - `report_seeds` plays a program in the orders of some seeds, and writes the same kind of lines. It calls an `Observer`
-//!   with the end of each run.
+//! - `report_seeds` plays a program in the orders of some seeds, and writes the same kind of lines. It calls an `Observer` with
+//!   the end of each run.
 #![tactic(auto)]
 
 // Schedules of traces and plans, lines that differ, and rows.

@@ -1,9 +1,11 @@
-//! The program: finds the command that its arguments ask for, opens the files, and passes them to the command.
+//! The program: finds the command that its arguments request, opens the files, and passes them to the command.
 //!
-//! Each command is a function of a library, over ports. This crate has what meets the system: which ports a command gets
-//! (`running`, `drawing`, `living`, `texts`, `traces`, `planning`, `debugging`), files and streams (`files`, `input`, `steps`,
-//! `schedule`), the exit status of an error (`trouble`), and what a person is shown (`notes`, `progress`, `printable`, `help`,
-//! `explaining`).
+//! Each command is a function of a library, over ports. This crate has what meets the system:
+//!
+//! - which ports a command gets: `running`, `drawing`, `living`, `texts`, `traces`, `planning`, `debugging`
+//! - files and streams: `files`, `input`, `steps`, `schedule`
+//! - the exit status of an error: `trouble`
+//! - what a person is shown: `notes`, `progress`, `printable`, `help`, `explaining`
 #![tactic(auto)]
 
 ghost use Rattle.command_line.specs.Request.{IsInRange};
