@@ -185,7 +185,10 @@ def edits_of(crate):
             name, clauses = found or ("", [])
             where.append(f"{name}{in_brackets(clauses)} in `{file}`" if name else f"`{file}`")
         text += item(f"{words[0].upper()}{words[1:]}: {'; '.join(where)}")
-    return f"Each of these changes makes a function wrong, and its contract has to refuse it:\n\n{text}" if text else ""
+    return (
+        "A must-fail edit changes a function so that it does something wrong. The contract of this function has to refuse the\n"
+        f"changed function. Each edit is named by what would be wrong:\n\n{text}"
+    ) if text else ""
 
 
 # -- what promises name
