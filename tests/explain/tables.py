@@ -80,7 +80,8 @@ def statuses():
             yield f"status {number}", entry
 
 
-LINES = ["show", "draw", "memory", "spawn", "read", "write", "not a trace", "differs", "expected", "stopped", "stuck", "live", "none", "limit", "?", "no history"]
+LINES = ["show", "draw", "memory", "spawn", "read", "write", "not a trace", "differs", "expected", "stopped", "all", "stuck", "live", "none", "limit", "?", "no history"]
+JAVA = ["locks", "latch", "join", "volatile", "spurious wakeup", "tiers", "time", "loop"]
 
 
 def pattern(entry):
@@ -116,7 +117,7 @@ entries = [
     *named("TRACES", "Plan text", "plan"),
     *named("BEHAVIOUR", "Exceptions", "exception"),
     *statuses(),
-    *((words, told(words)) for words in LINES),
+    *((words, told(words)) for words in LINES + JAVA),
 ]
 for words, entry in entries:
     if entry:

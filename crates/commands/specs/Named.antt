@@ -10,6 +10,7 @@ use Rattle.plans.specs.declared.word.Word.{Word}
 use Rattle.plans.specs.declared.word.Word.TheVariants as word
 use Rattle.schedule_reader.specs.Schedule.{finished_schedule}
 use Rattle.schedule_reader.specs.Text.{letter_of, schedule_text, times_text}
+use Rattle.schedule_reader.specs.declared.fault.ScheduleFault.{ScheduleFault}
 use Rattle.schedule_reader.specs.declared.run.Run.{Run}
 use Rattle.thread_machine.specs.declared.choice.Choice.{Choice}
 
@@ -63,7 +64,13 @@ text_by (Some names) runs = named_text names runs
 abbrev pub line_by : (names : Option (List (List ℕ))) → List Run → List ℕ
 line_by names runs = text_by names runs ++ 10 ∷ []
 
+-- a schedule by names, or as it is if it has a fault, which that of a run hasn't
+abbrev pub told_unless : Option ScheduleFault → (named : List ℕ) → (schedule : List ℕ) → List ℕ
+told_unless None named schedule = named
+told_unless (Some fault) named schedule = schedule
+
 -- the text that is written for a schedule
 abbrev pub told_by : (names : Option (List (List ℕ))) → (schedule : List ℕ) → List ℕ
 told_by None schedule = schedule
-told_by (Some names) schedule = named_text names (finished_schedule schedule).runs
+told_by (Some names) schedule =
+    told_unless (finished_schedule schedule).fault (named_text names (finished_schedule schedule).runs) schedule

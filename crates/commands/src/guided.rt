@@ -9,18 +9,23 @@ ghost use Rattle.plans.specs.Planned.{AreRuns};
 ghost use Rattle.workbench.specs.declared.fault.Fault.{Fault};
 ghost use Rattle.workbench.specs.Debug.{HasNoEnd};
 
+use crate::called::push_names;
 use crate::may_go::push_may_go;
 use crate::named::named_text;
 use crate::plan::thread_names;
-use crate::spoken::{in_numbers, near_word};
+use crate::replayed::push_replayed;
+use crate::spoken::in_numbers;
+use crate::unknown::push_unknown;
 use assembler::Symbols;
 use byte_ports::{Failed, Sink, Source};
 use debugger::{Command, Debugger, Played, command_of};
+use plans::fault::PlanFaultKind;
 use plans::plan_runs::plan_runs_at;
 use plans::read_plan;
 use schedule_reader::{Run, write_schedule};
 use std::alloc::{AllocError, Global};
 use std::mem::replace;
+use thread_machine::Machine;
 use workbench::companion::Companion;
 use workbench::fault::Fault;
 
@@ -35,16 +40,13 @@ const HELP: &[u8] = b"  s tN      one choice: thread N's turn; `s xN`: its timed
   s NAME    the same by its name, also NAME alone, or `s xNAME`
   g TOKENS  choices, as in a schedule (`g t0 bob*3`), up to a breakpoint
   b         one choice back
-  k ROW     set a breakpoint at a row; `c ROW` clears it
+  k ROW     set a breakpoint at a row, also at a label; `c ROW` clears it
   p         the state
   w         the choices so far, as a plan
   q         end the session
   PLAN      words of a plan: `bob.`, `..`, `?7`, `(ann bob)*3`
   Enter     repeat the last command
 ";
-
-/// What is shown after the reply `?`.
-const NO_COMMAND: &[u8] = b"  not a command, or no such thread or row: `help` lists the commands\n";
 
 /// Shows something besides the session. If it can't be shown, the session goes on.
 fn note(told: Result<(), Failed>) {
@@ -60,17 +62,6 @@ fn is_unknown(command: &Command, debugger: &Debugger) -> bool {
         Command::Unknown => true,
         _ => false,
     }
-}
-
-/// Tells why a line was answered with `?`, and what may have been meant.
-fn tell_why<E: Sink>(notes: &mut E, near: Option<&[u8]>) -> Result<(), Failed> {
-    notes.push(NO_COMMAND)?;
-    if let Some(near) = near {
-        notes.push(b"  Near: ")?;
-        notes.push(near)?;
-        notes.push(b"\n")?;
-    }
-    Ok(())
 }
 
 /// Puts a line in place of what the vector holds, without its LFs if there are any.
@@ -105,6 +96,8 @@ struct Person<'a, S, K, E> {
     command: Command,
     /// How many choices the machine had played before it.
     choices: u64,
+    /// The machine before it, if it plays several choices at once.
+    before: Option<Machine>,
     played: Played,
 }
 
@@ -113,14 +106,25 @@ impl<'a, S: Source + Drop, K: Sink + Drop, E: Sink + Drop> Person<'a, S, K, E> {
     fn look(&mut self, debugger: &Debugger) -> Result<(), AllocError> {
         let command = replace(&mut self.command, Command::Print);
         if is_unknown(&command, debugger) {
-            let near = near_word(&self.symbols, self.said.as_slice());
-            note(tell_why(&mut self.notes, near));
+            let names = self.names(debugger)?;
+            note(push_unknown(
+                self.alloc,
+                &mut self.notes,
+                &self.symbols,
+                names.as_slice(),
+                debugger.machine(),
+                self.said.as_slice(),
+            ));
         }
         let choices = debugger.machine().choices();
         let more = choices.saturating_sub(self.choices);
+        if let (Some(mut before), Command::Go(runs)) = (self.before.take(), &command) {
+            note(push_replayed(&mut self.notes, &mut before, runs.as_slice(), more));
+        }
         match &command {
             Command::Step(choice) => self.played.push_first(&[Run::once(*choice)], more)?,
             Command::Go(runs) => self.played.push_first(runs.as_slice(), more)?,
+            Command::Print => note(push_names(&mut self.notes, &self.symbols)),
             _ if choices < self.choices => self.played.pop(),
             _ => {}
         }
@@ -152,8 +156,10 @@ impl<'a, S: Source + Drop, K: Sink + Drop, E: Sink + Drop> Person<'a, S, K, E> {
     {
         let machine = debugger.machine();
         let names = self.names(debugger)?;
-        let Ok(words) = read_plan(self.alloc, self.said.as_slice(), names.as_slice()) else {
-            return Ok(None);
+        let words = match read_plan(self.alloc, self.said.as_slice(), names.as_slice()) {
+            Ok(words) => words,
+            Err(fault) if fault.kind == PlanFaultKind::Memory => return Err(AllocError),
+            Err(_) => return Ok(None),
         };
         let planned = plan_runs_at(self.alloc, machine.copy(self.alloc)?, &words.all())?;
         Ok(Some(planned.runs))
@@ -173,6 +179,14 @@ impl<'a, S: Source + Drop, K: Sink + Drop, E: Sink + Drop> Person<'a, S, K, E> {
             let tokens = write_schedule(self.alloc, runs.as_slice())?;
             self.line.extend_from_slice(tokens.as_bytes())?;
             self.command = Command::Go(runs);
+        }
+        Ok(())
+    }
+
+    /// Keeps the machine as it is if the line asks for several choices at once.
+    fn keep_before(&mut self, debugger: &Debugger) -> Result<(), AllocError> {
+        if let Command::Go(_) = &self.command {
+            self.before = Some(debugger.machine().copy(self.alloc)?);
         }
         Ok(())
     }
@@ -202,6 +216,7 @@ impl<'a, S: Source + Drop, K: Sink + Drop, E: Sink + Drop> Person<'a, S, K, E> {
                 b"w" => self.write_played(debugger).map_err(|_| Fault::Memory)?,
                 _ => {
                     self.understand(debugger).map_err(|_| Fault::Memory)?;
+                    self.keep_before(debugger).map_err(|_| Fault::Memory)?;
                     return Ok(is_ended);
                 }
             }
@@ -242,6 +257,7 @@ impl<'a, S: Source + Drop, K: Sink + Drop, E: Sink + Drop> GuidedCommands<'a, S,
             line: Vec::new(alloc),
             command: Command::Go(before),
             choices: 0,
+            before: None,
             played: Played::new(alloc),
         };
         Ok(GuidedCommands {

@@ -16,6 +16,7 @@ pub mod difference;
 mod image_rows;
 mod named;
 pub mod plan;
+pub mod plan_word;
 pub mod rows;
 mod shown;
 mod text_rows;
@@ -29,9 +30,13 @@ pub mod picture;
 pub mod picture_fault;
 
 // The debugger for a person.
+mod called;
 mod guided;
 mod may_go;
+mod near;
+mod replayed;
 mod spoken;
+mod unknown;
 
 // Many live runs, and the orders of many seeds.
 pub mod command;

@@ -1,4 +1,4 @@
-//! Shows a person which threads can go on.
+//! Shows a person which threads can go on, and which wait.
 
 ghost use Rattle.std.specs.Prelude.{◌<◌, length};
 
@@ -34,6 +34,25 @@ fn standing(machine: &Machine, thread: u8) -> &'static [u8]
     }
 }
 
+/// Adds the name of a thread, what it does, and the row at which it stands.
+fn push_row_of(
+    text: &mut Vec<u8>,
+    symbols: &Symbols<'_>,
+    machine: &Machine,
+    thread: u8,
+    does: &[u8],
+) -> Result<(), AllocError>
+    requires { thread < length machine.now.scene.threads }
+{
+    let row = row_of(machine, thread);
+    push_called(text, symbols, OperandKind::Thread, u32::from(thread))?;
+    text.extend_from_slice(does)?;
+    text.extend_from_slice(b" at row ")?;
+    text.extend_from_slice(Buffer::new().format(machine.pc(thread)).as_bytes())?;
+    text.extend_from_slice(b": ")?;
+    push_row(text, symbols, row)
+}
+
 /// Adds the line of a thread: the choices of it that do something, its name, and the row at which it stands.
 fn push_thread(
     text: &mut Vec<u8>,
@@ -43,27 +62,86 @@ fn push_thread(
 ) -> Result<(), AllocError>
     requires { thread < length machine.now.scene.threads }
 {
-    let row = row_of(machine, thread);
     text.extend_from_slice(b"  ")?;
     let letter = if machine.is_ready(thread) { b't' } else { b'x' };
     push_choice(text, letter, thread)?;
     text.extend_from_slice(b" ")?;
-    push_called(text, symbols, OperandKind::Thread, u32::from(thread))?;
-    text.extend_from_slice(b" at row ")?;
-    text.extend_from_slice(Buffer::new().format(machine.pc(thread)).as_bytes())?;
-    text.extend_from_slice(b": ")?;
-    push_row(text, symbols, row)?;
+    push_row_of(text, symbols, machine, thread, b"")?;
     text.extend_from_slice(standing(machine, thread))?;
     text.extend_from_slice(b"\n")
 }
 
-/// The lines of the threads that may go on.
+/// Whether a thread waits.
+fn is_waiting(machine: &Machine, thread: u8) -> bool
+    requires { thread < length machine.now.scene.threads }
+{
+    matches!(
+        machine.status(thread),
+        Status::AwaitsPhase(_) | Status::AwaitsBarrier(_)
+    )
+}
+
+/// Adds the line of a thread that waits.
+fn push_waiting(
+    text: &mut Vec<u8>,
+    symbols: &Symbols<'_>,
+    machine: &Machine,
+    thread: u8,
+) -> Result<(), AllocError>
+    requires { thread < length machine.now.scene.threads }
+{
+    text.extend_from_slice(b"  ")?;
+    push_choice(text, b't', thread)?;
+    text.extend_from_slice(b" ")?;
+    push_row_of(text, symbols, machine, thread, b" waits")?;
+    text.extend_from_slice(b"\n")
+}
+
+/// Adds that more threads are like those that are named, if there are more.
+fn push_more(text: &mut Vec<u8>, count: usize, what: &[u8]) -> Result<(), AllocError> {
+    match count.checked_sub(MOST_NAMED) {
+        None | Some(0) => Ok(()),
+        Some(more) => {
+            text.extend_from_slice(b"  and ")?;
+            text.extend_from_slice(Buffer::new().format(more).as_bytes())?;
+            text.extend_from_slice(what)
+        }
+    }
+}
+
+/// Whether a choice of a thread does something.
+fn is_to_go(machine: &Machine, thread: u8) -> bool
+    requires { thread < length machine.now.scene.threads }
+{
+    machine.is_ready(thread) || machine.can_expire(thread)
+}
+
+/// Adds the lines of the threads that wait and can't go on.
+fn push_all_waiting(
+    text: &mut Vec<u8>,
+    symbols: &Symbols<'_>,
+    machine: &Machine,
+) -> Result<(), AllocError> {
+    let mut waiting: usize = 0;
+    for number in 0..machine.thread_count() {
+        let thread = number as u8;
+        if !is_to_go(machine, thread) && is_waiting(machine, thread) {
+            if waiting < MOST_NAMED {
+                push_waiting(text, symbols, machine, thread)?;
+            }
+            waiting = waiting.saturating_add(1);
+        }
+    }
+    push_more(text, waiting, b" more wait\n")
+}
+
+/// The lines of the threads that may go on, and of those that wait.
 fn may_go(alloc: Global, symbols: &Symbols<'_>, machine: &Machine) -> Result<Vec<u8>, AllocError> {
     let mut text = Vec::new(alloc);
     let mut named: usize = 0;
     for number in 0..machine.thread_count() {
         let thread = number as u8;
-        if machine.is_ready(thread) || machine.can_expire(thread) {
+        if is_to_go(machine, thread) {
             if named < MOST_NAMED {
                 push_thread(&mut text, symbols, machine, thread)?;
             }
@@ -76,15 +154,13 @@ fn may_go(alloc: Global, symbols: &Symbols<'_>, machine: &Machine) -> Result<Vec
         } else {
             b"  all have ended\n".as_slice()
         })?;
-    } else if named > MOST_NAMED {
-        text.extend_from_slice(b"  and ")?;
-        text.extend_from_slice(Buffer::new().format(named - MOST_NAMED).as_bytes())?;
-        text.extend_from_slice(b" more\n")?;
     }
+    push_more(&mut text, named, b" more\n")?;
+    push_all_waiting(&mut text, symbols, machine)?;
     Ok(text)
 }
 
-/// Writes which threads can go on, or nothing if it is out of memory.
+/// Writes which threads can go on and which wait, or nothing if it is out of memory.
 pub fn push_may_go<E: Sink>(
     alloc: Global,
     notes: &mut E,

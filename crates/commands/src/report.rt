@@ -8,14 +8,14 @@ use crate::end_state::{EndState, word_of};
 use crate::named::named_text;
 use crate::outcomes::{Outcome, Outcomes};
 use itoa::Buffer;
-use schedule_reader::read_schedule;
+use schedule_reader::{ScheduleFault, read_schedule};
 use std::alloc::{AllocError, Global};
 use trace_text::meeting::are_met;
 use trace_text::state_line::has_died;
 use workbench::done::Done;
 
-/// More bytes than a schedule has: a run makes at most 1,000,000,000 choices, and none of them takes 100 bytes.
-const LONGEST: usize = 100_000_000_000;
+/// The most bytes that a text has of which there can be another one in memory.
+const LONGEST: usize = 9_223_372_036_854_775_806;
 
 /// Returns what follows the word of a state in which a thread has died.
 fn died_mark(state: &EndState) -> &'static [u8]
@@ -41,8 +41,7 @@ fn push_seed(text: &mut Vec<u8>, seed: Option<u64>) -> Result<(), AllocError>
     Ok(())
 }
 
-/// Adds a schedule as it is, or by these names. The schedule of a run is short enough and has no fault, so the only error is
-/// that there is no memory.
+/// Adds a schedule as it is, or by these names. The schedule of a run has no fault; one that has a fault stays as it is.
 fn push_schedule(
     alloc: Global,
     text: &mut Vec<u8>,
@@ -60,7 +59,8 @@ fn push_schedule(
     }
     match read_schedule(alloc, schedule.as_bytes()) {
         Ok(runs) => text.extend_from_slice(named_text(alloc, names, runs.as_slice())?.as_slice()),
-        Err(_) => Err(AllocError),
+        Err(ScheduleFault::Memory) => Err(AllocError),
+        Err(_) => text.extend_from_slice(schedule.as_bytes()),
     }
 }
 

@@ -6,37 +6,12 @@ use itoa::Buffer;
 use line_reader::words::is_blank;
 use std::alloc::{AllocError, Global};
 
-/// The names of a command elsewhere, and its letter here.
-const CALLED_ELSEWHERE: [(&[u8], &[u8]); 12] = [
-    (b"quit", b"q"),
-    (b"exit", b"q"),
-    (b"undo", b"b"),
-    (b"back", b"b"),
-    (b"step", b"s"),
-    (b"next", b"s"),
-    (b"go", b"g"),
-    (b"run", b"g"),
-    (b"continue", b"g"),
-    (b"break", b"k"),
-    (b"clear", b"c"),
-    (b"print", b"p"),
-];
-
-/// Returns what the first word of a line may have been meant as: the command that has this name elsewhere, or the thread with
-/// this name in other letters.
-pub fn near_word<'a>(symbols: &Symbols<'a>, said: &[u8]) -> Option<&'a [u8]> {
-    let word = said
-        .split(|byte| is_blank(*byte))
-        .find(|word| !word.is_empty())?;
-    for (name, letter) in &CALLED_ELSEWHERE {
-        if name.eq_ignore_ascii_case(word) {
-            return Some(*letter);
-        }
-    }
+/// The number of what has this kind and is called so.
+fn number_called(symbols: &Symbols<'_>, kind: OperandKind, name: &[u8]) -> Option<u16> {
     for index in 0..symbols.len() {
         let symbol = symbols.get(index)?;
-        if symbol.kind == OperandKind::Thread && symbol.name.eq_ignore_ascii_case(word) {
-            return Some(symbol.name);
+        if symbol.kind == kind && symbol.name == name {
+            return Some(symbol.number);
         }
     }
     None
@@ -44,13 +19,7 @@ pub fn near_word<'a>(symbols: &Symbols<'a>, said: &[u8]) -> Option<&'a [u8]> {
 
 /// The number of the thread that is called so.
 fn thread_called(symbols: &Symbols<'_>, name: &[u8]) -> Option<u16> {
-    for index in 0..symbols.len() {
-        let symbol = symbols.get(index)?;
-        if symbol.kind == OperandKind::Thread && symbol.name == name {
-            return Some(symbol.number);
-        }
-    }
-    None
+    number_called(symbols, OperandKind::Thread, name)
 }
 
 /// Returns the letter and the number of the choice that a word names, if it has a declared name: `ann`, or `xann` for the
@@ -85,6 +54,19 @@ fn is_before_choices(word: &[u8]) -> bool {
     word == b"s".as_slice() || word == b"g".as_slice()
 }
 
+/// Whether a word is a command that a row follows.
+fn is_before_row(word: &[u8]) -> bool {
+    word == b"k".as_slice() || word == b"c".as_slice()
+}
+
+/// Adds a row, which may be given by a label.
+fn push_row(line: &mut Vec<u8>, symbols: &Symbols<'_>, row: &[u8]) -> Result<(), AllocError> {
+    match number_called(symbols, OperandKind::Target, row) {
+        Some(number) => line.extend_from_slice(Buffer::new().format(number).as_bytes()),
+        None => line.extend_from_slice(row),
+    }
+}
+
 /// Whether a word is a whole command. It is one even if a thread has that name, so that there is always a way out.
 fn is_whole_command(word: &[u8]) -> bool {
     matches!(word, b"b" | b"help" | b"p" | b"q" | b"w")
@@ -110,14 +92,18 @@ pub fn in_numbers(
     {
         line.extend_from_slice(b"s ")?;
         push_token(&mut line, symbols, first)?;
-    } else if is_before_choices(first) {
+    } else if is_before_choices(first) || is_before_row(first) {
         line.extend_from_slice(first)?;
         let words = said
             .split(|byte| is_blank(*byte))
             .filter(|word| !word.is_empty());
         for word in words.skip(1) {
             line.push(b' ')?;
-            push_token(&mut line, symbols, word)?;
+            if is_before_row(first) {
+                push_row(&mut line, symbols, word)?;
+            } else {
+                push_token(&mut line, symbols, word)?;
+            }
         }
     } else {
         line.extend_from_slice(said)?;

@@ -1,4 +1,5 @@
-//! The entries for lines on standard error, exit statuses, exceptions, and the rows as a whole, a file for each group.
+//! The entries for lines on standard error, exit statuses, exceptions, what Java has, and the rows as a whole, a file for each
+//! group.
 
 pub mod asm;
 pub mod declare;
@@ -6,6 +7,7 @@ pub mod ending;
 pub mod exception;
 pub mod finding;
 pub mod image;
+pub mod java;
 pub mod load;
 pub mod plan;
 pub mod rows;
@@ -18,6 +20,7 @@ use crate::entries::ending::ENDING;
 use crate::entries::exception::EXCEPTION;
 use crate::entries::finding::FINDING;
 use crate::entries::image::IMAGE;
+use crate::entries::java::JAVA;
 use crate::entries::load::LOAD;
 use crate::entries::plan::PLAN;
 use crate::entries::rows::ROWS;
@@ -26,9 +29,9 @@ use crate::entries::status::STATUS;
 use crate::entry::Entry;
 
 /// The tables. Of several entries that words ask for it is the first.
-pub fn tables() -> [&'static [Entry]; 11] {
+pub fn tables() -> [&'static [Entry]; 12] {
     [
         &ASM, &IMAGE, &LOAD, &DECLARE, &SCHEDULE, &PLAN, &ENDING, &FINDING, &STATUS, &EXCEPTION,
-        &ROWS,
+        &JAVA, &ROWS,
     ]
 }

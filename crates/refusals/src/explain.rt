@@ -24,12 +24,13 @@ explain memory, spawn, read, write  other errors that end the program
 explain not a trace, differs        what `compare` reports
 explain expected, stopped           what `--expect` and `plan` say with status 1
 explain none, limit                 a choice that is refused, in a trace
-explain stuck, live                 how a run ends
+explain all, stuck, live            how a run ends
 explain ?, no history               replies of `debug`
 explain status 0 .. status 5        an exit status
 explain exception 1 .. exception 8  an exception, or by name: TimeoutException
 explain paaa, .thread, ..           an instruction or a directive
 explain rows                        which instructions there are
+explain locks, latch, join, ..      what Java has, and how it is here
 ";
 
 /// What is written if no line has the words, before what can be asked.

@@ -26,7 +26,6 @@ mod names;
 mod java;
 mod meant;
 mod mistaken;
-mod planned;
 
 // The command as it should be typed.
 pub mod typed;

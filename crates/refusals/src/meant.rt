@@ -1,6 +1,8 @@
 //! What a line may have been meant as, if that is more than its fault's entry says.
 
+use crate::java::{in_place_of, is_call, method_in, row_of};
 use crate::names::is_word_of_the_language;
+use commands::plan_word::{AT_COMMENT, has_comment_sign};
 use line_reader::asm_fault::AsmFaultKind;
 use line_reader::directive::is_directive;
 use line_reader::words::{before_comment, is_blank};
@@ -16,9 +18,6 @@ const AT_EQUALS: &str = "no `=`: as in `.phaser p 2` and `ldi r0 5`";
 /// What helps if a label in the place of an operand has a colon.
 const AT_COLON: &str = "a label has a colon only in its own line: `.thread ann main`, `main: halt`";
 
-/// What helps if a comment begins as in other languages.
-pub const AT_COMMENT: &str = "a comment begins with `;`";
-
 /// How many bytes a text has at most.
 const LONGEST: usize = 16_777_216;
 
@@ -31,11 +30,6 @@ fn is_schedule(alloc: Global, text: &[u8]) -> bool {
         Ok(runs) => !runs.is_empty(),
         Err(_) => false,
     }
-}
-
-/// Returns whether a word begins with the sign of a comment in other languages.
-pub fn has_comment_sign(word: &[u8]) -> bool {
-    word.starts_with(b"#") || word.starts_with(b"//") || word.starts_with(b"/*")
 }
 
 /// Returns whether a word begins such a comment where `#` and a number may be, too.
@@ -120,16 +114,27 @@ static ABSENT: [&str; 9] = [
     "exchanger",
 ];
 
-/// Whether a word names what the language doesn't have.
-fn is_absent(word: &[u8]) -> bool {
-    let name = word.strip_prefix(b".".as_slice()).unwrap_or(word);
+/// What helps if a word names what the language doesn't have.
+fn helps_at_absent(word: &[u8]) -> Option<&'static str> {
+    let name = method_in(word);
     ABSENT
         .iter()
-        .any(|absent| absent.as_bytes().eq_ignore_ascii_case(name))
+        .find(|absent| absent.as_bytes().eq_ignore_ascii_case(name))
+        .map(
+            |_| "there are only phasers, barriers and cells: `.phaser p 2`, `.barrier b 2`, `.cell c`",
+        )
 }
 
+/// What helps if a line declares a variable.
+const AT_VARIABLE: &str =
+    "a thread has the registers r0 to r7, as in `ldi r0 3`; `.cell x` declares a cell that all threads share";
+
+/// What helps if a line has a call as Java writes it, whose row is shown.
+const AT_CALL: &str =
+    "the instruction first, then its operands, with blanks: no dots and no parentheses";
+
 /// Classes of Java and types, and how the language declares what they are for.
-static DECLARED: [(&str, &str); 7] = [
+static DECLARED: [(&str, &str); 10] = [
     ("phaser", "`.phaser p 2` declares a phaser of 2 parties"),
     (
         "cyclicbarrier",
@@ -140,14 +145,11 @@ static DECLARED: [(&str, &str); 7] = [
         "thread",
         "`.thread ann main` declares a thread that begins at `main:`",
     ),
-    (
-        "int",
-        "a thread has the registers r0 to r7; `.cell sum` declares a cell that all threads share",
-    ),
-    (
-        "long",
-        "a thread has the registers r0 to r7; `.cell sum` declares a cell that all threads share",
-    ),
+    ("int", AT_VARIABLE),
+    ("long", AT_VARIABLE),
+    ("boolean", AT_VARIABLE),
+    ("var", AT_VARIABLE),
+    ("final", AT_VARIABLE),
     (
         "atomicinteger",
         "`.cell sum` declares a cell that all threads share",
@@ -156,10 +158,50 @@ static DECLARED: [(&str, &str); 7] = [
 
 /// How the language declares what this class or type is for.
 fn declaration_of(word: &[u8]) -> Option<&'static str> {
+    let name = method_in(word);
     DECLARED
         .iter()
-        .find(|(class, _)| class.as_bytes().eq_ignore_ascii_case(word))
+        .find(|(class, _)| class.as_bytes().eq_ignore_ascii_case(name))
         .map(|(_, helps)| *helps)
+}
+
+/// How the language declares what a line assigns, as in `p = new Phaser(2)`.
+fn declaration_in(line: &[u8]) -> Option<&'static str> {
+    before_comment(line)
+        .split(|byte| is_blank(*byte))
+        .filter(|word| !word.is_empty())
+        .skip_while(|word| *word != b"=".as_slice())
+        .filter_map(|word| declaration_of(word))
+        .next()
+}
+
+/// Returns what the language has in place of a word of Java: a declaration, rows, or nothing.
+pub fn helps_at_java(word: &[u8]) -> Option<&'static str> {
+    declaration_of(word)
+        .or(in_place_of(word))
+        .or(helps_at_absent(word))
+}
+
+/// Returns what a line makes by `new`, if it begins so.
+fn word_made<'a>(line: &'a [u8], word: &[u8]) -> Option<&'a [u8]> {
+    if word == b"new".as_slice() {
+        word_behind(line, word)
+    } else {
+        None
+    }
+}
+
+/// Returns the row that a line assigns the result of, as in `phase = p.arrive()`.
+fn row_assigned(alloc: Global, line: &[u8]) -> Option<&'static str> {
+    match row_of(alloc, word_assigned(line)?) {
+        Ok(row) => row,
+        Err(_) => None,
+    }
+}
+
+/// Returns whether a word is a call of a method that has a row.
+fn is_call_of_row(alloc: Global, word: &[u8]) -> bool {
+    is_call(word) && matches!(row_of(alloc, word), Ok(Some(_)))
 }
 
 /// Whether a word ends with a colon, and isn't the first of its line.
@@ -183,8 +225,46 @@ fn is_in_place_of_name(line: &[u8], word: &[u8]) -> bool {
     words.next().is_some_and(|first| is_directive(first)) && words.next() == Some(word)
 }
 
+/// What helps if a line gives the result of an instruction as Java does.
+const AT_RESULT: &str =
+    "the instruction is first, then the register of its result, as in `ldi r0 5`";
+
+/// What helps if a line adds as Java does.
+const AT_SUM: &str = "`ldi r1 1` puts 1 into r1, and then `add r0 r0 r1` adds it to r0";
+
+/// Returns what helps if a line is one of Java's.
+fn helps_at_java_line(alloc: Global, line: &[u8], word: &[u8]) -> Option<&'static str> {
+    if row_assigned(alloc, line).is_some() {
+        return Some(AT_RESULT);
+    }
+    let made = word_made(line, word).and_then(|made| helps_at_java(made));
+    if let Some(helps) = made.or(helps_at_java(word)).or(declaration_in(line)) {
+        return Some(helps);
+    }
+    if word_assigned(line).is_some() {
+        Some(if before_comment(line).contains(&b'+') {
+            AT_SUM
+        } else {
+            AT_RESULT
+        })
+    } else if is_call_of_row(alloc, word) {
+        Some(AT_CALL)
+    } else {
+        word_behind(line, word).and_then(|second| helps_at_sum(second))
+    }
+}
+
+/// What helps at a sign between a variable and what is added to it.
+fn helps_at_sum(word: &[u8]) -> Option<&'static str> {
+    if word.ends_with(b"=") || word.ends_with(b"++") || word.ends_with(b"--") {
+        in_place_of(word)
+    } else {
+        None
+    }
+}
+
 /// Returns what helps if no word of the language begins the line.
-fn helps_at_word(text: &[u8], line: &[u8], word: &[u8]) -> Option<&'static str> {
+fn helps_at_word(alloc: Global, text: &[u8], line: &[u8], word: &[u8]) -> Option<&'static str> {
     if word == b".run".as_slice() {
         Some(
             "this file also has a schedule: `run FILE` plays it, `show FILE` shows it; \
@@ -192,12 +272,6 @@ fn helps_at_word(text: &[u8], line: &[u8], word: &[u8]) -> Option<&'static str> 
         )
     } else if has_comment_sign(word) {
         Some(AT_COMMENT)
-    } else if let Some(helps) = declaration_of(word) {
-        Some(helps)
-    } else if word_assigned(line).is_some() {
-        Some("the instruction is first, then the register of its result, as in `ldi r0 5`")
-    } else if is_absent(word) {
-        Some("there are only phasers, barriers and cells: `.phaser p 2`, `.barrier b 2`, `.cell c`")
     } else if has_statement_within(word) {
         Some("put a blank behind the colon, as in `main: paaa r0 p`")
     } else if is_label_alone(text, line, word) {
@@ -207,7 +281,7 @@ fn helps_at_word(text: &[u8], line: &[u8], word: &[u8]) -> Option<&'static str> 
     } else if has_statement_behind(line, word) {
         Some("a label needs a colon, as in `main: paaa r0 p`")
     } else {
-        None
+        helps_at_java_line(alloc, line, word)
     }
 }
 
@@ -238,7 +312,7 @@ pub fn helps_at(
         AsmFaultKind::UnknownWord | AsmFaultKind::LongLine if is_schedule(alloc, text) => Some(
             "this looks like a schedule: the program comes first",
         ),
-        AsmFaultKind::UnknownWord => helps_at_word(text, line, word),
+        AsmFaultKind::UnknownWord => helps_at_word(alloc, text, line, word),
         AsmFaultKind::BadByte if number == 1 => helps_at_encoding(text),
         _ if word.ends_with(b",") => Some(AT_COMMA),
         AsmFaultKind::BadOption if has_comment_sign(word) => Some(AT_COMMENT),
@@ -251,6 +325,9 @@ pub fn helps_at(
             if before_comment(line).contains(&b'=') => Some(AT_EQUALS),
         AsmFaultKind::BadRegister if is_number(word) => Some(
             "put the number into a register first, as in `ldi r1 1`",
+        ),
+        AsmFaultKind::BadName if word == b"{".as_slice() => Some(
+            "no braces: `try failed` names the label of the handler, and `endtry` ends it",
         ),
         AsmFaultKind::BadName if is_operand_with_colon(line, word) => Some(AT_COLON),
         AsmFaultKind::BadName if is_in_place_of_name(line, word) => Some(

@@ -1,6 +1,7 @@
 //! The names that a text gives.
 
-use crate::java::row_of;
+use crate::entries::tables;
+use crate::java::{METHODS, method_in, row_of};
 use crate::table::directive::DIRECTIVES;
 use crate::table::row::row_entry;
 use instruction_table::shape_of;
@@ -37,12 +38,19 @@ pub fn first_line(text: &[u8], name: &[u8]) -> Option<u64> {
     None
 }
 
-/// Returns how far two words are from each other, in letters that are changed, left out or added.
-pub fn distance(alloc: Global, a: &[u8], b: &[u8]) -> Result<usize, AllocError> {
+/// How far two words are from each other, in letters that are changed, left out or added.
+fn distance(alloc: Global, a: &[u8], b: &[u8]) -> Result<usize, AllocError> {
     match (str::from_utf8(a), str::from_utf8(b)) {
         (Ok(a), Ok(b)) => levenshtein(alloc, a, b),
         _ => Ok(usize::MAX),
     }
+}
+
+/// Returns how far two names are from each other, in whatever letters.
+pub fn distance_of_names(alloc: Global, a: &[u8], b: &[u8]) -> Result<usize, AllocError> {
+    let a = in_small_letters(alloc, a)?;
+    let b = in_small_letters(alloc, b)?;
+    distance(alloc, a.as_slice(), b.as_slice())
 }
 
 /// Returns the word in small letters.
@@ -72,10 +80,21 @@ impl Nearest {
 
     /// Returns this word if it is nearer.
     fn or(self, alloc: Global, word: &'static str, small: &[u8]) -> Result<Nearest, AllocError> {
-        let far = distance(alloc, word.as_bytes(), small)?;
+        self.or_meant(alloc, word.as_bytes(), word, small)
+    }
+
+    /// Returns what a name means if the name is nearer.
+    fn or_meant(
+        self,
+        alloc: Global,
+        name: &[u8],
+        meant: &'static str,
+        small: &[u8],
+    ) -> Result<Nearest, AllocError> {
+        let far = distance(alloc, name, small)?;
         if far < self.far {
             Ok(Nearest {
-                word: Some(word),
+                word: Some(meant),
                 far,
             })
         } else {
@@ -84,8 +103,26 @@ impl Nearest {
     }
 }
 
+/// How many letters a method's name has at least that may be misspelt.
+const LEAST: usize = 5;
+
+/// Returns the row of the method of Java whose name is nearest to that of a call, or what was nearer before.
+fn or_method(alloc: Global, found: Nearest, word: &[u8]) -> Result<Nearest, AllocError> {
+    let called = in_small_letters(alloc, method_in(word))?;
+    let mut nearest = Nearest {
+        far: found.far.min(Nearest::to(called.as_slice()).far),
+        ..found
+    };
+    for (method, row) in &METHODS {
+        if method.len() >= LEAST {
+            nearest = nearest.or_meant(alloc, method.as_bytes(), *row, called.as_slice())?;
+        }
+    }
+    Ok(nearest)
+}
+
 /// Returns the other word of the language that is nearest to this one, if it is near: more than half of its letters are right.
-/// A method of Java's is nearest to its row.
+/// A method of Java's is nearest to its row, also if it is misspelt.
 pub fn nearest_word(alloc: Global, word: &[u8]) -> Result<Option<&'static str>, AllocError> {
     if word == b".run".as_slice() {
         return Ok(None);
@@ -102,6 +139,23 @@ pub fn nearest_word(alloc: Global, word: &[u8]) -> Result<Option<&'static str>, 
     }
     for directive in &DIRECTIVES {
         nearest = nearest.or(alloc, *directive, small.as_slice())?;
+    }
+    Ok(or_method(alloc, nearest, word)?.word)
+}
+
+/// Returns the nearest word that asks for an entry by itself, if it is near.
+pub fn nearest_asked(alloc: Global, word: &[u8]) -> Result<Option<&'static str>, AllocError> {
+    let small = in_small_letters(alloc, word)?;
+    let mut nearest = Nearest::to(small.as_slice());
+    for table in tables().iter() {
+        for entry in table.iter() {
+            for asked in entry.asked.iter() {
+                if let [name] = *asked {
+                    let spelt = in_small_letters(alloc, name.as_bytes())?;
+                    nearest = nearest.or_meant(alloc, spelt.as_slice(), *name, small.as_slice())?;
+                }
+            }
+        }
     }
     Ok(nearest.word)
 }
@@ -127,7 +181,7 @@ pub fn is_word_of_the_language(word: &[u8]) -> bool {
     shape_of(word).is_some() || is_directive(word)
 }
 
-/// Returns the name of the text that is nearest to this one, if it is near.
+/// Returns the name of the text that is nearest to this one, if it is near, in whatever letters.
 pub fn nearest_name<'a>(
     alloc: Global,
     text: &'a [u8],
@@ -137,7 +191,7 @@ pub fn nearest_name<'a>(
     let mut least = 3;
     for line in text.split(|byte| *byte == b'\n') {
         if let Some(given) = name_given(line) {
-            let far = distance(alloc, given, name)?;
+            let far = distance_of_names(alloc, given, name)?;
             if far < least && far < name.len() {
                 found = Some(given);
                 least = far;

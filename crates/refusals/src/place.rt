@@ -3,7 +3,7 @@
 use crate::entries::tables;
 use crate::java::row_of;
 use crate::kinds::called;
-use crate::meant::{helps_at, helps_at_encoding, word_assigned};
+use crate::meant::{helps_at, helps_at_encoding, helps_at_java, word_assigned};
 use crate::mistaken::{is_plan, is_trace};
 use crate::names::{first_line, nearest_name, nearest_option, nearest_word};
 use crate::question::{question_in_line, question_of};
@@ -169,6 +169,12 @@ fn push_form<E: Sink>(errors: &mut E, line: &[u8], wrong: WordPlace) -> Result<(
     }
 }
 
+/// Returns whether a word that is near to another may have been meant by it: a directive always, a row not by a word of Java that
+/// has something else in its place.
+fn is_meant(near: &str, word: &[u8]) -> bool {
+    near.as_bytes().starts_with(b".") || helps_at_java(word).is_none()
+}
+
 /// Writes the word of the language that may have been meant if there is none, with its operands. For a line like Java's it is
 /// the row of the method that is called after `=`.
 fn push_near_word<E: Sink>(
@@ -177,9 +183,10 @@ fn push_near_word<E: Sink>(
     line: &[u8],
     word: &[u8],
 ) -> Result<(), Unshown> {
-    let near = match word_assigned(line) {
-        Some(assigned) => row_of(alloc, assigned)?,
-        None => nearest_word(alloc, word)?,
+    let near = match (word_assigned(line), row_of(alloc, word)?) {
+        (Some(assigned), _) => row_of(alloc, assigned)?,
+        (None, Some(row)) => Some(row),
+        (None, None) => nearest_word(alloc, word)?.filter(|near| is_meant(near, word)),
     };
     push_near(errors, near)?;
     match near {

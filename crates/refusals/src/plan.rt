@@ -2,13 +2,13 @@
 ghost use Rattle.std.specs.Prelude.{◌≤◌, length};
 
 use crate::meant::helps_at_encoding;
-use crate::names::distance;
+use crate::names::distance_of_names;
 use crate::place::{Named, ProgramFile, Unshown, push_entry, push_meaning};
-use crate::planned::{helps_at_name, helps_at_star, helps_at_word};
 use crate::shown::{push_file, push_file_alone, push_line, push_marked, push_shown, word_at};
 use assembler::word_place::{WordPlace, line_at};
 use byte_ports::Sink;
 use commands::plan::loaded_program;
+use commands::plan_word::{helps_at_name, helps_at_star, helps_at_word};
 use commands::unplanned::Unplanned;
 use line_reader::words::{before_comment, length_before};
 use plans::cutting::word_length;
@@ -154,7 +154,7 @@ fn nearer<'a>(
 ) -> Result<Option<Near<'a>>, AllocError> {
     let mut best = found;
     for given in names.iter() {
-        let far = distance(alloc, *given, name)?;
+        let far = distance_of_names(alloc, *given, name)?;
         let least = match &best {
             Some(near) => near.far,
             None => 3,

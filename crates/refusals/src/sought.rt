@@ -3,7 +3,7 @@
 
 use crate::entries::tables;
 use crate::java::row_of;
-use crate::names::{in_small_letters, nearest_word};
+use crate::names::{in_small_letters, nearest_asked, nearest_word};
 use crate::place::Unshown;
 use crate::table::directive::DIRECTIVES;
 use crate::table::row::row_entry;
@@ -73,6 +73,22 @@ fn kind_named(name: &str) -> Option<&'static [&'static str]> {
     None
 }
 
+/// The words that ask for the entry that this word alone asks for in other letters.
+fn asked_alone(word: &str) -> Option<&'static [&'static str]> {
+    for table in tables().iter() {
+        for entry in table.iter() {
+            for asked in entry.asked.iter() {
+                if let [name] = *asked {
+                    if name.as_bytes().eq_ignore_ascii_case(word.as_bytes()) {
+                        return Some(*asked);
+                    }
+                }
+            }
+        }
+    }
+    None
+}
+
 /// Returns the word of the language that a line of a program begins with, after its label.
 fn first_of_line(words: &[&str]) -> Option<&'static str> {
     match words {
@@ -88,7 +104,7 @@ pub fn words_sought(alloc: Global, words: &[&str]) -> Result<Vec<&'static str>, 
     if let [word] = words {
         if let Some(meant) = word_meant(alloc, word.as_bytes())? {
             sought.push(meant)?;
-        } else if let Some(kind) = kind_named(word) {
+        } else if let Some(kind) = kind_named(word).or(asked_alone(word)) {
             sought.extend_from_slice(kind)?;
         }
     } else if let Some(first) = first_of_line(words) {
@@ -122,7 +138,8 @@ fn push_rows_from<E: Sink>(errors: &mut E, beginning: &str) -> Result<bool, Unsh
     Ok(!is_first)
 }
 
-/// Writes what is near to a word that asks for nothing: the rows that it begins, or the nearest word of the language.
+/// Writes what is near to a word that asks for nothing: the rows that it begins, the nearest word of the language, or the nearest
+/// word that asks for an entry.
 pub fn push_near_question<E: Sink>(
     alloc: Global,
     errors: &mut E,
@@ -137,7 +154,11 @@ pub fn push_near_question<E: Sink>(
     if push_rows_from(errors, word)? {
         return Ok(());
     }
-    if let Some(near) = nearest_word(alloc, word.as_bytes())? {
+    let near = match nearest_word(alloc, word.as_bytes())? {
+        Some(near) => Some(near),
+        None => nearest_asked(alloc, word.as_bytes())?,
+    };
+    if let Some(near) = near {
         errors.push(b"Near: ")?;
         errors.push(near.as_bytes())?;
         errors.push(b"\n")?;

@@ -1,7 +1,7 @@
 use crate::entry::Entry;
 
 /// What a command finds or replies, and how a run ends.
-pub static FINDING: [Entry; 10] = [
+pub static FINDING: [Entry; 11] = [
     Entry {
         asked: &[&["not", "a", "trace"], &["not", "a", "trace", " line"]],
         told: "not a trace LINE",
@@ -35,12 +35,20 @@ pub static FINDING: [Entry; 10] = [
         more: "docs/TRACES.md, \"Plan text\"",
     },
     Entry {
-        asked: &[&["stuck"], &["state", "_", "_", "stuck"]],
+        asked: &[&["stuck"], &["state", "_", "_", "stuck"], &["deadlock"]],
         told: "state CHOICES STEPS stuck",
         means: "some threads haven't ended, and none of them can continue",
         helps: "`vuthgal draw` shows which thread waits, and where",
         example: "printf '.phaser p 2\\n.thread t #0\\npaaa r0 p\\nhalt\\n.run\\nt0\\n' | vuthgal",
         more: "docs/TRACES.md, \"Trace text\"",
+    },
+    Entry {
+        asked: &[&["all"], &["state", "_", "_", "all"], &["ended"]],
+        told: "state CHOICES STEPS all",
+        means: "every thread has ended or died; `--expect ended` expects that none died",
+        helps: "a line of the state shows `ended`, or `died:` and the number of the exception",
+        example: "printf '.thread t #0\\nhalt\\n.run\\nt0\\n' | vuthgal",
+        more: "docs/COMMANDS.md, \"Expected ends\"",
     },
     Entry {
         asked: &[&["live"], &["state", "_", "_", "live"]],

@@ -1,9 +1,15 @@
-//! What a word of a plan may have been meant as, if that is more than its fault's entry says.
+//! What a word of a plan may have been meant as, if that is more than its fault says.
 
-use crate::meant::{AT_COMMENT, has_comment_sign};
+/// What helps if a comment begins as in other languages.
+pub const AT_COMMENT: &str = "a comment begins with `;`";
 
 /// The bytes of the sign that is three dots.
 const ELLIPSIS: [u8; 3] = [0xe2, 0x80, 0xa6];
+
+/// Returns whether a word begins with the sign of a comment in other languages.
+pub fn has_comment_sign(word: &[u8]) -> bool {
+    word.starts_with(b"#") || word.starts_with(b"//") || word.starts_with(b"/*")
+}
 
 /// Whether a word has only digits.
 fn is_digits(word: &[u8]) -> bool {
