@@ -25,21 +25,21 @@ use Rattle.headline.proofs.TreeCalls.{TreesGo}
 is_there : (world : World) (choice : Choice) → refusal_of world choice ≡ None → choice.thread < length world.scene.threads
 is_there world choice is = grind arith
 
-by_kind : (expiry : Bool) (row : Option Row) (t : ℕ) (scene : Scene) (late turn : Option Outcome) → GoIf None t scene late
-    → GoIf row t scene turn → GoIf (if expiry then None else row) t scene (if expiry then late else turn)
+by_kind : (expiry : Bool) (row : Option Row) (t : ℕ) (scene : Scene) (late turn : Option Outcome) → GoIf None true t scene late
+    → GoIf row false t scene turn → GoIf (if expiry then None else row) expiry t scene (if expiry then late else turn)
 by_kind true row t scene late turn a b = a
 by_kind false row t scene late turn a b = b
 
 -- what a choice makes of the barriers and of the trees
-abbrev pub ChoiceGoes : What → Option Row → ℕ → World → World → Type 0
-ChoiceGoes shown row t before after =
-    ((b : ℕ) → GoesTo shown (MakesBarrierCall row t (thread_at before.scene t) b) (barrier_at before.scene b) (barrier_at after.scene b))
+abbrev pub ChoiceGoes : What → Option Row → (expiry : Bool) → ℕ → World → World → Type 0
+ChoiceGoes shown row expiry t before after =
+    ((b : ℕ) → GoesTo shown (MakesBarrierCall row expiry t (thread_at before.scene t) b) (barrier_at before.scene b) (barrier_at after.scene b))
     × TreesGo row (thread_at before.scene t) before.scene.phasers after.scene.phasers
 
-by_outcome : (outcome : Option Outcome) (row : Option Row) (t : ℕ) (world : World) → GoIf row t world.scene outcome
-    → ChoiceGoes (played_by outcome world).event.what row t world (played_by outcome world).world
-by_outcome (Some outcome) row t world goes = goes
-by_outcome None row t world goes = goes
+by_outcome : (outcome : Option Outcome) (row : Option Row) (expiry : Bool) (t : ℕ) (world : World) → GoIf row expiry t world.scene outcome
+    → ChoiceGoes (played_by outcome world).event.what row expiry t world (played_by outcome world).world
+by_outcome (Some outcome) row expiry t world goes = goes
+by_outcome None row expiry t world goes = goes
 
 -- where the thread of an accepted choice stands
 pub stands_now : (world : World) (choice : Choice) (origin : Origin) → Goes world origin → refusal_of world choice ≡ None
@@ -48,13 +48,13 @@ pub stands_now : (world : World) (choice : Choice) (origin : Origin) → Goes wo
 stands_now world choice origin goes accepted = grind (arith, stands_at, is_there)
 
 pub choice_goes : (world : World) (choice : Choice) (origin : Origin) → Goes world origin → refusal_of world choice ≡ None
-    → ChoiceGoes (played world choice).event.what (row_of world choice) choice.thread world (played world choice).world
+    → ChoiceGoes (played world choice).event.what (row_of world choice) choice.expiry choice.thread world (played world choice).world
 choice_goes world choice origin goes accepted =
     let most = goes.limit in
     let shown = goes.steps in
     let there = is_there world choice accepted in
     let t = choice.thread in
-    by_outcome (outcome_of_choice world.program choice world.scene) (row_of world choice) t world
+    by_outcome (outcome_of_choice world.program choice world.scene) (row_of world choice) choice.expiry t world
     (by_kind choice.expiry _ t world.scene _ _
     (expiry_goes world.program world.steps t world.scene goes.sound (omega (arith, most, shown)) there)
     (turn_goes world.program world.steps t world.scene goes.sound (omega (arith, most, shown)) there))

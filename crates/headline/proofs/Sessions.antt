@@ -1,15 +1,12 @@
 -- What stands in a debugging session.
 use Rattle.std.proofs.Common.{◌≡◌, ℕ, List, [], ◌∷◌, Option, Some, None, refl, sym, subst}
-use Rattle.row_code.specs.declared.image.Image.{Image}
 use Rattle.thread_machine.specs.declared.choice.Choice.{Choice}
-use Rattle.thread_machine.specs.World.{World, StoredWorld, IsFirstOf, world_of}
-use Rattle.thread_machine.specs.Execution.{execution}
+use Rattle.thread_machine.specs.World.{World, StoredWorld, world_of}
 use Rattle.schedule_reader.specs.declared.run.Run.{Run}
 use Rattle.debugger.specs.Command.{Go, line_order}
 use Rattle.debugger.specs.Session.{Session, IsHistory}
 use Rattle.debugger.proofs.Standings.{goes_on_with}
 use Rattle.workbench.specs.Debug.{Exchange, IsBegun, IsDialogue, first_session}
-use Rattle.headline.specs.Headline.{GivesTheRows, start}
 use Rattle.headline.specs.EndToEnd.{AreLeft, SessionsGiveTheRows, StandAtFirst}
 use Rattle.headline.proofs.Scenes.{stored_alike, world_left}
 

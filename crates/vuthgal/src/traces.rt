@@ -11,7 +11,7 @@ use commands::show_comparison;
 use trace_compare::Verdict;
 use workbench::compare::{compared, done_by};
 use workbench::done::Done;
-use workbench::ending::{flushed, handed_on};
+use workbench::ending::{flushed, passed_on};
 use workbench::input::read_all;
 use workbench::program::program_in;
 
@@ -53,7 +53,8 @@ pub fn write_choices<'a>(rt: &HostRuntime, trace: &'a str) -> Answer<'a> {
     let mut input = ReadPort::new(Input::named(rt, trace)?);
     let mut output = BlockPort::new(rt.alloc(), WritePort::new(rt.stdout()))?;
     let answer = choices(rt.alloc(), &mut input, &mut output);
-    if handed_on(answer, output)? {
+    let (is_trace, _) = passed_on(answer, output)?;
+    if is_trace {
         return Ok(Done::AsAsked);
     }
     push_no_trace(rt, trace);
