@@ -25,7 +25,7 @@ mod names;
 // What was meant: Java's words, what a line may be, and what a file may be in place of what it should be.
 mod java;
 mod meant;
-mod mistaken;
+pub mod mistaken;
 
 // The command as it should be typed.
 pub mod typed;
@@ -33,7 +33,7 @@ pub mod typed;
 // The place, as it is shown.
 pub mod place;
 pub mod plan;
-mod shown;
+pub mod shown;
 
 pub use names::nearest_name;
 pub use place::{push_choice_place, push_place};

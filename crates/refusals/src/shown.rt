@@ -98,3 +98,17 @@ pub fn push_file<E: Sink>(errors: &mut E, file: &str, line: u64) -> Result<(), F
     errors.push(Buffer::new().format(line).as_bytes())?;
     errors.push(b"\n")
 }
+
+/// Writes a line of a file with its number, or the file's name alone if the line isn't known.
+pub fn push_line_of<E: Sink>(
+    errors: &mut E,
+    file: &str,
+    number: u64,
+    line: Option<&[u8]>,
+) -> Result<(), Failed> {
+    let Some(line) = line else {
+        return push_file_alone(errors, file);
+    };
+    push_file(errors, file, number)?;
+    push_line(errors, line.strip_suffix(b"\r".as_slice()).unwrap_or(line))
+}

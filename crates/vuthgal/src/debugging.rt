@@ -1,11 +1,11 @@
 //! Sessions of the debugger.
 ghost use Rattle.workbench.specs.ProgramFile.{IsNamedProgram};
 
-use crate::help::push_no_trace;
 use crate::input::Input;
 use crate::planning::runs_of_plan;
 use crate::steps::{Holds, OpenSteps, opened};
 use crate::trouble::{Answer, Trouble};
+use crate::unlike::push_no_trace;
 use crate::{notes, printable};
 use byte_ports::{BlockSource, ReadPort, WritePort};
 use command_line::request::Steps;

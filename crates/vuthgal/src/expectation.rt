@@ -5,6 +5,7 @@ ghost use Rattle.vuthgal.specs.Expectation.{are_as_expected, done_by};
 
 use crate::explaining::is_explained;
 use crate::printable;
+use crate::unlike::push_unmet_help;
 use assembler::Symbols;
 use byte_ports::{Failed, Sink, WritePort};
 use instruction_table::OperandKind;
@@ -164,7 +165,7 @@ fn push_all_unmet<E: Sink>(
 }
 
 /// Reports what differs from what was expected at the end of a run, whose order may have a seed: a line for each, and at a
-/// terminal which name may have been meant.
+/// terminal which name may have been meant, and what helps.
 pub fn tell_unmet(
     rt: &HostRuntime,
     program: &[u8],
@@ -182,4 +183,5 @@ pub fn tell_unmet(
             push_near(rt.alloc(), &mut errors, program, text.as_slice());
         }
     }
+    push_unmet_help(&mut errors, end.standing, seed.is_some());
 }

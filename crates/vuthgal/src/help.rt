@@ -1,14 +1,22 @@
 //! The words that follow the line, if standard error is a terminal or they are asked for. They only help a person.
 
+use crate::endless::endless_word;
 use crate::explaining::{is_explained, is_to_be_explained};
 use crate::files::writes_to_pipe;
+use crate::mistaken::{
+    AT_COMPARED_TRACE, AT_TRACE, helps_at_no_plan, is_program, push_mistaken, push_turned,
+};
+use crate::near::near_file;
 use crate::printable;
-use byte_ports::{Failed, Sink, WritePort};
+use crate::unlike::push_endless;
+use assembler::AsmFault;
+use byte_ports::{Sink, WritePort};
 use command_line::request::{Request, Steps};
 use commands::unplanned::Unplanned;
 use plans::fault::PlanFault;
+use refusals::mistaken::is_trace;
 use refusals::place::{Named, ProgramFile, push_meaning};
-use refusals::typed::{is_unquoted_plan, push_typed, push_word};
+use refusals::typed::{is_unquoted_plan, push_typed};
 use refusals::{push_choice_place, push_place, push_plan_place, push_stopped_plan};
 use std::alloc::AllocError;
 use std::fmt::Display;
@@ -40,6 +48,10 @@ pub struct Files<'a> {
     plan: Option<&'a str>,
     /// The file that is written, if that isn't standard output.
     output: Option<&'a str>,
+    /// The file that is given as a trace to be compared.
+    compared: Option<&'a str>,
+    /// Whether commands are read from standard input.
+    has_commands: bool,
     /// What was read of standard input, if that is known.
     input: Option<&'a [u8]>,
 }
@@ -63,6 +75,14 @@ fn words_of<'a>(steps: Steps<'a>) -> (Option<&'a str>, Option<&'a str>) {
 fn output_of<'a>(request: &Request<'a>) -> Option<&'a str> {
     match request {
         Request::Asm { image, .. } => Some(*image),
+        _ => None,
+    }
+}
+
+/// Returns the file that is given as a trace to be compared.
+fn compared_in<'a>(request: &Request<'a>) -> Option<&'a str> {
+    match request {
+        Request::Compare { trace, .. } => Some(*trace),
         _ => None,
     }
 }
@@ -92,6 +112,8 @@ impl<'a> Files<'a> {
             schedule,
             plan,
             output: output_of(request),
+            compared: compared_in(request),
+            has_commands: matches!(request, Request::Debug { .. }),
             input: None,
         }
     }
@@ -104,6 +126,8 @@ impl<'a> Files<'a> {
             schedule,
             plan,
             output: None,
+            compared: None,
+            has_commands: false,
             input: None,
         }
     }
@@ -123,7 +147,7 @@ impl<'a> Files<'a> {
 }
 
 /// Returns what a file has, or nothing if it can't be read twice.
-fn contents(rt: &HostRuntime, path: &str) -> Vec<u8> {
+pub fn contents(rt: &HostRuntime, path: &str) -> Vec<u8> {
     let read = match fs::metadata(rt, path) {
         Ok(metadata) if metadata.is_file() && metadata.len() <= LONGEST => fs::read(rt, path).ok(),
         _ => None,
@@ -142,7 +166,7 @@ fn program_file<'a>(name: &'a str, bytes: &'a [u8]) -> ProgramFile<'a> {
 }
 
 /// Returns a file's name as it is shown.
-fn told(path: &str) -> &str {
+pub fn told(path: &str) -> &str {
     if path == INPUT { STANDARD_INPUT } else { path }
 }
 
@@ -188,7 +212,8 @@ fn push_unread(rt: &HostRuntime, files: Files<'_>, words: &[String]) {
     if let (true, Some(schedule)) = (is_other, files.schedule) {
         push_plan_meant(rt, schedule, words);
     }
-    if !is_program && !is_other {
+    let is_known = is_program || is_other || files.has_commands && push_unreadable(rt, INPUT);
+    if !is_known {
         let name = told(files.schedule.unwrap_or(files.program));
         push_text(rt, format!(in rt.alloc(); "{name}: a read failed\n"));
     }
@@ -249,25 +274,63 @@ fn push_place_of(
     let _ = push_place(rt.alloc(), fault, program, schedule, &mut errors);
 }
 
+/// Returns what the file of the schedule, the plan or the trace has, or nothing if there is none or it can't be read twice.
+fn step_bytes(rt: &HostRuntime, files: Files<'_>) -> Vec<u8> {
+    match (files.plan, files.input, files.schedule) {
+        (None, None, Some(name)) => contents(rt, name),
+        _ => Vec::new(rt.alloc()),
+    }
+}
+
+/// Returns the schedule, the plan or the trace, if it isn't in the program's file. These bytes are those of its own file.
+fn steps_of<'a>(files: Files<'a>, bytes: &'a [u8]) -> Option<Named<'a>> {
+    match (files.plan, files.input) {
+        (Some(plan), _) => Some(Named {
+            name: ARGUMENT,
+            bytes: plan.as_bytes(),
+        }),
+        (None, Some(input)) => Some(Named {
+            name: STANDARD_INPUT,
+            bytes: input,
+        }),
+        (None, None) => files.schedule.map(|name| Named { name, bytes }),
+    }
+}
+
+/// Says that a trace is in the place of a program, and if they are to be compared, how the command should be typed.
+fn push_trace_as_program(
+    rt: &HostRuntime,
+    fault: Fault,
+    line: u64,
+    trace: &[u8],
+    files: Files<'_>,
+) {
+    let why = Unplanned::Fault(fault);
+    let trace = Named {
+        name: told(files.program),
+        bytes: trace,
+    };
+    let Some(program) = files.compared else {
+        return push_mistaken(rt, trace, line, why, AT_TRACE);
+    };
+    if is_program(rt.alloc(), contents(rt, program).as_slice()) {
+        push_turned(rt, trace.name, program);
+    }
+    push_mistaken(rt, trace, line, why, AT_COMPARED_TRACE);
+}
+
 /// Shows the place of a file's fault, for which the file is read again, and says what the fault means.
 fn push_refusal(rt: &HostRuntime, fault: Fault, files: Files<'_>) {
     let program = contents(rt, files.program);
     let program = program_file(files.program, program.as_slice());
-    let bytes = match (files.input, files.schedule) {
-        (None, Some(name)) => contents(rt, name),
-        _ => Vec::new(rt.alloc()),
-    };
-    let schedule = match files.input {
-        Some(bytes) => Some(Named {
-            name: STANDARD_INPUT,
-            bytes,
-        }),
-        None => files.schedule.map(|name| Named {
-            name,
-            bytes: bytes.as_slice(),
-        }),
-    };
-    push_place_of(rt, fault, program, schedule);
+    if let Fault::Asm(AsmFault { line, .. }) = fault {
+        if is_trace(program.file.bytes) {
+            return push_trace_as_program(rt, fault, line, program.file.bytes, files);
+        }
+    }
+    let bytes = step_bytes(rt, files);
+    let steps = steps_of(files, bytes.as_slice());
+    push_place_of(rt, fault, program, steps);
 }
 
 /// Says how the plan in a file is played, if an argument that is to be a plan is the name of one.
@@ -291,37 +354,39 @@ pub fn push_plan_help(rt: &HostRuntime, fault: PlanFault, files: Files<'_>) {
     }
     let program = contents(rt, files.program);
     let program = program_file(files.program, program.as_slice());
-    let name = files.schedule.unwrap_or(INPUT);
-    let bytes = match (files.plan, files.input) {
-        (None, None) => contents(rt, name),
-        _ => Vec::new(rt.alloc()),
-    };
-    let plan = match (files.plan, files.input) {
-        (Some(plan), _) => {
-            push_plan_is_file(rt, plan);
-            Named {
-                name: ARGUMENT,
-                bytes: plan.as_bytes(),
-            }
-        }
-        (None, Some(bytes)) => Named {
-            name: STANDARD_INPUT,
-            bytes,
-        },
-        (None, None) => Named {
-            name,
+    let bytes = step_bytes(rt, files);
+    let plan = match steps_of(files, bytes.as_slice()) {
+        Some(plan) => plan,
+        None => Named {
+            name: INPUT,
             bytes: bytes.as_slice(),
         },
     };
+    if let Some(plan) = files.plan {
+        push_plan_is_file(rt, plan);
+    } else if let Some(helps) = helps_at_no_plan(rt.alloc(), plan.bytes) {
+        let file = Named {
+            name: told(plan.name),
+            bytes: plan.bytes,
+        };
+        return push_mistaken(rt, file, fault.line, Unplanned::Plan(fault), helps);
+    }
     let mut errors = WritePort::new(printable::errors(rt));
     let _ = push_plan_place(rt.alloc(), fault, program, plan, &mut errors);
 }
 
-/// Reports which plan wanted one more choice than it may make, and says what helps.
-pub fn push_stopped(rt: &HostRuntime, plan: &str) {
+/// Reports which plan wanted one more choice than it may make, and which of its words if that is clear, and says what helps.
+pub fn push_stopped(rt: &HostRuntime, name: &str, plan: &[u8]) {
     let _ = WritePort::new(rt.stderr()).push(b"stopped at 1000000 choices\n");
-    if is_to_be_explained(rt) {
-        let _ = push_stopped_plan(&mut WritePort::new(printable::errors(rt)), plan);
+    if !is_to_be_explained(rt) {
+        return;
+    }
+    let mut errors = WritePort::new(printable::errors(rt));
+    match endless_word(plan) {
+        Some(found) => push_endless(&mut errors, told(name), plan, found),
+        None => {
+            let _ = push_stopped_plan(&mut errors, name);
+        }
     }
 }
 
@@ -365,38 +430,6 @@ pub fn push_explained(rt: &HostRuntime, text: &str) {
     }
 }
 
-/// How a trace is made.
-const NO_TRACE: &str =
-    "this isn't a line of a trace: `vuthgal run FILE SCHEDULE > TRACE` writes a trace\n";
-
-/// Says which file isn't a trace, and how a trace is made.
-pub fn push_no_trace(rt: &HostRuntime, trace: &str) {
-    if is_to_be_explained(rt) {
-        let name = told(named(trace));
-        push_text(rt, format!(in rt.alloc(); "  File:    {name}\n{NO_TRACE}"));
-    }
-}
-
-/// Writes the words of a command line as a shell takes them.
-fn push_command_line<E: Sink>(errors: &mut E, words: &[String]) -> Result<(), Failed> {
-    errors.push(b"  Command:")?;
-    for word in words {
-        errors.push(b" ")?;
-        push_word(errors, word.as_str())?;
-    }
-    errors.push(b"\n")
-}
-
-/// Says which run didn't end as it was expected to.
-pub fn push_unlike_run(rt: &HostRuntime, words: &[String]) {
-    if is_to_be_explained(rt) {
-        let _ = push_command_line(&mut WritePort::new(printable::errors(rt)), words);
-    }
-}
-
-/// How a line differs that looks like the run's.
-pub const CARRIAGE_RETURN: &str = "the trace's line ends with CR LF, the run's with LF\n";
-
 /// Writes a text to standard error, if there was memory for it.
 pub fn push_text(rt: &HostRuntime, text: Result<String, AllocError>) {
     if let Ok(text) = text {
@@ -434,18 +467,20 @@ fn push_plan_meant(rt: &HostRuntime, word: &str, words: &[String]) {
     }
 }
 
-/// Says what may have been meant by the name of a file that can't be opened, among these arguments: a file with `.asm` after
-/// its name, or a plan.
+/// Says what may have been meant by the name of a file that can't be opened, among these arguments: a file with a name like it, a
+/// page that is to be written, or a plan.
 fn push_meant(rt: &HostRuntime, path: &str, words: &[String]) {
     if path == "-" && is_plan_file(words) {
         push_explained(rt, NOT_PLAN_INPUT);
     } else if path == "-" {
         push_explained(rt, NOT_INPUT);
     }
-    if let Ok(near) = format!(in rt.alloc(); "{path}.asm") {
-        if fs::metadata(rt, near.as_str()).is_ok() {
-            push_text(rt, format!(in rt.alloc(); "  Near:    {near}\n"));
-        }
+    if let Some(near) = near_file(rt, path) {
+        let near = near.as_str();
+        push_text(rt, format!(in rt.alloc(); "  Near:    {near}\n"));
+    }
+    if path.ends_with(".html") {
+        push_text(rt, format!(in rt.alloc(); "{TO_FILE}\n"));
     }
     push_plan_meant(rt, path, words);
 }
@@ -465,6 +500,9 @@ fn helps_at_unread(path: &str, words: &[String]) -> Option<&'static str> {
     }
 }
 
+/// How a page is written to a file.
+pub const TO_FILE: &str = "`vuthgal show FILE > page.html` writes the page to a file";
+
 /// Says which file can't be opened and why, what may have been meant, and what the line means.
 pub fn push_reason<R: Display>(
     rt: &HostRuntime,
@@ -475,7 +513,9 @@ pub fn push_reason<R: Display>(
 ) {
     if is_to_be_explained(rt) {
         push_text(rt, format!(in rt.alloc(); "{path}: {reason}\n"));
-        push_meant(rt, path, words);
+        if matches!(fault, Fault::Read) {
+            push_meant(rt, path, words);
+        }
         let mut errors = WritePort::new(printable::errors(rt));
         let helps = helps_at_unread(path, words);
         let _ = push_meaning(rt.alloc(), &mut errors, Unplanned::Fault(fault), helps);

@@ -5,19 +5,22 @@
 //! - which ports a command gets: `running`, `drawing`, `living`, `texts`, `traces`, `planning`, `debugging`
 //! - files and streams: `files`, `input`, `steps`, `schedule`
 //! - the exit status of an error: `trouble`
-//! - what a person is shown: `notes`, `progress`, `printable`, `help`, `explaining`
+//! - what a person is shown: `notes`, `progress`, `printable`, `help`, `unlike`, `mistaken`, `near`, `endless`, `explaining`
 #![tactic(auto)]
 
 ghost use Rattle.command_line.specs.Request.{IsInRange};
 
 mod debugging;
 mod drawing;
+mod endless;
 mod expectation;
 mod explaining;
 mod files;
 mod help;
 mod input;
 mod living;
+mod mistaken;
+mod near;
 mod no_command;
 mod notes;
 mod origin;
@@ -30,6 +33,7 @@ mod steps;
 mod texts;
 mod traces;
 mod trouble;
+mod unlike;
 mod usage;
 mod words;
 
@@ -40,7 +44,7 @@ use commands::drawing::Drawing;
 use commands::page::Page;
 use debugging::debug;
 use drawing::draw;
-use help::{Files, push_unlike_run};
+use help::Files;
 use living::{meet, play_live};
 use pictures::others::OtherRuns;
 use planning::{count_orders, write_plan};
@@ -51,6 +55,7 @@ use std::thread::Threads;
 use texts::{explain_words, write_image, write_list};
 use traces::{compare, write_choices};
 use trouble::Answer;
+use unlike::push_unlike_run;
 use workbench::done::{Done, settled};
 
 /// Does what is asked for.

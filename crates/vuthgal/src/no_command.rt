@@ -1,7 +1,8 @@
 //! Why no command is begun.
 
 use crate::files::writes_to_pipe;
-use crate::help::{push_file_hint, push_reason, push_text, push_words};
+use crate::help::{TO_FILE, push_file_hint, push_reason, push_text, push_words};
+use crate::near::{is_followed, nearest_state, wrong_state};
 use crate::{printable, usage};
 use byte_ports::{Sink, WritePort};
 use clap::Error as WordsError;
@@ -9,7 +10,7 @@ use clap::error::ErrorKind;
 use refusals::typed::push_typed;
 use std::alloc::AllocError;
 use std::fmt::Display;
-use std::io;
+use std::{fs, io};
 use thiserror::Error;
 use workbench::done::{Done, settled};
 use workbench::fault::Fault;
@@ -29,6 +30,14 @@ const QUOTE: &str = "quote the STATE: `vuthgal --expect 'ann out 1'`";
 /// What plays kept runs again.
 const OF_CHECK: &[u8] =
     b"tip: `bin/check` (installed as `vuthgal-check`) plays kept runs and compares them\n";
+
+/// What a run can have.
+const ONE_OF_STEPS: &str =
+    "`--schedule` is no option: a run has a schedule, `vuthgal run FILE SCHEDULE`, or a plan, `vuthgal run FILE --plan PLAN`";
+
+/// How a STATE is written.
+const STATES: &str =
+    "  Helps:   ended, all, stuck, live, or a name and words of its line: `--expect 'ann out 1'`";
 
 /// Why no command is begun: the words ask for none, or for help; or a file that they name can't be opened.
 #[derive(Debug, Drop, Error)]
@@ -98,19 +107,28 @@ fn tell_words(rt: &HostRuntime, error: &WordsError, words: &[String]) -> u8 {
     if !error.use_stderr() {
         return tell_help(rt, error);
     }
-    let told = usage::told(rt, error);
+    let told = usage::told(rt, error, is_file_first(rt, error.kind(), words));
     let way = other_way(&told, error.kind());
     let is_enough = is_enough(&told);
-    let is_of_quotes = has_part(&told, "only one of them")
-        || has_part(&told, "--expect STATE: STATE is");
+    let is_of_quotes = has_part(&told, "only one of them");
+    let is_of_state = has_part(&told, "--expect STATE: STATE is");
     let status = push_wrong(rt, told);
     match way {
         _ if status != WRONG_WORDS => {}
         Some(way) => push_text(rt, format!(in rt.alloc(); "{way}\n")),
         None if is_enough => {}
+        None if is_of_state => push_state_meant(rt, words),
         None => push_tip(rt, error.kind(), words, is_of_quotes),
     }
     status
+}
+
+/// Returns whether a file is in the place of a command.
+fn is_file_first(rt: &HostRuntime, kind: ErrorKind, words: &[String]) -> bool {
+    match (kind, words) {
+        (ErrorKind::InvalidSubcommand, [_, word, ..]) => fs::metadata(rt, word.as_str()).is_ok(),
+        _ => false,
+    }
 }
 
 /// Returns what to type instead of an unknown option, if it is known.
@@ -156,7 +174,9 @@ fn push_tip(rt: &HostRuntime, kind: ErrorKind, words: &[String], is_of_quotes: b
             rest,
         ),
         (_, [_, command, rest @ ..]) if is_of_quotes => {
-            let _ = push_as_typed(rt, command.as_str(), rest);
+            if !push_as_typed(rt, command.as_str(), rest) {
+                push_page_way(rt, rest);
+            }
         }
         _ => {}
     }
@@ -186,6 +206,45 @@ fn push_near_command(rt: &HostRuntime, word: &str) {
     }
 }
 
+/// Reports which STATE may have been meant, and how one is written, or how the command should be typed if its words have no quotes.
+fn push_state_meant(rt: &HostRuntime, words: &[String]) {
+    let state = wrong_state(words);
+    let near = nearest_state(rt.alloc(), state).unwrap_or(None);
+    if let (None, [_, command, rest @ ..]) = (near, words) {
+        if is_followed(state, words) && push_as_typed(rt, command.as_str(), rest) {
+            return;
+        }
+    }
+    if let Some(near) = near {
+        push_text(rt, format!(in rt.alloc(); "  Near:    {near}\n"));
+    }
+    push_text(rt, format!(in rt.alloc(); "{STATES}\n"));
+}
+
+/// Reports how a page is written to a file, if one of these words is the name of a page. Returns whether one is.
+fn push_page_way(rt: &HostRuntime, words: &[String]) -> bool {
+    let is_page = words.iter().any(|word| word.as_str().ends_with(".html"));
+    if is_page {
+        push_text(rt, format!(in rt.alloc(); "{TO_FILE}\n"));
+    }
+    is_page
+}
+
+/// Whether a word names the option of a plan.
+fn is_plan_option(word: &str) -> bool {
+    matches!(word, "-p" | "--plan" | "--plan-file")
+        || word.starts_with("--plan=")
+        || word.starts_with("--plan-file=")
+}
+
+/// Whether both a plan and what is to be a schedule are among these words.
+fn has_both_steps(words: &[String]) -> bool {
+    words
+        .iter()
+        .any(|word| word.as_str().starts_with("--schedule"))
+        && words.iter().any(|word| is_plan_option(word.as_str()))
+}
+
 /// Whether a word names a file to write to, as other programs have it.
 fn is_for_output(word: &str) -> bool {
     word.starts_with("-o") || word.starts_with("--out")
@@ -193,10 +252,12 @@ fn is_for_output(word: &str) -> bool {
 
 /// Reports how what a command doesn't take is asked for.
 fn push_other_way(rt: &HostRuntime, command: &str, words: &[String]) {
-    if push_as_typed(rt, command, words) {
+    if !has_both_steps(words) && push_as_typed(rt, command, words) || push_page_way(rt, words) {
         return;
     }
-    let way = if words.iter().any(|word| is_for_output(word.as_str())) {
+    let way = if has_both_steps(words) {
+        ONE_OF_STEPS
+    } else if words.iter().any(|word| is_for_output(word.as_str())) {
         "`> FILE` writes the output to a file"
     } else if command == "live" {
         "`run FILE SCHEDULE` plays a schedule; `live` lets the threads choose"

@@ -36,19 +36,19 @@ pub fn runs_of_plan<'a>(
 {
     let planned = planned_in(rt.alloc(), program, plan)?;
     if planned.stopped {
-        push_stopped(rt, name);
+        push_stopped(rt, name, plan);
     }
     Ok(planned.runs)
 }
 
-/// Returns a result, with the plan if it is refused and was standard input.
+/// Returns a result with its plan, also if the plan is refused and was standard input.
 fn told<'a, A: Drop>(
     answer: Result<A, Unplanned>,
     plan: Vec<u8>,
     is_input: bool,
-) -> Result<A, Trouble<'a>> {
+) -> Result<(A, Vec<u8>), Trouble<'a>> {
     match answer {
-        Ok(done) => Ok(done),
+        Ok(done) => Ok((done, plan)),
         Err(Unplanned::Plan(fault)) if is_input => Err(Trouble::PlanOfInput(fault, plan)),
         Err(why) => Err(Trouble::from(why)),
     }
@@ -76,9 +76,9 @@ pub fn write_plan<'a>(
     } else {
         plan(rt.alloc(), program, steps.as_slice(), &mut output)
     };
-    let planned = told(planned, steps, is_input)?;
-    if flushed(Ok(planned), &mut output)? {
-        push_stopped(rt, named(name));
+    let (is_stopped, steps) = told(planned, steps, is_input)?;
+    if flushed(Ok(is_stopped), &mut output)? {
+        push_stopped(rt, named(name), steps.as_slice());
         return Ok(Done::Unlike);
     }
     Ok(Done::AsAsked)
@@ -152,7 +152,7 @@ pub fn count_orders<'a>(
         &mut output,
     );
     shown.meter().end();
-    let unlike = told(answer, plan, steps == Some("-"))?;
+    let (unlike, _) = told(answer, plan, steps == Some("-"))?;
     flushed(Ok(()), &mut output)?;
     Ok(settled_by(rt, text, expected.as_slice(), unlike))
 }

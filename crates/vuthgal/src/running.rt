@@ -12,7 +12,7 @@ use command_line::request::Steps;
 use headline::shown;
 use std::io::Stdout;
 use thread_machine::{Choice, Standing, StepFault};
-use trace_text::{Refusal, RunEnd};
+use trace_text::{Refusal, RunEnd, RunFault};
 use workbench::done::Done;
 use workbench::ending::passed_on;
 use workbench::fault::Fault;
@@ -76,6 +76,19 @@ pub fn ended<'a>(
     Ok(done)
 }
 
+/// Returns the result of a run under a schedule.
+fn scheduled<'a>(
+    rt: &HostRuntime,
+    answer: Result<RunEnd, RunFault>,
+    output: TracePort<'_>,
+    program: &[u8],
+    expected: &[Vec<u8>],
+    files: Files<'_>,
+) -> Answer<'a> {
+    let answer = answer.map_err(|fault| Fault::of_run(fault));
+    ended(rt, answer, output, program, expected, SCHEDULE_ENDS, files)
+}
+
 /// Plays what standard input holds.
 pub fn play_both<'a>(rt: &HostRuntime, expected: &[&str]) -> Answer<'a> {
     notes::push_waiting(
@@ -89,22 +102,12 @@ pub fn play_both<'a>(rt: &HostRuntime, expected: &[&str]) -> Answer<'a> {
     let expected = expectations(rt.alloc(), &program.names, expected)?;
     let mut schedule = SliceSource::new(schedule);
     let mut output = trace_port(rt)?;
-    let answer = shown::run(rt.alloc(), program.image, &mut schedule, &mut output).map_err(
-        |fault| Fault::of_run(fault),
-    );
+    let answer = shown::run(rt.alloc(), program.image, &mut schedule, &mut output);
     if answer.is_ok() && text.len() == bytes.len() {
         notes::push_no_schedule(rt);
     }
     let files = Files::of_input();
-    ended(
-        rt,
-        answer,
-        output,
-        text,
-        expected.as_slice(),
-        SCHEDULE_ENDS,
-        files,
-    )
+    scheduled(rt, answer, output, text, expected.as_slice(), files)
 }
 
 /// Plays the program in a file.
@@ -117,17 +120,7 @@ pub fn run<'a>(rt: &HostRuntime, file: &'a str, steps: Steps<'a>, expected: &[&s
     let expected = expectations(rt.alloc(), &program.names, expected)?;
     let mut schedule = Schedule::whole(rt.alloc(), steps.schedule(beside, planned.as_str()));
     let mut output = trace_port(rt)?;
-    let answer = shown::run(rt.alloc(), program.image, &mut schedule, &mut output).map_err(
-        |fault| Fault::of_run(fault),
-    );
-    let done = ended(
-        rt,
-        answer,
-        output,
-        text,
-        expected.as_slice(),
-        SCHEDULE_ENDS,
-        files,
-    );
+    let answer = shown::run(rt.alloc(), program.image, &mut schedule, &mut output);
+    let done = scheduled(rt, answer, output, text, expected.as_slice(), files);
     schedule.told(done)
 }

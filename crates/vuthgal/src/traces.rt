@@ -1,9 +1,10 @@
 //! Traces that are read: compared with their run, and as the schedule that they have.
 
-use crate::help::{CARRIAGE_RETURN, push_explained, push_no_trace};
+use crate::help::push_explained;
 use crate::input::Input;
 use crate::progress::ShownSource;
 use crate::trouble::Answer;
+use crate::unlike::{CARRIAGE_RETURN, push_differs, push_no_trace};
 use crate::{files, printable};
 use byte_ports::{BlockPort, ReadPort, WritePort};
 use commands::choices::choices;
@@ -15,10 +16,13 @@ use workbench::ending::{flushed, passed_on};
 use workbench::input::read_all;
 use workbench::program::program_in;
 
-/// Returns the result of a verdict on the trace of this name. At a terminal it says how a trace is made, if it isn't one.
-fn ended(rt: &HostRuntime, trace: &str, verdict: Verdict) -> Done {
-    if matches!(verdict, Verdict::NotATrace { .. }) {
-        push_no_trace(rt, trace);
+/// Returns the result of a verdict on the trace of this name, whose line was shown if it differs. At a terminal it says which line
+/// differs, or why it is no trace.
+fn ended(rt: &HostRuntime, trace: &str, verdict: Verdict, is_shown: bool) -> Done {
+    match verdict {
+        Verdict::Same => {}
+        Verdict::Differs { line } => push_differs(rt, trace, line, is_shown),
+        Verdict::NotATrace { .. } => push_no_trace(rt, trace),
     }
     done_by(verdict)
 }
@@ -35,7 +39,7 @@ pub fn compare<'a>(rt: &HostRuntime, file: &'a str, trace: &'a str, is_shown: bo
     let mut output = WritePort::new(printable::output(rt));
     if !is_shown {
         let verdict = compared(rt.alloc(), image, &mut trace, &mut output);
-        return Ok(ended(rt, name, flushed(verdict, &mut output)?));
+        return Ok(ended(rt, name, flushed(verdict, &mut output)?, is_shown));
     }
     let judged = show_comparison(rt.alloc(), image, &mut trace, &mut output);
     let judged = flushed(judged, &mut output)?;
@@ -45,7 +49,7 @@ pub fn compare<'a>(rt: &HostRuntime, file: &'a str, trace: &'a str, is_shown: bo
     {
         push_explained(rt, CARRIAGE_RETURN);
     }
-    Ok(ended(rt, name, verdict))
+    Ok(ended(rt, name, verdict, is_shown))
 }
 
 /// Writes the schedule of a trace.

@@ -236,11 +236,12 @@ fn is_enough_first(why: &str, kind: ErrorKind) -> bool {
         || why.starts_with("error: unexpected argument '--schedule'")
 }
 
-/// Returns what is written about an error of the arguments.
-pub fn told(rt: &HostRuntime, error: &WordsError) -> Result<String, AllocError> {
+/// Returns what is written about an error of the arguments. A file in the place of a command is like no command, and
+/// of several commands that are like a word one is near.
+pub fn told(rt: &HostRuntime, error: &WordsError, is_file: bool) -> Result<String, AllocError> {
     let text = format!(in rt.alloc(); "{error}")?;
     let why = text.as_str();
-    if is_enough_first(why, error.kind()) {
+    if is_file || why.find("tip: some similar").is_some() || is_enough_first(why, error.kind()) {
         return with_usage(rt, why.lines().next().unwrap_or(""));
     }
     match length_of_why(why, error.kind()) {
