@@ -18,7 +18,7 @@ final class PortProcess {
     private static final long SECOND = 1_000_000_000L;
     /** How long the first answer may take, since a start takes its time. */
     private static final long LONGEST_START = 4 * SECOND;
-    /** So many times as long where it isn't at rest: a script that starts the port runs, too, and a busy machine is slow. */
+    /** So many times as long unless it rests all the while: a script that starts the port runs, too, and a busy machine is slow. */
     private static final int TIMES_AT_START = 15;
     /** How long its output may be read once it has ended. */
     private static final long LONGEST_END = 30 * SECOND;
@@ -129,16 +129,29 @@ final class PortProcess {
         }
     }
 
-    /** Null where none comes. Before the first one a script may still start the port, and rest meanwhile: it may be seen so once. */
+    /** Null where none comes. */
     private Reply awaitReply() {
-        int most = answered ? RealThread.TIMES_FOR_THE_BUSY : TIMES_AT_START;
-        int rests = answered ? 1 : 0;
-        Reply reply = reply();
-        for (int time = 1; reply == null && rests < 2 && time < most; time++) {
-            rests += staysAtRest() ? 1 : 0;
-            reply = rests < 2 ? reply() : null;
+        Reply reply = answered ? reply() : firstReply();
+        for (int time = 1; answered && reply == null && time < RealThread.TIMES_FOR_THE_BUSY && !staysAtRest(); time++) {
+            reply = reply();
         }
         return reply == null ? replies.poll() : reply;     // the look at its threads took its time
+    }
+
+    /**
+     * A script that starts the port sleeps mostly, and what it waits for are processes that come and go. So it isn't enough that
+     * all sleep at some looks: they are the same all the while, and none is given a processor.
+     */
+    private Reply firstReply() {
+        Reply reply = null;
+        boolean rested = false;
+        for (int time = 0; reply == null && !rested && time < TIMES_AT_START; time++) {
+            Tasks before = new Tasks(process);
+            before.mark();
+            reply = reply();
+            rested = reply == null && new Tasks(process).haveSleptSince(before);
+        }
+        return reply;
     }
 
     /** The next answer; null where none comes for as long as one may take. */

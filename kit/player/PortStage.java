@@ -80,11 +80,21 @@ final class PortStage implements Stage {
             all.add(thread(number));
         }
         for (RealThread each : all) {
-            if (!each.done(each.tell(Request.of(Method.IS_INTERRUPTED, 0)), patience()[0].bound())) {
+            if (!answers(each)) {
                 throw new Hangs("isInterrupted doesn't answer");
             }
         }
         process.spreadThreads();
+    }
+
+    /** Many threads have just been made: on a busy machine that takes its time. */
+    private boolean answers(RealThread thread) {
+        Call call = thread.tell(Request.of(Method.IS_INTERRUPTED, 0));
+        boolean done = thread.done(call, patience()[0].bound());
+        for (int time = 1; !done && time < RealThread.TIMES_FOR_THE_BUSY && !process.staysAtRest(); time++) {
+            done = thread.done(call, patience()[0].bound());
+        }
+        return done || call.done();
     }
 
     @Override

@@ -70,6 +70,12 @@ final class Tasks {
         return !HAS_TIMES || now.ran() - (then == null ? 0 : then.ran()) >= LONG_ENOUGH;
     }
 
+    /** Whether they are those of an earlier mark, which slept then and sleep now, and were given no processor between. */
+    boolean haveSleptSince(Tasks earlier) {
+        Map<Path, Seen> now = look();
+        return now.values().stream().allMatch(Seen::sleeps) && now.equals(earlier.before);
+    }
+
     /** Whether there was a moment at which all slept. */
     boolean areAtRest() {
         return areAtRest(look());

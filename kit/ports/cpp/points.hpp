@@ -23,7 +23,9 @@ using Clock = std::chrono::steady_clock;
 
 /// Who stands lets so many points of all threads go by, at most two to this power.
 constexpr Count kMostPassed = 7;
-/// All others may be waiting for the one that stands.
+/// It goes on sooner if nobody passes one from look to look, so often: all others may be waiting for it.
+constexpr int kMostIdle = 40;
+/// On a busy machine a look may take long.
 constexpr std::chrono::milliseconds kLongest{20};
 
 inline Count seed = 0;  // 0: there are no points; written before there are threads
@@ -62,20 +64,25 @@ inline Count random(Count below) {
 /// A random number from 1 up to two to this power; of two sizes each comes as often.
 inline Count some(Count power) { return 1 + random(Count(2) << random(power)); }
 
-/// The thread begins a list. In every other one it stands once to three times.
+/// The thread begins a list. In every other one it stands, 2 to 33 times: it falls behind in every call, while others run freely.
 inline void list() {
   if (seed != 0) {
-    more = random(3);
+    more = some(5);
     left = random(2) == 0 ? some(6) : 0;
   }
 }
 
 /// Until others have passed some points. That isn't a time, so it works on a quiet machine and on a busy one.
 inline void stand() {
-  const Count until = passed.load(std::memory_order_relaxed) + some(kMostPassed);
+  Count seen = passed.load(std::memory_order_relaxed);
+  const Count until = seen + some(kMostPassed);
   const Clock::time_point end = Clock::now() + kLongest;
-  while (passed.load(std::memory_order_relaxed) < until && Clock::now() < end) {
+  int idle = 0;
+  while (seen < until && idle < kMostIdle && Clock::now() < end) {
     std::this_thread::sleep_for(std::chrono::microseconds(20));
+    const Count now = passed.load(std::memory_order_relaxed);
+    idle = now == seen ? idle + 1 : 0;
+    seen = now;
   }
 }
 

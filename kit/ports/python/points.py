@@ -17,7 +17,8 @@ if SEED and not (SEED.isascii() and SEED.isdecimal() and len(SEED) <= 20 and int
     print("POINTS has to be a number, and is", SEED, file=sys.stderr)
     sys.exit(2)
 MOST_PASSED = 7             # who stands lets so many points of all threads go by: two to this power at most
-LONGEST = 0.02              # seconds: all others may be waiting for the one that stands
+MOST_IDLE = 40              # it goes on sooner if nobody passes one from look to look, so often: all others may wait for it
+LONGEST = 0.02              # seconds: on a busy machine a look may take long
 
 passed = 0                  # a count that is lost does no harm
 threads = 0
@@ -38,16 +39,18 @@ def some(power):
 
 
 def begin_list():
-    """In every other list the thread stands once to three times."""
+    """In every other list the thread stands, 2 to 33 times: it falls behind in every call, while others run freely."""
     if SEED is not None:
-        own.left, own.more = some(6) if chances().randrange(2) else 0, chances().randrange(3)
+        own.left, own.more = some(6) if chances().randrange(2) else 0, some(5)
 
 
 def stand():
     """Until others have passed some points. That isn't a time, so it works on a quiet machine and on a busy one."""
-    until, end = passed + some(MOST_PASSED), time.monotonic() + LONGEST
-    while passed < until and time.monotonic() < end:
+    seen, idle = passed, 0
+    until, end = seen + some(MOST_PASSED), time.monotonic() + LONGEST
+    while seen < until and idle < MOST_IDLE and time.monotonic() < end:
         time.sleep(20e-6)
+        seen, idle = passed, idle + 1 if passed == seen else 0
 
 
 def point():

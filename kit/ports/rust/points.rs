@@ -14,7 +14,9 @@ use std::time::{Duration, Instant};
 
 /// Who stands lets so many points of all threads go by, at most.
 const MOST_PASSED: u64 = 128;
-/// All others may be waiting for the one that stands.
+/// It goes on sooner if nobody passes one from look to look, so often: all others may be waiting for it.
+const MOST_IDLE: u32 = 40;
+/// On a busy machine a look may take long.
 const LONGEST: Duration = Duration::from_millis(20);
 
 static ON: atomic::AtomicBool = atomic::AtomicBool::new(false);
@@ -61,10 +63,10 @@ fn some(most: u64) -> u64 {
     1 + random(2 << random(u64::from(most.ilog2())))
 }
 
-/// The thread begins a list. In every other one it stands once to three times.
+/// The thread begins a list. In every other one it stands, 2 to 33 times: it falls behind in every call, while others run freely.
 pub fn list() {
     if ON.load(Relaxed) {
-        MORE.set(random(3));
+        MORE.set(some(32));
         LEFT.set(if random(2) == 0 { some(64) } else { 0 });
     }
 }
@@ -90,10 +92,15 @@ fn pass() {
 
 /// Until others have passed some points. That isn't a time, so it works on a quiet machine and on a busy one.
 fn stand() {
-    let until = PASSED.load(Relaxed) + some(MOST_PASSED);
+    let mut seen = PASSED.load(Relaxed);
+    let until = seen + some(MOST_PASSED);
     let end = Instant::now() + LONGEST;
-    while PASSED.load(Relaxed) < until && Instant::now() < end {
+    let mut idle = 0;
+    while seen < until && idle < MOST_IDLE && Instant::now() < end {
         thread::sleep(Duration::from_micros(20));
+        let now = PASSED.load(Relaxed);
+        idle = if now == seen { idle + 1 } else { 0 };
+        seen = now;
     }
 }
 

@@ -44,7 +44,7 @@ Fault fault_of_environment() {
 }
 
 const Fault fault = fault_of_environment();
-const bool uses_nodes_again = fault == Fault::kNodesUsedAgain || fault == Fault::kTakenOffByComparing;
+const bool takes_off_one_by_one = fault == Fault::kNodesUsedAgain || fault == Fault::kTakenOffByComparing;
 
 /// A permit to go on: `unpark` gives it, and `park` takes it, or waits for it.
 class Parker {
@@ -228,10 +228,10 @@ int Phaser::await_advance_interruptibly(int phase, const Time& time) {
 
 /// Until the phase has ended. It has a node on the stack whenever it parks.
 void Phaser::wait(int phase, bool interruptibly, const Time& time) {
-  if (uses_nodes_again) {
+  if (takes_off_one_by_one) {
     release_one_by_one();  // so nobody of a phase before is left below
   }
-  Node* node = uses_nodes_again ? Node::of_own() : new Node();
+  Node* node = fault == Fault::kNodesUsedAgain ? Node::of_own() : new Node();
   node->phase = phase;
   while (view_of(word_) == phase) {
     if (interruptibly && Thread::current().clear_interrupted()) {
@@ -254,7 +254,7 @@ void Phaser::wait(int phase, bool interruptibly, const Time& time) {
     }
   }
   node->let_go();
-  if (uses_nodes_again) {
+  if (takes_off_one_by_one) {
     release_one_by_one();
   }
 }
@@ -270,7 +270,7 @@ void Phaser::push(Node* node) {
 
 /// Wakes all. A node is its waiter's again once it isn't queued: its successor is read before.
 void Phaser::release_all() {
-  if (uses_nodes_again) {
+  if (takes_off_one_by_one) {
     return release_one_by_one();
   }
   const int most = fault == Fault::kSixteenAreWoken ? 16 : kMostParties;
@@ -288,8 +288,9 @@ void Phaser::release_all() {
   }
 }
 
-/// Where nodes are used again: who ends a phase, and all who go on, take off whoever is first, as long as that is first. It may
-/// be the first anew, for the next phase, and above others than before. Where it is woken before, that is much more likely.
+/// Who ends a phase, and all who go on, take off whoever is first, as long as that is first. Meanwhile another may take it off,
+/// and its place in memory may be the first anew, for the next phase, and above others than before: a waiter uses its node again,
+/// or deletes it, and the next one gets its memory. If it is woken before it is taken off, that is much more likely.
 void Phaser::release_one_by_one() {
   for (Node* node = waiters_; node && node->phase != view_of(word_); node = waiters_) {
     Node* const next = node->next;

@@ -16,7 +16,10 @@ import (
 	"time"
 )
 
-// longest is how long one stands: all others may be waiting for it.
+// mostIdle: who stands goes on sooner if nobody passes a point from look to look, so often. All others may be waiting for it.
+const mostIdle = 40
+
+// longest is how long one stands: on a busy machine a look may take long.
 const longest = 20 * time.Millisecond
 
 var (
@@ -80,8 +83,14 @@ func pass() {
 func stand(until uint64) {
 	nap := syscall.NsecToTimespec(20_000) // not time.Sleep: the processor stays with this thread
 	end := time.Now().Add(longest)
-	for passed.Load() < until && time.Now().Before(end) {
+	seen, idle := passed.Load(), 0
+	for seen < until && idle < mostIdle && time.Now().Before(end) {
 		syscall.Nanosleep(&nap, nil)
+		now := passed.Load()
+		idle++
+		if now != seen {
+			seen, idle = now, 0
+		}
 	}
 }
 
