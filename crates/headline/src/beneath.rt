@@ -75,12 +75,7 @@ pub fn look(phaser: &SharedPhaser, party: &mut Party) -> Word
 }
 
 /// A wait for the end of a phase. It returns when a legal history has this end.
-pub fn await_advance<R: Wait>(
-    rt: &R,
-    phaser: &SharedPhaser,
-    party: &mut Party,
-    phase: i32,
-) -> i32
+pub fn await_advance<R: Wait>(rt: &R, phaser: &SharedPhaser, party: &mut Party, phase: i32) -> i32
     requires { phaser_of party.old ≡ phaser.now }
     ensures phaser { phaser_of party.new ≡ phaser.now }
     ensures made { pos 0 ≤ℤ phase
