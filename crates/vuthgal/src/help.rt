@@ -347,29 +347,36 @@ fn push_plan_is_file(rt: &HostRuntime, plan: &str) {
     }
 }
 
+/// Returns the plan: the argument, or what standard input or a file has. These bytes are those of the file.
+fn plan_of<'a>(files: Files<'a>, bytes: &'a [u8]) -> Named<'a> {
+    match steps_of(files, bytes) {
+        Some(plan) => plan,
+        None => Named { name: INPUT, bytes },
+    }
+}
+
+/// Returns what helps if the file of a plan has something else.
+fn helps_at_file(rt: &HostRuntime, files: Files<'_>, plan: &[u8]) -> Option<&'static str> {
+    match files.plan {
+        Some(_) => None,
+        None => helps_at_no_plan(rt.alloc(), plan),
+    }
+}
+
 /// Shows the place of a plan's fault, and says what it means.
 pub fn push_plan_help(rt: &HostRuntime, fault: PlanFault, files: Files<'_>) {
     if !is_to_be_explained(rt) {
         return;
     }
+    if let Some(plan) = files.plan {
+        push_plan_is_file(rt, plan);
+    }
     let program = contents(rt, files.program);
     let program = program_file(files.program, program.as_slice());
     let bytes = step_bytes(rt, files);
-    let plan = match steps_of(files, bytes.as_slice()) {
-        Some(plan) => plan,
-        None => Named {
-            name: INPUT,
-            bytes: bytes.as_slice(),
-        },
-    };
-    if let Some(plan) = files.plan {
-        push_plan_is_file(rt, plan);
-    } else if let Some(helps) = helps_at_no_plan(rt.alloc(), plan.bytes) {
-        let file = Named {
-            name: told(plan.name),
-            bytes: plan.bytes,
-        };
-        return push_mistaken(rt, file, fault.line, Unplanned::Plan(fault), helps);
+    let plan = plan_of(files, bytes.as_slice());
+    if let Some(helps) = helps_at_file(rt, files, plan.bytes) {
+        return push_mistaken(rt, plan, fault.line, Unplanned::Plan(fault), helps);
     }
     let mut errors = WritePort::new(printable::errors(rt));
     let _ = push_plan_place(rt.alloc(), fault, program, plan, &mut errors);

@@ -1,5 +1,6 @@
 //! What a file is, if it is given in place of another.
 
+use crate::help::told;
 use crate::printable;
 use assembler::word_place::line_at;
 use byte_ports::{Failed, Sink, WritePort};
@@ -26,8 +27,14 @@ pub fn is_program(alloc: Global, bytes: &[u8]) -> bool {
     bytes.starts_with(b"PBW") || program_in(alloc, split_at_run(bytes).0).is_ok()
 }
 
+/// How long bytes are that are looked at.
+const LONGEST: usize = 16_777_216;
+
 /// Returns whether these bytes are a schedule of some choices.
 pub fn is_schedule(alloc: Global, bytes: &[u8]) -> bool {
+    if bytes.len() > LONGEST {
+        return false;
+    }
     match read_schedule(alloc, bytes) {
         Ok(runs) => !runs.is_empty(),
         Err(_) => false,
@@ -54,7 +61,8 @@ pub fn push_mistaken(
     helps: &'static str,
 ) {
     let mut errors = WritePort::new(printable::errors(rt));
-    let _ = push_line_of(&mut errors, file.name, number, line_at(file.bytes, number));
+    let name = told(file.name);
+    let _ = push_line_of(&mut errors, name, number, line_at(file.bytes, number));
     let _ = push_meaning(rt.alloc(), &mut errors, why, Some(helps));
 }
 
