@@ -110,6 +110,20 @@ fn helps_at_whole(word: &[u8]) -> Option<&'static str> {
     }
 }
 
+/// What helps if nothing is typed, or a command without its ROW.
+fn helps_at_missing(word: &[u8], rest: &[u8]) -> Option<&'static str> {
+    match word {
+        b"k" if rest.is_empty() => Some(BREAK),
+        b"c" if rest.is_empty() => Some(
+            "`c ROW` clears a breakpoint; `..` plays on, up to a breakpoint",
+        ),
+        _ if word.is_empty() => Some(
+            "there is no command to repeat yet: `help` lists the commands",
+        ),
+        _ => None,
+    }
+}
+
 /// What helps if `s` or `g` isn't followed by choices alone.
 fn helps_at_choices(word: &[u8], rest: &[u8], is_one: bool) -> Option<&'static str> {
     match word {
@@ -144,7 +158,9 @@ fn helps_at_command(said: &[u8]) -> Option<&'static str> {
     } else if let Some(helps) = helps_elsewhere(word) {
         Some(helps)
     } else {
-        helps_at_whole(word).or(helps_at_choices(word, rest, is_one))
+        helps_at_whole(word)
+            .or(helps_at_missing(word, rest))
+            .or(helps_at_choices(word, rest, is_one))
     }
 }
 

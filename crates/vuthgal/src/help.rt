@@ -4,7 +4,8 @@ use crate::endless::endless_word;
 use crate::explaining::{is_explained, is_to_be_explained};
 use crate::files::writes_to_pipe;
 use crate::mistaken::{
-    AT_COMPARED_TRACE, AT_TRACE, helps_at_no_plan, is_program, push_mistaken, push_turned,
+    AT_COMPARED_TRACE, AT_PROGRAM, AT_TRACE, helps_at_no_plan, is_program, is_whole_program,
+    push_mistaken, push_turned,
 };
 use crate::near::near_file;
 use crate::printable;
@@ -329,6 +330,10 @@ fn push_refusal(rt: &HostRuntime, fault: Fault, files: Files<'_>) {
         }
     }
     let bytes = step_bytes(rt, files);
+    if matches!(fault, Fault::Schedule(_)) && is_whole_program(rt.alloc(), bytes.as_slice()) {
+        let schedule = plan_of(files, bytes.as_slice());
+        return push_mistaken(rt, schedule, 1, Unplanned::Fault(fault), AT_PROGRAM);
+    }
     let steps = steps_of(files, bytes.as_slice());
     push_place_of(rt, fault, program, steps);
 }
@@ -347,7 +352,7 @@ fn push_plan_is_file(rt: &HostRuntime, plan: &str) {
     }
 }
 
-/// Returns the plan: the argument, or what standard input or a file has. These bytes are those of the file.
+/// Returns the plan or the schedule: the argument, or what standard input or a file has. These bytes are those of the file.
 fn plan_of<'a>(files: Files<'a>, bytes: &'a [u8]) -> Named<'a> {
     match steps_of(files, bytes) {
         Some(plan) => plan,

@@ -27,6 +27,18 @@ pub fn is_program(alloc: Global, bytes: &[u8]) -> bool {
     bytes.starts_with(b"PBW") || program_in(alloc, split_at_run(bytes).0).is_ok()
 }
 
+/// What helps if a program is given as a schedule.
+pub const AT_PROGRAM: &str = "this is a program: a schedule is a list of turns such as `t0 t1*3`";
+
+/// Returns whether these bytes are a program with a thread.
+pub fn is_whole_program(alloc: Global, bytes: &[u8]) -> bool {
+    let has_thread = str::from_utf8(bytes)
+        .unwrap_or("")
+        .find(".thread")
+        .is_some();
+    has_thread && is_program(alloc, bytes)
+}
+
 /// How long bytes are that are looked at.
 const LONGEST: usize = 16_777_216;
 
@@ -45,7 +57,7 @@ pub fn is_schedule(alloc: Global, bytes: &[u8]) -> bool {
 pub fn helps_at_no_plan(alloc: Global, bytes: &[u8]) -> Option<&'static str> {
     if is_trace(bytes) {
         Some(AT_TRACE)
-    } else if is_program(alloc, bytes) {
+    } else if is_whole_program(alloc, bytes) {
         Some("this is a program: the file of a plan has words such as `ann. bob.`")
     } else {
         None

@@ -258,7 +258,11 @@ fn push_other_way(rt: &HostRuntime, command: &str, words: &[String]) {
     let way = if has_both_steps(words) {
         ONE_OF_STEPS
     } else if words.iter().any(|word| is_for_output(word.as_str())) {
-        "`> FILE` writes the output to a file"
+        if command == "asm" {
+            "`vuthgal asm SRC OUT` writes the image to the file OUT"
+        } else {
+            "`> FILE` writes the output to a file"
+        }
     } else if command == "live" {
         "`run FILE SCHEDULE` plays a schedule; `live` lets the threads choose"
     } else if command == "debug" {

@@ -24,7 +24,7 @@ pub fn push_waiting(rt: &HostRuntime, text: &[u8]) {
 pub fn push_no_schedule(rt: &HostRuntime) {
     push_note(
         rt,
-        b"no line `.run`, so no schedule: nothing is played; try `run FILE --plan '..'`\n",
+        b"no line `.run`, so no schedule: nothing is played; try `--plan '..'`\n",
     );
 }
 

@@ -9,7 +9,7 @@ use assembler::word_place::line_at;
 use byte_ports::{Failed, Sink, WritePort};
 use refusals::entries::finding::FINDING;
 use refusals::entry::{Entry, Place};
-use refusals::shown::{push_file, push_file_alone, push_line_of, push_marked};
+use refusals::shown::{push_file, push_file_alone, push_line_of, push_marked, word_at};
 use refusals::typed::push_word;
 use thread_machine::Standing;
 use trace_compare::naming::{Named, choices_in};
@@ -133,10 +133,22 @@ fn push_endless_word<E: Sink>(
     }
 }
 
+/// Returns what helps at a word that makes a plan endless, if that is more than its entry says.
+fn helps_at_endless(plan: &[u8], found: Found) -> Option<&'static str> {
+    let line = line_at(plan, found.number).unwrap_or(&[]);
+    let word = word_at(line, found.place);
+    if word.ends_with(b".") && !word.ends_with(b"..") {
+        Some("a count in place of the dot, as in `ann*50`")
+    } else {
+        None
+    }
+}
+
 /// Shows the word that makes a plan endless, and says what it means that the plan was stopped.
 pub fn push_endless<E: Sink>(errors: &mut E, name: &str, plan: &[u8], found: Found) {
     let _ = push_endless_word(errors, name, plan, found);
-    let _ = push_entry(errors, "stopped at 1000000 choices", None, None);
+    let helps = helps_at_endless(plan, found);
+    let _ = push_entry(errors, "stopped at 1000000 choices", None, helps);
 }
 
 /// Returns what helps if a run ended so, and something else was expected of it.

@@ -158,7 +158,7 @@ fn quoted_in(why: &str) -> Option<&str> {
 }
 
 /// What to type instead of an option that the command doesn't have, and that another command or program has.
-static OTHER_OPTIONS: [(&str, &str); 13] = [
+static OTHER_OPTIONS: [(&str, &str); 18] = [
     (
         "--seed",
         "`--plan '?7'` plays the order of seed 7, `plan FILE --seeds 1..100` those of 100 seeds; `live` has `--stir SEED`",
@@ -202,6 +202,26 @@ static OTHER_OPTIONS: [(&str, &str); 13] = [
     (
         "--at",
         "`debug FILE --at TRACE` begins after the choices of a trace",
+    ),
+    (
+        "--repeat",
+        "`live FILE --runs 100` counts how 100 runs of real threads end, `plan FILE --seeds 1..100` those of 100 seeds",
+    ),
+    (
+        "--random",
+        "`--plan '?7'` chooses threads at random, with the seed 7",
+    ),
+    (
+        "--steps",
+        "`live FILE --limit N` plays at most N steps; in a plan `..*50` plays at most 50 choices",
+    ),
+    (
+        "--diff",
+        "`compare FILE TRACE --show` writes the two lines that differ",
+    ),
+    (
+        "--expect-file",
+        "`bin/check FOLDER` compares each run NAME with NAME.expect; `--expect STATE` takes one STATE",
     ),
     (
         "--verbose",

@@ -2,4 +2,4 @@
 
 /// The version, the kit whose logic proves it, and the sum of the sources but for this file.
 pub const VERSION: &str =
-    "1.2.0\nkit rattle-kit-13f logic dac8208d650f15bf\nsources b4aa0ec28ee747cdb2b04172f28a38e5f5be368c2876ef5f5dc0673035d245c7";
+    "1.2.0\nkit rattle-kit-13f logic dac8208d650f15bf\nsources e5f6ab49ec41eba78d7b5441d89f42dbfa230d0986f2ded99447089aaccc6a78";
