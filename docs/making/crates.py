@@ -123,7 +123,7 @@ def definitions(crate, its, all_believed):
     types = [f"`{key[2]}`" for key, it in its.items() if key[1] == "declared" and key in all_believed]
     if types:
         text += item("Types of the code that appear in these definitions and in the contracts: " + ", ".join(types))
-    text += item("*Abstract* words, which contracts only pass from call to call: " + "; ".join(abstract)) if abstract else ""
+    text += item("*Abstract* words (one call ensures them, and another requires them): " + "; ".join(abstract)) if abstract else ""
     return text + (item("*You need not believe* the following definitions, because no public contract names them: " + "; ".join(others)) if others else "")
 
 
