@@ -9,7 +9,7 @@ import java.util.List;
 
 /** The faults of ports in kit/faults, and whether the player tells each in the right words, and soon. */
 final class FaultTable {
-    private static final long LONGEST = 5_000_000_000L;
+    private static final long LONGEST = 10_000_000_000L;
     private static final long MILLISECOND = 1_000_000;
     /** On a busy machine a fault may take so many times as long as the right port, beyond that. */
     private static final int TIMES_THE_RIGHT_ONE = 4;
