@@ -13,3 +13,4 @@ pub mod Scenes
 pub mod Showing
 pub mod FirstTurns
 pub mod Sessions
+pub mod Statuses

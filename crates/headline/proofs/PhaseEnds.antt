@@ -17,7 +17,7 @@ use Rattle.thread_machine.specs.Step.{played, refusal_of}
 use Rattle.thread_machine.specs.Execution.{execution, execution_by}
 use Rattle.thread_machine.specs.DirectCounts.{counts_after, counts_through}
 use Rattle.thread_machine.proofs.SafeEnds.{Goes, goes_first, goes_keeps, goes_through, no_early_end_of}
-use Rattle.headline.specs.Headline.{Accepted, ArrivalsAreTaken, EndsNoPhaseEarly, NumbersChangeAtEnds, PhasesEndInTime, TerminationsAreSaid, start}
+use Rattle.headline.specs.Headline.{Accepted, ArrivalsAreTaken, EndsFewPhases, EndsNoPhaseEarly, NumbersChangeAtEnds, PhasesEndInTime, TerminationsAreSaid, start}
 use Rattle.headline.proofs.Choices.{choice_goes, goes_next, stands_now}
 use Rattle.headline.proofs.LastArrivals.{are_counted, last_ends, routine_ends}
 use Rattle.headline.proofs.Taken.{takes}
@@ -54,6 +54,11 @@ are_taken image accepted choices choice plays =
     let counts = counts_through (start image) choices (declared_origin image.phasers) in
     let goes = after_choices image accepted choices in
     takes now choice counts now.steps (stands_now now choice counts goes plays) goes.stands
+
+pub few_phases : EndsFewPhases
+few_phases image accepted choices root =
+    let goes = after_choices image accepted choices in
+    omega (arith, goes.sound.trees.ends root, goes.steps, goes.limit)
 
 -- before the first choice nobody has arrived
 fresh_prompt : (phasers : List PhaserState) → AreAllFresh phasers → ArePrompt phasers

@@ -1,5 +1,5 @@
 -- What the commands have written, in the words of their promise.
-use Rattle.std.proofs.Common.{◌≡◌, ℕ, Bool, List, None, Some, refl, ap, sym, subst, append-nil, inl, inr, arith}
+use Rattle.std.proofs.Common.{◌≡◌, ℕ, Bool, List, [], None, Some, ◌∙◌, refl, ap, sym, subst, append-nil, inl, inr, arith}
 use Rattle.std.specs.Prelude.{Option, Result, Ok, Err, OnOk}
 use Rattle.std.specs.Io.KnownBytes.{Appends, Consumes, IsAtEnd}
 use Rattle.row_code.specs.declared.image.Image.{Image}
@@ -20,6 +20,11 @@ use Rattle.trace_text.specs.Outcome.{ComesTo}
 use Rattle.trace_text.specs.Start.{Begins}
 use Rattle.trace_text.specs.Trace.{trace_of}
 use Rattle.trace_compare.proofs.OneTrace.{trace-first}
+use Rattle.trace_compare.proofs.SameTrace.{same-trace}
+use Rattle.trace_compare.specs.Compare.{HasVerdict, choices_of_trace, verdict_of}
+use Rattle.trace_compare.specs.declared.comparison.Verdict.{Verdict}
+use Rattle.trace_compare.specs.declared.comparison.Verdict.TheVariants as verdict
+use Rattle.workbench.specs.Compare.{WritesVerdict}
 use Rattle.workbench.specs.declared.fault.Fault.{Fault}
 use Rattle.workbench.specs.declared.done.Done.{Done}
 use Rattle.workbench.specs.declared.done.Done.TheVariants as done
@@ -28,7 +33,7 @@ use Rattle.workbench.specs.Live.{Lives}
 use Rattle.workbench.specs.ProgramFile.{IsProgramFile}
 use Rattle.workbench.specs.RunLine.{program_part, schedule_part}
 use Rattle.headline.specs.Headline.{start}
-use Rattle.headline.specs.EndToEnd.{HasDebuggedFile, HasDebuggedFileAt, HasShownFile, HasShownLive, HasShownText, ShowsTheRows}
+use Rattle.headline.specs.EndToEnd.{HasDebuggedFile, HasDebuggedFileAt, HasFoundTheSame, HasShownFile, HasShownLive, HasShownText, ShowsTheRows}
 
 -- what a text stands for is within the limits of an image
 text_image : (text : List ℕ) (image : Image) → StandsFor text image → IsImage image
@@ -158,3 +163,31 @@ pub never-shown : (text : List ℕ) (image : Image) (why : LoadFault) (before af
 never-shown text image why before after stands fault (other, (shown, ((spells, (within, loads)), traced, appends))) =
     let same : other ≡ image = one_image (program_part text) other image spells stands in
     absurd (cc (fault, loads, ap first_fault same))
+
+-- the verdict on a trace of which all was read
+all-verdict : (world : World) (bytes : List ℕ) (left : Option (List ℕ)) (v : Verdict) → HasVerdict world bytes left v
+    → verdict_of world bytes ≡ v
+all-verdict world bytes left v (inl (end, is)) = is
+all-verdict world bytes left v (inr has) = ap (verdict_of world) (sym (append-nil bytes)) ∙ has []
+
+-- a trace that is found the same
+pub same-found : (result : Result Verdict Fault) (image : Image) (trace_before trace_after : Option (List ℕ)) (trace_failed : Bool)
+    (before after : Option (List ℕ)) (failed : Bool)
+    → WritesVerdict image result trace_before trace_after trace_failed before after failed
+    → result ≡ Ok verdict.Same → (file : List ℕ) → IsProgramFile file image → HasFoundTheSame file trace_before trace_after
+same-found result image trace_before trace_after trace_failed before after failed writes is =
+    let ((world, (bytes, ((loads, first), consumed, has))), end, told) =
+    subst (λ r. WritesVerdict image r trace_before trace_after trace_failed before after failed) is writes in
+    λ file is_file. (
+      image,
+      (
+        bytes,
+        (
+          (is_file, (file_image file image is_file, loads)),
+          consumed,
+          end,
+          same-trace world bytes (all-verdict world bytes trace_after verdict.Same has)
+              ∙ trace-first image 1000000000 world (choices_of_trace bytes) first,
+        ),
+      ),
+    )

@@ -5,8 +5,10 @@
 -- Each `use` line names the file that defines its names. The bytes of a text or a file are all that it has, at most 16,777,216:
 -- the program reads them first (`read_all`, workbench/src/input.rt). That the image is that of these bytes is promised by
 -- `program_in` and `program_of_text` (workbench/src). It is only tested that the program passes on exactly these, and that
--- `run FILE` without a schedule passes on what precedes the line `.run` and what follows it. At a terminal the commands of
--- `debug` are the lines that `GuidedCommands` passes on; its own replies aren't among these bytes.
+-- `run FILE` without a schedule passes on what precedes the line `.run` and what follows it. For a text nothing is left to a
+-- test in `both`, which takes all of its bytes, and in `both_cmd`, which reads them and returns the exit status (src/shown.rt):
+-- the program doesn't call these two. At a terminal the commands of `debug` are the lines that `GuidedCommands` passes on; its
+-- own replies aren't among these bytes.
 --
 -- A schedule, commands and an output are the bytes that a port still has or has got. Ports over memory tell their contracts
 -- these bytes. Ports over files, pipes and terminals don't (`None`): for them the lines below say only that there are bytes for
@@ -24,9 +26,9 @@
 --   `asm`: the bytes of the image that the text stands for are written (Assembles, workbench/specs/Asm.antt).
 --   `list`: the canonical text of the program (Lists, workbench/specs/List.antt); with `--rows` its rows (ListsRows,
 --      commands/specs/Rows.antt).
---   `compare`: the verdict on the whole trace, and `same` only if it is the trace of the choices that its lines name
---      (WritesVerdict, workbench/specs/Compare.antt; the laws in trace_compare/src/law.rt); with `--show` also a line of the run
---      (ShowsComparison, commands/specs/Showing.antt). That the other line shown is the trace's is only tested.
+--   `compare`: the verdict on the whole trace (WritesVerdict, workbench/specs/Compare.antt), and `same` only if it is the trace
+--      of the choices that its lines name (HasFoundTheSame, below; the laws in trace_compare/src/law.rt); with `--show` also a
+--      line of the run (ShowsComparison, commands/specs/Showing.antt). That the other line shown is the trace's is only tested.
 --   `choices`: the schedule of the choices that a trace's lines name (HasToldChoices, commands/specs/Choices.antt).
 --   `plan`: the choices that the plan plays on the program (HasPlanned, commands/specs/Planning.antt); with `--seeds` how the
 --      runs of these seeds end (HasReportedSeeds, commands/specs/Seeds.antt).
@@ -44,6 +46,7 @@ use Rattle.thread_machine.specs.World.{StoredWorld, IsFirstOf, world_of}
 use Rattle.schedule_reader.specs.declared.run.Run.{Run}
 use Rattle.schedule_reader.specs.Schedule.{finished_schedule, choices_of}
 use Rattle.trace_text.specs.Trace.{trace_of}
+use Rattle.trace_compare.specs.Compare.{choices_of_trace}
 use Rattle.headline.specs.Headline.{Accepted, GivesTheRows, start}
 use Rattle.debugger.specs.Command.{Go, line_order}
 use Rattle.debugger.specs.Reply.{Replies}
@@ -135,3 +138,11 @@ abbrev pub HasShownLive : ℕ → (file : List ℕ) (output_before output_after 
 HasShownLive limit file output_before output_after =
     (image : Image) × ((choices : List Choice) × (AcceptedFile file image × IsRecorded image limit choices
     × Appends output_before output_after (trace_of (start image) choices)))
+
+-- `compare`, if its verdict is `same`: a trace was read to its end, and it is that of the choices that its lines name, as from
+-- `start`. The function is `compare` (src/shown.rt), which the program doesn't call, but only what it calls (`compared`,
+-- workbench/src/compare.rt).
+abbrev pub HasFoundTheSame : (file : List ℕ) (trace_before trace_after : Option (List ℕ)) → Type 0
+HasFoundTheSame file trace_before trace_after =
+    (image : Image) × ((trace : List ℕ) × (AcceptedFile file image × Consumes trace_before trace_after trace × IsAtEnd trace_after
+    × (trace ≡ trace_of (start image) (choices_of_trace trace))))

@@ -22,23 +22,26 @@
 --      (BarriersHavePasts).
 -- 1 is what `play` leaves (src/machine.rt). 2 and 4 are laws (src/law.rt). 3 is what `step` and `step_and_back` do to a
 -- machine, and `steps_and_backs` to a debugging session (src/back.rt). Each `use` line names the file that defines its names:
--- to believe this page, read those, too. src/beneath.rt is about what is below: a tree whose words lag, the record that the
--- lock of a live run protects, and the word that real threads share. EndToEnd.antt, beside this file, says that the commands
--- show this of what they read.
+-- to believe this page, read those, too. src/beneath.rt is about what is below: a tree whose words lag (`step`; that they never
+-- lag too far is the law `phases_are_few`), the record that the lock of a live run protects (`record`, `into_machine`,
+-- `take_step`), and the word that real threads share: how it begins (`new`), its calls (`make_call`, `make_call_within`, `look`,
+-- `await_advance`, `arrive_and_await_advance`), its callers (`split`, `join`), and its end (`close`). EndToEnd.antt, beside this
+-- file, says that the commands show this of what they read.
 --
--- The program calls none of these functions, only those of src/shown.rt. Its runs step with `Machine::step`, and its debugger
--- with `Machine::step_into` and `Debugger::back`. Their contracts say the same of each choice (thread_machine/src/machine.rt,
--- debugger/src/session.rt). A session begins in a world whose phasers may be stored differently
+-- The program calls none of these functions, only `run`, `live` and the three of `debug` in src/shown.rt. Its runs step with
+-- `Machine::step`, and its debugger with `Machine::step_into` and `Debugger::back`. Their contracts say the same of each choice
+-- (thread_machine/src/machine.rt, debugger/src/session.rt). A session begins in a world whose phasers may be stored differently
 -- than those of `start`, which makes no difference (StoredAlike). A law says that its world is at each line that of the choices
 -- played and not taken back, of which none is refused: `sessions_give_the_rows` (src/shown.rt).
 --
 -- You trust Rattle's checker and its two compilers, LLVM, the C library and the system below them.
-use Rattle.std.specs.Prelude.{◌≡◌, ℕ, List, Option, None, ◌++◌}
+use Rattle.std.specs.Prelude.{◌≡◌, ◌≤◌, ℕ, List, Option, None, ◌++◌}
 use Rattle.row_code.specs.declared.image.Image.{Image}
 use Rattle.row_code.specs.Image.{IsImage}
 use Rattle.loader.specs.Declarations.{declared_origin}
 use Rattle.loader.specs.Fault.{first_fault}
 use Rattle.loader.specs.Program.{without_words}
+use Rattle.tier_tree.specs.Forest.{phaser_at}
 use Rattle.cyclic_barrier.specs.Barrier.{BarrierState}
 use Rattle.cyclic_barrier.specs.PlainBarrier.{fresh}
 use Rattle.machine_scene.specs.Scene.{barrier_at, thread_at}
@@ -149,6 +152,13 @@ BarriersHavePasts =
 -- what the row gives in that state.
 abbrev pub StepGivesTheRow : StoredWorld → Choice → Event → StoredWorld → Type 0
 StepGivesTheRow before choice event after = record { world = world_of after; event = event } ≡ played (world_of before) choice
+
+-- Below: no tree of phasers ends more than 1,000,000,000 phases, since each end is a step. So a word that lags is never a whole
+-- turn of 2,147,483,648 phases behind its root, where it would look like the root's.
+abbrev pub EndsFewPhases : Type 0
+EndsFewPhases =
+    (image : Image) → Accepted image → (choices : List Choice) (root : ℕ)
+    → (phaser_at (execution (start image) choices).world.scene.phasers root).ends ≤ 1000000000
 
 -- Below: how the phasers of a program are stored at first makes no difference to an execution. It leaves the same world except
 -- for that, the same events, the same refusal, and the same state text.

@@ -1,5 +1,5 @@
 //! Choices that are played and taken back.
-ghost use Rattle.std.specs.Prelude.{◌≡◌, ◌≤◌, ◌∷◌, [], length, true, None, Some, Err, IfOk, OnErr};
+ghost use Rattle.std.specs.Prelude.{◌≡◌, ◌↔◌, ◌≤◌, ◌∷◌, [], length, true, None, Some, Err, IfOk, OnErr};
 ghost use Rattle.thread_machine.specs.World.{world_of};
 ghost use Rattle.thread_machine.specs.Execution.{execution};
 ghost use Rattle.thread_machine.specs.Step.{puts_out, refusal_of};
@@ -18,8 +18,8 @@ pub fn step(machine: &mut Machine, choice: Choice) -> Result<(Event, Undo), Step
     ensures returns { IfOk result (λ both. StepsAndReturns machine.old choice both.0 both.1 machine.new) }
     ensures can { IfOk result (λ both. CanUndo both.1 machine.new) }
     ensures refused { OnErr result (machine.new ≡ machine.old) }
-    ensures no_thread { result ≡ Err fault.NoSuchThread → refusal_of (world_of machine.old) choice ≡ Some fault.NoSuchThread }
-    ensures limit { result ≡ Err fault.StepLimit → refusal_of (world_of machine.old) choice ≡ Some fault.StepLimit }
+    ensures no_thread { (result ≡ Err fault.NoSuchThread) ↔ (refusal_of (world_of machine.old) choice ≡ Some fault.NoSuchThread) }
+    ensures limit { (result ≡ Err fault.StepLimit) ↔ (refusal_of (world_of machine.old) choice ≡ Some fault.StepLimit) }
     ensures memory { result ≡ Err fault.Memory → puts_out (world_of machine.old) choice ≡ true }
 {
     machine.step_noting(choice)
@@ -29,8 +29,8 @@ pub fn step(machine: &mut Machine, choice: Choice) -> Result<(Event, Undo), Step
 pub fn step_and_back(machine: &mut Machine, choice: Choice) -> Result<Event, StepFault>
     ensures restores { IfOk result (λ event. BackRestores machine.old (choice ∷ []) (event ∷ []) machine.new) }
     ensures refused { OnErr result (machine.new ≡ machine.old) }
-    ensures no_thread { result ≡ Err fault.NoSuchThread → refusal_of (world_of machine.old) choice ≡ Some fault.NoSuchThread }
-    ensures limit { result ≡ Err fault.StepLimit → refusal_of (world_of machine.old) choice ≡ Some fault.StepLimit }
+    ensures no_thread { (result ≡ Err fault.NoSuchThread) ↔ (refusal_of (world_of machine.old) choice ≡ Some fault.NoSuchThread) }
+    ensures limit { (result ≡ Err fault.StepLimit) ↔ (refusal_of (world_of machine.old) choice ≡ Some fault.StepLimit) }
     ensures memory { result ≡ Err fault.Memory → puts_out (world_of machine.old) choice ≡ true }
 {
     let (event, undo) = step(machine, choice)?;

@@ -1,21 +1,26 @@
 //! What the machine, a live run's record and the shared phaser promise, each with the call in which it is seen.
-ghost use Rattle.std.specs.Prelude.{◌≡◌, ◌↔◌, ◌<◌, ◌≤ℤ◌, ◌<ℤ◌, pos, Err, IfErr, IfOk, OnErr, OnOk, None, Some, false, true};
-ghost use Rattle.thread_machine.specs.Step.{puts_out, refusal_of};
-ghost use Rattle.thread_machine.specs.World.{world_of};
+ghost use Rattle.std.specs.Prelude.{◌≡◌, ◌≢◌, ◌↔◌, ◌<◌, ◌≤◌, ◌≤ℤ◌, ◌<ℤ◌, pos, ℤ, length, Err, IfErr, IfOk, OnErr, OnOk, None, Some, false, true};
+ghost use Rattle.packed_phaser.specs.declared.policy.Policy.TheVariants.{Routine};
+ghost use Rattle.thread_machine.specs.Step.{played, puts_out, refusal_of};
+ghost use Rattle.thread_machine.specs.World.{first_world, world_of};
 ghost use Rattle.thread_machine.specs.declared.fault.StepFault.TheVariants as fault;
-ghost use Rattle.thread_runner.specs.Recording.{recorded_world};
+ghost use Rattle.thread_runner.specs.Recording.{recorded_world, with_choice};
 ghost use Rattle.thread_runner.specs.Replay.{IsReplay};
-ghost use Rattle.shared_phaser.specs.Known.{EndsAs, JoinsCaller, given, giving, phaser_of};
+ghost use Rattle.thread_runner.specs.Turns.{is_ready_in, turn_of};
+ghost use Rattle.shared_phaser.specs.Known.{ArrivesAndAwaits, EndsAs, JoinsCaller, given, giving, newcomer, phaser_of};
 ghost use Rattle.shared_phaser.specs.Race.{LosesRaces};
 ghost use Rattle.shared_phaser.specs.declared.history.Call.TheVariants.{Arrive, Await, Look};
 ghost use Rattle.shared_phaser.specs.declared.history.Answer.TheVariants.{Passed, Replied, Saw};
+ghost use Rattle.shared_phaser.specs.declared.history.Reply.TheVariants.{NotThere as Refused};
 ghost use Rattle.headline.specs.Headline.{MakesLegalCall, StepGivesTheRow};
 
-use packed_phaser::Word;
-use shared_phaser::{Party, Raced, Reply, SharedPhaser};
+use packed_phaser::{Policy, Word};
+use phase_number::Phase;
+use shared_phaser::{Call, NewFault, NotThere, Party, Raced, Reply, SharedPhaser};
+use std::alloc::Global;
 use std::sync::Wait;
 use thread_machine::{Choice, Event, Machine, StepFault};
-use thread_runner::Journaled;
+use thread_runner::{Journaled, TakeFault};
 
 /// Plays a step of a machine whose trees' words may lag behind their roots. If it is refused, the machine is as before.
 pub fn step(machine: &mut Machine, choice: Choice) -> Result<Event, StepFault>
@@ -38,31 +43,82 @@ pub fn record(journaled: &Journaled) -> &Machine
     journaled.machine()
 }
 
-/// A call on the word that threads share: an arrival. Registrations, departures and terminations promise the same (`made`,
-/// shared_phaser/src).
-pub fn arrive<R: Wait>(rt: &R, phaser: &SharedPhaser, party: &mut Party) -> Reply
-    requires { phaser_of party.old ≡ phaser.now }
-    ensures phaser { phaser_of party.new ≡ phaser.now }
-    ensures made { MakesLegalCall party.old.known (Arrive false) (Replied result) party.new.known }
+/// Takes the machine out of a record. As each record, this one began with the first world of its machine's program.
+pub fn into_machine(journaled: Journaled) -> Machine
+    ensures first { journaled.first ≡ first_world result.program result.limit }
+    ensures machine { world_of result ≡ recorded_world journaled }
 {
-    phaser.arrive(rt, party)
+    let (_, machine) = journaled.into_parts();
+    machine
+}
+
+/// Takes a thread's turn under the lock of a live run, and records it. `Memory` may come at each turn, for the record.
+pub fn take_step(journaled: &mut Journaled, thread: u8) -> Result<Event, TakeFault>
+    requires { thread < length journaled.old.first.scene.threads }
+    ensures played { IfOk result (λ event. record { world = recorded_world journaled.new; event = event }
+        ≡ played (recorded_world journaled.old) (turn_of thread)) }
+    ensures recorded { OnOk result (journaled.new ≡ with_choice (turn_of thread) journaled.old) }
+    ensures not_ready { (result ≡ Err TakeFault.NotReady) ↔ (is_ready_in (recorded_world journaled.old) thread ≡ false) }
+    ensures limit { (result ≡ Err TakeFault.StepLimit) ↔ ((is_ready_in (recorded_world journaled.old) thread ≡ true)
+        × ((recorded_world journaled.old).limit ≤ (recorded_world journaled.old).steps)) }
+    ensures err { OnErr result (journaled.new ≡ journaled.old) }
+{
+    journaled.take_step(thread)
+}
+
+/// Makes a phaser that threads share, with so many parties in this phase, and its first caller. No later call needs memory.
+pub fn new(
+    alloc: Global,
+    parties: u16,
+    policy: Policy,
+    phase: Phase,
+) -> Result<(SharedPhaser, Party), NewFault>
+    ensures opened { IfOk result (λ both. both.0.opening ≡ record { parties = parties; phase = phase; policy = policy }) }
+    ensures phaser { IfOk result (λ both. phaser_of both.1 ≡ both.0) }
+    ensures first { IfOk result (λ both. both.1.known ≡ newcomer both.0.opening) }
+    ensures routine { (result ≡ Err NewFault.RoutinePolicy) ↔ (policy ≡ Routine) }
+{
+    SharedPhaser::new(alloc, parties, policy, phase)
+}
+
+/// A call on the word that threads share: a registration, an arrival, a departure or a termination. It tries again until no
+/// other call has changed the word meanwhile. A look and a wait have functions of their own.
+pub fn make_call<R: Wait>(rt: &R, phaser: &SharedPhaser, party: &mut Party, call: Call) -> Reply
+    requires prompt { (call ≢ Look) × ((phase : ℤ) → call ≢ Await phase) }
+    requires phaser { phaser_of party.old ≡ phaser.now }
+    ensures phaser { phaser_of party.new ≡ phaser.now }
+    ensures made { MakesLegalCall party.old.known call (Replied result) party.new.known }
+{
+    match call {
+        Call::Register(parties) => phaser.register(rt, party, parties),
+        Call::Arrive(false) => phaser.arrive(rt, party),
+        Call::Arrive(true) => phaser.arrive_and_deregister(rt, party),
+        Call::Force => phaser.force(rt, party),
+        Call::Look | Call::Await(_) => unreachable!(),
+    }
 }
 
 /// The same with at most so many tries, for a caller that must not wait. If each was lost, no call was made.
-pub fn arrive_within(
+pub fn make_call_within(
     phaser: &SharedPhaser,
     party: &mut Party,
-    leave: bool,
+    call: Call,
     tries: u32,
 ) -> Result<Reply, Raced>
+    requires prompt { (call ≢ Look) × ((phase : ℤ) → call ≢ Await phase) }
     requires tries { 0 < tries }
     requires phaser { phaser_of party.old ≡ phaser.now }
     ensures phaser { phaser_of party.new ≡ phaser.now }
     ensures made { IfOk result
-        (λ reply. MakesLegalCall party.old.known (Arrive leave) (Replied reply) party.new.known) }
+        (λ reply. MakesLegalCall party.old.known call (Replied reply) party.new.known) }
     ensures raced { IfErr result (λ why. LosesRaces party.old.known tries why party.new.known) }
 {
-    phaser.arrive_within(party, leave, tries)
+    match call {
+        Call::Register(parties) => phaser.register_within(party, parties, tries),
+        Call::Arrive(leave) => phaser.arrive_within(party, leave, tries),
+        Call::Force => phaser.force_within(party, tries),
+        Call::Look | Call::Await(_) => unreachable!(),
+    }
 }
 
 /// A look at the phaser. It shows the phaser after all calls that the caller has then seen.
@@ -74,15 +130,31 @@ pub fn look(phaser: &SharedPhaser, party: &mut Party) -> Word
     phaser.look(party)
 }
 
-/// A wait for the end of a phase. It returns when a legal history has this end.
+/// A wait for the end of a phase. It returns when a legal history has this end. If the number is negative, it returns at once.
 pub fn await_advance<R: Wait>(rt: &R, phaser: &SharedPhaser, party: &mut Party, phase: i32) -> i32
     requires { phaser_of party.old ≡ phaser.now }
     ensures phaser { phaser_of party.new ≡ phaser.now }
     ensures made { pos 0 ≤ℤ phase
         → MakesLegalCall party.old.known (Await phase) (Passed result) party.new.known }
-    ensures negative { phase <ℤ pos 0 → result ≡ phase }
+    ensures negative { phase <ℤ pos 0 → (result ≡ phase) × (party.new ≡ party.old) }
 {
     phaser.await_advance(rt, party, phase)
+}
+
+/// An arrival, and a wait for the end of its phase. It doesn't wait if the phaser is terminated, or if no party was left that
+/// could arrive.
+pub fn arrive_and_await_advance<R: Wait>(
+    rt: &R,
+    phaser: &SharedPhaser,
+    party: &mut Party,
+) -> Result<i32, NotThere>
+    requires { phaser_of party.old ≡ phaser.now }
+    ensures phaser { phaser_of party.new ≡ phaser.now }
+    ensures made { IfOk result (λ view. ArrivesAndAwaits party.old.known view party.new.known) }
+    ensures refused { IfErr result
+        (λ _. MakesLegalCall party.old.known (Arrive false) (Replied Refused) party.new.known) }
+{
+    phaser.arrive_and_await_advance(rt, party)
 }
 
 /// Another caller, for another thread. It has seen what the first caller has, and has made no call.

@@ -2,6 +2,7 @@
 ghost use Rattle.headline.specs.Headline.{
   ArrivalsAreTaken,
   BarriersHavePasts,
+  EndsFewPhases,
   EndsNoPhaseEarly,
   NumbersChangeAtEnds,
   PhasesEndInTime,
@@ -41,6 +42,11 @@ pub fn numbers_change_at_ends()
 /// leads to.
 pub fn barriers_have_pasts()
     ensures { BarriersHavePasts }
+{}
+
+/// Within the limit of steps no tree ends so many phases that a word which lags behind its root looks like the root's.
+pub fn phases_are_few()
+    ensures { EndsFewPhases }
 {}
 
 /// It makes no difference to the executions of a program how its phasers are stored at first.

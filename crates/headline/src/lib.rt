@@ -2,8 +2,8 @@
 //!
 //! `specs/Headline.antt` is about the machine of a program, and about the shared phaser. `specs/EndToEnd.antt` says what the
 //! commands then show. The module `play` plays what the rows say. The laws in `law` hold whatever is chosen. The module `back`
-//! takes back what it has played. `beneath` is about trees whose words lag, and about the word that threads share. `shown` has
-//! the functions that the program calls.
+//! takes back what it has played. `beneath` is about trees whose words lag, about the record of a live run, and about the word
+//! that threads share. `shown` is about what commands show, and has the functions that the program calls.
 #![tactic(auto)]
 
 // What a program's choices leave.

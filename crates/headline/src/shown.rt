@@ -1,16 +1,18 @@
 //! The commands that play a program: under a schedule, by commands, or on real threads. Each says what it has done for every
 //! result. It also says, in terms of one page, what is shown if everything went well, for each file whose program it is.
-ghost use Rattle.std.specs.Prelude.{◌≡◌, ◌≢◌, ◌<◌, ◌≤◌, ℕ, List, [], None, Ok, OnOk, Option, Some};
+ghost use Rattle.std.specs.Prelude.{◌≡◌, ◌≢◌, ◌⊎◌, ◌<◌, ◌≤◌, ℕ, IsTrue, List, [], None, Ok, OnOk, Option, Some};
 ghost use Rattle.assembler.specs.Meaning.{StandsFor};
 ghost use Rattle.loader.specs.Fault.{first_fault};
 ghost use Rattle.loader.specs.declared.load_fault.LoadFault.{LoadFault};
 ghost use Rattle.row_code.specs.declared.image.Image.{Image};
 ghost use Rattle.thread_machine.specs.declared.choice.Choice.{Choice};
+ghost use Rattle.trace_compare.specs.declared.comparison.Verdict.TheVariants as verdict;
 ghost use Rattle.trace_text.specs.Outcome.{ComesTo};
-ghost use Rattle.headline.specs.EndToEnd.{HasDebuggedFile, HasDebuggedFileAt, HasShownFile, HasShownLive, HasShownText, SessionsGiveTheRows};
+ghost use Rattle.headline.specs.EndToEnd.{HasDebuggedFile, HasDebuggedFileAt, HasFoundTheSame, HasShownFile, HasShownLive, HasShownText, SessionsGiveTheRows};
 ghost use Rattle.headline.specs.Headline.{Accepted};
 ghost use Rattle.workbench.specs.Debug.{Debugs, DebugsAt, GivesFew};
 ghost use Rattle.workbench.specs.declared.done.Done.TheVariants as done;
+ghost use Rattle.workbench.specs.Input.{GivesAll, GivesTooMuch};
 ghost use Rattle.workbench.specs.Live.{IsRecorded, Lives};
 ghost use Rattle.workbench.specs.ProgramFile.{IsProgramFile};
 ghost use Rattle.workbench.specs.RunLine.{program_part, schedule_part};
@@ -22,10 +24,14 @@ use std::alloc::Global;
 use std::sync::Wait;
 use std::thread::Threads;
 use thread_runner::Gate;
+use trace_compare::Verdict;
 use trace_text::{RunEnd, RunFault, run_to_end};
 use workbench::companion::Companion;
 use workbench::done::Done;
 use workbench::fault::Fault;
+use workbench::program::program_of_text;
+use workbench::run_line::split_at_run;
+use workbench::slice_source::SliceSource;
 
 /// Plays an image's program under a schedule, writes the trace, and returns how the run has ended.
 pub fn run<S: Source, K: Sink>(
@@ -46,6 +52,23 @@ pub fn run<S: Source, K: Sink>(
         → S.left schedule.old ≡ Some (schedule_part text) → HasShownText text (K.written output.old) (K.written output.new)) }
 {
     run_to_end(alloc, image, schedule, output)
+}
+
+/// Plays the program of a text under the schedule that follows its line `.run`, and writes the trace. What it does before it
+/// calls `run` is what the program does.
+pub fn both<K: Sink>(alloc: Global, text: &[u8], output: &mut K) -> Result<RunEnd, Fault>
+    ensures shown { OnOk result (HasShownText text.now (K.written output.old) (K.written output.new)) }
+{
+    let (program, schedule) = split_at_run(text);
+    let image = match program_of_text(alloc, program) {
+        Ok(program) => program.image,
+        Err(fault) => return Err(fault),
+    };
+    let mut schedule = SliceSource::new(schedule);
+    match run(alloc, image, &mut schedule, output) {
+        Ok(end) => Ok(end),
+        Err(fault) => Err(Fault::of_run(fault)),
+    }
 }
 
 /// Plays an image's program by commands, which may take steps back.
@@ -116,6 +139,40 @@ pub fn live<R: Threads + Wait + Sync, G: Gate + Sync, K: Sink>(
         → HasShownLive limit file (K.written output.old) (K.written output.new)) }
 {
     workbench::live::live(threads, alloc, limit, gate, image, output)
+}
+
+/// Plays what a source has, a text with its schedule, writes the trace, and returns the exit status. Any other status than
+/// these three is 4: out of memory.
+pub fn both_cmd<S: Source, K: Sink, E: Sink>(
+    alloc: Global,
+    input: &mut S,
+    output: &mut K,
+    errors: &mut E,
+) -> u8
+    ensures shown { result ≡ 0 → (text : List ℕ) × (GivesAll (S.left input.old) (S.left input.new) text
+        × HasShownText text (K.written output.old) (K.written output.new)) }
+
+    // No run of this text is ever shown.
+    ensures refused { result ≡ 3 → (text : List ℕ) × (GivesAll (S.left input.old) (S.left input.new) text
+        × ((before after : Option (List ℕ)) → HasShownText text before after → ⊥)) }
+    ensures ports { result ≡ 5 → IsTrue (S.has_failed input.new)
+        ⊎ (GivesTooMuch (S.left input.old) (S.left input.new) ⊎ IsTrue (K.has_failed output.new)) }
+{
+    workbench::both_cmd(alloc, input, output, errors)
+}
+
+/// Compares a trace with the run of an image's program under the choices that the trace names, and writes the verdict. The trace
+/// is read piece by piece, up to the line that decides.
+pub fn compare<S: Source, K: Sink>(
+    alloc: Global,
+    image: Image,
+    trace: &mut S,
+    output: &mut K,
+) -> Result<Verdict, Fault>
+    ensures same { result ≡ Ok verdict.Same → (file : List ℕ) → IsProgramFile file image
+        → HasFoundTheSame file (S.left trace.old) (S.left trace.new) }
+{
+    workbench::compare::compared(alloc, image, trace, output)
 }
 
 /// If the loader refuses the program of a text, no run of this text is ever shown. An example is a thread without a row.

@@ -1,13 +1,25 @@
-//! A meeting, played with the calls of the closing page: what a schedule leaves, and what is taken back.
-
+//! A meeting, played with the calls of the closing pages: what a schedule leaves and shows, what is taken back, and what a live
+//! run records. The same meeting on a shared phaser.
+use crate::programs::{MEETING as MEETING_TEXT, TRACE, program_of};
+use byte_ports::{MemorySink, MemorySource};
 use debugger::Debugger;
 use headline::back::{step_and_back, steps_and_backs};
+use headline::beneath::{
+    arrive_and_await_advance, await_advance, close, into_machine, make_call, make_call_within, new,
+    take_step,
+};
 use headline::play;
+use headline::shown::{both, both_cmd, compare};
 use loader::LoadFault;
+use packed_phaser::Policy;
+use phase_number::Phase;
 use row_code::{Image, read_image};
+use shared_phaser::{Call, Reply};
 use std::alloc::Global;
 use std::test::Fail;
 use thread_machine::{Choice, Machine};
+use thread_runner::{Journaled, TakeFault};
+use trace_compare::Verdict;
 use trace_text::start::StartFault;
 use trace_text::state::state_text;
 
@@ -92,5 +104,64 @@ fn a_meeting_is_taken_back(rt: HostRuntime) -> Result<(), Fail> {
     assert!(rt; events.ok().ok_or("refused")?.len() == 6);
     let after = state_text(alloc, debugger.machine())?;
     assert!(rt; after.as_slice() == before.as_slice());
+    Ok(())
+}
+
+/// The text and its schedule in one.
+const BOTH: &[u8] =
+    b".phaser p 2\n.thread a main\n.thread b main\nmain: paaa r0 p\nout r0\nhalt\n.run\nt0 t1 t0*3 t1*2\n";
+
+#[test]
+fn a_text_shows_its_run(rt: HostRuntime) -> Result<(), Fail> {
+    let alloc = rt.alloc();
+    let mut output = MemorySink::new(alloc, 1000, None)?;
+    assert!(rt; both(alloc, BOTH, &mut output).is_ok());
+    assert!(rt; output.bytes() == TRACE);
+    let mut input = MemorySource::new(BOTH, None);
+    let mut again = MemorySink::new(alloc, 1000, None)?;
+    let mut errors = MemorySink::new(alloc, 100, None)?;
+    assert!(rt; both_cmd(alloc, &mut input, &mut again, &mut errors) == 0);
+    assert!(rt; again.bytes() == TRACE);
+    Ok(())
+}
+
+#[test]
+fn its_trace_is_found_the_same(rt: HostRuntime) -> Result<(), Fail> {
+    let alloc = rt.alloc();
+    let mut trace = MemorySource::new(TRACE, None);
+    let mut line = MemorySink::new(alloc, 100, None)?;
+    let verdict = compare(alloc, image(alloc, MEETING)?, &mut trace, &mut line);
+    assert!(rt; verdict.ok() == Some(Verdict::Same));
+    assert!(rt; line.bytes() == b"same\n".as_slice());
+    Ok(())
+}
+
+/// The first thread waits, so it can't go on.
+#[test]
+fn a_turn_is_recorded(rt: HostRuntime) -> Result<(), Fail> {
+    let mut journaled = Journaled::new(rt.alloc(), program_of(rt.alloc(), MEETING_TEXT)?, 10)?;
+    if journaled.thread_count() == 0 {
+        return Err("no thread".into());
+    }
+    assert!(rt; take_step(&mut journaled, 0).is_ok());
+    assert!(rt; take_step(&mut journaled, 0) == Err(TakeFault::NotReady));
+    assert!(rt; into_machine(journaled).steps() == 1);
+    Ok(())
+}
+
+/// One party meets itself, and a second one is registered, arrives and leaves.
+#[test]
+fn calls_are_made_on_a_shared_phaser(rt: HostRuntime) -> Result<(), Fail> {
+    let made = new(rt.alloc(), 1, Policy::Default, Phase::prevailing(0));
+    let (phaser, mut party) = made.ok().ok_or("no phaser")?;
+    assert!(rt; arrive_and_await_advance(&rt, &phaser, &mut party) == Ok(1));
+    assert!(rt; await_advance(&rt, &phaser, &mut party, -5) == -5);
+    assert!(rt; make_call(&rt, &phaser, &mut party, Call::Register(1)) == Reply::Counted(1));
+    let within = make_call_within(&phaser, &mut party, Call::Arrive(true), 1);
+    assert!(rt; within == Ok(Reply::Counted(1)));
+    assert!(rt; make_call(&rt, &phaser, &mut party, Call::Arrive(false)) == Reply::Counted(1));
+    assert!(rt; make_call(&rt, &phaser, &mut party, Call::Force) == Reply::Dead(-2147483646));
+    let word = close(phaser, party);
+    assert!(rt; word.parties() == 1);
     Ok(())
 }

@@ -1,6 +1,6 @@
 //! Commands over ports in memory, of which one fails at one of its calls. What was written before is a beginning of the whole,
 //! and the exit status and the line say whether a read or a write failed.
-use crate::programs::{MEETING, image_of};
+use crate::programs::{MEETING, TRACE, image_of};
 use byte_ports::{MemorySink, MemorySource};
 use row_code::write_image;
 use std::alloc::Global;
@@ -13,10 +13,6 @@ use workbench::{asm_cmd, both_cmd, compare_cmd, debug_cmd, list_cmd, live_cmd, r
 const CALLS: u32 = 60;
 
 const SCHEDULE: &[u8] = b"t0 t1 t0*3 t1*2\n";
-
-const TRACE: &[u8] =
-    b"1 t0 0 wait\n2 t1 0 = 1 +p0 1\n3 t0 0 = 1\n4 t0 1 out 1\n5 t0 2 end\n6 t1 1 out 1\n7 t1 2 end\n\
-    state 7 7 all\nt0 2 ended 0 regs 1 0 0 0 0 0 0 0 stack out 1\nt1 2 ended 0 regs 1 0 0 0 0 0 0 0 stack out 1\np0 1 2 0 2\n";
 
 /// The image of one thread whose one row is `halt`.
 const HALT: &[u8] = b"PBW1\0\0\0\0\x01\0\x01\0\0\0\0\0\0\0\0\0\0\0\0\0";

@@ -1,5 +1,7 @@
-//! Tests of runs with public calls, for what no command of the program shows: streams cut anywhere, threads in a forced order,
-//! replies that can't be written, ports that fail at any call, and the calls of the closing page.
+//! Tests runs by public calls, where no command of the program shows what is tested.
+//!
+//! The tests cut streams anywhere, force threads into an order, and let writing a reply or any call of a port fail. They also
+//! test the calls of `headline`.
 #![tactic(auto)]
 
 #[cfg(test)]

@@ -9,6 +9,11 @@ use std::test::Fail;
 pub const MEETING: &str =
     ".phaser p 2\n.thread a main\n.thread b main\nmain: paaa r0 p\nout r0\nhalt\n";
 
+/// The trace of the meeting under `t0 t1 t0*3 t1*2`.
+pub const TRACE: &[u8] =
+    b"1 t0 0 wait\n2 t1 0 = 1 +p0 1\n3 t0 0 = 1\n4 t0 1 out 1\n5 t0 2 end\n6 t1 1 out 1\n7 t1 2 end\n\
+    state 7 7 all\nt0 2 ended 0 regs 1 0 0 0 0 0 0 0 stack out 1\nt1 2 ended 0 regs 1 0 0 0 0 0 0 0 stack out 1\np0 1 2 0 2\n";
+
 /// The image of a program's text.
 pub fn image_of(alloc: Global, text: &str) -> Result<Image, Fail> {
     Ok(assemble(alloc, text.as_bytes()).ok().ok_or("a fault")?)
