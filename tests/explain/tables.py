@@ -81,6 +81,8 @@ def statuses():
 
 
 LINES = ["show", "draw", "memory", "spawn", "read", "write", "not a trace", "differs", "expected", "stopped", "all", "stuck", "live", "none", "limit", "?", "no history"]
+EVENTS = ["ok", "=", "1 t0 0 out 1", "wait", "throws", "enter", "unwind", "catches", "die", "ends", "idle", "marks"]
+TERMS = ["trace", "state", "schedule", "plan", "seed", "stray", "image"]
 JAVA = ["locks", "latch", "join", "volatile", "spurious wakeup", "tiers", "time", "loop"]
 
 
@@ -98,7 +100,9 @@ def made(words, entry):
     command = f"vuthgal() {{ {program} \"$@\"; }}; {entry['Example']}"
     done = subprocess.run(["bash", "-c", command], capture_output=True, text=True, cwd=ROOM)
     said = done.stdout + done.stderr
-    if words.startswith("status"):
+    if words in TERMS:
+        is_made = done.returncode == 0
+    elif words.startswith("status"):
         is_made = done.returncode == int(words.split()[1])
     elif words.startswith("exception"):
         is_made = re.search(rf"^\d+ t\d+ \d+ throw {words.split()[1]}\b", said, re.M)
@@ -117,7 +121,7 @@ entries = [
     *named("TRACES", "Plan text", "plan"),
     *named("BEHAVIOUR", "Exceptions", "exception"),
     *statuses(),
-    *((words, told(words)) for words in LINES + JAVA),
+    *((words, told(words)) for words in LINES + EVENTS + TERMS + JAVA),
 ]
 for words, entry in entries:
     if entry:

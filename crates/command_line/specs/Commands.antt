@@ -1,4 +1,4 @@
--- The program's commands, as far as they matter when arguments are parsed.
+-- The commands of the program, with what the parser of the arguments needs to know about them.
 use Rattle.std.specs.Prelude.{List, [], ◌∷◌, Some, true, false, codes, map}
 use Rattle.clap.specs.Words.{App, Rule, Shape, Text, new_app, new_rule}
 use Rattle.clap.specs.declared.builder.action.ArgAction.TheVariants.{Append, SetTrue}

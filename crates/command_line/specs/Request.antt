@@ -1,4 +1,4 @@
--- What a command line requests, by its subcommand and the arguments of this subcommand.
+-- What a command line requests: its subcommand, and the arguments of this subcommand.
 use Rattle.std.specs.Prelude.{◌≡◌, ◌≢◌, ◌≤◌, ◌<◌, ◌+◌, ◌++◌, ◌⊎◌, ℕ, List, [], Option, Some, None, Result, Ok, Err, length, map}
 use Rattle.std.specs.Prelude.{All, IfSome, codes, option_map, true, false, Bool, unwrap_or}
 use Rattle.std.specs.Borrow.{Bor}

@@ -1,7 +1,7 @@
-//! The command line: the table of commands, and how the arguments after the program's name are read.
+//! Reads the arguments of the program by a table of its commands.
 //!
-//! `commands` is the table. It has the arguments and options of each command, and the texts of their help. `request` uses this
-//! table to read arguments.
+//! The function `commands` is this table. It has the arguments and options of each command, and the texts of their help. The
+//! module `request` reads the arguments after the name of the program by this table.
 #![tactic(auto)]
 
 // The table, and the texts of the help, in lines of at most 80 columns.

@@ -67,7 +67,7 @@ impl WrongOption {
             WrongOption::Runs => "--runs N: N is 1 to 100000, in decimal digits",
             WrongOption::Early => "--expect STATE goes after the command's name",
             WrongOption::Plan =>
-                "--plan 'PLAN', --plan-file FILE, --at TRACE, SCHEDULE: only one of them; quote a PLAN with blanks",
+                "give only one of SCHEDULE (`debug`: --at TRACE), --plan 'PLAN' and --plan-file FILE; quote a PLAN with blanks",
             WrongOption::Seeds =>
                 "--seeds FROM..TO: at most 100000 numbers from 0 to 4294967295, in decimal digits, FROM not above TO, as 1..1000",
             WrongOption::SeedLimit => "--limit N: N is 1 to 1000000, in decimal digits",

@@ -1,4 +1,4 @@
--- What `choices` does with a trace.
+-- What `choices` reads and writes.
 use Rattle.std.specs.Prelude.{◌≡◌, ℕ, is_none, All, List, [], ◌∷◌, ◌++◌, Option, Some, None, codes}
 use Rattle.std.specs.Io.KnownBytes.{Appends}
 use Rattle.schedule_reader.specs.declared.run.Run.{Run}

@@ -1,4 +1,4 @@
--- The drawing of a program and a schedule.
+-- Which text is the drawing of a program and a schedule.
 use Rattle.std.specs.Prelude.{◌≤◌, ℕ, List, length}
 use Rattle.assembler.specs.Symbols.{SymbolTable}
 use Rattle.row_code.specs.declared.image.Image.{Image}

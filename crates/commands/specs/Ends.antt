@@ -1,4 +1,4 @@
--- The state that a run ended in.
+-- The state in which a run ended.
 use Rattle.std.specs.Prelude.{ℕ, ◌+◌, ◌==◌, List, ◌∷◌, ◌++◌, codes, drop}
 use Rattle.std.specs.List.{position_or_len}
 use Rattle.thread_machine.specs.World.{World}

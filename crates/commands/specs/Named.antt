@@ -1,4 +1,4 @@
--- A schedule with the names of the threads: it consists of words of a plan, and a plan reads each word as its choice.
+-- A schedule with the names of the threads, written as words of a plan. A plan reads each word as its choice.
 use Rattle.std.specs.Prelude.{ℕ, ◌==◌, ◌&&◌, if◌then◌else◌, Bool, false, not, List, [], ◌∷◌, ◌++◌, Option, Some, None, Result, Ok, map, option_map, slice_get, unwrap_or}
 use Rattle.std.specs.Borrow.{Bor}
 use Rattle.std.specs.Fmt.{decimal}

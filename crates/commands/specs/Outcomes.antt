@@ -1,4 +1,4 @@
--- The results of several runs.
+-- How the results of several runs are counted and written.
 use Rattle.std.specs.Prelude.{◌≡◌, ℕ, Bool, if◌then◌else◌, List, [], ◌∷◌, ◌++◌, Option, Some, None, bytes_eq, codes, decimal, filter, flat_map, length, nat_lt, option_map, IsSortedBy}
 use Rattle.std.specs.List.{IsDistinct, list_all}
 use Rattle.std.specs.Global.{Vec}

@@ -1,4 +1,4 @@
--- The page of a program and a schedule.
+-- Which bytes are the page of a program and a schedule.
 use Rattle.std.specs.Prelude.{ℕ, if◌then◌else◌, List, []}
 use Rattle.row_code.specs.declared.image.Image.{Image}
 use Rattle.pictures.specs.Page.{IsPageOf}

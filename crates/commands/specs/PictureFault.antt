@@ -1,4 +1,4 @@
--- Why there is no picture of a run, as a fault of the commands.
+-- How it is reported that a run has no picture.
 use Rattle.pictures.specs.declared.page.PageFault.{PageFault}
 use Rattle.pictures.specs.declared.page.PageFault.TheVariants as page
 use Rattle.trace_text.specs.declared.start.StartFault.{StartFault}

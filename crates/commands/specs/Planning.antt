@@ -1,4 +1,4 @@
--- What `plan` does with a program and a plan.
+-- What `plan` writes for a program and a plan.
 use Rattle.std.specs.Prelude.{◌≡◌, ℕ, Bool, List, [], length, map, unwrap_or, Option, None, Some, Ok, Err}
 use Rattle.std.specs.Io.KnownBytes.{Appends}
 use Rattle.std.specs.List.{range_with_len}

@@ -1,4 +1,4 @@
--- What a listing of a program's rows has.
+-- The listing of a program's rows.
 use Rattle.std.specs.Prelude.{◌≡◌, ◌⊎◌, ℕ, ◌-◌, true, false, List, [], ◌∷◌, length, take, drop, decimal, slice_index_or, Bool, Option, Result, Ok, Err}
 use Rattle.std.specs.Char.{is_ascii_whitespace}
 use Rattle.std.specs.Io.KnownBytes.{Appends}

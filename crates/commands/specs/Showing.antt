@@ -1,4 +1,4 @@
--- What a comparison that shows the lines writes, by its result.
+-- What `show_comparison` writes, for each result.
 use Rattle.std.specs.Prelude.{◌≡◌, ℕ, Bool, List, [], ◌++◌, Option, Some, None, Result, Ok, Err, codes}
 use Rattle.std.specs.Io.KnownBytes.{Appends}
 use Rattle.row_code.specs.declared.image.Image.{Image}

@@ -1,4 +1,4 @@
--- How a plan without a schedule is reported.
+-- How it is reported that a plan has no schedule.
 use Rattle.std.specs.Prelude.{ℕ, List, ◌++◌, Option, Some, None, codes}
 use Rattle.std.specs.Fmt.{decimal}
 use Rattle.plans.specs.FaultNumber.{plan_number}

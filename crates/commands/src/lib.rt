@@ -1,20 +1,21 @@
-//! The commands that `workbench` doesn't have. They show pictures of a run, rows, and lines that differ. They write the
-//! schedules of traces and plans. They debug for a person, and play many live runs of one program.
+//! The commands that are not in `workbench`: they show pictures, rows and differences, write schedules, and play many runs.
 //!
-//! - `make` is the commands `show` and `draw`. It makes a picture in memory, and then writes it at once.
+//! - `make` carries out the commands `show` and `draw`. It makes a picture of a run in memory, and then writes the whole
+//!   picture.
+//! - `list_rows` lists the rows of a program.
+//! - `choices` and `plan` write a schedule: that of a trace, or that of a plan.
 //! - `show_comparison` writes the verdict of `compare_cmd`, and then the lines that differ.
-//! - `GuidedCommands` reads the lines that a person types at `debug`, and writes what each of them leads to.
-//! - `report_runs` plays a program many times on real threads, and writes a line for each state in which runs ended. With
-//!   `Pauses` the threads pause now and then, which gives orders that are rare otherwise.
-//! - `report_seeds` plays a program in the orders of some seeds, and writes the same kind of lines. It calls an `Observer` with
-//!   the end of each run.
+//! - `report_runs` plays a program many times on real threads. For each state in which runs ended, it writes a line. With
+//!   `Pauses` the threads pause now and then. So orders happen that are rare otherwise.
+//! - `report_seeds` plays a program in the orders that some seeds give, and writes lines of the same form. It calls an
+//!   `Observer` with the end of each run.
 #![tactic(auto)]
 
 // Schedules of traces and plans, lines that differ, and rows.
 pub mod choices;
 pub mod difference;
 mod image_rows;
-mod named;
+pub mod named;
 pub mod plan;
 pub mod plan_word;
 pub mod rows;
@@ -29,15 +30,6 @@ pub mod page;
 pub mod picture;
 pub mod picture_fault;
 
-// The debugger for a person.
-mod called;
-mod guided;
-mod may_go;
-mod near;
-mod replayed;
-mod spoken;
-mod unknown;
-
 // Many live runs, and the orders of many seeds.
 pub mod command;
 pub mod end_state;
@@ -50,7 +42,6 @@ pub mod seeds;
 
 pub use command::{Asked, report_runs};
 pub use difference::show_comparison;
-pub use guided::GuidedCommands;
 pub use law::{
     a_file_has_one_listing, a_line_of_a_schedule_is_the_schedule,
     a_row_is_told_with_the_line_that_says_it,

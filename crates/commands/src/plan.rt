@@ -42,7 +42,7 @@ fn thread_name<'a>(symbols: &Symbols<'a>, thread: u32) -> &'a [u8]
 }
 
 /// Returns the names of so many threads.
-pub(crate) fn thread_names<'a>(
+pub fn thread_names<'a>(
     alloc: Global,
     symbols: &Symbols<'a>,
     count: usize,

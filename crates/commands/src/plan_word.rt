@@ -33,11 +33,14 @@ fn helps_at_count(word: &[u8], before: Option<u8>) -> Option<&'static str> {
     } else if is_digits(word) && before == Some(b')') {
         Some("a count follows a star, as in `( ann bob )*3`")
     } else if is_digits(word) {
-        Some("a count follows a name and a star, as in `ann*3`")
+        Some("`t0` is thread 0; a count follows a name and a star, as in `ann*3`")
     } else {
         None
     }
 }
+
+/// What helps at a comma.
+const AT_COMMA: &str = "no commas: put blanks between the words of a plan";
 
 /// What helps if a dot has a count.
 const AT_COUNTED_DOT: &str = "a dot has no count: `ann*3`, or `( ann. )*3`";
@@ -46,6 +49,8 @@ const AT_COUNTED_DOT: &str = "a dot has no count: `ann*3`, or `( ann. )*3`";
 pub fn helps_at_star(word: &[u8]) -> Option<&'static str> {
     if word.ends_with(b".") {
         Some(AT_COUNTED_DOT)
+    } else if word.contains(&b',') {
+        Some(AT_COMMA)
     } else if word.ends_with(b"*") {
         Some("a count follows a star without a blank, as in `ann*3`")
     } else {
@@ -74,6 +79,9 @@ fn helps_at_dot(word: &[u8]) -> Option<&'static str> {
     match word.get(dot.saturating_add(1)..) {
         Some([b'*', ..]) => Some(AT_COUNTED_DOT),
         Some([_, ..]) => Some("put a blank behind a dot, as in `ann. bob.`"),
+        Some([]) if word.starts_with(b"x") => Some(
+            "no dot after an expiry: `xann` lets the time of ann's wait run out",
+        ),
         _ => None,
     }
 }
@@ -83,7 +91,7 @@ pub fn helps_at_word(word: &[u8], before: Option<u8>) -> Option<&'static str> {
     if has_comment_sign(word) {
         Some(AT_COMMENT)
     } else if word.contains(&b',') {
-        Some("no commas: put blanks between the words of a plan")
+        Some(AT_COMMA)
     } else {
         helps_at_count(word, before)
             .or(helps_at_dots(word))
@@ -91,12 +99,25 @@ pub fn helps_at_word(word: &[u8], before: Option<u8>) -> Option<&'static str> {
     }
 }
 
-/// What helps at a word that no thread has as its name.
+/// Returns what helps if a seed is wrong.
+pub fn helps_at_seed(word: &[u8]) -> Option<&'static str> {
+    if word == b"?".as_slice() {
+        Some("a number follows the question mark without a blank, as in `?7`")
+    } else {
+        None
+    }
+}
+
+/// Returns what helps at a word that no thread has as its name.
 pub fn helps_at_name(word: &[u8]) -> Option<&'static str> {
     match word {
         b"x" => Some("no blank behind x: `xann` is the expiry of ann's timed wait"),
         b"until" => Some("`ann.` plays ann until it waits, has ended or has died"),
         b"then" | b"and" => Some("put only blanks between the words of a plan"),
+        b"all" | b"each" | b"every" => Some("`..` plays all threads in turn"),
+        [b'T' | b'X', digits @ ..] if !digits.is_empty() && is_digits(digits) => Some(
+            "threads are `t0`, `t1` and so on, in small letters",
+        ),
         _ => None,
     }
 }

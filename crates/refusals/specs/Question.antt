@@ -1,4 +1,4 @@
--- Which words ask for which entry: words ask for an entry if they fit one of its patterns.
+-- Which words request which entry: words request an entry if they fit one of its patterns.
 use Rattle.std.specs.Prelude.{◌≡◌, ◌⊎◌, ◌<◌, ◌^◌, ◌==◌, ℕ, Bool, ◌||◌, true, false, if◌then◌else◌, List, [], ◌∷◌, Option, Some, None, codes, bytes_eq, map}
 use Rattle.std.specs.Bool.{MatchBool}
 use Rattle.std.specs.Borrow.{Bor}

@@ -141,7 +141,7 @@ fn without_refused<'a, 'b>(words: &'b [&'a str]) -> &'b [&'a str]
 }
 
 /// Returns what the words of a line ask for in these tables. A place may be left out, and so may the word `refused`.
-pub(crate) fn question_of(tables: &[&[Entry]], words: &[&str]) -> Option<Question>
+pub fn question_of(tables: &[&[Entry]], words: &[&str]) -> Option<Question>
     ensures { MatchOption result ((q : Question) → AsksFor tables.now (texts words.now) q → ⊥)
         (AsksFor tables.now (texts words.now)) }
 {
@@ -149,7 +149,7 @@ pub(crate) fn question_of(tables: &[&[Entry]], words: &[&str]) -> Option<Questio
 }
 
 /// Returns what a line asks for by its words.
-pub(crate) fn question_in_line(alloc: Global, line: &[u8]) -> Result<Option<Question>, AllocError> {
+pub fn question_in_line(alloc: Global, line: &[u8]) -> Result<Option<Question>, AllocError> {
     let mut words = Vec::new(alloc);
     for word in str::from_utf8(line).unwrap_or("").split_ascii_whitespace() {
         words.push(word)?;

@@ -1,2 +1,1 @@
 pub mod Expectation
-pub mod Input

@@ -2,16 +2,18 @@
 ghost use Rattle.workbench.specs.ProgramFile.{IsNamedProgram};
 
 use crate::input::Input;
+use crate::notes;
 use crate::planning::runs_of_plan;
 use crate::steps::{Holds, OpenSteps, opened};
-use crate::trouble::{Answer, Trouble};
-use crate::unlike::push_no_trace;
-use crate::{notes, printable};
-use byte_ports::{BlockSource, ReadPort, WritePort};
+use byte_ports::{BlockSource, ReadPort, Sink, WritePort};
 use command_line::request::Steps;
-use commands::{GuidedCommands, list_rows};
+use commands::list_rows;
+use fault_reports::trouble::{Answer, Trouble};
+use fault_reports::unlike::push_no_trace;
+use guided_session::GuidedCommands;
 use headline::shown;
-use row_code::Image;
+use program_ports::printable;
+use row_code::{Image, is_image_file};
 use schedule_reader::Run;
 use std::io::IsTerminal;
 use trace_compare::naming::{Named, NamingFault, choices_in};
@@ -90,11 +92,21 @@ fn session_of_person_at<'a>(
     }
 }
 
+/// What is above the program's rows, by the columns that its file leads to.
+fn heading(program: &Program<'_>) -> &'static [u8] {
+    if is_image_file(program.bytes) {
+        b"row\n"
+    } else {
+        b"row line\n"
+    }
+}
+
 /// Shows a person the program's rows, and which commands are waited for.
 fn greet<'a>(rt: &HostRuntime, program: &Program<'_>) -> Result<(), Trouble<'a>>
     requires { IsNamedProgram program.now.bytes.now program.now.image program.now.names }
 {
     let mut errors = WritePort::new(printable::errors(rt));
+    let _ = errors.push(heading(program));
     list_rows(rt.alloc(), program, &mut errors)?;
     notes::push_waiting(
         rt,
@@ -111,7 +123,7 @@ fn guide<'a>(rt: &HostRuntime, program: Program<'_>, steps: OpenSteps<'_>) -> An
     match steps {
         OpenSteps::Beside => session_of_person(rt, program, None),
         OpenSteps::Plan(name, plan) => {
-            let runs = runs_of_plan(rt, &program, name, plan.as_slice())?;
+            let (runs, _) = runs_of_plan(rt, &program, name, plan.as_slice())?;
             session_of_person(rt, program, Some(runs.as_slice()))
         }
         OpenSteps::Named(trace) => session_of_person_at(rt, program, trace),
@@ -120,8 +132,8 @@ fn guide<'a>(rt: &HostRuntime, program: Program<'_>, steps: OpenSteps<'_>) -> An
 
 /// Carries out the commands on standard input on the program in a file, after the choices that the arguments name. A person at
 /// a terminal is guided. If the file of a trace isn't a trace, this is explained.
-pub fn debug<'a>(rt: &HostRuntime, file: &'a str, steps: Steps<'a>) -> Answer<'a> {
-    let (file, open) = opened(rt, file, steps, Holds::Trace)?;
+pub fn debug<'a>(rt: &HostRuntime, path: &'a str, steps: Steps<'a>) -> Answer<'a> {
+    let (file, open) = opened(rt, path, steps, Holds::Trace)?;
     let program = program_in(rt.alloc(), file.as_slice())?;
     let done = if rt.stdin().is_terminal() && rt.stderr().is_terminal() {
         guide(rt, program, open)?
@@ -130,14 +142,14 @@ pub fn debug<'a>(rt: &HostRuntime, file: &'a str, steps: Steps<'a>) -> Answer<'a
         match open {
             OpenSteps::Beside => session(rt, program.image, None, &mut commands)?,
             OpenSteps::Plan(name, plan) => {
-                let runs = runs_of_plan(rt, &program, name, plan.as_slice())?;
+                let (runs, _) = runs_of_plan(rt, &program, name, plan.as_slice())?;
                 session(rt, program.image, Some(runs.as_slice()), &mut commands)?
             }
             OpenSteps::Named(trace) => session_at(rt, program.image, trace)?,
         }
     };
     if let (Done::Unlike, Steps::Named(trace)) = (done, steps) {
-        push_no_trace(rt, trace);
+        push_no_trace(rt, Some(path), trace);
     }
     Ok(done)
 }

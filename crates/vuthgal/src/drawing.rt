@@ -1,13 +1,14 @@
 //! Pictures of a run: the page, and the text.
 
-use crate::help::{Files, push_missing};
-use crate::schedule::Schedule;
+use crate::schedule::{Schedule, told};
 use crate::steps::{Holds, opened};
-use crate::trouble::{Answer, Trouble};
 use byte_ports::WritePort;
 use command_line::request::Steps;
 use commands::making::make;
 use commands::picture::Picture;
+use fault_reports::help::{Files, push_missing};
+use fault_reports::trouble::{Answer, Trouble};
+use pictures::choices::MOST_CHOICES;
 use workbench::done::Done;
 use workbench::ending::flushed;
 use workbench::program::program_in;
@@ -21,16 +22,17 @@ pub fn draw<'a, P: Picture>(
 ) -> Answer<'a> {
     let files = Files::of_run(file, steps);
     let (file, steps) = opened(rt, file, steps, Holds::Schedule)?;
-    let (text, beside) = steps.parts(rt, file.as_slice());
+    let (text, beside) = steps.parts(file.as_slice());
     let program = program_in(rt.alloc(), text)?;
-    let planned = steps.planned(rt, &program)?;
+    steps.push_missing(rt, &program, file.as_slice());
+    let (planned, _) = steps.planned(rt, &program)?;
     let schedule = steps.schedule(beside, planned.as_str());
-    let mut schedule = Schedule::for_picture(rt.alloc(), schedule)?;
+    let mut schedule = Schedule::for_picture(rt.alloc(), schedule, MOST_CHOICES as u64)?;
     let mut output = WritePort::new(rt.stdout());
     let made = make(rt.alloc(), picture, program, &mut schedule, &mut output).map_err(
         |fault| Trouble::Fault(fault),
     );
-    let missing = schedule.told(made)?;
+    let missing = told(schedule, made)?;
     let missing = flushed(Ok(missing), &mut output)?;
     push_missing(rt, missing, files);
     Ok(Done::AsAsked)

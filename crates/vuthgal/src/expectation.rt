@@ -3,14 +3,14 @@
 ghost use Rattle.std.specs.Prelude.{◌≡◌};
 ghost use Rattle.vuthgal.specs.Expectation.{are_as_expected, done_by};
 
-use crate::explaining::is_explained;
-use crate::printable;
-use crate::unlike::push_unmet_help;
 use assembler::Symbols;
 use byte_ports::{Failed, Sink, WritePort};
+use diagnostics::nearest_name;
+use fault_reports::explaining::is_explained;
+use fault_reports::unlike::push_unmet_help;
 use instruction_table::OperandKind;
 use itoa::Buffer;
-use refusals::nearest_name;
+use program_ports::printable;
 use std::alloc::{AllocError, Global};
 use trace_text::RunEnd;
 use trace_text::form::{end_words, subject_of, words_of};
@@ -106,8 +106,11 @@ fn line_against<'a>(state: &'a [u8], text: &[u8]) -> Option<&'a [u8]> {
 
 /// Says which name of the program is nearest to the name in a text, if nothing has that name.
 fn push_near<E: Sink>(alloc: Global, errors: &mut E, program: &[u8], text: &[u8]) {
-    if let Ok(Some(name)) = nearest_name(alloc, program, subject_of(text)) {
-        let _ = errors.push(b"Near: ");
+    if end_words(subject_of(text)).is_some() {
+        return;
+    }
+    if let Ok(Some(name)) = nearest_name(alloc, program, None, subject_of(text)) {
+        let _ = errors.push(b"  Near:    ");
         let _ = errors.push(name);
         let _ = errors.push(b"\n");
     }

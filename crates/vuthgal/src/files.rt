@@ -1,10 +1,10 @@
 //! The files that the arguments name.
 
-use crate::no_command::NoCommand;
-use crate::trouble::Trouble;
 use byte_ports::ReadPort;
+use fault_reports::no_command::NoCommand;
+use fault_reports::trouble::Trouble;
 use std::fs::{self, File, Metadata, OpenOptions};
-use std::os::unix::fs::{FileTypeExt, MetadataExt};
+use std::os::unix::fs::MetadataExt;
 use workbench::input::read_all;
 
 /// Opens a file to read from its beginning.
@@ -23,14 +23,6 @@ pub fn size(file: &File) -> u64 {
     match file.metadata() {
         Ok(metadata) if metadata.is_file() => metadata.len(),
         _ => 0,
-    }
-}
-
-/// Returns whether standard output is a pipe, so that another program shows or uses what is written.
-pub fn writes_to_pipe(rt: &HostRuntime) -> bool {
-    match fs::metadata(rt, "/dev/stdout") {
-        Ok(metadata) => metadata.file_type().is_fifo(),
-        Err(_) => false,
     }
 }
 

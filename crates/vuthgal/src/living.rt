@@ -3,15 +3,15 @@
 ghost use Rattle.std.specs.Prelude.{◌≤◌, IfSome};
 
 use crate::expectation::expectations;
-use crate::explaining::is_explained;
-use crate::help::Files;
 use crate::progress::{BehindProgress, Meter, trace_port};
 use crate::running::ended;
-use crate::trouble::Answer;
 use crate::{files, notes};
 use byte_ports::WritePort;
 use command_line::request::Steps;
 use commands::{Asked, Pauses, report_runs};
+use fault_reports::explaining::is_explained;
+use fault_reports::help::Files;
+use fault_reports::trouble::Answer;
 use headline::shown;
 use row_code::Image;
 use std::sync::Wait;
@@ -51,7 +51,7 @@ fn live<'a, R: Threads + Wait + Sync>(
         output,
         program.bytes,
         expected,
-        "live: some threads could still continue, but the limit of steps was reached\n",
+        "live: some threads could still continue, but the limit of steps was reached; `--limit N` sets it\n",
         files,
     )
 }

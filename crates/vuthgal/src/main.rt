@@ -1,40 +1,32 @@
 //! The program: finds the command that its arguments request, opens the files, and passes them to the command.
 //!
-//! Each command is a function of a library, over ports. This crate has what meets the system:
+//! Each command is a function of a library, over ports. This crate connects the commands with the system:
 //!
-//! - which ports a command gets: `running`, `drawing`, `living`, `texts`, `traces`, `planning`, `debugging`
-//! - files and streams: `files`, `input`, `steps`, `schedule`
-//! - the exit status of an error: `trouble`
-//! - what a person is shown: `notes`, `progress`, `printable`, `help`, `unlike`, `mistaken`, `near`, `endless`, `explaining`
+//! - The modules `running`, `drawing`, `living`, `texts`, `traces`, `planning` and `debugging` choose the ports that a
+//!   command gets.
+//! - The modules `files`, `input`, `steps` and `schedule` read files and streams.
+//! - The modules `notes` and `progress` show a person more than the output.
+//!
+//! `fault_reports` reports errors.
 #![tactic(auto)]
 
 ghost use Rattle.command_line.specs.Request.{IsInRange};
 
 mod debugging;
 mod drawing;
-mod endless;
 mod expectation;
-mod explaining;
 mod files;
-mod help;
 mod input;
 mod living;
-mod mistaken;
-mod near;
-mod no_command;
 mod notes;
 mod origin;
 mod planning;
-mod printable;
 mod progress;
 mod running;
 mod schedule;
 mod steps;
 mod texts;
 mod traces;
-mod trouble;
-mod unlike;
-mod usage;
 mod words;
 
 use byte_ports::WritePort;
@@ -44,7 +36,9 @@ use commands::drawing::Drawing;
 use commands::page::Page;
 use debugging::debug;
 use drawing::draw;
-use help::Files;
+use fault_reports::help::Files;
+use fault_reports::trouble::Answer;
+use fault_reports::unlike::push_unlike_run;
 use living::{meet, play_live};
 use pictures::others::OtherRuns;
 use planning::{count_orders, write_plan};
@@ -54,8 +48,6 @@ use std::sync::Wait;
 use std::thread::Threads;
 use texts::{explain_words, write_image, write_list};
 use traces::{compare, write_choices};
-use trouble::Answer;
-use unlike::push_unlike_run;
 use workbench::done::{Done, settled};
 
 /// Does what is asked for.

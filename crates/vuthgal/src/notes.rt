@@ -2,8 +2,9 @@
 //! standard error, only if that is a terminal.
 
 use crate::input::Input;
-use crate::printable;
 use byte_ports::{Sink, WritePort};
+use fault_reports::help::push_explained;
+use program_ports::printable;
 use std::io::IsTerminal;
 
 /// Reports a person at a terminal.
@@ -22,10 +23,22 @@ pub fn push_waiting(rt: &HostRuntime, text: &[u8]) {
 
 /// A text without a line `.run` has no schedule.
 pub fn push_no_schedule(rt: &HostRuntime) {
-    push_note(
+    push_explained(
         rt,
-        b"no line `.run`, so no schedule: nothing is played; try `--plan '..'`\n",
+        "no line `.run`, so no schedule: nothing is played; try `--plan '..'`\n",
     );
+}
+
+/// A plan that is an argument plays nothing, or not all of what may have been meant.
+pub fn push_odd_plan(rt: &HostRuntime, plan: &str) {
+    if plan.trim().is_empty() {
+        push_explained(rt, "the plan is empty: `..` plays all threads in turn\n");
+    } else if plan.find(';').is_some() {
+        push_explained(
+            rt,
+            "`;` begins a comment in a plan: the rest isn't played\n",
+        );
+    }
 }
 
 /// A schedule is read from standard input, if this argument names that.

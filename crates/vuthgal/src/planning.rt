@@ -5,10 +5,8 @@ ghost use Rattle.command_line.specs.Request.{AreInRange};
 ghost use Rattle.plans.specs.Planned.{AreRuns};
 
 use crate::expectation::{expectations, tell_unmet};
-use crate::help::{named, push_stopped};
-use crate::input::Input;
+use crate::input::{self, Input};
 use crate::progress::{BehindProgress, OrderMeter};
-use crate::trouble::Trouble;
 use crate::{files, notes};
 use byte_ports::{ReadPort, WritePort};
 use command_line::request::Orders;
@@ -16,6 +14,8 @@ use commands::making::parts_of;
 use commands::plan::{plan, plan_with_names, planned_in};
 use commands::seeds::{Seeds, Unlike, report_seeds};
 use commands::unplanned::Unplanned;
+use fault_reports::help::{named, push_stopped};
+use fault_reports::trouble::Trouble;
 use schedule_reader::Run;
 use trace_text::RunEnd;
 use workbench::Program;
@@ -24,21 +24,21 @@ use workbench::ending::flushed;
 use workbench::input::read_all;
 use workbench::program::program_in;
 
-/// Returns the choices of a plan on a program, as runs. If the plan needs more choices than it may make, this is reported by its
-/// file's name.
+/// Returns the choices of a plan on a program, as runs, and whether the plan needs more choices than it may make. That is reported
+/// by its file's name.
 pub fn runs_of_plan<'a>(
     rt: &HostRuntime,
     program: &Program<'_>,
     name: &str,
     plan: &[u8],
-) -> Result<Vec<Run>, Trouble<'a>>
-    ensures { IfOk result (λ runs. AreRuns runs.items) }
+) -> Result<(Vec<Run>, bool), Trouble<'a>>
+    ensures { IfOk result (λ both. AreRuns both.0.items) }
 {
     let planned = planned_in(rt.alloc(), program, plan)?;
     if planned.stopped {
         push_stopped(rt, name, plan);
     }
-    Ok(planned.runs)
+    Ok((planned.runs, planned.stopped))
 }
 
 /// Returns a result with its plan, also if the plan is refused and was standard input.
@@ -64,7 +64,7 @@ pub fn write_plan<'a>(
 ) -> Result<Done, Trouble<'a>> {
     let program = files::read(rt, file)?;
     let name = steps.unwrap_or("-");
-    let steps = Input::named(rt, name)?;
+    let steps = input::named(rt, name)?;
     let is_input = matches!(steps, Input::Standard(_));
     notes::push_plan_waited_for(rt, &steps);
     let file = read_all(rt.alloc(), &mut ReadPort::new(program))?;
@@ -87,7 +87,7 @@ pub fn write_plan<'a>(
 /// Returns the plan before the orders of seeds, or an empty one if none is named.
 fn plan_before<'a>(rt: &HostRuntime, steps: Option<&'a str>) -> Result<Vec<u8>, Trouble<'a>> {
     match steps {
-        Some(word) => Ok(read_all(rt.alloc(), &mut ReadPort::new(Input::named(rt, word)?))?),
+        Some(word) => Ok(read_all(rt.alloc(), &mut ReadPort::new(input::named(rt, word)?))?),
         None => Ok(Vec::new(rt.alloc())),
     }
 }

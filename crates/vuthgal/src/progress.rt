@@ -9,9 +9,9 @@ ghost use Rattle.std.specs.Prelude.{◌≡◌, ◌≤◌, ◌+◌, IfOk, IfSome,
 ghost use Rattle.std.specs.Io.KnownBytes.{ReadConsumes};
 ghost use Rattle.byte_ports.specs.Port.{FailsForGood};
 
-use crate::files::writes_to_pipe;
 use byte_ports::{BlockPort, Failed, Source, WritePort};
 use commands::observer::Observer;
+use program_ports::printable::writes_to_pipe;
 use race::Pace;
 use std::alloc::AllocError;
 use std::io;

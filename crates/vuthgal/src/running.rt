@@ -1,14 +1,14 @@
 //! Runs: a program that is played under a schedule, and what is expected of its end.
 
 use crate::expectation::{as_expected, expectations, tell_unmet};
-use crate::help::{Files, push_explained, push_missing};
 use crate::notes;
 use crate::progress::{ShownWriter, trace_port};
-use crate::schedule::Schedule;
+use crate::schedule::{Schedule, told};
 use crate::steps::{Holds, opened};
-use crate::trouble::Answer;
 use byte_ports::{BlockPort, ReadPort, WritePort};
 use command_line::request::Steps;
+use fault_reports::help::{Files, push_explained, push_missing};
+use fault_reports::trouble::{Answer, Trouble};
 use headline::shown;
 use std::io::Stdout;
 use thread_machine::{Choice, Standing, StepFault};
@@ -26,7 +26,7 @@ pub type TracePort<'a> = BlockPort<WritePort<ShownWriter<'a, Stdout>>>;
 
 /// What `live` means if the schedule ended the run.
 const SCHEDULE_ENDS: &str =
-    "live: some threads could still continue, but the schedule has no more choices\n";
+    "live: some threads could still continue, but the schedule has no more choices; a plan with `..` at its end plays on\n";
 
 /// The number that a line begins with.
 fn number_of(line: &[u8]) -> Option<u64> {
@@ -76,27 +76,22 @@ pub fn ended<'a>(
     Ok(done)
 }
 
-/// Returns the result of a run under a schedule.
+/// Returns the result of a run under a schedule. It takes what `live` means at its end.
 fn scheduled<'a>(
     rt: &HostRuntime,
     answer: Result<RunEnd, RunFault>,
     output: TracePort<'_>,
     program: &[u8],
     expected: &[Vec<u8>],
+    live: &str,
     files: Files<'_>,
 ) -> Answer<'a> {
     let answer = answer.map_err(|fault| Fault::of_run(fault));
-    ended(rt, answer, output, program, expected, SCHEDULE_ENDS, files)
+    ended(rt, answer, output, program, expected, live, files)
 }
 
-/// Plays what standard input holds.
-pub fn play_both<'a>(rt: &HostRuntime, expected: &[&str]) -> Answer<'a> {
-    notes::push_waiting(
-        rt,
-        b"reading a program text from the terminal (--help says more)\n",
-    );
-    let bytes = read_all(rt.alloc(), &mut ReadPort::new(rt.stdin()))?;
-    let bytes = bytes.as_slice();
+/// Plays a text with its schedule, which was on standard input.
+fn play_text<'a>(rt: &HostRuntime, bytes: &[u8], expected: &[&str]) -> Answer<'a> {
     let (text, schedule) = split_at_run(bytes);
     let program = program_of_text(rt.alloc(), text)?;
     let expected = expectations(rt.alloc(), &program.names, expected)?;
@@ -106,21 +101,44 @@ pub fn play_both<'a>(rt: &HostRuntime, expected: &[&str]) -> Answer<'a> {
     if answer.is_ok() && text.len() == bytes.len() {
         notes::push_no_schedule(rt);
     }
-    let files = Files::of_input();
-    scheduled(rt, answer, output, text, expected.as_slice(), files)
+    let files = Files::of_input().with_text(bytes);
+    scheduled(
+        rt,
+        answer,
+        output,
+        text,
+        expected.as_slice(),
+        SCHEDULE_ENDS,
+        files,
+    )
+}
+
+/// Plays what standard input holds.
+pub fn play_both<'a>(rt: &HostRuntime, expected: &[&str]) -> Answer<'a> {
+    notes::push_waiting(
+        rt,
+        b"reading a program text from the terminal (--help says more)\n",
+    );
+    let bytes = read_all(rt.alloc(), &mut ReadPort::new(rt.stdin()))?;
+    match play_text(rt, bytes.as_slice(), expected) {
+        Err(Trouble::Fault(fault)) => Err(Trouble::OfText(fault, bytes)),
+        done => done,
+    }
 }
 
 /// Plays the program in a file.
 pub fn run<'a>(rt: &HostRuntime, file: &'a str, steps: Steps<'a>, expected: &[&str]) -> Answer<'a> {
     let files = Files::of_run(file, steps);
     let (file, steps) = opened(rt, file, steps, Holds::Schedule)?;
-    let (text, beside) = steps.parts(rt, file.as_slice());
+    let (text, beside) = steps.parts(file.as_slice());
     let program = program_in(rt.alloc(), text)?;
-    let planned = steps.planned(rt, &program)?;
+    steps.push_missing(rt, &program, file.as_slice());
+    let (planned, is_stopped) = steps.planned(rt, &program)?;
     let expected = expectations(rt.alloc(), &program.names, expected)?;
     let mut schedule = Schedule::whole(rt.alloc(), steps.schedule(beside, planned.as_str()));
     let mut output = trace_port(rt)?;
     let answer = shown::run(rt.alloc(), program.image, &mut schedule, &mut output);
-    let done = scheduled(rt, answer, output, text, expected.as_slice(), files);
-    schedule.told(done)
+    let live = if is_stopped { "" } else { SCHEDULE_ENDS };
+    let done = scheduled(rt, answer, output, text, expected.as_slice(), live, files);
+    told(schedule, done)
 }

@@ -1,13 +1,13 @@
 //! What is played: a program in a file, and the steps that the arguments name.
 
-use crate::help::ARGUMENT;
-use crate::input::Input;
+use crate::input::{self, Input};
 use crate::planning::runs_of_plan;
-use crate::trouble::Trouble;
 use crate::{files, notes};
 use byte_ports::ReadPort;
 use command_line::request::Steps;
 use commands::making::parts_of;
+use fault_reports::help::ARGUMENT;
+use fault_reports::trouble::Trouble;
 use schedule_reader::write_schedule;
 use workbench::Program;
 use workbench::fault::Fault;
@@ -37,7 +37,7 @@ fn named<'a>(rt: &HostRuntime, word: &'a str, holds: Holds) -> Result<Input<'a>,
         return Ok(Input::File(files::read(rt, word)?));
     }
     notes::push_schedule_waited_for(rt, word);
-    Ok(Input::named(rt, word)?)
+    Ok(input::named(rt, word)?)
 }
 
 /// Returns what a program's file holds, after the file of the steps is opened, too.
@@ -51,10 +51,10 @@ pub fn opened<'a>(
     let steps = match steps {
         Steps::Beside => OpenSteps::Beside,
         Steps::Named(word) => OpenSteps::Named(named(rt, word, holds)?),
-        Steps::Plan(plan) => OpenSteps::Plan(
-            ARGUMENT,
-            Vec::from_slice(rt.alloc(), plan.as_bytes())?,
-        ),
+        Steps::Plan(plan) => {
+            notes::push_odd_plan(rt, plan);
+            OpenSteps::Plan(ARGUMENT, Vec::from_slice(rt.alloc(), plan.as_bytes())?)
+        }
         Steps::PlanFile(word) => OpenSteps::Plan(word, files::contents(rt, word)?),
     };
     let program = read_all(rt.alloc(), &mut ReadPort::new(program))?;
@@ -63,29 +63,33 @@ pub fn opened<'a>(
 
 impl<'a> OpenSteps<'a> {
     /// Returns what is read of a file as a program, and the schedule after the text's line `.run`, if no other is named.
-    pub fn parts<'b>(&self, rt: &HostRuntime, file: &'b [u8]) -> (&'b [u8], &'b [u8]) {
-        if let OpenSteps::Named(_) = self {
-            return (file, &[]);
+    pub fn parts<'b>(&self, file: &'b [u8]) -> (&'b [u8], &'b [u8]) {
+        match self {
+            OpenSteps::Named(_) => (file, &[]),
+            OpenSteps::Beside | OpenSteps::Plan(_, _) => parts_of(file),
         }
-        let (program, beside) = parts_of(file);
-        if let (OpenSteps::Beside, true) = (self, program.len() == file.len()) {
-            notes::push_no_schedule(rt);
-        }
-        (program, beside)
     }
 
-    /// Returns the schedule that a plan stands for on a program, or an empty text if there is no plan.
+    /// Reports that nothing is played, if this program's file should have the schedule and has none.
+    pub fn push_missing(&self, rt: &HostRuntime, program: &Program<'_>, file: &[u8]) {
+        if let (OpenSteps::Beside, true) = (self, program.bytes.len() == file.len()) {
+            notes::push_no_schedule(rt);
+        }
+    }
+
+    /// Returns the schedule that a plan stands for on a program, or an empty text if there is no plan, and whether the plan was
+    /// stopped.
     pub fn planned<'b>(
         &self,
         rt: &HostRuntime,
         program: &Program<'_>,
-    ) -> Result<String, Trouble<'b>> {
+    ) -> Result<(String, bool), Trouble<'b>> {
         let OpenSteps::Plan(name, plan) = self else {
-            return Ok(String::new(rt.alloc()));
+            return Ok((String::new(rt.alloc()), false));
         };
-        let runs = runs_of_plan(rt, program, *name, plan.as_slice())?;
+        let (runs, is_stopped) = runs_of_plan(rt, program, *name, plan.as_slice())?;
         match write_schedule(rt.alloc(), runs.as_slice()) {
-            Ok(text) => Ok(text),
+            Ok(text) => Ok((text, is_stopped)),
             Err(_) => Err(Trouble::Fault(Fault::Memory)),
         }
     }

@@ -1,12 +1,13 @@
 //! What is written of a program's text, of its image, and of the words of a line.
 
-use crate::trouble::{Answer, Trouble};
-use crate::{files, printable};
+use crate::files;
 use byte_ports::{BlockPort, ReadPort, Sink, WritePort};
 use commands::list_rows;
+use diagnostics::sought::words_sought;
+use fault_reports::trouble::{Answer, Trouble};
+use program_ports::printable;
 use refusals::entries::tables;
 use refusals::explain::explain;
-use refusals::sought::words_sought;
 use std::alloc::{AllocError, Global};
 use workbench::asm::asm;
 use workbench::done::{Done, as_asked};

@@ -1,14 +1,14 @@
 //! Traces that are read: compared with their run, and as the schedule that they have.
 
-use crate::help::push_explained;
-use crate::input::Input;
 use crate::progress::ShownSource;
-use crate::trouble::Answer;
-use crate::unlike::{CARRIAGE_RETURN, push_differs, push_no_trace};
-use crate::{files, printable};
+use crate::{files, input};
 use byte_ports::{BlockPort, ReadPort, WritePort};
 use commands::choices::choices;
 use commands::show_comparison;
+use fault_reports::help::push_explained;
+use fault_reports::trouble::Answer;
+use fault_reports::unlike::{CARRIAGE_RETURN, push_differs, push_no_trace};
+use program_ports::printable;
 use trace_compare::Verdict;
 use workbench::compare::{compared, done_by};
 use workbench::done::Done;
@@ -16,13 +16,13 @@ use workbench::ending::{flushed, passed_on};
 use workbench::input::read_all;
 use workbench::program::program_in;
 
-/// Returns the result of a verdict on the trace of this name, whose line was shown if it differs. At a terminal it says which line
-/// differs, or why it is no trace.
-fn ended(rt: &HostRuntime, trace: &str, verdict: Verdict, is_shown: bool) -> Done {
+/// Returns the result of a verdict on the trace of this name for a program's file. At a terminal it says which line differs, unless
+/// both lines were shown, or why it is no trace.
+fn ended(rt: &HostRuntime, program: &str, trace: &str, verdict: Verdict, is_shown: bool) -> Done {
     match verdict {
         Verdict::Same => {}
         Verdict::Differs { line } => push_differs(rt, trace, line, is_shown),
-        Verdict::NotATrace { .. } => push_no_trace(rt, trace),
+        Verdict::NotATrace { .. } => push_no_trace(rt, Some(program), trace),
     }
     done_by(verdict)
 }
@@ -30,18 +30,17 @@ fn ended(rt: &HostRuntime, trace: &str, verdict: Verdict, is_shown: bool) -> Don
 /// Compares a trace with the run of the program in a file, and shows the lines that differ if asked for.
 pub fn compare<'a>(rt: &HostRuntime, file: &'a str, trace: &'a str, is_shown: bool) -> Answer<'a> {
     let program = files::read(rt, file)?;
-    let name = trace;
-    let trace = Input::named(rt, trace)?;
-    let size = trace.size();
-    let mut trace = ShownSource::new(rt, ReadPort::new(trace), size);
+    let read = input::named(rt, trace)?;
+    let size = input::size(&read);
+    let mut input = ShownSource::new(rt, ReadPort::new(read), size);
     let program = read_all(rt.alloc(), &mut ReadPort::new(program))?;
     let image = program_in(rt.alloc(), program.as_slice())?.image;
     let mut output = WritePort::new(printable::output(rt));
     if !is_shown {
-        let verdict = compared(rt.alloc(), image, &mut trace, &mut output);
-        return Ok(ended(rt, name, flushed(verdict, &mut output)?, is_shown));
+        let verdict = compared(rt.alloc(), image, &mut input, &mut output);
+        return Ok(ended(rt, file, trace, flushed(verdict, &mut output)?, is_shown));
     }
-    let judged = show_comparison(rt.alloc(), image, &mut trace, &mut output);
+    let judged = show_comparison(rt.alloc(), image, &mut input, &mut output);
     let judged = flushed(judged, &mut output)?;
     let verdict = judged.verdict();
     if matches!(verdict, Verdict::Differs { .. })
@@ -49,18 +48,18 @@ pub fn compare<'a>(rt: &HostRuntime, file: &'a str, trace: &'a str, is_shown: bo
     {
         push_explained(rt, CARRIAGE_RETURN);
     }
-    Ok(ended(rt, name, verdict, is_shown))
+    Ok(ended(rt, file, trace, verdict, is_shown))
 }
 
 /// Writes the schedule of a trace.
 pub fn write_choices<'a>(rt: &HostRuntime, trace: &'a str) -> Answer<'a> {
-    let mut input = ReadPort::new(Input::named(rt, trace)?);
+    let mut input = ReadPort::new(input::named(rt, trace)?);
     let mut output = BlockPort::new(rt.alloc(), WritePort::new(rt.stdout()))?;
     let answer = choices(rt.alloc(), &mut input, &mut output);
     let (is_trace, _) = passed_on(answer, output)?;
     if is_trace {
         return Ok(Done::AsAsked);
     }
-    push_no_trace(rt, trace);
+    push_no_trace(rt, None, trace);
     Ok(Done::Unlike)
 }

@@ -3,10 +3,10 @@ ghost use Rattle.std.specs.Prelude.{IfOk, map};
 ghost use Rattle.std.specs.String.{string_bytes};
 ghost use Rattle.command_line.specs.Request.{Asks, IsInRange};
 
-use crate::explaining::{LAST_OPTION, words_at};
-use crate::no_command::NoCommand;
 use crate::origin::VERSION;
 use command_line::request::{Request, parse};
+use fault_reports::explaining::{LAST_OPTION, words_at};
+use fault_reports::no_command::NoCommand;
 use std::alloc::AllocError;
 use std::env::{Env, FillError};
 use std::str;

@@ -1,4 +1,4 @@
--- What the calls promise whose commands are not in `workbench`: plans, pictures, schedules of traces.
+-- What the calls promise whose commands are in `commands`: plans, pictures, and schedules of traces.
 use Rattle.std.specs.Prelude.{◌≡◌, ◌≢◌, ◌⊎◌, ◌<◌, ℕ, Bool, true, false, IsTrue, List, [], length, Option, Some, Result, Ok, Err, IfOk, IfErr, OnOk, is_none, codes}
 use Rattle.std.specs.Io.KnownBytes.{Appends}
 use Rattle.commands.specs.Picture.{HaveNoPicture}

@@ -1,4 +1,5 @@
--- What each call promises about its status, its output and the line of its fault: the same as its command for ports in memory.
+-- What the calls promise whose commands are in `workbench`: the status, the output and the line of a fault are those of the
+-- command for ports in memory.
 use Rattle.std.specs.Prelude.{◌≡◌, ℕ, false, List, [], Option, Some, None, Result}
 use Rattle.trace_compare.specs.declared.comparison.Verdict.{Verdict}
 use Rattle.trace_text.specs.declared.run_end.RunEnd.{RunEnd}

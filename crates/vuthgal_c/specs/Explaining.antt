@@ -1,4 +1,4 @@
--- What the call that explains words promises.
+-- What `vuthgal_explain` promises.
 use Rattle.std.specs.Prelude.{◌≡◌, ◌⊎◌, ℕ, Bool, true, false, IsTrue, IfErr, List, [], ◌++◌, Option, Some, Result, Ok, Err}
 use Rattle.std.specs.Borrow.{Bor}
 use Rattle.std.specs.Str.{IsUtf8}

@@ -1,4 +1,4 @@
--- What an exported call writes to its caller's memory.
+-- What a call writes into the two buffers of its caller.
 use Rattle.std.specs.Prelude.{◌≡◌, ◌⊎◌, ℕ, List, [], ◌++◌, length, take, drop, min, codes}
 use Rattle.vuthgal_c.specs.Counting.{most_counted}
 

@@ -24,7 +24,7 @@ fn words_of(alloc: Global, text: &str) -> Result<Vec<&str>, AllocError>
     Ok(words)
 }
 
-/// Writes what the words of a text mean, and returns whether they mean something.
+/// Writes the entry that the words of a text request. Returns whether there is such an entry.
 fn explained<K: Sink>(alloc: Global, text: &[u8], output: &mut K) -> Result<bool, Fault>
     ensures { ExplainsText QUESTIONS.now text.now result (K.written output.old) (K.written output.new) (K.has_failed output.new) }
 {

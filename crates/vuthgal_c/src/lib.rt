@@ -1,8 +1,9 @@
 //! The commands that need no threads, as calls for C and for languages that call C.
 //!
-//! A call takes bytes, and writes to memory of its caller, like `snprintf`: as many bytes as fit, and the count of all bytes.
-//! Each call belongs to a command. Its output, its status and its line are what this command promises for ports in memory.
-//! Nothing is kept between calls. `include/vuthgal.h` declares the calls.
+//! The caller passes the input of a command as bytes, and two buffers in its own memory. As `snprintf` does, a call writes as
+//! many bytes as fit into a buffer, and reports the count of all bytes. Each call belongs to a command. The output, the
+//! status and the line of a fault are those that this command promises for ports in memory. Nothing is kept between calls.
+//! `include/vuthgal.h` declares the calls.
 #![tactic(auto)]
 
 // A sink that counts all bytes, and how its bytes are passed to the caller.

@@ -59,7 +59,7 @@ pub static FINDING: [Entry; 11] = [
         more: "docs/TRACES.md, \"Trace text\"",
     },
     Entry {
-        asked: &[&["none"], &["fault", "_", "none"]],
+        asked: &[&["none"], &["fault", "_", "none"], &["_", "_", "-", "none"]],
         told: "none",
         means: "a choice of a thread that the program doesn't have",
         helps: "threads are numbered from 0, in the order of their .thread lines",
@@ -67,7 +67,11 @@ pub static FINDING: [Entry; 11] = [
         more: "docs/TRACES.md, \"Trace text\"",
     },
     Entry {
-        asked: &[&["limit"], &["fault", "_", "limit"]],
+        asked: &[
+            &["limit"],
+            &["fault", "_", "limit"],
+            &["_", "_", "_", "limit"],
+        ],
         told: "limit",
         means: "the machine has taken as many steps or choices as it can",
         helps: "a shorter schedule",

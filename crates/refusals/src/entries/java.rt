@@ -9,7 +9,6 @@ pub static JAVA: [Entry; 8] = [
             &["synchronized"],
             &["monitor"],
             &["mutex"],
-            &["wait"],
             &["notify"],
             &["notifyAll"],
             &["condition"],

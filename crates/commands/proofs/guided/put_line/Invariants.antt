@@ -1,5 +1,0 @@
-use Rattle.workbench.specs.Debug.{HasNoEnd}
-use Rattle.commands.proofs.guided.put_line.Given as goal
-
-abbrev pub invariant-loop-byte : goal.invariant-loop-byte
-invariant-loop-byte l = HasNoEnd l.line.items

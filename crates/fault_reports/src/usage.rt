@@ -1,0 +1,315 @@
+//! What is written about arguments that ask for nothing: what is wrong, and the usage of the command that was meant.
+
+use clap::Error as WordsError;
+use clap::error::ErrorKind;
+use command_line::commands::{commands, program};
+use std::alloc::AllocError;
+use std::env::{Env, FillError};
+use strsim::osa_distance;
+
+/// How long a word may be that is looked at; no command has a longer name.
+const LONGEST_WORD: usize = 64;
+
+/// Returns whether the next argument is this option's value, also without a command before it.
+fn is_option_with_value(word: &[u8]) -> bool {
+    word == b"--expect".as_slice() || word == b"--explain".as_slice()
+}
+
+/// Returns the first argument that is neither an option nor the value of one, if it is the name of a command.
+fn meant(rt: &HostRuntime) -> Option<&'static str> {
+    let mut room = [0u8; LONGEST_WORD];
+    let mut is_value = false;
+    for number in 1..usize::MAX {
+        let word = match rt.arg(number, &mut room) {
+            Ok(length) => &room[..length],
+            Err(FillError::TooLong) => &[],
+            Err(FillError::NotPresent) => return None,
+        };
+        if !is_value && !word.starts_with(b"-") {
+            return commands()
+                .iter()
+                .map(|command| command.name)
+                .find(|name| name.as_bytes() == word);
+        }
+        is_value = !is_value && is_option_with_value(word);
+    }
+    None
+}
+
+/// Returns the command whose name is nearest to a word, if it is near: less than half of its letters are wrong or in another
+/// order.
+pub fn nearest_command(rt: &HostRuntime, word: &str) -> Result<Option<&'static str>, AllocError> {
+    let mut nearest = None;
+    let mut far = word.len().div_ceil(2).min(3);
+    for command in commands() {
+        let distance = osa_distance(rt.alloc(), command.name, word)?;
+        if distance < far {
+            nearest = Some(command.name);
+            far = distance;
+        }
+    }
+    Ok(nearest)
+}
+
+/// What people call a command otherwise, and the command.
+static OTHER_NAMES: [(&str, &str); 21] = [
+    ("play", "run"),
+    ("trace", "run"),
+    ("exec", "run"),
+    ("execute", "run"),
+    ("replay", "run"),
+    ("simulate", "run"),
+    ("page", "show"),
+    ("html", "show"),
+    ("view", "show"),
+    ("picture", "draw"),
+    ("diagram", "draw"),
+    ("graph", "draw"),
+    ("step", "debug"),
+    ("gdb", "debug"),
+    ("assemble", "asm"),
+    ("compile", "asm"),
+    ("build", "asm"),
+    ("disassemble", "list"),
+    ("diff", "compare"),
+    ("verify", "compare"),
+    ("stress", "live"),
+];
+
+/// The command that people call so.
+pub fn command_called(word: &str) -> Option<&'static str> {
+    OTHER_NAMES
+        .iter()
+        .find(|(name, _)| *name == word)
+        .map(|(_, command)| *command)
+}
+
+/// What plays kept runs again, which is a program of its own.
+const OF_CHECK: &str =
+    "`bin/check` (installed as `vuthgal-check`) plays kept runs and compares them";
+
+/// What is no command, and what does what people ask for by it.
+static NO_COMMANDS: [(&str, &str); 3] = [
+    ("check", OF_CHECK),
+    ("test", OF_CHECK),
+    ("version", "`vuthgal --version` prints the version"),
+];
+
+/// Returns what does what people ask for by a word that is no command.
+pub fn other_program(word: &str) -> Option<&'static str> {
+    NO_COMMANDS
+        .iter()
+        .find(|(name, _)| *name == word)
+        .map(|(_, other)| *other)
+}
+
+/// Whether people call a command so, or what plays kept runs.
+fn is_other_name(word: &str) -> bool {
+    other_program(word).is_some() || command_called(word).is_some()
+}
+
+/// What help says of a command in a line.
+pub fn about(command: &str) -> &'static str {
+    commands()
+        .iter()
+        .find(|listed| listed.name == command)
+        .map_or("", |listed| listed.about)
+}
+
+/// The line of a help that has the usage.
+fn usage_line(help: &str) -> &str {
+    help.lines()
+        .find(|line| line.starts_with("Usage: "))
+        .unwrap_or("")
+}
+
+/// Returns the text of a help, which arguments that ask for help bring as an error. If it is out of memory, there is another
+/// error instead.
+fn text_of(rt: &HostRuntime, help: &WordsError) -> Result<String, AllocError> {
+    if help.kind() == ErrorKind::OutOfMemory {
+        return Err(AllocError);
+    }
+    format!(in rt.alloc(); "{help}")
+}
+
+/// The line of a help before which the last option of a command stands.
+const HELP_OPTION: &str = "\n  -h, --help\n";
+
+/// The option of all commands, which isn't among those of their table.
+const EXPLAIN_OPTION: &str =
+    "\n      --explain <WHEN>\n          Explains what is refused: always, auto (at a terminal) or never\n";
+
+/// Returns the text of a help with this option, if it has a paragraph for each option.
+pub fn help_of(rt: &HostRuntime, help: &WordsError) -> Result<String, AllocError> {
+    let text = format!(in rt.alloc(); "{help}")?;
+    match text.as_str().split_once(HELP_OPTION) {
+        Some((before, behind)) => format!(in rt.alloc();
+            "{before}{EXPLAIN_OPTION}{HELP_OPTION}{behind}"
+        ),
+        None => Ok(text),
+    }
+}
+
+/// Returns why the arguments ask for nothing, the usage of the command that was meant, and where there is more to read.
+pub fn with_usage(rt: &HostRuntime, why: &str) -> Result<String, AllocError> {
+    let words = match meant(rt) {
+        Some(command) => ["vuthgal", command, "--help"],
+        None => ["vuthgal", "--help", "--help"],
+    };
+    let mut program = program(rt.alloc(), "")?;
+    let help = match program.try_get_matches_from_mut(&words) {
+        Ok(_) => String::new(rt.alloc()),
+        Err(help) => text_of(rt, &help)?,
+    };
+    let usage = usage_line(help.as_str());
+    format!(in rt.alloc(); "{why}\n\n{usage}\n\nFor more information, try '--help'.\n")
+}
+
+/// Returns how much of a text says what is wrong, if it doesn't have the usage of the command that was meant: for an option's
+/// value it has the program's usage, and for a missing value none.
+fn length_of_why(text: &str, kind: ErrorKind) -> Option<usize> {
+    match text.find("\n\nUsage: ") {
+        Some(length) if kind == ErrorKind::ValueValidation => Some(length),
+        Some(_) => None,
+        None => text.find("\n\nFor more information"),
+    }
+}
+
+/// The word that an error has in quotes.
+fn quoted_in(why: &str) -> Option<&str> {
+    let (_, behind) = why.split_once('\'')?;
+    let (word, _) = behind.split_once('\'')?;
+    Some(word)
+}
+
+/// How `debug` reads commands of a file.
+pub const COMMANDS_IN_FILE: &str =
+    "`vuthgal debug FILE < COMMANDS` carries out the commands in a file";
+
+/// What to type instead of an option that the command doesn't have, and that another command or program has.
+static OTHER_OPTIONS: [(&str, &str); 24] = [
+    (
+        "--seed",
+        "`run FILE --plan '?7'` plays the order of seed 7, `plan FILE --seeds 1..100` those of 100 seeds; `live` has `--stir SEED`",
+    ),
+    (
+        "--seeds",
+        "`plan FILE --seeds 1..100` counts how the runs of 100 seeds end",
+    ),
+    (
+        "--runs",
+        "`live FILE --runs 100` counts how 100 runs of real threads end, `plan FILE --seeds 1..100` those of 100 seeds",
+    ),
+    (
+        "--stir",
+        "`live FILE --stir SEED` makes threads pause before some of their turns",
+    ),
+    (
+        "--limit",
+        "`live FILE --limit N` plays at most N steps; in a plan `..*50` plays at most 50 choices",
+    ),
+    (
+        "--expect",
+        "`run FILE SCHEDULE --expect STATE` compares the end of a run; `live` and `plan --seeds` have this option too",
+    ),
+    (
+        "--plan-file",
+        "`plan FILE PLAN` reads the plan in the file PLAN; `run`, `show`, `draw` and `debug` have this option",
+    ),
+    (
+        "--rows",
+        "`list FILE --rows` writes each row with its number",
+    ),
+    (
+        "--show",
+        "`compare FILE TRACE --show` writes the two lines that differ",
+    ),
+    (
+        "--names",
+        "`plan FILE PLAN --names` writes the names of the threads",
+    ),
+    (
+        "--at",
+        "`debug FILE --at TRACE` begins after the choices of a trace",
+    ),
+    (
+        "--repeat",
+        "`live FILE --runs 100` counts how 100 runs of real threads end, `plan FILE --seeds 1..100` those of 100 seeds",
+    ),
+    (
+        "--random",
+        "`--plan '?7'` chooses threads at random, with the seed 7",
+    ),
+    (
+        "--steps",
+        "`live FILE --limit N` plays at most N steps; in a plan `..*50` plays at most 50 choices",
+    ),
+    (
+        "--diff",
+        "`compare FILE TRACE --show` writes the two lines that differ",
+    ),
+    ("--batch", COMMANDS_IN_FILE),
+    ("--command", COMMANDS_IN_FILE),
+    (
+        "--expect-file",
+        "`bin/check FOLDER` compares each run NAME with NAME.expect; `--expect STATE` takes one STATE",
+    ),
+    (
+        "--svg",
+        "`show FILE > page.html` writes a page with a timeline",
+    ),
+    (
+        "--html",
+        "`show FILE > page.html` writes a page with a timeline",
+    ),
+    (
+        "--trace",
+        "`choices TRACE | vuthgal draw FILE -` draws the run of a trace; `show` takes `-`, too",
+    ),
+    ("-f", "FILE has no option before it: `vuthgal run FILE`"),
+    (
+        "--verbose",
+        "`--explain always` explains what is refused; `draw` and `show` explain a run",
+    ),
+    (
+        "-v",
+        "`--explain always` explains what is refused; `draw` and `show` explain a run",
+    ),
+];
+
+/// Returns what to type instead of the unknown option of an error, if it is known.
+pub fn other_way(why: &str) -> Option<&'static str> {
+    let option = quoted_in(why)?;
+    OTHER_OPTIONS
+        .iter()
+        .find(|(name, _)| *name == option)
+        .map(|(_, way)| *way)
+}
+
+/// Returns whether what an error says first is enough, because the rest would be misleading.
+fn is_enough_first(why: &str, kind: ErrorKind) -> bool {
+    if kind == ErrorKind::InvalidSubcommand {
+        return quoted_in(why).is_some_and(|word| is_other_name(word));
+    }
+    if kind == ErrorKind::UnknownArgument && other_way(why).is_some() {
+        return true;
+    }
+    why.starts_with("error: unexpected argument '-") && why.find("tip: to pass ").is_some()
+        || why.starts_with("error: unexpected argument '-o")
+        || why.starts_with("error: unexpected argument '--plan'")
+        || why.starts_with("error: unexpected argument '--schedule'")
+}
+
+/// Returns what is written about an error of the arguments. A file in the place of a command is like no command, and
+/// of several commands that are like a word one is near.
+pub fn told(rt: &HostRuntime, error: &WordsError, is_file: bool) -> Result<String, AllocError> {
+    let text = format!(in rt.alloc(); "{error}")?;
+    let why = text.as_str();
+    if is_file || why.find("tip: some similar").is_some() || is_enough_first(why, error.kind()) {
+        return with_usage(rt, why.lines().next().unwrap_or(""));
+    }
+    match length_of_why(why, error.kind()) {
+        Some(length) => with_usage(rt, why.get(..length).unwrap_or("")),
+        None => Ok(text),
+    }
+}

@@ -1,0 +1,78 @@
+//! What a terminal shows: no byte of an input that would control the terminal is written to it.
+
+ghost use Rattle.std.specs.Io.{WritesAtMost};
+ghost use Rattle.std.specs.Io.KnownBytes.{WriteAppends};
+ghost use Rattle.std.specs.Prelude.{None, if◌then◌else◌};
+
+use std::io::{IsTerminal, Stderr, Stdout, Write};
+use std::os::unix::fs::FileTypeExt;
+use std::{fs, io};
+
+/// How many bytes are written to a terminal at a time.
+const PIECE: usize = 512;
+
+/// A writer for any bytes. If it is a terminal, a byte that isn't printable ASCII is shown as `?`, and a tab as a blank; LF
+/// stays. To a file or a pipe all bytes are written as they are.
+#[derive(Drop)]
+pub struct Printable<W> {
+    writer: W,
+    is_terminal: bool,
+}
+
+/// Standard output.
+pub fn output(rt: &HostRuntime) -> Printable<Stdout> {
+    Printable {
+        writer: rt.stdout(),
+        is_terminal: rt.stdout().is_terminal(),
+    }
+}
+
+/// Standard error.
+pub fn errors(rt: &HostRuntime) -> Printable<Stderr> {
+    Printable {
+        writer: rt.stderr(),
+        is_terminal: rt.stderr().is_terminal(),
+    }
+}
+
+/// Returns whether standard output is a pipe, so that another program shows or uses what is written.
+pub fn writes_to_pipe(rt: &HostRuntime) -> bool {
+    match fs::metadata(rt, "/dev/stdout") {
+        Ok(metadata) => metadata.file_type().is_fifo(),
+        Err(_) => false,
+    }
+}
+
+/// The byte that a terminal is shown in place of one.
+fn shown(byte: u8) -> u8 {
+    match byte {
+        b'\n' | b' '..=b'~' => byte,
+        b'\t' => b' ',
+        _ => b'?',
+    }
+}
+
+impl<W: Write> Write for Printable<W> {
+    // What a terminal shows is unknown.
+    ghost contents = { λ w. if w.is_terminal then None else W.contents w.writer };
+
+    fn write(&mut self, bytes: &[u8]) -> io::Result<usize>
+        ensures bound { WritesAtMost result bytes.now }
+        ensures bytes { WriteAppends (if self.old.is_terminal then None else W.contents self.old.writer)
+            (if self.new.is_terminal then None else W.contents self.new.writer) result bytes.now }
+    {
+        if !self.is_terminal {
+            return self.writer.write(bytes);
+        }
+        let mut piece = [b'?'; PIECE];
+        let count = bytes.len().min(PIECE);
+        for (at, byte) in bytes[..count].iter().enumerate() {
+            piece[at] = shown(*byte);
+        }
+        self.writer.write(&piece[..count])
+    }
+
+    fn flush(&mut self) -> io::Result<()> {
+        self.writer.flush()
+    }
+}

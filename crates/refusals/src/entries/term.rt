@@ -1,0 +1,83 @@
+use crate::entry::Entry;
+
+/// What the program reads and writes.
+pub static TERM: [Entry; 8] = [
+    Entry {
+        asked: &[&["trace"], &["traces"], &["event"], &["events"]],
+        told: "trace",
+        means: "what a run writes: a line for each choice, as `2 t1 0 = 1 +p0 1`, then the state",
+        helps: "STEP, the thread, its row, what the choice did, and perhaps a mark: `explain idle`",
+        example: "printf '.thread t #0\\nhalt\\n.run\\nt0\\n' | vuthgal",
+        more: "docs/TRACES.md, \"Trace text\"",
+    },
+    Entry {
+        asked: &[
+            &["state"],
+            &["regs"],
+            &["registers"],
+            &["_", "_", "_", "_", "regs", ".."],
+        ],
+        told: "state",
+        means: "the end of a trace: a line for each thread, phaser, barrier and cell",
+        helps: "a thread's line has its row, whether it runs, r0 to r7, its stack and what it put out",
+        example: "printf '.thread t #0\\nhalt\\n' | vuthgal",
+        more: "docs/TRACES.md, \"Trace text\"",
+    },
+    Entry {
+        asked: &[
+            &["schedule"],
+            &["schedules"],
+            &["choice"],
+            &["choices"],
+            &["turn"],
+            &["turns"],
+        ],
+        told: "schedule",
+        means: "which thread takes each turn: `t0 t1*3 x2`; x2 is the end of thread 2's time",
+        helps: "in a file of its own, or after a line `.run` below the program text",
+        example: "printf '.thread t #0\\nhalt\\n.run\\nt0\\n' | vuthgal",
+        more: "docs/TRACES.md, \"Schedule text\"",
+    },
+    Entry {
+        asked: &[&["plan"], &["plans"]],
+        told: "plan",
+        means: "a schedule in short: `ann.` plays ann until it waits, `..` all threads in turn",
+        helps: "`vuthgal run FILE --plan 'ann. bob*3 ..'`, or `--plan-file PLAN`",
+        example: "printf '.thread t #0\\nhalt\\n' > a.txt; vuthgal run a.txt --plan '..'",
+        more: "docs/TRACES.md, \"Plan text\"",
+    },
+    Entry {
+        asked: &[&["seed"], &["seeds"], &["random"], &["shuffle"]],
+        told: "seed",
+        means: "a number that stands for an order of turns: the same number, the same order",
+        helps: "`vuthgal plan FILE --seeds 1..1000` counts how the runs of 1000 seeds end",
+        example: "printf '.thread t #0\\nhalt\\n' > a.txt; vuthgal run a.txt --plan '?7'",
+        more: "docs/TESTING.md, \"Look for an order that goes wrong\"",
+    },
+    Entry {
+        asked: &[&["stray"], &["strays"]],
+        told: "stray",
+        means: "an arrival by a thread that isn't registered: it takes the place of another",
+        helps: "`preg r0 p` registers a party before it arrives",
+        example: "printf '.phaser p 2\\n.thread a #0\\n.thread b #0\\n.thread c #2\\npaaa r0 p\\nhalt\\nparr r0 p\\nhalt\\n.run\\nt0 t2 t0 t1\\n' | vuthgal",
+        more: "docs/BEHAVIOUR.md, \"Arriving\"",
+    },
+    Entry {
+        asked: &[&["image"], &["images"], &["binary"]],
+        told: "image",
+        means: "a program in bytes: `vuthgal asm SRC OUT` writes it, and each FILE can be one",
+        helps: "`vuthgal list FILE` writes the program text of an image",
+        example: "printf '.thread t #0\\nhalt\\n' > a.txt; vuthgal asm a.txt a.img",
+        more: "docs/FORMATS.md, \"Images\"",
+    },
+    Entry {
+        asked: &[&["rows"], &["row"], &["instructions"], &["instruction"]],
+        told: "rows",
+        means: "a row is an instruction of a program; rows are numbered from 0",
+        helps: "`vuthgal explain ROW`: halt ldi mov add sub jmp beq bne blt call ret try endtry throw out lds sts self intr intrd \
+            preg pbulk parr pdereg paaa pawait pawaiti pawaitt pforce pphase pparties parrived punarr pterm pparent proot \
+            cawait cawaitt creset cbroken cwaiting cparties",
+        example: "printf '.thread t #0\\nhalt\\n' > a.txt; vuthgal list --rows a.txt",
+        more: "docs/LANGUAGE.md, \"Instruction table\"",
+    },
+];
