@@ -59,7 +59,7 @@ def head_of(crate):
 
 
 def purpose(crate):
-    return head_of(crate) + "\nHow to read this page: [promises](../PROMISES.md), [definitions](../DEFINITIONS.md).\n"
+    return head_of(crate) + "\n[Promises](../PROMISES.md) and [definitions](../DEFINITIONS.md) say how to read this page.\n"
 
 
 def first_sentence_of(text):
@@ -82,7 +82,7 @@ def example(text):
     found = re.search(rf"(?m)((?:^///.*\n)*)^{PUBLIC}fn {name}\b[\s\S]*?^}}\n", source)
     if not found:
         sys.exit(f"{file} has no function {name}, which is the example of a page")
-    return f"This function is proved, in [{file}](../../{file}):\n\n```rust\n{found.group()}```\n"
+    return f"This proved function is in [{file}](../../{file}):\n\n```rust\n{found.group()}```\n"
 
 
 # -- definitions and laws
@@ -119,12 +119,13 @@ def definitions(crate, its, all_believed):
         if handed:
             abstract.append(f"{', '.join(handed)} ({file})")
         if rest:
-            others.append(f"{len(rest)} in {file}")
+            others.append(f"{len(rest)} of {file}")
     types = [f"`{key[2]}`" for key, it in its.items() if key[1] == "declared" and key in all_believed]
     if types:
         text += item("Types of the code that appear in these definitions and in the contracts: " + ", ".join(types))
-    text += item("*Abstract* words (one call ensures them, and another requires them): " + "; ".join(abstract)) if abstract else ""
-    return text + (item("*You need not believe* the following definitions, because no public contract names them: " + "; ".join(others)) if others else "")
+    text += item("*Abstract* words, which one call ensures and another requires: " + "; ".join(abstract)) if abstract else ""
+    text += item("The definitions that aren't listed here appear in no public contract, so *you need not believe* them: " + ", ".join(others)) if others else ""
+    return text
 
 
 def laws(crate):
@@ -186,8 +187,8 @@ def edits_of(crate):
             where.append(f"{name}{in_brackets(clauses)} in `{file}`" if name else f"`{file}`")
         text += item(f"{words[0].upper()}{words[1:]}: {'; '.join(where)}")
     return (
-        "A must-fail edit changes a function so that it does something wrong. The contract of this function has to refuse the\n"
-        f"changed function. Each edit is named by what would be wrong:\n\n{text}"
+        "A must-fail edit changes a function so that it does something wrong. The contracts have to refuse the changed function.\n"
+        f"Each item says first what would be wrong. Then it names the function that is changed, with its clauses in brackets:\n\n{text}"
     ) if text else ""
 
 

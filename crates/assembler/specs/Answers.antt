@@ -1,4 +1,4 @@
--- The result of a call, compared with what the definitions read. Any call may be out of memory instead.
+-- How the result of a call is compared with the result of the definitions. Any call may be out of memory instead.
 use Rattle.std.specs.Prelude.{ℕ, Bool, true, false, Result, Ok, Err}
 use Rattle.row_code.specs.Answers.{Answers, FailsUnless}
 use Rattle.line_reader.specs.declared.asm_fault.AsmFault.{AsmFault}

@@ -1,4 +1,4 @@
--- The first fault of a text, or else its image: first every line is read, and then every name is looked up.
+-- The image of a text, or the first fault of the text. First every line is read, and then every name is looked up.
 use Rattle.std.specs.Prelude.{ℕ, ◌+◌, not, List, [], ◌∷◌, ◌++◌, find, Option, Some, None, Result, Ok, Err}
 use Rattle.row_code.specs.declared.image.Image.{Image}
 use Rattle.line_reader.specs.declared.asm_fault.AsmFault.{AsmFault}

@@ -1,5 +1,5 @@
--- How a line is read after the lines before it, and which fault it has: the checks are made in the order in which they are
--- written here, and the first one that fails gives the fault.
+-- How a line is read if the lines before it are known, and which fault it has. The checks are made in the order in which
+-- they are written here. The first check that fails gives the fault.
 use Rattle.std.specs.Prelude.{ℕ, not, if◌then◌else◌, List, [], ◌∷◌, Option, Some, None, Result, Ok, Err}
 use Rattle.line_reader.specs.declared.asm_fault.AsmFaultKind.{AsmFaultKind}
 use Rattle.line_reader.specs.declared.asm_fault.AsmFaultKind.TheVariants as fault

@@ -1,4 +1,4 @@
--- What statements give to the lines after them: names, and objects of each kind.
+-- What each statement declares for the lines after it: names, and objects of each kind.
 use Rattle.std.specs.Prelude.{◌≡◌, ℕ, ◌+◌, nat_lt, ◌||◌, not, if◌then◌else◌, Bool, true, false, List, [], ◌∷◌, ◌++◌, bytes_eq, Option, Some, None, option_map}
 use Rattle.std.specs.List.{list_any}
 use Rattle.instruction_table.specs.declared.shape.OperandKind.{OperandKind}

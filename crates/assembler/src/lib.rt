@@ -1,8 +1,9 @@
 //! The assembler: from a program's text to its image, and back.
 //!
-//! `assemble` returns the image that a text represents, or the first fault of the text, with its line. The relation `StandsFor`
-//! says which image a text represents. It doesn't depend on how a text is read. `disassemble` writes the canonical text of an
-//! image. This text represents no other image. No choice of names makes `assemble` slow (`name_hash` says why).
+//! `assemble` returns the image that a text represents, or the first fault of the text, with its line. The relation
+//! `StandsFor` says which image a text represents, and doesn't depend on how a text is read. `disassemble` writes the
+//! canonical text of an image. This text represents no other image. No choice of names makes `assemble` slow (`name_hash`
+//! says why).
 #![tactic(auto)]
 
 // How a line is read after the lines before it.

@@ -1,4 +1,4 @@
--- Which call of a port in memory fails: 0 is the next call. With None no call fails.
+-- The number of the call at which a port in memory fails: 0 is the next call. With None no call fails.
 use Rattle.std.specs.Prelude.{ℕ, ◌-◌, ◌==◌, Bool, false, Option, None, Some}
 
 -- it is the next call

@@ -1,4 +1,4 @@
--- How each port fails, and what a port is that uses a reader or a writer.
+-- How each port fails, and the state of a port around a reader or a writer.
 use Rattle.std.specs.Prelude.{Bool, Result, IsErr, IsTrue, ◌↔◌}
 
 -- a call returns an error exactly if the port has failed, and a port that has failed stays so

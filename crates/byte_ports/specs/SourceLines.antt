@@ -1,4 +1,4 @@
--- The lines of a source as their callers see them.
+-- The lines of a source, as a caller sees them.
 use Rattle.std.specs.Prelude.{◌≡◌, ◌≤◌, ◌+◌, ◌==◌, ℕ, All, Bool, false, List, [], ◌∷◌, ◌++◌, length, Option, Result, Ok, Err}
 use Rattle.std.specs.Io.KnownBytes.{IsAtEnd}
 use Rattle.byte_ports.specs.declared.failed.Failed.{Failed}

@@ -1,8 +1,8 @@
 //! Where bytes come from, and where they go.
 //!
 //! The workbench reads bytes from a `Source` and writes bytes to a `Sink`. It never sees a file or a terminal. Sources and
-//! sinks are called ports, and contracts of other crates can name their bytes. Ports are like Java's streams, but a call
-//! returns `Failed` where Java throws `IOException`. After a port has failed, each later call returns `Failed`, too.
+//! sinks are called ports. The contracts of other crates can name the bytes of a port. Ports are like Java's streams, but a
+//! call returns `Failed` where Java throws `IOException`. After a port has failed, each later call returns `Failed`, too.
 #![tactic(auto)]
 
 // The error.

@@ -1,4 +1,4 @@
--- When a barrier has a past, and that each call does the same to the barrier and to the past.
+-- What it means that a barrier has a past, and that each call changes the barrier and its past in the same way.
 use Rattle.std.specs.Prelude.{◌≡◌, ◌≢◌, ℕ, ◌<◌, ◌≤◌, Bool, Some, None, All, List, [], ◌∷◌, length}
 use Rattle.cyclic_barrier.specs.declared.answer.WaitState.TheVariants as state
 use Rattle.cyclic_barrier.specs.Waits.{wait_at}

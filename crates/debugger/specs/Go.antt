@@ -1,4 +1,4 @@
--- How a session goes on to a breakpoint.
+-- How a session plays choices up to a breakpoint.
 use Rattle.std.specs.Prelude.{◌≡◌, ◌+◌, ◌&&◌, Bool, true, false, List, [], ◌∷◌, ◌++◌, length, slice_index_or, Some, None}
 use Rattle.thread_state.specs.Thread.{ThreadState}
 use Rattle.machine_scene.specs.DataRows.{runs}

@@ -27,8 +27,8 @@ pub fn each_command_leaves_a_history()
         → (now : List Choice) × (Stands before choices order now × IsHistory first now after) }
 {}
 
-/// Some steps and the same number of steps back restore the machine, word for word. The session must be able to keep so many
-/// steps.
+/// After some steps and the same number of steps back, the machine is as before, word for word. The session must be able to
+/// keep this number of steps.
 pub fn steps_and_as_many_back_are_nothing()
     ensures { (before after : Session) (choices : List Choice) → length choices ≤ before.kept
         → length before.past ≤ before.kept → AreSteps before choices after

@@ -1,7 +1,7 @@
 //! A debugger for the machine: single steps, steps back and breakpoints.
 //!
 //! At each moment the debugger's machine is the result of the choices that were played and not taken back, word for word.
-//! `command` carries out one line. It writes exactly the reply that `specs/Reply.antt` defines.
+//! `command` carries out one line of input, and writes exactly the reply that `specs/Reply.antt` defines.
 #![tactic(auto)]
 
 mod command;

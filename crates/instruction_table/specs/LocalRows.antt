@@ -1,4 +1,4 @@
--- What the rows do that use only registers of their own thread.
+-- The rows that use only registers of their own thread, and what they do.
 use Rattle.std.specs.Prelude.{ℕ, ◌+◌, ℤ, pos, ◌+ℤ◌, ◌-ℤ◌, Bool, true, false, not, int_lt, List, Option, Some, None, if◌then◌else◌}
 use Rattle.std.specs.Int.{int_rem_euclid}
 use Rattle.std.specs.Ordering.{int_eq}

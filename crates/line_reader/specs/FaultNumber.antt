@@ -1,4 +1,4 @@
--- The number of each fault of a program's text, as it is reported.
+-- The number with which each fault of a program's text is reported.
 use Rattle.std.specs.Prelude.{ℕ, Option, Some, None}
 use Rattle.line_reader.specs.declared.asm_fault.AsmFaultKind.{AsmFaultKind}
 use Rattle.line_reader.specs.declared.asm_fault.AsmFaultKind.TheVariants as kind

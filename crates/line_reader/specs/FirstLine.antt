@@ -1,4 +1,4 @@
--- A text's first line while it is read. Only proofs use this: no promise depends on it.
+-- The first line of a text that is being read. Only proofs use this: no promise depends on it.
 use Rattle.std.specs.Prelude.{◌≡◌, ℕ, ◌+◌, ◌≤◌, ◌&&◌, not, nat_lt, Bool, List, [], ◌∷◌, length}
 use Rattle.std.specs.List.{after_first, before_first, list_all, position_or_len}
 use Rattle.line_reader.specs.Words.{begins_comment, is_allowed, is_line_end}

@@ -1,4 +1,5 @@
--- A row as it is stored until its names are looked up, and what it says. Only proofs use this: no promise depends on it.
+-- How a row is stored until its names are looked up, and which row of the text this represents. Only proofs use this: no
+-- promise depends on it.
 use Rattle.std.specs.Prelude.{ℕ, ◌&&◌, ◌||◌, not, Bool, true, false, List, Option, Some, None}
 use Rattle.std.specs.List.{slice_get}
 use Rattle.instruction_table.specs.declared.shape.OperandKind.{OperandKind}

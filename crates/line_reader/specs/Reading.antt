@@ -1,5 +1,5 @@
--- How the words of a line are read, and which fault they have: the checks are made in the order in which they are written here,
--- and the first one that fails gives the fault.
+-- How the words of a line are read, and which fault they have. The checks are made in the order in which they are written
+-- here. The first check that fails gives the fault.
 use Rattle.std.specs.Prelude.{ℕ, ◌-◌, ◌==◌, ◌||◌, not, nat_lt, int_lt, if◌then◌else◌, Bool, true, false, ℤ, pos, negsuc, List, [], ◌∷◌, length, take, codes, bytes_eq, find, Option, Some, None, Result, Ok, Err}
 use Rattle.std.specs.List.{list_all, slice_get}
 use Rattle.instruction_table.specs.declared.register.Reg.{Reg}

@@ -1,4 +1,5 @@
--- What a value of the code means in terms of the definitions: a name is the bytes that it borrows, wherever they are.
+-- What each value of the code represents in the definitions. A name represents the bytes that it borrows, wherever they
+-- are.
 use Rattle.std.specs.Prelude.{ℕ, List, Result, Ok, Err, option_map}
 use Rattle.std.specs.Borrow.{Bor}
 use Rattle.line_reader.specs.declared.reference.Reference.{Reference}

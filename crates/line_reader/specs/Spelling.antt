@@ -1,4 +1,4 @@
--- The meaning of the words of a line: nothing, a directive, or a label or a row or both.
+-- What the words of a line mean: nothing, a directive, a label, a row, or a label and a row.
 use Rattle.std.specs.Prelude.{◌≡◌, ◌⊎◌, ℕ, ◌+◌, ◌≤◌, true, ℤ, pos, negsuc, ◌≤ℤ◌, List, [], ◌∷◌, ◌++◌, length, codes, slice_index_or, Option, Some, None}
 use Rattle.std.specs.List.{list_all}
 use Rattle.instruction_table.specs.declared.register.Reg.{Reg}

@@ -1,4 +1,4 @@
--- Names, and the operands of a row that may refer to them.
+-- Names, and the operands of a row, which may be names.
 use Rattle.std.specs.Prelude.{ℕ, List, [], ◌∷◌}
 use Rattle.line_reader.specs.declared.symbolic_row.Operand.{Operand}
 use Rattle.line_reader.specs.declared.symbolic_row.SymbolicRow.{SymbolicRow}

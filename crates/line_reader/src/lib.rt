@@ -1,7 +1,7 @@
 //! What one line of a program's text says: its words and their meaning. An image is also written as such lines.
 //!
-//! Each line is read by itself. The assembler checks which names exist, and what other lines say. `specs/Spelling.antt` is the
-//! grammar. `specs/Reading.antt` says which fault of a line is reported.
+//! Each line is read by itself. The assembler checks what depends on other lines, such as which names exist.
+//! `specs/Spelling.antt` is the grammar. `specs/Reading.antt` says which fault of a line is reported.
 #![tactic(auto)]
 
 // The parts of a line.

@@ -1,4 +1,4 @@
--- The number of each load fault, as it is reported.
+-- The number with which each load fault is reported.
 use Rattle.std.specs.Prelude.{ℕ, Option, Some, None}
 use Rattle.loader.specs.declared.load_fault.LoadFault.{LoadFault}
 use Rattle.loader.specs.declared.load_fault.LoadFault.TheVariants as fault

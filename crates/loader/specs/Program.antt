@@ -1,4 +1,4 @@
--- A loaded program, and what is true of every loaded program: each object that its rows use exists.
+-- A loaded program, and what is true of every loaded program: for example, each object that its rows use exists.
 use Rattle.std.specs.Prelude.{◌≡◌, ℕ, ◌-◌, ◌<◌, ◌≤◌, true, false, List, [], length, map, slice_index_or, All}
 use Rattle.instruction_table.specs.declared.row.Row.{Row}
 use Rattle.instruction_table.specs.declared.row.Row.TheVariants.{Halt}

@@ -1,4 +1,4 @@
--- Rows at barriers.
+-- Rows that use a barrier.
 use Rattle.std.specs.Prelude.{ℕ, pos, ◌==◌, ◌&&◌, not, nat_lt, int_lt, Bool, false, if◌then◌else◌, Option, Some, None}
 use Rattle.instruction_table.specs.declared.row.Row.{Row}
 use Rattle.instruction_table.specs.declared.row.Row.TheVariants.{Cawait, Cawaitt, Creset, Cbroken, Cwaiting, Cparties}

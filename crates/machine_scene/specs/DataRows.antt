@@ -1,4 +1,4 @@
--- Rows on outputs, cells, thread numbers and interrupted statuses.
+-- Rows that use outputs, cells, thread numbers and interrupted statuses.
 use Rattle.std.specs.Prelude.{ℕ, pos, Bool, true, false, ◌&&◌, nat_lt, length, Option, Some, None}
 use Rattle.instruction_table.specs.declared.row.Row.{Row}
 use Rattle.instruction_table.specs.declared.row.Row.TheVariants.{Out, Lds, Sts, SelfNumber, Intr, Intrd}

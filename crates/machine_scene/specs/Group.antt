@@ -1,4 +1,4 @@
--- What a row acts on. This is the only definition of a row's group.
+-- The group of each row: the rows of a group act on the same kind of thing. This is the only definition of a row's group.
 use Rattle.std.specs.Prelude.{ℕ, ◌==◌, ◌||◌, nat_lt, if◌then◌else◌}
 use Rattle.instruction_table.specs.declared.row.Row.{Row}
 use Rattle.instruction_table.specs.Row.{opcode_of}

@@ -1,4 +1,4 @@
--- How an arrival is made.
+-- How each row arrives: whether the party leaves, and whether the thread waits.
 use Rattle.std.specs.Prelude.{false, true}
 use Rattle.instruction_table.specs.declared.row.Row.{Row}
 use Rattle.instruction_table.specs.declared.row.Row.TheVariants.{Parr, Pdereg, Paaa, Cawait, Cawaitt}

@@ -1,4 +1,5 @@
--- What stays true of a machine, so that each object that a row uses exists. Only proofs use this: no promise depends on it.
+-- What stays true of a machine. For example, each object that a row uses exists. Only proofs use this: no promise depends
+-- on it.
 use Rattle.std.specs.Prelude.{◌≡◌, ◌≢◌, ℕ, ◌+◌, ◌<◌, ◌≤◌, ◌==◌, is_some, Option, Some, None, List, [], ◌∷◌, length, All, count_by, Bool, true, false}
 use Rattle.instruction_table.specs.declared.row.Row.{Row}
 use Rattle.instruction_table.specs.declared.row.Row.TheVariants.{Cawait, Cawaitt}

@@ -1,4 +1,4 @@
--- A thread that throws.
+-- The turns of a thread that throws.
 use Rattle.std.specs.Prelude.{ℕ, ℤ, false, Option, Some}
 use Rattle.cyclic_barrier.specs.Barrier.{end_action}
 use Rattle.thread_state.specs.declared.event.Mark.TheVariants as mark

@@ -7,8 +7,8 @@ ghost use Rattle.machine_scene.specs.Sound.{IsSound};
 
 use loader::Loaded;
 
-/// A thread's turn is ready exactly if `is_listed` names its status and its row. Its wait can expire exactly if its turn isn't
-/// ready and `can_run_out` names its status and its row.
+/// A thread's turn is ready exactly if `is_listed` is true for the thread's status and row. A thread's wait can expire
+/// exactly if its turn isn't ready, and `can_run_out` is true for the thread's status and row.
 #[tactic(auto, using(crate::proofs::ReadyThreads::ready_as_listed, crate::proofs::ReadyThreads::expiry_as_listed))]
 pub fn who_is_ready()
     ensures turns { (t : ℕ) (program : Program) (scene : Scene) → is_ready t program scene

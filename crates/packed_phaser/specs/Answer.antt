@@ -1,4 +1,4 @@
--- The results of a word's calls, as results of the calls that `Flat.antt` defines.
+-- The results of `register` and `arrive` on a word, translated to the results in `Flat.antt`.
 use Rattle.packed_phaser.specs.declared.word.Registered.{Registered}
 use Rattle.packed_phaser.specs.declared.word.Registered.TheVariants as registered
 use Rattle.packed_phaser.specs.declared.word.Arrived.{Arrived}

@@ -1,4 +1,4 @@
--- What the numbers of phases mean.
+-- The number of the next phase, and the view of a phase.
 use Rattle.std.specs.Prelude.{ℕ, ℤ, pos, negsuc, ◌-ℤ◌, ◌+◌, ◌==◌, if◌then◌else◌, Bool, true, false}
 
 -- the phase after phase n: 2147483647 is the last number, and 0 follows it

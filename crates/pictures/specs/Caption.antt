@@ -1,4 +1,4 @@
--- Names of what a program declares, and its rows with these names.
+-- The names of what a program declares, and its rows with these names.
 use Rattle.std.specs.Prelude.{ℕ, ℤ, List, [], ◌∷◌, ◌++◌, codes, decimal, Option, Some, None, unsigned_abs}
 use Rattle.std.specs.Fmt.{signed_decimal}
 use Rattle.assembler.specs.Symbols.{SymbolTable, name_of}

@@ -1,5 +1,5 @@
--- The other runs of a page. At each moment of the run some choices could be next. For each of them that isn't the run's own
--- next choice, the page has the run that it leads to.
+-- The other runs of a page: what follows if another choice is made at some moment of the run. At each moment of the run some
+-- choices could be next. For each of them that isn't the run's own next choice, the page has the run that it leads to.
 use Rattle.std.specs.Prelude.{ℕ, ◌+◌, ◌-◌, ◌==◌, ◌&&◌, ◌||◌, nat_le, not, if◌then◌else◌, Bool, false, List, [], ◌∷◌, ◌++◌, Option, Some, None, bytes_eq, codes, decimal, fold, length, min, nat_lt}
 use Rattle.std.specs.List.{after_first, position_or_len, range_with_len}
 use Rattle.plans.specs.Others.{other_choices}

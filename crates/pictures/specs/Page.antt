@@ -1,5 +1,5 @@
--- The page of a run. Between five fixed parts it has the program, its text, the run moment by moment, and what other choices
--- lead to.
+-- The page of a run: its fixed parts, and the texts between them. These are the program, its text, the run moment by moment,
+-- and what other choices lead to.
 use Rattle.std.specs.Prelude.{◌≡◌, ◌≤◌, ℕ, ◌==◌, ◌||◌, not, Bool, false, true, if◌then◌else◌, List, [], ◌∷◌, ◌++◌, length, codes, flat_map, is_none, None}
 use Rattle.line_reader.specs.Listing.{canonical}
 use Rattle.row_code.specs.declared.image.Image.{Image}

@@ -1,5 +1,5 @@
--- The picture of a run. Each block of threads has a line with their names and a line for each choice. Then follows a line for
--- each thread that waits or died. No line is longer than the picture is wide.
+-- The picture of a run as a text, line by line. Each block of threads has a line with their names and a line for each choice.
+-- Then follows a line for each thread that waits or died. No line is longer than the picture is wide.
 use Rattle.std.specs.Prelude.{◌≡◌, ℕ, ℤ, zero, suc, ◌+◌, ◌-◌, ◌*◌, ◌/◌, ◌==◌, ◌&&◌, not, nat_lt, min, Bool, if◌then◌else◌, List, [], ◌∷◌, ◌++◌, length, take, flat_map, codes, decimal, Option, Some, None, slice_get}
 use Rattle.std.specs.Fmt.{signed_decimal}
 use Rattle.assembler.specs.Symbols.{SymbolTable}

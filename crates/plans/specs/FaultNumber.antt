@@ -1,4 +1,4 @@
--- The number of each fault of a plan, as it is reported.
+-- The number with which each fault of a plan is reported.
 use Rattle.std.specs.Prelude.{ℕ, Option, Some, None}
 use Rattle.plans.specs.declared.fault.PlanFaultKind.{PlanFaultKind}
 use Rattle.plans.specs.declared.fault.PlanFaultKind.TheVariants as fault

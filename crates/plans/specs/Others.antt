@@ -1,5 +1,6 @@
--- What follows if another choice than the run's own is made: its thread continues until it waits or ends; then the run's own
--- choices follow, without those that would do nothing; then the threads take turns.
+-- What follows if another choice is made instead of the next choice of a run. The thread of the other choice continues
+-- until it waits or ends. Then the run's own choices follow, without those that would do nothing. Then the threads take
+-- turns.
 use Rattle.std.specs.Prelude.{ℕ, ◌&&◌, nat_lt, if◌then◌else◌, Bool, List, [], ◌∷◌}
 use Rattle.thread_machine.specs.declared.choice.Choice.{Choice}
 use Rattle.thread_machine.specs.Ready.{is_choice_ready}

@@ -1,4 +1,4 @@
--- The words of a whole text, or its first fault.
+-- The words of a plan's whole text, or its first fault.
 use Rattle.std.specs.Prelude.{ℕ, ◌+◌, ◌-◌, ◌==◌, nat_le, if◌then◌else◌, Bool, true, false, List, [], ◌∷◌, ◌++◌, Result, Ok, Err}
 use Rattle.std.specs.List.{slice_split}
 use Rattle.row_code.specs.Answers.{Answers, ◌>>=◌}

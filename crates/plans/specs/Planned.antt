@@ -1,4 +1,4 @@
--- What is returned: the schedule of a plan, and the world after it.
+-- The result of playing a plan: its schedule, and the state of the machine after it.
 use Rattle.std.specs.Prelude.{◌≡◌, All, List}
 use Rattle.loader.specs.Program.{Program}
 use Rattle.thread_machine.specs.World.{World, world_of}

@@ -1,4 +1,4 @@
--- What a plan plays.
+-- Which choices a plan plays.
 use Rattle.std.specs.Prelude.{ℕ, zero, suc, ◌+◌, ◌-◌, Option, Some, None}
 use Rattle.thread_machine.specs.declared.choice.Choice.{Choice}
 use Rattle.plans.specs.declared.word.Chosen.{Chosen}

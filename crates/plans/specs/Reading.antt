@@ -1,4 +1,4 @@
--- What one word of a plan says.
+-- What one word of a plan means.
 use Rattle.std.specs.Prelude.{ℕ, ◌-◌, ◌==◌, ◌||◌, ◌&&◌, not, nat_lt, if◌then◌else◌, Bool, true, false, List, length, take, drop, codes, slice_index, position, bytes_eq, Option, Some, None, Result, Ok, Err}
 use Rattle.std.specs.List.{after_first, before_first, position_or_len}
 use Rattle.row_code.specs.Answers.{◌>>=◌}

@@ -1,4 +1,4 @@
--- Which choice is next, if a plan leaves it open. None of these choices is idle.
+-- Which choice is next if a plan doesn't name it. None of these choices is idle.
 use Rattle.std.specs.Prelude.{ℕ, ◌-◌, ◌%◌, nat_lt, ◌&&◌, if◌then◌else◌, Bool, true, false, List, length, slice_get, Option, Some, None}
 use Rattle.std.specs.List.{filter_map, find, range_with_len}
 use Rattle.rand_pcg.specs.Lcg.{advance, increment_of, started}

@@ -1,4 +1,5 @@
--- Which words of a plan belong together: a plan is steps and groups, and a group is a plan of its own, played so many times.
+-- How the words of a plan belong together: a plan consists of steps and groups. A group is itself a plan, with the number
+-- of times that it is played.
 use Rattle.std.specs.Prelude.{◌≡◌, ℕ, List, [], ◌∷◌, ◌++◌}
 use Rattle.plans.specs.declared.word.Step.{Step}
 use Rattle.plans.specs.declared.word.Word.{Word}

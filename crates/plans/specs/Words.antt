@@ -1,4 +1,4 @@
--- The words of a line of a plan.
+-- How a line of a plan is divided into words.
 use Rattle.std.specs.Prelude.{ℕ, ◌==◌, ◌||◌, ◌&&◌, if◌then◌else◌, Bool, false, List, [], ◌∷◌, ◌++◌}
 use Rattle.std.specs.List.{before_first}
 use Rattle.line_reader.specs.Words.{begins_comment, words_in}

@@ -2,7 +2,7 @@
 //!
 //! `read_plan` returns the words of a plan (`specs/Plan.antt`, `specs/Tree.antt`), or the first fault with its line.
 //! `plan_runs` plays these words on a program. `specs/Play.antt` says what a plan plays. `specs/Rules.antt` says which choice
-//! is next if the plan leaves it open. A plan makes at most 1,000,000 choices.
+//! is next if the plan doesn't name it. A plan makes at most 1,000,000 choices.
 #![tactic(auto)]
 
 // A plan's text.

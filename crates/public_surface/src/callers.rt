@@ -65,7 +65,7 @@ pub fn waiting<R: Wait>(
     phaser.arrive_and_await_advance(rt, party)
 }
 
-/// A phaser from its first word to its last.
+/// Makes a phaser, calls it with two callers, and returns its last word.
 pub fn closed<R: Wait>(
     rt: &R,
     alloc: Global,

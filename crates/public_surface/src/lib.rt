@@ -1,7 +1,8 @@
-//! The public calls, each made once by its name, with its arguments in order and the type of its result written out.
+//! Calls each public function once, so that a change of a public name is noticed.
 //!
-//! A crate that uses the public names can rely on them: the compiler checks them here. This crate is refused if a name, an
-//! argument, a result, a variant, a field, or what a call requires changes. Nothing here runs.
+//! Each call has its arguments in order, and the type of its result is written out. The compiler checks this. It refuses this
+//! crate if a name, an argument, a result, a variant or a field changes. It also refuses the crate if a call requires more
+//! than before. So other crates can rely on the public names. Nothing here runs.
 #![tactic(auto)]
 
 // Bytes, phases and barriers.

@@ -51,7 +51,7 @@ pub fn recorded(alloc: Global, program: Loaded, limit: u32, thread: u8) -> Resul
     Ok(journaled.schedule().len())
 }
 
-/// A live run, through a gate of its own and through none.
+/// Plays two programs on real threads: the first with the gate `Open`, the second without a gate.
 pub fn live<R: Threads + Wait + Sync>(
     rt: &R,
     alloc: Global,

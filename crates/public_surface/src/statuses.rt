@@ -21,7 +21,7 @@ pub fn of_one<F: Source, K: Sink, E: Sink>(
     ]
 }
 
-/// The commands of two inputs.
+/// Calls the commands that have two inputs, and returns their exit statuses.
 pub fn of_two<F: Source, S: Source, K: Sink, E: Sink>(
     alloc: Global,
     file: &mut F,

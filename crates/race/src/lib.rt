@@ -1,4 +1,7 @@
-//! Real threads that meet at one shared phaser, and the line that is written about them.
+//! Lets real threads meet at one shared phaser, and writes a line about this phaser.
+//!
+//! A thread meets the others when it calls `arriveAndAwaitAdvance`. In a race each thread does this the same number of times.
+//! `race` returns the word that the phaser has after the last meeting. `write_race` writes this word as a line.
 #![tactic(auto)]
 
 mod command;

@@ -1,4 +1,4 @@
-//! A race for a stopwatch: `race_benchmark PARTIES ROUNDS`. The defaults are 2 and 1000.
+//! Runs a race, so that you can measure its time: `race_benchmark PARTIES ROUNDS`. The defaults are 2 and 1000.
 #![tactic(auto)]
 
 use byte_ports::WritePort;

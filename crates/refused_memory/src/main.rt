@@ -1,6 +1,7 @@
-//! Makes calls in which each request for memory is refused in turn, and writes the results. A library that is loaded before the
-//! C library refuses the requests (`tests/memory/refuse.c`). Without this library, the program reports for each call that
-//! nothing was refused.
+//! Tests what calls do if memory is refused, and writes the results.
+//!
+//! In each call the requests for memory are refused one after the other. A library refuses them. It is loaded before the C
+//! library (`tests/memory/refuse.c`). Without this library, the program reports for each call that nothing was refused.
 #![tactic(auto)]
 
 // What is refused, the one trial that all calls have, and what trials are made of.

@@ -1,4 +1,4 @@
--- The result of a call, compared with what a definition reads. Any call may be out of memory instead.
+-- How the result of a call is compared with the result of a definition. Any call may be out of memory instead.
 use Rattle.std.specs.Prelude.{◌≡◌, Bool, true, false, Result, Ok, Err}
 
 -- what is read or checked next, if nothing failed before

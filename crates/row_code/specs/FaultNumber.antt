@@ -1,4 +1,4 @@
--- The number of each fault of an image, as it is reported.
+-- The number with which each fault of an image is reported.
 use Rattle.std.specs.Prelude.{ℕ, Option, Some, None}
 use Rattle.row_code.specs.declared.image_fault.ImageFault.{ImageFault}
 use Rattle.row_code.specs.declared.image_fault.ImageFault.TheVariants as fault

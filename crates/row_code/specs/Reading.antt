@@ -1,4 +1,4 @@
--- The image that bytes encode, or else the first fault in the order of the checks.
+-- The image that bytes encode, or the first fault in the order of the checks.
 use Rattle.std.specs.Prelude.{ℕ, zero, suc, ◌+◌, ◌*◌, ◌==◌, ◌||◌, ◌&&◌, not, nat_lt, ℤ, pos, negsuc, Bool, true, false, List, [], ◌∷◌, length, take, drop, slice_index, bytes_eq, Option, Some, None, Result, Ok, Err, if◌then◌else◌}
 use Rattle.instruction_table.specs.declared.row.Row.{Row}
 use Rattle.instruction_table.specs.Row.{is_timed_row}

@@ -1,4 +1,4 @@
--- Which field of a row's bytes has which operand, and which rows are valid.
+-- Which operand each field of a row's bytes has, and which rows are valid.
 use Rattle.std.specs.Prelude.{ℕ, ℤ, pos, ◌<ℤ◌, FitsSigned}
 use Rattle.std.specs.Int.{w32}
 use Rattle.instruction_table.specs.declared.row.Row.{Row}

@@ -1,6 +1,6 @@
--- Which row has a given opcode and given operands: this gives a program's text its meaning. It is also how the row of eight
--- bytes is found: the only row that they could encode is made, and then compared. The meaning of a row's bytes doesn't depend
--- on it: `decode` returns exactly the row with these bytes.
+-- The row that has a given opcode and given operands. This gives a program's text its meaning. It is also how the row of
+-- eight bytes is found: the only row that they could encode is made, and then compared. The meaning of a row's bytes
+-- doesn't depend on it: `decode` returns exactly the row with these bytes.
 use Rattle.std.specs.Prelude.{ℕ, nat_lt, ℤ, pos, negsuc, List, [], ◌∷◌, slice_index, slice_index_or, bytes_eq, Option, Some, None, if◌then◌else◌}
 use Rattle.instruction_table.specs.declared.register.Reg.{Reg}
 use Rattle.instruction_table.specs.declared.register.Reg.TheVariants.{R0, R1, R2, R3, R4, R5, R6, R7}

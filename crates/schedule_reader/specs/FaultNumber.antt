@@ -1,4 +1,4 @@
--- The number of each fault of a schedule, as it is reported.
+-- The number with which each fault of a schedule is reported.
 use Rattle.std.specs.Prelude.{ℕ, Option, Some, None}
 use Rattle.schedule_reader.specs.declared.fault.ScheduleFault.{ScheduleFault}
 use Rattle.schedule_reader.specs.declared.fault.ScheduleFault.TheVariants as fault

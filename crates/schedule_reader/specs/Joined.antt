@@ -1,4 +1,5 @@
--- Joined lists of runs: if two neighbours have the same choice, the first one has the largest count of a token.
+-- When a list of runs is joined: if two neighbours have the same choice, the first one has the largest count that a token
+-- can have.
 use Rattle.std.specs.Prelude.{◌≡◌, List, [], ◌∷◌}
 use Rattle.schedule_reader.specs.declared.run.Run.{Run}
 

@@ -1,9 +1,10 @@
 //! Schedules: texts that say whose turn it is.
 //!
 //! A schedule is a list of tokens. The token `t3` is a turn of thread 3, `x3` is the expiry of its timed wait, and `t3*20` is
-//! twenty turns. Each token is read as a run: a choice, and how often it is made. A `Reader` reads a text that comes in pieces
-//! of any size, and `read_schedule` reads a whole text (`specs/Schedule.antt`). `write_schedule` returns the text of a list of
-//! runs. `push_choice` appends one choice to a text, while choices are being made (`specs/Record.antt`).
+//! twenty turns. Each token is read as a run: a choice, and how often it is made. A `Reader` reads a text that comes in
+//! pieces of any size, and `read_schedule` reads a whole text (`specs/Schedule.antt`). `write_schedule` returns the text of a
+//! list of runs. `push_choice` appends one choice to a text, for a caller that records choices while they are made
+//! (`specs/Record.antt`).
 #![tactic(auto)]
 
 mod fault;

@@ -1,4 +1,4 @@
--- What a call leaves that lost all its tries.
+-- What a caller has seen after a call that lost each of its tries.
 use Rattle.std.specs.Prelude.{◌≡◌, ℕ}
 use Rattle.packed_phaser.specs.Word.{record_of}
 use Rattle.shared_phaser.specs.declared.calls.Raced.{Raced}

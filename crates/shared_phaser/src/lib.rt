@@ -1,8 +1,9 @@
 //! One `java.util.concurrent.Phaser` without tiers, shared by the threads of a process.
 //!
-//! The phaser is one packed word. Each call exchanges this word at most once. Each thread passes its own token, a `Party`, to
-//! its calls. Even if the threads call at the same time, there is one legal history of all their calls (`specs/History.antt`).
-//! The `.._within` calls never wait. The calls that take `Wait` try again until they have a result.
+//! The state of the phaser is one packed word. A call replaces this word at most once, in one atomic step. Each thread has a
+//! token of its own, a `Party`, and passes it to its calls. Even if the threads call at the same time, all their calls are in
+//! one legal history (`specs/History.antt`). The `.._within` calls never wait. The calls that take `Wait` try again until
+//! they have a result.
 #![tactic(auto)]
 
 mod attempt;

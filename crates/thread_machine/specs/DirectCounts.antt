@@ -1,5 +1,5 @@
--- Counts that no row shows: how many parties are registered directly with each phaser, and how many of these are still to
--- arrive, after each choice. They say which end of a phase is early.
+-- Counts that no row returns: how many parties, after each choice, are registered directly with each phaser, and how many
+-- of these are still to arrive. They say which end of a phase is early.
 use Rattle.std.specs.Prelude.{◌≡◌, ◌≤◌, ℕ, ℤ, pos, nat_abs, int_lt, ◌==◌, ◌&&◌, ◌||◌, not, Bool, true, false, if◌then◌else◌, List, [], ◌∷◌, Option, Some, None}
 use Rattle.instruction_table.specs.declared.row.Row.{Row}
 use Rattle.instruction_table.specs.declared.row.Row.TheVariants.{Preg, Pbulk, Parr, Pdereg, Paaa}

@@ -14,14 +14,14 @@ ghost use Rattle.thread_machine.specs.Limit.{under_limit, with_limit};
 
 use loader::Loaded;
 
-/// If one more choice is played after some choices, their execution is extended by this choice. So somebody who plays choice by
-/// choice has, at each moment, the execution of the choices so far.
+/// Some choices are played, and then one more. The execution of all of them is the execution of the first ones, extended by
+/// the last one. So a caller that plays choice by choice has, at each moment, the execution of all choices so far.
 pub fn one_more_choice_extends_the_execution()
     ensures { (world : World) (choices : List Choice) (choice : Choice)
         → execution world (choices ++ choice ∷ []) ≡ extended (execution world choices) choice }
 {}
 
-/// If all choices are accepted, a higher limit of steps changes nothing: the events are the same, and the last world differs
+/// If all choices are accepted, a higher limit of steps changes nothing. The events are the same, and the last world differs
 /// only in its limit.
 pub fn a_higher_limit_changes_nothing_that_was_accepted()
     ensures { (limit : ℕ) (world : World) (choices : List Choice) → world.limit ≤ limit
@@ -29,9 +29,10 @@ pub fn a_higher_limit_changes_nothing_that_was_accepted()
         → execution (with_limit limit world) choices ≡ under_limit limit (execution world choices) }
 {}
 
-/// No phase of a loaded program ends early, whatever was chosen before. If an accepted choice ends a phase, every party that
-/// registered directly with a phaser of the tree has arrived or left. The only exception is a tree in which somebody arrived
-/// who wasn't registered directly. A termination by force ends no phase, so it needs no exception.
+/// No phase of a loaded program ends early, whichever choices were made before. If an accepted choice ends a phase, every
+/// party that registered directly with a phaser of the tree has arrived or left. The only exception is a tree in which a
+/// party arrived earlier when no directly registered party was left to arrive. A termination by force ends no phase, so it
+/// needs no exception.
 pub fn no_phase_ends_early(program: &Loaded)
     ensures declared { (image : Image) → IsProgramOf image program.now
         → NoPhaseEndsEarly program.now (declared_origin image.phasers) }

@@ -1,5 +1,5 @@
--- Which choice a thread may make by itself: its turn if it is ready. If no thread is ready, the timed wait of the lowest thread
--- that can expire does so.
+-- Which choice a thread may make by itself: its turn if it is ready, or the expiry of its wait if this wait is due. A wait is
+-- due if no thread is ready, and no thread with a lower number has a wait that can expire.
 use Rattle.std.specs.Prelude.{◌≡◌, ℕ, Bool, true, false, not, ◌&&◌, ◌||◌, List, [], ◌∷◌, length}
 use Rattle.std.specs.List.{list_any, range_with_len}
 use Rattle.machine_scene.specs.Outcomes.{is_ready}

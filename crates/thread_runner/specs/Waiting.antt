@@ -1,4 +1,4 @@
--- What the worker of a thread does when it has the lock.
+-- When the worker of a thread waits, and when it stops.
 use Rattle.std.specs.Prelude.{ℕ, Bool, not, ◌&&◌, ◌||◌, Option, is_some}
 use Rattle.thread_state.specs.Thread.{is_finished}
 use Rattle.machine_scene.specs.Scene.{thread_at}

@@ -14,7 +14,7 @@ pub fn a_run_goes_on_or_is_over()
         → (t : ℕ) × (t < length world.scene.threads) × (may_choose world t ≡ true) }
 {}
 
-/// In each world at least one worker doesn't wait.
+/// In each state of a run, at least one worker doesn't wait.
 pub fn some_worker_does_not_wait()
     ensures { (broken : Option Break) (world : World) → 0 < length world.scene.threads
         → ((t : ℕ) → t < length world.scene.threads → waits broken world t ≡ true) → ⊥ }

@@ -1,8 +1,9 @@
-//! Real threads that play a loaded program under one lock, and the record of what they did.
+//! Plays a loaded program with real threads, and records the choices that they make.
 //!
-//! The lock protects a `Journaled`: a machine, and the text of the choices that led to it. The text of a choice is written when
-//! the choice is played. `run_live` has a worker for each thread of the program. It returns this text as the schedule, the
-//! machine, and how the run ended.
+//! Each thread of the program has a worker, which is a real thread. The workers share one lock. It protects a `Journaled`: a
+//! machine, and the text of the choices that led to it. When a worker plays a choice, it adds this choice to the text, under
+//! the same lock. `run_live` starts the workers. It returns the text as the schedule of the run, the machine, and how the run
+//! ended.
 #![tactic(auto)]
 
 mod ending;

@@ -1,4 +1,4 @@
--- What a result says to the caller, and what a call leaves unchanged.
+-- What a result means for the caller, and what a call leaves unchanged.
 use Rattle.std.specs.Prelude.{◌≡◌, ℕ, ◌<◌, true, false, List, length}
 use Rattle.tier_tree.specs.declared.id.PhaserId.{PhaserId}
 use Rattle.tier_tree.specs.declared.registered.Registered.{Registered}

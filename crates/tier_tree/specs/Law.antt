@@ -1,4 +1,4 @@
--- What nobody can do while a phase is about to end.
+-- While the phase of a tree is about to end, nobody can register or arrive.
 use Rattle.std.specs.Prelude.{◌≡◌, ◌⊎◌, ℕ, ◌<◌, Bool, true, false, List, length}
 use Rattle.tier_tree.specs.declared.registered.Registered.TheVariants as registered
 use Rattle.tier_tree.specs.declared.arrived.Arrived.TheVariants as arrived

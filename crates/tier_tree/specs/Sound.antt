@@ -1,4 +1,4 @@
--- What stays true of a forest.
+-- What no call changes of a phaser, and what is true of every forest.
 use Rattle.std.specs.Prelude.{◌≡◌, ℕ, ◌-◌, ◌<◌, ◌≤◌, ◌⊎◌, List, [], ◌∷◌, length, map, slice_index_or, All}
 use Rattle.packed_phaser.specs.declared.policy.Policy.{Policy}
 use Rattle.tier_tree.specs.Forest.{PhaserState, no_phaser}

@@ -1,4 +1,4 @@
--- A forest as it is stored: the word of a child may be that of an earlier phase.
+-- How a forest is stored: the word of a child may be that of an earlier phase.
 use Rattle.std.specs.Prelude.{◌≡◌, ◌≢◌, ℕ, ◌+◌, ◌-◌, ◌<◌, ◌≤◌, ◌==◌, nat_le, false, if◌then◌else◌, List, [], length, map, slice_index_or, All}
 use Rattle.packed_phaser.specs.declared.policy.Policy.{Policy}
 use Rattle.packed_phaser.specs.declared.policy.Policy.TheVariants as policy

@@ -1,4 +1,4 @@
--- What is saved of a forest before a call, and how this undoes the call.
+-- Which words are saved before a call, and how they undo the call.
 use Rattle.std.specs.Prelude.{◌≡◌, ℕ, List, [], ◌∷◌, map, slice_set}
 use Rattle.tier_tree.specs.declared.saved.KeptWord.{KeptWord}
 use Rattle.tier_tree.specs.Stored.{Stored, IsStored, ChangedAt, stored_at}

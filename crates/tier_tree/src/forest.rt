@@ -184,9 +184,9 @@ impl Forest {
 
 /// Laws: what is true of every forest. Nothing runs.
 impl Forest {
-    /// A forest has at most 64 phasers, and the line of each leads up to a root. The word of a phaser is behind the phase of
-    /// its root by at most as many phases as have ended in this tree. No phaser is terminated before its root. The lemmas of
-    /// other crates require these facts.
+    /// A forest has at most 64 phasers, and the line of each phaser leads up to a root. The word of a phaser may have an
+    /// older phase than the root. It is older by at most as many phases as have ended in this tree. No phaser is terminated
+    /// before its root. The lemmas of other crates require these facts.
     pub fn is_forest(&self)
         ensures { IsStored self.now }
     {
@@ -201,8 +201,8 @@ impl Forest {
         let _ = &self.nodes;
     }
 
-    /// An arrival is stray if it is by somebody who isn't registered directly with the phaser. In a tree that had no stray
-    /// arrival, nobody can register or arrive while the root is turned.
+    /// An arrival is stray if all parties that registered directly with its phaser have arrived already. In a tree that had
+    /// no stray arrival, nobody can register or arrive while the root is turned.
     #[tactic(auto, using(crate::proofs::Between::between))]
     pub fn nobody_comes_between(&self)
         ensures { NobodyComesBetween (phasers_of self.now) }

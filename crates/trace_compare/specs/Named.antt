@@ -1,4 +1,4 @@
--- What was found in a trace.
+-- What `choices_in` finds in a trace.
 use Rattle.std.specs.Prelude.{ℕ, All, List, Result, Ok, Err}
 use Rattle.schedule_reader.specs.Schedule.{IsRun, choices_of}
 use Rattle.thread_machine.specs.declared.choice.Choice.{Choice}

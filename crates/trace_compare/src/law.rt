@@ -15,15 +15,15 @@ ghost use Rattle.thread_machine.specs.Execution.{execution};
 ghost use Rattle.trace_compare.specs.Naming.{choices_named};
 ghost use Rattle.trace_compare.specs.Shown.{shown};
 
-/// If a trace has the verdict `Same`, the trace is, byte for byte, that of the choices that its lines name.
+/// If a trace has the verdict `Same`, it is, byte for byte, the trace of the choices that its lines name.
 pub fn what_is_the_same_is_the_trace_of_its_choices()
     ensures { (world : World) (trace : List ℕ) → verdict_of world trace ≡ Same
         → trace ≡ trace_of world (choices_of_trace trace) }
 {}
 
-/// The trace of any choices of threads from 0 to 63 has the verdict `Same`. The choices may be played from any world in which
-/// at most 1000000000000 choices were made, and at the beginning of a program none was made. So, with the law above, a text has
-/// the verdict `Same` exactly if it is the trace of choices.
+/// The trace of any choices of threads from 0 to 63 has the verdict `Same`. The choices may be played from any state in which
+/// at most 1000000000000 choices were made, for example from the beginning of a program. So, with the law above, a text has
+/// the verdict `Same` exactly if it is the trace of some choices.
 pub fn the_trace_of_any_choices_is_the_same()
     ensures { (world : World) (choices : List Choice) → world.choices ≤ 1000000000000
         → All (λ choice. choice.thread ≤ 63) choices → verdict_of world (trace_of world choices) ≡ Same }
@@ -41,8 +41,8 @@ pub fn what_a_run_writes_is_the_same()
         → HasWrittenTheSame image output_before output_after }
 {}
 
-/// The trace of choices of threads from 0 to 63 names these choices, up to the first refused one, which also has a line. If no
-/// choice is refused, it names all of them.
+/// Choices of threads from 0 to 63 are played from a state in which at most 1000000000000 choices were made. Their trace
+/// names these choices, up to and including the first refused one. If no choice is refused, it names all of them.
 pub fn the_choices_of_a_trace_are_those_that_it_shows()
     ensures choices { (world : World) (choices : List Choice) → world.choices ≤ 1000000000000
         → All (λ choice. choice.thread ≤ 63) choices
@@ -51,7 +51,7 @@ pub fn the_choices_of_a_trace_are_those_that_it_shows()
         → shown world choices ≡ choices }
 {}
 
-/// If the choices that a trace shows are played again from the same world, they have the same trace.
+/// If the choices that a trace shows are played again from the same state, they have the same trace.
 pub fn the_choices_of_a_trace_have_that_trace()
     ensures { (world : World) (choices : List Choice) → trace_of world (shown world choices) ≡ trace_of world choices }
 {}

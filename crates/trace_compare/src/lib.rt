@@ -1,11 +1,15 @@
-//! Traces are read here: a trace is compared with the run that it names, and its schedule is extracted.
+//! Compares a trace with the run that it names, and extracts the schedule of a trace.
 //!
-//! `compare` plays the choices that the lines of a trace name. It returns the verdict `Same`, or says at which line the trace
-//! first differs from the run. `judge` does the same, and also returns this line of the trace and of the run. `choices_in`
-//! returns the choices of a trace as runs (a choice, and how often it is made), or the number of the first line that isn't a
-//! line of a trace. `write_choices` writes each of these runs when the next one begins. Both functions play nothing.
-//! `next_name` reads one line, for a caller that plays the choices one by one. The crate `trace_text` says how a trace is
-//! written. Its names can also be used from this crate.
+//! `compare` plays the choices that the lines of a trace name. It returns the verdict `Same`, or the number of the first line
+//! that differs from the run's line, or isn't a line of a trace. `judge` does the same, and also returns this line of the
+//! trace and of the run.
+//!
+//! `choices_in` returns the choices of a trace in pairs: a choice, and how often it is made. If a line isn't a line of a
+//! trace, it returns the number of the first such line. `write_choices` writes the choices as a schedule. It writes each pair
+//! as soon as the next one begins. These two functions play no choice. `next_name` reads one line, for a caller that plays
+//! the choices one by one.
+//!
+//! The crate `trace_text` says how a trace is written. Its names can also be used from this crate.
 #![tactic(auto)]
 
 // A trace beside the run that it names.

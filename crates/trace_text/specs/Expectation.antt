@@ -1,4 +1,4 @@
--- What can be expected of the state that a run ends in, and of that end.
+-- What a text can expect of the end of a run, and of the state at this end.
 use Rattle.std.specs.Prelude.{ℕ, ◌==◌, ◌||◌, ◌&&◌, not, nat_lt, nat_le, Bool, false, if◌then◌else◌, List, [], ◌∷◌, Option, Some, None, codes, drop, is_none, is_some, length}
 use Rattle.std.specs.Global.{Vec}
 use Rattle.std.specs.List.{before_first, list_all, position_or_len}

@@ -1,4 +1,4 @@
--- The line of a choice: what it did, or why it was refused.
+-- The line of a choice: what the choice did, or why it was refused.
 use Rattle.std.specs.Prelude.{ℕ, if◌then◌else◌, List, [], ◌++◌, codes, decimal, Option, Some, None}
 use Rattle.std.specs.Fmt.{signed_decimal}
 use Rattle.thread_machine.specs.declared.choice.Choice.{Choice}

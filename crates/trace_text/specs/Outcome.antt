@@ -1,5 +1,6 @@
--- What a run under a schedule leads to, by its result: what was read of the schedule, what was written, and how it ended.
--- `run_to_end` promises this, and its callers pass it on. No contract can say that `Memory` comes only if memory is missing.
+-- What is true after a run under a schedule, for each result: what was read of the schedule, what was written, and how the run
+-- ended. `run_to_end` promises this, and its callers pass it on. No contract can say that `Memory` comes only if memory is
+-- missing.
 --
 -- For the schedule and for the output the arguments are, in this order: the bytes that are left or written before the call and
 -- after it, and whether it has failed by then.

@@ -1,4 +1,4 @@
--- How a program begins.
+-- How a program begins, or why it is refused.
 use Rattle.std.specs.Prelude.{◌≡◌, Bool, true, false, Some, None}
 use Rattle.row_code.specs.declared.image.Image.{Image}
 use Rattle.loader.specs.declared.load_fault.LoadFault.{LoadFault}

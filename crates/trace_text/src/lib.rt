@@ -1,7 +1,8 @@
-//! The text of a run: a line for each choice, and the state after the last choice. Such lines are also read here.
+//! The text of a run: a line for each choice, and the state after the last choice. This crate also reads such lines.
 //!
-//! `run_text` plays the program of an image under a schedule. It reads the schedule piece by piece, and writes the line of each
-//! choice when the choice has been played. `is_met` compares an expectation about the end of a run with the lines of the state.
+//! `run_text` plays the program of an image under a schedule. It reads the schedule piece by piece, and writes the line of
+//! each choice when the choice has been played. An expectation is a text about the end of a run. `is_met` compares it with
+//! the lines of the state.
 #![tactic(auto)]
 
 // The lines of choices, as they are written.

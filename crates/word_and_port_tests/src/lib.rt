@@ -1,4 +1,5 @@
-//! Tests of the lowest crates by their public calls: ports, packed words, trees of them, and words between real threads.
+//! Tests the lowest crates by their public calls: ports, packed words, trees of phasers, and the word that real threads
+//! share.
 #![tactic(auto)]
 
 // Ports.

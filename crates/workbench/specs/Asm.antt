@@ -1,4 +1,4 @@
--- What `asm` does with a text, by its result.
+-- What `asm` writes, for each result.
 use Rattle.std.specs.Prelude.{◌≡◌, ℕ, Bool, IsTrue, List, Option, Result, Ok, Err}
 use Rattle.std.specs.Io.KnownBytes.{Appends}
 use Rattle.assembler.specs.Meaning.{StandsFor}

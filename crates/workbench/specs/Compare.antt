@@ -1,4 +1,4 @@
--- What `compare` does with a program and a trace, by its result.
+-- What `compare` reads and writes, for each result.
 use Rattle.std.specs.Prelude.{◌≡◌, ◌⊎◌, ℕ, Bool, IsTrue, List, Option, Result, Ok, Err, codes}
 use Rattle.std.specs.Io.KnownBytes.{Appends}
 use Rattle.row_code.specs.declared.image.Image.{Image}

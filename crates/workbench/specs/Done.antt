@@ -1,4 +1,4 @@
--- How a command ends.
+-- The exit status of a command, and what it writes to the port for errors.
 use Rattle.std.specs.Prelude.{◌≡◌, ℕ, Bool, List, Option, Result, Ok, Err}
 use Rattle.workbench.specs.declared.fault.Fault.{Fault}
 use Rattle.workbench.specs.declared.done.Done.{Done}

@@ -1,4 +1,4 @@
--- How the program reports why it gave up.
+-- The exit status of each fault, and the line that reports it.
 use Rattle.std.specs.Prelude.{◌⊎◌, ℕ, Bool, IsTrue, List, [], ◌++◌, Option, Some, None, codes}
 use Rattle.std.specs.Fmt.{decimal}
 use Rattle.std.specs.Io.KnownBytes.{Appends}

@@ -1,4 +1,4 @@
--- How much a source gives.
+-- How many bytes an input may have, and what it means that all of them were read.
 use Rattle.std.specs.Prelude.{ℕ, ◌+◌, ◌<◌, ◌≤◌, List, length, Option}
 use Rattle.std.specs.Io.KnownBytes.{Consumes, IsAtEnd}
 

@@ -1,4 +1,4 @@
--- What `list` does with a program, by its result.
+-- What `list` writes, for each result.
 use Rattle.std.specs.Prelude.{◌≡◌, ℕ, Bool, IsTrue, List, Option, Result, Ok, Err}
 use Rattle.std.specs.Io.KnownBytes.{Appends}
 use Rattle.line_reader.specs.Listing.{canonical}

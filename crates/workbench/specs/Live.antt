@@ -1,4 +1,4 @@
--- What `live` does with a program, by its result.
+-- What `live` writes, for each result.
 use Rattle.std.specs.Prelude.{◌≡◌, ◌⊎◌, ℕ, All, Bool, IsTrue, List, Option, Some, None, Result, Ok, Err}
 use Rattle.row_code.specs.declared.image.Image.{Image}
 use Rattle.loader.specs.Fault.{first_fault}

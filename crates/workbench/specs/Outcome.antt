@@ -1,6 +1,7 @@
--- What a command does, by its result, if it first reads its input (ComesOf) or the program in it (ComesOfProgram), or plays a
--- program under a schedule (Plays). The other commands have files with their names. `before`, `after` and `failed` are about
--- one port: the bytes that are left or written before the call and after it, and whether it has failed by then.
+-- What some commands read and write, for each result: a command that first reads its input (`ComesOf`), a command that first
+-- reads the program in its input (`ComesOfProgram`), and a command that plays a program under a schedule (`Plays`). The other
+-- commands have files with their names. `before`, `after` and `failed` are about one port: the bytes that are left or written
+-- before the call and after it, and whether it has failed by then.
 use Rattle.std.specs.Prelude.{◌≡◌, ◌⊎◌, ℕ, Bool, false, IsTrue, List, Option, Some, Result, Ok, Err}
 use Rattle.assembler.specs.Meaning.{StandsFor}
 use Rattle.row_code.specs.declared.image.Image.{Image}

@@ -1,4 +1,4 @@
--- The result of a race.
+-- How the fault of a race is reported.
 use Rattle.race.specs.declared.fault.RaceFault.{RaceFault}
 use Rattle.race.specs.declared.fault.RaceFault.TheVariants as race
 use Rattle.workbench.specs.declared.fault.Fault.{Fault}

@@ -1,8 +1,9 @@
-//! The commands of the workbench. Each is a function over sources and sinks of bytes that returns the program's exit status.
+//! The commands that assemble, list, play, compare and debug programs. Each is a function over ports, which are sources and
+//! sinks of bytes. It returns the exit status of the program.
 //!
-//! `asm_cmd` and `list_cmd` make an image and a canonical text. `run_cmd`, `both_cmd` and `live_cmd` play a program and write
-//! its trace. `compare_cmd` compares a trace with its run, and `debug_cmd` replies to commands. `race_cmd` lets real threads
-//! meet.
+//! `asm_cmd` writes the image of a text, and `list_cmd` writes the canonical text of a program. `run_cmd`, `both_cmd` and
+//! `live_cmd` play a program and write its trace. `compare_cmd` compares a trace with its run. `debug_cmd` replies to the
+//! commands of a session. `race_cmd` lets real threads meet at a phaser.
 #![tactic(auto)]
 
 pub mod asm;

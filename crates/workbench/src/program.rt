@@ -73,7 +73,7 @@ pub fn image_from<F: Source>(alloc: Global, file: &mut F) -> Result<Image, Fault
     }
 }
 
-/// A law: a file is the file of only one program.
+/// A law: a file has only one program. If two images are the program of the same file, they are equal.
 pub fn a_file_is_one_program()
     ensures { (file : List ℕ) (a b : Image) → IsProgramFile file a → IsProgramFile file b → a ≡ b }
 {}

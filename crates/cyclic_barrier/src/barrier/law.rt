@@ -14,7 +14,7 @@ pub fn each_barrier_is_sound(barrier: &Barrier)
     let _parties = barrier.parties;
 }
 
-/// Each barrier has a past, which says how each finished generation ended, and for which generation each thread waits. A new
+/// Each barrier has a past. A past says how each finished generation ended, and for which generation each thread waits. A new
 /// barrier has a past without finished generations and without waits.
 pub fn each_barrier_has_a_past()
     ensures new { (parties : ℕ) → (action : Bool)
@@ -22,14 +22,15 @@ pub fn each_barrier_has_a_past()
     ensures each { (b : BarrierState) → HasPast b }
 {}
 
-/// Each call returns the same at a barrier and at each of its pasts, and changes both in the same way. So a waiting thread
-/// learns how its own generation ended, and arrival indices count down from parties - 1.
+/// Each call returns the same result for a barrier and for each past of this barrier, and changes both in the same way. So a
+/// waiting thread learns how its own generation ended, and arrival indices count down from one less than the number of
+/// parties.
 pub fn calls_agree_with_the_past()
     ensures { (b : BarrierState) → IsBarrier b → FollowsPast b }
 {}
 
 /// `TellsWhoWaits` says for each call which threads have a wait after it. For a call of `enter` or `enter_timed` it also says
-/// which thread runs the action.
+/// which thread then runs the action.
 pub fn calls_tell_who_waits()
     ensures { (b : BarrierState) → IsBarrier b → TellsWhoWaits b }
 {}
