@@ -119,12 +119,13 @@ def definitions(crate, its, all_believed):
         if handed:
             abstract.append(f"{', '.join(handed)} ({file})")
         if rest:
-            others.append(f"{len(rest)} of {file}")
+            others.append(f"{file} ({len(rest)})")
     types = [f"`{key[2]}`" for key, it in its.items() if key[1] == "declared" and key in all_believed]
     if types:
         text += item("Types of the code that appear in these definitions and in the contracts: " + ", ".join(types))
     text += item("*Abstract* words, which one call ensures and another requires: " + "; ".join(abstract)) if abstract else ""
-    text += item("The definitions that aren't listed here appear in no public contract, so *you need not believe* them: " + ", ".join(others)) if others else ""
+    text += item("Some definitions aren't listed here, because no public contract names them. So *you need not believe* them. They are "
+                 "in " + ", ".join(others) + ".") if others else ""
     return text
 
 

@@ -18,7 +18,7 @@ REFUSED = rb"""(?x)refused[ ](
 # of `explain` what it can be asked stands in place of the usage; where a file stands in place of a command, where one is called
 # nearly so, or where another way does it more is told
 WRONG_WORDS = rb"""(?xs)error:[ ](
-    .*\n\nUsage:[ ]vuthgal[^\n]*(\n\nFor[ ]more[ ]information,[ ]try[ ]'--help'\.)?(\n(.*[ ]is[ ]a[ ]file:[ ].*|tip:[ ][^\n]*|`[^\n]*|([ ][ ]Near:[ ]+[^\n]*\n)?[ ][ ]Helps:[ ]+[^\n]*|(quote[ ](a[ ]plan|the[ ]STATE)|(PLAN|SCHEDULE)[ ]is[ ]a[ ]file[ ]or[ ]`-`):[ ]`vuthgal[ ].*`))?
+    .*\n\nUsage:[ ]vuthgal[^\n]*(\n\nFor[ ]more[ ]information,[ ]try[ ]'--help'\.)?(\n(.*[ ]is[ ]a[ ]file:[ ].*|tip:[ ][^\n]*|`[^\n]*|(the[ ]command[ ]comes[ ]first|without[ ]quotes):[ ]`vuthgal[ ][^\n]*`|([ ][ ]Near:[ ]+[^\n]*\n)?[ ][ ]Helps:[ ]+[^\n]*|(quote[ ](a[ ]plan|the[ ]STATE)|(PLAN|SCHEDULE)[ ]is[ ]a[ ]file[ ]or[ ]`-`):[ ]`vuthgal[ ].*`))?
     | `explain`[ ]doesn't[ ]know[ ]these[ ]words.*
     )\n"""
 # the command as it should be typed, at the end of such an answer
