@@ -189,7 +189,7 @@ def edits_of(crate):
         text += item(f"{words[0].upper()}{words[1:]}: {'; '.join(where)}")
     return (
         "A must-fail edit changes a function so that it does something wrong. The contracts have to refuse the changed function.\n"
-        f"Each item says first what would be wrong. Then it names the function that is changed, with its clauses in brackets:\n\n{text}"
+        f"Each item says first what would be wrong. Then it names the changed function, and in brackets all clauses of its contract that have a name:\n\n{text}"
     ) if text else ""
 
 
