@@ -1,7 +1,7 @@
 import java.util.concurrent.Phaser;
 
 /**
- * The race that {@code race_benchmark} plays, on the JDK's own Phaser: {@code PhaserRace PARTIES ROUNDS [WARM_UP]}. PARTIES
+ * The race that {@code vuthgal race} plays, on the JDK's own Phaser: {@code PhaserRace PARTIES ROUNDS [WARM_UP]}. PARTIES
  * threads call arriveAndAwaitAdvance ROUNDS times each, after as many threads have done so WARM_UP times, on another
  * phaser, for the compiler's sake. Prints the phaser's last phase and the seconds.
  */

@@ -1,3 +1,4 @@
 pub mod Request
 pub mod Told
 pub mod Commands
+pub mod Input

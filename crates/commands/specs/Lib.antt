@@ -13,3 +13,4 @@ pub mod Named
 pub mod Outcomes
 pub mod Seeds
 pub mod Runs
+pub mod Pauses

@@ -7,11 +7,11 @@ ghost use Rattle.commands.specs.Outcomes.{IsMostFrequentFirst, report, done_by};
 ghost use Rattle.commands.specs.Runs.{AreOutcomesFrom, Reports};
 
 use crate::outcomes::{Outcomes, sort};
+use crate::pauses::Pauses;
 use crate::report::{done_by, report};
 use crate::runs::add_runs;
 use byte_ports::Sink;
 use loader::{LoadFault, Loaded, load};
-use pauses::Pauses;
 use row_code::Image;
 use std::alloc::Global;
 use std::sync::Wait;

@@ -11,8 +11,8 @@ ghost use Rattle.commands.specs.Outcomes.{AreOutcomes, Ended, IsEndedFrom, is_st
 
 use crate::end_state::EndState;
 use crate::outcomes::{Outcomes, add};
+use crate::pauses::Pauses;
 use loader::Loaded;
-use pauses::Pauses;
 use schedule_reader::{joined, read_schedule, write_schedule};
 use std::alloc::Global;
 use std::sync::Wait;

@@ -15,8 +15,3 @@ pub fn is_plan(alloc: Global, text: &[u8], bytes: &[u8]) -> bool {
         Err(_) => false,
     }
 }
-
-/// Returns whether these bytes are a trace, by how they begin: with a line of the first choice, or the state's.
-pub fn is_trace(bytes: &[u8]) -> bool {
-    bytes.starts_with(b"1 t") || bytes.starts_with(b"1 x") || bytes.starts_with(b"state ")
-}

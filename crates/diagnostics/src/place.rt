@@ -1,15 +1,12 @@
 //! The place of a refusal, and its words.
 
-use crate::java::row_of;
-use crate::meant::{helps_at, helps_at_encoding, helps_at_java, word_assigned};
-use crate::mistaken::{is_plan, is_trace};
-use crate::names::{called, first_line, name_of_kind, nearest_name, nearest_option, nearest_word};
+use crate::mistaken::is_plan;
 use crate::shown::{push_file, push_file_alone, push_line, push_marked, push_shown, word_at};
 use assembler::assemble;
 use assembler::made::line_that_makes;
 use assembler::placed::{PlacedFault, UnknownName, assemble_placed};
 use assembler::word_place::{WordPlace, line_at, place_of_word};
-use byte_ports::{Failed, MemorySink, Sink};
+use byte_ports::{MemorySink, Sink};
 use commands::unplanned::Unplanned;
 use instruction_table::OperandKind;
 use itoa::Buffer;
@@ -21,7 +18,14 @@ use refusals::entries::tables;
 use refusals::question::{question_in_line, question_of};
 use refusals::word::{WordEntry, word_entry};
 use schedule_reader::ScheduleFault;
-use std::alloc::{AllocError, Global};
+use std::alloc::Global;
+use suggestions::file_kind::is_trace;
+use suggestions::java::row_of;
+use suggestions::meant::{helps_at, helps_at_encoding, helps_at_java, word_assigned};
+use suggestions::names::{
+    called, first_line, name_of_kind, nearest_name, nearest_option, nearest_word,
+};
+use suggestions::unshown::Unshown;
 use workbench::fault::Fault;
 
 /// A file, with its name and what it holds.
@@ -41,22 +45,6 @@ pub struct ProgramFile<'a> {
 
 /// The name of standard input, as it is shown.
 pub const STANDARD_INPUT: &str = "standard input";
-
-/// Why a place wasn't written whole. Nobody asks more.
-#[derive(Clone, Copy, Debug, PartialEq, Eq)]
-pub struct Unshown;
-
-impl From<Failed> for Unshown {
-    fn from(_failed: Failed) -> Unshown {
-        Unshown
-    }
-}
-
-impl From<AllocError> for Unshown {
-    fn from(_error: AllocError) -> Unshown {
-        Unshown
-    }
-}
 
 /// More bytes than the line of a fault has.
 const LONGEST_LINE: usize = 64;

@@ -1,20 +1,21 @@
 //! The place of a plan's fault, and its words.
 ghost use Rattle.std.specs.Prelude.{◌≤◌, length};
 
-use crate::meant::helps_at_encoding;
-use crate::names::distance_of_names;
-use crate::place::{Named, ProgramFile, Unshown, push_entry, push_meaning};
+use crate::place::{Named, ProgramFile, push_entry, push_meaning};
 use crate::shown::{push_file, push_file_alone, push_line, push_marked, push_shown, word_at};
 use assembler::word_place::{WordPlace, line_at};
 use byte_ports::Sink;
 use commands::plan::loaded_program;
-use commands::plan_word::{helps_at_name, helps_at_seed, helps_at_star, helps_at_word};
 use commands::unplanned::Unplanned;
 use line_reader::words::{before_comment, length_before};
 use plans::cutting::word_length;
 use plans::fault::{PlanFault, PlanFaultKind};
 use plans::read_plan;
 use std::alloc::{AllocError, Global};
+use suggestions::meant::helps_at_encoding;
+use suggestions::names::distance_of_names;
+use suggestions::plan_word::{helps_at_name, helps_at_seed, helps_at_star, helps_at_word};
+use suggestions::unshown::Unshown;
 use workbench::program::program_in;
 
 /// The places of a line's words.

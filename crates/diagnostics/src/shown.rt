@@ -1,5 +1,7 @@
 //! What is written.
 
+ghost use Rattle.std.specs.Prelude.{◌≤◌, ◌+◌, ◌<◌, length};
+
 use assembler::word_place::WordPlace;
 use byte_ports::{Failed, Sink};
 use itoa::Buffer;
@@ -29,7 +31,10 @@ pub fn push_shown<E: Sink>(errors: &mut E, bytes: &[u8]) -> Result<(), Failed> {
 }
 
 /// Where the part of a line begins that is shown: its beginning, or a part with the place in its middle.
-fn window(line: &[u8], place: WordPlace) -> usize {
+fn window(line: &[u8], place: WordPlace) -> usize
+    ensures begin { result ≤ place.at }
+    ensures end { place.at < length line.now → place.at ≤ result + 72 }
+{
     if place.at.saturating_add(place.length) <= WIDTH {
         return 0;
     }

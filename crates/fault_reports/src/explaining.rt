@@ -5,7 +5,7 @@
 
 use crate::no_command::NoCommand;
 use byte_ports::{Failed, Sink, WritePort};
-use program_ports::printable;
+use command_line::ports::printable;
 use std::env::{Env, FillError};
 use std::io::IsTerminal;
 

@@ -6,23 +6,23 @@ use crate::mistaken::{
     AT_COMPARED_TRACE, AT_IMAGE, AT_PROGRAM, AT_TRACE, helps_at_no_plan, is_program,
     is_whole_program, push_mistaken, push_turned,
 };
-use crate::near::near_file;
 use crate::unlike::push_endless;
 use assembler::AsmFault;
 use byte_ports::{Sink, WritePort};
+use command_line::ports::printable;
+use command_line::ports::printable::writes_to_pipe;
 use command_line::request::{Request, Steps};
 use commands::unplanned::Unplanned;
-use diagnostics::mistaken::is_trace;
 use diagnostics::place::{Named, ProgramFile, STANDARD_INPUT, push_meaning};
-use diagnostics::typed::{is_unquoted_plan, push_typed};
 use diagnostics::{push_choice_place, push_place, push_plan_place, push_stopped_plan};
 use plans::fault::PlanFault;
-use program_ports::printable;
-use program_ports::printable::writes_to_pipe;
 use row_code::is_image_file;
 use std::alloc::AllocError;
 use std::fmt::Display;
 use std::fs;
+use suggestions::file_kind::is_trace;
+use suggestions::file_name::near_file;
+use suggestions::typed::{is_unquoted_plan, push_typed};
 use thread_machine::Choice;
 use workbench::fault::Fault;
 use workbench::run_line::split_at_run;

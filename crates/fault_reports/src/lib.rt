@@ -9,7 +9,6 @@
 pub mod explaining;
 
 // Why no command is begun: the arguments, or a file that can't be opened.
-mod near;
 pub mod no_command;
 mod usage;
 

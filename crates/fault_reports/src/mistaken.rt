@@ -3,14 +3,13 @@
 use crate::help::told;
 use assembler::word_place::line_at;
 use byte_ports::{Failed, Sink, WritePort};
+use command_line::ports::printable;
 use commands::unplanned::Unplanned;
-use diagnostics::mistaken::is_trace;
 use diagnostics::place::{Named, push_meaning};
 use diagnostics::shown::push_line_of;
-use diagnostics::typed::push_word;
-use program_ports::printable;
-use schedule_reader::read_schedule;
 use std::alloc::Global;
+use suggestions::file_kind::is_trace;
+use suggestions::typed::push_word;
 use workbench::program::program_in;
 use workbench::run_line::split_at_run;
 
@@ -41,20 +40,6 @@ pub fn is_whole_program(alloc: Global, bytes: &[u8]) -> bool {
         .find(".thread")
         .is_some();
     has_thread && is_program(alloc, bytes)
-}
-
-/// How long bytes are that are looked at.
-const LONGEST: usize = 16_777_216;
-
-/// Returns whether these bytes are a schedule of some choices.
-pub fn is_schedule(alloc: Global, bytes: &[u8]) -> bool {
-    if bytes.len() > LONGEST {
-        return false;
-    }
-    match read_schedule(alloc, bytes) {
-        Ok(runs) => !runs.is_empty(),
-        Err(_) => false,
-    }
 }
 
 /// Returns what helps if these bytes are given as a plan, and are something else.

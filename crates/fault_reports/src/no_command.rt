@@ -1,17 +1,18 @@
 //! Why no command is begun.
 
 use crate::help::{TO_FILE, push_file_hint, push_reason, push_text, push_words};
-use crate::near::{is_followed, nearest_state, wrong_state};
 use crate::usage;
 use byte_ports::WritePort;
 use clap::Error as WordsError;
 use clap::error::ErrorKind;
-use diagnostics::typed::push_typed;
-use program_ports::printable;
-use program_ports::printable::writes_to_pipe;
+use command_line::ports::printable;
+use command_line::ports::printable::writes_to_pipe;
 use std::alloc::AllocError;
 use std::fmt::Display;
 use std::{fs, io};
+use suggestions::other_name::{COMMANDS_IN_FILE, command_called, other_program};
+use suggestions::state_word::{is_followed, nearest_state, wrong_state};
+use suggestions::typed::push_typed;
 use thiserror::Error;
 use workbench::done::{Done, settled};
 use workbench::fault::Fault;
@@ -226,9 +227,9 @@ fn push_as_typed(rt: &HostRuntime, command: &str, words: &[String]) -> bool {
 
 /// Reports which command is called so by others, or nearly so.
 fn push_near_command(rt: &HostRuntime, word: &str) {
-    if let Some(other) = usage::other_program(word) {
+    if let Some(other) = other_program(word) {
         push_text(rt, format!(in rt.alloc(); "tip: {other}\n"));
-    } else if let Some(command) = usage::command_called(word) {
+    } else if let Some(command) = command_called(word) {
         let about = usage::about(command);
         push_text(
             rt,
@@ -309,7 +310,7 @@ fn push_other_way(rt: &HostRuntime, command: &str, words: &[String]) {
     } else if command == "live" {
         "`run FILE SCHEDULE` plays a schedule; `live` lets the threads choose"
     } else if command == "debug" && words.iter().any(|word| is_for_script(word.as_str())) {
-        usage::COMMANDS_IN_FILE
+        COMMANDS_IN_FILE
     } else if command == "debug" {
         "`--at TRACE` begins after a trace, `--plan-file FILE` after a plan; the command `g t0 t1` plays a schedule"
     } else {

@@ -1,14 +1,22 @@
 //! Why the program doesn't do what it is asked for, and how that is reported.
 
+ghost use Rattle.std.specs.Prelude.{◌≡◌};
+ghost use Rattle.plans.specs.declared.fault.PlanFault.{PlanFault};
+ghost use Rattle.workbench.specs.declared.fault.Fault.{Fault};
+ghost use Rattle.workbench.specs.Fault.{status_of};
+ghost use Rattle.commands.specs.declared.unplanned.Unplanned.TheVariants as unplanned;
+ghost use Rattle.commands.specs.Unplanned.{unplanned_status};
+ghost use Rattle.fault_reports.specs.declared.trouble.Trouble.TheVariants as trouble;
+
 use crate::help::{Files, push_explained_file, push_help, push_plan_help};
 use crate::no_command::{NoCommand, WRONG_WORDS};
 use byte_ports::WritePort;
+use command_line::ports::printable;
 use commands::unplanned::Unplanned;
-use diagnostics::sought::push_near_question;
 use plans::fault::PlanFault;
-use program_ports::printable;
 use refusals::explain::push_no_line;
 use std::alloc::AllocError;
+use suggestions::sought::push_near_question;
 use workbench::done::{Done, settled};
 use workbench::fault::Fault;
 
@@ -62,14 +70,18 @@ impl<'a> From<Unplanned> for Trouble<'a> {
 }
 
 /// Reports a fault in its one line, and on a terminal what it means. Returns the exit status.
-fn tell_fault(rt: &HostRuntime, fault: Fault, files: Files<'_>, words: &[String]) -> u8 {
+fn tell_fault(rt: &HostRuntime, fault: Fault, files: Files<'_>, words: &[String]) -> u8
+    ensures { result ≡ status_of fault }
+{
     let status = settled(Err(fault), &mut WritePort::new(rt.stderr()));
     push_help(rt, fault, files, words);
     status
 }
 
 /// Reports a plan's fault in the same way.
-fn tell_plan(rt: &HostRuntime, fault: PlanFault, files: Files<'_>) -> u8 {
+fn tell_plan(rt: &HostRuntime, fault: PlanFault, files: Files<'_>) -> u8
+    ensures { result ≡ unplanned_status (unplanned.Plan fault) }
+{
     let why = Unplanned::Plan(fault);
     let _ = why.tell(&mut WritePort::new(rt.stderr()));
     push_plan_help(rt, fault, files);
@@ -77,7 +89,9 @@ fn tell_plan(rt: &HostRuntime, fault: PlanFault, files: Files<'_>) -> u8 {
 }
 
 /// Reports that no line has the words, what can be asked, and what is near to them. Returns the exit status.
-fn tell_no_line(rt: &HostRuntime, words: &[String]) -> u8 {
+fn tell_no_line(rt: &HostRuntime, words: &[String]) -> u8
+    ensures { result ≡ 2 }
+{
     let _ = push_no_line(&mut WritePort::new(rt.stderr()));
     if let [_, _, word] = words {
         if push_explained_file(rt, word.as_str()) {
@@ -91,7 +105,12 @@ fn tell_no_line(rt: &HostRuntime, words: &[String]) -> u8 {
 
 impl<'a> Trouble<'a> {
     /// Reports it, and returns the exit status.
-    pub fn tell(&self, rt: &HostRuntime, words: &[String], files: Files<'_>) -> u8 {
+    pub fn tell(&self, rt: &HostRuntime, words: &[String], files: Files<'_>) -> u8
+        ensures fault { (fault : Fault) → self.now ≡ trouble.Fault fault → result ≡ status_of fault }
+        ensures plan { (fault : PlanFault) → self.now ≡ trouble.Plan fault
+            → result ≡ unplanned_status (unplanned.Plan fault) }
+        ensures no_line { self.now ≡ trouble.NoLine → result ≡ 2 }
+    {
         match self {
             Trouble::NoCommand(no_command) => no_command.tell(rt, words),
             Trouble::Fault(fault) => tell_fault(rt, *fault, files, words),

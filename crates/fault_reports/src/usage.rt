@@ -6,6 +6,7 @@ use command_line::commands::{commands, program};
 use std::alloc::AllocError;
 use std::env::{Env, FillError};
 use strsim::osa_distance;
+use suggestions::other_name::{is_other_name, way_of_option};
 
 /// How long a word may be that is looked at; no command has a longer name.
 const LONGEST_WORD: usize = 64;
@@ -49,63 +50,6 @@ pub fn nearest_command(rt: &HostRuntime, word: &str) -> Result<Option<&'static s
         }
     }
     Ok(nearest)
-}
-
-/// What people call a command otherwise, and the command.
-static OTHER_NAMES: [(&str, &str); 21] = [
-    ("play", "run"),
-    ("trace", "run"),
-    ("exec", "run"),
-    ("execute", "run"),
-    ("replay", "run"),
-    ("simulate", "run"),
-    ("page", "show"),
-    ("html", "show"),
-    ("view", "show"),
-    ("picture", "draw"),
-    ("diagram", "draw"),
-    ("graph", "draw"),
-    ("step", "debug"),
-    ("gdb", "debug"),
-    ("assemble", "asm"),
-    ("compile", "asm"),
-    ("build", "asm"),
-    ("disassemble", "list"),
-    ("diff", "compare"),
-    ("verify", "compare"),
-    ("stress", "live"),
-];
-
-/// The command that people call so.
-pub fn command_called(word: &str) -> Option<&'static str> {
-    OTHER_NAMES
-        .iter()
-        .find(|(name, _)| *name == word)
-        .map(|(_, command)| *command)
-}
-
-/// What plays kept runs again, which is a program of its own.
-const OF_CHECK: &str =
-    "`bin/check` (installed as `vuthgal-check`) plays kept runs and compares them";
-
-/// What is no command, and what does what people ask for by it.
-static NO_COMMANDS: [(&str, &str); 3] = [
-    ("check", OF_CHECK),
-    ("test", OF_CHECK),
-    ("version", "`vuthgal --version` prints the version"),
-];
-
-/// Returns what does what people ask for by a word that is no command.
-pub fn other_program(word: &str) -> Option<&'static str> {
-    NO_COMMANDS
-        .iter()
-        .find(|(name, _)| *name == word)
-        .map(|(_, other)| *other)
-}
-
-/// Whether people call a command so, or what plays kept runs.
-fn is_other_name(word: &str) -> bool {
-    other_program(word).is_some() || command_called(word).is_some()
 }
 
 /// What help says of a command in a line.
@@ -182,108 +126,9 @@ fn quoted_in(why: &str) -> Option<&str> {
     Some(word)
 }
 
-/// How `debug` reads commands of a file.
-pub const COMMANDS_IN_FILE: &str =
-    "`vuthgal debug FILE < COMMANDS` carries out the commands in a file";
-
-/// What to type instead of an option that the command doesn't have, and that another command or program has.
-static OTHER_OPTIONS: [(&str, &str); 24] = [
-    (
-        "--seed",
-        "`run FILE --plan '?7'` plays the order of seed 7, `plan FILE --seeds 1..100` those of 100 seeds; `live` has `--stir SEED`",
-    ),
-    (
-        "--seeds",
-        "`plan FILE --seeds 1..100` counts how the runs of 100 seeds end",
-    ),
-    (
-        "--runs",
-        "`live FILE --runs 100` counts how 100 runs of real threads end, `plan FILE --seeds 1..100` those of 100 seeds",
-    ),
-    (
-        "--stir",
-        "`live FILE --stir SEED` makes threads pause before some of their turns",
-    ),
-    (
-        "--limit",
-        "`live FILE --limit N` plays at most N steps; in a plan `..*50` plays at most 50 choices",
-    ),
-    (
-        "--expect",
-        "`run FILE SCHEDULE --expect STATE` compares the end of a run; `live` and `plan --seeds` have this option too",
-    ),
-    (
-        "--plan-file",
-        "`plan FILE PLAN` reads the plan in the file PLAN; `run`, `show`, `draw` and `debug` have this option",
-    ),
-    (
-        "--rows",
-        "`list FILE --rows` writes each row with its number",
-    ),
-    (
-        "--show",
-        "`compare FILE TRACE --show` writes the two lines that differ",
-    ),
-    (
-        "--names",
-        "`plan FILE PLAN --names` writes the names of the threads",
-    ),
-    (
-        "--at",
-        "`debug FILE --at TRACE` begins after the choices of a trace",
-    ),
-    (
-        "--repeat",
-        "`live FILE --runs 100` counts how 100 runs of real threads end, `plan FILE --seeds 1..100` those of 100 seeds",
-    ),
-    (
-        "--random",
-        "`--plan '?7'` chooses threads at random, with the seed 7",
-    ),
-    (
-        "--steps",
-        "`live FILE --limit N` plays at most N steps; in a plan `..*50` plays at most 50 choices",
-    ),
-    (
-        "--diff",
-        "`compare FILE TRACE --show` writes the two lines that differ",
-    ),
-    ("--batch", COMMANDS_IN_FILE),
-    ("--command", COMMANDS_IN_FILE),
-    (
-        "--expect-file",
-        "`bin/check FOLDER` compares each run NAME with NAME.expect; `--expect STATE` takes one STATE",
-    ),
-    (
-        "--svg",
-        "`show FILE > page.html` writes a page with a timeline",
-    ),
-    (
-        "--html",
-        "`show FILE > page.html` writes a page with a timeline",
-    ),
-    (
-        "--trace",
-        "`choices TRACE | vuthgal draw FILE -` draws the run of a trace; `show` takes `-`, too",
-    ),
-    ("-f", "FILE has no option before it: `vuthgal run FILE`"),
-    (
-        "--verbose",
-        "`--explain always` explains what is refused; `draw` and `show` explain a run",
-    ),
-    (
-        "-v",
-        "`--explain always` explains what is refused; `draw` and `show` explain a run",
-    ),
-];
-
 /// Returns what to type instead of the unknown option of an error, if it is known.
 pub fn other_way(why: &str) -> Option<&'static str> {
-    let option = quoted_in(why)?;
-    OTHER_OPTIONS
-        .iter()
-        .find(|(name, _)| *name == option)
-        .map(|(_, way)| *way)
+    way_of_option(quoted_in(why)?)
 }
 
 /// Returns whether what an error says first is enough, because the rest would be misleading.

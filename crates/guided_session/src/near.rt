@@ -1,9 +1,9 @@
 //! Which name is near to a word.
 
 use assembler::Symbols;
-use diagnostics::distance_of_names;
 use instruction_table::OperandKind;
 use std::alloc::Global;
+use suggestions::names::distance_of_names;
 
 /// How far a name is at least that isn't near to a word of this length: less than half of the letters may be wrong.
 fn far_from(length: usize) -> usize {

@@ -4,7 +4,6 @@ ghost use Rattle.std.specs.Prelude.{◌≤◌, length};
 use crate::near::near_symbol;
 use assembler::Symbols;
 use byte_ports::{Failed, Sink};
-use commands::plan_word::{helps_at_name, helps_at_seed, helps_at_star, helps_at_word};
 use instruction_table::OperandKind;
 use itoa::Buffer;
 use line_reader::words::is_blank;
@@ -12,6 +11,7 @@ use plans::cutting::word_length;
 use plans::fault::PlanFaultKind;
 use plans::read_plan;
 use std::alloc::Global;
+use suggestions::plan_word::{helps_at_name, helps_at_seed, helps_at_star, helps_at_word};
 use thread_machine::Machine;
 
 /// What is shown of a line of which nothing more is known.

@@ -35,7 +35,7 @@
 --   `show`, `draw`: a page or a picture of exactly this run (HasMade, commands/specs/Pictures.antt; IsPageOf and IsPictureOf,
 --      pictures/specs).
 --   `live --runs`: each run that is counted is a live run as below (Reports, commands/specs/Runs.antt).
---   `race`: the line of the phaser's last word after one legal history of so many meetings (IsFinal, race/specs/Race.antt).
+--   `race`: the line of the phaser's last word after one legal history of so many meetings (IsFinal, workbench/specs/Race.antt).
 --   `explain`: the entry that the words ask for (HasExplained, refusals/specs/Explained.antt).
 use Rattle.std.specs.Prelude.{◌≡◌, ℕ, List, [], ◌∷◌, Option, Some, None}
 use Rattle.std.specs.Io.KnownBytes.{Appends, Consumes, IsAtEnd}

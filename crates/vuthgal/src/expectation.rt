@@ -5,13 +5,13 @@ ghost use Rattle.vuthgal.specs.Expectation.{are_as_expected, done_by};
 
 use assembler::Symbols;
 use byte_ports::{Failed, Sink, WritePort};
-use diagnostics::nearest_name;
+use command_line::ports::printable;
 use fault_reports::explaining::is_explained;
 use fault_reports::unlike::push_unmet_help;
 use instruction_table::OperandKind;
 use itoa::Buffer;
-use program_ports::printable;
 use std::alloc::{AllocError, Global};
+use suggestions::names::nearest_name;
 use trace_text::RunEnd;
 use trace_text::form::{end_words, subject_of, words_of};
 use trace_text::meeting::{is_end_expected, is_met};

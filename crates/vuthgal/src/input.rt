@@ -1,8 +1,8 @@
 //! The file that an argument names, or standard input.
 
 use crate::files;
+use command_line::ports::input::InputOf;
 use fault_reports::no_command::NoCommand;
-use program_ports::input::InputOf;
 use std::fs::File;
 use std::io::Stdin;
 

@@ -3,8 +3,8 @@
 
 use crate::input::Input;
 use byte_ports::{Sink, WritePort};
+use command_line::ports::printable;
 use fault_reports::help::push_explained;
-use program_ports::printable;
 use std::io::IsTerminal;
 
 /// Reports a person at a terminal.

@@ -10,15 +10,15 @@ ghost use Rattle.std.specs.Io.KnownBytes.{ReadConsumes};
 ghost use Rattle.byte_ports.specs.Port.{FailsForGood};
 
 use byte_ports::{BlockPort, Failed, Source, WritePort};
+use command_line::ports::printable::writes_to_pipe;
 use commands::observer::Observer;
-use program_ports::printable::writes_to_pipe;
-use race::Pace;
 use std::alloc::AllocError;
 use std::io;
 use std::io::{IsTerminal, Stdout, Write};
 use std::sync::atomic::{AtomicU64, Ordering};
 use std::time::Instant;
 use thread_runner::{Ending, Gate};
+use workbench::racing::pace::Pace;
 
 /// Returns the time, if somebody sees standard error.
 fn began(rt: &HostRuntime) -> Option<Instant> {

@@ -1,7 +1,7 @@
 //! The schedule of a run, while it is read.
 
+use command_line::ports::schedule::ScheduleOf;
 use fault_reports::trouble::Trouble;
-use program_ports::schedule::ScheduleOf;
 use std::fs::File;
 use std::io::Stdin;
 use workbench::fault::Fault;

@@ -2,13 +2,13 @@
 
 use crate::files;
 use byte_ports::{BlockPort, ReadPort, Sink, WritePort};
+use command_line::ports::printable;
 use commands::list_rows;
-use diagnostics::sought::words_sought;
 use fault_reports::trouble::{Answer, Trouble};
-use program_ports::printable;
 use refusals::entries::tables;
 use refusals::explain::explain;
 use std::alloc::{AllocError, Global};
+use suggestions::sought::words_sought;
 use workbench::asm::asm;
 use workbench::done::{Done, as_asked};
 use workbench::ending::{flushed, passed_on};

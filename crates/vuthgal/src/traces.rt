@@ -3,12 +3,12 @@
 use crate::progress::ShownSource;
 use crate::{files, input};
 use byte_ports::{BlockPort, ReadPort, WritePort};
+use command_line::ports::printable;
 use commands::choices::choices;
 use commands::show_comparison;
 use fault_reports::help::push_explained;
 use fault_reports::trouble::Answer;
 use fault_reports::unlike::{CARRIAGE_RETURN, push_differs, push_no_trace};
-use program_ports::printable;
 use trace_compare::Verdict;
 use workbench::compare::{compared, done_by};
 use workbench::done::Done;

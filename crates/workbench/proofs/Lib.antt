@@ -5,3 +5,5 @@ pub mod Traces
 pub mod Lines
 pub mod Lives
 pub mod RunLine
+pub mod RaceLine
+pub mod Meetings

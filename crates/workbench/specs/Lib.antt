@@ -7,6 +7,7 @@ pub mod Input
 pub mod List
 pub mod Live
 pub mod ProgramFile
+pub mod Race
 pub mod Racing
 pub mod RunLine
 pub mod Outcome

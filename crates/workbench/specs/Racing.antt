@@ -1,6 +1,6 @@
 -- How the fault of a race is reported.
-use Rattle.race.specs.declared.fault.RaceFault.{RaceFault}
-use Rattle.race.specs.declared.fault.RaceFault.TheVariants as race
+use Rattle.workbench.specs.declared.racing.fault.RaceFault.{RaceFault}
+use Rattle.workbench.specs.declared.racing.fault.RaceFault.TheVariants as race
 use Rattle.workbench.specs.declared.fault.Fault.{Fault}
 use Rattle.workbench.specs.declared.fault.Fault.TheVariants as fault
 

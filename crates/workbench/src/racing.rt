@@ -1,17 +1,28 @@
-//! A race as a command.
+//! A race as a command: threads meet at one shared phaser, and a line tells about this phaser.
+//!
+//! A thread meets the others when it calls `arriveAndAwaitAdvance`. In a race each thread does this the same number of times.
+//! `meeting` returns the word that the phaser has after the last meeting, and `command` writes this word as a line.
 ghost use Rattle.std.specs.Prelude.{◌≡◌, ◌⊎◌, ℕ, Err, IfErr, IsTrue, OnOk};
 ghost use Rattle.std.specs.Io.KnownBytes.{Appends};
 ghost use Rattle.packed_phaser.specs.Word.{record_of};
-ghost use Rattle.race.specs.Race.{IsFinal, line_of};
-ghost use Rattle.race.specs.declared.fault.RaceFault.{RaceFault};
+ghost use Rattle.workbench.specs.Race.{IsFinal, line_of};
+ghost use Rattle.workbench.specs.declared.racing.fault.RaceFault.{RaceFault};
 ghost use Rattle.workbench.specs.declared.fault.Fault.{Fault};
 ghost use Rattle.workbench.specs.Fault.{HasReported, status_of};
 ghost use Rattle.workbench.specs.Racing.{fault_of_race};
 
+mod command;
+pub mod fault;
+mod line;
+mod meeting;
+pub mod pace;
+
 use crate::done::{as_asked, settled};
 use crate::fault::Fault;
+use crate::racing::command::write_race;
+use crate::racing::fault::RaceFault;
+use crate::racing::pace::{NoPace, Pace};
 use byte_ports::Sink;
-use race::{NoPace, Pace, RaceFault, write_race};
 use std::alloc::Global;
 use std::sync::Wait;
 use std::thread::Threads;

@@ -1,0 +1,51 @@
+//! The pauses of several live runs: their workers pause before some of their turns, so that orders happen that are rare otherwise.
+//!
+//! A worker is the real thread that plays a thread of the program (`thread_runner`). Before each turn it passes a gate, and
+//! there it may pause. A seed determines the pauses of each thread in each run. The same seed gives the same pauses. The
+//! pauses influence only the order in which the workers take the lock. A run is recorded and replayed in the same way with
+//! and without pauses.
+ghost use Rattle.std.specs.Prelude.{◌≡◌, option_map};
+
+pub mod pause;
+pub mod stirred;
+
+use crate::pauses::stirred::Stirred;
+use thread_runner::Gate;
+
+/// Whether threads pause before some of their turns, and by which seed.
+#[derive(Clone, Copy, Debug, PartialEq, Eq)]
+pub struct Pauses {
+    pub seed: Option<u32>,
+}
+
+/// The gate of one run, and a gate that is passed after it.
+#[derive(Drop)]
+pub struct RunGate<'a, G> {
+    pub stirred: Option<Stirred>,
+    pub behind: &'a G,
+}
+
+impl Pauses {
+    /// Returns the gate of the run of this number. Each run has other pauses.
+    pub fn of_run<'a, G>(self, run: u32, behind: &'a G) -> RunGate<'a, G>
+        ensures stirred { result.stirred ≡ option_map (λ seed. record { seed = seed; run = run }) self.seed }
+        ensures behind { result.behind.now ≡ behind.now }
+    {
+        RunGate {
+            stirred: self.seed.map(|seed| Stirred {
+                seed: u64::from(seed),
+                run,
+            }),
+            behind,
+        }
+    }
+}
+
+impl<'a, G: Gate> Gate for RunGate<'a, G> {
+    fn pass(&self, thread: u8, step: u32) {
+        if let Some(stirred) = self.stirred {
+            stirred.pass(thread, step);
+        }
+        self.behind.pass(thread, step);
+    }
+}

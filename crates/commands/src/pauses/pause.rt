@@ -1,0 +1,46 @@
+ghost use Rattle.std.specs.Prelude.{◌≡◌};
+ghost use Rattle.commands.specs.Pauses.{pause_of};
+
+use std::hint::spin_loop;
+use std::thread::yield_now;
+
+/// What a worker does before a turn.
+#[derive(Clone, Copy, Debug, PartialEq, Eq)]
+pub enum Pause {
+    /// Nothing.
+    NoPause,
+    /// It yields its processor so many times.
+    Yield(u32),
+    /// It spins for so many rounds.
+    Spin(u32),
+}
+
+impl Pause {
+    /// Returns the pause that a generator's word stands for.
+    pub fn of(word: u32) -> Pause
+        ensures { result ≡ pause_of word }
+    {
+        match word % 4 {
+            0 => Pause::Yield(word / 4 % 8 + 1),
+            1 => Pause::Spin(word / 4 % 4096 + 1),
+            _ => Pause::NoPause,
+        }
+    }
+
+    /// Pauses.
+    pub fn wait(self) {
+        match self {
+            Pause::NoPause => {}
+            Pause::Yield(times) => {
+                for _ in 0..times {
+                    yield_now();
+                }
+            }
+            Pause::Spin(rounds) => {
+                for _ in 0..rounds {
+                    spin_loop();
+                }
+            }
+        }
+    }
+}

@@ -1,0 +1,33 @@
+ghost use Rattle.std.specs.Prelude.{◌≡◌};
+ghost use Rattle.commands.specs.Pauses.{pause_of, word_at};
+
+use crate::pauses::pause::Pause;
+use rand_core::utils::NextWord;
+use rand_pcg::Pcg32;
+use thread_runner::Gate;
+
+/// A gate at which a worker pauses before some of its turns. The generator of the seed says how, for each run, thread and turn.
+#[derive(Clone, Copy, Debug, PartialEq, Eq)]
+pub struct Stirred {
+    pub seed: u64,
+    /// The number of the run. Each run has other pauses.
+    pub run: u32,
+}
+
+impl Stirred {
+    /// Returns the pause before a thread's turn.
+    pub fn pause(&self, thread: u8, step: u32) -> Pause
+        ensures { result ≡ pause_of (word_at self.now.seed self.now.run thread step) }
+    {
+        let stream = u64::from(self.run) * 256 + u64::from(thread);
+        let mut words = Pcg32::new(self.seed, stream);
+        words.advance(u64::from(step));
+        Pause::of(words.next_word())
+    }
+}
+
+impl Gate for Stirred {
+    fn pass(&self, thread: u8, step: u32) {
+        self.pause(thread, step).wait();
+    }
+}

@@ -1,0 +1,30 @@
+use Rattle.std.proofs.Common.{◌≡◌, ◌∙◌, ◌++◌, [], List, All, ap, subst, sym, rules}
+use Rattle.std.specs.Prelude.{map}
+use Rattle.std.proofs.lemmas.List.Elements.{All-nil}
+use Rattle.std.specs.declared.thread.PromisedHandle.{PromisedHandle}
+use Rattle.shared_phaser.specs.declared.history.Kept.{Kept}
+use Rattle.shared_phaser.specs.declared.phaser.Party.{Party}
+use Rattle.shared_phaser.specs.Known.{Caller}
+use Rattle.workbench.specs.declared.racing.meeting.Home.{Home}
+use Rattle.workbench.specs.Race.{AreMeetings, number_of, opening_of}
+use Rattle.workbench.proofs.Meetings.{HasGathered, final}
+use Rattle.workbench.proofs.racing.meeting.race.Goals as goal
+
+pub returns-clause-word : goal.returns-clause-word
+returns-clause-word g c =
+    let kept = c.run-first.ensures.kept c.in_default-fault.is in
+    let none : c.run-first.result.0.known.joined ≡ [] = ap (λ (p : Caller). p.known.joined) kept ∙ c.in-Ok-callers.ensures.first.1.1 in
+    let opening : c.gather.new.first.known.opening ≡ opening_of c.args.parties = search rules in
+    let gathered : HasGathered c.args.parties c.args.rounds c.gather.new.first.known = record {
+      number = c.gather.ensures.first;
+      splits = c.gather.ensures.splits ∙ ap (λ (p : Caller). p.known.splits) kept ∙ c.in-Ok-callers.ensures.splits;
+      calls = c.gather.ensures.calls ∙ ap (λ (p : Caller). p.known.calls) kept ∙ c.in-Ok-callers.ensures.first.1.0;
+      numbers = c.gather.ensures.numbers
+          ∙ ap (λ (js : List Kept). map (λ (k : Kept). k.number) js
+          ++ map (λ (h : PromisedHandle Party Home). number_of h.promise.caller.value) c.run-first.result.1.items) none
+          ∙ c.run-first.ensures.numbers c.in_default-fault.is ∙ c.in-Ok-callers.ensures.numbers;
+      met = c.gather.ensures.met c.args.rounds c.run-first.ensures.rounds
+          (subst (All (λ (k : Kept). AreMeetings k.number c.args.rounds k.calls)) (sym none)
+          (All-nil (λ (k : Kept). AreMeetings k.number c.args.rounds k.calls)));
+    } in
+    final c.args.parties c.args.rounds c.close.result c.gather.new.first.known opening gathered c.close.ensures

@@ -1,0 +1,44 @@
+//! The line that a race ends with.
+ghost use Rattle.std.specs.Prelude.{◌≡◌, ◌++◌, IsTrue, OnOk, OnErr};
+ghost use Rattle.std.specs.Fmt.{decimal};
+ghost use Rattle.std.specs.Io.KnownBytes.{Appends};
+ghost use Rattle.packed_phaser.specs.Word.{record_of};
+ghost use Rattle.workbench.specs.Race.{line_of};
+
+use byte_ports::{Failed, Sink};
+use itoa::Buffer;
+use packed_phaser::Word;
+
+/// Writes a word, and a number after it.
+fn push_with_count<K: Sink>(output: &mut K, word: &[u8], count: u64) -> Result<(), Failed>
+    ensures bytes { OnOk result (Appends (K.written output.old) (K.written output.new)
+        (word.now ++ decimal count)) }
+    ensures failed { OnErr result (IsTrue (K.has_failed output.new)) }
+{
+    output.push(word)?;
+    output.push(Buffer::new().format(count).as_bytes())
+}
+
+/// The number of the phase that a word's phaser is in.
+fn phase_of(word: Word) -> u64
+    ensures { result ≡ (record_of word).phase }
+{
+    let view = i64::from(word.phase_view());
+    if word.is_terminated() {
+        (view + 2147483648) as u64
+    } else {
+        view as u64
+    }
+}
+
+/// Writes `phase A parties B unarrived C` of a word.
+pub fn push_line<K: Sink>(output: &mut K, word: Word) -> Result<(), Failed>
+    ensures bytes { OnOk result (Appends (K.written output.old) (K.written output.new)
+        (line_of (record_of word))) }
+    ensures failed { OnErr result (IsTrue (K.has_failed output.new)) }
+{
+    push_with_count(output, b"phase ", phase_of(word))?;
+    push_with_count(output, b" parties ", u64::from(word.parties()))?;
+    push_with_count(output, b" unarrived ", u64::from(word.unarrived()))?;
+    output.push(b"\n")
+}

@@ -1,0 +1,192 @@
+//! Threads that meet at one shared phaser.
+ghost use Rattle.std.specs.Prelude.{◌≡◌, ◌≢◌, ◌++◌, map, ℕ, All, IfOk, IfErr, IfSome, None};
+ghost use Rattle.std.specs.List.{range_with_len};
+ghost use Rattle.shared_phaser.specs.declared.history.Kept.{Kept};
+ghost use Rattle.shared_phaser.specs.Known.{phaser_of};
+ghost use Rattle.workbench.specs.Race.{AreMeetings, HasMet, IsFinal, IsFresh, number_of};
+
+use crate::racing::fault::RaceFault;
+use crate::racing::pace::Pace;
+use packed_phaser::{Policy, Word};
+use phase_number::Phase;
+use shared_phaser::{NewFault, Party, SharedPhaser};
+use std::alloc::{AllocError, Global};
+use std::snapshot::Snapshot;
+use std::sync::Wait;
+use std::thread;
+use std::thread::{Promise, PromisedHandle, Threads};
+
+/// After so many meetings a thread returns its caller here.
+#[derive(Drop)]
+pub struct Home {
+    /// The caller as the thread got it.
+    pub caller: Snapshot<Party>,
+    pub rounds: u32,
+}
+
+impl Promise<Party> for Home {
+    ghost use Rattle.workbench.specs.Race.{HasMet};
+
+    ghost kept_by = { λ home party. HasMet home.caller.value home.rounds party };
+}
+
+/// A running thread, and its caller.
+type Running = PromisedHandle<Party, Home>;
+
+/// What one thread does: it arrives and waits for the end of the phase, so many times.
+fn work<R: Wait, P: Pace>(
+    rt: &R,
+    phaser: &SharedPhaser,
+    mut party: Party,
+    rounds: u32,
+    pace: &P,
+) -> Party
+    requires { IsFresh phaser.now party }
+    ensures { HasMet party rounds result }
+{
+    for _ in 0..rounds {
+        let _ = phaser.arrive_and_await_advance(rt, &mut party);
+        pace.met();
+    }
+    party
+}
+
+/// Makes so many callers besides the first.
+fn callers(
+    alloc: Global,
+    phaser: &SharedPhaser,
+    first: &mut Party,
+    count: u16,
+) -> Result<Vec<Party>, AllocError>
+    requires number { first.old.known.number ≡ 0 }
+    requires splits { first.old.known.splits ≡ 0 }
+    requires first { IsFresh phaser.now first.old }
+    ensures number { first.new.known.number ≡ 0 }
+    ensures splits { IfOk result (λ v. first.new.known.splits ≡ count) }
+    ensures first { IfOk result (λ v. IsFresh phaser.now first.new) }
+    ensures callers { IfOk result (λ v. All (IsFresh phaser.now) v.items) }
+    ensures numbers { IfOk result (λ v. map number_of v.items ≡ range_with_len 1 count) }
+{
+    let mut callers = Vec::new(alloc);
+    for _ in 0..count {
+        callers.push(phaser.split(first))?;
+    }
+    Ok(callers)
+}
+
+/// Starts a thread for each caller, and waits until all have ended. If one can't be started, it terminates the phaser, so that
+/// those that run come back.
+fn run<R: Threads + Wait + Sync, P: Pace + Sync>(
+    rt: &R,
+    alloc: Global,
+    phaser: &SharedPhaser,
+    first: Party,
+    callers: Vec<Party>,
+    rounds: u32,
+    pace: &P,
+) -> (Party, Vec<Running>, Option<RaceFault>)
+    requires first { first.known.number ≡ 0 }
+    requires phaser { phaser_of first ≡ phaser.now }
+    requires callers { All (IsFresh phaser.now) callers.items }
+    ensures first { result.0.known.number ≡ 0 }
+    ensures phaser { phaser_of result.0 ≡ phaser.now }
+    ensures running { All (λ h. phaser_of h.promise.caller.value ≡ phaser.now) result.1.items }
+    ensures rounds { All (λ h. h.promise.rounds ≡ rounds) result.1.items }
+    ensures numbers { result.2 ≡ None
+        → map (λ h. number_of h.promise.caller.value) result.1.items ≡ map number_of callers.items }
+    ensures kept { result.2 ≡ None → result.0 ≡ first }
+    ensures fault { IfSome result.2 (λ fault. fault ≢ RaceFault.Write) }
+{
+    thread::scope(
+        thread::scope_env(),
+        rt,
+        move |scope| -> (Party, Vec<Running>, Option<RaceFault>)
+            requires first { first.known.number ≡ 0 }
+            requires phaser { phaser_of first ≡ phaser.now }
+            requires callers { All (IsFresh phaser.now) callers.items }
+            ensures first { result.0.known.number ≡ 0 }
+            ensures phaser { phaser_of result.0 ≡ phaser.entry.now }
+            ensures running { All (λ h. phaser_of h.promise.caller.value ≡ phaser.entry.now) result.1.items }
+            ensures rounds { All (λ h. h.promise.rounds ≡ rounds) result.1.items }
+            ensures numbers { result.2 ≡ None
+                → map (λ h. number_of h.promise.caller.value) result.1.items ≡ map number_of callers.items }
+            ensures kept { result.2 ≡ None → result.0 ≡ first }
+            ensures fault { IfSome result.2 (λ fault. fault ≢ RaceFault.Write) }
+        {
+            let mut first = first;
+            let mut running = Vec::new(alloc);
+            for caller in callers {
+                let home = Home {
+                    caller: Snapshot::of(&caller),
+                    rounds,
+                };
+                let Ok(handle) = scope.spawn_with(
+                    home,
+                    move || -> Party
+                        requires { IsFresh phaser.now caller }
+                        ensures { HasMet caller rounds result }
+                    { work(rt, phaser, caller, rounds, pace) },
+                ) else {
+                    phaser.force(rt, &mut first);
+                    return (first, running, Some(RaceFault::Spawn));
+                };
+                let Ok(()) = running.push(handle) else {
+                    phaser.force(rt, &mut first);
+                    return (first, running, Some(RaceFault::Memory));
+                };
+            }
+            (first, running, None)
+        },
+    )
+}
+
+/// Takes all callers back into the first.
+fn gather<R: Threads>(rt: &R, phaser: &SharedPhaser, first: &mut Party, running: Vec<Running>)
+    requires first { first.old.known.number ≡ 0 }
+    requires phaser { phaser_of first.old ≡ phaser.now }
+    requires running { All (λ h. phaser_of h.promise.caller.value ≡ phaser.now) running.items }
+    ensures first { first.new.known.number ≡ 0 }
+    ensures phaser { phaser_of first.new ≡ phaser.now }
+    ensures splits { first.new.known.splits ≡ first.old.known.splits }
+    ensures calls { first.new.known.calls ≡ first.old.known.calls }
+    ensures numbers { map (λ (k : Kept). k.number) first.new.known.joined
+        ≡ map (λ (k : Kept). k.number) first.old.known.joined
+        ++ map (λ h. number_of h.promise.caller.value) running.items }
+    ensures met { (rounds : ℕ) → All (λ h. h.promise.rounds ≡ rounds) running.items
+        → All (λ (k : Kept). AreMeetings k.number rounds k.calls) first.old.known.joined
+        → All (λ (k : Kept). AreMeetings k.number rounds k.calls) first.new.known.joined }
+{
+    for handle in running {
+        let party = handle.join(rt);
+        phaser.join(first, party);
+    }
+}
+
+/// So many threads meet so often at a phaser with as many parties. Returns its last word, when every caller has come back. Each
+/// thread reports each meeting to `pace`.
+pub fn race<R: Threads + Wait + Sync, P: Pace + Sync>(
+    rt: &R,
+    alloc: Global,
+    parties: u16,
+    rounds: u32,
+    pace: &P,
+) -> Result<Word, RaceFault>
+    ensures word { IfOk result (λ word. IsFinal parties rounds word) }
+    ensures fault { IfErr result (λ fault. fault ≢ RaceFault.Write) }
+{
+    let made = SharedPhaser::new(alloc, parties, Policy::Default, Phase::prevailing(0));
+    let (phaser, mut first) = match made {
+        Ok(both) => both,
+        Err(NewFault::Memory) => return Err(RaceFault::Memory),
+        Err(NewFault::RoutinePolicy) => unreachable!(),
+    };
+    let Ok(callers) = callers(alloc, &phaser, &mut first, parties) else {
+        return Err(RaceFault::Memory);
+    };
+    let (mut first, running, fault) = run(rt, alloc, &phaser, first, callers, rounds, pace);
+    gather(rt, &phaser, &mut first, running);
+    if let Some(fault) = fault {
+        return Err(fault);
+    }
+    Ok(phaser.close(first))
+}
