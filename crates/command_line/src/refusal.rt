@@ -7,7 +7,7 @@ ghost use Rattle.command_line.specs.declared.refusal.Refusal.TheVariants as refu
 use std::alloc::AllocError;
 
 /// An option with a value that it can't have.
-#[derive(Clone, Copy, PartialEq, Eq)]
+#[derive(Clone, Copy)]
 pub enum WrongOption {
     Width,
     Limit,
@@ -28,7 +28,7 @@ pub enum WrongOption {
 }
 
 /// Why arguments that the commands accept ask for nothing.
-#[derive(Clone, Copy, PartialEq, Eq)]
+#[derive(Clone, Copy)]
 pub enum Refusal {
     /// There was no memory for them.
     Memory,

@@ -1,16 +1,17 @@
 //! What the arguments of a command line ask for.
 ghost use Rattle.std.specs.Prelude.{◌≡◌, ◌≢◌, ◌⊎◌, ◌≤◌, IfErr, IfOk, IfSome, List, MatchOption, None, codes, map, option_map, true, ℕ};
 ghost use Rattle.clap.specs.Words.{app_of, kind_of, subcommand_rows_of, takes};
-ghost use Rattle.clap.specs.declared.error.kind.ErrorKind.TheVariants.{OutOfMemory};
+ghost use Rattle.clap.specs.declared.error.kind.ErrorKind.TheVariants.{OutOfMemory, ValueValidation};
 ghost use Rattle.std.specs.String.{string_bytes};
 ghost use Rattle.std.specs.Borrow.{Bor};
 ghost use Rattle.std.specs.List.{list_all};
 ghost use Rattle.trace_text.specs.Expectation.{is_expectation};
 ghost use Rattle.command_line.specs.Commands.{vuthgal};
 ghost use Rattle.command_line.specs.Request.{Asks, ComesTo, ComesToBy, ComesToOf, Fails, IsInRange, rows_in};
-ghost use Rattle.command_line.specs.Request.{AreInRange, AreNoSeeds, AreOrders, AreSeveral, AreSteps, IsExpected, IsRefusedBy, IsFlag, IsNoNumber, IsNoState, IsNumber};
+ghost use Rattle.command_line.specs.Request.{AreInRange, AreNoSeeds, AreOrders, AreSeveral, AreSteps, IsAskedBy, IsExpected, IsRefusedBy, IsFlag, IsNoNumber, IsNoState, IsNumber};
 ghost use Rattle.command_line.specs.Request.{IsSeeds, Spells, SpellsNoSeeds, SpellsNone, SpellsSeeds, word_at, word_given, words_at};
 ghost use Rattle.command_line.specs.declared.refusal.Refusal.TheVariants as refusal;
+ghost use Rattle.command_line.specs.declared.refusal.WrongOption.{WrongOption};
 ghost use Rattle.command_line.specs.declared.refusal.WrongOption.TheVariants as option;
 
 use crate::commands::program;
@@ -21,7 +22,7 @@ use std::alloc::{AllocError, Global};
 use trace_text::form::is_expectation;
 
 /// What a command line asks for. A file has the name that was given.
-#[derive(PartialEq, Eq, Drop)]
+#[derive(Drop)]
 pub enum Request<'a> {
     /// No command, `[--expect STATE]..`: play what standard input holds.
     Both {
@@ -98,7 +99,7 @@ pub enum Request<'a> {
 }
 
 /// The choices that a command plays, or begins after.
-#[derive(Clone, Copy, Debug, PartialEq, Eq)]
+#[derive(Clone, Copy)]
 pub enum Steps<'a> {
     /// The schedule in the program's own file. A session begins before the first choice.
     Beside,
@@ -111,14 +112,14 @@ pub enum Steps<'a> {
 }
 
 /// Seeds from one on: 1 to 100,000 numbers up to 4,294,967,295.
-#[derive(Clone, Copy, Debug, PartialEq, Eq)]
+#[derive(Clone, Copy)]
 pub struct Seeds {
     pub first: u32,
     pub last: u32,
 }
 
 /// Orders by seeds: each of at most so many choices, 1 to 1,000,000, where that is said; and how each run has to end.
-#[derive(PartialEq, Eq, Drop)]
+#[derive(Drop)]
 pub struct Orders<'a> {
     pub seeds: Seeds,
     pub limit: Option<u32>,
@@ -383,6 +384,58 @@ fn plan<'a>(alloc: Global, matches: &ArgMatches<'a>) -> Result<Request<'a>, Refu
     })
 }
 
+/// The image that these matches ask for.
+fn asm<'a>(matches: &ArgMatches<'a>) -> Request<'a>
+    ensures range { IsInRange result }
+    ensures asked { IsAskedBy (codes "asm") (rows_in matches.now) result }
+{
+    Request::Asm {
+        source: word(matches, "SRC"),
+        image: word(matches, "OUT"),
+    }
+}
+
+/// The listing that these matches ask for.
+fn list<'a>(matches: &ArgMatches<'a>) -> Request<'a>
+    ensures range { IsInRange result }
+    ensures asked { IsAskedBy (codes "list") (rows_in matches.now) result }
+{
+    Request::List {
+        file: word(matches, "FILE"),
+        has_rows: is_set(matches, "rows"),
+    }
+}
+
+/// The comparison that these matches ask for.
+fn compare<'a>(matches: &ArgMatches<'a>) -> Request<'a>
+    ensures range { IsInRange result }
+    ensures asked { IsAskedBy (codes "compare") (rows_in matches.now) result }
+{
+    Request::Compare {
+        file: word(matches, "FILE"),
+        trace: word(matches, "TRACE"),
+        is_shown: is_set(matches, "show"),
+    }
+}
+
+/// The schedule of a trace that these matches ask for.
+fn choices<'a>(matches: &ArgMatches<'a>) -> Request<'a>
+    ensures range { IsInRange result }
+    ensures asked { IsAskedBy (codes "choices") (rows_in matches.now) result }
+{
+    Request::Choices {
+        trace: word(matches, "TRACE"),
+    }
+}
+
+/// The explanation that these matches ask for.
+fn explain<'a>(alloc: Global, matches: &ArgMatches<'a>) -> Result<Request<'a>, Refusal>
+    ensures { ComesToBy (codes "explain") (rows_in matches.now) result }
+{
+    let words = several(alloc, matches, "WORD")?;
+    Ok(Request::Explain { words })
+}
+
 /// What a subcommand with these matches asks for, if none of its options is wrong.
 fn request_by<'a>(
     alloc: Global,
@@ -392,32 +445,18 @@ fn request_by<'a>(
     ensures { ComesToBy name.now (rows_in matches.now) result }
 {
     match name {
-        "asm" => Ok(Request::Asm {
-            source: word(matches, "SRC"),
-            image: word(matches, "OUT"),
-        }),
-        "list" => Ok(Request::List {
-            file: word(matches, "FILE"),
-            has_rows: is_set(matches, "rows"),
-        }),
+        "asm" => Ok(asm(matches)),
+        "list" => Ok(list(matches)),
         "run" => run(alloc, matches),
-        "compare" => Ok(Request::Compare {
-            file: word(matches, "FILE"),
-            trace: word(matches, "TRACE"),
-            is_shown: is_set(matches, "show"),
-        }),
+        "compare" => Ok(compare(matches)),
         "debug" => debug(matches),
         "show" => show(matches),
         "draw" => draw(matches),
         "live" => live(alloc, matches),
         "race" => race(matches),
-        "choices" => Ok(Request::Choices {
-            trace: word(matches, "TRACE"),
-        }),
+        "choices" => Ok(choices(matches)),
         "plan" => plan(alloc, matches),
-        "explain" => Ok(Request::Explain {
-            words: several(alloc, matches, "WORD")?,
-        }),
+        "explain" => explain(alloc, matches),
         _ => Ok(Request::Both {
             expected: Vec::new(alloc),
         }),
@@ -455,6 +494,38 @@ fn request_in<'a>(
     }
 }
 
+/// The error of words that are refused for this reason.
+fn error_of(program: &mut Command<'_>, why: Refusal) -> Error
+    ensures { (kind_of result ≡ OutOfMemory) ⊎ ((kind_of result ≡ ValueValidation)
+        × ((option : WrongOption) × (why ≡ refusal.Wrong option))) }
+{
+    let Refusal::Wrong(option) = why else {
+        return Error::from(AllocError);
+    };
+    match program.error(ErrorKind::ValueValidation, option.told()) {
+        Ok(error) => error,
+        Err(memory) => Error::from(memory),
+    }
+}
+
+/// What the words ask for by the program's commands, or the error that is reported.
+fn parsed<'a>(
+    alloc: Global,
+    program: &mut Command<'a>,
+    words: &'a [String],
+) -> Result<Request<'a>, Error>
+    requires { app_of program.old ≡ vuthgal }
+    ensures range { IfOk result (λ request. IsInRange request) }
+    ensures asked { IfOk result (Asks (map string_bytes words.entry.now)) }
+    ensures failed { IfErr result (Fails (map string_bytes words.entry.now)) }
+{
+    match request_in(alloc, program, words) {
+        Ok(Ok(request)) => Ok(request),
+        Ok(Err(why)) => Err(error_of(program, why)),
+        Err(error) => Err(error),
+    }
+}
+
 /// Returns what the arguments ask for. The first one is the program's own name. `--help` and `--version`, which prints this
 /// version, are errors, too: their `exit_code` is 0. It is 2 if the arguments are wrong.
 pub fn parse<'a>(alloc: Global, words: &'a [String], version: &'a str) -> Result<Request<'a>, Error>
@@ -463,13 +534,5 @@ pub fn parse<'a>(alloc: Global, words: &'a [String], version: &'a str) -> Result
     ensures failed { IfErr result (Fails (map string_bytes words.entry.now)) }
 {
     let mut program = program(alloc, version)?;
-    match request_in(alloc, &mut program, words) {
-        Ok(Ok(request)) => Ok(request),
-        Ok(Err(Refusal::Wrong(option))) => Err(program.error(
-            ErrorKind::ValueValidation,
-            option.told(),
-        )?),
-        Ok(Err(Refusal::Memory)) => Err(Error::from(AllocError)),
-        Err(error) => Err(error),
-    }
+    parsed(alloc, &mut program, words)
 }

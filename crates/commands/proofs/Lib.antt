@@ -3,7 +3,6 @@ mod Drawings
 mod Naming
 mod NoPicture
 mod Pages
-pub mod PlanLine
 pub mod PlanParts
 pub mod ListedRows
 pub mod Told

@@ -77,19 +77,24 @@ comes_of_plan program image loaded names seen plan (Ok planned) is same of has p
 comes_of_plan program image loaded names seen plan (Err reason) is same of has p = tt
 
 -- it is written
-pub plan_written : (stopped : Bool) (planned : Planned) (program : Program) (plan : List ℕ) (old new : Option (List ℕ))
+pub plan_written : (answer : Result Bool Unplanned) (planned : Planned) (program : Program) (plan : List ℕ) (old new : Option (List ℕ))
     → (progress : Progress) × (ComesOfPlan program plan progress × Shows planned progress)
-    → AreRuns planned.runs.items → stopped ≡ planned.stopped → Appends old new (schedule_line planned.runs.items)
-    → HasPlanned stopped program plan old new
-plan_written stopped planned program plan old new (progress, (comes, shows)) are told appends =
+    → AreRuns planned.runs.items → IfOk answer (λ stopped. stopped ≡ planned.stopped)
+    → IfOk answer (λ _. Appends old new (schedule_line planned.runs.items))
+    → IfOk answer (λ stopped. HasPlanned stopped program plan old new)
+plan_written (Ok stopped) planned program plan old new (progress, (comes, shows)) are told appends =
     (schedule_line planned.runs.items, (progress, (comes, (planned.runs.items, (are, shows.choices, refl, told ∙ shows.stopped)), appends)))
+plan_written (Err reason) planned program plan old new p are told appends = tt
 
 -- it is written with the names of the threads
-pub named_written : (stopped : Bool) (planned : Planned) (program : Program) (names seen : List (Bor (List ℕ))) (plan : List ℕ) (old new : Option (List ℕ))
+pub named_written : (answer : Result Bool Unplanned) (planned : Planned) (program : Program) (names seen : List (Bor (List ℕ))) (plan : List ℕ) (old new : Option (List ℕ))
     → (progress : Progress) × (ComesOfPlan program plan progress × Shows planned progress)
-    → HasThreads program.image program.names (map name_seen names) → seen ≡ names → AreRuns planned.runs.items → stopped ≡ planned.stopped
-    → Appends old new (line_by (Some (map name_seen seen)) planned.runs.items) → HasNamedPlanned stopped program plan old new
-named_written stopped planned program names seen plan old new (progress, (comes, shows)) has same are told appends =
+    → HasThreads program.image program.names (map name_seen names) → seen ≡ names → AreRuns planned.runs.items
+    → IfOk answer (λ stopped. stopped ≡ planned.stopped)
+    → IfOk answer (λ _. Appends old new (line_by (Some (map name_seen seen)) planned.runs.items))
+    → IfOk answer (λ stopped. HasNamedPlanned stopped program plan old new)
+named_written (Err reason) planned program names seen plan old new p has same are told appends = tt
+named_written (Ok stopped) planned program names seen plan old new (progress, (comes, shows)) has same are told appends =
     let line = line_by (Some (map name_seen seen)) planned.runs.items in (
       map name_seen seen,
       (

@@ -1,18 +1,26 @@
 -- Orders of seeds, one more at a time.
-use Rattle.std.proofs.Common.{◌≡◌, ◌+◌, ◌<◌, ℕ, List, [], ◌∷◌, ◌++◌, Some, None, length, subst, sym, arith}
+use Rattle.std.proofs.Common.{◌≡◌, ◌∙◌, ◌+◌, ◌<◌, ℕ, List, [], ◌∷◌, ◌++◌, Some, None, ap, length, subst, sym, arith}
 use Rattle.std.specs.Global.{Vec}
 use Rattle.std.specs.List.{find}
 use Rattle.std.specs.Option.{option_or}
-use Rattle.std.specs.Prelude.{Err, Option, cond, not}
+use Rattle.std.specs.Prelude.{Err, IfOk, Option, Result, cond, not}
 use Rattle.std.proofs.lemmas.List.Folds.{find-append}
 use Rattle.loader.specs.Program.{Program as Loaded}
 use Rattle.plans.specs.Plan.{words_in_plan}
 use Rattle.plans.specs.declared.fault.PlanFault.{PlanFault}
+use Rattle.plans.specs.declared.planned.Planned.{Planned}
+use Rattle.plans.specs.Planned.{AreRuns, Shows}
+use Rattle.plans.specs.Progress.{Progress}
+use Rattle.thread_machine.specs.Standing.{standing_of}
+use Rattle.thread_machine.specs.World.{World}
 use Rattle.trace_text.specs.Expectation.{are_met}
+use Rattle.commands.specs.Ends.{end_text}
 use Rattle.commands.specs.Outcomes.{Ended}
-use Rattle.commands.specs.Seeds.{AreEndsBy, IsEndBy, IsFirstUnlike, IsSeedOf, IsUnlike, is_unlike, plan_by}
+use Rattle.commands.specs.Planning.{Plays}
+use Rattle.commands.specs.Seeds.{AreEndsBy, IsEndBy, IsEndOf, IsFirstUnlike, IsSeedOf, IsUnlike, is_unlike, plan_by}
 use Rattle.commands.specs.declared.seeds.Seeds.{Seeds}
 use Rattle.commands.specs.declared.seeds.Unlike.{Unlike}
+use Rattle.commands.specs.declared.unplanned.Unplanned.{Unplanned}
 
 pub one_more : (program : Loaded) (names : List (List ℕ)) (plan : List ℕ) (limit : Option ℕ) (first : ℕ) (runs : List Ended) (run : Ended)
     → AreEndsBy program names plan limit first runs → IsEndBy program names plan limit (first + length runs) run
@@ -49,3 +57,32 @@ pub judged : (expected : List (Vec ℕ)) (run : Ended) (state : List ℕ) (unlik
     → IsUnlike (cond (not (are_met state expected)) (Some run) None) unlike → IsFirstUnlike expected (run ∷ []) unlike
 judged expected run state unlike is told =
     subst (λ s. IsUnlike (cond (not (are_met s expected)) (Some run) None) unlike) (sym is) told
+
+-- what is played of a copy of a program, by a text that is the plan's, is played of the program by the plan
+pub copy_played : (program copy : Loaded) (names : List (List ℕ)) (plan text : List ℕ) (answer : Result Planned Unplanned)
+    → copy ≡ program → text ≡ plan
+    → IfOk answer (λ planned. (progress : Progress) × (Plays copy names text progress × Shows planned progress))
+    → IfOk answer (λ planned. (progress : Progress) × (Plays program names plan progress × Shows planned progress))
+copy_played program copy names plan text answer is also played =
+    subst (λ t. IfOk answer (λ planned. (progress : Progress) × (Plays program names t progress × Shows planned progress))) also
+    (subst (λ p. IfOk answer (λ planned. (progress : Progress) × (Plays p names text progress × Shows planned progress))) is played)
+
+-- what the plan of a seed comes to is a run of it
+pub seed_played : (program : Loaded) (names : List (List ℕ)) (plan : List ℕ) (limit : Option ℕ) (seed : ℕ) (planned : Planned) (run : Ended)
+    → (progress : Progress) × (Plays program names (plan_by plan limit seed) progress × Shows planned progress)
+    → AreRuns planned.runs.items → IsEndOf planned seed run → IsEndBy program names plan limit seed run
+seed_played program names plan limit seed planned run (progress, (plays, shows)) are (seeded, schedule, standing, state) = (
+  progress,
+  (
+    planned.runs.items,
+    (
+      plays,
+      are,
+      shows.choices,
+      seeded,
+      schedule,
+      standing ∙ ap (λ (world : World). standing_of world) shows.world,
+      state ∙ ap (λ (world : World). end_text run.ending world) shows.world,
+    ),
+  ),
+)

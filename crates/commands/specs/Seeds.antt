@@ -6,10 +6,12 @@ use Rattle.std.specs.List.{find}
 use Rattle.plans.specs.Plan.{words_in_plan}
 use Rattle.plans.specs.Planned.{AreRuns}
 use Rattle.plans.specs.Progress.{Progress}
+use Rattle.plans.specs.declared.planned.Planned.{Planned}
 use Rattle.schedule_reader.specs.Schedule.{choices_of}
 use Rattle.schedule_reader.specs.Text.{schedule_text}
 use Rattle.schedule_reader.specs.declared.run.Run.{Run}
 use Rattle.thread_machine.specs.Standing.{standing_of}
+use Rattle.thread_machine.specs.World.{world_of}
 use Rattle.thread_runner.specs.Endings.{standing_at}
 use Rattle.trace_text.specs.Expectation.{are_met}
 use Rattle.commands.specs.Ends.{end_text}
@@ -40,6 +42,13 @@ IsEndBy program names plan limit seed run =
     (progress : Progress) × ((runs : List Run) × (Plays program names (plan_by plan limit seed) progress × AreRuns runs
     × (choices_of runs ≡ progress.choices) × (run.seed ≡ Some seed) × (run.schedule ≡ schedule_text runs)
     × (standing_at run.ending ≡ standing_of progress.world) × (run.state ≡ end_text run.ending progress.world)))
+
+-- a run of a seed is what was played: its schedule, how it ended, and its state
+abbrev pub IsEndOf : Planned → (seed : ℕ) → Ended → Type 0
+IsEndOf planned seed run =
+    (run.seed ≡ Some seed) × (run.schedule ≡ schedule_text planned.runs.items)
+    × (standing_at run.ending ≡ standing_of (world_of planned.machine))
+    × (run.state ≡ end_text run.ending (world_of planned.machine))
 
 -- one for each seed, from this one on
 abbrev pub AreEndsBy : Loaded → (names : List (List ℕ)) → (plan : List ℕ) → (limit : Option ℕ) → (first : ℕ) → List Ended → Type 0

@@ -8,7 +8,7 @@ ghost use Rattle.commands.specs.Runs.{AreOutcomesFrom, Reports};
 
 use crate::outcomes::{Outcomes, sort};
 use crate::pauses::Pauses;
-use crate::report::{done_by, report};
+use crate::report::{done_by, push_report};
 use crate::runs::add_runs;
 use byte_ports::Sink;
 use loader::{LoadFault, Loaded, load};
@@ -57,7 +57,7 @@ pub fn report_runs<R: Threads + Wait + Sync, G: Gate + Sync, K: Sink>(
         Ok(outcomes) => outcomes,
         Err(fault) => return Err(fault),
     };
-    push_report(alloc, asked.expected, &outcomes, output)
+    push_outcomes(alloc, asked.expected, &outcomes, output)
 }
 
 /// Returns the outcomes of a program's runs, the most frequent first.
@@ -92,7 +92,7 @@ fn outcomes_of<R: Threads + Wait + Sync, G: Gate + Sync>(
 }
 
 /// Writes the outcomes of all runs in one piece, and returns whether they ended as expected.
-fn push_report<K: Sink>(
+fn push_outcomes<K: Sink>(
     alloc: Global,
     expected: &[Vec<u8>],
     outcomes: &Outcomes,
@@ -104,11 +104,8 @@ fn push_report<K: Sink>(
     ensures unchanged { result ≡ Err Fault.Memory → K.written output.new ≡ K.written output.old }
     ensures write { result ≡ Err Fault.Write → IsTrue (K.has_failed output.new) }
 {
-    let Ok(text) = report(alloc, None, outcomes) else {
-        return Err(Fault::Memory);
-    };
-    match output.push(text.as_slice()) {
+    match push_report(alloc, None, outcomes, output) {
         Ok(()) => Ok(done_by(expected, outcomes)),
-        Err(_) => Err(Fault::Write),
+        Err(fault) => Err(fault),
     }
 }

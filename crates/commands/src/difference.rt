@@ -1,9 +1,9 @@
 //! The command.
-ghost use Rattle.std.specs.Prelude.{◌≡◌, ◌++◌, IsTrue, IfErr, OnOk};
+ghost use Rattle.std.specs.Prelude.{◌≡◌, ◌⊎◌, ◌++◌, ℕ, Err, IsTrue, IfErr, List, OnOk};
 ghost use Rattle.std.specs.Io.KnownBytes.{Appends};
 ghost use Rattle.workbench.specs.declared.fault.Fault.{Fault};
 ghost use Rattle.workbench.specs.Compare.{verdict_line};
-ghost use Rattle.commands.specs.Showing.{ShowsComparison};
+ghost use Rattle.commands.specs.Showing.{ShowsComparison, StandsBehind};
 
 use crate::shown::shown;
 use byte_ports::{Sink, Source};
@@ -25,19 +25,28 @@ pub fn show_comparison<S: Source, K: Sink>(
     ensures { ShowsComparison image result (S.left trace.old) (S.left trace.new) (S.has_failed trace.new)
         (K.written output.old) (K.written output.new) (K.has_failed output.new) }
 {
-    let judged = match judge(alloc, image, trace) {
-        Ok(judged) => judged,
-        Err(CompareFault::Load(fault)) => return Err(Fault::Load(fault)),
-        Err(CompareFault::Memory) => return Err(Fault::Memory),
-        Err(CompareFault::Read) => return Err(Fault::Read),
-    };
-    let shown = match shown(alloc, &judged) {
-        Ok(shown) => shown,
-        Err(_) => return Err(Fault::Memory),
-    };
-    match push_shown(output, judged.verdict(), shown.as_slice()) {
-        Ok(()) => Ok(judged),
-        Err(fault) => Err(fault),
+    match judge(alloc, image, trace) {
+        Ok(judged) => match push_judged(alloc, &judged, output) {
+            Ok(()) => Ok(judged),
+            Err(fault) => Err(fault),
+        },
+        Err(CompareFault::Load(fault)) => Err(Fault::Load(fault)),
+        Err(CompareFault::Memory) => Err(Fault::Memory),
+        Err(CompareFault::Read) => Err(Fault::Read),
+    }
+}
+
+/// Writes the verdict, and what follows it, once that is known.
+fn push_judged<K: Sink>(alloc: Global, judged: &Judged, output: &mut K) -> Result<(), Fault>
+    ensures bytes { OnOk result ((shown : List ℕ) × (StandsBehind judged.now.told.verdict judged.now.trace judged.now.told.line shown
+        × Appends (K.written output.old) (K.written output.new) (verdict_line judged.now.told.verdict ++ shown))) }
+    ensures fault { IfErr result (λ fault. (fault ≡ Fault.Memory) ⊎ (fault ≡ Fault.Write)) }
+    ensures memory { result ≡ Err Fault.Memory → K.written output.new ≡ K.written output.old }
+    ensures write { result ≡ Err Fault.Write → IsTrue (K.has_failed output.new) }
+{
+    match shown(alloc, judged) {
+        Ok(shown) => push_shown(output, judged.verdict(), shown.as_slice()),
+        Err(_) => Err(Fault::Memory),
     }
 }
 

@@ -3,15 +3,20 @@ ghost use Rattle.std.specs.Prelude.{◌≡◌, ◌≢◌, ◌≤◌, Err, IfErr,
 ghost use Rattle.commands.specs.Drawing.{IsDrawingIn};
 ghost use Rattle.commands.specs.Picture.{HaveNoPicture};
 ghost use Rattle.workbench.specs.declared.fault.PictureKind.TheVariants as picture;
+ghost use Rattle.workbench.specs.declared.fault.Fault.{Fault};
+ghost use Rattle.pictures.specs.Picture.{picture as text_of};
+ghost use Rattle.thread_machine.specs.World.{world_of};
 ghost use Rattle.workbench.specs.Fault.{status_of};
 ghost use Rattle.workbench.specs.Input.{most_bytes};
 
 use crate::picture::Picture;
 use crate::picture_fault::{fault_of, start_fault};
+use assembler::Symbols;
 use pictures::choices::choices_in;
 use pictures::picture::picture;
 use pictures::shown::{Shown, missing};
 use std::alloc::Global;
+use thread_machine::{Choice, Machine};
 use trace_text::start::first_machine;
 use workbench::Program;
 use workbench::fault::{Fault, PictureKind};
@@ -39,14 +44,27 @@ fn drawing_of(
         Ok(machine) => machine,
         Err(fault) => return Err(start_fault(fault)),
     };
-    let choices = match choices_in(alloc, schedule) {
-        Ok(choices) => choices,
-        Err(fault) => return Err(fault_of(fault, PictureKind::Drawing)),
-    };
-    match picture(alloc, &mut machine, &names, width, choices.as_slice()) {
-        Ok(text) => Ok(Shown {
-            bytes: text,
-            missing: missing(&machine, choices.as_slice()),
+    match choices_in(alloc, schedule) {
+        Ok(choices) => drawn(alloc, width, &mut machine, &names, choices.as_slice()),
+        Err(fault) => Err(fault_of(fault, PictureKind::Drawing)),
+    }
+}
+
+/// The drawing of these choices, from a machine on.
+fn drawn(
+    alloc: Global,
+    width: u16,
+    machine: &mut Machine,
+    names: &Symbols<'_>,
+    choices: &[Choice],
+) -> Result<Shown, Fault>
+    ensures drawing { IfOk result (λ shown. shown.bytes.items ≡ text_of width names.now (world_of machine.old) choices.now) }
+    ensures memory { IfErr result (λ fault. fault ≡ Fault.Memory) }
+{
+    match picture(alloc, machine, names, width, choices) {
+        Ok(bytes) => Ok(Shown {
+            bytes,
+            missing: missing(machine, choices),
         }),
         Err(_) => Err(Fault::Memory),
     }

@@ -149,23 +149,45 @@ fn push_planned<K: Sink>(
     planned: &Planned,
     names: Option<&[&[u8]]>,
     output: &mut K,
-) -> Result<bool, Fault>
+) -> Result<bool, Unplanned>
     requires runs { AreRuns planned.now.runs.items }
     requires names { IfSome names (λ names. length names.now ≤ 64) }
     ensures stopped { IfOk result (λ stopped. stopped ≡ planned.now.stopped) }
     ensures bytes { IfOk result (λ stopped. Appends (K.written output.old) (K.written output.new)
         (line_by (names_seen names.entry) planned.now.runs.items)) }
-    ensures unwritten { IfErr result (λ fault. fault ≢ Fault.Write → K.written output.new ≡ K.written output.old) }
-    ensures fault { IfErr result (λ fault. (fault ≡ Fault.Memory) ⊎ (fault ≡ Fault.Write)) }
-    ensures write { result ≡ Err Fault.Write → IsTrue (K.has_failed output.new) }
+    ensures unwritten { IfErr result (λ reason. reason ≢ why.Fault Fault.Write → K.written output.new ≡ K.written output.old) }
+    ensures fault { IfErr result (λ reason. (reason ≡ why.Fault Fault.Memory) ⊎ (reason ≡ why.Fault Fault.Write)) }
+    ensures write { result ≡ Err (why.Fault Fault.Write) → IsTrue (K.has_failed output.new) }
 {
     let Ok(text) = text_by(alloc, names, planned.runs.as_slice()) else {
-        return Err(Fault::Memory);
+        return Err(Unplanned::Fault(Fault::Memory));
     };
     if output.push(text.as_slice()).is_err() || output.push(b"\n").is_err() {
-        return Err(Fault::Write);
+        return Err(Unplanned::Fault(Fault::Write));
     }
     Ok(planned.stopped)
+}
+
+/// Plays a plan on a program. Returns its runs of choices, and the names of the threads.
+fn planned_of<'a>(
+    alloc: Global,
+    program: Program<'a>,
+    plan: &[u8],
+) -> Result<(Planned, Vec<&'a [u8]>), Unplanned>
+    ensures planned { IfOk result (λ both. (progress : Progress) × (ComesOfPlan program.entry plan.now progress
+        × Shows both.0 progress)) }
+    ensures runs { IfOk result (λ both. AreRuns both.0.runs.items) }
+    ensures names { IfOk result (λ both. HasThreads program.entry.image program.entry.names (map name_seen both.1.items)) }
+    ensures few { IfOk result (λ both. length both.1.items ≤ 64) }
+    ensures refused { IfErr result (λ reason. unplanned_status reason ≡ 3 → HasNoSchedule reason program.entry plan.now) }
+    ensures other { (result ≢ Err (why.Fault Fault.Read)) × (result ≢ Err (why.Fault Fault.Write))
+        × (result ≢ Err (why.Fault Fault.Spawn)) }
+{
+    let (loaded, names) = loaded_program(alloc, program.image, &program.names)?;
+    match planned_on(alloc, loaded, names.as_slice(), plan) {
+        Ok(planned) => Ok((planned, names)),
+        Err(reason) => Err(reason),
+    }
 }
 
 /// Writes the schedule that a plan stands for on a program, as one line. The line is complete before anything is written.
@@ -183,12 +205,8 @@ pub fn plan<K: Sink>(
     ensures other { (result ≢ Err (why.Fault Fault.Read)) × (result ≢ Err (why.Fault Fault.Spawn)) }
     ensures write { result ≡ Err (why.Fault Fault.Write) → IsTrue (K.has_failed output.new) }
 {
-    let (loaded, names) = loaded_program(alloc, program.image, &program.names)?;
-    let planned = match planned_on(alloc, loaded, names.as_slice(), plan) {
-        Ok(planned) => planned,
-        Err(reason) => return Err(reason),
-    };
-    Ok(push_planned(alloc, &planned, None, output)?)
+    let (planned, _names) = planned_of(alloc, program, plan)?;
+    push_planned(alloc, &planned, None, output)
 }
 
 /// Writes it with the names of the threads in place of numbers, so that it is a plan; else as `plan` does.
@@ -205,10 +223,6 @@ pub fn plan_with_names<K: Sink>(
     ensures other { (result ≢ Err (why.Fault Fault.Read)) × (result ≢ Err (why.Fault Fault.Spawn)) }
     ensures write { result ≡ Err (why.Fault Fault.Write) → IsTrue (K.has_failed output.new) }
 {
-    let (loaded, names) = loaded_program(alloc, program.image, &program.names)?;
-    let planned = match planned_on(alloc, loaded, names.as_slice(), plan) {
-        Ok(planned) => planned,
-        Err(reason) => return Err(reason),
-    };
-    Ok(push_planned(alloc, &planned, Some(names.as_slice()), output)?)
+    let (planned, names) = planned_of(alloc, program, plan)?;
+    push_planned(alloc, &planned, Some(names.as_slice()), output)
 }

@@ -1,18 +1,22 @@
 //! The results of several runs, as lines.
-ghost use Rattle.std.specs.Prelude.{◌≡◌, ◌≤◌, ◌++◌, IfOk, IfSome, OnOk, length};
+ghost use Rattle.std.specs.Prelude.{◌≡◌, ◌⊎◌, ◌≤◌, ◌++◌, Err, IsTrue, IfErr, IfOk, IfSome, OnOk, length};
+ghost use Rattle.std.specs.Io.KnownBytes.{Appends};
 ghost use Rattle.commands.specs.Named.{names_seen, told_by};
 ghost use Rattle.trace_text.specs.Expectation.{are_met};
+ghost use Rattle.workbench.specs.declared.fault.Fault.{Fault};
 ghost use Rattle.commands.specs.Outcomes.{are_as_expected, died_mark, order_text, outcome_line, report, done_by, seed_mark};
 
 use crate::end_state::{EndState, word_of};
 use crate::named::named_text;
 use crate::outcomes::{Outcome, Outcomes};
+use byte_ports::Sink;
 use itoa::Buffer;
 use schedule_reader::{ScheduleFault, read_schedule};
 use std::alloc::{AllocError, Global};
 use trace_text::meeting::are_met;
 use trace_text::state_line::has_died;
 use workbench::done::Done;
+use workbench::fault::Fault;
 
 /// The most bytes that a text has of which there can be another one in memory.
 const LONGEST: usize = 9_223_372_036_854_775_806;
@@ -103,7 +107,7 @@ fn push_line(
 }
 
 /// Returns the lines of all outcomes. Their schedules have these names, if there are some.
-pub fn report(
+fn report(
     alloc: Global,
     names: Option<&[&[u8]]>,
     outcomes: &Outcomes,
@@ -118,6 +122,29 @@ pub fn report(
         }
     }
     Ok(text)
+}
+
+/// Writes the lines of all outcomes in one piece. Their schedules have these names, if there are some.
+pub fn push_report<K: Sink>(
+    alloc: Global,
+    names: Option<&[&[u8]]>,
+    outcomes: &Outcomes,
+    output: &mut K,
+) -> Result<(), Fault>
+    requires { IfSome names (λ names. length names.now ≤ 64) }
+    ensures report { OnOk result (Appends (K.written output.old) (K.written output.new)
+        (report (names_seen names.entry) outcomes.now.entries)) }
+    ensures fault { IfErr result (λ fault. (fault ≡ Fault.Memory) ⊎ (fault ≡ Fault.Write)) }
+    ensures unchanged { result ≡ Err Fault.Memory → K.written output.new ≡ K.written output.old }
+    ensures write { result ≡ Err Fault.Write → IsTrue (K.has_failed output.new) }
+{
+    let Ok(text) = report(alloc, names, outcomes) else {
+        return Err(Fault::Memory);
+    };
+    match output.push(text.as_slice()) {
+        Ok(()) => Ok(()),
+        Err(_) => Err(Fault::Write),
+    }
 }
 
 /// Whether runs that ended in a state ended as they were expected to.

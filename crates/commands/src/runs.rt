@@ -67,12 +67,12 @@ fn shown(alloc: Global, schedule: &[u8]) -> Result<String, Fault>
 }
 
 /// Adds what a run came to.
-fn add_run(alloc: Global, run: LiveRun, outcomes: &mut Outcomes) -> Result<(), Fault>
-    requires few { length run.schedule.items ≤ 4000000000 }
+fn add_run(alloc: Global, run: &LiveRun, outcomes: &mut Outcomes) -> Result<(), Fault>
+    requires few { length run.now.schedule.items ≤ 4000000000 }
     requires outcomes { (other : EndState) → IfSome (get is_state outcomes.old other) (λ outcome. outcome.times < 4294967295) }
     ensures added { (first : World) → (runs : List Ended)
-        → IsReplayOfText first run.schedule.items (world_of run.machine)
-        → ending_of (world_of run.machine) ≡ Some run.ending → AreOutcomes runs outcomes.old.entries
+        → IsReplayOfText first run.now.schedule.items (world_of run.now.machine)
+        → ending_of (world_of run.now.machine) ≡ Some run.now.ending → AreOutcomes runs outcomes.old.entries
         → OnOk result ((ended : Ended) × (IsEndedFrom first ended × AreOutcomes (runs ++ ended ∷ []) outcomes.new.entries)) }
     ensures fault { IfErr result (λ fault. fault ≡ Fault.Memory) }
 {
@@ -107,7 +107,7 @@ pub fn add_runs<R: Threads + Wait + Sync, G: Gate + Sync>(
 {
     for number in 0..count {
         let run = run_once(rt, alloc, program, limit, &pauses.of_run(number, gate))?;
-        add_run(alloc, run, outcomes)?;
+        add_run(alloc, &run, outcomes)?;
     }
     Ok(())
 }

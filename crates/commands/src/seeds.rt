@@ -9,20 +9,26 @@ ghost use Rattle.thread_runner.specs.Endings.{standing_at};
 ghost use Rattle.workbench.specs.declared.fault.Fault.{Fault};
 ghost use Rattle.commands.specs.Outcomes.{AreOutcomes, Ended, IsMostFrequentFirst, is_state};
 ghost use Rattle.commands.specs.Unplanned.{unplanned_status};
+ghost use Rattle.commands.specs.Planning.{HasThreads, Plays};
+ghost use Rattle.loader.specs.Program.{IsProgramOf};
+ghost use Rattle.loader.specs.Program.{Program as Loaded};
 ghost use Rattle.plans.specs.Plan.{words_in_plan};
+ghost use Rattle.plans.specs.Planned.{AreRuns, Shows};
+ghost use Rattle.plans.specs.Progress.{Progress};
 ghost use Rattle.plans.specs.declared.fault.PlanFault.{PlanFault};
-ghost use Rattle.commands.specs.Seeds.{AreOutcomesBy, HasReportedSeeds, HaveNoReport, IsEndBy, IsFirstUnlike, IsSeedOf, limit_mark, plan_by};
+ghost use Rattle.commands.specs.Seeds.{AreOutcomesBy, HasReportedSeeds, HaveNoReport, IsEndBy, IsEndOf, IsFirstUnlike, IsSeedOf, limit_mark, plan_by};
 ghost use Rattle.commands.specs.declared.unplanned.Unplanned.TheVariants as why;
 
 use crate::end_state::EndState;
 use crate::observer::Observer;
 use crate::outcomes::{Outcomes, add, sort};
 use crate::plan::{loaded_program, planned_on};
-use crate::report::report;
+use crate::report::push_report;
 use crate::unplanned::Unplanned;
 use byte_ports::Sink;
 use itoa::Buffer;
 use loader::Loaded;
+use plans::planned::Planned;
 use schedule_reader::write_schedule;
 use std::alloc::{AllocError, Global};
 use thread_machine::{Machine, Standing};
@@ -122,6 +128,54 @@ struct OrderEnd {
     unlike: Option<Unlike>,
 }
 
+/// Plays the plan of a seed on a copy of a program.
+fn planned_by_seed(
+    alloc: Global,
+    program: &Loaded,
+    names: &[&[u8]],
+    plan: &[u8],
+    limit: Option<u32>,
+    seed: u64,
+) -> Result<Planned, Unplanned>
+    requires { length names.now ≤ 64 }
+    ensures planned { IfOk result (λ planned. (progress : Progress) × (Plays program.now (map name_seen names.now)
+        (plan_by plan.now limit seed) progress × Shows planned progress)) }
+    ensures runs { IfOk result (λ planned. AreRuns planned.runs.items) }
+    ensures refused { (f : PlanFault) → result ≡ Err (Unplanned.Plan f)
+        → words_in_plan (map name_seen names.now) (plan_by plan.now limit seed) ≡ Err f }
+    ensures other { (f : Fault) → result ≡ Err (Unplanned.Fault f) → f ≡ Fault.Memory }
+{
+    let Ok(text) = plan_by(alloc, plan, limit, seed) else {
+        return Err(Unplanned::Fault(Fault::Memory));
+    };
+    let Ok(program) = program.copy(alloc) else {
+        return Err(Unplanned::Fault(Fault::Memory));
+    };
+    planned_on(alloc, program, names, text.as_slice())
+}
+
+/// Adds the outcome of an order, which was played so far.
+fn add_planned(
+    alloc: Global,
+    planned: &Planned,
+    expected: &[Vec<u8>],
+    seed: u64,
+    outcomes: &mut Outcomes,
+) -> Result<OrderEnd, AllocError>
+    requires runs { AreRuns planned.now.runs.items }
+    requires few { (other : EndState) → IfSome (get is_state outcomes.old other) (λ outcome. outcome.times < 4294967295) }
+    ensures { (runs : List Ended) → AreOutcomes runs outcomes.old.entries → IfOk result (λ end.
+        (ended : Ended) × (IsEndOf planned.now seed ended × AreOutcomes (runs ++ ended ∷ []) outcomes.new.entries
+        × IsFirstUnlike expected.now (ended ∷ []) end.unlike)) }
+{
+    let ending = ending_of(&planned.machine);
+    let state = EndState::of(alloc, ending, &planned.machine)?;
+    let unlike = judged(alloc, expected, seed, ending, &state)?;
+    let schedule = write_schedule(alloc, planned.runs.as_slice())?;
+    add(outcomes, state, ending, Some(seed), schedule)?;
+    Ok(OrderEnd { ending, unlike })
+}
+
 /// Adds the outcome of the order of a seed.
 fn add_order(
     alloc: Global,
@@ -142,28 +196,12 @@ fn add_order(
         → words_in_plan (map name_seen names.now) (plan_by plan.now seeds.now.limit seed) ≡ Err f }
     ensures other { (f : Fault) → result ≡ Err (Unplanned.Fault f) → f ≡ Fault.Memory }
 {
-    let Ok(text) = plan_by(alloc, plan, seeds.limit, seed) else {
-        return Err(Unplanned::Fault(Fault::Memory));
-    };
-    let Ok(program) = program.copy(alloc) else {
-        return Err(Unplanned::Fault(Fault::Memory));
-    };
-    let planned = match planned_on(alloc, program, names, text.as_slice()) {
+    let planned = match planned_by_seed(alloc, program, names, plan, seeds.limit, seed) {
         Ok(planned) => planned,
         Err(reason) => return Err(reason),
     };
-    let ending = ending_of(&planned.machine);
-    let Ok(state) = EndState::of(alloc, ending, &planned.machine) else {
-        return Err(Unplanned::Fault(Fault::Memory));
-    };
-    let Ok(unlike) = judged(alloc, seeds.expected, seed, ending, &state) else {
-        return Err(Unplanned::Fault(Fault::Memory));
-    };
-    let Ok(schedule) = write_schedule(alloc, planned.runs.as_slice()) else {
-        return Err(Unplanned::Fault(Fault::Memory));
-    };
-    match add(outcomes, state, ending, Some(seed), schedule) {
-        Ok(()) => Ok(OrderEnd { ending, unlike }),
+    match add_planned(alloc, &planned, seeds.expected, seed, outcomes) {
+        Ok(end) => Ok(end),
         Err(_) => Err(Unplanned::Fault(Fault::Memory)),
     }
 }
@@ -175,8 +213,8 @@ struct Tally {
     unlike: Option<Unlike>,
 }
 
-/// Plays the orders of all seeds, and returns their outcomes. The end of each run is reported at once.
-fn tally_of<O: Observer>(
+/// Plays the orders of all seeds, and counts the states that they end in. The end of each run is reported at once.
+fn counted<O: Observer>(
     alloc: Global,
     program: &Loaded,
     names: &[&[u8]],
@@ -188,7 +226,6 @@ fn tally_of<O: Observer>(
     requires few { seeds.now.count ≤ 100000 }
     ensures outcomes { IfOk result (λ tally. AreOutcomesBy program.now (map name_seen names.now) plan.now seeds.now
         tally.outcomes.entries tally.unlike) }
-    ensures sorted { IfOk result (λ tally. IsMostFrequentFirst tally.outcomes.entries) }
     ensures refused { (f : PlanFault) → result ≡ Err (Unplanned.Plan f)
         → (seed : ℕ) × (IsSeedOf seeds.now seed
         × (words_in_plan (map name_seen names.now) (plan_by plan.now seeds.now.limit seed) ≡ Err f)) }
@@ -206,9 +243,60 @@ fn tally_of<O: Observer>(
             Err(reason) => return Err(reason),
         }
     }
-    match sort(&mut outcomes) {
-        Ok(()) => Ok(Tally { outcomes, unlike }),
+    Ok(Tally { outcomes, unlike })
+}
+
+/// Plays the orders of all seeds, and returns their outcomes, sorted.
+fn tally_of<O: Observer>(
+    alloc: Global,
+    program: Loaded,
+    names: &[&[u8]],
+    plan: &[u8],
+    seeds: &Seeds<'_>,
+    observer: &O,
+) -> Result<Tally, Unplanned>
+    requires names { length names.now ≤ 64 }
+    requires few { seeds.now.count ≤ 100000 }
+    ensures outcomes { IfOk result (λ tally. AreOutcomesBy program (map name_seen names.now) plan.now seeds.now
+        tally.outcomes.entries tally.unlike) }
+    ensures sorted { IfOk result (λ tally. IsMostFrequentFirst tally.outcomes.entries) }
+    ensures refused { (f : PlanFault) → result ≡ Err (Unplanned.Plan f)
+        → (seed : ℕ) × (IsSeedOf seeds.now seed
+        × (words_in_plan (map name_seen names.now) (plan_by plan.now seeds.now.limit seed) ≡ Err f)) }
+    ensures other { (f : Fault) → result ≡ Err (Unplanned.Fault f) → f ≡ Fault.Memory }
+{
+    let mut tally = match counted(alloc, &program, names, plan, seeds, observer) {
+        Ok(tally) => tally,
+        Err(reason) => return Err(reason),
+    };
+    match sort(&mut tally.outcomes) {
+        Ok(()) => Ok(tally),
         Err(_) => Err(Unplanned::Fault(Fault::Memory)),
+    }
+}
+
+/// Plays the orders of all seeds on a program. Returns their outcomes, sorted, and the names of the threads.
+fn tally_in<'a, O: Observer>(
+    alloc: Global,
+    program: Program<'a>,
+    plan: &[u8],
+    seeds: &Seeds<'_>,
+    observer: &O,
+) -> Result<(Tally, Vec<&'a [u8]>), Unplanned>
+    requires { seeds.now.count ≤ 100000 }
+    ensures outcomes { IfOk result (λ both. (loaded : Loaded) × (IsProgramOf program.entry.image loaded
+        × AreOutcomesBy loaded (map name_seen both.1.items) plan.now seeds.now both.0.outcomes.entries both.0.unlike)) }
+    ensures sorted { IfOk result (λ both. IsMostFrequentFirst both.0.outcomes.entries) }
+    ensures names { IfOk result (λ both. HasThreads program.entry.image program.entry.names (map name_seen both.1.items)) }
+    ensures few { IfOk result (λ both. length both.1.items ≤ 64) }
+    ensures refused { IfErr result (λ reason. unplanned_status reason ≡ 3 → HaveNoReport reason program.entry plan.now seeds.now) }
+    ensures other { (result ≢ Err (why.Fault Fault.Read)) × (result ≢ Err (why.Fault Fault.Write))
+        × (result ≢ Err (why.Fault Fault.Spawn)) }
+{
+    let (loaded, names) = loaded_program(alloc, program.image, &program.names)?;
+    match tally_of(alloc, loaded, names.as_slice(), plan, seeds, observer) {
+        Ok(tally) => Ok((tally, names)),
+        Err(reason) => Err(reason),
     }
 }
 
@@ -232,17 +320,10 @@ pub fn report_seeds<O: Observer, K: Sink>(
     ensures write { result ≡ Err (why.Fault Fault.Write) → IsTrue (K.has_failed output.new) }
     ensures other { (result ≢ Err (why.Fault Fault.Read)) × (result ≢ Err (why.Fault Fault.Spawn)) }
 {
-    let (loaded, names) = loaded_program(alloc, program.image, &program.names)?;
-    let tally = match tally_of(alloc, &loaded, names.as_slice(), plan, seeds, observer) {
-        Ok(tally) => tally,
-        Err(reason) => return Err(reason),
-    };
+    let (tally, names) = tally_in(alloc, program, plan, seeds, observer)?;
     let told = seeds.has_names.then_some(names.as_slice());
-    let Ok(text) = report(alloc, told, &tally.outcomes) else {
-        return Err(Unplanned::Fault(Fault::Memory));
-    };
-    match output.push(text.as_slice()) {
+    match push_report(alloc, told, &tally.outcomes, output) {
         Ok(()) => Ok(tally.unlike),
-        Err(_) => Err(Unplanned::Fault(Fault::Write)),
+        Err(fault) => Err(Unplanned::Fault(fault)),
     }
 }

@@ -7,7 +7,7 @@ ghost use Rattle.commands.specs.declared.unplanned.Unplanned.TheVariants as why;
 use byte_ports::{Failed, Sink};
 use itoa::Buffer;
 use plans::fault::PlanFault;
-use workbench::fault::Fault;
+use workbench::fault::{Fault, push_counted_line};
 
 /// Why no schedule of a plan is written.
 #[derive(Clone, Copy)]
@@ -36,9 +36,7 @@ fn push_plan_line<E: Sink>(errors: &mut E, line: u64, number: Option<u8>) -> Res
         Some(number) => {
             errors.push(b"refused plan ")?;
             errors.push(Buffer::new().format(line).as_bytes())?;
-            errors.push(b" ")?;
-            errors.push(Buffer::new().format(number).as_bytes())?;
-            errors.push(b"\n")
+            push_counted_line(errors, b" ", u64::from(number))
         }
         None => errors.push(b"memory\n"),
     }

@@ -1,12 +1,14 @@
 //! The place of a refusal, and its words.
 
 use crate::mistaken::is_plan;
-use crate::shown::{push_file, push_file_alone, push_line, push_marked, push_shown, word_at};
+use crate::shown::{
+    push_between, push_file, push_file_alone, push_line, push_listed, push_marked, word_at,
+};
 use assembler::assemble;
 use assembler::made::line_that_makes;
 use assembler::placed::{PlacedFault, UnknownName, assemble_placed};
 use assembler::word_place::{WordPlace, line_at, place_of_word};
-use byte_ports::{MemorySink, Sink};
+use byte_ports::{Failed, MemorySink, Sink};
 use commands::unplanned::Unplanned;
 use instruction_table::OperandKind;
 use itoa::Buffer;
@@ -15,13 +17,14 @@ use line_reader::label::{before_last, is_label};
 use line_reader::words::{before_comment, is_blank, length_before};
 use loader::{LoadFault, Place};
 use refusals::entries::tables;
-use refusals::question::{question_in_line, question_of};
+use refusals::entry::push_pieces;
+use refusals::question::{Question, question_in_line, question_of};
 use refusals::word::{WordEntry, word_entry};
 use schedule_reader::ScheduleFault;
-use std::alloc::Global;
-use suggestions::file_kind::is_trace;
+use std::alloc::{AllocError, Global};
+use suggestions::file_kind::{helps_at_encoding, is_trace};
 use suggestions::java::row_of;
-use suggestions::meant::{helps_at, helps_at_encoding, helps_at_java, word_assigned};
+use suggestions::meant::{helps_at, helps_at_java, word_assigned};
 use suggestions::names::{
     called, first_line, name_of_kind, nearest_name, nearest_option, nearest_word,
 };
@@ -56,6 +59,25 @@ struct Shown {
     helps: Option<&'static str>,
 }
 
+/// Writes what a name is, and what is needed in its place.
+fn push_other_kind<E: Sink>(
+    errors: &mut E,
+    word: &[u8],
+    given: OperandKind,
+    wanted: OperandKind,
+) -> Result<(), Failed> {
+    push_between(errors, b"  Name:    `", word, b"` is ")?;
+    push_pieces(
+        errors,
+        &[
+            called(given).as_bytes(),
+            b", ",
+            called(wanted).as_bytes(),
+            b" is needed\n",
+        ],
+    )
+}
+
 /// What a name is, and what should stand in its place; or the name that may have been meant.
 fn push_name<E: Sink>(
     alloc: Global,
@@ -64,37 +86,27 @@ fn push_name<E: Sink>(
     unknown: Option<UnknownName>,
     word: &[u8],
 ) -> Result<(), Unshown> {
-    if let Some(
-        UnknownName {
-            wanted,
-            given: Some(given),
-        },
-    ) = unknown
-    {
-        errors.push(b"  Name:    `")?;
-        push_shown(errors, word)?;
-        errors.push(b"` is ")?;
-        errors.push(called(given).as_bytes())?;
-        errors.push(b", ")?;
-        errors.push(called(wanted).as_bytes())?;
-        errors.push(b" is needed\n")?;
-        return Ok(());
-    }
-    let needed = unknown.map(|unknown| unknown.wanted);
-    match nearest_name(alloc, text, needed, word)? {
-        None => push_names(errors, text, needed)?,
-        Some(name) if name == word => {
-            errors.push(b"  Name:    `")?;
-            push_shown(errors, name)?;
-            errors.push(b"` is below the line `.run`, where the program has ended\n")?;
-        }
-        Some(name) => {
-            errors.push(b"  Near:    ")?;
-            push_shown(errors, name)?;
-            errors.push(b"\n")?;
-        }
-    }
-    Ok(())
+    let needed = match unknown {
+        Some(
+            UnknownName {
+                wanted,
+                given: Some(given),
+            },
+        ) => return Ok(push_other_kind(errors, word, given, wanted)?),
+        Some(unknown) => Some(unknown.wanted),
+        None => None,
+    };
+    let told = match nearest_name(alloc, text, needed, word)? {
+        None => push_names(errors, text, needed),
+        Some(name) if name == word => push_between(
+            errors,
+            b"  Name:    `",
+            name,
+            b"` is below the line `.run`, where the program has ended\n",
+        ),
+        Some(name) => push_between(errors, b"  Near:    ", name, b"\n"),
+    };
+    Ok(told?)
 }
 
 /// How many names are shown at most.
@@ -105,38 +117,26 @@ fn push_names<E: Sink>(
     errors: &mut E,
     text: &[u8],
     kind: Option<OperandKind>,
-) -> Result<(), Unshown> {
+) -> Result<(), Failed> {
     let mut count: usize = 0;
     for line in text.split(|byte| *byte == b'\n') {
         if let Some(name) = name_of_kind(line, kind) {
             if count < MOST_NAMES {
-                errors.push(if count == 0 {
-                    b"  Names:   ".as_slice()
-                } else {
-                    b", ".as_slice()
-                })?;
-                push_shown(errors, name)?;
+                push_listed(errors, count == 0, name)?;
             }
             count = count.saturating_add(1);
         }
     }
-    if count > MOST_NAMES {
-        errors.push(b", ..")?;
+    match count {
+        0 => Ok(()),
+        1..=MOST_NAMES => errors.push(b"\n"),
+        _ => errors.push(b", ..\n"),
     }
-    if count > 0 {
-        errors.push(b"\n")?;
-    }
-    Ok(())
 }
 
 /// The word of the language that may have been meant.
-fn push_near<E: Sink>(errors: &mut E, near: Option<&'static str>) -> Result<(), Unshown> {
-    if let Some(near) = near {
-        errors.push(b"  Near:    ")?;
-        errors.push(near.as_bytes())?;
-        errors.push(b"\n")?;
-    }
-    Ok(())
+fn push_near<E: Sink>(errors: &mut E, near: &'static str) -> Result<(), Failed> {
+    push_pieces(errors, &[b"  Near:    ", near.as_bytes(), b"\n"])
 }
 
 /// What the letter of an operand stands for, and an operand like that.
@@ -156,13 +156,11 @@ fn operand(letter: &[u8]) -> Option<(&'static str, &'static str)> {
 }
 
 /// The words of a form, each operand as what it stands for or as one like that.
-fn push_each<E: Sink>(errors: &mut E, form: &[u8], is_example: bool) -> Result<(), Unshown> {
+fn push_each<E: Sink>(errors: &mut E, form: &[u8], is_example: bool) -> Result<(), Failed> {
     for word in form.split(|byte| *byte == b' ') {
         match operand(word) {
-            Some((name, example)) => {
-                errors.push(b" ")?;
-                errors.push(if is_example { example } else { name }.as_bytes())?;
-            }
+            Some((_, example)) if is_example => push_pieces(errors, &[b" ", example.as_bytes()])?,
+            Some((name, _)) => push_pieces(errors, &[b" ", name.as_bytes()])?,
             None => errors.push(word)?,
         }
     }
@@ -170,30 +168,31 @@ fn push_each<E: Sink>(errors: &mut E, form: &[u8], is_example: bool) -> Result<(
 }
 
 /// The operands of a row in words, and a row like that. What is no row stands as it is.
-fn push_operands<E: Sink>(errors: &mut E, form: &[u8]) -> Result<(), Unshown> {
+fn push_operands<E: Sink>(errors: &mut E, form: &[u8]) -> Result<(), Failed> {
     if form.starts_with(b".") || !form.contains(&b' ') {
-        return Ok(errors.push(form)?);
+        return errors.push(form);
     }
     push_each(errors, form, false)?;
     errors.push(b", as `")?;
     push_each(errors, form, true)?;
-    Ok(errors.push(b"`")?)
+    errors.push(b"`")
 }
 
 /// Writes the operands of a word of the language, and where there is more about it.
-fn push_form_of<E: Sink>(errors: &mut E, word: &[u8]) -> Result<(), Unshown> {
-    if let Some(entry) = word_of(word) {
-        errors.push(b"  Form:    ")?;
-        push_operands(errors, entry.form.as_bytes())?;
-        errors.push(b" (`vuthgal explain ")?;
-        errors.push(entry.word.as_bytes())?;
-        errors.push(b"`)\n")?;
-    }
-    Ok(())
+fn push_form_of<E: Sink>(errors: &mut E, word: &[u8]) -> Result<(), Failed> {
+    let Some(entry) = word_of(word) else {
+        return Ok(());
+    };
+    errors.push(b"  Form:    ")?;
+    push_operands(errors, entry.form.as_bytes())?;
+    push_pieces(
+        errors,
+        &[b" (`vuthgal explain ", entry.word.as_bytes(), b"`)\n"],
+    )
 }
 
 /// Writes the operands of what the line says, if the wrong word is one of them or there are too few.
-fn push_form<E: Sink>(errors: &mut E, line: &[u8], wrong: WordPlace) -> Result<(), Unshown> {
+fn push_form<E: Sink>(errors: &mut E, line: &[u8], wrong: WordPlace) -> Result<(), Failed> {
     match place_of_first(line) {
         Some(first) if wrong.at >= first.at => push_form_of(errors, word_at(line, first)),
         _ => Ok(()),
@@ -206,24 +205,41 @@ fn is_meant(near: &str, word: &[u8]) -> bool {
     near.as_bytes().starts_with(b".") || helps_at_java(word).is_none()
 }
 
-/// Writes the word of the language that may have been meant if there is none, with its operands. For a line like Java's it is
-/// the row of the method that is called after `=`.
+/// Returns the word of the language that may have been meant if there is none. For a line like Java's it is the row of the method
+/// that is called after `=`.
+fn near_word(alloc: Global, line: &[u8], word: &[u8]) -> Result<Option<&'static str>, AllocError> {
+    match (word_assigned(line), row_of(alloc, word)?) {
+        (Some(assigned), _) => row_of(alloc, assigned),
+        (None, Some(row)) => Ok(Some(row)),
+        (None, None) => Ok(nearest_word(alloc, word)?.filter(|near| is_meant(near, word))),
+    }
+}
+
+/// Writes the word of the language that may have been meant if there is none, with its operands.
 fn push_near_word<E: Sink>(
     alloc: Global,
     errors: &mut E,
     line: &[u8],
     word: &[u8],
 ) -> Result<(), Unshown> {
-    let near = match (word_assigned(line), row_of(alloc, word)?) {
-        (Some(assigned), _) => row_of(alloc, assigned)?,
-        (None, Some(row)) => Some(row),
-        (None, None) => nearest_word(alloc, word)?.filter(|near| is_meant(near, word)),
-    };
-    push_near(errors, near)?;
-    match near {
-        Some(near) => push_form_of(errors, near.as_bytes()),
-        None => Ok(()),
+    if let Some(near) = near_word(alloc, line, word)? {
+        push_near(errors, near)?;
+        push_form_of(errors, near.as_bytes())?;
     }
+    Ok(())
+}
+
+/// Writes the option that may have been meant, and the form of what the line says.
+fn push_near_option<E: Sink>(
+    alloc: Global,
+    errors: &mut E,
+    line: &[u8],
+    wrong: WordPlace,
+) -> Result<(), Unshown> {
+    if let Some(near) = nearest_option(alloc, first_word(line), word_at(line, wrong))? {
+        push_near(errors, near)?;
+    }
+    Ok(push_form(errors, line, wrong)?)
 }
 
 /// Returns the entry of a word of the language.
@@ -235,18 +251,23 @@ fn word_of(word: &[u8]) -> Option<WordEntry> {
 }
 
 /// The line that gave a name first; the word may be a label's.
-fn push_given<E: Sink>(errors: &mut E, text: &[u8], word: &[u8]) -> Result<(), Unshown> {
+fn push_given<E: Sink>(errors: &mut E, text: &[u8], word: &[u8]) -> Result<(), Failed> {
     let name = if is_label(word) {
         before_last(word)
     } else {
         word
     };
-    if let Some(line) = first_line(text, name) {
-        errors.push(b"  Given:   line ")?;
-        errors.push(Buffer::new().format(line).as_bytes())?;
-        errors.push(b"\n")?;
+    match first_line(text, name) {
+        Some(line) => push_pieces(
+            errors,
+            &[
+                b"  Given:   line ",
+                Buffer::new().format(line).as_bytes(),
+                b"\n",
+            ],
+        ),
+        None => Ok(()),
     }
-    Ok(())
 }
 
 /// Returns the fault that a text has, if it is this one.
@@ -301,13 +322,26 @@ fn push_text_place<E: Sink>(
             helps: helps_at(alloc, program.text, kind, number, line, &[]),
         });
     };
-    push_marked(errors, line, at)?;
+    push_word_place(alloc, errors, file.bytes, line, at, kind, unknown)?;
     let word = word_at(line, at);
-    push_alike(alloc, errors, file.bytes, line, at, kind, unknown)?;
     Ok(Shown {
         has_line: true,
         helps: helps_at_word(alloc, program, other, number, kind, line, word),
     })
+}
+
+/// A line with a mark below the word that is wrong, and what may have been meant.
+fn push_word_place<E: Sink>(
+    alloc: Global,
+    errors: &mut E,
+    text: &[u8],
+    line: &[u8],
+    at: WordPlace,
+    kind: AsmFaultKind,
+    unknown: Option<UnknownName>,
+) -> Result<(), Unshown> {
+    push_marked(errors, line, at)?;
+    push_alike(alloc, errors, text, line, at, kind, unknown)
 }
 
 /// What may have been meant by the word that is wrong, and the form of what its line says.
@@ -321,21 +355,19 @@ fn push_alike<E: Sink>(
     unknown: Option<UnknownName>,
 ) -> Result<(), Unshown> {
     let word = word_at(line, at);
-    match kind {
-        AsmFaultKind::UnknownName => push_name(alloc, errors, text, unknown, word),
+    let told = match kind {
+        AsmFaultKind::UnknownName => return push_name(alloc, errors, text, unknown, word),
+        AsmFaultKind::UnknownWord => return push_near_word(alloc, errors, line, word),
+        AsmFaultKind::BadOption => return push_near_option(alloc, errors, line, at),
         AsmFaultKind::NameTwice => push_given(errors, text, word),
-        AsmFaultKind::UnknownWord => push_near_word(alloc, errors, line, word),
-        AsmFaultKind::BadOption => {
-            push_near(errors, nearest_option(alloc, first_word(line), word)?)?;
-            push_form(errors, line, at)
-        }
         AsmFaultKind::OperandCount
         | AsmFaultKind::BadRegister
         | AsmFaultKind::BadNumber
         | AsmFaultKind::OutOfRange
         | AsmFaultKind::BadName => push_form(errors, line, at),
         _ => Ok(()),
-    }
+    };
+    Ok(told?)
 }
 
 /// What helps at the word that is wrong: of the word, its line, or the file.
@@ -611,6 +643,31 @@ fn helps_at_load(program: ProgramFile<'_>, fault: LoadFault) -> Option<&'static 
     }
 }
 
+/// Writes where a program can't be loaded.
+fn push_unloaded<E: Sink>(
+    alloc: Global,
+    errors: &mut E,
+    program: ProgramFile<'_>,
+    fault: LoadFault,
+) -> Result<Shown, Unshown> {
+    let has_line = push_load_place(alloc, errors, program, fault)?;
+    let helps = helps_at_load(program, fault);
+    Ok(Shown { has_line, helps })
+}
+
+/// Writes where a schedule is refused, at an offset.
+fn push_unscheduled<E: Sink>(
+    alloc: Global,
+    errors: &mut E,
+    program: ProgramFile<'_>,
+    schedule: Option<Named<'_>>,
+    offset: u64,
+) -> Result<Shown, Unshown> {
+    let has_line = push_schedule_place(errors, program, schedule, offset)?;
+    let helps = helps_at_schedule(alloc, program, schedule);
+    Ok(Shown { has_line, helps })
+}
+
 /// Where a fault is in the files, as far as they can be read again.
 fn push_found<E: Sink>(
     alloc: Global,
@@ -623,16 +680,10 @@ fn push_found<E: Sink>(
         Fault::Asm(fault) if fault.kind != AsmFaultKind::Memory => push_text_place(
             alloc, errors, program, schedule, fault.line, fault.kind,
         ),
-        Fault::Load(fault) => Ok(Shown {
-            has_line: push_load_place(alloc, errors, program, fault)?,
-            helps: helps_at_load(program, fault),
-        }),
+        Fault::Load(fault) => push_unloaded(alloc, errors, program, fault),
         Fault::Schedule(
             ScheduleFault::Byte(at) | ScheduleFault::Number(at) | ScheduleFault::Repeat(at),
-        ) => Ok(Shown {
-            has_line: push_schedule_place(errors, program, schedule, at)?,
-            helps: helps_at_schedule(alloc, program, schedule),
-        }),
+        ) => push_unscheduled(alloc, errors, program, schedule, at),
         _ => Ok(Shown {
             has_line: false,
             helps: None,
@@ -661,6 +712,13 @@ fn is_of_memory(why: Unplanned) -> bool {
     why.status() == 4 && !matches!(why, Unplanned::Fault(Fault::Spawn))
 }
 
+/// Returns what the line of a refusal asks for.
+fn question_told(alloc: Global, why: Unplanned) -> Result<Option<Question>, Unshown> {
+    let mut line = MemorySink::new(alloc, LONGEST_LINE, None)?;
+    why.tell(&mut line)?;
+    Ok(question_in_line(alloc, line.bytes())?)
+}
+
 /// Writes what a line means, like `explain` with the line's words, except what helps if something more specific is known. It
 /// doesn't allocate if it was out of memory.
 pub fn push_meaning<E: Sink>(
@@ -672,15 +730,15 @@ pub fn push_meaning<E: Sink>(
     let question = if is_of_memory(why) {
         question_of(&tables(), &["memory"])
     } else {
-        let mut line = MemorySink::new(alloc, LONGEST_LINE, None)?;
-        why.tell(&mut line)?;
-        question_in_line(alloc, line.bytes())?
+        question_told(alloc, why)?
     };
-    if let Some(question) = question {
-        let entry = question.entry.with_help(helps);
-        entry.push_words(errors, question.place)?;
+    match question {
+        Some(question) => {
+            let entry = question.entry.with_help(helps);
+            Ok(entry.push_words(errors, question.place)?)
+        }
+        None => Ok(()),
     }
-    Ok(())
 }
 
 /// Writes the place of a fault, or which file it is in, and then its entry.

@@ -1,22 +1,23 @@
 //! The place of a plan's fault, and its words.
 ghost use Rattle.std.specs.Prelude.{◌≤◌, length};
 
+use crate::mistaken::names_in;
 use crate::place::{Named, ProgramFile, push_entry, push_meaning};
-use crate::shown::{push_file, push_file_alone, push_line, push_marked, push_shown, word_at};
+use crate::shown::{
+    push_file, push_file_alone, push_line, push_listed, push_marked, push_shown, word_at,
+};
 use assembler::word_place::{WordPlace, line_at};
-use byte_ports::Sink;
-use commands::plan::loaded_program;
+use byte_ports::{Failed, Sink};
 use commands::unplanned::Unplanned;
 use line_reader::words::{before_comment, length_before};
 use plans::cutting::word_length;
 use plans::fault::{PlanFault, PlanFaultKind};
 use plans::read_plan;
 use std::alloc::{AllocError, Global};
-use suggestions::meant::helps_at_encoding;
+use suggestions::file_kind::helps_at_encoding;
 use suggestions::names::distance_of_names;
 use suggestions::plan_word::{helps_at_name, helps_at_seed, helps_at_star, helps_at_word};
 use suggestions::unshown::Unshown;
-use workbench::program::program_in;
 
 /// The places of a line's words.
 fn word_places(alloc: Global, line: &[u8]) -> Result<Vec<WordPlace>, AllocError> {
@@ -187,25 +188,45 @@ fn count_behind<'a>(name: &'a [u8], near: Near<'_>) -> Option<&'a [u8]> {
 const MOST_NAMES: usize = 8;
 
 /// Writes which names threads have.
-fn push_threads<E: Sink>(errors: &mut E, names: &[&[u8]]) -> Result<(), Unshown> {
+fn push_threads<E: Sink>(errors: &mut E, names: &[&[u8]]) -> Result<(), Failed> {
     let mut is_first = true;
     for name in names
         .iter()
         .filter(|name| !name.is_empty())
         .take(MOST_NAMES)
     {
-        errors.push(if is_first {
-            b"  Names:   ".as_slice()
-        } else {
-            b", ".as_slice()
-        })?;
-        push_shown(errors, *name)?;
+        push_listed(errors, is_first, *name)?;
         is_first = false;
     }
-    if !is_first {
-        errors.push(b"\n")?;
+    if is_first { Ok(()) } else { errors.push(b"\n") }
+}
+
+/// Returns the thread's name that may have been meant by a name, which may have an `x` before it.
+fn near_thread<'a>(
+    alloc: Global,
+    names: &[&'a [u8]],
+    name: &[u8],
+) -> Result<Option<Near<'a>>, AllocError> {
+    let near = nearer(alloc, None, names, name, false)?;
+    match name {
+        [b'x', waiting @ ..] => nearer(alloc, near, names, waiting, true),
+        _ => Ok(near),
     }
-    Ok(())
+}
+
+/// Writes a choice that may have been meant by a name, with the count that may have been meant.
+fn push_near_thread<E: Sink>(errors: &mut E, name: &[u8], near: Near<'_>) -> Result<(), Failed> {
+    errors.push(if near.expiry {
+        b"  Near:    x".as_slice()
+    } else {
+        b"  Near:    ".as_slice()
+    })?;
+    push_shown(errors, near.name)?;
+    if let Some(count) = count_behind(name, near) {
+        errors.push(b"*")?;
+        push_shown(errors, count)?;
+    }
+    errors.push(b"\n")
 }
 
 /// Writes the thread's name that may have been meant by a word, or else which names there are.
@@ -216,26 +237,10 @@ fn push_near<E: Sink>(
     word: &[u8],
 ) -> Result<(), Unshown> {
     let name = name_in(word);
-    let mut near = nearer(alloc, None, names, name, false)?;
-    if let [b'x', waiting @ ..] = name {
-        near = nearer(alloc, near, names, waiting, true)?;
+    match near_thread(alloc, names, name)? {
+        Some(near) => Ok(push_near_thread(errors, name, near)?),
+        None => Ok(push_threads(errors, names)?),
     }
-    if near.is_none() {
-        return push_threads(errors, names);
-    }
-    if let Some(near) = near {
-        errors.push(b"  Near:    ")?;
-        if near.expiry {
-            errors.push(b"x")?;
-        }
-        push_shown(errors, near.name)?;
-        if let Some(count) = count_behind(name, near) {
-            errors.push(b"*")?;
-            push_shown(errors, count)?;
-        }
-        errors.push(b"\n")?;
-    }
-    Ok(())
 }
 
 /// The byte before a word of a line.
@@ -264,8 +269,26 @@ fn helps_in(
     }
 }
 
-/// Shows the line of a plan's fault, with a mark below the wrong word, or else which plan it is in. Returns what helps there,
-/// if that is more than its entry says.
+/// Shows the line of a plan's fault, with a mark below the wrong word. Returns what helps there, if that is more than its entry
+/// says.
+fn push_wrong_word<E: Sink>(
+    alloc: Global,
+    errors: &mut E,
+    kind: PlanFaultKind,
+    names: &[&[u8]],
+    plan: &[u8],
+    line: &[u8],
+    place: WordPlace,
+) -> Result<Option<&'static str>, Unshown> {
+    push_marked(errors, line, place)?;
+    let helps = helps_in(plan, kind, line, place);
+    if kind == PlanFaultKind::NotNamed && helps.is_none() {
+        push_near(alloc, errors, names, word_at(line, place))?;
+    }
+    Ok(helps)
+}
+
+/// Shows the line of a plan's fault, or else which plan it is in. Returns what helps there, if that is more than its entry says.
 fn push_shown_place<E: Sink>(
     alloc: Global,
     errors: &mut E,
@@ -280,16 +303,13 @@ fn push_shown_place<E: Sink>(
         return Ok(None);
     };
     push_file(errors, plan.name, fault.line)?;
-    let Some(place) = place_in(alloc, plan.bytes, names, fault, line)? else {
-        push_line(errors, line)?;
-        return Ok(None);
-    };
-    push_marked(errors, line, place)?;
-    let helps = helps_in(plan.bytes, fault.kind, line, place);
-    if fault.kind == PlanFaultKind::NotNamed && helps.is_none() {
-        push_near(alloc, errors, names, word_at(line, place))?;
+    match place_in(alloc, plan.bytes, names, fault, line)? {
+        Some(place) => push_wrong_word(alloc, errors, fault.kind, names, plan.bytes, line, place),
+        None => {
+            push_line(errors, line)?;
+            Ok(None)
+        }
     }
-    Ok(helps)
 }
 
 /// Writes the place of a plan's fault, if the plan can be read again, and then its entry.
@@ -300,16 +320,14 @@ pub fn push_plan_place<E: Sink>(
     plan: Named<'_>,
     errors: &mut E,
 ) -> Result<(), Unshown> {
-    let mut helps = None;
-    if plan.bytes.is_empty() {
-        push_file_alone(errors, plan.name)?;
-    } else {
-        if let Ok(program) = program_in(alloc, program.text) {
-            if let Ok((_, names)) = loaded_program(alloc, program.image, &program.names) {
-                helps = push_shown_place(alloc, errors, fault, names.as_slice(), plan)?;
-            }
+    let helps = match names_in(alloc, program.text) {
+        _ if plan.bytes.is_empty() => {
+            push_file_alone(errors, plan.name)?;
+            None
         }
-    }
+        Some(names) => push_shown_place(alloc, errors, fault, names.as_slice(), plan)?,
+        None => None,
+    };
     push_meaning(alloc, errors, Unplanned::Plan(fault), helps)
 }
 

@@ -5,9 +5,13 @@ ghost use Rattle.std.specs.Prelude.{◌≤◌, ◌+◌, ◌<◌, length};
 use assembler::word_place::WordPlace;
 use byte_ports::{Failed, Sink};
 use itoa::Buffer;
+use refusals::entry::push_pieces;
 
 /// How many bytes of a line are shown.
 const WIDTH: usize = 72;
+
+/// What stands before a line that is shown.
+const INDENT: &[u8] = b"    ";
 
 /// What stands for the beginning of a line that isn't shown.
 const DOTS: &[u8] = b"... ";
@@ -28,6 +32,28 @@ pub fn push_shown<E: Sink>(errors: &mut E, bytes: &[u8]) -> Result<(), Failed> {
         }
     }
     Ok(())
+}
+
+/// Writes bytes of a file between these two texts.
+pub fn push_between<E: Sink>(
+    errors: &mut E,
+    before: &[u8],
+    bytes: &[u8],
+    after: &[u8],
+) -> Result<(), Failed> {
+    errors.push(before)?;
+    push_shown(errors, bytes)?;
+    errors.push(after)
+}
+
+/// Writes a name in the line of those that there are.
+pub fn push_listed<E: Sink>(errors: &mut E, is_first: bool, name: &[u8]) -> Result<(), Failed> {
+    errors.push(if is_first {
+        b"  Names:   ".as_slice()
+    } else {
+        b", ".as_slice()
+    })?;
+    push_shown(errors, name)
 }
 
 /// Where the part of a line begins that is shown: its beginning, or a part with the place in its middle.
@@ -55,7 +81,7 @@ fn push_times<E: Sink>(errors: &mut E, count: usize, bytes: &[u8]) -> Result<(),
 /// Writes a line from this byte on, as much of it as is shown. Where it isn't shown from its beginning, dots stand for that.
 fn push_part<E: Sink>(errors: &mut E, line: &[u8], from: usize) -> Result<(), Failed> {
     let part = line.get(from..).unwrap_or(&[]);
-    errors.push(b"    ")?;
+    errors.push(INDENT)?;
     if from > 0 {
         errors.push(DOTS)?;
     }
@@ -71,12 +97,10 @@ pub fn push_line<E: Sink>(errors: &mut E, line: &[u8]) -> Result<(), Failed> {
 /// Writes the part of a line with the place, and a mark below it.
 pub fn push_marked<E: Sink>(errors: &mut E, line: &[u8], place: WordPlace) -> Result<(), Failed> {
     let from = window(line, place);
+    let dots = if from > 0 { DOTS.len() } else { 0 };
+    let before = place.at.saturating_sub(from).saturating_add(dots);
     push_part(errors, line, from)?;
-    errors.push(b"    ")?;
-    if from > 0 {
-        push_times(errors, DOTS.len(), b" ")?;
-    }
-    push_times(errors, place.at.saturating_sub(from), b" ")?;
+    push_times(errors, before.saturating_add(INDENT.len()), b" ")?;
     push_times(errors, place.length.min(WIDTH), b"^")?;
     errors.push(b"\n")
 }
@@ -91,17 +115,20 @@ pub fn push_file_alone<E: Sink>(errors: &mut E, file: &str) -> Result<(), Failed
     } else {
         file
     };
-    errors.push(b"  File:    ")?;
-    errors.push(name.as_bytes())?;
-    errors.push(b"\n")
+    push_pieces(errors, &[b"  File:    ", name.as_bytes(), b"\n"])
 }
 
 /// Writes the name of a file and a line's number.
 pub fn push_file<E: Sink>(errors: &mut E, file: &str, line: u64) -> Result<(), Failed> {
-    errors.push(file.as_bytes())?;
-    errors.push(b":")?;
-    errors.push(Buffer::new().format(line).as_bytes())?;
-    errors.push(b"\n")
+    push_pieces(
+        errors,
+        &[
+            file.as_bytes(),
+            b":",
+            Buffer::new().format(line).as_bytes(),
+            b"\n",
+        ],
+    )
 }
 
 /// Writes a line of a file with its number, or the file's name alone if the line isn't known.

@@ -15,11 +15,13 @@ use command_line::request::{Request, Steps};
 use commands::unplanned::Unplanned;
 use diagnostics::place::{Named, ProgramFile, STANDARD_INPUT, push_meaning};
 use diagnostics::{push_choice_place, push_place, push_plan_place, push_stopped_plan};
+use itoa::Buffer;
 use plans::fault::PlanFault;
 use row_code::is_image_file;
 use std::alloc::AllocError;
 use std::fmt::Display;
 use std::fs;
+use std::fs::Metadata;
 use suggestions::file_kind::is_trace;
 use suggestions::file_name::near_file;
 use suggestions::typed::{is_unquoted_plan, push_typed};
@@ -73,52 +75,34 @@ fn words_of<'a>(steps: Steps<'a>) -> (Option<&'a str>, Option<&'a str>) {
     }
 }
 
-/// Returns the file that is written, if that isn't standard output.
-fn output_of<'a>(request: &Request<'a>) -> Option<&'a str> {
-    match request {
-        Request::Asm { image, .. } => Some(*image),
-        _ => None,
-    }
-}
-
-/// Returns the file that is given as a trace to be compared.
-fn compared_in<'a>(request: &Request<'a>) -> Option<&'a str> {
-    match request {
-        Request::Compare { trace, .. } => Some(*trace),
-        _ => None,
-    }
-}
-
 impl<'a> Files<'a> {
     /// Those that the words name.
     pub fn of(request: &Request<'a>) -> Files<'a> {
-        let (program, schedule, plan) = match request {
-            Request::Asm { source, .. } => (*source, None, None),
+        match request {
+            Request::Asm { source, image } => Files::of_program(*source).with_output(*image),
             Request::Run { file, steps, .. }
             | Request::Show { file, steps, .. }
-            | Request::Draw { file, steps, .. }
-            | Request::Debug { file, steps } => {
-                let (named, plan) = words_of(*steps);
-                (*file, named, plan)
-            }
-            Request::Plan { file, plan, .. } => (*file, Some(named(plan.unwrap_or(INPUT))), None),
-            Request::Compare { file, trace, .. } => (*file, Some(named(trace)), None),
-            Request::List { file, .. } | Request::Live { file, .. } => (*file, None, None),
-            Request::Choices { trace } => (named(trace), None, None),
+            | Request::Draw { file, steps, .. } => Files::of_run(*file, *steps),
+            Request::Debug { file, steps } => Files::of_run(*file, *steps).with_commands(),
+            Request::Plan { file, plan, .. } => Files::of_run(
+                *file,
+                Steps::Named(plan.unwrap_or(INPUT)),
+            ),
+            Request::Compare { file, trace, .. } => Files::of_run(
+                *file,
+                Steps::Named(*trace),
+            ).with_compared(*trace),
+            Request::List { file, .. } | Request::Live { file, .. } => Files::of_program(*file),
+            Request::Choices { trace } => Files::of_program(named(*trace)),
             Request::Both { .. } | Request::Race { .. } | Request::Explain { .. } => {
-                (INPUT, None, None)
+                Files::of_program(INPUT)
             }
-        };
-        Files {
-            program,
-            schedule,
-            plan,
-            output: output_of(request),
-            compared: compared_in(request),
-            has_commands: matches!(request, Request::Debug { .. }),
-            input: None,
-            text: None,
         }
+    }
+
+    /// That of a program alone.
+    fn of_program(program: &'a str) -> Files<'a> {
+        Files::of_run(program, Steps::Beside)
     }
 
     /// Those of a run: the program's, and that of its steps.
@@ -138,7 +122,31 @@ impl<'a> Files<'a> {
 
     /// Standard input, with a program and its schedule.
     pub fn of_input() -> Files<'static> {
-        Files::of_run(INPUT, Steps::Beside)
+        Files::of_program(INPUT)
+    }
+
+    /// Returns the files, of which this one is written.
+    fn with_output(self, output: &'a str) -> Files<'a> {
+        Files {
+            output: Some(output),
+            ..self
+        }
+    }
+
+    /// Returns the files, with this one to be compared.
+    fn with_compared(self, trace: &'a str) -> Files<'a> {
+        Files {
+            compared: Some(trace),
+            ..self
+        }
+    }
+
+    /// Returns the files, with commands on standard input.
+    fn with_commands(self) -> Files<'a> {
+        Files {
+            has_commands: true,
+            ..self
+        }
     }
 
     /// Returns the files, with this text with its schedule read of standard input.
@@ -182,35 +190,36 @@ pub fn told(path: &str) -> &str {
     if path == INPUT { STANDARD_INPUT } else { path }
 }
 
+/// Says that a file can't be read because it is a folder or too long. Returns whether this is so.
+fn push_unfit(rt: &HostRuntime, name: &str, metadata: &Metadata) -> bool {
+    let length = metadata.len();
+    if metadata.is_dir() {
+        push_told(rt, &[name, ": it is a folder\n"]);
+        return true;
+    }
+    let is_too_long = metadata.is_file() && length > LONGEST;
+    if is_too_long {
+        push_told(
+            rt,
+            &[name, ": it has ", Buffer::new().format(length), " bytes\n"],
+        );
+    }
+    is_too_long
+}
+
 /// Says which file can't be read, because it is gone, is a folder, or is too long. Returns whether this is so.
 fn push_unreadable(rt: &HostRuntime, path: &str) -> bool {
     let name = told(path);
-    let metadata = match fs::metadata(rt, path) {
-        Ok(metadata) => metadata,
-        Err(error) => {
-            push_text(
-                rt,
-                if path == INPUT {
-                    format!(in rt.alloc(); "{name}: it is closed\n")
-                } else {
-                    format!(in rt.alloc(); "{name}: {error}\n")
-                },
-            );
-            return true;
+    match fs::metadata(rt, path) {
+        Ok(metadata) => push_unfit(rt, name, &metadata),
+        Err(_) if path == INPUT => {
+            push_told(rt, &[name, ": it is closed\n"]);
+            true
         }
-    };
-    let length = metadata.len();
-    if metadata.is_dir() {
-        push_text(rt, format!(in rt.alloc(); "{name}: it is a folder\n"));
-        true
-    } else if metadata.is_file() && length > LONGEST {
-        push_text(
-            rt,
-            format!(in rt.alloc(); "{name}: it has {length} bytes\n"),
-        );
-        true
-    } else {
-        false
+        Err(error) => {
+            push_text(rt, format!(in rt.alloc(); "{name}: {error}\n"));
+            true
+        }
     }
 }
 
@@ -227,7 +236,7 @@ fn push_unread(rt: &HostRuntime, files: Files<'_>, words: &[String]) {
     let is_known = is_program || is_other || files.has_commands && push_unreadable(rt, INPUT);
     if !is_known {
         let name = told(files.schedule.unwrap_or(files.program));
-        push_text(rt, format!(in rt.alloc(); "{name}: a read failed\n"));
+        push_told(rt, &[name, ": a read failed\n"]);
     }
 }
 
@@ -235,11 +244,11 @@ fn push_unread(rt: &HostRuntime, files: Files<'_>, words: &[String]) {
 fn push_unwritten(rt: &HostRuntime, files: Files<'_>) {
     let name = files.output.unwrap_or("standard output");
     let why = if files.output.is_none() && fs::metadata(rt, OUTPUT).is_err() {
-        "it is closed"
+        ": it is closed\n"
     } else {
-        "a write failed"
+        ": a write failed\n"
     };
-    push_text(rt, format!(in rt.alloc(); "{name}: {why}\n"));
+    push_told(rt, &[name, why]);
 }
 
 /// Says what a fault means, without its place.
@@ -281,9 +290,12 @@ pub fn push_help(rt: &HostRuntime, fault: Fault, files: Files<'_>, words: &[Stri
 /// Says that the file to write to is empty, although nothing is written to it.
 fn push_emptied(rt: &HostRuntime, files: Files<'_>) {
     if let Some(output) = files.output {
-        push_text(
+        push_told(
             rt,
-            format!(in rt.alloc(); "{output} is empty now: OUT is made empty before SRC is read\n"),
+            &[
+                output,
+                " is empty now: OUT is made empty before SRC is read\n",
+            ],
         );
     }
 }
@@ -391,14 +403,25 @@ fn push_plan_is_file(rt: &HostRuntime, plan: &str) {
     if !is_file(rt, plan) {
         return;
     }
-    push_text(
-        rt,
-        if is_whole_program(rt.alloc(), contents(rt, plan).as_slice()) {
-            format!(in rt.alloc(); "{plan} is a program: a plan has words such as `ann. bob.`\n")
-        } else {
-            format!(in rt.alloc(); "{plan} is a file: `--plan-file {plan}` plays the plan in it\n")
-        },
-    );
+    if is_whole_program(rt.alloc(), contents(rt, plan).as_slice()) {
+        push_told(
+            rt,
+            &[
+                plan,
+                " is a program: a plan has words such as `ann. bob.`\n",
+            ],
+        );
+    } else {
+        push_told(
+            rt,
+            &[
+                plan,
+                " is a file: `--plan-file ",
+                plan,
+                "` plays the plan in it\n",
+            ],
+        );
+    }
 }
 
 /// Returns the plan or the schedule: the argument, or what standard input or a file has. These bytes are those of the file.
@@ -495,6 +518,14 @@ pub fn push_explained(rt: &HostRuntime, text: &str) {
     }
 }
 
+/// Writes these pieces of a text to standard error.
+pub fn push_told(rt: &HostRuntime, pieces: &[&str]) {
+    let mut errors = WritePort::new(printable::errors(rt));
+    for piece in pieces {
+        let _ = errors.push(piece.as_bytes());
+    }
+}
+
 /// Writes a text to standard error, if there was memory for it.
 pub fn push_text(rt: &HostRuntime, text: Result<String, AllocError>) {
     if let Ok(text) = text {
@@ -540,23 +571,37 @@ fn push_plan_meant(rt: &HostRuntime, word: &str, words: &[String]) -> bool {
     }
 }
 
+/// Says what `-` is, which can't be opened as a file among these arguments.
+fn push_minus(rt: &HostRuntime, words: &[String]) {
+    push_explained(
+        rt,
+        if is_plan_file(words) {
+            NOT_PLAN_INPUT
+        } else {
+            NOT_INPUT
+        },
+    );
+}
+
+/// Says which file has a name like that of one that isn't there.
+fn push_near_file(rt: &HostRuntime, path: &str) {
+    if let Some(near) = near_file(rt, path) {
+        push_told(rt, &["  Near:    ", near.as_str(), "\n"]);
+    }
+}
+
 /// Says what may have been meant by the name of a file that can't be opened, among these arguments: a file with a name like it, a
 /// page that is to be written, or a plan.
 fn push_meant(rt: &HostRuntime, path: &str, words: &[String]) {
-    if path == "-" && is_plan_file(words) {
-        push_explained(rt, NOT_PLAN_INPUT);
-    } else if path == "-" {
-        push_explained(rt, NOT_INPUT);
+    if path == "-" {
+        push_minus(rt, words);
     }
     if is_file(rt, path) {
         return;
     }
-    if let Some(near) = near_file(rt, path) {
-        let near = near.as_str();
-        push_text(rt, format!(in rt.alloc(); "  Near:    {near}\n"));
-    }
+    push_near_file(rt, path);
     if path.ends_with(".html") {
-        push_text(rt, format!(in rt.alloc(); "{TO_FILE}\n"));
+        push_told(rt, &[TO_FILE, "\n"]);
     }
     if !push_plan_meant(rt, path, words) && path.find(' ').is_some() {
         push_explained(rt, NO_QUOTES);
@@ -592,29 +637,34 @@ pub fn push_reason<R: Display>(
     reason: &R,
     words: &[String],
 ) {
-    if is_to_be_explained(rt) {
-        push_text(rt, format!(in rt.alloc(); "{path}: {reason}\n"));
-        if matches!(fault, Fault::Read) {
-            push_meant(rt, path, words);
-        }
-        let mut errors = WritePort::new(printable::errors(rt));
-        let helps = match fault {
-            Fault::Read => helps_at_unread(rt, path, words),
-            _ => None,
-        };
-        let _ = push_meaning(rt.alloc(), &mut errors, Unplanned::Fault(fault), helps);
+    if !is_to_be_explained(rt) {
+        return;
     }
+    push_text(rt, format!(in rt.alloc(); "{path}: {reason}\n"));
+    let helps = match fault {
+        Fault::Read => {
+            push_meant(rt, path, words);
+            helps_at_unread(rt, path, words)
+        }
+        _ => None,
+    };
+    let mut errors = WritePort::new(printable::errors(rt));
+    let _ = push_meaning(rt.alloc(), &mut errors, Unplanned::Fault(fault), helps);
 }
 
 /// Says how a file is explained, if this is the name of one. Returns whether it is.
 pub fn push_explained_file(rt: &HostRuntime, path: &str) -> bool {
     let is_file = is_file(rt, path);
     if is_file {
-        push_text(
+        push_told(
             rt,
-            format!(in rt.alloc();
-                "`vuthgal run {path} --explain always` explains what is refused in {path}\n"
-            ),
+            &[
+                "`vuthgal run ",
+                path,
+                " --explain always` explains what is refused in ",
+                path,
+                "\n",
+            ],
         );
     }
     is_file
@@ -624,12 +674,16 @@ pub fn push_explained_file(rt: &HostRuntime, path: &str) -> bool {
 pub fn push_file_hint(rt: &HostRuntime, path: &str) -> bool {
     let is_file = fs::metadata(rt, path).is_ok();
     if is_file {
-        push_text(
+        push_told(
             rt,
-            format!(in rt.alloc();
-                "{path} is a file: `vuthgal run {path}` plays a text with its schedule,\n\
-             `vuthgal run {path} SCHEDULE` plays a program under this schedule\n"
-            ),
+            &[
+                path,
+                " is a file: `vuthgal run ",
+                path,
+                "` plays a text with its schedule,\n`vuthgal run ",
+                path,
+                " SCHEDULE` plays a program under this schedule\n",
+            ],
         );
     }
     is_file

@@ -68,15 +68,21 @@ pub fn push_mistaken(
 }
 
 /// Writes a comparison of a trace and a program as it should be typed.
-fn push_turned_line<E: Sink>(errors: &mut E, trace: &str, program: &str) -> Result<(), Failed> {
-    push_word(errors, trace)?;
-    errors.push(b" is a trace, ")?;
-    push_word(errors, program)?;
-    errors.push(b" a program: `vuthgal compare ")?;
+fn push_comparison<E: Sink>(errors: &mut E, trace: &str, program: &str) -> Result<(), Failed> {
+    errors.push(b"`vuthgal compare ")?;
     push_word(errors, program)?;
     errors.push(b" ")?;
     push_word(errors, trace)?;
     errors.push(b"`\n")
+}
+
+/// Writes that a trace and a program are in each other's place.
+fn push_turned_line<E: Sink>(errors: &mut E, trace: &str, program: &str) -> Result<(), Failed> {
+    push_word(errors, trace)?;
+    errors.push(b" is a trace, ")?;
+    push_word(errors, program)?;
+    errors.push(b" a program: ")?;
+    push_comparison(errors, trace, program)
 }
 
 /// Says that a trace and a program are in each other's place.

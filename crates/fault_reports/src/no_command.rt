@@ -1,6 +1,6 @@
 //! Why no command is begun.
 
-use crate::help::{TO_FILE, push_file_hint, push_reason, push_text, push_words};
+use crate::help::{TO_FILE, push_file_hint, push_reason, push_text, push_told, push_words};
 use crate::usage;
 use byte_ports::WritePort;
 use clap::Error as WordsError;
@@ -116,7 +116,7 @@ fn tell_words(rt: &HostRuntime, error: &WordsError, words: &[String]) -> u8 {
     let status = push_wrong(rt, told);
     match way {
         _ if status != WRONG_WORDS => {}
-        Some(way) => push_text(rt, format!(in rt.alloc(); "{way}\n")),
+        Some(way) => push_told(rt, &[way, "\n"]),
         None if is_enough && !is_quoted_line(error.kind(), words) => {}
         None if is_of_state => push_state_meant(rt, words),
         None => push_tip(rt, error.kind(), words, is_of_quotes),
@@ -165,33 +165,42 @@ fn is_enough(told: &Result<String, AllocError>) -> bool {
     has_part(told, "tip: a similar") || is_option && !has_own_tip
 }
 
+/// Reports what may have been meant by a word in the place of a command, before these words.
+fn push_command_tip(rt: &HostRuntime, word: &str, words: &[String]) {
+    match words {
+        [called, ..] if word == "help" => push_near_command(rt, called.as_str()),
+        _ if word == "--expect" => push_told(rt, &[QUOTE, "\n"]),
+        _ if push_file_hint(rt, word) || push_several_words(rt, word) => {}
+        _ => push_near_command(rt, word),
+    }
+}
+
 /// Reports what may have been meant by words that ask for nothing, or that may have no quotes.
 fn push_tip(rt: &HostRuntime, kind: ErrorKind, words: &[String], is_of_quotes: bool) {
-    match (kind, words) {
-        (ErrorKind::InvalidSubcommand, [_, help, word, ..]) if help.as_str() == "help" =>
-            push_near_command(rt, word.as_str()),
-        (ErrorKind::InvalidSubcommand, [_, option, ..]) if option.as_str() == "--expect" =>
-            push_text(rt, format!(in rt.alloc(); "{QUOTE}\n")),
-        (ErrorKind::InvalidSubcommand, [_, word, ..]) => {
-            let word = word.as_str();
-            if !push_file_hint(rt, word) && !push_several_words(rt, word) {
-                push_near_command(rt, word);
-            }
-        }
-        (ErrorKind::UnknownArgument, [_, option, ..]) if option.as_str().starts_with("--") =>
-            push_text(rt, format!(in rt.alloc(); "{COMMAND_FIRST}\n")),
-        (ErrorKind::UnknownArgument, [_, command, rest @ ..]) => push_other_way(
+    let [_, word, rest @ ..] = words else {
+        return;
+    };
+    let word = word.as_str();
+    match kind {
+        ErrorKind::InvalidSubcommand => push_command_tip(rt, word, rest),
+        ErrorKind::UnknownArgument if word.starts_with("--") => push_told(
             rt,
-            command.as_str(),
-            rest,
+            &[COMMAND_FIRST, "\n"],
         ),
-        (_, [_, command, rest @ ..]) if is_of_quotes => {
-            if !push_as_typed(rt, command.as_str(), rest) {
-                push_page_way(rt, rest);
-            }
+        ErrorKind::UnknownArgument => push_other_way(rt, word, rest),
+        _ if is_of_quotes && !push_as_typed(rt, word, rest) => {
+            let _ = push_page_way(rt, rest);
         }
         _ => {}
     }
+}
+
+/// Whether the line of an error, or a trace's, begins so.
+fn begins_told_line(word: &str) -> bool {
+    matches!(
+        word,
+        "refused" | "not" | "differs" | "expected" | "stopped" | "state"
+    )
 }
 
 /// Reports how a command line should be typed that is in quotes, or how the line of an error is explained. Returns whether this is
@@ -201,22 +210,14 @@ fn push_several_words(rt: &HostRuntime, line: &str) -> bool {
         return false;
     };
     if !usage::about(first).is_empty() {
-        push_text(
-            rt,
-            format!(in rt.alloc(); "without quotes: `vuthgal {line}`\n"),
-        );
-    } else if matches!(
-        first,
-        "refused" | "not" | "differs" | "expected" | "stopped" | "state"
-    ) {
-        push_text(
-            rt,
-            format!(in rt.alloc(); "`vuthgal explain '{line}'` explains this line\n"),
-        );
+        push_told(rt, &["without quotes: `vuthgal ", line, "`\n"]);
+        true
+    } else if begins_told_line(first) {
+        push_told(rt, &["`vuthgal explain '", line, "'` explains this line\n"]);
+        true
     } else {
-        return false;
+        false
     }
-    true
 }
 
 /// Reports how a command should be typed that has a plan or a schedule in the wrong place. Returns whether it has.
@@ -228,18 +229,20 @@ fn push_as_typed(rt: &HostRuntime, command: &str, words: &[String]) -> bool {
 /// Reports which command is called so by others, or nearly so.
 fn push_near_command(rt: &HostRuntime, word: &str) {
     if let Some(other) = other_program(word) {
-        push_text(rt, format!(in rt.alloc(); "tip: {other}\n"));
+        push_told(rt, &["tip: ", other, "\n"]);
     } else if let Some(command) = command_called(word) {
-        let about = usage::about(command);
-        push_text(
+        push_told(
             rt,
-            format!(in rt.alloc(); "tip: '{command}' may be meant: {about}\n"),
+            &[
+                "tip: '",
+                command,
+                "' may be meant: ",
+                usage::about(command),
+                "\n",
+            ],
         );
     } else if let Ok(Some(command)) = usage::nearest_command(rt, word) {
-        push_text(
-            rt,
-            format!(in rt.alloc(); "tip: a similar subcommand exists: '{command}'\n"),
-        );
+        push_told(rt, &["tip: a similar subcommand exists: '", command, "'\n"]);
     }
 }
 
@@ -253,16 +256,16 @@ fn push_state_meant(rt: &HostRuntime, words: &[String]) {
         }
     }
     if let Some(near) = near {
-        push_text(rt, format!(in rt.alloc(); "  Near:    {near}\n"));
+        push_told(rt, &["  Near:    ", near, "\n"]);
     }
-    push_text(rt, format!(in rt.alloc(); "{STATES}\n"));
+    push_told(rt, &[STATES, "\n"]);
 }
 
 /// Reports how a page is written to a file, if one of these words is the name of a page. Returns whether one is.
 fn push_page_way(rt: &HostRuntime, words: &[String]) -> bool {
     let is_page = words.iter().any(|word| word.as_str().ends_with(".html"));
     if is_page {
-        push_text(rt, format!(in rt.alloc(); "{TO_FILE}\n"));
+        push_told(rt, &[TO_FILE, "\n"]);
     }
     is_page
 }
@@ -292,31 +295,40 @@ fn is_for_script(word: &str) -> bool {
     matches!(word, "-x" | "-ex" | "-b" | "-batch")
 }
 
+/// What a command has in place of what it doesn't take.
+fn way_of(command: &str, words: &[String]) -> Option<&'static str> {
+    match command {
+        "race" => Some("`race` plays no program: `live FILE` plays one on real threads"),
+        "live" => Some("`run FILE SCHEDULE` plays a schedule; `live` lets the threads choose"),
+        "debug" if words.iter().any(|word| is_for_script(word.as_str())) => Some(COMMANDS_IN_FILE),
+        "debug" => Some(
+            "`--at TRACE` begins after a trace, `--plan-file FILE` after a plan; the command `g t0 t1` plays a schedule",
+        ),
+        _ => None,
+    }
+}
+
+/// How what a command doesn't take is asked for.
+fn way_in_place(command: &str, words: &[String]) -> Option<&'static str> {
+    if has_both_steps(words) {
+        Some(ONE_OF_STEPS)
+    } else if !words.iter().any(|word| is_for_output(word.as_str())) {
+        way_of(command, words)
+    } else if command == "asm" {
+        Some("`vuthgal asm SRC OUT` writes the image to the file OUT")
+    } else {
+        Some("`> FILE` writes the output to a file")
+    }
+}
+
 /// Reports how what a command doesn't take is asked for.
 fn push_other_way(rt: &HostRuntime, command: &str, words: &[String]) {
     if !has_both_steps(words) && push_as_typed(rt, command, words) || push_page_way(rt, words) {
         return;
     }
-    let way = if has_both_steps(words) {
-        ONE_OF_STEPS
-    } else if words.iter().any(|word| is_for_output(word.as_str())) {
-        if command == "asm" {
-            "`vuthgal asm SRC OUT` writes the image to the file OUT"
-        } else {
-            "`> FILE` writes the output to a file"
-        }
-    } else if command == "race" {
-        "`race` plays no program: `live FILE` plays one on real threads"
-    } else if command == "live" {
-        "`run FILE SCHEDULE` plays a schedule; `live` lets the threads choose"
-    } else if command == "debug" && words.iter().any(|word| is_for_script(word.as_str())) {
-        COMMANDS_IN_FILE
-    } else if command == "debug" {
-        "`--at TRACE` begins after a trace, `--plan-file FILE` after a plan; the command `g t0 t1` plays a schedule"
-    } else {
-        return;
-    };
-    push_text(rt, format!(in rt.alloc(); "{way}\n"));
+    if let Some(way) = way_in_place(command, words) {
+        push_told(rt, &[way, "\n"]);
+    }
 }
 
 /// Reports a fault of a file in its one line, and on a terminal which file it is, and why. Returns the exit status.

@@ -1,7 +1,7 @@
 //! What is written about arguments that ask for nothing: what is wrong, and the usage of the command that was meant.
 
-use clap::Error as WordsError;
 use clap::error::ErrorKind;
+use clap::{Command, Error as WordsError};
 use command_line::commands::{commands, program};
 use std::alloc::AllocError;
 use std::env::{Env, FillError};
@@ -94,17 +94,31 @@ pub fn help_of(rt: &HostRuntime, help: &WordsError) -> Result<String, AllocError
     }
 }
 
+/// Returns the text of the help that these words ask for.
+fn help_by<'a>(
+    rt: &HostRuntime,
+    program: &mut Command<'a>,
+    words: &'a [&'a str],
+) -> Result<String, AllocError> {
+    match program.try_get_matches_from_mut(words) {
+        Ok(_) => Ok(String::new(rt.alloc())),
+        Err(help) => text_of(rt, &help),
+    }
+}
+
+/// Returns the text of the program's help that these words ask for.
+fn help_for(rt: &HostRuntime, words: &[&str]) -> Result<String, AllocError> {
+    let mut program = program(rt.alloc(), "")?;
+    help_by(rt, &mut program, words)
+}
+
 /// Returns why the arguments ask for nothing, the usage of the command that was meant, and where there is more to read.
 pub fn with_usage(rt: &HostRuntime, why: &str) -> Result<String, AllocError> {
     let words = match meant(rt) {
         Some(command) => ["vuthgal", command, "--help"],
         None => ["vuthgal", "--help", "--help"],
     };
-    let mut program = program(rt.alloc(), "")?;
-    let help = match program.try_get_matches_from_mut(&words) {
-        Ok(_) => String::new(rt.alloc()),
-        Err(help) => text_of(rt, &help)?,
-    };
+    let help = help_for(rt, &words)?;
     let usage = usage_line(help.as_str());
     format!(in rt.alloc(); "{why}\n\n{usage}\n\nFor more information, try '--help'.\n")
 }

@@ -4,14 +4,15 @@ use assembler::{Symbol, Symbols};
 use byte_ports::{Failed, Sink};
 use instruction_table::OperandKind;
 use itoa::Buffer;
+use refusals::entry::push_pieces;
 
 /// What stands for a thing of this kind in the state, before its number.
-fn letter(kind: OperandKind) -> Option<&'static [u8]> {
+fn letter(kind: OperandKind) -> Option<&'static str> {
     match kind {
-        OperandKind::Thread => Some(b"t"),
-        OperandKind::Phaser => Some(b"p"),
-        OperandKind::Barrier => Some(b"b"),
-        OperandKind::Cell => Some(b"c"),
+        OperandKind::Thread => Some("t"),
+        OperandKind::Phaser => Some("p"),
+        OperandKind::Barrier => Some("b"),
+        OperandKind::Cell => Some("c"),
         OperandKind::Target | OperandKind::Register | OperandKind::Number => None,
     }
 }
@@ -19,14 +20,21 @@ fn letter(kind: OperandKind) -> Option<&'static [u8]> {
 /// Shows a thing by its letter and number, and its name.
 fn push_symbol<E: Sink>(
     notes: &mut E,
-    before: &[u8],
-    letter: &[u8],
+    before: &str,
+    letter: &str,
     symbol: &Symbol<&[u8]>,
 ) -> Result<(), Failed> {
-    notes.push(before)?;
-    notes.push(letter)?;
-    notes.push(Buffer::new().format(symbol.number).as_bytes())?;
-    notes.push(b" ")?;
+    let mut number = Buffer::new();
+    let number = number.format(symbol.number);
+    push_pieces(
+        notes,
+        &[
+            before.as_bytes(),
+            letter.as_bytes(),
+            number.as_bytes(),
+            b" ",
+        ],
+    )?;
     notes.push(symbol.name)
 }
 
@@ -36,7 +44,7 @@ pub fn push_names<E: Sink>(notes: &mut E, symbols: &Symbols<'_>) -> Result<(), F
     for index in 0..symbols.len() {
         if let Some(symbol) = symbols.get(index) {
             if let Some(letter) = letter(symbol.kind) {
-                let before = if is_first { b"  " } else { b", " };
+                let before = if is_first { "  " } else { ", " };
                 push_symbol(notes, before, letter, &symbol)?;
                 is_first = false;
             }

@@ -22,10 +22,11 @@ use debugger::{Command, Debugger, Played, command_of};
 use plans::fault::PlanFaultKind;
 use plans::plan_runs::plan_runs_at;
 use plans::read_plan;
+use plans::words::Words;
 use schedule_reader::{Run, write_schedule};
 use std::alloc::{AllocError, Global};
 use std::mem::replace;
-use thread_machine::Machine;
+use thread_machine::{Choice, Machine};
 use workbench::companion::Companion;
 use workbench::fault::Fault;
 
@@ -102,39 +103,63 @@ struct Person<'a, S, K, E> {
 }
 
 impl<'a, S: Source + Drop, K: Sink + Drop, E: Sink + Drop> Person<'a, S, K, E> {
+    /// Shows what a line may have been meant as that the debugger doesn't know.
+    fn show_unknown(&mut self, debugger: &Debugger) -> Result<(), AllocError> {
+        let names = self.names(debugger)?;
+        note(push_unknown(
+            self.alloc,
+            &mut self.notes,
+            &self.symbols,
+            names.as_slice(),
+            debugger.machine(),
+            self.said.as_slice(),
+        ));
+        Ok(())
+    }
+
+    /// Sees what one choice came to.
+    fn look_at_choice(
+        &mut self,
+        choice: Choice,
+        threads: usize,
+        more: u64,
+    ) -> Result<(), AllocError> {
+        if usize::from(choice.thread) >= threads {
+            note(push_threads(&mut self.notes, threads));
+            return Ok(());
+        }
+        self.played.push_first(&[Run::once(choice)], more)
+    }
+
+    /// Shows the lines of choices of which so many were played at once.
+    fn look_at_runs(&mut self, runs: &[Run], more: u64) -> Result<(), AllocError> {
+        if let Some(mut before) = self.before.take() {
+            note(push_replayed(&mut self.notes, &mut before, runs, more));
+        }
+        self.played.push_first(runs, more)
+    }
+
+    /// Sees what a command came to, and shows its effect where the debugger's reply doesn't.
+    fn look_at(&mut self, command: &Command, machine: &Machine) -> Result<(), AllocError> {
+        let more = machine.choices().saturating_sub(self.choices);
+        match command {
+            Command::Step(choice) => self.look_at_choice(*choice, machine.thread_count(), more)?,
+            Command::Go(runs) => self.look_at_runs(runs.as_slice(), more)?,
+            Command::Print => note(push_names(&mut self.notes, &self.symbols)),
+            _ if machine.choices() < self.choices => self.played.pop(),
+            _ => {}
+        }
+        self.choices = machine.choices();
+        Ok(())
+    }
+
     /// Sees what the last command came to.
     fn look(&mut self, debugger: &Debugger) -> Result<(), AllocError> {
         let command = replace(&mut self.command, Command::Print);
         if is_unknown(&command, debugger) {
-            let names = self.names(debugger)?;
-            note(push_unknown(
-                self.alloc,
-                &mut self.notes,
-                &self.symbols,
-                names.as_slice(),
-                debugger.machine(),
-                self.said.as_slice(),
-            ));
+            self.show_unknown(debugger)?;
         }
-        let choices = debugger.machine().choices();
-        let more = choices.saturating_sub(self.choices);
-        if let (Some(mut before), Command::Go(runs)) = (self.before.take(), &command) {
-            note(push_replayed(&mut self.notes, &mut before, runs.as_slice(), more));
-        }
-        let threads = debugger.machine().thread_count();
-        match &command {
-            Command::Step(choice) if usize::from(choice.thread) >= threads => note(push_threads(
-                &mut self.notes,
-                threads,
-            )),
-            Command::Step(choice) => self.played.push_first(&[Run::once(*choice)], more)?,
-            Command::Go(runs) => self.played.push_first(runs.as_slice(), more)?,
-            Command::Print => note(push_names(&mut self.notes, &self.symbols)),
-            _ if choices < self.choices => self.played.pop(),
-            _ => {}
-        }
-        self.choices = choices;
-        Ok(())
+        self.look_at(&command, debugger.machine())
     }
 
     /// The names of the program's threads, in order of number.
@@ -146,28 +171,59 @@ impl<'a, S: Source + Drop, K: Sink + Drop, E: Sink + Drop> Person<'a, S, K, E> {
         thread_names(self.alloc, &self.symbols, count.min(MOST_THREADS))
     }
 
+    /// The choices that were played, by the names of the threads.
+    fn played_text(&self, debugger: &Debugger) -> Result<Vec<u8>, AllocError> {
+        let names = self.names(debugger)?;
+        named_text(self.alloc, names.as_slice(), self.played.runs())
+    }
+
     /// Writes the choices that were played, by the names of the threads, in a line.
     fn write_played(&mut self, debugger: &Debugger) -> Result<(), AllocError> {
-        let names = self.names(debugger)?;
-        let mut line = named_text(self.alloc, names.as_slice(), self.played.runs())?;
+        let mut line = self.played_text(debugger)?;
         line.push(b'\n')?;
         note(self.output.push(line.as_slice()));
         Ok(())
+    }
+
+    /// Returns the words of the line, if it is a plan.
+    fn words(&self, debugger: &Debugger) -> Result<Option<Words>, AllocError> {
+        let names = self.names(debugger)?;
+        match read_plan(self.alloc, self.said.as_slice(), names.as_slice()) {
+            Ok(words) => Ok(Some(words)),
+            Err(fault) if fault.kind == PlanFaultKind::Memory => Err(AllocError),
+            Err(_) => Ok(None),
+        }
+    }
+
+    /// Returns the choices that these words make from the session's machine on.
+    fn runs_of(&self, debugger: &Debugger, words: &Words) -> Result<Vec<Run>, AllocError>
+        ensures { IfOk result (λ runs. AreRuns runs.items) }
+    {
+        let machine = debugger.machine().copy(self.alloc)?;
+        let planned = plan_runs_at(self.alloc, machine, &words.all())?;
+        Ok(planned.runs)
     }
 
     /// Returns the choices that a plan makes from the session's machine on, if the line is a plan.
     fn planned(&self, debugger: &Debugger) -> Result<Option<Vec<Run>>, AllocError>
         ensures { IfOk result (λ planned. IfSome planned (λ runs. AreRuns runs.items)) }
     {
-        let machine = debugger.machine();
-        let names = self.names(debugger)?;
-        let words = match read_plan(self.alloc, self.said.as_slice(), names.as_slice()) {
-            Ok(words) => words,
-            Err(fault) if fault.kind == PlanFaultKind::Memory => return Err(AllocError),
-            Err(_) => return Ok(None),
-        };
-        let planned = plan_runs_at(self.alloc, machine.copy(self.alloc)?, &words.all())?;
-        Ok(Some(planned.runs))
+        match self.words(debugger)? {
+            Some(words) => Ok(Some(self.runs_of(debugger, &words)?)),
+            None => Ok(None),
+        }
+    }
+
+    /// Takes the line for these choices, as for `g`.
+    fn go(&mut self, runs: Vec<Run>) -> Result<(), AllocError>
+        requires { AreRuns runs.items }
+    {
+        let tokens = write_schedule(self.alloc, runs.as_slice())?;
+        self.line.clear();
+        self.line.extend_from_slice(b"g ")?;
+        self.line.extend_from_slice(tokens.as_bytes())?;
+        self.command = Command::Go(runs);
+        Ok(())
     }
 
     /// Reads what the line asks the debugger for. If it is no command, it may be the choices of a plan, as for `g`.
@@ -179,13 +235,10 @@ impl<'a, S: Source + Drop, K: Sink + Drop, E: Sink + Drop> Person<'a, S, K, E> {
         if self.said.trim_ascii().is_empty() {
             return Ok(());
         }
-        if let Some(runs) = self.planned(debugger)? {
-            self.line = Vec::from_slice(self.alloc, b"g ")?;
-            let tokens = write_schedule(self.alloc, runs.as_slice())?;
-            self.line.extend_from_slice(tokens.as_bytes())?;
-            self.command = Command::Go(runs);
+        match self.planned(debugger)? {
+            Some(runs) => self.go(runs),
+            None => Ok(()),
         }
-        Ok(())
     }
 
     /// Keeps the machine as it is if the line asks for several choices at once.
@@ -196,34 +249,61 @@ impl<'a, S: Source + Drop, K: Sink + Drop, E: Sink + Drop> Person<'a, S, K, E> {
         Ok(())
     }
 
+    /// Takes the line for the debugger.
+    fn take(&mut self, debugger: &Debugger) -> Result<(), AllocError> {
+        self.understand(debugger)?;
+        self.keep_before(debugger)
+    }
+
+    /// Reads a line, and puts it in place of the one before, with numbers; an empty one repeats the one before. Returns whether
+    /// it has an end.
+    fn read(&mut self, debugger: &Debugger) -> Result<bool, Fault>
+        ensures fault { IfErr result (λ fault. (fault ≡ Fault.Memory) ⊎ (fault ≡ Fault.Read)) }
+    {
+        let is_ended = self
+            .source
+            .next_line(debugger, &mut self.reads, &mut self.said)?;
+        if !self.said.trim_ascii().is_empty() {
+            match in_numbers(self.alloc, &self.symbols, self.said.as_slice()) {
+                Ok(line) => self.line = line,
+                Err(_) => return Err(Fault::Memory),
+            }
+        }
+        Ok(is_ended)
+    }
+
+    /// Answers the line, or reads what it asks the debugger for. Returns whether the debugger is to read it.
+    fn is_for_debugger(&mut self, debugger: &Debugger) -> Result<bool, AllocError> {
+        match self.line.as_slice().trim_ascii() {
+            b"help" | b"?" => note(self.notes.push(HELP)),
+            b"w" => self.write_played(debugger)?,
+            _ => {
+                self.take(debugger)?;
+                return Ok(true);
+            }
+        }
+        Ok(false)
+    }
+
     /// The next line that the debugger is to read. Those before it are answered.
     fn next_line(&mut self, debugger: &Debugger) -> Result<bool, Fault>
         ensures fault { IfErr result (λ fault. (fault ≡ Fault.Memory) ⊎ (fault ≡ Fault.Read)) }
     {
-        self.look(debugger).map_err(|_| Fault::Memory)?;
+        if self.look(debugger).is_err() {
+            return Err(Fault::Memory);
+        }
         for _ in 0..MOST {
             let machine = debugger.machine();
             note(push_may_go(self.alloc, &mut self.notes, &self.symbols, machine));
-            let is_ended = self
-                .source
-                .next_line(debugger, &mut self.reads, &mut self.said)?;
+            let is_ended = self.read(debugger)?;
             if !is_ended && self.said.is_empty() {
                 self.line.clear();
                 return Ok(false);
             }
-            if !self.said.trim_ascii().is_empty() {
-                self.line = in_numbers(self.alloc, &self.symbols, self.said.as_slice()).map_err(
-                    |_| Fault::Memory,
-                )?;
-            }
-            match self.line.as_slice().trim_ascii() {
-                b"help" | b"?" => note(self.notes.push(HELP)),
-                b"w" => self.write_played(debugger).map_err(|_| Fault::Memory)?,
-                _ => {
-                    self.understand(debugger).map_err(|_| Fault::Memory)?;
-                    self.keep_before(debugger).map_err(|_| Fault::Memory)?;
-                    return Ok(is_ended);
-                }
+            match self.is_for_debugger(debugger) {
+                Ok(true) => return Ok(is_ended),
+                Ok(false) => {}
+                Err(_) => return Err(Fault::Memory),
             }
         }
         Err(Fault::Read)

@@ -126,30 +126,56 @@ fn push_all_waiting(
     push_more(text, waiting, b" more wait\n")
 }
 
-/// The lines of the threads that may go on, and of those that wait.
-fn may_go(alloc: Global, symbols: &Symbols<'_>, machine: &Machine) -> Result<Vec<u8>, AllocError> {
-    let mut text = Vec::new(alloc);
+/// Adds the line of a thread that may go on.
+fn push_to_go(
+    text: &mut Vec<u8>,
+    symbols: &Symbols<'_>,
+    machine: &Machine,
+    thread: u8,
+) -> Result<(), AllocError>
+    requires { thread < length machine.now.scene.threads }
+{
+    let letter = letter_of(machine, thread);
+    push_thread(text, symbols, machine, letter, thread, b"")?;
+    text.extend_from_slice(standing(machine, thread))?;
+    text.extend_from_slice(b"\n")
+}
+
+/// Why no thread may go on.
+fn end_of(machine: &Machine) -> &'static [u8] {
+    if machine.stuck() {
+        b"  no thread can continue: stuck\n"
+    } else {
+        b"  all have ended\n"
+    }
+}
+
+/// Adds the lines of the threads that may go on, or why there is none.
+fn push_all_to_go(
+    text: &mut Vec<u8>,
+    symbols: &Symbols<'_>,
+    machine: &Machine,
+) -> Result<(), AllocError> {
     let mut named: usize = 0;
     for number in 0..machine.thread_count() {
         let thread = number as u8;
         if is_to_go(machine, thread) {
             if named < MOST_NAMED {
-                let letter = letter_of(machine, thread);
-                push_thread(&mut text, symbols, machine, letter, thread, b"")?;
-                text.extend_from_slice(standing(machine, thread))?;
-                text.push(b'\n')?;
+                push_to_go(text, symbols, machine, thread)?;
             }
             named = named.saturating_add(1);
         }
     }
     if named == 0 {
-        text.extend_from_slice(if machine.stuck() {
-            b"  no thread can continue: stuck\n".as_slice()
-        } else {
-            b"  all have ended\n".as_slice()
-        })?;
+        return text.extend_from_slice(end_of(machine));
     }
-    push_more(&mut text, named, b" more\n")?;
+    push_more(text, named, b" more\n")
+}
+
+/// The lines of the threads that may go on, and of those that wait.
+fn may_go(alloc: Global, symbols: &Symbols<'_>, machine: &Machine) -> Result<Vec<u8>, AllocError> {
+    let mut text = Vec::new(alloc);
+    push_all_to_go(&mut text, symbols, machine)?;
     push_all_waiting(&mut text, symbols, machine)?;
     Ok(text)
 }

@@ -72,6 +72,56 @@ fn is_whole_command(word: &[u8]) -> bool {
     matches!(word, b"b" | b"help" | b"p" | b"q" | b"w")
 }
 
+/// The first word of a line, and whether it is the only one.
+fn first_word(said: &[u8]) -> Option<(&[u8], bool)> {
+    let mut words = said
+        .split(|byte| is_blank(*byte))
+        .filter(|word| !word.is_empty());
+    let first = words.next()?;
+    Some((first, words.next().is_none()))
+}
+
+/// Adds the words that follow the first of a line: rows, or else choices.
+fn push_words(
+    line: &mut Vec<u8>,
+    symbols: &Symbols<'_>,
+    first: &[u8],
+    said: &[u8],
+) -> Result<(), AllocError> {
+    let words = said
+        .split(|byte| is_blank(*byte))
+        .filter(|word| !word.is_empty());
+    for word in words.skip(1) {
+        line.push(b' ')?;
+        if is_before_row(first) {
+            push_row(line, symbols, word)?;
+        } else {
+            push_token(line, symbols, word)?;
+        }
+    }
+    Ok(())
+}
+
+/// Adds a line as the debugger reads it.
+fn push_in_numbers(
+    line: &mut Vec<u8>,
+    symbols: &Symbols<'_>,
+    said: &[u8],
+) -> Result<(), AllocError> {
+    let Some((first, is_alone)) = first_word(said) else {
+        return Ok(());
+    };
+    if is_alone && !is_whole_command(first) && choice_called(symbols, first).is_some() {
+        line.extend_from_slice(b"s ")?;
+        push_token(line, symbols, first)
+    } else if is_before_choices(first) || is_before_row(first) {
+        line.extend_from_slice(first)?;
+        push_words(line, symbols, first, said)
+    } else {
+        line.extend_from_slice(said)
+    }
+}
+
 /// Returns the line that the debugger reads, without an end: `s t0` for `s ann` and for only `ann`. What names nobody stays as
 /// it is.
 pub fn in_numbers(
@@ -80,33 +130,6 @@ pub fn in_numbers(
     said: &[u8],
 ) -> Result<Vec<u8>, AllocError> {
     let mut line = Vec::new(alloc);
-    let mut words = said
-        .split(|byte| is_blank(*byte))
-        .filter(|word| !word.is_empty());
-    let Some(first) = words.next() else {
-        return Ok(line);
-    };
-    if choice_called(symbols, first).is_some()
-        && !is_whole_command(first)
-        && words.next().is_none()
-    {
-        line.extend_from_slice(b"s ")?;
-        push_token(&mut line, symbols, first)?;
-    } else if is_before_choices(first) || is_before_row(first) {
-        line.extend_from_slice(first)?;
-        let words = said
-            .split(|byte| is_blank(*byte))
-            .filter(|word| !word.is_empty());
-        for word in words.skip(1) {
-            line.push(b' ')?;
-            if is_before_row(first) {
-                push_row(&mut line, symbols, word)?;
-            } else {
-                push_token(&mut line, symbols, word)?;
-            }
-        }
-    } else {
-        line.extend_from_slice(said)?;
-    }
+    push_in_numbers(&mut line, symbols, said)?;
     Ok(line)
 }

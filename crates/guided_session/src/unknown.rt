@@ -10,6 +10,7 @@ use line_reader::words::is_blank;
 use plans::cutting::word_length;
 use plans::fault::PlanFaultKind;
 use plans::read_plan;
+use refusals::entry::push_pieces;
 use std::alloc::Global;
 use suggestions::plan_word::{helps_at_name, helps_at_seed, helps_at_star, helps_at_word};
 use thread_machine::Machine;
@@ -191,7 +192,8 @@ fn helps_at_missing(word: &[u8], rest: &[u8]) -> Option<&'static str> {
 }
 
 /// What helps if `s` or `g` isn't followed by choices alone.
-fn helps_at_choices(word: &[u8], rest: &[u8], is_one: bool) -> Option<&'static str> {
+fn helps_at_choices(word: &[u8], rest: &[u8]) -> Option<&'static str> {
+    let is_one = !rest.iter().any(|byte| is_blank(*byte));
     match word {
         b"s" if rest.is_empty() => Some(ONE_CHOICE),
         b"s" if !is_one => Some("`s` is one choice: `g ann bob` plays several"),
@@ -215,23 +217,28 @@ fn words(line: &[u8]) -> (&[u8], &[u8]) {
     }
 }
 
+/// What helps if a command is a capital letter.
+fn helps_at_capital(word: &[u8]) -> Option<&'static str> {
+    match word {
+        [b'B' | b'C' | b'G' | b'K' | b'P' | b'Q' | b'S' | b'W'] => Some(SMALL),
+        _ => None,
+    }
+}
+
 /// What helps at a line by its commands: those of other debuggers, and those of this one with something that they don't take.
 fn helps_at_command(said: &[u8]) -> Option<&'static str> {
     let (word, rest) = words(said);
-    let is_one = !rest.iter().any(|byte| is_blank(*byte));
     if said.contains(&27) {
-        Some(AT_KEY)
-    } else if word == b"info".as_slice() && rest.starts_with(b"b") {
-        Some(BREAKPOINTS)
-    } else if let Some(helps) = helps_elsewhere(word) {
-        Some(helps)
-    } else if matches!(word, b"B" | b"C" | b"G" | b"K" | b"P" | b"Q" | b"S" | b"W") {
-        Some(SMALL)
-    } else {
-        helps_at_whole(word)
-            .or(helps_at_missing(word, rest))
-            .or(helps_at_choices(word, rest, is_one))
+        return Some(AT_KEY);
     }
+    if word == b"info".as_slice() && rest.starts_with(b"b") {
+        return Some(BREAKPOINTS);
+    }
+    helps_elsewhere(word)
+        .or(helps_at_capital(word))
+        .or(helps_at_whole(word))
+        .or(helps_at_missing(word, rest))
+        .or(helps_at_choices(word, rest))
 }
 
 /// The first wrong word of a plan, what is wrong with it, and the byte before it.
@@ -294,14 +301,31 @@ fn helps_at_wrong(wrong: Wrong<'_>) -> Option<&'static str> {
 
 /// Writes a line that begins so.
 fn push_line<E: Sink>(notes: &mut E, label: &[u8], text: &[u8]) -> Result<(), Failed> {
-    notes.push(label)?;
-    notes.push(text)?;
-    notes.push(b"\n")
+    push_pieces(notes, &[label, text, b"\n"])
 }
 
 /// Writes what helps.
 fn push_help<E: Sink>(notes: &mut E, helps: &str) -> Result<(), Failed> {
     push_line(notes, b"  ", helps.as_bytes())
+}
+
+/// A word's name, and the dot or count behind it.
+fn name_and_tail(word: &[u8]) -> (&[u8], &[u8]) {
+    let end = word
+        .iter()
+        .position(|byte| *byte == b'.' || *byte == b'*')
+        .unwrap_or(word.len());
+    word.split_at(end.min(word.len()))
+}
+
+/// Returns the thread's name that may have been meant, and whether it is meant as the expiry of its wait.
+fn near_choice<'a>(alloc: Global, symbols: &Symbols<'a>, name: &[u8]) -> Option<(&'a [u8], bool)> {
+    if let Some(near) = near_symbol(alloc, symbols, OperandKind::Thread, name) {
+        return Some((near, false));
+    }
+    let expiring = name.strip_prefix(b"x".as_slice())?;
+    let near = near_symbol(alloc, symbols, OperandKind::Thread, expiring)?;
+    Some((near, true))
 }
 
 /// Writes that no thread has this name, and the name that may have been meant, with the dot or count behind it.
@@ -311,28 +335,17 @@ fn push_no_thread<E: Sink>(
     symbols: &Symbols<'_>,
     word: &[u8],
 ) -> Result<(), Failed> {
-    let end = word
-        .iter()
-        .position(|byte| *byte == b'.' || *byte == b'*')
-        .unwrap_or(word.len());
-    let (name, tail) = word.split_at(end.min(word.len()));
-    let near = near_symbol(alloc, symbols, OperandKind::Thread, name);
-    let expiring = name.strip_prefix(b"x".as_slice()).and_then(|name| near_symbol(
-        alloc,
-        symbols,
-        OperandKind::Thread,
-        name,
-    ));
+    let (name, tail) = name_and_tail(word);
     push_help(notes, NO_COMMAND)?;
-    let (mark, name) = match (near, expiring) {
-        (Some(name), _) => (b"".as_slice(), name),
-        (None, Some(name)) => (b"x".as_slice(), name),
-        (None, None) => return Ok(()),
+    let Some((near, is_expiry)) = near_choice(alloc, symbols, name) else {
+        return Ok(());
     };
-    notes.push(b"  Near: ")?;
-    notes.push(mark)?;
-    notes.push(name)?;
-    push_line(notes, b"", tail)
+    notes.push(if is_expiry {
+        b"  Near: x".as_slice()
+    } else {
+        b"  Near: ".as_slice()
+    })?;
+    push_line(notes, near, tail)
 }
 
 /// Writes which threads there are.
@@ -379,10 +392,9 @@ fn push_rows<E: Sink>(
     row: &[u8],
 ) -> Result<(), Failed> {
     let rows = machine.loaded().rows().len();
-    notes.push(b"  ROW is a label, or a number from 0 to ")?;
     push_line(
         notes,
-        b"",
+        b"  ROW is a label, or a number from 0 to ",
         Buffer::new().format(rows.saturating_sub(1)).as_bytes(),
     )?;
     match near_symbol(alloc, symbols, OperandKind::Target, row) {

@@ -1,5 +1,6 @@
 -- What is said about a word of the language.
 use Rattle.std.specs.Prelude.{◌≡◌, ◌≢◌, ◌⊎◌, ◌≤◌, ◌<◌, ⊤, ℕ, List, [], ◌∷◌, ◌++◌, None, Some, if◌then◌else◌, bytes_eq, codes, slice_index_or, true}
+use Rattle.std.specs.List.{flat_map}
 use Rattle.instruction_table.specs.declared.shape.OperandKind.{OperandKind}
 use Rattle.instruction_table.specs.declared.shape.OperandKind.TheVariants.{Register, Number, Target, Phaser, Barrier, Thread, Cell}
 use Rattle.instruction_table.specs.Table.{Entry, entry_named, no_entry, table}
@@ -65,9 +66,10 @@ more_of word =
     if bytes_eq word (codes ".run") then codes "docs/LANGUAGE.md, \"Program text\""
     else (if is_directive word then codes "docs/LANGUAGE.md, \"Directives\"" else codes "docs/LANGUAGE.md, \"Instruction table\"")
 
--- an entry as it is written
+-- an entry as it is written: its lines, each with its label
 abbrev pub word_text : WordEntry → List ℕ
 word_text e =
-    line (codes "") e.form.now ++ (line (codes "  Operands: ") e.operands.now ++ (line (codes "  Java:     ") e.java.now
-    ++ (line (codes "  Means:    ") e.means.now ++ (line (codes "  Event:    ") e.event.now ++ (line (codes "  More:     ") (more_of e.word.now)
-    ++ (line (codes "  Example:  ") (codes "a text with its schedule, for `vuthgal`") ++ line (codes "") e.example.now))))))
+    flat_map (λ (l : List ℕ × List ℕ). line l.0 l.1)
+    ((codes "", e.form.now) ∷ (codes "  Operands: ", e.operands.now) ∷ (codes "  Java:     ", e.java.now)
+    ∷ (codes "  Means:    ", e.means.now) ∷ (codes "  Event:    ", e.event.now) ∷ (codes "  More:     ", more_of e.word.now)
+    ∷ (codes "  Example:  ", codes "a text with its schedule, for `vuthgal`") ∷ (codes "", e.example.now) ∷ [])

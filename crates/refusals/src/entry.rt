@@ -1,5 +1,6 @@
 //! An entry of the table, and how it is written.
 ghost use Rattle.std.specs.Prelude.{IsTrue, OnErr, OnOk};
+ghost use Rattle.std.specs.List.{flat_map};
 ghost use Rattle.std.specs.Io.KnownBytes.{Appends};
 ghost use Rattle.refusals.specs.Entry.{line, place_line, text_of, words_of};
 
@@ -31,6 +32,17 @@ pub struct Place {
     pub number: u64,
 }
 
+/// Writes these pieces, one after another.
+pub fn push_pieces<W: Sink>(output: &mut W, pieces: &[&[u8]]) -> Result<(), Failed>
+    ensures bytes { OnOk result (Appends (W.written output.old) (W.written output.new) (flat_map (λ p. p.now) pieces.now)) }
+    ensures failed { OnErr result (IsTrue (W.has_failed output.new)) }
+{
+    for piece in pieces {
+        output.push(piece)?;
+    }
+    Ok(())
+}
+
 /// Writes a line that begins with this label.
 pub fn push_line<W: Sink>(output: &mut W, label: &[u8], text: &str) -> Result<(), Failed>
     ensures bytes { OnOk result (Appends (W.written output.old) (W.written output.new)
@@ -40,6 +52,18 @@ pub fn push_line<W: Sink>(output: &mut W, label: &[u8], text: &str) -> Result<()
     output.push(label)?;
     output.push(text.as_bytes())?;
     output.push(b"\n")
+}
+
+/// Writes lines, each of which begins with its label.
+pub fn push_lines<W: Sink>(output: &mut W, lines: &[(&str, &str)]) -> Result<(), Failed>
+    ensures bytes { OnOk result (Appends (W.written output.old) (W.written output.new)
+        (flat_map (λ l. line l.0.now l.1.now) lines.now)) }
+    ensures failed { OnErr result (IsTrue (W.has_failed output.new)) }
+{
+    for (label, text) in lines {
+        push_line(output, label.as_bytes(), text)?;
+    }
+    Ok(())
 }
 
 /// Writes the line of a place, if there is one.

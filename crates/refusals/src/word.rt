@@ -3,7 +3,7 @@ ghost use Rattle.std.specs.Prelude.{◌≡◌, IsTrue, MatchOption, OnErr, OnOk,
 ghost use Rattle.std.specs.Io.KnownBytes.{Appends};
 ghost use Rattle.refusals.specs.Word.{IsItsWord, IsNoWord, more_of, word_text};
 
-use crate::entry::push_line;
+use crate::entry::push_lines;
 use crate::table::directive::directive_entry;
 use crate::table::row::row_entry;
 use byte_ports::{Failed, Sink};
@@ -31,7 +31,7 @@ fn more_of(word: &str) -> &'static str
 }
 
 /// What is said about a word.
-#[derive(Clone, Copy, Debug)]
+#[derive(Clone, Copy)]
 pub struct WordEntry {
     pub word: &'static str,
     /// The word and its operands, as the documents write them.
@@ -54,18 +54,19 @@ impl WordEntry {
         ensures bytes { OnOk result (Appends (W.written output.old) (W.written output.new) (word_text (self))) }
         ensures failed { OnErr result (IsTrue (W.has_failed output.new)) }
     {
-        push_line(output, b"", self.form)?;
-        push_line(output, b"  Operands: ", self.operands)?;
-        push_line(output, b"  Java:     ", self.java)?;
-        push_line(output, b"  Means:    ", self.means)?;
-        push_line(output, b"  Event:    ", self.event)?;
-        push_line(output, b"  More:     ", more_of(self.word))?;
-        push_line(
+        push_lines(
             output,
-            b"  Example:  ",
-            "a text with its schedule, for `vuthgal`",
-        )?;
-        push_line(output, b"", self.example)
+            &[
+                ("", self.form),
+                ("  Operands: ", self.operands),
+                ("  Java:     ", self.java),
+                ("  Means:    ", self.means),
+                ("  Event:    ", self.event),
+                ("  More:     ", more_of(self.word)),
+                ("  Example:  ", "a text with its schedule, for `vuthgal`"),
+                ("", self.example),
+            ],
+        )
     }
 }
 

@@ -1,10 +1,13 @@
-//! What a file is, by its bytes: it may have been given in place of another.
+//! What a file is, by its bytes: it may have been given in place of another, or saved in another encoding.
 
 use schedule_reader::read_schedule;
 use std::alloc::Global;
 
 /// How many bytes are looked at, at most.
 const LONGEST: usize = 16_777_216;
+
+/// How many bytes of a file show whether it is binary.
+const BEGINNING: usize = 512;
 
 /// Returns whether these bytes are a schedule of some choices.
 pub fn is_schedule(alloc: Global, bytes: &[u8]) -> bool {
@@ -20,4 +23,29 @@ pub fn is_schedule(alloc: Global, bytes: &[u8]) -> bool {
 /// Returns whether these bytes are a trace, by how they begin: with a line of the first choice, or the state's.
 pub fn is_trace(bytes: &[u8]) -> bool {
     bytes.starts_with(b"1 t") || bytes.starts_with(b"1 x") || bytes.starts_with(b"state ")
+}
+
+/// Whether bytes are UTF-16, by how they begin: with a mark, or with letters of two bytes.
+fn is_utf_16(bytes: &[u8]) -> bool {
+    match bytes {
+        [0xff, 0xfe, ..] | [0xfe, 0xff, ..] => true,
+        [0, first, 0, second, ..] | [first, 0, second, 0, ..] => matches!(
+            (*first, *second),
+            (1..=126, 1..=126)
+        ),
+        _ => false,
+    }
+}
+
+/// Returns what helps if a file isn't saved as ASCII, by how it begins: with a mark, or with letters of two bytes.
+pub fn helps_at_encoding(bytes: &[u8]) -> Option<&'static str> {
+    if bytes.starts_with(&[0xef, 0xbb, 0xbf]) {
+        Some("the file begins with a UTF-8 byte order mark (EF BB BF): save it without one")
+    } else if is_utf_16(bytes) {
+        Some("the file is UTF-16: save it as ASCII")
+    } else if bytes.get(..BEGINNING).unwrap_or(bytes).contains(&0) {
+        Some("the file is binary: a text is ASCII, and `vuthgal asm` makes images")
+    } else {
+        None
+    }
 }

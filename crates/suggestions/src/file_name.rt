@@ -2,6 +2,7 @@
 
 use std::alloc::{AllocError, Global};
 use std::fs;
+use std::fs::ReadDir;
 use strsim::osa_distance;
 
 /// How far a name is at least that isn't near.
@@ -77,28 +78,48 @@ fn is_before(name: &str, found: &Option<String>) -> bool {
     }
 }
 
+/// The nearest name so far, and how far it is.
+#[derive(Drop)]
+struct Nearest {
+    name: Option<String>,
+    least: Distance,
+}
+
+impl Nearest {
+    /// Takes the nearest of the names in a folder, if they can be read and there is memory for it.
+    fn take_entries(&mut self, alloc: Global, entries: ReadDir, name: &str) -> Option<()> {
+        for entry in entries {
+            self.take(alloc, entry.ok()?.file_name(), name).ok()?;
+        }
+        Some(())
+    }
+
+    /// Takes another name than this one if it is nearer, or as near and before it in alphabetical order.
+    fn take(&mut self, alloc: Global, given: &str, name: &str) -> Result<(), AllocError> {
+        if given == name {
+            return Ok(());
+        }
+        let found = distance_between(alloc, given, name)?;
+        if found.is_less(self.least) || found == self.least && is_before(given, &self.name) {
+            self.least = found;
+            self.name = String::from_str(alloc, given).ok();
+        }
+        Ok(())
+    }
+}
+
 /// Returns the other name in a folder that is nearest to this one, if one is near: the first of those in alphabetical order.
 fn nearest_in(rt: &HostRuntime, folder: &str, name: &str) -> Option<String> {
-    let alloc = rt.alloc();
-    let mut nearest = None;
-    let mut least = Distance {
-        far: FAR.min(stem_of(name).len()),
-        letters: 0,
+    let mut nearest = Nearest {
+        name: None,
+        least: Distance {
+            far: FAR.min(stem_of(name).len()),
+            letters: 0,
+        },
     };
     let path = if folder.is_empty() { "." } else { folder };
-    for entry in fs::read_dir(rt, path).ok()? {
-        let entry = entry.ok()?;
-        let given = entry.file_name();
-        if given == name {
-            continue;
-        }
-        let found = distance_between(alloc, given, name).ok()?;
-        if found.is_less(least) || found == least && is_before(given, &nearest) {
-            least = found;
-            nearest = String::from_str(alloc, given).ok();
-        }
-    }
-    nearest
+    nearest.take_entries(rt.alloc(), fs::read_dir(rt, path).ok()?, name)?;
+    nearest.name
 }
 
 /// Returns the file with a name that is nearest to one that can't be opened, if one is near.

@@ -1,6 +1,6 @@
 //! What a line may have been meant as, if that is more than its fault's entry says.
 
-use crate::file_kind::is_schedule;
+use crate::file_kind::{helps_at_encoding, is_schedule};
 use crate::java::{before, in_place_of, is_call, method_in, row_of};
 use crate::names::is_word_of_the_language;
 use crate::plan_word::{AT_COMMENT, has_comment_sign};
@@ -23,9 +23,6 @@ const AT_EQUALS: &str = "no `=`: as in `.phaser p 2` and `ldi r0 5`";
 
 /// What helps if a label in the place of an operand has a colon.
 const AT_COLON: &str = "a label has a colon only in its own line: `.thread ann main`, `main: halt`";
-
-/// How many bytes of a file show whether it is binary.
-const BEGINNING: usize = 512;
 
 /// Returns whether a word begins such a comment where `#` and a number may be, too.
 fn begins_other_comment(word: &[u8]) -> bool {
@@ -336,18 +333,99 @@ fn helps_at_word(alloc: Global, text: &[u8], line: &[u8], word: &[u8]) -> Option
     }
 }
 
-/// Returns what helps if a file isn't saved as ASCII, by how it begins: with a mark, or with letters of two bytes.
-pub fn helps_at_encoding(bytes: &[u8]) -> Option<&'static str> {
-    match bytes {
-        [0xef, 0xbb, 0xbf, ..] => Some(
-            "the file begins with a UTF-8 byte order mark (EF BB BF): save it without one",
+/// What helps at a sign that other languages have in a word.
+fn helps_at_sign(line: &[u8], word: &[u8]) -> Option<&'static str> {
+    if word.ends_with(b",") {
+        Some(if begins_with(line, b".thread") {
+            AT_THREAD
+        } else {
+            AT_COMMA
+        })
+    } else if word.contains(&b'"') {
+        Some("there are no texts: a program puts out numbers, as in `out r0`")
+    } else {
+        None
+    }
+}
+
+/// What helps if a line has a sign of equality.
+fn helps_at_equals(line: &[u8]) -> Option<&'static str> {
+    if before_comment(line).contains(&b'=') {
+        Some(AT_EQUALS)
+    } else {
+        None
+    }
+}
+
+/// What helps if a line has too few or too many operands.
+fn helps_at_count(line: &[u8]) -> Option<&'static str> {
+    if begins_with(line, b".thread") {
+        Some(AT_THREAD)
+    } else if begins_with(line, b".cell") {
+        Some("a cell has only a name, and begins at 0: `.cell total`")
+    } else if has_other_comment(line) {
+        Some(AT_COMMENT)
+    } else if before_comment(line).contains(&b',') {
+        Some(AT_COMMA)
+    } else if has_two_statements(line) {
+        Some("one instruction a line: put the second on a line of its own")
+    } else {
+        helps_at_equals(line)
+    }
+}
+
+/// What helps if a word is no register.
+fn helps_at_register(text: &[u8], line: &[u8], word: &[u8]) -> Option<&'static str> {
+    if declares(text, b".cell", word) {
+        Some("`lds r0 c` reads the cell c into r0, and `sts r0 c` writes r0 to it")
+    } else if before_comment(line).contains(&b'=') {
+        Some(AT_EQUALS)
+    } else if is_number(word) {
+        Some("put the number into a register first, as in `ldi r1 1`")
+    } else {
+        None
+    }
+}
+
+/// What helps if a word is no name.
+fn helps_at_no_name(line: &[u8], word: &[u8]) -> Option<&'static str> {
+    if word == b"{".as_slice() {
+        Some("no braces: `try failed` names the label of the handler, and `endtry` ends it")
+    } else if is_operand_with_colon(line, word) {
+        Some(AT_COLON)
+    } else if is_number(word) && is_in_place_of_name(line, word) {
+        Some("a declaration begins with its name, as in `.phaser p 2`")
+    } else if is_in_place_of_name(line, word) {
+        Some("a name has letters, digits and `_`, and begins with no digit, as in `.phaser p 2`")
+    } else if is_number(word) {
+        Some("a declaration begins with its name; an operand is a name, or # and a number: #1")
+    } else {
+        None
+    }
+}
+
+/// What helps at a word by what is wrong with it.
+fn helps_at_kind(
+    text: &[u8],
+    kind: AsmFaultKind,
+    line: &[u8],
+    word: &[u8],
+) -> Option<&'static str> {
+    match kind {
+        AsmFaultKind::OperandCount => helps_at_count(line),
+        AsmFaultKind::BadRegister => helps_at_register(text, line, word),
+        AsmFaultKind::BadNumber if word.starts_with(b"0x") || word.starts_with(b"#") => Some(
+            "a decimal number, without a sign before it: `ldi r0 16`",
         ),
-        [0xff, 0xfe, ..]
-        | [0xfe, 0xff, ..]
-        | [1..=126, 0, 1..=126, 0, ..]
-        | [0, 1..=126, 0, 1..=126, ..] => Some("the file is UTF-16: save it as ASCII"),
-        _ if bytes.get(..BEGINNING).unwrap_or(bytes).contains(&0) => Some(
-            "the file is binary: a text is ASCII, and `vuthgal asm` makes images",
+        AsmFaultKind::BadOption if has_comment_sign(word) => Some(AT_COMMENT),
+        AsmFaultKind::BadNumber | AsmFaultKind::BadOption => helps_at_equals(line),
+        AsmFaultKind::BadName => helps_at_no_name(line, word),
+        AsmFaultKind::UnknownName if !has_row(text) => Some(
+            "the program has no rows: an instruction is one, as in `main: halt`",
+        ),
+        AsmFaultKind::NameTwice
+            if is_label(word) && declares(text, b".thread", before_last(word)) => Some(
+            "a thread's name is before its label, as in `.thread ann main` and `main: halt`",
         ),
         _ => None,
     }
@@ -368,54 +446,6 @@ pub fn helps_at(
         ),
         AsmFaultKind::UnknownWord => helps_at_word(alloc, text, line, word),
         AsmFaultKind::BadByte if number == 1 => helps_at_encoding(text),
-        _ if word.ends_with(b",") && begins_with(line, b".thread") => Some(AT_THREAD),
-        _ if word.ends_with(b",") => Some(AT_COMMA),
-        _ if word.contains(&b'"') => Some(
-            "there are no texts: a program puts out numbers, as in `out r0`",
-        ),
-        AsmFaultKind::OperandCount if begins_with(line, b".thread") => Some(AT_THREAD),
-        AsmFaultKind::OperandCount if begins_with(line, b".cell") => Some(
-            "a cell has only a name, and begins at 0: `.cell total`",
-        ),
-        AsmFaultKind::BadNumber if word.starts_with(b"0x") || word.starts_with(b"#") => Some(
-            "a decimal number, without a sign before it: `ldi r0 16`",
-        ),
-        AsmFaultKind::BadRegister if declares(text, b".cell", word) => Some(
-            "`lds r0 c` reads the cell c into r0, and `sts r0 c` writes r0 to it",
-        ),
-        AsmFaultKind::BadOption if has_comment_sign(word) => Some(AT_COMMENT),
-        AsmFaultKind::OperandCount if has_other_comment(line) => Some(AT_COMMENT),
-        AsmFaultKind::OperandCount if before_comment(line).contains(&b',') => Some(AT_COMMA),
-        AsmFaultKind::OperandCount if has_two_statements(line) => Some(
-            "one instruction a line: put the second on a line of its own",
-        ),
-        AsmFaultKind::OperandCount
-        | AsmFaultKind::BadRegister
-        | AsmFaultKind::BadNumber
-        | AsmFaultKind::BadOption
-            if before_comment(line).contains(&b'=') => Some(AT_EQUALS),
-        AsmFaultKind::BadRegister if is_number(word) => Some(
-            "put the number into a register first, as in `ldi r1 1`",
-        ),
-        AsmFaultKind::BadName if word == b"{".as_slice() => Some(
-            "no braces: `try failed` names the label of the handler, and `endtry` ends it",
-        ),
-        AsmFaultKind::BadName if is_operand_with_colon(line, word) => Some(AT_COLON),
-        AsmFaultKind::BadName if is_in_place_of_name(line, word) => Some(if is_number(word) {
-            "a declaration begins with its name, as in `.phaser p 2`"
-        } else {
-            "a name has letters, digits and `_`, and begins with no digit, as in `.phaser p 2`"
-        }),
-        AsmFaultKind::BadName if is_number(word) => Some(
-            "a declaration begins with its name; an operand is a name, or # and a number: #1",
-        ),
-        AsmFaultKind::UnknownName if !has_row(text) => Some(
-            "the program has no rows: an instruction is one, as in `main: halt`",
-        ),
-        AsmFaultKind::NameTwice
-            if is_label(word) && declares(text, b".thread", before_last(word)) => Some(
-            "a thread's name is before its label, as in `.thread ann main` and `main: halt`",
-        ),
-        _ => None,
+        _ => helps_at_sign(line, word).or(helps_at_kind(text, kind, line, word)),
     }
 }

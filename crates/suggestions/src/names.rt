@@ -153,6 +153,20 @@ impl Nearest {
             Ok(self)
         }
     }
+
+    /// Returns the word that asks for an entry by itself if it is nearer, in whatever letters.
+    fn or_asked(
+        self,
+        alloc: Global,
+        asked: &[&'static str],
+        small: &[u8],
+    ) -> Result<Nearest, AllocError> {
+        let [name] = asked else {
+            return Ok(self);
+        };
+        let spelt = in_small_letters(alloc, name.as_bytes())?;
+        self.or_meant(alloc, spelt.as_slice(), *name, small)
+    }
 }
 
 /// How many letters a method's name has at least that may be misspelt.
@@ -181,28 +195,45 @@ fn row_of_method_behind(alloc: Global, word: &[u8]) -> Result<Option<&'static st
     }
 }
 
+/// The row whose word is nearest to this one, in small letters.
+fn nearest_row(alloc: Global, small: &[u8]) -> Result<Nearest, AllocError> {
+    let mut nearest = Nearest::to(small);
+    for opcode in 0..=255 {
+        if let Some(entry) = row_entry(opcode) {
+            nearest = nearest.or(alloc, entry.word, small)?;
+        }
+    }
+    Ok(nearest)
+}
+
+/// The row or the directive whose word is nearest to this one, in small letters.
+fn nearest_statement(alloc: Global, small: &[u8]) -> Result<Nearest, AllocError> {
+    let mut nearest = nearest_row(alloc, small)?;
+    for directive in &DIRECTIVES {
+        nearest = nearest.or(alloc, *directive, small)?;
+    }
+    Ok(nearest)
+}
+
+/// The row of a method of Java, which may have a letter of the rows before it.
+fn row_of_method(alloc: Global, word: &[u8]) -> Result<Option<&'static str>, AllocError> {
+    match row_of(alloc, word)? {
+        Some(row) => Ok(Some(row)),
+        None => row_of_method_behind(alloc, word),
+    }
+}
+
 /// Returns the other word of the language that is nearest to this one, if it is near: more than half of its letters are right.
 /// A method of Java's is nearest to its row, also if it is misspelt.
 pub fn nearest_word(alloc: Global, word: &[u8]) -> Result<Option<&'static str>, AllocError> {
     if word == b".run".as_slice() {
         return Ok(None);
     }
-    if let Some(row) = row_of(alloc, word)? {
-        return Ok(Some(row));
-    }
-    if let Some(row) = row_of_method_behind(alloc, word)? {
+    if let Some(row) = row_of_method(alloc, word)? {
         return Ok(Some(row));
     }
     let small = in_small_letters(alloc, word)?;
-    let mut nearest = Nearest::to(small.as_slice());
-    for opcode in 0..=255 {
-        if let Some(entry) = row_entry(opcode) {
-            nearest = nearest.or(alloc, entry.word, small.as_slice())?;
-        }
-    }
-    for directive in &DIRECTIVES {
-        nearest = nearest.or(alloc, *directive, small.as_slice())?;
-    }
+    let nearest = nearest_statement(alloc, small.as_slice())?;
     Ok(or_method(alloc, nearest, word)?.word)
 }
 
@@ -213,10 +244,7 @@ pub fn nearest_asked(alloc: Global, word: &[u8]) -> Result<Option<&'static str>,
     for table in tables().iter() {
         for entry in table.iter() {
             for asked in entry.asked.iter() {
-                if let [name] = *asked {
-                    let spelt = in_small_letters(alloc, name.as_bytes())?;
-                    nearest = nearest.or_meant(alloc, spelt.as_slice(), *name, small.as_slice())?;
-                }
+                nearest = nearest.or_asked(alloc, *asked, small.as_slice())?;
             }
         }
     }

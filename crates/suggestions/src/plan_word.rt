@@ -108,16 +108,44 @@ pub fn helps_at_seed(word: &[u8]) -> Option<&'static str> {
     }
 }
 
+/// What helps at a word that joins others.
+const AT_JOINED: &str = "put only blanks between the words of a plan";
+
+/// What helps at a word for all threads.
+const AT_ALL: &str = "`..` plays all threads in turn";
+
+/// Words that people write in plans, and what helps there.
+static NO_NAMES: [(&str, &str); 7] = [
+    (
+        "x",
+        "no blank behind x: `xann` is the expiry of ann's timed wait",
+    ),
+    (
+        "until",
+        "`ann.` plays ann until it waits, has ended or has died",
+    ),
+    ("then", AT_JOINED),
+    ("and", AT_JOINED),
+    ("all", AT_ALL),
+    ("each", AT_ALL),
+    ("every", AT_ALL),
+];
+
+/// Whether a word is the number of a thread with a capital, as `T0`.
+fn has_capital(word: &[u8]) -> bool {
+    match word {
+        [b'T' | b'X', digits @ ..] => !digits.is_empty() && is_digits(digits),
+        _ => false,
+    }
+}
+
 /// Returns what helps at a word that no thread has as its name.
 pub fn helps_at_name(word: &[u8]) -> Option<&'static str> {
-    match word {
-        b"x" => Some("no blank behind x: `xann` is the expiry of ann's timed wait"),
-        b"until" => Some("`ann.` plays ann until it waits, has ended or has died"),
-        b"then" | b"and" => Some("put only blanks between the words of a plan"),
-        b"all" | b"each" | b"every" => Some("`..` plays all threads in turn"),
-        [b'T' | b'X', digits @ ..] if !digits.is_empty() && is_digits(digits) => Some(
-            "threads are `t0`, `t1` and so on, in small letters",
-        ),
-        _ => None,
+    if has_capital(word) {
+        return Some("threads are `t0`, `t1` and so on, in small letters");
     }
+    NO_NAMES
+        .iter()
+        .find(|(name, _)| name.as_bytes() == word)
+        .map(|(_, helps)| *helps)
 }

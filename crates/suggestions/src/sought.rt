@@ -4,9 +4,10 @@
 use crate::java::row_of;
 use crate::names::{in_small_letters, nearest_asked, nearest_word};
 use crate::unshown::Unshown;
-use byte_ports::Sink;
+use byte_ports::{Failed, Sink};
 use line_reader::label::is_label;
 use refusals::entries::tables;
+use refusals::entry::push_pieces;
 use refusals::table::directive::DIRECTIVES;
 use refusals::table::row::row_entry;
 use refusals::word::word_entry;
@@ -98,44 +99,79 @@ fn first_of_line(words: &[&str]) -> Option<&'static str> {
     }
 }
 
+/// This word alone, if there is one.
+fn alone(alloc: Global, word: Option<&'static str>) -> Result<Vec<&'static str>, AllocError> {
+    let mut words = Vec::new(alloc);
+    if let Some(word) = word {
+        words.push(word)?;
+    }
+    Ok(words)
+}
+
+/// The words that ask for what one word may mean.
+fn words_meant(alloc: Global, word: &str) -> Result<Vec<&'static str>, AllocError> {
+    match word_meant(alloc, word.as_bytes())? {
+        Some(meant) => alone(alloc, Some(meant)),
+        None => Vec::from_slice(alloc, kind_named(word).or(asked_alone(word)).unwrap_or(&[])),
+    }
+}
+
 /// Returns the words that ask for what was meant by words that ask for nothing, or none if that isn't known.
 pub fn words_sought(alloc: Global, words: &[&str]) -> Result<Vec<&'static str>, AllocError> {
-    let mut sought = Vec::new(alloc);
-    if let [word] = words {
-        if let Some(meant) = word_meant(alloc, word.as_bytes())? {
-            sought.push(meant)?;
-        } else if let Some(kind) = kind_named(word).or(asked_alone(word)) {
-            sought.extend_from_slice(kind)?;
-        }
-    } else if let Some(first) = first_of_line(words) {
-        sought.push(first)?;
+    match words {
+        [word] => words_meant(alloc, word),
+        _ => alone(alloc, first_of_line(words)),
     }
-    Ok(sought)
 }
 
 /// How many letters a row's beginning has at least that is near to it.
 const LEAST: usize = 2;
 
+/// The word of the row of this opcode, if it begins so.
+fn row_from(opcode: u8, beginning: &str) -> Option<&'static str> {
+    row_entry(opcode)
+        .map(|entry| entry.word)
+        .filter(|word| word.starts_with(beginning))
+}
+
 /// Writes the rows that begin so. Returns whether there is one.
-fn push_rows_from<E: Sink>(errors: &mut E, beginning: &str) -> Result<bool, Unshown> {
+fn push_rows_from<E: Sink>(errors: &mut E, beginning: &str) -> Result<bool, Failed> {
+    if beginning.len() < LEAST {
+        return Ok(false);
+    }
     let mut is_first = true;
     for opcode in 0..=255 {
-        if let Some(entry) = row_entry(opcode) {
-            if beginning.len() >= LEAST && entry.word.starts_with(beginning) {
-                errors.push(if is_first {
-                    b"Near: ".as_slice()
-                } else {
-                    b" ".as_slice()
-                })?;
-                errors.push(entry.word.as_bytes())?;
-                is_first = false;
-            }
+        if let Some(word) = row_from(opcode, beginning) {
+            let before = if is_first { "Near: " } else { " " };
+            push_pieces(errors, &[before.as_bytes(), word.as_bytes()])?;
+            is_first = false;
         }
     }
-    if !is_first {
-        errors.push(b"\n")?;
+    if is_first {
+        return Ok(false);
     }
-    Ok(!is_first)
+    errors.push(b"\n")?;
+    Ok(true)
+}
+
+/// The nearest word of the language, or else the nearest word that asks for an entry, if one is near.
+fn nearest_question(alloc: Global, word: &[u8]) -> Result<Option<&'static str>, AllocError> {
+    match nearest_word(alloc, word)? {
+        Some(near) => Ok(Some(near)),
+        None => nearest_asked(alloc, word),
+    }
+}
+
+/// Writes the nearest word that asks for something, if one is near.
+fn push_nearest_question<E: Sink>(
+    alloc: Global,
+    errors: &mut E,
+    word: &[u8],
+) -> Result<(), Unshown> {
+    if let Some(near) = nearest_question(alloc, word)? {
+        push_pieces(errors, &[b"Near: ", near.as_bytes(), b"\n"])?;
+    }
+    Ok(())
 }
 
 /// Writes what is near to a word that asks for nothing: the rows that it begins, the nearest word of the language, or the nearest
@@ -154,14 +190,5 @@ pub fn push_near_question<E: Sink>(
     if push_rows_from(errors, word)? {
         return Ok(());
     }
-    let near = match nearest_word(alloc, word.as_bytes())? {
-        Some(near) => Some(near),
-        None => nearest_asked(alloc, word.as_bytes())?,
-    };
-    if let Some(near) = near {
-        errors.push(b"Near: ")?;
-        errors.push(near.as_bytes())?;
-        errors.push(b"\n")?;
-    }
-    Ok(())
+    push_nearest_question(alloc, errors, word.as_bytes())
 }

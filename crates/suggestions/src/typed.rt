@@ -4,6 +4,7 @@
 use crate::unshown::Unshown;
 use byte_ports::{Failed, Sink};
 use line_reader::words::is_blank;
+use refusals::entry::push_pieces;
 use std::alloc::{AllocError, Global};
 use trace_text::form::end_words;
 
@@ -120,24 +121,29 @@ impl<'a> Typed<'a> {
 
     /// A word that is an option, or in the next place.
     fn push_any(&mut self, word: &'a str) -> Result<Next, AllocError> {
-        if word == "--schedule" {
-            self.has_schedule = true;
-        } else if word == "--plan" || word == "-p" {
-            self.has_plan = true;
-        } else if word == "--plan-file" || word.starts_with("--plan-file=") {
-            self.has_plan_file = true;
-            return self.push_option(word, Quotes::Own, behind(word));
-        } else if let Some(plan) = word.strip_prefix("--plan=") {
-            self.has_plan = true;
-            self.steps.push(plan)?;
-        } else if let Some(state) = word.strip_prefix("--expect=") {
-            return self.push_state(word, state);
-        } else if word.starts_with("--") {
-            return self.push_option(word, Quotes::Own, behind(word));
-        } else {
-            self.push_place(word)?;
+        match word {
+            "--schedule" => self.has_schedule = true,
+            "--plan" | "-p" => self.has_plan = true,
+            _ if word.starts_with("--") => return self.push_dashed(word),
+            _ => self.push_place(word)?,
         }
         Ok(Next::Any)
+    }
+
+    /// An option that begins with two dashes, and is neither `--schedule` nor `--plan`.
+    fn push_dashed(&mut self, word: &'a str) -> Result<Next, AllocError> {
+        if let Some(plan) = word.strip_prefix("--plan=") {
+            self.has_plan = true;
+            self.steps.push(plan)?;
+            return Ok(Next::Any);
+        }
+        if let Some(state) = word.strip_prefix("--expect=") {
+            return self.push_state(word, state);
+        }
+        if word == "--plan-file" || word.starts_with("--plan-file=") {
+            self.has_plan_file = true;
+        }
+        self.push_option(word, Quotes::Own, behind(word))
     }
 
     /// An option or a value.
@@ -158,6 +164,22 @@ impl<'a> Typed<'a> {
         } else {
             self.push_option(word, Quotes::Begun, Next::OfState)
         }
+    }
+
+    /// Whether the words in the place of a schedule or a plan are those of a plan.
+    fn has_steps_of_plan(&self, command: &str) -> bool {
+        let steps = self.steps.as_slice();
+        are_plan(steps) || self.has_plan && (command == "plan" || steps.len() == 1)
+    }
+
+    /// Whether a plan or a schedule isn't where it should be, or a STATE has no quotes, and a command can take these steps.
+    fn is_mistaken(&self, command: &str) -> bool {
+        let steps = self.steps.as_slice();
+        let is_plan = self.has_steps_of_plan(command);
+        let is_misplaced = !steps.is_empty() && (is_plan || self.has_schedule);
+        !(self.has_plan && self.has_plan_file)
+            && can_take(command, steps, is_plan)
+            && (is_misplaced || self.has_open_state)
     }
 
     /// A word in the next place.
@@ -271,20 +293,26 @@ fn push_steps<E: Sink>(
     steps: &[&str],
     is_plan: bool,
 ) -> Result<(), Failed> {
-    match (is_plan, steps) {
-        (_, []) => Ok(()),
+    let before = match (is_plan, steps) {
+        (_, []) => return Ok(()),
         (false, [file]) => {
             errors.push(b" ")?;
-            push_word(errors, file)
+            return push_word(errors, file);
         }
-        _ if command == "plan" => {
-            errors.push(b" - <<< ")?;
-            push_joined(errors, steps)
-        }
-        _ => {
-            errors.push(b" --plan ")?;
-            push_joined(errors, steps)
-        }
+        _ if command == "plan" => b" - <<< ".as_slice(),
+        _ => b" --plan ".as_slice(),
+    };
+    errors.push(before)?;
+    push_joined(errors, steps)
+}
+
+/// What stands before an option, perhaps after a STATE whose quotes are still open.
+fn before_option(quotes: Quotes, is_within: bool) -> &'static [u8] {
+    match (quotes, is_within) {
+        (Quotes::Begun, true) => b"' '",
+        (Quotes::Begun, false) => b" '",
+        (Quotes::Own, true) => b"' ",
+        (Quotes::Own, false) | (Quotes::Within, _) => b" ",
     }
 }
 
@@ -292,13 +320,7 @@ fn push_steps<E: Sink>(
 fn push_options<E: Sink>(errors: &mut E, options: &[Written<'_>]) -> Result<(), Failed> {
     let mut is_within = false;
     for option in options {
-        if is_within && option.quotes != Quotes::Within {
-            errors.push(b"'")?;
-        }
-        errors.push(b" ")?;
-        if option.quotes == Quotes::Begun {
-            errors.push(b"'")?;
-        }
+        errors.push(before_option(option.quotes, is_within))?;
         is_within = option.quotes != Quotes::Own;
         if is_within {
             push_within_quotes(errors, option.word)?;
@@ -306,10 +328,7 @@ fn push_options<E: Sink>(errors: &mut E, options: &[Written<'_>]) -> Result<(), 
             push_word(errors, option.word)?;
         }
     }
-    if is_within {
-        errors.push(b"'")?;
-    }
-    Ok(())
+    if is_within { errors.push(b"'") } else { Ok(()) }
 }
 
 /// What has to be otherwise.
@@ -331,6 +350,32 @@ fn can_take(command: &str, steps: &[&str], is_plan: bool) -> bool {
     steps.is_empty() || is_playing && (is_plan || steps.len() == 1)
 }
 
+/// Writes the arguments of a command in their order: its file, the steps and the options.
+fn push_arguments<E: Sink>(
+    errors: &mut E,
+    command: &str,
+    file: &str,
+    typed: &Typed<'_>,
+) -> Result<(), Failed> {
+    let steps = typed.steps.as_slice();
+    push_word(errors, file)?;
+    push_steps(errors, command, steps, typed.has_steps_of_plan(command))?;
+    push_options(errors, typed.options.as_slice())
+}
+
+/// Writes a command as it should be typed, with a file and these arguments.
+fn push_corrected<E: Sink>(
+    errors: &mut E,
+    command: &str,
+    file: &str,
+    typed: &Typed<'_>,
+) -> Result<(), Failed> {
+    errors.push(taken(command, typed))?;
+    push_pieces(errors, &[b": `vuthgal ", command.as_bytes(), b" "])?;
+    push_arguments(errors, command, file, typed)?;
+    errors.push(b"`\n")
+}
+
 /// Writes a command as it should be typed, with these arguments, if a plan or a schedule isn't where it should be, or a STATE has no
 /// quotes. Returns whether that is so.
 pub fn push_typed<E: Sink>(
@@ -340,27 +385,13 @@ pub fn push_typed<E: Sink>(
     words: &[String],
 ) -> Result<bool, Unshown> {
     let typed = Typed::new(alloc, words)?;
-    let Some(file) = typed.file else {
-        return Ok(false);
-    };
-    if typed.has_plan && typed.has_plan_file {
-        return Ok(false);
+    match typed.file {
+        Some(file) if typed.is_mistaken(command) => {
+            push_corrected(errors, command, file, &typed)?;
+            Ok(true)
+        }
+        _ => Ok(false),
     }
-    let steps = typed.steps.as_slice();
-    let is_plan = are_plan(steps) || typed.has_plan && (command == "plan" || steps.len() == 1);
-    let is_misplaced = !steps.is_empty() && (is_plan || typed.has_schedule);
-    if !can_take(command, steps, is_plan) || !(is_misplaced || typed.has_open_state) {
-        return Ok(false);
-    }
-    errors.push(taken(command, &typed))?;
-    errors.push(b": `vuthgal ")?;
-    errors.push(command.as_bytes())?;
-    errors.push(b" ")?;
-    push_word(errors, file)?;
-    push_steps(errors, command, steps, is_plan)?;
-    push_options(errors, typed.options.as_slice())?;
-    errors.push(b"`\n")?;
-    Ok(true)
 }
 
 /// Returns whether an argument is in the place of a schedule or a plan, and is a plan itself.

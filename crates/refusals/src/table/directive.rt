@@ -7,7 +7,7 @@ use crate::word::{WordEntry, is_word};
 /// The words that begin with a dot.
 pub const DIRECTIVES: [&str; 5] = [".phaser", ".barrier", ".thread", ".cell", ".run"];
 
-const PHASER: WordEntry = WordEntry {
+static PHASER: WordEntry = WordEntry {
     word: ".phaser",
     form: ".phaser NAME PARTIES [parent P] [phase N] [never | until N | onadvance L]",
     operands: "NAME: its name; PARTIES: 0 to 65535, without children; [..]: optional, in this order",
@@ -17,7 +17,7 @@ const PHASER: WordEntry = WordEntry {
     example: ".phaser house 1 phase 3 until 9\n.phaser room 1 parent house\n.thread ann main\nmain: parr r0 room\nhalt\n.run\nt0*2",
 };
 
-const BARRIER: WordEntry = WordEntry {
+static BARRIER: WordEntry = WordEntry {
     word: ".barrier",
     form: ".barrier NAME PARTIES [action L]",
     operands: "NAME: its name; PARTIES: 1 to 65535; [action L]: the last to arrive runs the rows from L to their `ret`",
@@ -27,7 +27,7 @@ const BARRIER: WordEntry = WordEntry {
     example: ".barrier gate 1 action greet\n.thread ann main\nmain: cawait r0 gate\nhalt\ngreet: out r0\nret\n.run\nt0*4",
 };
 
-const THREAD: WordEntry = WordEntry {
+static THREAD: WordEntry = WordEntry {
     word: ".thread",
     form: ".thread NAME L",
     operands: "NAME: its name; L: its first row, a label or # and a number",
@@ -37,7 +37,7 @@ const THREAD: WordEntry = WordEntry {
     example: ".thread ann main\nmain: self r0\nout r0\nhalt\n.run\nt0*3",
 };
 
-const CELL: WordEntry = WordEntry {
+static CELL: WordEntry = WordEntry {
     word: ".cell",
     form: ".cell NAME",
     operands: "NAME: its name",
@@ -47,7 +47,7 @@ const CELL: WordEntry = WordEntry {
     example: ".thread ann main\n.cell total\nmain: ldi r0 5\nsts r0 total\nhalt\n.run\nt0*3",
 };
 
-const RUN: WordEntry = WordEntry {
+static RUN: WordEntry = WordEntry {
     word: ".run",
     form: ".run",
     operands: "none; it is alone on its line",
@@ -61,17 +61,18 @@ const RUN: WordEntry = WordEntry {
 pub(crate) fn directive_entry(word: &str) -> Option<WordEntry>
     ensures { MatchOption result (is_directive word.now ≢ true) (λ e. e.word.now ≡ word.now) }
 {
-    if is_word(word, ".phaser") {
-        Some(PHASER)
+    let entry = if is_word(word, ".phaser") {
+        &PHASER
     } else if is_word(word, ".barrier") {
-        Some(BARRIER)
+        &BARRIER
     } else if is_word(word, ".thread") {
-        Some(THREAD)
+        &THREAD
     } else if is_word(word, ".cell") {
-        Some(CELL)
+        &CELL
     } else if is_word(word, ".run") {
-        Some(RUN)
+        &RUN
     } else {
-        None
-    }
+        return None;
+    };
+    Some(*entry)
 }

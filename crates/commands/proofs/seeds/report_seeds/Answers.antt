@@ -1,34 +1,13 @@
-use Rattle.std.proofs.Common.{rules, ℕ, List, ap, map, subst, sym}
-use Rattle.std.specs.Prelude.{Err}
-use Rattle.std.specs.Borrow.{Bor}
+use Rattle.std.proofs.Common.{rules, map}
 use Rattle.line_reader.specs.Seen.{name_seen}
-use Rattle.commands.specs.Planning.{HasThreads}
-use Rattle.commands.specs.Seeds.{AreOutcomesBy}
-use Rattle.commands.proofs.PlanParts.{no_report}
 use Rattle.commands.proofs.seeds.report_seeds.Goals as goal
 
-pub returns-in-Err-clause-refused : goal.returns-in-Err-clause-refused
-returns-in-Err-clause-refused g c =
-    no_report c.in-Err.reason c.args.program (map name_seen c.as_slice.result.now) c.args.plan.now c.args.seeds.now
-    (subst (λ (ns : List (Bor (List ℕ))). HasThreads c.args.program.image c.args.program.names (map name_seen ns)) (sym c.as_slice.ensures.value) c.in_ok-loaded.ensures.names)
-    (λ f is. c.in-Err.ensures.refused f (ap Err is)) (λ f is. c.in-Err.ensures.other f (ap Err is))
-
-pub returns-in-Ok-push-clause-done : goal.returns-in-Ok-push-clause-done
-returns-in-Ok-push-clause-done g c =
-    let are : AreOutcomesBy c.in_ok-loaded.loaded (map name_seen c.as_slice.result.now) c.args.plan.now c.args.seeds.now c.in-Ok.tally.outcomes.entries c.in-Ok.tally.unlike = search rules in
-    let same = c.as_slice.ensures.value in (
-      c.in_ok-loaded.loaded,
+pub returns-in-Ok-clause-done : goal.returns-in-Ok-clause-done
+returns-in-Ok-clause-done g c =
+    let (loaded, (program, outcomes)) = c.in_ok-tally.ensures.outcomes in (
+      loaded,
       (
-        map name_seen c.in_ok-loaded.names.items,
-        (
-          c.in-Ok.tally.outcomes.entries,
-          (
-            c.in_ok-loaded.ensures.names,
-            c.in_ok-loaded.ensures.program,
-            subst (λ (ns : List (Bor (List ℕ))). AreOutcomesBy c.in_ok-loaded.loaded (map name_seen ns) c.args.plan.now c.args.seeds.now c.in-Ok.tally.outcomes.entries c.in-Ok.tally.unlike) same are,
-            c.in-Ok.ensures.sorted,
-            search rules,
-          ),
-        ),
+        map name_seen c.in_ok-tally.names.items,
+        (c.in_ok-tally.tally.outcomes.entries, (c.in_ok-tally.ensures.names, program, outcomes, c.in_ok-tally.ensures.sorted, search rules)),
       ),
     )

@@ -2,7 +2,7 @@ use Rattle.std.proofs.Common.{◌≡◌, List, length, map}
 use Rattle.line_reader.specs.Seen.{name_seen}
 use Rattle.commands.specs.Outcomes.{AreOutcomes, Ended}
 use Rattle.commands.specs.Seeds.{AreEndsBy, IsFirstUnlike}
-use Rattle.commands.proofs.seeds.tally_of.Given as goal
+use Rattle.commands.proofs.seeds.counted.Given as goal
 
 -- so many orders came to the outcomes, and the first of them that ended otherwise is kept
 abbrev pub invariant-loop-number : goal.invariant-loop-number
