@@ -215,10 +215,11 @@ def contracts_of(crate, left_out=()):
 
 
 def page_of(crate):
-    """The contracts of a crate: the headline's page is that of a program's machine; `shown` adds what commands show."""
+    """The contracts of a crate: the headline's page is that of a program's machine; `shown` adds what commands show, what a session
+    does, and what texts are."""
     if crate == "shown":
         return contracts_of(TOP / "crates" / "headline")
-    return contracts_of(TOP / "crates" / crate, {"shown"} if crate == "headline" else ())
+    return contracts_of(TOP / "crates" / crate, {"session", "shown", "texts"} if crate == "headline" else ())
 
 
 def closure(roots, definitions):

@@ -14,3 +14,4 @@ pub mod Showing
 pub mod FirstTurns
 pub mod Sessions
 pub mod Statuses
+pub mod Sames

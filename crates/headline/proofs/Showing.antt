@@ -36,11 +36,11 @@ use Rattle.headline.specs.Headline.{start}
 use Rattle.headline.specs.EndToEnd.{HasDebuggedFile, HasDebuggedFileAt, HasFoundTheSame, HasShownFile, HasShownLive, HasShownText, ShowsTheRows}
 
 -- what a text stands for is within the limits of an image
-text_image : (text : List ℕ) (image : Image) → StandsFor text image → IsImage image
+pub text_image : (text : List ℕ) (image : Image) → StandsFor text image → IsImage image
 text_image text image (lines, said, follows, known, is) = subst IsImage (sym is) (said_image 1 (lines_of text) lines said follows)
 
 -- so is what a file holds
-file_image : (file : List ℕ) (image : Image) → IsProgramFile file image → IsImage image
+pub file_image : (file : List ℕ) (image : Image) → IsProgramFile file image → IsImage image
 file_image file image (inl (is, read, fits)) = fits
 file_image file image (inr (is, stands)) = text_image file image stands
 

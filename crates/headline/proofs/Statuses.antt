@@ -52,6 +52,17 @@ status_high fault.Spawn = omega arith
 status_high fault.Read = omega arith
 status_high fault.Write = omega arith
 
+status_low : (f : Fault) → status_of f ≤ 5
+status_low (fault.Asm f) = omega (arith, refusal_low (asm_number f.kind))
+status_low (fault.Image f) = omega (arith, refusal_low (image_number f))
+status_low (fault.Load f) = omega (arith, refusal_low (load_number f))
+status_low (fault.Schedule f) = omega (arith, refusal_low (schedule_number f))
+status_low (fault.TooLong kind) = omega arith
+status_low fault.Memory = omega arith
+status_low fault.Spawn = omega arith
+status_low fault.Read = omega arith
+status_low fault.Write = omega arith
+
 -- a schedule with a fault isn't one without
 faulty_whole : (schedule bytes : List ℕ) (rest : Option (List ℕ)) (runs all : List Run) (why : ScheduleFault)
     → Consumes (Some schedule) rest bytes → HasFault bytes rest runs why
@@ -142,6 +153,14 @@ Settles status input_before input_after input_failed before after failed errors_
     (answer : Result RunEnd Fault)
     × (ComesOf (λ text came. PlaysText text came before after failed) (after ≡ before) answer input_before input_after input_failed
     × IsSettledBy as_asked answer status errors_failed errors_before errors_after)
+
+pub settles-statuses : (status : ℕ) (input_before input_after : Option (List ℕ)) (input_failed : Bool)
+    (before after : Option (List ℕ)) (failed errors_failed : Bool) (errors_before errors_after : Option (List ℕ))
+    → Settles status input_before input_after input_failed before after failed errors_failed errors_before errors_after
+    → (status ≡ 0) ⊎ ((3 ≤ status) × (status ≤ 5))
+settles-statuses status ib ia input_failed before after failed errors_failed eb ea (Ok end, (comes, (status_is, quiet))) = inl status_is
+settles-statuses status ib ia input_failed before after failed errors_failed eb ea (Err f, (comes, (status_is, reported))) =
+    inr (omega (arith, status_high f, status_is), omega (arith, status_low f, status_is))
 
 pub settles-shown : (status : ℕ) (input_before input_after : Option (List ℕ)) (input_failed : Bool)
     (before after : Option (List ℕ)) (failed errors_failed : Bool) (errors_before errors_after : Option (List ℕ))

@@ -2,33 +2,35 @@
 -- the bytes that it reads to the bytes that it writes. The commands are the program without arguments, `run`, `debug`, and
 -- `live` without `--runs`. This holds whenever the command's result is Ok, and for `debug --at` whenever it is `AsAsked`, if no
 -- person at a terminal gives the commands. What a refused command leaves is said by each function of src/shown.rt (`outcome`).
+-- The calls of a session are in src/session.rt, one by one, and src/texts.rt has those that read and write texts.
+--
 -- Each `use` line names the file that defines its names. The bytes of a text or a file are all that it has, at most 16,777,216:
 -- the program reads them first (`read_all`, workbench/src/input.rt). That the image is that of these bytes is promised by
 -- `program_in` and `program_of_text` (workbench/src). It is only tested that the program passes on exactly these, and that
 -- `run FILE` without a schedule passes on what precedes the line `.run` and what follows it. For a text nothing is left to a
--- test in `both`, which takes all of its bytes, and in `both_cmd`, which reads them and returns the exit status (src/shown.rt):
--- the program doesn't call these two. At a terminal the commands of `debug` are the lines that `GuidedCommands` passes on; its
--- own replies aren't among these bytes.
+-- test in `both_cmd`, which reads it and returns the exit status (src/shown.rt): the program doesn't call it. At a terminal the
+-- commands of `debug` are the lines that `GuidedCommands` passes on. What it replies itself isn't among the bytes of the output.
 --
 -- A schedule, commands and an output are the bytes that a port still has or has got. Ports over memory tell their contracts
--- these bytes. Ports over files, pipes and terminals don't (`None`): for them the lines below say only that there are bytes for
--- which they hold. That these are the bytes that came and went, a reader concludes from the functions (src/shown.rt). They are
--- generic in their ports: one body for all of them, which uses a port only through `Source::pull` and `Sink::push`
--- (byte_ports). `debug` reads its commands with `Companion::next_line` (workbench/src/companion.rt), which has one body for all
--- sources. No body can find out which port it has, since `left` and `written` are ghosts, which nothing that runs sees. So what
--- it does can't depend on whether its ports tell their bytes; and for ports that tell them the lines hold, in whatever pieces
--- the bytes come. `run`, `live` and the program without arguments write through a block of bytes (byte_ports), and bytes in the
--- block count here as written. The program then calls `passed_on` (workbench/src/ending.rt), which writes the last block: if it
--- returns Ok, the writer below has got all bytes. It is only tested that the program calls it. What you still have to believe is
--- below the ports: that std's `read` returns what the file has, in order, and that its `write` writes what it is given.
+-- these bytes. Ports over files, pipes and terminals don't (`None`): for them the lines below say only that some bytes fit.
+-- That these are the bytes that came and went follows from the functions (src/shown.rt). They are generic in their ports: one
+-- body for all of them, which uses a port only through `Source::pull` and `Sink::push` (byte_ports). `debug` reads its
+-- commands with `Companion::next_line` (workbench/src/companion.rt), which has one body for all sources. No body can find out
+-- which port it has, since `left` and `written` are ghosts, which nothing that runs sees. So what it does can't depend on
+-- whether its ports tell their bytes; and for ports that tell them the lines hold, in whatever pieces the bytes come. `run`,
+-- `live` and the program without arguments write through a block of bytes (byte_ports), and bytes in the block count here as
+-- written. The program then calls `passed_on` (workbench/src/ending.rt), which writes the last block: if it returns Ok, the
+-- writer below has got all bytes. It is only tested that the program calls it. What you still have to believe is below the
+-- ports: that std's `read` returns what the file has, in order, and that its `write` writes what it is given.
 --
 -- The other commands have their promises elsewhere, each in the relation that its contract names:
 --   `asm`: the bytes of the image that the text stands for are written (Assembles, workbench/specs/Asm.antt).
---   `list`: the canonical text of the program (Lists, workbench/specs/List.antt); with `--rows` its rows (ListsRows,
---      commands/specs/Rows.antt).
---   `compare`: the verdict on the whole trace (WritesVerdict, workbench/specs/Compare.antt), and `same` only if it is the trace
---      of the choices that its lines name (HasFoundTheSame, below; the laws in trace_compare/src/law.rt); with `--show` also a
---      line of the run (ShowsComparison, commands/specs/Showing.antt). That the other line shown is the trace's is only tested.
+--   `list`: the canonical text of the program (`list` in src/shown.rt), which represents its image and no other (`disassemble` in
+--      src/texts.rt); with `--rows` its rows (ListsRows, commands/specs/Rows.antt).
+--   `compare`: the verdict on the whole trace, with the number of the line that decides (`compare` in src/shown.rt, by
+--      WritesVerdict, workbench/specs/Compare.antt), and `same` exactly if it is the trace of the choices that its lines name
+--      (HasFoundTheSame, below, and the law `the_same_is_that_trace_alone` in src/shown.rt); with `--show` also a line of the
+--      run (ShowsComparison, commands/specs/Showing.antt). That the other line shown is the trace's is only tested.
 --   `choices`: the schedule of the choices that a trace's lines name (HasToldChoices, commands/specs/Choices.antt).
 --   `plan`: the choices that the plan plays on the program (HasPlanned, commands/specs/Planning.antt); with `--seeds` how the
 --      runs of these seeds end (HasReportedSeeds, commands/specs/Seeds.antt).
@@ -111,7 +113,7 @@ StandAtFirst (Some runs) session choices = Stands session [] (Go runs) choices
 
 -- The choices that stand after these lines, if these stood before: `s` adds its choice, unless it is refused, `g` adds the first
 -- n of its own, for some n, and `b` takes the last away, if the world before it is kept. Only one n is possible: the world after
--- the line counts the choices that led to it, and these do (SessionsGiveTheRows).
+-- the line counts its choices, and by SessionsGiveTheRows there are as many of these.
 abbrev pub AreLeft : Session → List Choice → List Exchange → List Choice → Type 0
 AreLeft session choices [] left = left ≡ choices
 AreLeft session choices (exchange ∷ exchanges) left =
@@ -140,8 +142,7 @@ HasShownLive limit file output_before output_after =
     × Appends output_before output_after (trace_of (start image) choices)))
 
 -- `compare`, if its verdict is `same`: a trace was read to its end, and it is that of the choices that its lines name, as from
--- `start`. The function is `compare` (src/shown.rt), which the program doesn't call, but only what it calls (`compared`,
--- workbench/src/compare.rt).
+-- `start`.
 abbrev pub HasFoundTheSame : (file : List ℕ) (trace_before trace_after : Option (List ℕ)) → Type 0
 HasFoundTheSame file trace_before trace_after =
     (image : Image) × ((trace : List ℕ) × (AcceptedFile file image × Consumes trace_before trace_after trace × IsAtEnd trace_after

@@ -4,35 +4,41 @@
 --      cells, phasers and barriers, the counts of choices and of steps, and the limit (GivesTheRows).
 --   2. No phase ends while a registered party has neither arrived nor left, unless an unregistered party has ever arrived in
 --      that tree of phasers (EndsNoPhaseEarly). Parties have no names, as in Java. So an arrival is that of an unregistered
---      party only if none of the parties registered with that phaser is left to arrive. A thread that takes another's place
---      isn't one.
+--      party only if none of the parties registered with that phaser is left to arrive. An arrival in place of another thread
+--      is that of a registered party.
 --      With the same exception, and in a tree that isn't terminated, the choice with which the last registered party arrives
 --      or leaves ends the phase, or its thread enters the tree's routine. The `ret` out of the routine ends the phase, unless
 --      the tree was terminated meanwhile (PhasesEndInTime). A routine that an exception leaves never ends it
 --      (TerminationsAreSaid). In such a tree an arrival doesn't throw while a party registered with its phaser is left to
 --      arrive, unless its thread runs the tree's routine or has no room on its stack to enter one (ArrivalsAreTaken).
 --      A phase ends only if `onAdvance` returns a result, from a policy at an arrival in the tree or from a routine at its
---      `ret`, and never in a terminated tree. If the result is true, the tree is terminated. Java's default is true if no
---      party is registered; with the same exception this is so exactly if everybody has left. Force terminates the tree, too,
---      and ends no phase. Nothing else terminates it, and it stays terminated (TerminationsAreSaid). A phaser comes into the
---      phase after its root's when a phase of its tree ends, and otherwise stays in its own (NumbersChangeAtEnds).
+--      `ret`, and never in a terminated tree. If the result is true, the tree is terminated. Java's default is true if it
+--      gets 0 parties. With the same exception it gets 0 exactly if everybody who was registered has left. Force terminates
+--      the tree, too, and ends no phase. Nothing else terminates it, and it stays terminated (TerminationsAreSaid). When a
+--      phase of its tree ends, the phase of a phaser becomes the one after its root's. Nothing else changes it
+--      (NumbersChangeAtEnds).
 --   3. Each step back restores the state before (BackRestores, and for a single choice StepsAndReturns).
 --   4. Each barrier has a past, and each state of the run is its record, so that a thread that waits there meets the end of its
 --      own generation. The past continues by calls that the threads make by their rows, their stacks and their waits
 --      (BarriersHavePasts).
--- 1 is what `play` leaves (src/machine.rt). 2 and 4 are laws (src/law.rt). 3 is what `step` and `step_and_back` do to a
--- machine, and `steps_and_backs` to a debugging session (src/back.rt). Each `use` line names the file that defines its names:
--- to believe this page, read those, too. src/beneath.rt is about what is below: a tree whose words lag (`step`; that they never
--- lag too far is the law `phases_are_few`), the record that the lock of a live run protects (`record`, `into_machine`,
--- `take_step`), and the word that real threads share: how it begins (`new`), its calls (`make_call`, `make_call_within`, `look`,
--- `await_advance`, `arrive_and_await_advance`), its callers (`split`, `join`), and its end (`close`). EndToEnd.antt, beside this
--- file, says that the commands show this of what they read.
+-- 1 is what `play` leaves (src/machine.rt). 2 and 4 are laws (src/law.rt). 3 is what `step`, `take_back` and `step_and_back` do to
+-- a machine, and `steps_and_backs` to a debugging session (src/back.rt). Each `use` line names the file that defines its names: to
+-- believe this page, read those, too. Three files are about what is below:
+--   src/trees.rt: trees whose words lag. A step gives what its row gives (`step`), no word lags far (`no_word_lags_far`, and
+--      the law `phases_are_few`), and each call at a tree does what it does without a lag (`plant`, `declare`, `register`,
+--      `arrive`, `end_phase`, `force`).
+--   src/record.rt: a live run of a loaded program (`load`, `run_live`), and the record that its lock protects (`begin`, `record`,
+--      `schedule`, `take_step`, `take_expiry`, `into_machine`).
+--   src/word.rt: the word that real threads share: how it begins (`new`), its calls (`make_call`, `make_call_within`, `look`,
+--      `await_advance`, `arrive_and_await_advance`), its callers (`split`, `join`), and its end (`close`).
+-- EndToEnd.antt, beside this file, says that the commands show this of what they read.
 --
--- The program calls none of these functions, only `run`, `live` and the three of `debug` in src/shown.rt. Its runs step with
--- `Machine::step`, and its debugger with `Machine::step_into` and `Debugger::back`. Their contracts say the same of each choice
--- (thread_machine/src/machine.rt, debugger/src/session.rt). A session begins in a world whose phasers may be stored differently
--- than those of `start`, which makes no difference (StoredAlike). A law says that its world is at each line that of the choices
--- played and not taken back, of which none is refused: `sessions_give_the_rows` (src/shown.rt).
+-- The program calls none of these functions, only `run`, `live`, `list`, `compare` and the three of `debug` in src/shown.rt.
+-- Its runs step with `Machine::step`, and its debugger with `Machine::step_into` and `Debugger::back`. The contracts of these
+-- three promise the same of each choice as `step` and `take_back` (thread_machine/src/machine.rt, debugger/src/session.rt). A
+-- session begins in a world whose phasers may be stored differently than those of `start`, which makes no difference
+-- (StoredAlike). A law says that its world is at each line that of the choices played and not taken back, of which none is
+-- refused: `sessions_give_the_rows` (src/shown.rt).
 --
 -- You trust Rattle's checker and its two compilers, LLVM, the C library and the system below them.
 use Rattle.std.specs.Prelude.{◌≡◌, ◌≤◌, ℕ, List, Option, None, ◌++◌}
@@ -73,7 +79,8 @@ abbrev pub start : Image → World
 start image = first_of image 1000000000
 
 -- 1. The whole world is what the choices leave: for each choice what the row of its thread gives in the world after the choices
--- before it, up to the first that is refused. Only how the program's phasers are stored (`without_words`) is left out.
+-- before it, up to the first that is refused. The present state of the phasers is compared, too. Only the words in which the
+-- program stores them at first are left out (`without_words`).
 abbrev pub GivesTheRows : Image → List Choice → World → Type 0
 GivesTheRows image choices left =
     record left { program = without_words left.program } ≡ (execution (start image) choices).world
@@ -148,20 +155,20 @@ BarriersHavePasts =
     → let first : BarrierState = barrier_at (start image).scene b in
     RecordsOnePast b (fresh first.parties first.action) (start image) choices
 
--- Below: the words in which a tree of phasers is stored may lag behind the state that they stand for (`world_of`). A step gives
--- what the row gives in that state.
+-- In a layer below: the words in which a tree of phasers is stored may lag behind the state that they stand for (`world_of`).
+-- A step gives what the row gives in that state.
 abbrev pub StepGivesTheRow : StoredWorld → Choice → Event → StoredWorld → Type 0
 StepGivesTheRow before choice event after = record { world = world_of after; event = event } ≡ played (world_of before) choice
 
--- Below: no tree of phasers ends more than 1,000,000,000 phases, since each end is a step. So a word that lags is never a whole
--- turn of 2,147,483,648 phases behind its root, where it would look like the root's.
+-- In a layer below: no tree of phasers ends more than 1,000,000,000 phases, since each end is a step. So a word that lags is
+-- never a whole turn of 2,147,483,648 phases behind its root, where it would look like the root's.
 abbrev pub EndsFewPhases : Type 0
 EndsFewPhases =
     (image : Image) → Accepted image → (choices : List Choice) (root : ℕ)
     → (phaser_at (execution (start image) choices).world.scene.phasers root).ends ≤ 1000000000
 
--- Below: how the phasers of a program are stored at first makes no difference to an execution. It leaves the same world except
--- for that, the same events, the same refusal, and the same state text.
+-- In a layer below: how the phasers of a program are stored at first makes no difference to an execution. It leaves the same
+-- world except for that, the same events, the same refusal, and the same state text.
 abbrev pub StoredAlike : Type 0
 StoredAlike =
     (image : Image) (first : World) → IsFirstOf image 1000000000 first → (choices : List Choice)
@@ -170,10 +177,11 @@ StoredAlike =
     GivesTheRows image choices shown.world × (shown.events ≡ rows.events) × (shown.refusal ≡ rows.refusal)
     × (state_text shown.world ≡ state_text rows.world)
 
--- Below: what a caller of the word that threads share knows after a call. There may be calls of others. Everything that it had
--- seen, then these calls, then its own call are one legal history, with exactly the calls of its own that the caller made. Here
--- the histories of different callers aren't compared. After `join`, the first caller has seen a history that begins with what
--- either had seen. After `close`, the word is the last of a history that begins with what the first caller had seen.
+-- In a layer below: what a caller of the word that threads share knows after a call. What it has seen is then what it had
+-- seen, then calls of others, then its own call. This is a legal history, in which its own calls are exactly those that it
+-- has made. Here the histories of different callers aren't compared. After `join`, the first caller has seen a history that
+-- begins with what either had seen. After `close`, the word is the last of a history that begins with what the first caller
+-- had seen.
 abbrev pub MakesLegalCall : Known → Call → Answer → Known → Type 0
 MakesLegalCall before call answer after =
     ((others : List Entry) × (after ≡ making before (before.seen ++ others) call answer))

@@ -4,7 +4,7 @@ ghost use Rattle.thread_machine.specs.World.{world_of};
 ghost use Rattle.thread_machine.specs.Execution.{execution};
 ghost use Rattle.thread_machine.specs.Step.{puts_out, refusal_of};
 ghost use Rattle.thread_machine.specs.declared.fault.StepFault.TheVariants as fault;
-ghost use Rattle.thread_machine.specs.Undo.{CanUndo};
+ghost use Rattle.thread_machine.specs.Undo.{CanUndo, undone};
 ghost use Rattle.debugger.specs.Moves.{AreSteps, backs};
 ghost use Rattle.headline.specs.Headline.{BackRestores, StepsAndReturns};
 ghost use Rattle.headline.specs.Playing.{LeavesSteps};
@@ -34,8 +34,16 @@ pub fn step_and_back(machine: &mut Machine, choice: Choice) -> Result<Event, Ste
     ensures memory { result ≡ Err fault.Memory → puts_out (world_of machine.old) choice ≡ true }
 {
     let (event, undo) = step(machine, choice)?;
-    machine.back(undo);
+    take_back(machine, undo);
     Ok(event)
+}
+
+/// Takes a choice back, with what `step` returned. So several can be taken back, the last first.
+pub fn take_back(machine: &mut Machine, undo: Undo)
+    requires { CanUndo undo machine.old }
+    ensures { machine.new ≡ undone undo machine.old }
+{
+    machine.back(undo);
 }
 
 /// Plays these choices in order, and answers their events.

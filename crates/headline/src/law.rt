@@ -1,4 +1,9 @@
 // What holds of every accepted program. Each law is the contract of a function that does nothing.
+ghost use Rattle.std.specs.Prelude.{◌≡◌, ◌≤◌, ℕ, List, None};
+ghost use Rattle.thread_machine.specs.declared.choice.Choice.{Choice};
+ghost use Rattle.thread_machine.specs.Execution.{execution};
+ghost use Rattle.thread_machine.specs.Limit.{under_limit, with_limit};
+ghost use Rattle.thread_machine.specs.World.{World};
 ghost use Rattle.headline.specs.Headline.{
   ArrivalsAreTaken,
   BarriersHavePasts,
@@ -53,3 +58,13 @@ pub fn phases_are_few()
 pub fn phasers_may_be_stored_otherwise()
     ensures { StoredAlike }
 {}
+
+/// A machine may have a lower limit of steps, as that of a live run. As long as no choice is refused, its execution is that with
+/// the higher limit, but for the limit. So what the other laws say of accepted choices holds of it, too.
+pub fn a_higher_limit_changes_nothing()
+    ensures { (limit : ℕ) (world : World) (choices : List Choice) → world.limit ≤ limit
+        → (execution world choices).refusal ≡ None
+        → execution (with_limit limit world) choices ≡ under_limit limit (execution world choices) }
+{
+    thread_machine::a_higher_limit_changes_nothing_that_was_accepted();
+}

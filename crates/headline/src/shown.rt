@@ -1,18 +1,23 @@
 //! The commands that play a program: under a schedule, by commands, or on real threads. Each says what it has done for every
 //! result. It also says, in terms of one page, what is shown if everything went well, for each file whose program it is.
-ghost use Rattle.std.specs.Prelude.{◌≡◌, ◌≢◌, ◌⊎◌, ◌<◌, ◌≤◌, ℕ, IsTrue, List, [], None, Ok, OnOk, Option, Some};
+ghost use Rattle.std.specs.Prelude.{◌≡◌, ◌≢◌, ◌↔◌, ◌⊎◌, ◌<◌, ◌≤◌, ℕ, IsTrue, List, [], Ok, OnOk, Option, Some, None};
 ghost use Rattle.assembler.specs.Meaning.{StandsFor};
 ghost use Rattle.loader.specs.Fault.{first_fault};
 ghost use Rattle.loader.specs.declared.load_fault.LoadFault.{LoadFault};
 ghost use Rattle.row_code.specs.declared.image.Image.{Image};
+ghost use Rattle.thread_machine.specs.World.{IsFirstOf, World};
 ghost use Rattle.thread_machine.specs.declared.choice.Choice.{Choice};
+ghost use Rattle.trace_compare.specs.Compare.{choices_of_trace, verdict_of};
 ghost use Rattle.trace_compare.specs.declared.comparison.Verdict.TheVariants as verdict;
 ghost use Rattle.trace_text.specs.Outcome.{ComesTo};
+ghost use Rattle.trace_text.specs.Trace.{trace_of};
 ghost use Rattle.headline.specs.EndToEnd.{HasDebuggedFile, HasDebuggedFileAt, HasFoundTheSame, HasShownFile, HasShownLive, HasShownText, SessionsGiveTheRows};
-ghost use Rattle.headline.specs.Headline.{Accepted};
+ghost use Rattle.headline.specs.Headline.{Accepted, start};
+ghost use Rattle.workbench.specs.Compare.{WritesVerdict};
 ghost use Rattle.workbench.specs.Debug.{Debugs, DebugsAt, GivesFew};
 ghost use Rattle.workbench.specs.declared.done.Done.TheVariants as done;
 ghost use Rattle.workbench.specs.Input.{GivesAll, GivesTooMuch};
+ghost use Rattle.workbench.specs.List.{Lists};
 ghost use Rattle.workbench.specs.Live.{IsRecorded, Lives};
 ghost use Rattle.workbench.specs.ProgramFile.{IsProgramFile};
 ghost use Rattle.workbench.specs.RunLine.{program_part, schedule_part};
@@ -29,9 +34,6 @@ use trace_text::{RunEnd, RunFault, run_to_end};
 use workbench::companion::Companion;
 use workbench::done::Done;
 use workbench::fault::Fault;
-use workbench::program::program_of_text;
-use workbench::run_line::split_at_run;
-use workbench::slice_source::SliceSource;
 
 /// Plays an image's program under a schedule, writes the trace, and returns how the run has ended.
 pub fn run<S: Source, K: Sink>(
@@ -52,23 +54,6 @@ pub fn run<S: Source, K: Sink>(
         → S.left schedule.old ≡ Some (schedule_part text) → HasShownText text (K.written output.old) (K.written output.new)) }
 {
     run_to_end(alloc, image, schedule, output)
-}
-
-/// Plays the program of a text under the schedule that follows its line `.run`, and writes the trace. What it does before it
-/// calls `run` is what the program does.
-pub fn both<K: Sink>(alloc: Global, text: &[u8], output: &mut K) -> Result<RunEnd, Fault>
-    ensures shown { OnOk result (HasShownText text.now (K.written output.old) (K.written output.new)) }
-{
-    let (program, schedule) = split_at_run(text);
-    let image = match program_of_text(alloc, program) {
-        Ok(program) => program.image,
-        Err(fault) => return Err(fault),
-    };
-    let mut schedule = SliceSource::new(schedule);
-    match run(alloc, image, &mut schedule, output) {
-        Ok(end) => Ok(end),
-        Err(fault) => Err(Fault::of_run(fault)),
-    }
 }
 
 /// Plays an image's program by commands, which may take steps back.
@@ -141,14 +126,14 @@ pub fn live<R: Threads + Wait + Sync, G: Gate + Sync, K: Sink>(
     workbench::live::live(threads, alloc, limit, gate, image, output)
 }
 
-/// Plays what a source has, a text with its schedule, writes the trace, and returns the exit status. Any other status than
-/// these three is 4: out of memory.
+/// Plays what a source has, a text with its schedule, writes the trace, and returns the exit status. Status 4 is out of memory.
 pub fn both_cmd<S: Source, K: Sink, E: Sink>(
     alloc: Global,
     input: &mut S,
     output: &mut K,
     errors: &mut E,
 ) -> u8
+    ensures statuses { (result ≡ 0) ⊎ ((3 ≤ result) × (result ≤ 5)) }
     ensures shown { result ≡ 0 → (text : List ℕ) × (GivesAll (S.left input.old) (S.left input.new) text
         × HasShownText text (K.written output.old) (K.written output.new)) }
 
@@ -169,11 +154,27 @@ pub fn compare<S: Source, K: Sink>(
     trace: &mut S,
     output: &mut K,
 ) -> Result<Verdict, Fault>
+    ensures outcome { WritesVerdict image result (S.left trace.old) (S.left trace.new) (S.has_failed trace.new)
+        (K.written output.old) (K.written output.new) (K.has_failed output.new) }
     ensures same { result ≡ Ok verdict.Same → (file : List ℕ) → IsProgramFile file image
         → HasFoundTheSame file (S.left trace.old) (S.left trace.new) }
 {
     workbench::compare::compared(alloc, image, trace, output)
 }
+
+/// Writes the canonical text of an image.
+pub fn list<K: Sink>(alloc: Global, image: &Image, output: &mut K) -> Result<(), Fault>
+    ensures { Lists image.now result (K.written output.old) (K.written output.new) (K.has_failed output.new) }
+{
+    workbench::list::list(alloc, image, output)
+}
+
+/// A whole trace has the verdict `Same` exactly if it is the trace of the choices that its lines name, as from `start`. The world
+/// is one in which a program of the image begins.
+pub fn the_same_is_that_trace_alone()
+    ensures { (image : Image) (first : World) (trace : List ℕ) → IsFirstOf image 1000000000 first
+        → (verdict_of first trace ≡ verdict.Same) ↔ (trace ≡ trace_of (start image) (choices_of_trace trace)) }
+{}
 
 /// If the loader refuses the program of a text, no run of this text is ever shown. An example is a thread without a row.
 pub fn what_is_refused_is_never_shown()

@@ -1,24 +1,28 @@
 //! A meeting, played with the calls of the closing pages: what a schedule leaves and shows, what is taken back, and what a live
-//! run records. The same meeting on a shared phaser.
+//! run records. The same meeting in a tree, and on a shared phaser.
 use crate::programs::{MEETING as MEETING_TEXT, TRACE, program_of};
 use byte_ports::{MemorySink, MemorySource};
-use debugger::Debugger;
-use headline::back::{step_and_back, steps_and_backs};
-use headline::beneath::{
-    arrive_and_await_advance, await_advance, close, into_machine, make_call, make_call_within, new,
-    take_step,
+use debugger::{Debugger, Stop};
+use headline::back::{step, step_and_back, steps_and_backs, take_back};
+use headline::record::{begin, into_machine, schedule, take_step};
+use headline::shown::{both_cmd, compare, list};
+use headline::texts::{assemble, disassemble};
+use headline::trees::{arrive, end_phase, force, plant, register};
+use headline::word::{
+    arrive_and_await_advance, await_advance, close, make_call, make_call_within, new,
 };
-use headline::play;
-use headline::shown::{both, both_cmd, compare};
+use headline::{play, session};
 use loader::LoadFault;
 use packed_phaser::Policy;
 use phase_number::Phase;
 use row_code::{Image, read_image};
+use schedule_reader::Run;
 use shared_phaser::{Call, Reply};
 use std::alloc::Global;
 use std::test::Fail;
 use thread_machine::{Choice, Machine};
-use thread_runner::{Journaled, TakeFault};
+use thread_runner::TakeFault;
+use tier_tree::{Arrived, Forest, PhaserId, Registered};
 use trace_compare::Verdict;
 use trace_text::start::StartFault;
 use trace_text::state::state_text;
@@ -93,6 +97,21 @@ fn an_arrival_is_taken_back(rt: HostRuntime) -> Result<(), Fail> {
     Ok(())
 }
 
+/// Two choices, the second of which ends the phase, are taken back one after the other.
+#[test]
+fn two_arrivals_are_taken_back(rt: HostRuntime) -> Result<(), Fail> {
+    let mut machine = met(rt.alloc(), &[])?;
+    let before = state_text(rt.alloc(), &machine)?;
+    let first = step(&mut machine, turn(0));
+    let (_, first) = first.ok().ok_or("refused")?;
+    let last = step_and_back(&mut machine, turn(1));
+    assert!(rt; last.is_ok());
+    take_back(&mut machine, first);
+    let after = state_text(rt.alloc(), &machine)?;
+    assert!(rt; after.as_slice() == before.as_slice());
+    Ok(())
+}
+
 /// The whole meeting, and back to the moment at which the first thread waits.
 #[test]
 fn a_meeting_is_taken_back(rt: HostRuntime) -> Result<(), Fail> {
@@ -107,6 +126,73 @@ fn a_meeting_is_taken_back(rt: HostRuntime) -> Result<(), Fail> {
     Ok(())
 }
 
+/// A session that keeps one choice: a second step back finds none.
+#[test]
+fn a_session_steps_on_and_back(rt: HostRuntime) -> Result<(), Fail> {
+    let mut debugger = session::begin(rt.alloc(), met(rt.alloc(), &[])?, 1)?;
+    assert!(rt; session::step_on(&mut debugger, turn(0)).is_ok());
+    let run = Run {
+        choice: turn(1),
+        times: 1,
+    };
+    assert!(rt; session::go(&mut debugger, &[run]) == Stop::End(1));
+    assert!(rt; session::present(&debugger).steps() == 2);
+    assert!(rt; session::step_back(&mut debugger).is_ok());
+    assert!(rt; session::step_back(&mut debugger).is_err());
+    assert!(rt; session::present(&debugger).steps() == 1);
+    Ok(())
+}
+
+/// A call at the first phaser of a forest, if there is one.
+fn arrives(forest: &mut Forest, leave: bool) -> Option<Arrived> {
+    if forest.len() == 0 {
+        return None;
+    }
+    Some(arrive(forest, PhaserId(0), leave))
+}
+
+fn registers(forest: &mut Forest) -> Option<Registered> {
+    if forest.len() == 0 {
+        return None;
+    }
+    Some(register(forest, PhaserId(0), 1))
+}
+
+/// Whether the phase of the first phaser could end, and has ended.
+fn ends_phase(forest: &mut Forest) -> bool {
+    let id = PhaserId(0);
+    if forest.len() == 0 || forest.root(id).0 != 0 || !forest.is_turned(id) {
+        return false;
+    }
+    if forest.is_terminated(id) || forest.ended_phases(id) >= 2147483647 {
+        return false;
+    }
+    end_phase(forest, id, false);
+    true
+}
+
+/// One party of two leaves, and the other arrives: the phase ends. A party can register until the phaser is terminated.
+#[test]
+fn calls_are_made_in_a_tree(rt: HostRuntime) -> Result<(), Fail> {
+    let mut forest = plant(rt.alloc())?;
+    let declared = forest.declare(None, 2, Policy::Default, Phase::prevailing(0));
+    assert!(rt; declared.is_ok());
+    assert!(rt; arrives(&mut forest, true) == Some(Arrived::At(0)));
+    let last = Arrived::Turning {
+        root: PhaserId(0),
+        phase: 0,
+        parties: 1,
+    };
+    assert!(rt; arrives(&mut forest, false) == Some(last));
+    assert!(rt; ends_phase(&mut forest));
+    assert!(rt; registers(&mut forest) == Some(Registered::At(1)));
+    if forest.len() > 0 {
+        force(&mut forest, PhaserId(0));
+    }
+    assert!(rt; registers(&mut forest) == Some(Registered::Dead(-2147483647)));
+    Ok(())
+}
+
 /// The text and its schedule in one.
 const BOTH: &[u8] =
     b".phaser p 2\n.thread a main\n.thread b main\nmain: paaa r0 p\nout r0\nhalt\n.run\nt0 t1 t0*3 t1*2\n";
@@ -114,14 +200,25 @@ const BOTH: &[u8] =
 #[test]
 fn a_text_shows_its_run(rt: HostRuntime) -> Result<(), Fail> {
     let alloc = rt.alloc();
-    let mut output = MemorySink::new(alloc, 1000, None)?;
-    assert!(rt; both(alloc, BOTH, &mut output).is_ok());
-    assert!(rt; output.bytes() == TRACE);
     let mut input = MemorySource::new(BOTH, None);
-    let mut again = MemorySink::new(alloc, 1000, None)?;
+    let mut output = MemorySink::new(alloc, 1000, None)?;
     let mut errors = MemorySink::new(alloc, 100, None)?;
-    assert!(rt; both_cmd(alloc, &mut input, &mut again, &mut errors) == 0);
-    assert!(rt; again.bytes() == TRACE);
+    assert!(rt; both_cmd(alloc, &mut input, &mut output, &mut errors) == 0);
+    assert!(rt; output.bytes() == TRACE);
+    Ok(())
+}
+
+/// Its program's canonical text, which is assembled to the same image.
+#[test]
+fn its_program_is_listed(rt: HostRuntime) -> Result<(), Fail> {
+    let alloc = rt.alloc();
+    let listed: &[u8] = b".phaser p0 2\n.thread t0 #0\n.thread t1 #0\npaaa r0 #0\nout r0\nhalt\n";
+    let mut output = MemorySink::new(alloc, 1000, None)?;
+    assert!(rt; list(alloc, &image(alloc, MEETING)?, &mut output).is_ok());
+    assert!(rt; output.bytes() == listed);
+    let again = assemble(alloc, listed);
+    let text = disassemble(alloc, &again.ok().ok_or("not assembled")?)?;
+    assert!(rt; text.as_slice() == listed);
     Ok(())
 }
 
@@ -139,12 +236,13 @@ fn its_trace_is_found_the_same(rt: HostRuntime) -> Result<(), Fail> {
 /// The first thread waits, so it can't go on.
 #[test]
 fn a_turn_is_recorded(rt: HostRuntime) -> Result<(), Fail> {
-    let mut journaled = Journaled::new(rt.alloc(), program_of(rt.alloc(), MEETING_TEXT)?, 10)?;
+    let mut journaled = begin(rt.alloc(), program_of(rt.alloc(), MEETING_TEXT)?, 10)?;
     if journaled.thread_count() == 0 {
         return Err("no thread".into());
     }
     assert!(rt; take_step(&mut journaled, 0).is_ok());
     assert!(rt; take_step(&mut journaled, 0) == Err(TakeFault::NotReady));
+    assert!(rt; schedule(&journaled) == b"t0".as_slice());
     assert!(rt; into_machine(journaled).steps() == 1);
     Ok(())
 }

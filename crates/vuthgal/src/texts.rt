@@ -5,6 +5,7 @@ use byte_ports::{BlockPort, ReadPort, Sink, WritePort};
 use command_line::ports::printable;
 use commands::list_rows;
 use fault_reports::trouble::{Answer, Trouble};
+use headline::shown;
 use refusals::entries::tables;
 use refusals::explain::explain;
 use std::alloc::{AllocError, Global};
@@ -14,7 +15,6 @@ use workbench::done::{Done, as_asked};
 use workbench::ending::{flushed, passed_on};
 use workbench::fault::Fault;
 use workbench::input::read_all;
-use workbench::list::list;
 use workbench::program::program_in;
 
 /// Writes the image of the text in one file to another.
@@ -36,7 +36,7 @@ pub fn write_list<'a>(rt: &HostRuntime, file: &'a str, has_rows: bool) -> Answer
     let answer = if has_rows {
         list_rows(rt.alloc(), &program, &mut output)
     } else {
-        list(rt.alloc(), &program.image, &mut output)
+        shown::list(rt.alloc(), &program.image, &mut output)
     };
     Ok(as_asked(flushed(answer, &mut output))?)
 }

@@ -9,8 +9,9 @@ use commands::show_comparison;
 use fault_reports::help::push_explained;
 use fault_reports::trouble::Answer;
 use fault_reports::unlike::{CARRIAGE_RETURN, push_differs, push_no_trace};
+use headline::shown;
 use trace_compare::Verdict;
-use workbench::compare::{compared, done_by};
+use workbench::compare::done_by;
 use workbench::done::Done;
 use workbench::ending::{flushed, passed_on};
 use workbench::input::read_all;
@@ -37,7 +38,7 @@ pub fn compare<'a>(rt: &HostRuntime, file: &'a str, trace: &'a str, is_shown: bo
     let image = program_in(rt.alloc(), program.as_slice())?.image;
     let mut output = WritePort::new(printable::output(rt));
     if !is_shown {
-        let verdict = compared(rt.alloc(), image, &mut input, &mut output);
+        let verdict = shown::compare(rt.alloc(), image, &mut input, &mut output);
         return Ok(ended(rt, file, trace, flushed(verdict, &mut output)?, is_shown));
     }
     let judged = show_comparison(rt.alloc(), image, &mut input, &mut output);

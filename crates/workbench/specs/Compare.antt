@@ -1,7 +1,8 @@
 -- What `compare` reads and writes, for each result.
-use Rattle.std.specs.Prelude.{◌≡◌, ◌⊎◌, ℕ, Bool, IsTrue, List, Option, Result, Ok, Err, codes}
+use Rattle.std.specs.Prelude.{◌≡◌, ◌⊎◌, ℕ, Bool, IsTrue, List, Option, None, Result, Ok, Err, codes}
 use Rattle.std.specs.Io.KnownBytes.{Appends}
 use Rattle.row_code.specs.declared.image.Image.{Image}
+use Rattle.loader.specs.Fault.{first_fault}
 use Rattle.trace_compare.specs.declared.comparison.Verdict.{Verdict}
 use Rattle.trace_compare.specs.declared.comparison.Verdict.TheVariants as verdict
 use Rattle.trace_compare.specs.Compare.{HasCompared, IsReadNoFurther}
@@ -20,11 +21,12 @@ verdict_line verdict.Same = codes "same\n"
 verdict_line (verdict.Differs line) = counted_line (codes "differs ") line
 verdict_line (verdict.NotATrace line) = counted_line (codes "not a trace ") line
 
--- why there is no verdict: the output failed; or the trace couldn't be read, or there was no memory, or the program isn't loaded, and
--- nothing was written
+-- why there is no verdict: the program can be loaded, and the output failed; or the trace couldn't be read, or there was no memory, or
+-- the program isn't loaded, and nothing was written
 abbrev pub StopsComparing : Fault → Image → (trace_before trace_after : Option (List ℕ)) (trace_failed : Bool)
     (output_before output_after : Option (List ℕ)) (output_failed : Bool) → Type 0
-StopsComparing fault.Write image trace_before trace_after trace_failed output_before output_after output_failed = IsTrue output_failed
+StopsComparing fault.Write image trace_before trace_after trace_failed output_before output_after output_failed =
+    (first_fault image ≡ None) × IsTrue output_failed
 StopsComparing fault.Read image trace_before trace_after trace_failed output_before output_after output_failed =
     (IsTrue trace_failed ⊎ GivesOnAndOn trace_before trace_after) × (output_after ≡ output_before)
 StopsComparing fault.Memory image trace_before trace_after trace_failed output_before output_after output_failed = output_after ≡ output_before

@@ -1,70 +1,18 @@
-//! What the machine, a live run's record and the shared phaser promise, each with the call in which it is seen.
-ghost use Rattle.std.specs.Prelude.{◌≡◌, ◌≢◌, ◌↔◌, ◌<◌, ◌≤◌, ◌≤ℤ◌, ◌<ℤ◌, pos, ℤ, length, Err, IfErr, IfOk, OnErr, OnOk, None, Some, false, true};
+//! What is promised of the word of a phaser that real threads share, call by call.
+ghost use Rattle.std.specs.Prelude.{◌≡◌, ◌≢◌, ◌↔◌, ◌<◌, ◌≤ℤ◌, ◌<ℤ◌, pos, ℤ, Err, IfErr, IfOk, false, true};
 ghost use Rattle.packed_phaser.specs.declared.policy.Policy.TheVariants.{Routine};
-ghost use Rattle.thread_machine.specs.Step.{played, puts_out, refusal_of};
-ghost use Rattle.thread_machine.specs.World.{first_world, world_of};
-ghost use Rattle.thread_machine.specs.declared.fault.StepFault.TheVariants as fault;
-ghost use Rattle.thread_runner.specs.Recording.{recorded_world, with_choice};
-ghost use Rattle.thread_runner.specs.Replay.{IsReplay};
-ghost use Rattle.thread_runner.specs.Turns.{is_ready_in, turn_of};
 ghost use Rattle.shared_phaser.specs.Known.{ArrivesAndAwaits, EndsAs, JoinsCaller, given, giving, newcomer, phaser_of};
 ghost use Rattle.shared_phaser.specs.Race.{LosesRaces};
 ghost use Rattle.shared_phaser.specs.declared.history.Call.TheVariants.{Arrive, Await, Look};
 ghost use Rattle.shared_phaser.specs.declared.history.Answer.TheVariants.{Passed, Replied, Saw};
 ghost use Rattle.shared_phaser.specs.declared.history.Reply.TheVariants.{NotThere as Refused};
-ghost use Rattle.headline.specs.Headline.{MakesLegalCall, StepGivesTheRow};
+ghost use Rattle.headline.specs.Headline.{MakesLegalCall};
 
 use packed_phaser::{Policy, Word};
 use phase_number::Phase;
 use shared_phaser::{Call, NewFault, NotThere, Party, Raced, Reply, SharedPhaser};
 use std::alloc::Global;
 use std::sync::Wait;
-use thread_machine::{Choice, Event, Machine, StepFault};
-use thread_runner::{Journaled, TakeFault};
-
-/// Plays a step of a machine whose trees' words may lag behind their roots. If it is refused, the machine is as before.
-pub fn step(machine: &mut Machine, choice: Choice) -> Result<Event, StepFault>
-    ensures row { IfOk result (λ event. StepGivesTheRow machine.old choice event machine.new) }
-    ensures accepted { OnOk result (refusal_of (world_of machine.old) choice ≡ None) }
-    ensures no_thread { (result ≡ Err fault.NoSuchThread) ↔ (refusal_of (world_of machine.old) choice ≡ Some fault.NoSuchThread) }
-    ensures limit { (result ≡ Err fault.StepLimit) ↔ (refusal_of (world_of machine.old) choice ≡ Some fault.StepLimit) }
-    ensures memory { result ≡ Err fault.Memory → puts_out (world_of machine.old) choice ≡ true }
-    ensures refused { OnErr result (machine.new ≡ machine.old) }
-{
-    machine.step(choice)
-}
-
-/// What the lock of a live run protects: the machine, and the choices that led to it.
-pub fn record(journaled: &Journaled) -> &Machine
-    ensures replay { IsReplay journaled.now (recorded_world journaled.now) }
-    ensures machine { world_of result.now ≡ recorded_world journaled.now }
-{
-    journaled.each_record_is_a_replay();
-    journaled.machine()
-}
-
-/// Takes the machine out of a record. As each record, this one began with the first world of its machine's program.
-pub fn into_machine(journaled: Journaled) -> Machine
-    ensures first { journaled.first ≡ first_world result.program result.limit }
-    ensures machine { world_of result ≡ recorded_world journaled }
-{
-    let (_, machine) = journaled.into_parts();
-    machine
-}
-
-/// Takes a thread's turn under the lock of a live run, and records it. `Memory` may come at each turn, for the record.
-pub fn take_step(journaled: &mut Journaled, thread: u8) -> Result<Event, TakeFault>
-    requires { thread < length journaled.old.first.scene.threads }
-    ensures played { IfOk result (λ event. record { world = recorded_world journaled.new; event = event }
-        ≡ played (recorded_world journaled.old) (turn_of thread)) }
-    ensures recorded { OnOk result (journaled.new ≡ with_choice (turn_of thread) journaled.old) }
-    ensures not_ready { (result ≡ Err TakeFault.NotReady) ↔ (is_ready_in (recorded_world journaled.old) thread ≡ false) }
-    ensures limit { (result ≡ Err TakeFault.StepLimit) ↔ ((is_ready_in (recorded_world journaled.old) thread ≡ true)
-        × ((recorded_world journaled.old).limit ≤ (recorded_world journaled.old).steps)) }
-    ensures err { OnErr result (journaled.new ≡ journaled.old) }
-{
-    journaled.take_step(thread)
-}
 
 /// Makes a phaser that threads share, with so many parties in this phase, and its first caller. No later call needs memory.
 pub fn new(
