@@ -9,8 +9,7 @@ ghost use Rattle.thread_machine.specs.World.{world_of};
 ghost use Rattle.workbench.specs.Fault.{status_of};
 ghost use Rattle.workbench.specs.Input.{most_bytes};
 
-use crate::picture::Picture;
-use crate::picture_fault::{fault_of, start_fault};
+use crate::picture::{Picture, fault_of, start_fault};
 use assembler::Symbols;
 use pictures::choices::choices_in;
 use pictures::picture::picture;

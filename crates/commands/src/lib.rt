@@ -27,13 +27,11 @@ pub mod drawing;
 pub mod making;
 pub mod page;
 pub mod picture;
-pub mod picture_fault;
 
 // Many live runs, and the orders of many seeds.
 pub mod command;
 pub mod end_state;
 mod law;
-pub mod observer;
 pub mod outcomes;
 pub mod pauses;
 mod report;

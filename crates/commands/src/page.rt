@@ -6,8 +6,7 @@ ghost use Rattle.workbench.specs.declared.fault.PictureKind.TheVariants as pictu
 ghost use Rattle.workbench.specs.Fault.{status_of};
 ghost use Rattle.workbench.specs.Input.{most_bytes};
 
-use crate::picture::Picture;
-use crate::picture_fault::fault_of;
+use crate::picture::{Picture, fault_of};
 use pictures::others::OtherRuns;
 use pictures::page::page;
 use pictures::shown::Shown;

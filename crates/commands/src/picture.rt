@@ -1,15 +1,18 @@
-//! What a picture of a run can be made as.
+//! What a picture of a run can be made as, and why there is none.
 ghost use Rattle.std.specs.Prelude.{◌≡◌, ◌≢◌, ◌≤◌, ℕ, List, Err, IfErr, IfOk, length};
 ghost use Rattle.commands.specs.Picture.{HaveNoPicture};
+ghost use Rattle.commands.specs.PictureFault.{fault_of, start_fault};
 ghost use Rattle.workbench.specs.declared.fault.PictureKind.{PictureKind};
 ghost use Rattle.workbench.specs.declared.program.Program.{Program};
 ghost use Rattle.workbench.specs.Fault.{status_of};
 ghost use Rattle.workbench.specs.Input.{most_bytes};
 
+use pictures::page::PageFault;
 use pictures::shown::Shown;
 use std::alloc::Global;
+use trace_text::start::StartFault;
 use workbench::Program;
-use workbench::fault::Fault;
+use workbench::fault::{Fault, PictureKind};
 
 /// How a picture is made of a program and a schedule.
 pub trait Picture {
@@ -25,4 +28,26 @@ pub trait Picture {
         ensures picture { IfOk result (λ shown. is_picture self.now program.entry schedule.now shown.bytes.items) }
         ensures refused { IfErr result (λ fault. status_of fault ≡ 3 → HaveNoPicture kind fault program.entry.image schedule.now) }
         ensures other { (result ≢ Err Fault.Read) × (result ≢ Err Fault.Write) × (result ≢ Err Fault.Spawn) };
+}
+
+/// Where a schedule has no picture of this kind.
+pub fn fault_of(fault: PageFault, kind: PictureKind) -> Fault
+    ensures { result ≡ fault_of fault kind }
+{
+    match fault {
+        PageFault::Load(fault) => Fault::Load(fault),
+        PageFault::Schedule(fault) => Fault::Schedule(fault),
+        PageFault::Choices => Fault::TooLong(kind),
+        PageFault::Memory => Fault::Memory,
+    }
+}
+
+/// Where a program isn't loaded.
+pub(crate) fn start_fault(fault: StartFault) -> Fault
+    ensures { result ≡ start_fault fault }
+{
+    match fault {
+        StartFault::Load(fault) => Fault::Load(fault),
+        StartFault::Memory => Fault::Memory,
+    }
 }

@@ -20,7 +20,6 @@ ghost use Rattle.commands.specs.Seeds.{AreOutcomesBy, HasReportedSeeds, HaveNoRe
 ghost use Rattle.commands.specs.declared.unplanned.Unplanned.TheVariants as why;
 
 use crate::end_state::EndState;
-use crate::observer::Observer;
 use crate::outcomes::{Outcomes, add, sort};
 use crate::plan::{loaded_program, planned_on};
 use crate::report::push_report;
@@ -36,6 +35,11 @@ use thread_runner::Ending;
 use trace_text::meeting::are_met;
 use workbench::Program;
 use workbench::fault::Fault;
+
+/// A report of how far several runs have come. The command that plays them reports the end of each run here.
+pub trait Observer {
+    fn ended(&self, ending: Ending);
+}
 
 /// Which orders are asked for, and how they are written.
 #[derive(Clone, Copy)]

@@ -5,7 +5,8 @@
 //! assembles the file again, by the same functions.
 #![tactic(auto)]
 
-// What a file may be in place of what it should be.
+// What a file may be in place of what it should be, and the word that makes a plan endless.
+pub mod endless;
 pub mod mistaken;
 
 // The place, as it is shown.

@@ -1,6 +1,5 @@
 //! The words that follow the line, if standard error is a terminal or they are asked for. They only help a person.
 
-use crate::endless::endless_word;
 use crate::explaining::{is_explained, is_to_be_explained};
 use crate::mistaken::{
     AT_COMPARED_TRACE, AT_IMAGE, AT_PROGRAM, AT_TRACE, helps_at_no_plan, is_program,
@@ -12,7 +11,9 @@ use byte_ports::{Sink, WritePort};
 use command_line::ports::printable;
 use command_line::ports::printable::writes_to_pipe;
 use command_line::request::{Request, Steps};
+use command_line::typed::{is_unquoted_plan, push_typed};
 use commands::unplanned::Unplanned;
+use diagnostics::endless::endless_word;
 use diagnostics::place::{Named, ProgramFile, STANDARD_INPUT, push_meaning};
 use diagnostics::{push_choice_place, push_place, push_plan_place, push_stopped_plan};
 use itoa::Buffer;
@@ -24,7 +25,6 @@ use std::fs;
 use std::fs::Metadata;
 use suggestions::file_kind::is_trace;
 use suggestions::file_name::near_file;
-use suggestions::typed::{is_unquoted_plan, push_typed};
 use thread_machine::Choice;
 use workbench::fault::Fault;
 use workbench::run_line::split_at_run;

@@ -13,7 +13,6 @@ pub mod no_command;
 mod usage;
 
 // What a refused file, a plan that is stopped, a trace and an end of a run lead to.
-mod endless;
 pub mod help;
 mod mistaken;
 pub mod trouble;

@@ -4,12 +4,12 @@ use crate::help::told;
 use assembler::word_place::line_at;
 use byte_ports::{Failed, Sink, WritePort};
 use command_line::ports::printable;
+use command_line::typed::push_word;
 use commands::unplanned::Unplanned;
 use diagnostics::place::{Named, push_meaning};
 use diagnostics::shown::push_line_of;
 use std::alloc::Global;
 use suggestions::file_kind::is_trace;
-use suggestions::typed::push_word;
 use workbench::program::program_in;
 use workbench::run_line::split_at_run;
 

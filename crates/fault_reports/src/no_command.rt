@@ -5,14 +5,15 @@ use crate::usage;
 use byte_ports::WritePort;
 use clap::Error as WordsError;
 use clap::error::ErrorKind;
+use command_line::other_names::{
+    COMMANDS_IN_FILE, command_called, is_followed, nearest_state, other_program, wrong_state,
+};
 use command_line::ports::printable;
 use command_line::ports::printable::writes_to_pipe;
+use command_line::typed::push_typed;
 use std::alloc::AllocError;
 use std::fmt::Display;
 use std::{fs, io};
-use suggestions::other_name::{COMMANDS_IN_FILE, command_called, other_program};
-use suggestions::state_word::{is_followed, nearest_state, wrong_state};
-use suggestions::typed::push_typed;
 use thiserror::Error;
 use workbench::done::{Done, settled};
 use workbench::fault::Fault;

@@ -1,18 +1,18 @@
 //! What follows the line of a trace that isn't the run's or isn't one, and of a run that ended differently than expected.
 
-use crate::endless::Found;
 use crate::explaining::is_to_be_explained;
 use crate::help::{contents, named, told};
 use crate::mistaken::is_program;
 use assembler::word_place::line_at;
 use byte_ports::{Failed, Sink, WritePort};
 use command_line::ports::printable;
+use command_line::typed::push_word;
+use diagnostics::endless::Found;
 use diagnostics::mistaken::is_plan;
 use diagnostics::shown::{push_file, push_file_alone, push_line_of, push_marked, word_at};
 use refusals::entries::finding::FINDING;
 use refusals::entry::{Entry, Place};
 use suggestions::file_kind::is_schedule;
-use suggestions::typed::push_word;
 use thread_machine::Standing;
 use trace_compare::naming::{Named, choices_in};
 use workbench::slice_source::SliceSource;

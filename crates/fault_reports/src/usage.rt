@@ -3,10 +3,10 @@
 use clap::error::ErrorKind;
 use clap::{Command, Error as WordsError};
 use command_line::commands::{commands, program};
+use command_line::other_names::{is_other_name, way_of_option};
 use std::alloc::AllocError;
 use std::env::{Env, FillError};
 use strsim::osa_distance;
-use suggestions::other_name::{is_other_name, way_of_option};
 
 /// How long a word may be that is looked at; no command has a longer name.
 const LONGEST_WORD: usize = 64;

@@ -9,8 +9,8 @@ ghost use Rattle.plans.specs.Planned.{AreRuns};
 ghost use Rattle.workbench.specs.declared.fault.Fault.{Fault};
 ghost use Rattle.workbench.specs.Debug.{HasNoEnd};
 
-use crate::called::push_names;
 use crate::may_go::push_may_go;
+use crate::names::push_names;
 use crate::replayed::push_replayed;
 use crate::spoken::in_numbers;
 use crate::unknown::{push_threads, push_unknown};

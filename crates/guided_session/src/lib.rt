@@ -5,10 +5,9 @@
 //! the program. If the debugger doesn't know a line, it shows which line the person may have meant.
 #![tactic(auto)]
 
-mod called;
 mod guided;
 mod may_go;
-mod near;
+mod names;
 mod replayed;
 mod spoken;
 mod unknown;

@@ -1,7 +1,7 @@
 //! What a line that is no command may have been meant as.
 ghost use Rattle.std.specs.Prelude.{◌≤◌, length};
 
-use crate::near::near_symbol;
+use crate::names::near_symbol;
 use assembler::Symbols;
 use byte_ports::{Failed, Sink};
 use instruction_table::OperandKind;

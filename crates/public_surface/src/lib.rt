@@ -7,7 +7,6 @@
 
 // Bytes, phases and barriers.
 pub mod barriers;
-pub mod phases;
 pub mod ports;
 pub mod trees;
 pub mod words;

@@ -1,4 +1,4 @@
-//! The calls of `packed_phaser`.
+//! The calls of `phase_number` and `packed_phaser`.
 use packed_phaser::{Arrived, Policy, Registered, Word};
 use phase_number::Phase;
 
@@ -67,4 +67,10 @@ pub fn words(
     } else {
         word.vacate()
     })
+}
+
+/// The phase after that of a number, and that of a view.
+pub fn phases(number: i32, view: i32) -> Option<(i32, i32)> {
+    let next: Phase = Phase::new(number)?.next();
+    Some((next.number(), Phase::prevailing(view).negative()))
 }

@@ -1,13 +1,12 @@
-//! Finds what a person may have meant by a word, a line, a file or a command that is refused.
+//! Finds what a person may have meant by a word, a line or a file that is refused.
 //!
-//! Usually it is a word or a name that is spelled nearly like the wrong one. It may also be the row for a method of Java, what the
-//! language has in place of a statement of other languages, or the command as it should be typed.
+//! Usually it is a word or a name that is spelled nearly like the wrong one. It may also be the row for a method of Java, or what
+//! the language has in place of a statement of other languages.
 #![tactic(auto)]
 
 // Names and words that are near to one.
 pub mod file_name;
 pub mod names;
-pub mod state_word;
 
 // What other languages have, and what a line, a word of a plan and a file may be.
 pub mod file_kind;
@@ -15,8 +14,6 @@ pub mod java;
 pub mod meant;
 pub mod plan_word;
 
-// What is asked for, and the command as it should be typed.
-pub mod other_name;
+// What is asked for.
 pub mod sought;
-pub mod typed;
 pub mod unshown;

@@ -130,6 +130,23 @@ fn guide<'a>(rt: &HostRuntime, program: Program<'_>, steps: OpenSteps<'_>) -> An
     }
 }
 
+/// The session of commands that no person types, after the choices that the arguments name.
+fn session_of_commands<'a>(
+    rt: &HostRuntime,
+    program: Program<'_>,
+    steps: OpenSteps<'_>,
+) -> Answer<'a> {
+    let mut commands = BlockSource::new(rt.alloc(), ReadPort::new(rt.stdin()))?;
+    match steps {
+        OpenSteps::Beside => session(rt, program.image, None, &mut commands),
+        OpenSteps::Plan(name, plan) => {
+            let (runs, _) = runs_of_plan(rt, &program, name, plan.as_slice())?;
+            session(rt, program.image, Some(runs.as_slice()), &mut commands)
+        }
+        OpenSteps::Named(trace) => session_at(rt, program.image, trace),
+    }
+}
+
 /// Carries out the commands on standard input on the program in a file, after the choices that the arguments name. A person at
 /// a terminal is guided. If the file of a trace isn't a trace, this is explained.
 pub fn debug<'a>(rt: &HostRuntime, path: &'a str, steps: Steps<'a>) -> Answer<'a> {
@@ -138,15 +155,7 @@ pub fn debug<'a>(rt: &HostRuntime, path: &'a str, steps: Steps<'a>) -> Answer<'a
     let done = if rt.stdin().is_terminal() && rt.stderr().is_terminal() {
         guide(rt, program, open)?
     } else {
-        let mut commands = BlockSource::new(rt.alloc(), ReadPort::new(rt.stdin()))?;
-        match open {
-            OpenSteps::Beside => session(rt, program.image, None, &mut commands)?,
-            OpenSteps::Plan(name, plan) => {
-                let (runs, _) = runs_of_plan(rt, &program, name, plan.as_slice())?;
-                session(rt, program.image, Some(runs.as_slice()), &mut commands)?
-            }
-            OpenSteps::Named(trace) => session_at(rt, program.image, trace)?,
-        }
+        session_of_commands(rt, program, open)?
     };
     if let (Done::Unlike, Steps::Named(trace)) = (done, steps) {
         push_no_trace(rt, Some(path), trace);

@@ -4,7 +4,7 @@
 //!
 //! - The modules `running`, `drawing`, `living`, `texts`, `traces`, `planning` and `debugging` choose the ports that a
 //!   command gets.
-//! - The modules `files`, `input`, `steps` and `schedule` read files and streams.
+//! - The modules `files`, `input` and `steps` read files and streams.
 //! - The modules `notes` and `progress` show a person more than the output.
 //!
 //! `fault_reports` reports errors.
@@ -23,7 +23,6 @@ mod origin;
 mod planning;
 mod progress;
 mod running;
-mod schedule;
 mod steps;
 mod texts;
 mod traces;

@@ -2,4 +2,4 @@
 
 /// The version, the kit whose logic proves it, and the sum of the sources but for this file.
 pub const VERSION: &str =
-    "1.2.0\nkit rattle-kit-13f logic dac8208d650f15bf\nsources 9c5afaefa638f2361e9bed04157fc66ed1c1770264c8016dbca575415205a7ce";
+    "1.2.0\nkit rattle-kit-13f logic dac8208d650f15bf\nsources 0d6f7eaf1ba5989fb83afdc3d48537314d5b0952b642a3ba76e7c1b5b6ae67b2";

@@ -54,6 +54,25 @@ fn told<'a, A: Drop>(
     }
 }
 
+/// Writes the schedule that a plan stands for on a program. Returns whether the plan was stopped, and the plan, which may have been
+/// standard input.
+fn push_planned<'a>(
+    rt: &HostRuntime,
+    program: Program<'_>,
+    steps: Vec<u8>,
+    is_input: bool,
+    has_names: bool,
+) -> Result<(bool, Vec<u8>), Trouble<'a>> {
+    let mut output = WritePort::new(rt.stdout());
+    let planned = if has_names {
+        plan_with_names(rt.alloc(), program, steps.as_slice(), &mut output)
+    } else {
+        plan(rt.alloc(), program, steps.as_slice(), &mut output)
+    };
+    let (is_stopped, steps) = told(planned, steps, is_input)?;
+    Ok((flushed(Ok(is_stopped), &mut output)?, steps))
+}
+
 /// Writes the schedule that a plan stands for on the program in a file, with the names of the threads if asked for. The plan is
 /// standard input if no other is named.
 pub fn write_plan<'a>(
@@ -70,14 +89,8 @@ pub fn write_plan<'a>(
     let file = read_all(rt.alloc(), &mut ReadPort::new(program))?;
     let steps = read_all(rt.alloc(), &mut ReadPort::new(steps))?;
     let program = program_in(rt.alloc(), parts_of(file.as_slice()).0)?;
-    let mut output = WritePort::new(rt.stdout());
-    let planned = if has_names {
-        plan_with_names(rt.alloc(), program, steps.as_slice(), &mut output)
-    } else {
-        plan(rt.alloc(), program, steps.as_slice(), &mut output)
-    };
-    let (is_stopped, steps) = told(planned, steps, is_input)?;
-    if flushed(Ok(is_stopped), &mut output)? {
+    let (is_stopped, steps) = push_planned(rt, program, steps, is_input, has_names)?;
+    if is_stopped {
         push_stopped(rt, named(name), steps.as_slice());
         return Ok(Done::Unlike);
     }
@@ -118,20 +131,17 @@ fn settled_by(
     Done::Unlike
 }
 
-/// Writes what the orders of seeds lead to, each after a plan if there is one, with the names of the threads if asked for.
-pub fn count_orders<'a>(
+/// Writes what the orders of seeds lead to on a program, each after this plan, which may have been standard input.
+fn count_orders_on<'a>(
     rt: &HostRuntime,
-    file: &'a str,
-    steps: Option<&'a str>,
+    program: Program<'_>,
+    plan: Vec<u8>,
+    is_input: bool,
     has_names: bool,
     orders: &Orders<'_>,
 ) -> Result<Done, Trouble<'a>>
     requires { AreInRange orders.now }
 {
-    let program = files::read(rt, file)?;
-    let plan = plan_before(rt, steps)?;
-    let file = read_all(rt.alloc(), &mut ReadPort::new(program))?;
-    let program = program_in(rt.alloc(), parts_of(file.as_slice()).0)?;
     let text = program.bytes;
     let expected = expectations(rt.alloc(), &program.names, orders.expected.as_slice())?;
     let seeds = Seeds {
@@ -152,7 +162,24 @@ pub fn count_orders<'a>(
         &mut output,
     );
     shown.meter().end();
-    let (unlike, _) = told(answer, plan, steps == Some("-"))?;
+    let (unlike, _) = told(answer, plan, is_input)?;
     flushed(Ok(()), &mut output)?;
     Ok(settled_by(rt, text, expected.as_slice(), unlike))
+}
+
+/// Writes what the orders of seeds lead to, each after a plan if there is one, with the names of the threads if asked for.
+pub fn count_orders<'a>(
+    rt: &HostRuntime,
+    file: &'a str,
+    steps: Option<&'a str>,
+    has_names: bool,
+    orders: &Orders<'_>,
+) -> Result<Done, Trouble<'a>>
+    requires { AreInRange orders.now }
+{
+    let program = files::read(rt, file)?;
+    let plan = plan_before(rt, steps)?;
+    let file = read_all(rt.alloc(), &mut ReadPort::new(program))?;
+    let program = program_in(rt.alloc(), parts_of(file.as_slice()).0)?;
+    count_orders_on(rt, program, plan, steps == Some("-"), has_names, orders)
 }

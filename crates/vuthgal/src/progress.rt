@@ -11,7 +11,7 @@ ghost use Rattle.byte_ports.specs.Port.{FailsForGood};
 
 use byte_ports::{BlockPort, Failed, Source, WritePort};
 use command_line::ports::printable::writes_to_pipe;
-use commands::observer::Observer;
+use commands::seeds::Observer;
 use std::alloc::AllocError;
 use std::io;
 use std::io::{IsTerminal, Stdout, Write};

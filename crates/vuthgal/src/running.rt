@@ -1,10 +1,10 @@
 //! Runs: a program that is played under a schedule, and what is expected of its end.
 
 use crate::expectation::{as_expected, expectations, tell_unmet};
+use crate::input::{Schedule, told};
 use crate::notes;
 use crate::progress::{ShownWriter, trace_port};
-use crate::schedule::{Schedule, told};
-use crate::steps::{Holds, opened};
+use crate::steps::{Holds, OpenSteps, opened};
 use byte_ports::{BlockPort, ReadPort, WritePort};
 use command_line::request::Steps;
 use fault_reports::help::{Files, push_explained, push_missing};
@@ -13,6 +13,7 @@ use headline::shown;
 use std::io::Stdout;
 use thread_machine::{Choice, Standing, StepFault};
 use trace_text::{Refusal, RunEnd, RunFault};
+use workbench::Program;
 use workbench::done::Done;
 use workbench::ending::passed_on;
 use workbench::fault::Fault;
@@ -126,6 +127,33 @@ pub fn play_both<'a>(rt: &HostRuntime, expected: &[&str]) -> Answer<'a> {
     }
 }
 
+/// Plays a program under the steps that the arguments name. `beside` is the schedule in the program's own file.
+fn play<'a>(
+    rt: &HostRuntime,
+    program: Program<'_>,
+    steps: OpenSteps<'_>,
+    beside: &[u8],
+    expected: &[&str],
+    files: Files<'_>,
+) -> Answer<'a> {
+    let (planned, is_stopped) = steps.planned(rt, &program)?;
+    let expected = expectations(rt.alloc(), &program.names, expected)?;
+    let mut schedule = Schedule::whole(rt.alloc(), steps.schedule(beside, planned.as_str()));
+    let mut output = trace_port(rt)?;
+    let answer = shown::run(rt.alloc(), program.image, &mut schedule, &mut output);
+    let live = if is_stopped { "" } else { SCHEDULE_ENDS };
+    let done = scheduled(
+        rt,
+        answer,
+        output,
+        program.bytes,
+        expected.as_slice(),
+        live,
+        files,
+    );
+    told(schedule, done)
+}
+
 /// Plays the program in a file.
 pub fn run<'a>(rt: &HostRuntime, file: &'a str, steps: Steps<'a>, expected: &[&str]) -> Answer<'a> {
     let files = Files::of_run(file, steps);
@@ -133,12 +161,5 @@ pub fn run<'a>(rt: &HostRuntime, file: &'a str, steps: Steps<'a>, expected: &[&s
     let (text, beside) = steps.parts(file.as_slice());
     let program = program_in(rt.alloc(), text)?;
     steps.push_missing(rt, &program, file.as_slice());
-    let (planned, is_stopped) = steps.planned(rt, &program)?;
-    let expected = expectations(rt.alloc(), &program.names, expected)?;
-    let mut schedule = Schedule::whole(rt.alloc(), steps.schedule(beside, planned.as_str()));
-    let mut output = trace_port(rt)?;
-    let answer = shown::run(rt.alloc(), program.image, &mut schedule, &mut output);
-    let live = if is_stopped { "" } else { SCHEDULE_ENDS };
-    let done = scheduled(rt, answer, output, text, expected.as_slice(), live, files);
-    told(schedule, done)
+    play(rt, program, steps, beside, expected, files)
 }

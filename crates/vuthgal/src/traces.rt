@@ -2,14 +2,15 @@
 
 use crate::progress::ShownSource;
 use crate::{files, input};
-use byte_ports::{BlockPort, ReadPort, WritePort};
+use byte_ports::{BlockPort, ReadPort, Source, WritePort};
 use command_line::ports::printable;
 use commands::choices::choices;
 use commands::show_comparison;
 use fault_reports::help::push_explained;
-use fault_reports::trouble::Answer;
+use fault_reports::trouble::{Answer, Trouble};
 use fault_reports::unlike::{CARRIAGE_RETURN, push_differs, push_no_trace};
 use headline::shown;
+use row_code::Image;
 use trace_compare::Verdict;
 use workbench::compare::done_by;
 use workbench::done::Done;
@@ -28,6 +29,35 @@ fn ended(rt: &HostRuntime, program: &str, trace: &str, verdict: Verdict, is_show
     done_by(verdict)
 }
 
+/// Compares a trace with the run of an image's program.
+fn compared<'a, S: Source>(
+    rt: &HostRuntime,
+    image: Image,
+    trace: &mut S,
+) -> Result<Verdict, Trouble<'a>> {
+    let mut output = WritePort::new(printable::output(rt));
+    let verdict = shown::compare(rt.alloc(), image, trace, &mut output);
+    Ok(flushed(verdict, &mut output)?)
+}
+
+/// The same, and shows the lines that differ. At a terminal it explains a line that ends with CR.
+fn compared_and_shown<'a, S: Source>(
+    rt: &HostRuntime,
+    image: Image,
+    trace: &mut S,
+) -> Result<Verdict, Trouble<'a>> {
+    let mut output = WritePort::new(printable::output(rt));
+    let judged = show_comparison(rt.alloc(), image, trace, &mut output);
+    let judged = flushed(judged, &mut output)?;
+    let verdict = judged.verdict();
+    if matches!(verdict, Verdict::Differs { .. })
+        && judged.trace_line().unwrap_or(&[]).ends_with(b"\r")
+    {
+        push_explained(rt, CARRIAGE_RETURN);
+    }
+    Ok(verdict)
+}
+
 /// Compares a trace with the run of the program in a file, and shows the lines that differ if asked for.
 pub fn compare<'a>(rt: &HostRuntime, file: &'a str, trace: &'a str, is_shown: bool) -> Answer<'a> {
     let program = files::read(rt, file)?;
@@ -36,19 +66,11 @@ pub fn compare<'a>(rt: &HostRuntime, file: &'a str, trace: &'a str, is_shown: bo
     let mut input = ShownSource::new(rt, ReadPort::new(read), size);
     let program = read_all(rt.alloc(), &mut ReadPort::new(program))?;
     let image = program_in(rt.alloc(), program.as_slice())?.image;
-    let mut output = WritePort::new(printable::output(rt));
-    if !is_shown {
-        let verdict = shown::compare(rt.alloc(), image, &mut input, &mut output);
-        return Ok(ended(rt, file, trace, flushed(verdict, &mut output)?, is_shown));
-    }
-    let judged = show_comparison(rt.alloc(), image, &mut input, &mut output);
-    let judged = flushed(judged, &mut output)?;
-    let verdict = judged.verdict();
-    if matches!(verdict, Verdict::Differs { .. })
-        && judged.trace_line().unwrap_or(&[]).ends_with(b"\r")
-    {
-        push_explained(rt, CARRIAGE_RETURN);
-    }
+    let verdict = if is_shown {
+        compared_and_shown(rt, image, &mut input)?
+    } else {
+        compared(rt, image, &mut input)?
+    };
     Ok(ended(rt, file, trace, verdict, is_shown))
 }
 

@@ -1,11 +1,11 @@
 //! A command as it should be typed, if the words of a plan or of a STATE are among its arguments without quotes, or a plan instead
 //! of a file.
 
-use crate::unshown::Unshown;
 use byte_ports::{Failed, Sink};
 use line_reader::words::is_blank;
 use refusals::entry::push_pieces;
 use std::alloc::{AllocError, Global};
+use suggestions::unshown::Unshown;
 use trace_text::form::end_words;
 
 /// The commands that play a plan or a schedule.
