@@ -1,96 +1,126 @@
 //! Trees of phasers, and machines.
 
 use crate::programs::{FIRST, MEETING, goes_on, is_at, meeting_after, program_of};
-use crate::trial::{Answer, Trial, Tried};
+use crate::trial::{Answer, Trial};
 use packed_phaser::Policy;
 use phase_number::Phase;
-use thread_machine::{Event, Machine, StepFault, What};
+use thread_machine::{Event, Machine, StepFault, Undo, What};
 use tier_tree::{DeclareFault, Forest, PhaserId};
 
 /// `Forest::new`.
-pub fn new_forest(trial: Trial) -> Tried {
-    Ok(match trial.end(Forest::new(trial.begin())) {
+pub fn new_forest(trial: Trial) -> Answer {
+    match trial.end(Forest::new(trial.begin())) {
         Ok(forest) => Answer::Right.provided(forest.len() == 0),
         Err(_) => Answer::Memory,
-    })
+    }
 }
 
+/// Declares a root of two parties, in phase 7.
 fn declare_root(forest: &mut Forest) -> Result<PhaserId, DeclareFault> {
     forest.declare(None, 2, Policy::Default, Phase::prevailing(7))
 }
 
 /// `Forest::declare`: after `Memory` the forest is as before, and takes the phaser.
-pub fn declaring(trial: Trial) -> Tried {
-    let mut forest = Forest::new(trial.alloc)?;
+pub fn declaring(trial: Trial) -> Answer {
+    match Forest::new(trial.alloc) {
+        Ok(mut forest) => declared(trial, &mut forest),
+        Err(_) => Answer::Wrong,
+    }
+}
+
+/// `Forest::declare` in an empty forest.
+fn declared(trial: Trial, forest: &mut Forest) -> Answer {
     trial.begin();
-    Ok(match trial.end(declare_root(&mut forest)) {
+    match trial.end(declare_root(forest)) {
         Ok(id) => Answer::Right.provided(id == PhaserId(0) && forest.len() == 1),
         Err(DeclareFault::Memory) => {
-            Answer::Memory.provided(
-                forest.len() == 0 && declare_root(&mut forest) == Ok(PhaserId(0)),
-            )
+            Answer::Memory.provided(forest.len() == 0 && declare_root(forest) == Ok(PhaserId(0)))
         }
         Err(_) => Answer::Wrong,
-    })
+    }
 }
 
 /// `Forest::copy`: what was copied stands.
-pub fn copying_forest(trial: Trial) -> Tried {
-    let mut forest = Forest::new(trial.alloc)?;
+pub fn copying_forest(trial: Trial) -> Answer {
+    let Ok(mut forest) = Forest::new(trial.alloc) else {
+        return Answer::Wrong;
+    };
     let _ = declare_root(&mut forest);
-    Ok(match trial.end(forest.copy(trial.begin())) {
+    copied_forest(trial, &forest)
+}
+
+/// `Forest::copy` of a forest with one phaser.
+fn copied_forest(trial: Trial, forest: &Forest) -> Answer {
+    match trial.end(forest.copy(trial.begin())) {
         Ok(copy) => Answer::Right.provided(copy.len() == 1 && forest.len() == 1),
         Err(_) => Answer::Memory.provided(forest.len() == 1),
-    })
+    }
 }
 
 /// `Machine::new`.
-pub fn beginning(trial: Trial) -> Tried {
-    let program = program_of(trial.alloc, MEETING)?;
-    let answered = trial.end(Machine::new(trial.begin(), program, 1000));
-    Ok(match answered {
-        Ok(machine) => Answer::Right.provided(is_at(trial.alloc, &machine, 0)?),
+pub fn beginning(trial: Trial) -> Answer {
+    let Ok(program) = program_of(trial.alloc, MEETING) else {
+        return Answer::Wrong;
+    };
+    match trial.end(Machine::new(trial.begin(), program, 1000)) {
+        Ok(machine) => Answer::Right.provided(is_at(trial.alloc, &machine, 0)),
         Err(_) => Answer::Memory,
-    })
+    }
 }
 
 /// `Machine::copy`. What was copied stands, and goes on.
-pub fn copying(trial: Trial) -> Tried {
-    let mut machine = meeting_after(trial.alloc, 4)?;
-    let answer = match trial.end(machine.copy(trial.begin())) {
-        Ok(mut copy) => Answer::Right.provided(goes_on(trial.alloc, &mut copy, 4)?),
-        Err(_) => Answer::Memory,
+pub fn copying(trial: Trial) -> Answer {
+    let Ok(mut machine) = meeting_after(trial.alloc, 4) else {
+        return Answer::Wrong;
     };
-    Ok(answer.provided(goes_on(trial.alloc, &mut machine, 4)?))
+    let answer = copied(trial, &machine);
+    answer.provided(goes_on(trial.alloc, &mut machine, 4))
+}
+
+/// `Machine::copy` of this machine.
+fn copied(trial: Trial, machine: &Machine) -> Answer {
+    match trial.end(machine.copy(trial.begin())) {
+        Ok(mut copy) => Answer::Right.provided(goes_on(trial.alloc, &mut copy, 4)),
+        Err(_) => Answer::Memory,
+    }
 }
 
 /// Returns the result of the fourth choice of the meeting, `out`: no other step allocates. After `Memory` the machine is as
 /// before, and takes the choice.
-fn out_answer(trial: Trial, machine: &mut Machine, answered: Result<Event, StepFault>) -> Tried {
-    Ok(match answered {
-        Ok(event) => Answer::Right.provided(
-            event.what == What::Out(1) && goes_on(trial.alloc, machine, 4)?,
-        ),
-        Err(StepFault::Memory) => Answer::Memory.provided(goes_on(trial.alloc, machine, 3)?),
+fn out_answer(trial: Trial, machine: &mut Machine, answered: Result<Event, StepFault>) -> Answer {
+    match answered {
+        Ok(event) => {
+            Answer::Right.provided(event.what == What::Out(1) && goes_on(trial.alloc, machine, 4))
+        }
+        Err(StepFault::Memory) => Answer::Memory.provided(goes_on(trial.alloc, machine, 3)),
         Err(_) => Answer::Wrong,
-    })
+    }
 }
 
 /// `Machine::step`.
-pub fn stepping(trial: Trial) -> Tried {
-    let mut machine = meeting_after(trial.alloc, 3)?;
+pub fn stepping(trial: Trial) -> Answer {
+    let Ok(mut machine) = meeting_after(trial.alloc, 3) else {
+        return Answer::Wrong;
+    };
     trial.begin();
     let answered = trial.end(machine.step(FIRST.choice));
     out_answer(trial, &mut machine, answered)
 }
 
 /// `Machine::step_noting`.
-pub fn noting(trial: Trial) -> Tried {
-    let mut machine = meeting_after(trial.alloc, 3)?;
+pub fn noting(trial: Trial) -> Answer {
+    let Ok(mut machine) = meeting_after(trial.alloc, 3) else {
+        return Answer::Wrong;
+    };
     trial.begin();
-    let answered = match trial.end(machine.step_noting(FIRST.choice)) {
+    let answered = noted(trial.end(machine.step_noting(FIRST.choice)));
+    out_answer(trial, &mut machine, answered)
+}
+
+/// The event of a step, without what takes it back.
+fn noted(answered: Result<(Event, Undo), StepFault>) -> Result<Event, StepFault> {
+    match answered {
         Ok((event, _)) => Ok(event),
         Err(fault) => Err(fault),
-    };
-    out_answer(trial, &mut machine, answered)
+    }
 }

@@ -61,38 +61,61 @@ pub fn trace_of(alloc: Global, text: &[u8], schedule: &[u8]) -> Result<MemorySin
     }
 }
 
-/// Plays choices that are not refused.
-fn play(machine: &mut Machine, turns: &[Run]) -> Result<(), AllocError> {
+/// Returns whether a machine plays these choices, and refuses none of them.
+fn plays(machine: &mut Machine, turns: &[Run]) -> bool {
     for turn in turns {
         if machine.step(turn.choice).is_err() {
-            return Err(AllocError);
+            return false;
         }
     }
-    Ok(())
+    true
+}
+
+/// The machine of the meeting before its first choice.
+fn meeting(alloc: Global) -> Result<Machine, AllocError> {
+    match program_of(alloc, MEETING) {
+        Ok(program) => Machine::new(alloc, program, 1000),
+        Err(_) => Err(AllocError),
+    }
 }
 
 /// The machine of the meeting after its first choices.
 pub fn meeting_after(alloc: Global, count: usize) -> Result<Machine, AllocError> {
-    let mut machine = Machine::new(alloc, program_of(alloc, MEETING)?, 1000)?;
     let (turns, _) = TURNS.split_at(count.min(7));
-    play(&mut machine, turns)?;
-    Ok(machine)
+    let mut machine = meeting(alloc)?;
+    if plays(&mut machine, turns) {
+        Ok(machine)
+    } else {
+        Err(AllocError)
+    }
 }
 
-/// Returns whether a machine shows this state.
-pub fn shows(alloc: Global, machine: &Machine, state: &[u8]) -> Result<bool, AllocError> {
-    let text = state_text(alloc, machine)?;
-    Ok(text.as_slice() == state)
+/// Returns whether a machine shows this state. If there is no memory for the state, it does not.
+pub fn shows(alloc: Global, machine: &Machine, state: &[u8]) -> bool {
+    match state_text(alloc, machine) {
+        Ok(text) => text.as_slice() == state,
+        Err(_) => false,
+    }
+}
+
+/// Returns whether two machines show the same state.
+fn are_alike(alloc: Global, machine: &Machine, other: &Machine) -> bool {
+    match state_text(alloc, other) {
+        Ok(text) => shows(alloc, machine, text.as_slice()),
+        Err(_) => false,
+    }
 }
 
 /// Returns whether a machine shows the state of the meeting after so many of its choices.
-pub fn is_at(alloc: Global, machine: &Machine, count: usize) -> Result<bool, AllocError> {
-    let wanted = state_text(alloc, &meeting_after(alloc, count)?)?;
-    shows(alloc, machine, wanted.as_slice())
+pub fn is_at(alloc: Global, machine: &Machine, count: usize) -> bool {
+    match meeting_after(alloc, count) {
+        Ok(wanted) => are_alike(alloc, machine, &wanted),
+        Err(_) => false,
+    }
 }
 
 /// Returns whether a machine is that of the meeting after so many of its choices, and plays the rest of them.
-pub fn goes_on(alloc: Global, machine: &mut Machine, count: usize) -> Result<bool, AllocError> {
+pub fn goes_on(alloc: Global, machine: &mut Machine, count: usize) -> bool {
     let (_, rest) = TURNS.split_at(count.min(7));
-    Ok(is_at(alloc, machine, count)? && play(machine, rest).is_ok() && is_at(alloc, machine, 7)?)
+    is_at(alloc, machine, count) && plays(machine, rest) && is_at(alloc, machine, 7)
 }

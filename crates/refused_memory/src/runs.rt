@@ -1,10 +1,10 @@
 //! Lines of traces, states, runs whose trace is written, and traces that are compared.
 
 use crate::programs::{FIRST, image_of, meeting_after, shows, trace_of};
-use crate::trial::{Answer, Trial, Tried};
+use crate::trial::{Answer, Trial};
 use byte_ports::{MemorySink, MemorySource};
 use std::alloc::{AllocError, Global};
-use thread_machine::{Event, Mark, What};
+use thread_machine::{Event, Machine, Mark, What};
 use trace_compare::{CompareFault, RunFault, Verdict, compare, run_text};
 use trace_text::line::{event_line, refusal_line};
 use trace_text::state::state_text;
@@ -22,24 +22,28 @@ fn full_text(alloc: Global) -> Result<Vec<u8>, AllocError> {
 }
 
 /// Returns the result of a call that appends a line to these three bytes: after a refusal the text is as before.
-fn line_answer(answered: Result<(), AllocError>, text: &[u8], wanted: &[u8]) -> Tried {
-    Ok(match answered {
+fn line_answer(answered: Result<(), AllocError>, text: &[u8], wanted: &[u8]) -> Answer {
+    match answered {
         Ok(()) => Answer::Right.provided(text == wanted),
         Err(_) => Answer::Memory.provided(text == b"abc".as_slice()),
-    })
+    }
 }
 
 /// `event_line`.
-pub fn event(trial: Trial) -> Tried {
-    let mut text = full_text(trial.alloc)?;
+pub fn event(trial: Trial) -> Answer {
+    let Ok(mut text) = full_text(trial.alloc) else {
+        return Answer::Wrong;
+    };
     trial.begin();
     let answered = trial.end(event_line(&mut text, 7, FIRST.choice, 5, &EVENT));
     line_answer(answered, text.as_slice(), b"abc7 t0 5 = -5 +p0 1\n")
 }
 
 /// `refusal_line`.
-pub fn refusal(trial: Trial) -> Tried {
-    let mut text = full_text(trial.alloc)?;
+pub fn refusal(trial: Trial) -> Answer {
+    let Ok(mut text) = full_text(trial.alloc) else {
+        return Answer::Wrong;
+    };
     trial.begin();
     let answered = trial.end(refusal_line(&mut text, 8, FIRST.choice, None));
     line_answer(answered, text.as_slice(), b"abc8 t0 - none\n")
@@ -50,13 +54,20 @@ const AT_FIRST: &[u8] = b"state 0 0 live\nt0 0 runs 0 regs 0 0 0 0 0 0 0 0 stack
 t1 0 runs 0 regs 0 0 0 0 0 0 0 0 stack out\np0 0 2 0 2\n";
 
 /// `state_text`. The machine stands.
-pub fn state(trial: Trial) -> Tried {
-    let machine = meeting_after(trial.alloc, 0)?;
-    let answer = match trial.end(state_text(trial.begin(), &machine)) {
+pub fn state(trial: Trial) -> Answer {
+    match meeting_after(trial.alloc, 0) {
+        Ok(machine) => stated(trial, &machine),
+        Err(_) => Answer::Wrong,
+    }
+}
+
+/// `state_text` of this machine.
+fn stated(trial: Trial, machine: &Machine) -> Answer {
+    let answer = match trial.end(state_text(trial.begin(), machine)) {
         Ok(text) => Answer::Right.provided(text.as_slice() == AT_FIRST),
         Err(_) => Answer::Memory,
     };
-    Ok(answer.provided(shows(trial.alloc, &machine, AT_FIRST)?))
+    answer.provided(shows(trial.alloc, machine, AT_FIRST))
 }
 
 /// A thread that goes round for ever.
@@ -82,30 +93,46 @@ fn is_beginning(bytes: &[u8], trace: &[u8]) -> bool {
 }
 
 /// `run_text`: what was written before `Memory` is a beginning of the lines of the choices.
-pub fn playing(trial: Trial, text: &[u8], schedule: &[u8]) -> Tried {
-    let wanted = trace_of(trial.alloc, text, schedule)?;
-    let image = image_of(trial.alloc, text)?;
-    let mut source = MemorySource::new(schedule, None);
-    let mut trace = MemorySink::new(trial.alloc, 2_000_000, None)?;
-    let answered = trial.end(run_text(trial.begin(), image, &mut source, &mut trace));
-    Ok(match answered {
-        Ok(()) => Answer::Right.provided(trace.bytes() == wanted.bytes()),
-        Err(RunFault::Memory) => {
-            Answer::Memory.provided(is_beginning(trace.bytes(), wanted.bytes()))
-        }
+pub fn playing(trial: Trial, text: &[u8], schedule: &[u8]) -> Answer {
+    match trace_of(trial.alloc, text, schedule) {
+        Ok(wanted) => played(trial, text, schedule, wanted.bytes()),
         Err(_) => Answer::Wrong,
-    })
+    }
+}
+
+/// `run_text`, which writes this trace if nothing is refused.
+fn played(trial: Trial, text: &[u8], schedule: &[u8], wanted: &[u8]) -> Answer {
+    let Ok(mut trace) = MemorySink::new(trial.alloc, 2_000_000, None) else {
+        return Answer::Wrong;
+    };
+    let Ok(image) = image_of(trial.alloc, text) else {
+        return Answer::Wrong;
+    };
+    let mut source = MemorySource::new(schedule, None);
+    match trial.end(run_text(trial.begin(), image, &mut source, &mut trace)) {
+        Ok(()) => Answer::Right.provided(trace.bytes() == wanted),
+        Err(RunFault::Memory) => Answer::Memory.provided(is_beginning(trace.bytes(), wanted)),
+        Err(_) => Answer::Wrong,
+    }
 }
 
 /// `compare`.
-pub fn comparing(trial: Trial, text: &[u8], schedule: &[u8]) -> Tried {
-    let trace = trace_of(trial.alloc, text, schedule)?;
-    let image = image_of(trial.alloc, text)?;
-    let mut source = MemorySource::new(trace.bytes(), None);
-    let answered = trial.end(compare(trial.begin(), image, &mut source));
-    Ok(match answered {
+pub fn comparing(trial: Trial, text: &[u8], schedule: &[u8]) -> Answer {
+    match trace_of(trial.alloc, text, schedule) {
+        Ok(trace) => compared(trial, text, trace.bytes()),
+        Err(_) => Answer::Wrong,
+    }
+}
+
+/// `compare` of this trace with its run.
+fn compared(trial: Trial, text: &[u8], trace: &[u8]) -> Answer {
+    let Ok(image) = image_of(trial.alloc, text) else {
+        return Answer::Wrong;
+    };
+    let mut source = MemorySource::new(trace, None);
+    match trial.end(compare(trial.begin(), image, &mut source)) {
         Ok(verdict) => Answer::Right.provided(verdict == Verdict::Same),
         Err(CompareFault::Memory) => Answer::Memory,
         Err(_) => Answer::Wrong,
-    })
+    }
 }

@@ -1,6 +1,6 @@
 //! Schedules that are read and written.
 
-use crate::trial::{Answer, Trial, Tried};
+use crate::trial::{Answer, Trial};
 use schedule_reader::{Reader, Run, ScheduleFault, write_schedule};
 use thread_machine::Choice;
 
@@ -17,46 +17,46 @@ fn is_beginning(runs: &[Run]) -> bool {
 }
 
 /// `Reader::feed`: after `Memory` the list has the runs of whole tokens, and the reader returns `Memory` for ever.
-pub fn feeding(trial: Trial) -> Tried {
+pub fn feeding(trial: Trial) -> Answer {
     let mut runs = Vec::new(trial.alloc);
     let mut reader = Reader::new();
     trial.begin();
     let answered = trial.end(reader.feed(TOKENS, &mut runs));
     let (count, is_first) = (runs.len(), is_beginning(runs.as_slice()));
     let again = reader.feed(TOKENS, &mut runs);
-    Ok(match (answered, again) {
+    match (answered, again) {
         (Ok(()), Ok(())) => Answer::Right.provided(is_first && count == 9 && runs.len() == 18),
         (Err(ScheduleFault::Memory), Err(ScheduleFault::Memory)) => {
             Answer::Memory.provided(is_first && count < 9 && runs.len() == count)
         }
         _ => Answer::Wrong,
-    })
+    }
 }
 
 /// `Reader::finish`, which the last token needs: after `Memory` the list is as before.
-pub fn finishing(trial: Trial) -> Tried {
+pub fn finishing(trial: Trial) -> Answer {
     let mut runs = Vec::new(trial.alloc);
     let mut reader = Reader::new();
     let fed = reader.feed(b"t7*5", &mut runs);
     trial.begin();
     let answered = trial.end(reader.finish(&mut runs));
-    Ok(match (fed, answered) {
+    match (fed, answered) {
         (Ok(()), Ok(())) => Answer::Right.provided(runs.len() == 1),
         (Ok(()), Err(ScheduleFault::Memory)) => Answer::Memory.provided(runs.is_empty()),
         _ => Answer::Wrong,
-    })
+    }
 }
 
 /// `write_schedule`.
-pub fn writing(trial: Trial) -> Tried {
+pub fn writing(trial: Trial) -> Answer {
     let choice = Choice {
         thread: 63,
         expiry: true,
     };
     let runs = [Run { choice, times: 1 }, Run { choice, times: 70 }];
     let answered = trial.end(write_schedule(trial.begin(), runs.as_slice()));
-    Ok(match answered {
+    match answered {
         Ok(text) => Answer::Right.provided(text.as_bytes() == b"x63 x63*70".as_slice()),
         Err(_) => Answer::Memory,
-    })
+    }
 }

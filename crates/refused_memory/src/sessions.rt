@@ -1,11 +1,11 @@
 //! The debugger.
 
 use crate::programs::{FIRST, TURNS, is_at, meeting_after};
-use crate::trial::{Answer, Trial, Tried};
+use crate::trial::{Answer, Trial};
 use byte_ports::MemorySink;
 use debugger::{CommandFault, Debugger, Stop};
 use std::alloc::{AllocError, Global};
-use thread_machine::StepFault;
+use thread_machine::{Machine, StepFault};
 
 /// A debugger of the meeting that has played its first choices.
 fn debugger_after(alloc: Global, count: usize) -> Result<Debugger, AllocError> {
@@ -17,43 +17,88 @@ fn debugger_after(alloc: Global, count: usize) -> Result<Debugger, AllocError> {
 }
 
 /// Returns whether a debugger is after so many choices of the meeting, plays the rest, and takes all of them back.
-fn goes_on(alloc: Global, debugger: &mut Debugger, count: usize) -> Result<bool, AllocError> {
+fn goes_on(alloc: Global, debugger: &mut Debugger, count: usize) -> bool {
     let (_, rest) = TURNS.split_at(count.min(7));
-    let stood = is_at(alloc, debugger.machine(), count)?;
+    let stood = is_at(alloc, debugger.machine(), count);
     let _ = debugger.go(rest);
-    let ended = is_at(alloc, debugger.machine(), 7)?;
+    let ended = is_at(alloc, debugger.machine(), 7);
     for _ in 0..7 {
         if debugger.back().is_err() {
-            return Ok(false);
+            return false;
         }
     }
-    let is_first = is_at(alloc, debugger.machine(), 0)?;
-    Ok(stood && ended && is_first && debugger.back().is_err())
+    let is_first = is_at(alloc, debugger.machine(), 0);
+    stood && ended && is_first && debugger.back().is_err()
+}
+
+/// Returns whether a new debugger of the meeting is at its beginning, plays it, and takes it back.
+fn begins(alloc: Global, mut debugger: Debugger) -> bool {
+    goes_on(alloc, &mut debugger, 0)
+}
+
+/// `Debugger::new` with this machine.
+fn opened(trial: Trial, machine: Machine) -> Answer {
+    match trial.end(Debugger::new(trial.begin(), machine, 8)) {
+        Ok(debugger) => Answer::Right.provided(begins(trial.alloc, debugger)),
+        Err(_) => Answer::Memory,
+    }
 }
 
 /// `Debugger::new`.
-pub fn opening(trial: Trial) -> Tried {
-    let machine = meeting_after(trial.alloc, 0)?;
-    Ok(match trial.end(Debugger::new(trial.begin(), machine, 8)) {
-        Ok(mut debugger) => Answer::Right.provided(goes_on(trial.alloc, &mut debugger, 0)?),
-        Err(_) => Answer::Memory,
-    })
+pub fn opening(trial: Trial) -> Answer {
+    match meeting_after(trial.alloc, 0) {
+        Ok(machine) => opened(trial, machine),
+        Err(_) => Answer::Wrong,
+    }
+}
+
+/// What a debugger of the meeting is asked for.
+#[derive(Clone, Copy)]
+pub enum Asked<'a> {
+    Step,
+    Go,
+    Command(&'a Command),
+}
+
+/// Tries what a debugger is asked for: `go` after the meeting's second choice, all else after the third.
+pub fn asking(trial: Trial, asked: Asked) -> Answer {
+    let count = match asked {
+        Asked::Go => 2,
+        _ => 3,
+    };
+    match debugger_after(trial.alloc, count) {
+        Ok(debugger) => answered(trial, debugger, asked),
+        Err(_) => Answer::Wrong,
+    }
+}
+
+/// What the debugger is asked for. The debugger is dropped here.
+fn answered(trial: Trial, mut debugger: Debugger, asked: Asked) -> Answer {
+    answer(trial, &mut debugger, asked)
+}
+
+/// What the debugger is asked for.
+fn answer(trial: Trial, debugger: &mut Debugger, asked: Asked) -> Answer {
+    match asked {
+        Asked::Step => stepped(trial, debugger),
+        Asked::Go => gone(trial, debugger),
+        Asked::Command(command) => commanded(trial, debugger, command),
+    }
 }
 
 /// `Debugger::step` at the meeting's fourth choice, which puts a value out.
-pub fn stepping(trial: Trial) -> Tried {
-    let mut debugger = debugger_after(trial.alloc, 3)?;
+fn stepped(trial: Trial, debugger: &mut Debugger) -> Answer {
     trial.begin();
-    Ok(match trial.end(debugger.step(FIRST.choice)) {
-        Ok(_) => Answer::Right.provided(goes_on(trial.alloc, &mut debugger, 4)?),
-        Err(StepFault::Memory) => Answer::Memory.provided(goes_on(trial.alloc, &mut debugger, 3)?),
-        Err(_) => Answer::Wrong,
-    })
+    let (answer, count) = match trial.end(debugger.step(FIRST.choice)) {
+        Ok(_) => (Answer::Right, 4),
+        Err(StepFault::Memory) => (Answer::Memory, 3),
+        Err(_) => (Answer::Wrong, 0),
+    };
+    answer.provided(goes_on(trial.alloc, debugger, count))
 }
 
 /// `Debugger::go` after the second choice: it stops before an `out`, out of memory, and the choices before it stay.
-pub fn going(trial: Trial) -> Tried {
-    let mut debugger = debugger_after(trial.alloc, 2)?;
+fn gone(trial: Trial, debugger: &mut Debugger) -> Answer {
     let (_, rest) = TURNS.split_at(2);
     trial.begin();
     let (answer, count) = match trial.end(debugger.go(rest)) {
@@ -62,7 +107,7 @@ pub fn going(trial: Trial) -> Tried {
         Stop::Fault(3, StepFault::Memory) => (Answer::Memory, 5),
         _ => (Answer::Wrong, 0),
     };
-    Ok(answer.provided(goes_on(trial.alloc, &mut debugger, count)?))
+    answer.provided(goes_on(trial.alloc, debugger, count))
 }
 
 /// A name, a line for `Debugger::command` after the meeting's third choice, its reply, and how many choices are played after
@@ -88,19 +133,29 @@ t1 1 runs 0 regs 1 0 0 0 0 0 0 0 stack out\np0 1 2 0 2\n",
 ];
 
 /// `Debugger::command`. Where a step wanted memory the reply says so.
-pub fn commanding(trial: Trial, command: &Command) -> Tried {
+fn commanded(trial: Trial, debugger: &mut Debugger, command: &Command) -> Answer {
     let (_, line, wanted, behind) = *command;
-    let mut debugger = debugger_after(trial.alloc, 3)?;
-    let mut output = MemorySink::new(trial.alloc, 1000, None)?;
+    let Ok(mut output) = MemorySink::new(trial.alloc, 1000, None) else {
+        return Answer::Wrong;
+    };
     trial.begin();
     let answered = trial.end(debugger.command(line, &mut output));
-    let reply = output.bytes();
-    let (answer, count) = match answered {
+    let (answer, count) = command_answer(answered, output.bytes(), wanted, behind);
+    answer.provided(goes_on(trial.alloc, debugger, count))
+}
+
+/// Returns what a command and its reply come to, and how many choices are played then.
+fn command_answer(
+    answered: Result<bool, CommandFault>,
+    reply: &[u8],
+    wanted: &[u8],
+    behind: usize,
+) -> (Answer, usize) {
+    match answered {
         Ok(_) if reply == wanted => (Answer::Right, behind),
         Ok(true) if reply == b"fault 0 memory\n".as_slice() => (Answer::Memory, 3),
         Ok(true) if reply == b"fault 2 memory\n".as_slice() => (Answer::Memory, 5),
         Err(CommandFault::Memory) if reply.is_empty() => (Answer::Memory, 3),
         _ => (Answer::Wrong, 3),
-    };
-    Ok(answer.provided(goes_on(trial.alloc, &mut debugger, count)?))
+    }
 }

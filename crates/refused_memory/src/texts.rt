@@ -1,11 +1,11 @@
 //! Texts, images and programs.
 
 use crate::programs::{image_of, program_of, shows};
-use crate::trial::{Answer, Trial, Tried};
+use crate::trial::{Answer, Trial};
 use assembler::{AsmFaultKind, assemble, disassemble};
 use loader::{LoadFault, Loaded, load};
 use row_code::{Image, ImageFault, read_image};
-use std::alloc::{AllocError, Global};
+use std::alloc::Global;
 use thread_machine::Machine;
 
 /// Each kind of declaration with a name, and names that are used before and after their declaration: eight lines.
@@ -25,64 +25,85 @@ p0 0 3 0 3\np1 0 1 0 1\nb0 0 0\n";
 const IMAGE: &[u8] = b"PBW1\x00\x00\x00\x00\x02\x00\x02\x00\
 \x01\x00\x00\x00\x00\x00\x00\x00\x0e\x00\x00\x00\x00\x00\x00\x00\x00\x00\x00\x00\x00\x00\x00\x00";
 
-fn lists(alloc: Global, image: &Image, listing: &[u8]) -> Result<bool, AllocError> {
-    let text = disassemble(alloc, image)?;
-    Ok(text.as_slice() == listing)
+/// Returns whether this is the canonical text of an image.
+fn lists(alloc: Global, image: &Image, listing: &[u8]) -> bool {
+    match disassemble(alloc, image) {
+        Ok(text) => text.as_slice() == listing,
+        Err(_) => false,
+    }
 }
 
 /// Returns whether the machine of a program begins like that of the text.
-fn begins(alloc: Global, program: Loaded) -> Result<bool, AllocError> {
-    let machine = Machine::new(alloc, program, 1000)?;
-    shows(alloc, &machine, AT_FIRST)
+fn begins(alloc: Global, program: Loaded) -> bool {
+    match Machine::new(alloc, program, 1000) {
+        Ok(machine) => shows(alloc, &machine, AT_FIRST),
+        Err(_) => false,
+    }
 }
 
 /// `assemble`. A fault for want of memory names a line of the text.
-pub fn assembling(trial: Trial) -> Tried {
-    Ok(match trial.end(assemble(trial.begin(), TEXT)) {
-        Ok(image) => Answer::Right.provided(lists(trial.alloc, &image, LISTING)?),
+pub fn assembling(trial: Trial) -> Answer {
+    match trial.end(assemble(trial.begin(), TEXT)) {
+        Ok(image) => Answer::Right.provided(lists(trial.alloc, &image, LISTING)),
         Err(fault) if fault.kind == AsmFaultKind::Memory => {
             Answer::Memory.provided(fault.line > 0 && fault.line <= 8)
         }
         Err(_) => Answer::Wrong,
-    })
+    }
 }
 
 /// `disassemble`. The image stands.
-pub fn listing(trial: Trial) -> Tried {
-    let image = image_of(trial.alloc, TEXT)?;
-    let answer = match trial.end(disassemble(trial.begin(), &image)) {
+pub fn listing(trial: Trial) -> Answer {
+    match image_of(trial.alloc, TEXT) {
+        Ok(image) => listed(trial, &image),
+        Err(_) => Answer::Wrong,
+    }
+}
+
+/// `disassemble` of this image.
+fn listed(trial: Trial, image: &Image) -> Answer {
+    let answer = match trial.end(disassemble(trial.begin(), image)) {
         Ok(text) => Answer::Right.provided(text.as_slice() == LISTING),
         Err(_) => Answer::Memory,
     };
-    Ok(answer.provided(lists(trial.alloc, &image, LISTING)?))
+    answer.provided(lists(trial.alloc, image, LISTING))
 }
 
 /// `read_image`.
-pub fn reading(trial: Trial) -> Tried {
+pub fn reading(trial: Trial) -> Answer {
     let listing = b".thread t0 #1\n.thread t1 #0\nout r0\nhalt\n";
-    Ok(match trial.end(read_image(trial.begin(), IMAGE)) {
-        Ok(image) => Answer::Right.provided(lists(trial.alloc, &image, listing)?),
+    match trial.end(read_image(trial.begin(), IMAGE)) {
+        Ok(image) => Answer::Right.provided(lists(trial.alloc, &image, listing)),
         Err(ImageFault::Memory) => Answer::Memory,
         Err(_) => Answer::Wrong,
-    })
+    }
 }
 
 /// `load`.
-pub fn loading(trial: Trial) -> Tried {
-    let image = image_of(trial.alloc, TEXT)?;
-    Ok(match trial.end(load(trial.begin(), image)) {
-        Ok(program) => Answer::Right.provided(begins(trial.alloc, program)?),
+pub fn loading(trial: Trial) -> Answer {
+    let Ok(image) = image_of(trial.alloc, TEXT) else {
+        return Answer::Wrong;
+    };
+    match trial.end(load(trial.begin(), image)) {
+        Ok(program) => Answer::Right.provided(begins(trial.alloc, program)),
         Err(LoadFault::Memory) => Answer::Memory,
         Err(_) => Answer::Wrong,
-    })
+    }
 }
 
 /// `Loaded::copy`. What was copied stands.
-pub fn copying(trial: Trial) -> Tried {
-    let program = program_of(trial.alloc, TEXT)?;
-    let answer = match trial.end(program.copy(trial.begin())) {
-        Ok(copy) => Answer::Right.provided(begins(trial.alloc, copy)?),
-        Err(_) => Answer::Memory,
+pub fn copying(trial: Trial) -> Answer {
+    let Ok(program) = program_of(trial.alloc, TEXT) else {
+        return Answer::Wrong;
     };
-    Ok(answer.provided(begins(trial.alloc, program)?))
+    let answer = copied(trial, &program);
+    answer.provided(begins(trial.alloc, program))
+}
+
+/// `Loaded::copy` of this program.
+fn copied(trial: Trial, program: &Loaded) -> Answer {
+    match trial.end(program.copy(trial.begin())) {
+        Ok(copy) => Answer::Right.provided(begins(trial.alloc, copy)),
+        Err(_) => Answer::Memory,
+    }
 }

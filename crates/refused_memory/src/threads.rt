@@ -2,7 +2,8 @@
 
 use crate::marks;
 use crate::programs::{FIRST, MEETING, SECOND, is_at, program_of, trace_of};
-use crate::trial::{Answer, Trial, Tried};
+use crate::trial::{Answer, Trial};
+use loader::Loaded;
 use packed_phaser::Policy;
 use phase_number::Phase;
 use schedule_reader::Run;
@@ -10,29 +11,55 @@ use shared_phaser::{NewFault, SharedPhaser};
 use std::alloc::{AllocError, Global};
 use std::sync::Wait;
 use std::thread::Threads;
-use thread_machine::{Choice, Event};
-use thread_runner::{Journaled, LiveFault, NoGate, TakeFault, run_live};
+use thread_machine::{Choice, Event, Machine};
+use thread_runner::{Journaled, LiveFault, LiveRun, NoGate, TakeFault, run_live};
 use trace_text::state::state_text;
 
-/// Returns whether each choice of a schedule is taken and is a step, and the trace ends so.
-fn is_played(alloc: Global, text: &[u8], schedule: &[u8], end: &[u8]) -> Result<bool, AllocError> {
-    let trace = trace_of(alloc, text, schedule)?;
-    for line in trace.bytes().split(|byte| *byte == b'\n') {
+/// Returns whether each line of a trace's choices is a step, and the trace ends so.
+fn has_steps(trace: &[u8], end: &[u8]) -> bool {
+    for line in trace.split(|byte| *byte == b'\n') {
         if line.ends_with(b" idle") || line.ends_with(b" none") || line.ends_with(b" limit") {
-            return Ok(false);
+            return false;
         }
     }
-    Ok(trace.bytes().ends_with(end))
+    trace.ends_with(end)
+}
+
+/// Returns whether each choice of a schedule is taken and is a step, and the trace ends so.
+fn is_played(alloc: Global, text: &[u8], schedule: &[u8], end: &[u8]) -> bool {
+    match trace_of(alloc, text, schedule) {
+        Ok(trace) => has_steps(trace.bytes(), end),
+        Err(_) => false,
+    }
+}
+
+/// Returns whether each choice of a schedule is taken and is a step, and leads to the state of a machine.
+fn leads_to(alloc: Global, text: &[u8], schedule: &[u8], machine: &Machine) -> bool {
+    match state_text(alloc, machine) {
+        Ok(state) => is_played(alloc, text, schedule, state.as_slice()),
+        Err(_) => false,
+    }
+}
+
+/// Returns whether a new record of the meeting is at its beginning.
+fn begins(alloc: Global, record: Journaled) -> bool {
+    is_at(alloc, record.machine(), 0)
+}
+
+/// `Journaled::new` of this program.
+fn recorded(trial: Trial, program: Loaded) -> Answer {
+    match trial.end(Journaled::new(trial.begin(), program, 1000)) {
+        Ok(record) => Answer::Right.provided(begins(trial.alloc, record)),
+        Err(_) => Answer::Memory,
+    }
 }
 
 /// `Journaled::new`.
-pub fn recording(trial: Trial) -> Tried {
-    let program = program_of(trial.alloc, MEETING)?;
-    let answered = trial.end(Journaled::new(trial.begin(), program, 1000));
-    Ok(match answered {
-        Ok(record) => Answer::Right.provided(is_at(trial.alloc, record.machine(), 0)?),
-        Err(_) => Answer::Memory,
-    })
+pub fn recording(trial: Trial) -> Answer {
+    match program_of(trial.alloc, MEETING) {
+        Ok(program) => recorded(trial, program),
+        Err(_) => Answer::Wrong,
+    }
 }
 
 /// Takes a thread's step, or lets its wait expire, if there is such a thread.
@@ -46,42 +73,74 @@ fn take(record: &mut Journaled, choice: Choice) -> Result<Event, TakeFault> {
     }
 }
 
-/// The record of a text's run after these turns.
-fn record_of(alloc: Global, text: &[u8], turns: &[Run]) -> Result<Journaled, AllocError> {
-    let mut record = Journaled::new(alloc, program_of(alloc, text)?, 1000)?;
+/// Returns whether a record takes these turns.
+fn takes(record: &mut Journaled, turns: &[Run]) -> bool {
     for turn in turns {
-        if take(&mut record, turn.choice).is_err() {
-            return Err(AllocError);
+        if take(record, turn.choice).is_err() {
+            return false;
         }
     }
-    Ok(record)
+    true
+}
+
+/// The record of a text's run before the first turn.
+fn record_of(alloc: Global, text: &[u8]) -> Result<Journaled, AllocError> {
+    match program_of(alloc, text) {
+        Ok(program) => Journaled::new(alloc, program, 1000),
+        Err(_) => Err(AllocError),
+    }
 }
 
 /// Returns whether a record is this schedule, and its machine what the schedule leads to.
-fn leads(alloc: Global, text: &[u8], schedule: &[u8], it: &Journaled) -> Result<bool, AllocError> {
-    let state = state_text(alloc, it.machine())?;
-    Ok(it.schedule() == schedule && is_played(alloc, text, schedule, state.as_slice())?)
+fn leads(alloc: Global, text: &[u8], schedule: &[u8], record: &Journaled) -> bool {
+    record.schedule() == schedule && leads_to(alloc, text, schedule, record.machine())
 }
 
 /// Takes a choice after these turns, with which the record is this schedule. After `Memory` the record is as before, and takes
 /// it.
-fn taking(trial: Trial, text: &[u8], turns: &[Run], choice: Choice, schedule: &[u8]) -> Tried {
+fn taking(trial: Trial, text: &[u8], turns: &[Run], choice: Choice, schedule: &[u8]) -> Answer {
+    match record_of(trial.alloc, text) {
+        Ok(record) => taken_behind(trial, text, record, turns, choice, schedule),
+        Err(_) => Answer::Wrong,
+    }
+}
+
+/// The same, from a record on that hasn't taken these turns yet. The record is dropped here.
+fn taken_behind(
+    trial: Trial,
+    text: &[u8],
+    mut record: Journaled,
+    turns: &[Run],
+    choice: Choice,
+    schedule: &[u8],
+) -> Answer {
+    let has_taken = takes(&mut record, turns);
+    taken(trial, text, &mut record, choice, schedule).provided(has_taken)
+}
+
+/// The same, after the turns.
+fn taken(
+    trial: Trial,
+    text: &[u8],
+    record: &mut Journaled,
+    choice: Choice,
+    schedule: &[u8],
+) -> Answer {
     let (before, _) = schedule.split_at(schedule.len().saturating_sub(3));
-    let mut record = record_of(trial.alloc, text, turns)?;
     trial.begin();
-    let answer = match trial.end(take(&mut record, choice)) {
+    let answer = match trial.end(take(record, choice)) {
         Ok(_) => Answer::Right,
         Err(TakeFault::Memory) => {
-            let stands = leads(trial.alloc, text, before, &record)?;
-            Answer::Memory.provided(stands && take(&mut record, choice).is_ok())
+            let stands = leads(trial.alloc, text, before, record);
+            Answer::Memory.provided(stands && take(record, choice).is_ok())
         }
         Err(_) => Answer::Wrong,
     };
-    Ok(answer.provided(leads(trial.alloc, text, schedule, &record)?))
+    answer.provided(leads(trial.alloc, text, schedule, record))
 }
 
 /// `Journaled::take_step` at `out` of a thread whose turn it was not last.
-pub fn taking_step(trial: Trial) -> Tried {
+pub fn taking_step(trial: Trial) -> Answer {
     let turns = [FIRST, SECOND, FIRST];
     taking(trial, MEETING, &turns, SECOND.choice, b"t0 t1 t0 t1")
 }
@@ -91,7 +150,7 @@ const TIMED: &[u8] = b".phaser p 2\n.thread a m\n.thread b n\n\
 m: ldi r2 1\npawaitt r0 p r1 r2\nhalt\nn: ldi r0 1\nldi r0 1\nhalt\n";
 
 /// `Journaled::take_expiry` at the end of a timed wait, for which the record has no room yet.
-pub fn taking_expiry(trial: Trial) -> Tried {
+pub fn taking_expiry(trial: Trial) -> Answer {
     let turns = [FIRST, SECOND, FIRST, SECOND, SECOND];
     let expiry = Choice {
         thread: 0,
@@ -101,37 +160,41 @@ pub fn taking_expiry(trial: Trial) -> Tried {
 }
 
 /// `SharedPhaser::new` of two parties in phase 0, of whom none has arrived.
-pub fn sharing(trial: Trial) -> Tried {
+pub fn sharing(trial: Trial) -> Answer {
     let made = SharedPhaser::new(trial.begin(), 2, Policy::Default, Phase::prevailing(0));
     trial.end(());
-    Ok(match made {
+    match made {
         Ok((phaser, first)) => Answer::Right.provided(phaser.close(first).raw() == 0x2_0002),
         Err(NewFault::Memory) => Answer::Memory,
         Err(NewFault::RoutinePolicy) => Answer::Wrong,
-    })
+    }
 }
 
 /// `run_live`: its schedule leads to its machine; or what a run that was broken off left is a schedule that was played.
-fn running<R: Threads + Wait + Sync>(rt: &R, trial: Trial) -> Tried {
-    let program = program_of(trial.alloc, MEETING)?;
-    let answered = trial.end(run_live(rt, trial.begin(), program, 1000, &NoGate));
-    Ok(match answered {
-        Ok(run) => {
-            let state = state_text(trial.alloc, &run.machine)?;
-            let schedule = run.schedule.as_slice();
-            let is_its = is_played(trial.alloc, MEETING, schedule, state.as_slice())?;
-            Answer::Right.provided(is_its)
-        }
-        Err(LiveFault::Memory(left)) => {
-            Answer::Memory.provided(is_played(trial.alloc, MEETING, left.as_slice(), b"")?)
-        }
+fn running<R: Threads + Wait + Sync>(rt: &R, trial: Trial) -> Answer {
+    let Ok(program) = program_of(trial.alloc, MEETING) else {
+        return Answer::Wrong;
+    };
+    match trial.end(run_live(rt, trial.begin(), program, 1000, &NoGate)) {
+        Ok(run) => Answer::Right.provided(is_its(trial.alloc, run)),
+        Err(LiveFault::Memory(left)) => Answer::Memory.provided(is_left(trial.alloc, left)),
         Err(LiveFault::Spawn) => Answer::Memory,
-    })
+    }
+}
+
+/// Returns whether the schedule of a run of the meeting leads to its machine.
+fn is_its(alloc: Global, run: LiveRun) -> bool {
+    leads_to(alloc, MEETING, run.schedule.as_slice(), &run.machine)
+}
+
+/// Returns whether what a run of the meeting left is a schedule that was played.
+fn is_left(alloc: Global, left: Vec<u8>) -> bool {
+    is_played(alloc, MEETING, left.as_slice(), b"")
 }
 
 /// Returns the result of `run_live` with each of its first requests refused in turn. How many requests a run makes depends on
 /// how its threads meet, and a thread's block may outlive the run for a moment: so neither is counted.
-pub fn swept<R: Threads + Wait + Sync>(rt: &R, alloc: Global) -> Result<&'static str, AllocError> {
+pub fn swept<R: Threads + Wait + Sync>(rt: &R, alloc: Global) -> &'static str {
     let mut memory = 0u32;
     for request in 1..=100u16 {
         let trial = Trial {
@@ -139,15 +202,15 @@ pub fn swept<R: Threads + Wait + Sync>(rt: &R, alloc: Global) -> Result<&'static
             request,
             all: false,
         };
-        match (running(rt, trial)?, marks::end(alloc)) {
+        match (running(rt, trial), marks::end(alloc)) {
             (Answer::Memory, true) => memory = memory.saturating_add(1),
             (Answer::Right, _) => {}
-            _ => return Ok("WRONG"),
+            _ => return "WRONG",
         }
     }
-    Ok(match memory {
+    match memory {
         0 => "right, and nothing was refused",
         1..=9 => "hardly ever Memory",
         _ => "Memory or Spawn, or right without it, each time",
-    })
+    }
 }

@@ -1,6 +1,8 @@
 //! A meeting, played with the calls of the closing pages: what a schedule leaves and shows, what is taken back, and what a live
 //! run records. The same meeting in a tree, and on a shared phaser.
-use crate::programs::{MEETING as MEETING_TEXT, TRACE, program_of};
+ghost use Rattle.std.specs.Prelude.{◌≤◌, length};
+
+use crate::programs::{MEETING as MEETING_TEXT, TRACE, program_of, shows};
 use byte_ports::{MemorySink, MemorySource};
 use debugger::{Debugger, Stop};
 use headline::back::{step, step_and_back, steps_and_backs, take_back};
@@ -18,10 +20,10 @@ use phase_number::Phase;
 use row_code::{Image, read_image};
 use schedule_reader::Run;
 use shared_phaser::{Call, Reply};
-use std::alloc::Global;
+use std::alloc::{AllocError, Global};
 use std::test::Fail;
 use thread_machine::{Choice, Machine};
-use thread_runner::TakeFault;
+use thread_runner::{Journaled, TakeFault};
 use tier_tree::{Arrived, Forest, PhaserId, Registered};
 use trace_compare::Verdict;
 use trace_text::start::StartFault;
@@ -33,8 +35,9 @@ const MEETING: &[u8] = b"PBW1\x01\0\0\0\x02\0\x03\0\
 \0\0\0\0\0\0\0\0\
 \x18\0\0\0\0\0\0\0\x0e\0\0\0\0\0\0\0\0\0\0\0\0\0\0\0";
 
-fn image(alloc: Global, bytes: &[u8]) -> Result<Image, Fail> {
-    Ok(read_image(alloc, bytes).ok().ok_or("no image")?)
+/// The image that these bytes are, if they are one.
+fn image(alloc: Global, bytes: &[u8]) -> Option<Image> {
+    read_image(alloc, bytes).ok()
 }
 
 /// A thread's turn.
@@ -45,56 +48,80 @@ fn turn(thread: u8) -> Choice {
     }
 }
 
-/// The machine of the meeting after a turn of each of these threads.
-fn met(alloc: Global, threads: &[u8]) -> Result<Machine, Fail> {
+/// A turn of each of these threads.
+fn turns(alloc: Global, threads: &[u8]) -> Result<Vec<Choice>, AllocError> {
     let mut choices = Vec::new(alloc);
     for thread in threads {
         choices.push(turn(*thread))?;
     }
-    let machine = play(alloc, image(alloc, MEETING)?, choices.as_slice());
-    Ok(machine.ok().ok_or("refused")?)
+    Ok(choices)
+}
+
+/// The machine of the meeting after these choices, if its program is played.
+fn played(alloc: Global, choices: &[Choice]) -> Option<Machine> {
+    match image(alloc, MEETING) {
+        Some(image) => play(alloc, image, choices).ok(),
+        None => None,
+    }
+}
+
+/// The machine of the meeting after a turn of each of these threads, if its program is played.
+fn met(alloc: Global, threads: &[u8]) -> Option<Machine> {
+    match turns(alloc, threads) {
+        Ok(choices) => played(alloc, choices.as_slice()),
+        Err(_) => None,
+    }
 }
 
 /// They meet, and both go on with phase 1.
 #[test]
-fn both_threads_end(rt: HostRuntime) -> Result<(), Fail> {
-    let machine = met(rt.alloc(), &[0, 1, 0, 0, 0, 1, 1])?;
-    let state = state_text(rt.alloc(), &machine)?;
-    assert!(rt;
-        state.as_slice()
-            == b"state 7 7 all\nt0 2 ended 0 regs 1 0 0 0 0 0 0 0 stack out 1\n\
-t1 2 ended 0 regs 1 0 0 0 0 0 0 0 stack out 1\np0 1 2 0 2\n"
-                .as_slice()
-    );
-    Ok(())
+fn both_threads_end(rt: HostRuntime) {
+    let state = b"state 7 7 all\nt0 2 ended 0 regs 1 0 0 0 0 0 0 0 stack out 1\n\
+t1 2 ended 0 regs 1 0 0 0 0 0 0 0 stack out 1\np0 1 2 0 2\n";
+    match met(rt.alloc(), &[0, 1, 0, 0, 0, 1, 1]) {
+        Some(machine) => assert!(rt; shows(rt.alloc(), &machine, state)),
+        None => assert!(rt; false),
+    }
 }
 
 /// There is no third thread: the choice is refused, and no later choice is played.
 #[test]
-fn a_refused_choice_is_the_last(rt: HostRuntime) -> Result<(), Fail> {
-    let machine = met(rt.alloc(), &[0, 2, 1])?;
-    assert!(rt; machine.steps() == 1);
-    Ok(())
+fn a_refused_choice_is_the_last(rt: HostRuntime) {
+    match met(rt.alloc(), &[0, 2, 1]) {
+        Some(machine) => assert!(rt; machine.steps() == 1),
+        None => assert!(rt; false),
+    }
 }
 
 /// No thread is declared.
 #[test]
-fn a_program_with_a_fault_is_not_played(rt: HostRuntime) -> Result<(), Fail> {
-    let image = image(rt.alloc(), b"PBW1\0\0\0\0\0\0\x01\0\0\0\0\0\0\0\0\0")?;
-    let refused = play(rt.alloc(), image, &[]).err();
-    assert!(rt; refused == Some(StartFault::Load(LoadFault::NoThread)));
-    Ok(())
+fn a_program_with_a_fault_is_not_played(rt: HostRuntime) {
+    match image(rt.alloc(), b"PBW1\0\0\0\0\0\0\x01\0\0\0\0\0\0\0\0\0") {
+        Some(image) => {
+            let refused = play(rt.alloc(), image, &[]).err();
+            assert!(rt; refused == Some(StartFault::Load(LoadFault::NoThread)));
+        }
+        None => assert!(rt; false),
+    }
+}
+
+/// Returns whether a choice is played and taken back, and the machine then shows the same as before.
+fn is_taken_back(alloc: Global, machine: &mut Machine, choice: Choice) -> bool {
+    match state_text(alloc, machine) {
+        Ok(before) => {
+            step_and_back(machine, choice).is_ok() && shows(alloc, machine, before.as_slice())
+        }
+        Err(_) => false,
+    }
 }
 
 /// One thread waits; the other's arrival ends the phase, and is taken back.
 #[test]
-fn an_arrival_is_taken_back(rt: HostRuntime) -> Result<(), Fail> {
-    let mut machine = met(rt.alloc(), &[0])?;
-    let before = state_text(rt.alloc(), &machine)?;
-    assert!(rt; step_and_back(&mut machine, turn(1)).is_ok());
-    let after = state_text(rt.alloc(), &machine)?;
-    assert!(rt; after.as_slice() == before.as_slice());
-    Ok(())
+fn an_arrival_is_taken_back(rt: HostRuntime) {
+    match met(rt.alloc(), &[0]) {
+        Some(mut machine) => assert!(rt; is_taken_back(rt.alloc(), &mut machine, turn(1))),
+        None => assert!(rt; false),
+    }
 }
 
 /// Plays a choice, and takes it back with what it returned. Returns how many steps were done meanwhile, or None if it is refused.
@@ -107,44 +134,89 @@ fn steps_meanwhile(machine: &mut Machine, choice: Choice) -> Option<u32> {
     Some(steps)
 }
 
+/// Returns whether a turn of the second thread is played and taken back, and one of a third thread refused.
+fn steps_and_comes_back(machine: &mut Machine) -> bool {
+    steps_meanwhile(machine, turn(1)) == Some(2)
+        && steps_meanwhile(machine, turn(2)).is_none()
+        && machine.steps() == 1
+}
+
 #[test]
-fn a_step_is_taken_back(rt: HostRuntime) -> Result<(), Fail> {
-    let mut machine = met(rt.alloc(), &[0])?;
-    assert!(rt; steps_meanwhile(&mut machine, turn(1)) == Some(2));
-    assert!(rt; steps_meanwhile(&mut machine, turn(2)).is_none());
-    assert!(rt; machine.steps() == 1);
-    Ok(())
+fn a_step_is_taken_back(rt: HostRuntime) {
+    match met(rt.alloc(), &[0]) {
+        Some(mut machine) => assert!(rt; steps_and_comes_back(&mut machine)),
+        None => assert!(rt; false),
+    }
+}
+
+/// Returns how many events choices have that are played and taken back, if none is refused.
+fn events(alloc: Global, debugger: &mut Debugger, choices: &[Choice]) -> Option<usize>
+    requires { length choices.now ≤ debugger.old.kept }
+{
+    match steps_and_backs(alloc, debugger, choices) {
+        Ok(events) => Some(events.len()),
+        Err(_) => None,
+    }
+}
+
+/// Returns whether six choices are played and taken back, and the machine then shows the same as before.
+fn are_taken_back(alloc: Global, debugger: &mut Debugger, choices: &[Choice]) -> bool
+    requires { length choices.now ≤ debugger.old.kept }
+{
+    match state_text(alloc, debugger.machine()) {
+        Ok(before) => {
+            events(alloc, debugger, choices) == Some(6)
+                && shows(alloc, debugger.machine(), before.as_slice())
+        }
+        Err(_) => false,
+    }
 }
 
 /// The whole meeting, and back to the moment at which the first thread waits.
-#[test]
-fn a_meeting_is_taken_back(rt: HostRuntime) -> Result<(), Fail> {
-    let alloc = rt.alloc();
-    let mut debugger = Debugger::new(alloc, met(alloc, &[0])?, 6)?;
-    let before = state_text(alloc, debugger.machine())?;
+fn is_meeting_taken_back(alloc: Global, machine: Machine) -> bool {
     let choices = [turn(1), turn(0), turn(0), turn(0), turn(1), turn(1)];
-    let events = steps_and_backs(alloc, &mut debugger, &choices);
-    assert!(rt; events.ok().ok_or("refused")?.len() == 6);
-    let after = state_text(alloc, debugger.machine())?;
-    assert!(rt; after.as_slice() == before.as_slice());
-    Ok(())
+    match Debugger::new(alloc, machine, 6) {
+        Ok(mut debugger) => are_taken_back(alloc, &mut debugger, &choices),
+        Err(_) => false,
+    }
 }
 
-/// A session that keeps one choice: a second step back finds none.
 #[test]
-fn a_session_steps_on_and_back(rt: HostRuntime) -> Result<(), Fail> {
-    let mut debugger = session::begin(rt.alloc(), met(rt.alloc(), &[])?, 1)?;
-    assert!(rt; session::step_on(&mut debugger, turn(0)).is_ok());
+fn a_meeting_is_taken_back(rt: HostRuntime) {
+    match met(rt.alloc(), &[0]) {
+        Some(machine) => assert!(rt; is_meeting_taken_back(rt.alloc(), machine)),
+        None => assert!(rt; false),
+    }
+}
+
+/// Returns whether a session that keeps one choice steps on twice and back once, and a second step back finds none.
+fn goes_on_and_back(debugger: &mut Debugger) -> bool {
     let run = Run {
         choice: turn(1),
         times: 1,
     };
-    assert!(rt; session::go(&mut debugger, &[run]) == Stop::End(1));
-    assert!(rt; session::present(&debugger).steps() == 2);
-    assert!(rt; session::step_back(&mut debugger).is_ok());
-    assert!(rt; session::step_back(&mut debugger).is_err());
-    assert!(rt; session::present(&debugger).steps() == 1);
-    Ok(())
+    session::step_on(debugger, turn(0)).is_ok()
+        && session::go(debugger, &[run]) == Stop::End(1)
+        && session::present(debugger).steps() == 2
+        && session::step_back(debugger).is_ok()
+        && session::step_back(debugger).is_err()
+        && session::present(debugger).steps() == 1
+}
+
+/// The session of the meeting that keeps one choice.
+fn begun(alloc: Global) -> Option<Debugger> {
+    match met(alloc, &[]) {
+        Some(machine) => session::begin(alloc, machine, 1).ok(),
+        None => None,
+    }
+}
+
+#[test]
+fn a_session_steps_on_and_back(rt: HostRuntime) {
+    match begun(rt.alloc()) {
+        Some(mut debugger) => assert!(rt; goes_on_and_back(&mut debugger)),
+        None => assert!(rt; false),
+    }
 }
 
 /// A call at the first phaser of a forest, if there is one.
@@ -212,43 +284,85 @@ fn a_text_shows_its_run(rt: HostRuntime) -> Result<(), Fail> {
     Ok(())
 }
 
-/// Its program's canonical text, which is assembled to the same image.
-#[test]
-fn its_program_is_listed(rt: HostRuntime) -> Result<(), Fail> {
-    let alloc = rt.alloc();
-    let listed: &[u8] = b".phaser p0 2\n.thread t0 #0\n.thread t1 #0\npaaa r0 #0\nout r0\nhalt\n";
-    let mut output = MemorySink::new(alloc, 1000, None)?;
-    assert!(rt; list(alloc, &image(alloc, MEETING)?, &mut output).is_ok());
-    assert!(rt; output.bytes() == listed);
-    let again = assemble(alloc, listed);
-    let text = disassemble(alloc, &again.ok().ok_or("not assembled")?)?;
-    assert!(rt; text.as_slice() == listed);
-    Ok(())
-}
+/// The meeting's canonical text.
+const LISTED: &[u8] = b".phaser p0 2\n.thread t0 #0\n.thread t1 #0\npaaa r0 #0\nout r0\nhalt\n";
 
-#[test]
-fn its_trace_is_found_the_same(rt: HostRuntime) -> Result<(), Fail> {
-    let alloc = rt.alloc();
-    let mut trace = MemorySource::new(TRACE, None);
-    let mut line = MemorySink::new(alloc, 100, None)?;
-    let verdict = compare(alloc, image(alloc, MEETING)?, &mut trace, &mut line);
-    assert!(rt; verdict.ok() == Some(Verdict::Same));
-    assert!(rt; line.bytes() == b"same\n".as_slice());
-    Ok(())
-}
-
-/// The first thread waits, so it can't go on.
-#[test]
-fn a_turn_is_recorded(rt: HostRuntime) -> Result<(), Fail> {
-    let mut journaled = begin(rt.alloc(), program_of(rt.alloc(), MEETING_TEXT)?, 10)?;
-    if journaled.thread_count() == 0 {
-        return Err("no thread".into());
+/// Returns whether an image is listed as the meeting's canonical text.
+fn is_listed(alloc: Global, image: &Image) -> bool {
+    match MemorySink::new(alloc, 1000, None) {
+        Ok(mut output) => list(alloc, image, &mut output).is_ok() && output.bytes() == LISTED,
+        Err(_) => false,
     }
-    assert!(rt; take_step(&mut journaled, 0).is_ok());
-    assert!(rt; take_step(&mut journaled, 0) == Err(TakeFault::NotReady));
-    assert!(rt; schedule(&journaled) == b"t0".as_slice());
-    assert!(rt; into_machine(journaled).steps() == 1);
-    Ok(())
+}
+
+/// Returns whether the canonical text of an image is the meeting's.
+fn is_disassembled(alloc: Global, image: &Image) -> bool {
+    match disassemble(alloc, image) {
+        Ok(text) => text.as_slice() == LISTED,
+        Err(_) => false,
+    }
+}
+
+#[test]
+fn its_program_is_listed(rt: HostRuntime) {
+    match image(rt.alloc(), MEETING) {
+        Some(image) => assert!(rt; is_listed(rt.alloc(), &image)),
+        None => assert!(rt; false),
+    }
+}
+
+/// Its program's canonical text is assembled to the same image.
+#[test]
+fn its_canonical_text_is_assembled(rt: HostRuntime) {
+    match assemble(rt.alloc(), LISTED) {
+        Ok(again) => assert!(rt; is_disassembled(rt.alloc(), &again)),
+        Err(_) => assert!(rt; false),
+    }
+}
+
+/// Returns whether the trace of an image's program is that of the meeting.
+fn is_found_the_same(alloc: Global, image: Image) -> bool {
+    let mut trace = MemorySource::new(TRACE, None);
+    let Ok(mut line) = MemorySink::new(alloc, 100, None) else {
+        return false;
+    };
+    let verdict = compare(alloc, image, &mut trace, &mut line);
+    verdict.ok() == Some(Verdict::Same) && line.bytes() == b"same\n".as_slice()
+}
+
+#[test]
+fn its_trace_is_found_the_same(rt: HostRuntime) {
+    match image(rt.alloc(), MEETING) {
+        Some(image) => assert!(rt; is_found_the_same(rt.alloc(), image)),
+        None => assert!(rt; false),
+    }
+}
+
+/// Returns whether a turn of the first thread is taken and recorded. Then the thread waits, so it can't go on.
+fn takes_one_turn(journaled: &mut Journaled) -> bool {
+    journaled.thread_count() > 0
+        && take_step(journaled, 0).is_ok()
+        && take_step(journaled, 0) == Err(TakeFault::NotReady)
+        && schedule(journaled) == b"t0".as_slice()
+}
+
+/// The record of the meeting before the first step.
+fn record_of_meeting(alloc: Global) -> Option<Journaled> {
+    match program_of(alloc, MEETING_TEXT) {
+        Some(program) => begin(alloc, program, 10).ok(),
+        None => None,
+    }
+}
+
+#[test]
+fn a_turn_is_recorded(rt: HostRuntime) {
+    match record_of_meeting(rt.alloc()) {
+        Some(mut journaled) => {
+            assert!(rt; takes_one_turn(&mut journaled));
+            assert!(rt; into_machine(journaled).steps() == 1);
+        }
+        None => assert!(rt; false),
+    }
 }
 
 /// One party meets itself, and a second one is registered, arrives and leaves.

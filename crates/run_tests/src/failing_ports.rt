@@ -2,9 +2,10 @@
 //! and the exit status and the line say whether a read or a write failed.
 use crate::programs::{MEETING, TRACE, image_of};
 use byte_ports::{MemorySink, MemorySource};
-use row_code::write_image;
-use std::alloc::Global;
-use std::test::Fail;
+use row_code::{Image, write_image};
+use std::alloc::{AllocError, Global};
+use std::sync::Wait;
+use std::thread::Threads;
 use trace_compare::{CompareFault, Verdict, compare};
 use trace_text::{RunFault, run_text};
 use workbench::{asm_cmd, both_cmd, compare_cmd, debug_cmd, list_cmd, live_cmd, race_cmd, run_cmd};
@@ -97,7 +98,7 @@ fn fails(port: Port, failing: Port, call: u32) -> Option<u32> {
 }
 
 /// Makes the call of a case. This port fails at its call of this number.
-fn made(alloc: Global, case: &Case, failing: Port, call: u32) -> Result<Came, Fail> {
+fn made(alloc: Global, case: &Case, failing: Port, call: u32) -> Result<Came, AllocError> {
     let mut file = MemorySource::new(case.file.as_bytes(), fails(Port::File, failing, call));
     let mut other = MemorySource::new(case.other, fails(Port::Other, failing, call));
     let mut output = MemorySink::new(alloc, 1000, fails(Port::Output, failing, call))?;
@@ -133,100 +134,120 @@ fn is_cut(case: &Case, came: &Came, failing: Port) -> bool {
 }
 
 /// Returns whether everything is right if this port fails at its call of this number: the first call fails if the port is used.
-fn is_right(alloc: Global, case: &Case, failing: Port, call: u32) -> Result<bool, Fail> {
-    let came = made(alloc, case, failing, call)?;
-    if call == 0 && (failing != Port::Other || !case.other.is_empty()) {
-        return Ok(is_cut(case, &came, failing));
-    }
-    Ok(is_whole(case, &came) || is_cut(case, &came, failing))
+fn is_right(alloc: Global, case: &Case, failing: Port, call: u32) -> bool {
+    let Ok(came) = made(alloc, case, failing, call) else {
+        return false;
+    };
+    let is_used = failing != Port::Other || !case.other.is_empty();
+    let may_be_whole = call > 0 || !is_used;
+    is_cut(case, &came, failing) || (may_be_whole && is_whole(case, &came))
 }
 
 #[test]
-fn a_port_that_fails_at_any_call_is_reported(rt: HostRuntime) -> Result<(), Fail> {
+fn a_port_that_fails_at_any_call_is_reported(rt: HostRuntime) {
     for case in &CASES {
         for call in 0..CALLS {
             for failing in &[Port::File, Port::Other, Port::Output] {
-                assert!(rt; is_right(rt.alloc(), case, *failing, call)?, "{call}");
+                assert!(rt; is_right(rt.alloc(), case, *failing, call), "{call}");
             }
         }
     }
-    Ok(())
 }
 
-/// Returns whether a run, its comparison and its image report that their port failed at this call, after a beginning of the
-/// whole, or else everything is there.
-fn are_right_below(alloc: Global, call: u32) -> Result<bool, Fail> {
-    let mut trace = MemorySink::new(alloc, 1000, Some(call))?;
+/// Returns whether a run reports that its trace failed at this call, after a beginning of the whole, or else everything is there.
+fn is_right_run(alloc: Global, call: u32) -> bool {
+    let Ok(mut trace) = MemorySink::new(alloc, 1000, Some(call)) else {
+        return false;
+    };
+    let Some(image) = image_of(alloc, MEETING) else {
+        return false;
+    };
     let mut schedule = MemorySource::new(SCHEDULE, None);
-    let written = match run_text(alloc, image_of(alloc, MEETING)?, &mut schedule, &mut trace) {
+    match run_text(alloc, image, &mut schedule, &mut trace) {
         Ok(()) => trace.bytes() == TRACE,
         Err(fault) => matches!(fault, RunFault::Write) && TRACE.starts_with(trace.bytes()),
+    }
+}
+
+/// Returns whether the comparison of a run reports that its port failed at this call, or else has a verdict.
+fn is_right_verdict(alloc: Global, call: u32) -> bool {
+    let Some(image) = image_of(alloc, MEETING) else {
+        return false;
     };
     let mut seen = MemorySource::new(TRACE, Some(call));
-    let compared = match compare(alloc, image_of(alloc, MEETING)?, &mut seen) {
+    match compare(alloc, image, &mut seen) {
         Ok(verdict) => verdict == Verdict::Same,
         Err(fault) => matches!(fault, CompareFault::Read),
-    };
-    let mut image = MemorySink::new(alloc, 1000, Some(call))?;
-    let is_made = write_image(
-        &image_of(alloc, ".thread a main\nmain: halt\n")?,
-        &mut image,
-    )
-    .is_ok();
-    Ok(
-        written
-            && compared
-            && HALT.starts_with(image.bytes())
-            && (is_made == (image.bytes() == HALT)),
-    )
-}
-
-#[test]
-fn what_the_commands_stand_on_reports_it_too(rt: HostRuntime) -> Result<(), Fail> {
-    for call in 0..CALLS {
-        assert!(rt; are_right_below(rt.alloc(), call)?, "{call}");
     }
-    Ok(())
+}
+
+/// Returns whether the image of `halt` reports that its port failed at this call, after a beginning of the whole, or else
+/// everything is there.
+fn is_written(alloc: Global, image: &Image, call: u32) -> bool {
+    match MemorySink::new(alloc, 1000, Some(call)) {
+        Ok(mut output) => {
+            let is_made = write_image(image, &mut output).is_ok();
+            HALT.starts_with(output.bytes()) && is_made == (output.bytes() == HALT)
+        }
+        Err(_) => false,
+    }
+}
+
+fn is_right_image(alloc: Global, call: u32) -> bool {
+    match image_of(alloc, ".thread a main\nmain: halt\n") {
+        Some(image) => is_written(alloc, &image, call),
+        None => false,
+    }
 }
 
 #[test]
-fn the_commands_of_threads_are_played(rt: HostRuntime) -> Result<(), Fail> {
-    let alloc = rt.alloc();
-    let mut file = MemorySource::new(
-        b".phaser p 2\n.thread a main\nmain: paaa r0 p\nhalt\n",
-        None,
-    );
-    let mut output = MemorySink::new(alloc, 1000, None)?;
-    let mut errors = MemorySink::new(alloc, 100, None)?;
-    let status = live_cmd(&rt, alloc, 1000, &mut file, &mut output, &mut errors);
-    assert!(rt; status == 0, "live");
+fn what_the_commands_stand_on_reports_it_too(rt: HostRuntime) {
+    for call in 0..CALLS {
+        let is_right = is_right_run(rt.alloc(), call)
+            && is_right_verdict(rt.alloc(), call)
+            && is_right_image(rt.alloc(), call);
+        assert!(rt; is_right, "{call}");
+    }
+}
+
+/// Returns whether a lonely thread is played by real threads until it is stuck.
+fn is_played_live<R: Threads + Wait + Sync>(rt: &R, alloc: Global) -> Result<bool, AllocError> {
+    let text = b".phaser p 2\n.thread a main\nmain: paaa r0 p\nhalt\n";
     let trace: &[u8] =
         b"1 t0 0 wait\nstate 1 1 stuck\nt0 0 waits 0 regs 0 0 0 0 0 0 0 0 stack out\np0 0 2 1 1\n";
-    assert!(rt; output.bytes() == trace, "the trace");
+    let mut file = MemorySource::new(text, None);
+    let mut output = MemorySink::new(alloc, 1000, None)?;
+    let mut errors = MemorySink::new(alloc, 100, None)?;
+    let status = live_cmd(rt, alloc, 1000, &mut file, &mut output, &mut errors);
+    Ok(status == 0 && output.bytes() == trace)
+}
+
+/// Returns whether a race of two parties writes its line.
+fn is_raced<R: Threads + Wait + Sync>(rt: &R, alloc: Global) -> Result<bool, AllocError> {
     let mut line = MemorySink::new(alloc, 100, None)?;
-    let status = race_cmd(&rt, alloc, 2, 1000, &mut line, &mut errors);
-    assert!(rt; status == 0, "race");
-    assert!(rt;
-        line.bytes() == b"phase 1000 parties 2 unarrived 2\n".as_slice(),
-        "the line"
-    );
-    Ok(())
+    let mut errors = MemorySink::new(alloc, 100, None)?;
+    let status = race_cmd(rt, alloc, 2, 1000, &mut line, &mut errors);
+    Ok(status == 0 && line.bytes() == b"phase 1000 parties 2 unarrived 2\n".as_slice())
 }
 
 #[test]
-fn an_arrival_at_a_phaser_without_parties_throws(rt: HostRuntime) -> Result<(), Fail> {
+fn the_commands_of_threads_are_played(rt: HostRuntime) {
+    assert!(rt; is_played_live(&rt, rt.alloc()) == Ok(true), "live");
+    assert!(rt; is_raced(&rt, rt.alloc()) == Ok(true), "race");
+}
+
+/// Returns whether bytes are the lines of an arrival that throws, and its phaser as it was.
+fn is_thrown(bytes: &[u8]) -> bool {
+    bytes.starts_with(b"1 t0 0 throw 1\nstate 1 1 live\n") && bytes.ends_with(b"\np0 0 0 0 0\n")
+}
+
+#[test]
+fn an_arrival_at_a_phaser_without_parties_throws(rt: HostRuntime) -> Result<(), AllocError> {
     let text = b".phaser p 0\n.thread a main\nmain: parr r0 p\nhalt\n.run\nt0\n";
     let mut input = MemorySource::new(text, None);
     let mut output = MemorySink::new(rt.alloc(), 1000, None)?;
     let mut errors = MemorySink::new(rt.alloc(), 100, None)?;
     let status = both_cmd(rt.alloc(), &mut input, &mut output, &mut errors);
-    assert!(rt; status == 0, "the status");
-    assert!(rt;
-        output
-            .bytes()
-            .starts_with(b"1 t0 0 throw 1\nstate 1 1 live\n"),
-        "the event"
-    );
-    assert!(rt; output.bytes().ends_with(b"\np0 0 0 0 0\n"), "the phaser");
+    assert!(rt; status == 0 && is_thrown(output.bytes()));
     Ok(())
 }

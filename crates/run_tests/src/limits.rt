@@ -1,6 +1,8 @@
 //! The limits of a machine.
+ghost use Rattle.std.specs.Prelude.{◌≤◌};
+
 use crate::programs::{MEETING, program_of};
-use std::test::Fail;
+use std::alloc::Global;
 use thread_machine::{Choice, Machine, StepFault, What};
 
 const TURN: Choice = Choice {
@@ -30,12 +32,22 @@ fn ends_at_the_most(machine: &mut Machine) -> bool {
         && machine.step(EXPIRY) == Err(StepFault::StepLimit)
 }
 
+/// The machine of a text, with this limit of steps.
+fn machine_of(alloc: Global, text: &str, limit: u32) -> Option<Machine>
+    requires { limit ≤ 1000000000 }
+{
+    match program_of(alloc, text) {
+        Some(program) => Machine::new(alloc, program, limit).ok(),
+        None => None,
+    }
+}
+
 #[test]
-fn idle_choices_end_at_the_most(rt: HostRuntime) -> Result<(), Fail> {
-    let program = program_of(rt.alloc(), MEETING)?;
-    let mut machine = Machine::new(rt.alloc(), program, 9)?;
-    assert!(rt; ends_at_the_most(&mut machine));
-    Ok(())
+fn idle_choices_end_at_the_most(rt: HostRuntime) {
+    match machine_of(rt.alloc(), MEETING, 9) {
+        Some(mut machine) => assert!(rt; ends_at_the_most(&mut machine)),
+        None => assert!(rt; false),
+    }
 }
 
 /// A thread, whether its wait expires, and the result once all three steps are used.
@@ -63,13 +75,20 @@ fn refuses(machine: &mut Machine) -> bool {
     machine.choices() == 5 && machine.steps() == 3
 }
 
-#[test]
-fn steps_end_at_the_limit(rt: HostRuntime) -> Result<(), Fail> {
-    let program = program_of(rt.alloc(), ".thread a m\n.thread b m\nm: jmp m\n")?;
-    let mut machine = Machine::new(rt.alloc(), program, 3)?;
-    for _ in 0..3 {
-        assert!(rt; machine.step(TURN).is_ok());
+/// Returns whether so many turns of thread 0 are played.
+fn plays(machine: &mut Machine, turns: u32) -> bool {
+    for _ in 0..turns {
+        if machine.step(TURN).is_err() {
+            return false;
+        }
     }
-    assert!(rt; refuses(&mut machine));
-    Ok(())
+    true
+}
+
+#[test]
+fn steps_end_at_the_limit(rt: HostRuntime) {
+    match machine_of(rt.alloc(), ".thread a m\n.thread b m\nm: jmp m\n", 3) {
+        Some(mut machine) => assert!(rt; plays(&mut machine, 3) && refuses(&mut machine)),
+        None => assert!(rt; false),
+    }
 }

@@ -1,5 +1,5 @@
 //! Lines with numbers that no run reaches, after what is already there.
-use std::test::Fail;
+use std::alloc::AllocError;
 use thread_machine::{Choice, Event, Mark, What};
 use trace_text::line::{event_line, refusal_line};
 
@@ -13,9 +13,8 @@ const EXPIRY: Choice = Choice {
     expiry: true,
 };
 
-#[test]
-fn a_line_comes_after_what_is_there(rt: HostRuntime) -> Result<(), Fail> {
-    let mut line = Vec::new(rt.alloc());
+/// Appends the line of an event and those of two refusals.
+fn append(text: &mut Vec<u8>) -> Result<(), AllocError> {
     let event = Event {
         what: What::Out(i32::MIN),
         mark: Mark::Phase {
@@ -23,11 +22,16 @@ fn a_line_comes_after_what_is_there(rt: HostRuntime) -> Result<(), Fail> {
             view: i32::MAX,
         },
     };
-    event_line(&mut line, 999_999_999_999, CHOICE, 65534, &event)?;
-    refusal_line(&mut line, 1_000_000_000_000, CHOICE, Some(65535))?;
-    refusal_line(&mut line, 1, EXPIRY, None)?;
+    event_line(text, 999_999_999_999, CHOICE, 65534, &event)?;
+    refusal_line(text, 1_000_000_000_000, CHOICE, Some(65535))?;
+    refusal_line(text, 1, EXPIRY, None)
+}
+
+#[test]
+fn a_line_comes_after_what_is_there(rt: HostRuntime) {
     let expected = b"999999999999 t63 65534 out -2147483648 +p63 2147483647\n\
 1000000000000 t63 65535 limit\n1 x0 - none\n";
-    assert_eq!(rt; line.as_slice(), expected.as_slice());
-    Ok(())
+    let mut text = Vec::new(rt.alloc());
+    let is_appended = append(&mut text).is_ok();
+    assert!(rt; is_appended && text.as_slice() == expected.as_slice());
 }

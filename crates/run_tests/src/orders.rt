@@ -1,8 +1,7 @@
 use crate::programs::program_of;
-use std::alloc::Global;
+use std::alloc::{AllocError, Global};
 use std::sync::Wait;
 use std::sync::atomic::{AtomicBool, AtomicU32, Ordering};
-use std::test::Fail;
 use std::thread;
 use std::thread::Threads;
 use thread_runner::{Ending, Gate, LiveRun, run_live};
@@ -105,15 +104,37 @@ impl Gate for Script {
     }
 }
 
-/// A live run of a text's program.
-fn run<R: Threads + Wait + Sync, G: Gate + Sync>(
+/// What a run comes to whose threads have all ended.
+#[derive(Clone, Copy)]
+enum Came<'a> {
+    Schedule(&'a str),
+    Steps(u32),
+}
+
+/// Returns whether the threads of a run have all ended, and it came to this.
+fn comes_to(run: &LiveRun, came: Came) -> bool {
+    let is_it = match came {
+        Came::Schedule(order) => run.schedule.as_slice() == order.as_bytes(),
+        Came::Steps(steps) => run.machine.steps() == steps,
+    };
+    is_it && run.ending == Ending::AllEnded
+}
+
+/// Returns whether a live run of a text's program is not broken off, its threads all end, and it comes to this.
+fn runs<R: Threads + Wait + Sync, G: Gate + Sync>(
     rt: &R,
     alloc: Global,
     text: &str,
     gate: &G,
-) -> Result<LiveRun, Fail> {
-    let run = run_live(rt, alloc, program_of(alloc, text)?, 1_000_000, gate);
-    Ok(run.ok().ok_or("the run was broken off")?)
+    came: Came,
+) -> bool {
+    let Some(program) = program_of(alloc, text) else {
+        return false;
+    };
+    match run_live(rt, alloc, program, 1_000_000, gate) {
+        Ok(run) => comes_to(&run, came),
+        Err(_) => false,
+    }
 }
 
 const TWO: &str = ".thread a m\n.thread b m\nm: ldi r0 1\nldi r0 2\nhalt\n";
@@ -140,19 +161,16 @@ static ORDERS: [(&str, &str); 12] = [
 ];
 
 #[test]
-fn workers_step_in_the_order_that_a_gate_forces(rt: HostRuntime) -> Result<(), Fail> {
+fn workers_step_in_the_order_that_a_gate_forces(rt: HostRuntime) {
     for (text, schedule) in &ORDERS {
         let gate = Script::of(schedule);
-        let run = run(&rt, rt.alloc(), text, &gate)?;
-        assert!(rt; !gate.failed.load(Ordering::SeqCst));
-        assert!(rt; run.ending == Ending::AllEnded);
-        assert!(rt; run.schedule.as_slice() == schedule.as_bytes());
+        let ran = runs(&rt, rt.alloc(), text, &gate, Came::Schedule(schedule));
+        assert!(rt; ran && !gate.failed.load(Ordering::SeqCst), "{schedule}");
     }
-    Ok(())
 }
 
 /// So many threads that meet at one phaser.
-fn crowd(alloc: Global, threads: u8) -> Result<String, Fail> {
+fn crowd(alloc: Global, threads: u8) -> Result<String, AllocError> {
     let mut text = String::new(alloc);
     write!(text, ".phaser p {threads}\n")?;
     for t in 0..threads {
@@ -163,12 +181,10 @@ fn crowd(alloc: Global, threads: u8) -> Result<String, Fail> {
 }
 
 #[test]
-fn sixty_four_workers_run_at_once(rt: HostRuntime) -> Result<(), Fail> {
+fn sixty_four_workers_run_at_once(rt: HostRuntime) -> Result<(), AllocError> {
     let text = crowd(rt.alloc(), 64)?;
     let gate = Meeting::of(64);
-    let run = run(&rt, rt.alloc(), text.as_str(), &gate)?;
-    assert!(rt; !gate.failed.load(Ordering::SeqCst));
-    assert!(rt; run.ending == Ending::AllEnded);
-    assert!(rt; run.machine.steps() == 191);
+    let ran = runs(&rt, rt.alloc(), text.as_str(), &gate, Came::Steps(191));
+    assert!(rt; ran && !gate.failed.load(Ordering::SeqCst));
     Ok(())
 }

@@ -3,8 +3,8 @@
 use plans::fault::PlanFault;
 use plans::read_plan;
 use plans::word::{Chosen, Rule, Step, Word};
+use plans::words::Words;
 use std::alloc::Global;
-use std::test::Fail;
 
 /// The line and the number of a plan's fault, for the threads ann, xavier and bob.
 fn told(alloc: Global, text: &[u8]) -> Option<(u64, Option<u8>)> {
@@ -15,26 +15,30 @@ fn told(alloc: Global, text: &[u8]) -> Option<(u64, Option<u8>)> {
     }
 }
 
+/// A plan's text, and the line and the number of its fault.
+static FAULTS: [(&[u8], u64, u8); 12] = [
+    (b"ann\n3", 2, 1),
+    (b"ann.*3", 1, 1),
+    (b"x0.", 1, 1),
+    (b"; first\n\nann*0", 3, 2),
+    (b"ann*01", 1, 2),
+    (b"?18446744073709551616", 1, 3),
+    (b"carl", 1, 4),
+    (b"ann t3", 1, 5),
+    (b"((((((((((((((((\n(", 2, 6),
+    (b"(ann))", 1, 7),
+    (b"ann\n(\n(bob", 2, 8),
+    (b"(carl", 1, 4),
+];
+
 #[test]
-fn faults(rt: HostRuntime) -> Result<(), Fail> {
-    let rows: [(&[u8], u64, u8); 12] = [
-        (b"ann\n3", 2, 1),
-        (b"ann.*3", 1, 1),
-        (b"x0.", 1, 1),
-        (b"; first\n\nann*0", 3, 2),
-        (b"ann*01", 1, 2),
-        (b"?18446744073709551616", 1, 3),
-        (b"carl", 1, 4),
-        (b"ann t3", 1, 5),
-        (b"((((((((((((((((\n(", 2, 6),
-        (b"(ann))", 1, 7),
-        (b"ann\n(\n(bob", 2, 8),
-        (b"(carl", 1, 4),
-    ];
-    for (text, line, number) in rows {
-        assert_eq!(rt; told(rt.alloc(), text), Some((line, Some(number))));
+fn faults(rt: HostRuntime) {
+    for (text, line, number) in &FAULTS {
+        assert!(rt;
+            told(rt.alloc(), text) == Some((*line, Some(*number))),
+            "{line} {number}"
+        );
     }
-    Ok(())
 }
 
 fn turn(thread: u8, times: u32) -> Word {
@@ -61,9 +65,27 @@ fn expiry(thread: u8, times: u32) -> Word {
     })
 }
 
-#[test]
-fn words(rt: HostRuntime) -> Result<(), Fail> {
+/// Returns whether a text is read as a plan of these words, for the threads ann, xavier and bob.
+fn is_read_as(alloc: Global, text: &[u8], wanted: &[Word]) -> bool {
     let names: [&[u8]; 3] = [b"ann", b"xavier", b"bob"];
+    match read_plan(alloc, text, &names) {
+        Ok(words) => has_words(&words, wanted),
+        Err(_) => false,
+    }
+}
+
+fn has_words(words: &Words, wanted: &[Word]) -> bool {
+    let mut left = words.all();
+    for word in wanted {
+        if left.next() != Some(*word) {
+            return false;
+        }
+    }
+    left.next().is_none()
+}
+
+#[test]
+fn words(rt: HostRuntime) {
     let text =
         b"(t2 ann*3)*2 bob. xavier xann x2;x9\r\n\t..*5 ?7()?256*9 ..(x1*1000000)*1 ?255*2\n?18446744073709551615*1";
     let wanted = [
@@ -87,15 +109,5 @@ fn words(rt: HostRuntime) -> Result<(), Fail> {
         rule(Rule::BySeed(255), Some(2)),
         rule(Rule::BySeed(u64::MAX), Some(1)),
     ];
-    match read_plan(rt.alloc(), text, &names) {
-        Ok(words) => {
-            let mut left = words.all();
-            for wanted in wanted.iter() {
-                assert_eq!(rt; left.next(), Some(*wanted));
-            }
-            assert!(rt; left.next().is_none());
-        }
-        Err(_) => assert!(rt; false),
-    }
-    Ok(())
+    assert!(rt; is_read_as(rt.alloc(), text, &wanted));
 }

@@ -13,7 +13,7 @@ type Example = (
     Result<(), ScheduleFault>,
 );
 
-const EXAMPLES: [Example; 26] = [
+static EXAMPLES: [Example; 26] = [
     ("", &[], Ok(())),
     (" \t\r\n", &[], Ok(())),
     ("t12*3", &[(false, 12, 3)], Ok(())),

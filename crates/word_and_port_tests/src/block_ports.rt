@@ -1,12 +1,12 @@
 //! Sinks that pass on blocks.
 use byte_ports::{BlockPort, MemorySink, Sink};
-use std::test::Fail;
+use std::alloc::Global;
 
 /// How many bytes a block has.
 const BLOCK: usize = 65_536;
 
 /// How many bytes a push has, and how often it is made.
-const PUSHES: [(usize, usize); 7] = [
+static PUSHES: [(usize, usize); 7] = [
     (0, 3),
     (1, BLOCK),
     (1, BLOCK + 1),
@@ -16,22 +16,47 @@ const PUSHES: [(usize, usize); 7] = [
     (BLOCK + 1, 2),
 ];
 
-#[test]
-fn blocks_are_handed_on(rt: HostRuntime) -> Result<(), Fail> {
-    for (length, times) in PUSHES.iter() {
-        let piece = Vec::from_elem(rt.alloc(), b'a', *length)?;
-        let sink = MemorySink::new(rt.alloc(), 3 * BLOCK, None)?;
-        let mut port = BlockPort::new(rt.alloc(), sink)?;
-        let mut is_taken = true;
-        for _ in 0..*times {
-            is_taken = is_taken && port.push(piece.as_slice()).is_ok();
+/// Returns whether a port takes a piece so often.
+fn takes(port: &mut BlockPort<MemorySink>, piece: &[u8], times: usize) -> bool {
+    for _ in 0..times {
+        if port.push(piece).is_err() {
+            return false;
         }
-        assert!(rt; is_taken);
-        let all = length.saturating_mul(*times);
-        match port.into_inner() {
-            Ok(sink) => assert_eq!(rt; sink.bytes().len(), all),
+    }
+    true
+}
+
+/// Returns how many bytes a port has handed on at its end, if it does not fail.
+fn handed_on(port: BlockPort<MemorySink>) -> Option<usize> {
+    match port.into_inner() {
+        Ok(sink) => Some(sink.bytes().len()),
+        Err(_) => None,
+    }
+}
+
+/// A port over a sink with room for three blocks.
+fn block_port(alloc: Global) -> Option<BlockPort<MemorySink>> {
+    match MemorySink::new(alloc, 3 * BLOCK, None) {
+        Ok(sink) => BlockPort::new(alloc, sink).ok(),
+        Err(_) => None,
+    }
+}
+
+/// Returns whether a port takes a piece so often, and hands all of it on.
+fn hands_on(alloc: Global, piece: &[u8], times: usize) -> bool {
+    let Some(mut port) = block_port(alloc) else {
+        return false;
+    };
+    let is_taken = takes(&mut port, piece, times);
+    handed_on(port) == Some(piece.len().saturating_mul(times)) && is_taken
+}
+
+#[test]
+fn blocks_are_handed_on(rt: HostRuntime) {
+    for (length, times) in &PUSHES {
+        match Vec::from_elem(rt.alloc(), b'a', *length) {
+            Ok(piece) => assert!(rt; hands_on(rt.alloc(), piece.as_slice(), *times), "{length}"),
             Err(_) => assert!(rt; false),
         }
     }
-    Ok(())
 }

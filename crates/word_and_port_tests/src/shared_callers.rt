@@ -10,13 +10,12 @@ use phase_number::Phase;
 use shared_phaser::{Call, NewFault, NotThere, Party, Reply, SharedPhaser};
 use std::alloc::Global;
 use std::sync::Wait;
-use std::test::Fail;
 use std::thread::{Threads, join};
 
 /// A phaser as it is made, one call, its result, and what it leaves.
 type Row = (u16, i32, Policy, Call, Reply, u64);
 
-const ROWS: [Row; 12] = [
+static ROWS: [Row; 12] = [
     (65535, 0, Default, Register(1), TooMany, 0xffffffff),
     (65535, 0, Default, Register(0), Counted(0), 0xffffffff),
     (1, 7, Default, Register(2), Counted(7), 0x700030003),
@@ -45,10 +44,10 @@ const ROWS: [Row; 12] = [
     (2, 3, Default, Force, Dead(-2147483645), 0x8000000300020002),
 ];
 
-fn made(alloc: Global, parties: u16, policy: Policy) -> Result<(SharedPhaser, Party), Fail>
+fn made(alloc: Global, parties: u16, policy: Policy) -> Result<(SharedPhaser, Party), NewFault>
     ensures { IfOk result (λ r. (phaser_of r.1 ≡ r.0) × (r.1.known.number ≡ 0)) }
 {
-    Ok(SharedPhaser::new(alloc, parties, policy, Phase::prevailing(0))?)
+    SharedPhaser::new(alloc, parties, policy, Phase::prevailing(0))
 }
 
 /// Returns the result of one try of a call, or `None` if the call isn't one that never waits.
@@ -79,31 +78,46 @@ fn called<R: Wait>(rt: &R, phaser: &SharedPhaser, party: &mut Party, call: Call)
     }
 }
 
-fn holds<R: Wait>(rt: &R, alloc: Global, row: &Row, waits: bool) -> Result<bool, Fail> {
-    let (parties, phase, policy, call, reply, word) = *row;
-    let (phaser, mut party) = SharedPhaser::new(alloc, parties, policy, Phase::prevailing(phase))?;
-    let answered = if waits {
-        called(rt, &phaser, &mut party, call)
+/// Returns the result of the call that takes `Wait`, or that of one try.
+fn answered<R: Wait>(
+    rt: &R,
+    phaser: &SharedPhaser,
+    party: &mut Party,
+    call: Call,
+    waits: bool,
+) -> Option<Reply>
+    requires { phaser_of party.old ≡ phaser.now }
+    ensures { phaser_of party.new ≡ phaser.now }
+{
+    if waits {
+        called(rt, phaser, party, call)
     } else {
-        tried(&phaser, &mut party, call)
-    };
-    Ok(answered == Some(reply) && phaser.look(&mut party).raw() == word)
+        tried(phaser, party, call)
+    }
+}
+
+fn holds<R: Wait>(rt: &R, alloc: Global, row: &Row, waits: bool) -> bool {
+    let (parties, phase, policy, call, reply, word) = *row;
+    match SharedPhaser::new(alloc, parties, policy, Phase::prevailing(phase)) {
+        Ok((phaser, mut party)) => {
+            answered(rt, &phaser, &mut party, call, waits) == Some(reply)
+                && phaser.look(&mut party).raw() == word
+        }
+        Err(_) => false,
+    }
 }
 
 #[test]
-fn single_calls(rt: HostRuntime) -> Result<(), Fail> {
+fn single_calls(rt: HostRuntime) {
     for row in &ROWS {
-        let within = holds(&rt, rt.alloc(), row, false)?;
-        assert!(rt; within && holds(&rt, rt.alloc(), row, true)?);
+        assert!(rt; holds(&rt, rt.alloc(), row, false) && holds(&rt, rt.alloc(), row, true));
     }
-    Ok(())
 }
 
 #[test]
 fn a_routine_is_refused(rt: HostRuntime) {
     let refused = SharedPhaser::new(rt.alloc(), 1, Policy::Routine, Phase::prevailing(0));
-    let fault = refused.err();
-    assert_eq!(rt; fault, Some(NewFault::RoutinePolicy));
+    assert!(rt; refused.err() == Some(NewFault::RoutinePolicy));
 }
 
 /// A phaser as it is made, and calls one after the other, each with its result and what it leaves.
@@ -146,18 +160,19 @@ fn go_on(phaser: &SharedPhaser, party: &mut Party, calls: &[(Call, Reply, u64)])
 }
 
 /// Returns whether the calls of a session have their results.
-fn goes_so(alloc: Global, session: &Session) -> Result<bool, Fail> {
+fn goes_so(alloc: Global, session: &Session) -> bool {
     let (parties, phase, policy, calls) = *session;
-    let (phaser, mut party) = SharedPhaser::new(alloc, parties, policy, Phase::prevailing(phase))?;
-    Ok(go_on(&phaser, &mut party, calls))
+    match SharedPhaser::new(alloc, parties, policy, Phase::prevailing(phase)) {
+        Ok((phaser, mut party)) => go_on(&phaser, &mut party, calls),
+        Err(_) => false,
+    }
 }
 
 #[test]
-fn calls_in_a_row(rt: HostRuntime) -> Result<(), Fail> {
+fn calls_in_a_row(rt: HostRuntime) {
     for session in &SESSIONS {
-        assert!(rt; goes_so(rt.alloc(), session)?);
+        assert!(rt; goes_so(rt.alloc(), session));
     }
-    Ok(())
 }
 
 /// Returns whether each call on a phaser that was terminated in phase 0 has this result.
@@ -170,10 +185,11 @@ fn stays_terminated<R: Wait>(rt: &R, phaser: &SharedPhaser, party: &mut Party) -
 }
 
 #[test]
-fn a_terminated_phaser_stays_so(rt: HostRuntime) -> Result<(), Fail> {
-    let (phaser, mut party) = made(rt.alloc(), 2, Default)?;
-    assert!(rt; stays_terminated(&rt, &phaser, &mut party));
-    Ok(())
+fn a_terminated_phaser_stays_so(rt: HostRuntime) {
+    match made(rt.alloc(), 2, Default) {
+        Ok((phaser, mut party)) => assert!(rt; stays_terminated(&rt, &phaser, &mut party)),
+        Err(_) => assert!(rt; false),
+    }
 }
 
 /// Returns whether the waits of the only party end at once.
@@ -187,49 +203,65 @@ fn waits_for_nobody<R: Wait>(rt: &R, phaser: &SharedPhaser, party: &mut Party) -
 }
 
 #[test]
-fn waits_that_are_over(rt: HostRuntime) -> Result<(), Fail> {
-    let (phaser, mut party) = made(rt.alloc(), 1, Default)?;
-    assert!(rt; waits_for_nobody(&rt, &phaser, &mut party));
-    Ok(())
+fn waits_that_are_over(rt: HostRuntime) {
+    match made(rt.alloc(), 1, Default) {
+        Ok((phaser, mut party)) => assert!(rt; waits_for_nobody(&rt, &phaser, &mut party)),
+        Err(_) => assert!(rt; false),
+    }
 }
 
 #[test]
-fn a_stray_cannot_wait(rt: HostRuntime) -> Result<(), Fail> {
-    let (phaser, mut party) = made(rt.alloc(), 0, Default)?;
-    let answer = phaser.arrive_and_await_advance(&rt, &mut party);
-    assert!(rt; answer == Err(NotThere));
-    Ok(())
+fn a_stray_cannot_wait(rt: HostRuntime) {
+    match made(rt.alloc(), 0, Default) {
+        Ok((phaser, mut party)) => {
+            let answer = phaser.arrive_and_await_advance(&rt, &mut party);
+            assert!(rt; answer == Err(NotThere));
+        }
+        Err(_) => assert!(rt; false),
+    }
+}
+
+/// Returns whether a second caller registers two parties beside the only one, and the first caller sees three.
+fn counts_three(phaser: &SharedPhaser, first: &mut Party) -> bool
+    requires first { first.old.known.number ≡ 0 }
+    requires phaser { phaser_of first.old ≡ phaser.now }
+{
+    let mut second = phaser.split(first);
+    phaser.register_within(&mut second, 2, 1) == Ok(Counted(0)) && phaser.look(first).parties() == 3
 }
 
 #[test]
-fn two_callers_of_one_phaser(rt: HostRuntime) -> Result<(), Fail> {
-    let (phaser, mut first) = made(rt.alloc(), 1, Default)?;
-    let mut second = phaser.split(&mut first);
-    let reply = phaser.register_within(&mut second, 2, 1);
-    assert_eq!(rt; reply, Ok(Counted(0)));
-    assert_eq!(rt; phaser.look(&mut first).parties(), 3);
-    Ok(())
+fn two_callers_of_one_phaser(rt: HostRuntime) {
+    match made(rt.alloc(), 1, Default) {
+        Ok((phaser, mut first)) => assert!(rt; counts_three(&phaser, &mut first)),
+        Err(_) => assert!(rt; false),
+    }
 }
 
 /// Returns the word of a phaser of two parties that was closed after one arrival of each of two callers.
-fn word_of_two(alloc: Global) -> Result<Option<u64>, Fail> {
-    let (phaser, mut first) = made(alloc, 2, Default)?;
+fn word_of_two(alloc: Global) -> Option<u64> {
+    let (phaser, mut first) = made(alloc, 2, Default).ok()?;
     let mut second = phaser.split(&mut first);
     let arrived = Ok(Counted(0));
     let both = phaser.arrive_within(&mut first, false, 1) == arrived
         && phaser.arrive_within(&mut second, false, 1) == arrived;
     phaser.join(&mut first, second);
     let word = phaser.close(first).raw();
-    Ok(if both { Some(word) } else { None })
+    if both { Some(word) } else { None }
+}
+
+/// Returns the word of a phaser of two parties that was closed before any call.
+fn word_of_none(alloc: Global) -> Option<u64> {
+    match made(alloc, 2, Default) {
+        Ok((phaser, first)) => Some(phaser.close(first).raw()),
+        Err(_) => None,
+    }
 }
 
 #[test]
-fn closed_words(rt: HostRuntime) -> Result<(), Fail> {
-    assert!(rt; word_of_two(rt.alloc())? == Some(0x100020002));
-    let (phaser, first) = made(rt.alloc(), 2, Default)?;
-    let word = phaser.close(first).raw();
-    assert!(rt; word == 0x20002);
-    Ok(())
+fn closed_words(rt: HostRuntime) {
+    assert!(rt; word_of_two(rt.alloc()) == Some(0x100020002));
+    assert!(rt; word_of_none(rt.alloc()) == Some(0x20002));
 }
 
 /// One thread waits for the end of phase 0, and another one makes the call.
@@ -237,13 +269,13 @@ fn released<R: Threads + Wait + Sync>(
     rt: &R,
     alloc: Global,
     call: Call,
-) -> Result<(i32, Option<Reply>), Fail> {
-    let (phaser, mut first) = made(alloc, 1, Default)?;
+) -> Option<(i32, Option<Reply>)> {
+    let (phaser, mut first) = made(alloc, 1, Default).ok()?;
     let mut second = phaser.split(&mut first);
     let shared = &phaser;
     let waiting = &mut first;
     let calling = &mut second;
-    Ok(join(
+    Some(join(
         rt,
         move || shared.await_advance(rt, waiting, 0),
         move || called(rt, shared, calling, call),
@@ -251,17 +283,16 @@ fn released<R: Threads + Wait + Sync>(
 }
 
 /// The call, its result, and what the waiting thread gets.
-const RELEASING: [(Call, Reply, i32); 3] = [
+static RELEASING: [(Call, Reply, i32); 3] = [
     (Arrive(false), Counted(0), 1),
     (Arrive(true), Counted(0), -2147483647),
     (Force, Dead(-2147483648), -2147483648),
 ];
 
 #[test]
-fn who_waits_is_released(rt: HostRuntime) -> Result<(), Fail> {
+fn who_waits_is_released(rt: HostRuntime) {
     for (call, reply, told) in &RELEASING {
-        let (waiter, caller) = released(&rt, rt.alloc(), *call)?;
-        assert!(rt; waiter == *told && caller == Some(*reply), "{told}");
+        let both = released(&rt, rt.alloc(), *call);
+        assert!(rt; both == Some((*told, Some(*reply))), "{told}");
     }
-    Ok(())
 }

@@ -56,7 +56,7 @@ impl Read for FakeReader<'_> {
 
 /// The reader's call that fails, how many of six calls of the port come before it, what those returned, and how often the
 /// reader was called.
-const FAILING_READS: [(Option<u32>, usize, &[u8; 13], u32); 6] = [
+static FAILING_READS: [(Option<u32>, usize, &[u8; 13], u32); 6] = [
     (Some(0), 0, b".............", 1),
     (Some(1), 1, b"a............", 2),
     (Some(2), 2, b"ab...........", 3),
@@ -85,14 +85,14 @@ fn fails_with_its_reader(rt: HostRuntime) {
             calls: Calls::new(0, *fails_at),
         };
         let mut port = ReadPort::new(&mut reader);
-        assert!(rt; gives(&mut port, *succeeding, *bytes), "{fails_at:?}");
-        assert!(rt; reader.calls.made == *calls, "{fails_at:?}");
+        let gives = gives(&mut port, *succeeding, *bytes);
+        assert!(rt; gives && reader.calls.made == *calls, "{calls}");
     }
 }
 
 /// How many calls of the reader are interrupted, whether the port's first call returns a byte, and how often the reader is
 /// called.
-const INTERRUPTED_READS: [(u32, bool, u32); 5] = [
+static INTERRUPTED_READS: [(u32, bool, u32); 5] = [
     (0, true, 1),
     (1, true, 2),
     (999, true, 1000),
@@ -118,8 +118,8 @@ fn tries_an_interrupted_read_again(rt: HostRuntime) {
             calls: Calls::new(*interruptions, None),
         };
         let mut port = ReadPort::new(&mut reader);
-        assert!(rt; gives_one_or_fails(&mut port, *gives), "{interruptions}");
-        assert!(rt; reader.calls.made == *calls, "{interruptions}");
+        let is_right = gives_one_or_fails(&mut port, *gives);
+        assert!(rt; is_right && reader.calls.made == *calls, "{interruptions}");
     }
 }
 
@@ -162,7 +162,7 @@ impl Write for FakeWriter {
 
 /// The writer's call that fails; how many of the calls of `succeeds` come before it; what was written; how often the writer was
 /// called; and how often it flushed.
-const FAILING_WRITES: [(Option<u32>, usize, &[u8], u32, u32); 7] = [
+static FAILING_WRITES: [(Option<u32>, usize, &[u8], u32, u32); 7] = [
     (Some(0), 0, b"", 1, 0),
     (Some(1), 0, b"ab", 2, 0),
     (Some(2), 1, b"abc", 3, 0),
@@ -190,13 +190,16 @@ fn fails_with_its_writer(rt: HostRuntime) {
     for (fails_at, succeeding, bytes, calls, flushes) in &FAILING_WRITES {
         let mut writer = FakeWriter::new(rt.alloc(), 0, *fails_at);
         let mut port = WritePort::new(&mut writer);
-        assert!(rt; succeeds(&mut port, *succeeding), "{fails_at:?}");
-        assert!(rt; writer.has_met(*bytes, *calls, *flushes), "{fails_at:?}");
+        let succeeds = succeeds(&mut port, *succeeding);
+        assert!(rt;
+            succeeds && writer.has_met(*bytes, *calls, *flushes),
+            "{calls}"
+        );
     }
 }
 
 /// How many calls of the writer are interrupted, whether the flush succeeds, and how often the writer is called.
-const INTERRUPTED_FLUSHES: [(u32, bool, u32); 3] = [
+static INTERRUPTED_FLUSHES: [(u32, bool, u32); 3] = [
     (0, true, 1),
     (999, true, 1000),
     (1000, false, 1000),
@@ -207,8 +210,9 @@ fn tries_an_interrupted_flush_again(rt: HostRuntime) {
     for (interruptions, succeeds, calls) in &INTERRUPTED_FLUSHES {
         let mut writer = FakeWriter::new(rt.alloc(), *interruptions, None);
         let mut port = WritePort::new(&mut writer);
-        assert!(rt; port.finish().is_ok() == *succeeds, "{interruptions}");
-        assert!(rt; writer.calls.made == *calls, "{interruptions}");
+        let is_flushed = port.finish().is_ok();
+        let is_right = is_flushed == *succeeds && writer.calls.made == *calls;
+        assert!(rt; is_right, "{interruptions}");
     }
 }
 
@@ -216,8 +220,8 @@ fn tries_an_interrupted_flush_again(rt: HostRuntime) {
 fn tries_an_interrupted_write_again(rt: HostRuntime) {
     let mut writer = FakeWriter::new(rt.alloc(), 3, None);
     let mut port = WritePort::new(&mut writer);
-    assert!(rt; port.push(b"abc").is_ok());
-    assert!(rt; writer.kept.as_slice() == b"abc".as_slice());
+    let is_taken = port.push(b"abc").is_ok();
+    assert!(rt; is_taken && writer.kept.as_slice() == b"abc".as_slice());
 }
 
 /// Returns whether a push succeeds, and the `finish` after it and every later call fail.

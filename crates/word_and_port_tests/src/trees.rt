@@ -1,6 +1,6 @@
 //! Trees of phasers: what each call returns, and what is seen afterwards.
 
-ghost use Rattle.std.specs.Prelude.{◌≡◌, ◌<◌, length, true, false, IfOk, IfSome};
+ghost use Rattle.std.specs.Prelude.{◌≡◌, ◌<◌, length, true, false, IfSome};
 ghost use Rattle.tier_tree.specs.Declaration.{AreAllFresh};
 ghost use Rattle.tier_tree.specs.PhaseEnd.{after_phase_end};
 ghost use Rattle.tier_tree.specs.Stored.{phasers_of};
@@ -8,7 +8,6 @@ ghost use Rattle.tier_tree.specs.Stored.{phasers_of};
 use packed_phaser::Policy;
 use phase_number::Phase;
 use std::alloc::Global;
-use std::test::Fail;
 use tier_tree::{Arrived, DeclareFault, Forest, PhaserId, Registered};
 
 /// A phaser to declare.
@@ -78,17 +77,17 @@ fn is_planted(forest: &mut Forest, plan: Plan) -> bool
     forest.declare(parent, parties, policy, phase).is_ok()
 }
 
-/// The forest of these phasers.
-fn planted(alloc: Global, plans: &[Plan]) -> Result<Forest, Fail>
-    ensures { IfOk result (λ forest. AreAllFresh (phasers_of forest)) }
+/// The forest of these phasers, if none is refused.
+fn planted(alloc: Global, plans: &[Plan]) -> Option<Forest>
+    ensures { IfSome result (λ forest. AreAllFresh (phasers_of forest)) }
 {
-    let mut forest = Forest::new(alloc)?;
+    let mut forest = Forest::new(alloc).ok()?;
     for plan in plans {
         if !is_planted(&mut forest, *plan) {
-            return Err("a plan is refused".into());
+            return None;
         }
     }
-    Ok(forest)
+    Some(forest)
 }
 
 /// Returns the result of the last arrival in the tree of phaser 0.
@@ -222,14 +221,14 @@ fn comes_true(forest: &mut Forest, step: Step) -> bool {
     }
 }
 
-/// Returns the number of the first step without its expected effect.
-fn first_wrong(forest: &mut Forest, steps: &[Step]) -> Option<usize> {
+/// Returns how many steps have their expected effects before the first that does not.
+fn right_steps(forest: &mut Forest, steps: &[Step]) -> usize {
     for (n, step) in steps.iter().enumerate() {
         if !comes_true(forest, *step) {
-            return Some(n);
+            return n;
         }
     }
-    None
+    steps.len()
 }
 
 /// What happens, the phasers, and the calls.
@@ -427,22 +426,24 @@ static ROWS: [Row; 13] = [
     ),
 ];
 
-/// Returns the first row with a wrong step, and the number of that step.
-fn wrong_row(alloc: Global, rows: &[Row]) -> Result<Option<(&'static str, usize)>, Fail> {
-    for (name, plans, steps) in rows {
-        let mut forest = planted(alloc, plans)?;
-        if let Some(n) = first_wrong(&mut forest, steps) {
-            return Ok(Some((*name, n)));
-        }
+/// Returns how many steps of a row have their expected effects before the first that does not, if its phasers can be declared.
+fn right_steps_of(alloc: Global, row: &Row) -> Option<usize> {
+    let (_, plans, steps) = *row;
+    match planted(alloc, plans) {
+        Some(mut forest) => Some(right_steps(&mut forest, steps)),
+        None => None,
     }
-    Ok(None)
 }
 
 #[test]
-fn what_is_to_come_comes_true(rt: HostRuntime) -> Result<(), Fail> {
-    let wrong = wrong_row(rt.alloc(), &ROWS)?;
-    assert!(rt; wrong.is_none(), "{wrong:?}");
-    Ok(())
+fn what_is_to_come_comes_true(rt: HostRuntime) {
+    for row in &ROWS {
+        let (name, _, steps) = row;
+        match right_steps_of(rt.alloc(), row) {
+            Some(right) => assert!(rt; right == steps.len(), "{name}: {right}"),
+            None => assert!(rt; false, "{name}"),
+        }
+    }
 }
 
 /// The lowest phasers of 8 of the lines arrive.
@@ -464,18 +465,33 @@ static THE_NINTH: [Step; 5] = [
 ];
 
 /// 64 phasers in one tree of 8 levels: 9 lines of 7 below the root, a party in the last of each.
-#[test]
-fn a_full_forest(rt: HostRuntime) -> Result<(), Fail> {
+fn nine_lines() -> [Plan; 64] {
     let mut plans = [Plan::Root(0); 64];
     for id in 1..64u8 {
         let above = if id % 7 == 1 { 0 } else { id - 1 };
         plans[id as usize] = Plan::Child(above, if id % 7 == 0 { 1 } else { 0 });
     }
-    let mut forest = planted(rt.alloc(), &plans)?.copy(rt.alloc())?;
-    let all = eight_arrive(&mut forest);
-    let wrong = first_wrong(&mut forest, &THE_NINTH);
-    assert!(rt; all && wrong.is_none(), "{wrong:?}");
-    Ok(())
+    plans
+}
+
+/// A copy of the forest of these phasers, if none is refused.
+fn planted_copy(alloc: Global, plans: &[Plan]) -> Option<Forest> {
+    match planted(alloc, plans) {
+        Some(forest) => forest.copy(alloc).ok(),
+        None => None,
+    }
+}
+
+#[test]
+fn a_full_forest(rt: HostRuntime) {
+    match planted_copy(rt.alloc(), &nine_lines()) {
+        Some(mut forest) => {
+            let all = eight_arrive(&mut forest);
+            let right = right_steps(&mut forest, &THE_NINTH);
+            assert!(rt; all && right == THE_NINTH.len(), "{right}");
+        }
+        None => assert!(rt; false),
+    }
 }
 
 /// Returns the fault of a declaration after those of the plans.
@@ -485,14 +501,16 @@ fn fault_of(
     parent: Option<PhaserId>,
     parties: i32,
     phase: i32,
-) -> Result<Option<DeclareFault>, Fail> {
-    let mut forest = planted(alloc, plans)?;
+) -> Option<DeclareFault> {
     let phase = Phase::prevailing(phase);
-    Ok(
-        forest
-            .declare(parent, parties, Policy::Default, phase)
-            .err(),
-    )
+    match planted(alloc, plans) {
+        Some(mut forest) => {
+            forest
+                .declare(parent, parties, Policy::Default, phase)
+                .err()
+        }
+        None => None,
+    }
 }
 
 static EIGHT_LEVELS: [Plan; 8] = [
@@ -506,27 +524,27 @@ static EIGHT_LEVELS: [Plan; 8] = [
     Plan::Child(6, 0),
 ];
 
+/// The parent, the parties and the phase of a declaration after eight levels, and its fault.
+static REFUSED: [(u8, i32, i32, DeclareFault); 6] = [
+    (8, -1, 7, DeclareFault::NoParent),
+    (7, -1, 7, DeclareFault::BadParties),
+    (7, 65536, 7, DeclareFault::BadParties),
+    (7, 65535, 7, DeclareFault::PhaseOnChild),
+    (7, 65535, 0, DeclareFault::TooDeep),
+    (6, 1, 0, DeclareFault::TooMany),
+];
+
 #[test]
-fn declarations_are_refused_in_order(rt: HostRuntime) -> Result<(), Fail> {
-    let refused = [
-        (8, -1, 7, DeclareFault::NoParent),
-        (7, -1, 7, DeclareFault::BadParties),
-        (7, 65536, 7, DeclareFault::BadParties),
-        (7, 65535, 7, DeclareFault::PhaseOnChild),
-        (7, 65535, 0, DeclareFault::TooDeep),
-        (6, 1, 0, DeclareFault::TooMany),
-    ];
-    for (parent, parties, phase, fault) in &refused {
+fn declarations_are_refused_in_order(rt: HostRuntime) {
+    for (parent, parties, phase, fault) in &REFUSED {
         let parent = Some(PhaserId(*parent));
-        let answer = fault_of(rt.alloc(), &EIGHT_LEVELS, parent, *parties, *phase)?;
+        let answer = fault_of(rt.alloc(), &EIGHT_LEVELS, parent, *parties, *phase);
         assert!(rt; answer == Some(*fault), "{parties}");
     }
-    Ok(())
 }
 
 #[test]
-fn a_full_forest_takes_no_more(rt: HostRuntime) -> Result<(), Fail> {
-    let answer = fault_of(rt.alloc(), &[Plan::Root(0); 64], None, 0, 0)?;
+fn a_full_forest_takes_no_more(rt: HostRuntime) {
+    let answer = fault_of(rt.alloc(), &[Plan::Root(0); 64], None, 0, 0);
     assert!(rt; answer == Some(DeclareFault::TooManyPhasers));
-    Ok(())
 }

@@ -5,7 +5,7 @@ use packed_phaser::{Arrived, Registered, Word};
 use phase_number::Phase;
 
 /// A word; its view, parties, arrived and unarrived; terminated, empty, turned.
-const WORDS: [(u64, (i32, u16, u16, u16), (bool, bool, bool)); 11] = [
+static WORDS: [(u64, (i32, u16, u16, u16), (bool, bool, bool)); 11] = [
     (0x0000000000000000, (0, 0, 0, 0), (false, false, true)),
     (0x0000000000000001, (0, 0, 0, 0), (false, true, false)),
     (0x0000000000020002, (0, 2, 0, 2), (false, false, false)),
@@ -36,7 +36,7 @@ const WORDS: [(u64, (i32, u16, u16, u16), (bool, bool, bool)); 11] = [
 ];
 
 /// Bits of no word: more parties to arrive than there are.
-const NO_WORDS: [u64; 6] = [
+static NO_WORDS: [u64; 6] = [
     0x2,
     0xffff,
     0x10002,
@@ -68,15 +68,12 @@ fn words_and_their_meanings(rt: HostRuntime) {
         assert!(rt; is_seen(*bits, *counts, *flags), "{bits:x}");
     }
     for bits in &NO_WORDS {
-        assert!(rt;
-            Word::from_raw(*bits).is_none(),
-            "{bits:x} stands for no phaser"
-        );
+        assert!(rt; Word::from_raw(*bits).is_none(), "{bits:x}");
     }
 }
 
 /// A phase, a number of parties, and the word at the start of that phase.
-const FRESH: [(i32, u16, u64); 3] = [
+static FRESH: [(i32, u16, u64); 3] = [
     (0, 2, 0x0000000000020002),
     (4, 0, 0x0000000400000001),
     (2147483647, 65535, 0x7fffffffffffffff),
@@ -121,7 +118,7 @@ enum Answer {
 }
 
 /// Nobody registers with the same word, even while the phase is ending; and too many goes before the wait for the phase's end.
-const CALLS: [(u64, Call, Answer); 41] = [
+static CALLS: [(u64, Call, Answer); 41] = [
     (0x900000000, Renew(10), Is(0xa00000001)),
     (0x900030001, Renew(10), Is(0xa00030003)),
     (0x900000001, Renew(0), Is(0x1)),

@@ -1,0 +1,122 @@
+//! The sweep that all calls have: each request for memory of a call is refused in turn, and the results are written.
+
+use crate::calls::{Call, Calls};
+use crate::marks;
+use crate::trial::{Answer, Trial};
+use std::alloc::Global;
+use std::io;
+
+/// The result of all trials of a call.
+#[derive(Clone, Copy)]
+enum Outcome {
+    /// So many requests were refused in turn. Each time the call was right or returned that it is out of memory, and so often
+    /// it did the latter.
+    Refused { requests: u16, memory: u16 },
+    /// With this request refused it did neither, or left blocks, or its requests had no end.
+    Wrong(u16),
+}
+
+/// Requests of one call that are refused at most.
+const MOST: u16 = 60_000;
+
+/// Refuses each request in turn, alone or with all that follow, until the call makes no more.
+fn swept(alloc: Global, all: bool, call: Call) -> Outcome {
+    let mut memory = 0u16;
+    for request in 1..=MOST {
+        marks::count(alloc);
+        let answer = call.tried(Trial {
+            alloc,
+            request,
+            all,
+        });
+        if marks::is_left_over(alloc) {
+            return Outcome::Wrong(request);
+        }
+        match (answer, marks::end(alloc)) {
+            (Answer::Right, false) => {
+                let requests = request - 1;
+                return Outcome::Refused { requests, memory };
+            }
+            // the kit's lists ask again for as much where they are refused
+            (Answer::Right, true) => {}
+            (Answer::Memory, true) => memory = memory.saturating_add(1),
+            _ => return Outcome::Wrong(request),
+        }
+    }
+    Outcome::Wrong(MOST)
+}
+
+/// Returns what two runs come to, of which the second is ten times as long.
+fn compared(short: Outcome, long: Outcome) -> &'static str {
+    match (short, long) {
+        (Outcome::Refused { requests: few, .. }, Outcome::Refused { requests: many, .. }) => {
+            match many {
+                0 => "right, and nothing was refused",
+                _ if few == many => "as many requests",
+                _ => "another number of requests",
+            }
+        }
+        _ => "WRONG",
+    }
+}
+
+/// Where trials get their memory, and where their results are written.
+#[derive(Drop)]
+pub struct Trials<'a> {
+    pub rt: &'a HostRuntime,
+    pub alloc: Global,
+    /// Whether all results have been written. After one that is not, no call is tried.
+    pub written: io::Result<()>,
+}
+
+impl<'a> Trials<'a> {
+    /// Tries a call, and writes the result: with each request refused alone, and with each request and all later ones refused.
+    pub fn tell(&mut self, name: &str, call: Call) {
+        self.try_once(name, false, call);
+        self.try_once(name, true, call);
+    }
+
+    /// Tries these calls, one after the other.
+    pub fn tell_all(&mut self, calls: Calls) {
+        for (name, call) in calls {
+            self.tell(name, *call);
+        }
+    }
+
+    /// Tries a call, and writes the result: with each request refused alone, or with each request and all later ones refused.
+    fn try_once(&mut self, name: &str, all: bool, call: Call) {
+        if self.written.is_ok() {
+            let outcome = swept(self.alloc, all, call);
+            let which = if all {
+                "each with all behind it"
+            } else {
+                "each request alone"
+            };
+            self.written = self.write(name, which, outcome);
+        }
+    }
+
+    /// Writes the result of a call.
+    fn write(&self, name: &str, which: &str, outcome: Outcome) -> io::Result<()> {
+        let came = match outcome {
+            Outcome::Refused { requests: 0, .. } => {
+                return println!(self.rt; "{name}: right, and nothing was refused");
+            }
+            Outcome::Refused { memory: 0, .. } => "never Memory",
+            Outcome::Refused { .. } => "Memory, or right without it, each time",
+            Outcome::Wrong(request) => {
+                return println!(self.rt; "{name}, {which} refused: WRONG at request {request}");
+            }
+        };
+        println!(self.rt; "{name}, {which} refused: {came}")
+    }
+
+    /// Writes whether a run makes as many requests as one of ten times its length, and each of both returns the right result.
+    pub fn tell_counts(&mut self, name: &str, short: Call, long: Call) {
+        if self.written.is_ok() {
+            let short = swept(self.alloc, false, short);
+            let came = compared(short, swept(self.alloc, false, long));
+            self.written = println!(self.rt; "{name}: {came}");
+        }
+    }
+}
