@@ -15,25 +15,50 @@ pub mod schedule;
 pub mod status;
 pub mod term;
 
-use crate::entries::asm::ASM;
-use crate::entries::declare::DECLARE;
-use crate::entries::ending::ENDING;
-use crate::entries::event::EVENT;
-use crate::entries::exception::EXCEPTION;
-use crate::entries::finding::FINDING;
-use crate::entries::image::IMAGE;
-use crate::entries::java::JAVA;
-use crate::entries::load::LOAD;
-use crate::entries::plan::PLAN;
+use crate::entries::asm::{ASM_DECLARATION, ASM_LINE, ASM_OPERAND};
+use crate::entries::declare::{DECLARE_COUNT, DECLARE_OTHER};
+use crate::entries::ending::{ENDING, TOO_LONG};
+use crate::entries::event::{EVENT_AT_END, EVENT_OF_ROW, EVENT_OF_STACK};
+use crate::entries::exception::{EXCEPTION, OTHER_EXCEPTION};
+use crate::entries::finding::{FINDING_OF_COMMAND, FINDING_OF_DEBUG, FINDING_OF_RUN};
+use crate::entries::image::{IMAGE_FIELD, IMAGE_HEAD};
+use crate::entries::java::{JAVA_TOOLS, JAVA_WAITS};
+use crate::entries::load::{LOAD_DECLARED, LOAD_PLACE};
+use crate::entries::plan::{PLAN_PARENTHESES, PLAN_WORD};
 use crate::entries::schedule::SCHEDULE;
 use crate::entries::status::STATUS;
-use crate::entries::term::TERM;
+use crate::entries::term::{TERM_OF_PROGRAM, TERM_OF_RUN};
 use crate::entry::Entry;
 
 /// The tables. Of several entries that words ask for it is the first.
-pub fn tables() -> [&'static [Entry]; 13] {
+pub fn tables() -> [&'static [Entry]; 27] {
     [
-        &ASM, &IMAGE, &LOAD, &DECLARE, &SCHEDULE, &PLAN, &ENDING, &FINDING, &STATUS, &EXCEPTION,
-        &EVENT, &TERM, &JAVA,
+        &ASM_LINE,
+        &ASM_OPERAND,
+        &ASM_DECLARATION,
+        &IMAGE_HEAD,
+        &IMAGE_FIELD,
+        &LOAD_PLACE,
+        &LOAD_DECLARED,
+        &DECLARE_COUNT,
+        &DECLARE_OTHER,
+        &SCHEDULE,
+        &PLAN_WORD,
+        &PLAN_PARENTHESES,
+        &TOO_LONG,
+        &ENDING,
+        &FINDING_OF_COMMAND,
+        &FINDING_OF_RUN,
+        &FINDING_OF_DEBUG,
+        &STATUS,
+        &EXCEPTION,
+        &OTHER_EXCEPTION,
+        &EVENT_OF_ROW,
+        &EVENT_OF_STACK,
+        &EVENT_AT_END,
+        &TERM_OF_RUN,
+        &TERM_OF_PROGRAM,
+        &JAVA_TOOLS,
+        &JAVA_WAITS,
     ]
 }

@@ -1,7 +1,7 @@
 use crate::entry::Entry;
 
-/// A program text that is refused.
-pub static ASM: [Entry; 13] = [
+/// A program text that is refused for a line, its first word, or how many operands it has.
+pub static ASM_LINE: [Entry; 4] = [
     Entry {
         asked: &[&["asm", "1"], &["asm", " line", "1"]],
         told: "refused asm LINE 1",
@@ -34,6 +34,10 @@ pub static ASM: [Entry; 13] = [
         example: "printf 'ldi r0\\n' | vuthgal",
         more: "docs/LANGUAGE.md, \"Kinds of fault\"",
     },
+];
+
+/// A program text that is refused for an operand.
+pub static ASM_OPERAND: [Entry; 5] = [
     Entry {
         asked: &[&["asm", "5"], &["asm", " line", "5"]],
         told: "refused asm LINE 5",
@@ -74,6 +78,10 @@ pub static ASM: [Entry; 13] = [
         example: "printf 'jmp nowhere\\n' | vuthgal",
         more: "docs/LANGUAGE.md, \"Kinds of fault\"",
     },
+];
+
+/// A program text that is refused for what it declares, or for how much.
+pub static ASM_DECLARATION: [Entry; 4] = [
     Entry {
         asked: &[&["asm", "10"], &["asm", " line", "10"]],
         told: "refused asm LINE 10",

@@ -1,7 +1,7 @@
 use crate::entry::Entry;
 
-/// Why a phaser can't be declared.
-pub static DECLARE: [Entry; 6] = [
+/// Why a phaser can't be declared: a count of parties or levels.
+pub static DECLARE_COUNT: [Entry; 3] = [
     Entry {
         asked: &[
             &["load", "7", " phaser", "1"],
@@ -38,6 +38,10 @@ pub static DECLARE: [Entry; 6] = [
         example: "{ echo .phaser a 0; for i in {0..7}; do echo .phaser a$i 0 parent \\#$i; done; echo .thread t \\#0; echo halt; } | vuthgal",
         more: "docs/FORMATS.md, \"Load faults\"",
     },
+];
+
+/// Why a phaser can't be declared: another reason.
+pub static DECLARE_OTHER: [Entry; 3] = [
     Entry {
         asked: &[
             &["load", "7", " phaser", "4"],

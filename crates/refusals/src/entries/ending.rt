@@ -1,7 +1,7 @@
 use crate::entry::Entry;
 
-/// What else ends the program.
-pub static ENDING: [Entry; 6] = [
+/// A picture that would be too long.
+pub static TOO_LONG: [Entry; 2] = [
     Entry {
         asked: &[&["show"], &["show", "2000"]],
         told: "refused show 2000",
@@ -18,6 +18,10 @@ pub static ENDING: [Entry; 6] = [
         example: "printf '.thread t #0\\nhalt\\n.run\\nt0*2001\\n' > a.txt; vuthgal draw a.txt",
         more: "docs/TRACES.md, \"Picture\"",
     },
+];
+
+/// What else ends the program.
+pub static ENDING: [Entry; 4] = [
     Entry {
         asked: &[&["memory"], &["fault", "_", "memory"]],
         told: "memory",

@@ -1,7 +1,7 @@
 use crate::entry::Entry;
 
-/// What a choice did, as the line of a trace says.
-pub static EVENT: [Entry; 12] = [
+/// What the row of a choice did, as the line of a trace says.
+pub static EVENT_OF_ROW: [Entry; 4] = [
     Entry {
         asked: &[&["ok"], &["_", "_", "_", "ok", ".."]],
         told: "ok",
@@ -39,6 +39,10 @@ pub static EVENT: [Entry; 12] = [
         example: "printf '.phaser p 2\\n.thread t #0\\npaaa r0 p\\nhalt\\n.run\\nt0\\n' | vuthgal",
         more: "docs/TRACES.md, \"Trace text\"",
     },
+];
+
+/// What a choice did to the stack of its thread.
+pub static EVENT_OF_STACK: [Entry; 4] = [
     Entry {
         asked: &[
             &["throws"],
@@ -79,6 +83,10 @@ pub static EVENT: [Entry; 12] = [
         example: "printf '.thread t #0\\ntry #2\\nthrow r0\\nhalt\\n.run\\nt0*3\\n' | vuthgal",
         more: "docs/BEHAVIOUR.md, \"Exceptions\"",
     },
+];
+
+/// How a thread ended, that it did nothing, and what ended with it.
+pub static EVENT_AT_END: [Entry; 4] = [
     Entry {
         asked: &[
             &["die"],

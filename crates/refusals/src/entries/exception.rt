@@ -1,7 +1,7 @@
 use crate::entry::Entry;
 
-/// The numbers of exceptions, and the names of those that Java has.
-pub static EXCEPTION: [Entry; 8] = [
+/// The numbers of the exceptions that Java has, and their names.
+pub static EXCEPTION: [Entry; 5] = [
     Entry {
         asked: &[&["exception", "1"], &["IllegalStateException"]],
         told: "exception 1",
@@ -42,6 +42,10 @@ pub static EXCEPTION: [Entry; 8] = [
         example: "printf '.barrier b 2\\n.thread t #0\\ncawaitt r0 b r1\\nhalt\\n.run\\nt0\\n' | vuthgal",
         more: "docs/BEHAVIOUR.md, \"Exceptions\"",
     },
+];
+
+/// The numbers of the other exceptions.
+pub static OTHER_EXCEPTION: [Entry; 3] = [
     Entry {
         asked: &[&["exception", "6"]],
         told: "exception 6",

@@ -1,7 +1,7 @@
 use crate::entry::Entry;
 
-/// What a command finds or replies, and how a run ends.
-pub static FINDING: [Entry; 11] = [
+/// What a command finds.
+pub static FINDING_OF_COMMAND: [Entry; 4] = [
     Entry {
         asked: &[&["not", "a", "trace"], &["not", "a", "trace", " line"]],
         told: "not a trace LINE",
@@ -34,6 +34,10 @@ pub static FINDING: [Entry; 11] = [
         example: "printf '.thread t #0\\njmp #0\\n' > a.txt; echo .. | vuthgal plan a.txt",
         more: "docs/TRACES.md, \"Plan text\"",
     },
+];
+
+/// How a run ends, and a choice that is refused.
+pub static FINDING_OF_RUN: [Entry; 4] = [
     Entry {
         asked: &[&["stuck"], &["state", "_", "_", "stuck"], &["deadlock"]],
         told: "state CHOICES STEPS stuck",
@@ -66,6 +70,10 @@ pub static FINDING: [Entry; 11] = [
         example: "printf '.thread t #0\\nhalt\\n.run\\nt5\\n' | vuthgal",
         more: "docs/TRACES.md, \"Trace text\"",
     },
+];
+
+/// The limit of a run, and what `debug` replies.
+pub static FINDING_OF_DEBUG: [Entry; 3] = [
     Entry {
         asked: &[
             &["limit"],

@@ -1,7 +1,7 @@
 use crate::entry::Entry;
 
-/// An image that is refused.
-pub static IMAGE: [Entry; 7] = [
+/// An image that is refused for how it begins.
+pub static IMAGE_HEAD: [Entry; 3] = [
     Entry {
         asked: &[&["image", "1"]],
         told: "refused image 1",
@@ -26,6 +26,10 @@ pub static IMAGE: [Entry; 7] = [
         example: "printf 'PBW1\\101\\0\\0\\0\\0\\0\\0\\0' > a.image; vuthgal list a.image",
         more: "docs/FORMATS.md, \"Images\"",
     },
+];
+
+/// An image that is refused for a field, a row, or what follows.
+pub static IMAGE_FIELD: [Entry; 4] = [
     Entry {
         asked: &[&["image", "4"], &["image", "4", " byte"]],
         told: "refused image 4 BYTE",

@@ -1,7 +1,7 @@
 use crate::entry::Entry;
 
-/// What Java has, and how it is here.
-pub static JAVA: [Entry; 8] = [
+/// Tools that Java has, and how they are here.
+pub static JAVA_TOOLS: [Entry; 4] = [
     Entry {
         asked: &[
             &["locks"],
@@ -62,6 +62,10 @@ pub static JAVA: [Entry; 8] = [
         example: "none: no row has this name",
         more: "docs/LANGUAGE.md, \"Directives\"",
     },
+];
+
+/// How Java waits and goes on, and how it is here.
+pub static JAVA_WAITS: [Entry; 4] = [
     Entry {
         asked: &[
             &["spurious"],

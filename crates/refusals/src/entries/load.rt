@@ -1,7 +1,7 @@
 use crate::entry::Entry;
 
-/// A program that can't be loaded.
-pub static LOAD: [Entry; 9] = [
+/// A program that names a row, a phaser or a barrier that there isn't.
+pub static LOAD_PLACE: [Entry; 4] = [
     Entry {
         asked: &[
             &["load", "1"],
@@ -40,6 +40,10 @@ pub static LOAD: [Entry; 9] = [
         example: "printf '.thread t #0\\ncreset #0\\nhalt\\n' | vuthgal",
         more: "docs/FORMATS.md, \"Load faults\"",
     },
+];
+
+/// A program that names a thread or a cell that there isn't, or declares what can't be.
+pub static LOAD_DECLARED: [Entry; 5] = [
     Entry {
         asked: &[&["load", "5"], &["load", "5", " row"]],
         told: "refused load 5 ROW",

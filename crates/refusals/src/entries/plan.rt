@@ -1,7 +1,7 @@
 use crate::entry::Entry;
 
-/// A plan that is refused.
-pub static PLAN: [Entry; 8] = [
+/// A plan that is refused for a word.
+pub static PLAN_WORD: [Entry; 5] = [
     Entry {
         asked: &[&["plan", "1"], &["plan", " line", "1"]],
         told: "refused plan LINE 1",
@@ -42,6 +42,10 @@ pub static PLAN: [Entry; 8] = [
         example: "printf '.thread t #0\\nhalt\\n' > a.txt; echo 't1' | vuthgal plan a.txt",
         more: "docs/TRACES.md, \"Plan text\"",
     },
+];
+
+/// A plan that is refused for its parentheses.
+pub static PLAN_PARENTHESES: [Entry; 3] = [
     Entry {
         asked: &[&["plan", "6"], &["plan", " line", "6"]],
         told: "refused plan LINE 6",

@@ -1,7 +1,7 @@
 use crate::entry::Entry;
 
-/// What the program reads and writes.
-pub static TERM: [Entry; 8] = [
+/// The texts of a run and of its order.
+pub static TERM_OF_RUN: [Entry; 4] = [
     Entry {
         asked: &[&["trace"], &["traces"], &["event"], &["events"]],
         told: "trace",
@@ -46,6 +46,10 @@ pub static TERM: [Entry; 8] = [
         example: "printf '.thread t #0\\nhalt\\n' > a.txt; vuthgal run a.txt --plan '..'",
         more: "docs/TRACES.md, \"Plan text\"",
     },
+];
+
+/// What a run begins with, and what a program is.
+pub static TERM_OF_PROGRAM: [Entry; 4] = [
     Entry {
         asked: &[&["seed"], &["seeds"], &["random"], &["shuffle"]],
         told: "seed",
