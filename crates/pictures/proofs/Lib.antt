@@ -1,3 +1,4 @@
+mod Appended
 mod Awaited
 pub mod Cells
 pub mod Drawings

@@ -1,5 +1,6 @@
 -- What one thread more could do is shown.
-use Rattle.std.proofs.Common.{◌≡◌, ◌∙◌, ℕ, ◌+◌, ◌<◌, List, ◌++◌, ap, length, drop}
+use Rattle.std.proofs.Common.{◌≡◌, ◌∙◌, ℕ, ◌+◌, ◌<◌, ◌≤◌, List, ◌++◌, ap, length, drop, subst, sym}
+use Rattle.std.proofs.lemmas.List.{append-nil, drop_all}
 use Rattle.machine_scene.specs.Scene.{scene_of, thread_at, no_thread}
 use Rattle.thread_machine.specs.World.{StoredWorld, World, world_of}
 use Rattle.thread_state.specs.Thread.{ThreadState}
@@ -24,3 +25,11 @@ one_thread_more what first now next t start text more same there is stays before
           (numbered_texts lines 0 threads) added (numbered_texts-drop lines threads t no_thread there) before,
       stays ∙ same,
     )
+
+-- when no thread is left, all texts are shown
+pub all_threads : {A : Type 0} (text : ℕ → A → List ℕ) (threads : List A) (t count : ℕ) (start now : List ℕ) → count ≤ t
+    → count ≡ length threads → now ++ numbered_texts text t (drop t threads) ≡ start ++ numbered_texts text 0 threads
+    → now ≡ start ++ numbered_texts text 0 threads
+all_threads text threads t count start now enough counts before =
+    sym (append-nil now)
+    ∙ ap (λ rest. now ++ numbered_texts text t rest) (sym (drop_all t threads (subst (λ n. n ≤ t) counts enough))) ∙ before

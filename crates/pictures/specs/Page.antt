@@ -93,6 +93,12 @@ abbrev pub AreChoicesOf : List ℕ → List Choice → Type 0
 AreChoicesOf schedule choices =
     (runs : List Run) × ((finished_schedule schedule ≡ record { runs = runs; fault = None }) × (choices ≡ choices_of runs))
 
+-- the page of a run under this schedule that begins at this world, with the listing and the text of its program
+abbrev pub IsPageFrom : Parts → OtherRuns → List ℕ → World → List ℕ → List ℕ → List ℕ → Type 0
+IsPageFrom parts others listing world source schedule page =
+    (choices : List Choice) × (AreChoicesOf schedule choices × (length choices ≤ most_choices)
+    × (page ≡ page_text parts listing source (run_shown world choices) (others_text others world choices)))
+
 -- the page of an image's program, with its text, its run under this schedule from the first world on, and its other runs
 abbrev pub IsPageIn : Parts → OtherRuns → Image → List ℕ → List ℕ → List ℕ → Type 0
 IsPageIn parts others image source schedule page =

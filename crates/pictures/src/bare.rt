@@ -79,7 +79,6 @@ fn add_bare_what_if_of(
 }
 
 /// Appends what the two choices of each thread would do.
-#[tactic(auto, using(trace_text::proofs::Traces::text_steps))]
 fn add_bare_what_ifs(
     alloc: Global,
     text: &mut Vec<u8>,

@@ -14,18 +14,6 @@ use thread_machine::Choice;
 /// The most choices that a page shows.
 pub const MOST_CHOICES: usize = 2000;
 
-/// Returns the page's fault for a schedule's fault.
-fn fault_of(fault: ScheduleFault) -> PageFault
-    ensures schedule { (told : ScheduleFault) → result ≡ PageFault.Schedule told
-        → (told ≡ fault) × (fault ≢ ScheduleFault.Memory) }
-    ensures others { ((told : LoadFault) → result ≢ PageFault.Load told) × (result ≢ PageFault.Choices) }
-{
-    match fault {
-        ScheduleFault::Memory => PageFault::Memory,
-        fault => PageFault::Schedule(fault),
-    }
-}
-
 /// Returns the runs of a schedule, or its fault.
 fn runs_in(alloc: Global, schedule: &[u8]) -> Result<Vec<Run>, PageFault>
     requires { length schedule.now < 9223372036854775807 }
@@ -36,7 +24,8 @@ fn runs_in(alloc: Global, schedule: &[u8]) -> Result<Vec<Run>, PageFault>
 {
     match read_schedule(alloc, schedule) {
         Ok(runs) => Ok(runs),
-        Err(fault) => Err(fault_of(fault)),
+        Err(ScheduleFault::Memory) => Err(PageFault::Memory),
+        Err(fault) => Err(PageFault::Schedule(fault)),
     }
 }
 
@@ -57,7 +46,6 @@ fn add_run(choices: &mut Vec<Choice>, run: Run) -> Result<(), PageFault>
 }
 
 /// Returns the choices of these runs, or `Choices` if they are too many.
-#[tactic(auto, using(trace_text::proofs::Traces::text_steps))]
 fn choices_of(alloc: Global, runs: &[Run]) -> Result<Vec<Choice>, PageFault>
     ensures choices { IfOk result (λ choices. choices.items ≡ choices_of runs.now) }
     ensures few { IfOk result (λ choices. length choices.items ≤ most_choices) }

@@ -239,7 +239,6 @@ fn push_closing(
 }
 
 /// Appends the lines of the threads that wait or died.
-#[tactic(auto, using(crate::proofs::Cells::closing_steps))]
 pub fn push_closings(
     pen: &Pen<'_, '_>,
     text: &mut Vec<u8>,

@@ -17,7 +17,6 @@ fn add_byte(text: &mut Vec<u8>, byte: u8) -> Result<(), AllocError>
 }
 
 /// Appends a text as a page has it.
-#[tactic(auto, using(trace_text::proofs::Traces::text_steps))]
 pub fn add_escaped(text: &mut Vec<u8>, bytes: &[u8]) -> Result<(), AllocError>
     ensures { OnOk result (text.new.items ≡ text.old.items ++ escaped bytes.now) }
 {

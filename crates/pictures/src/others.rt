@@ -58,7 +58,6 @@ fn add_times(choices: &mut Vec<Choice>, run: Run) -> Result<(), AllocError>
 }
 
 /// Returns the choices of these runs.
-#[tactic(auto, using(trace_text::proofs::Traces::text_steps))]
 fn choices_of(alloc: Global, runs: &[Run]) -> Result<Vec<Choice>, AllocError>
     ensures { IfOk result (λ choices. choices.items ≡ choices_of runs.now) }
 {
@@ -95,6 +94,22 @@ fn room_for(machine: &Machine, own: &[Choice]) -> u32
     let longer = own.len() as u32 + MORE_CHOICES;
     let left = (MOST_CHOICES as u64).saturating_sub(machine.choices());
     longer.min(left as u32)
+}
+
+/// Returns the choices of the run that a choice leads to.
+fn fork(
+    alloc: Global,
+    machine: &Machine,
+    own: &[Choice],
+    choice: Choice,
+) -> Result<Vec<Choice>, AllocError>
+    requires { length own.now ≤ most_choices }
+    ensures { let world = world_of machine.now in
+        IfOk result (λ choices. choices.items ≡ other_choices world (room_for world own.now) choice own.now) }
+{
+    let most = room_for(machine, own);
+    let planned = other_choices(alloc, machine.copy(alloc)?, most, choice, own)?;
+    choices_of(alloc, planned.runs.as_slice())
 }
 
 /// Returns how many choices may still be played after this moment.
@@ -154,14 +169,22 @@ impl Teller {
             .extend_from_slice(Buffer::new().format(number).as_bytes())
     }
 
+    /// Appends a word and a number, and ends the line.
+    fn add_last(&mut self, word: &[u8], number: u64) -> Result<(), AllocError>
+        ensures { OnOk result (self.new
+            ≡ record self.old { text = self.old.text ++ (word.now ++ (decimal number ++ codes "\n")) }) }
+    {
+        self.add(word, number)?;
+        self.text.extend_from_slice(b"\n")
+    }
+
     /// Appends the line of a choice: its thread, and the number of the moment that it leads to.
     fn add_line(&mut self, choice: Choice, number: usize) -> Result<(), AllocError>
         ensures { OnOk result (self.new ≡ record self.old { text = self.old.text ++ step_line choice number }) }
     {
         let word: &[u8] = if choice.expiry { b"x" } else { b"t" };
         self.add(word, u64::from(choice.thread))?;
-        self.add(b" ", number as u64)?;
-        self.text.extend_from_slice(b"\n")
+        self.add_last(b" ", number as u64)
     }
 
     /// Appends a choice, and the moment that it leads to if that is new.
@@ -206,6 +229,19 @@ impl Teller {
         self.know(alloc, machine)
     }
 
+    /// Adds the moments of a run that begins at this machine to the known ones.
+    fn know_run(
+        &mut self,
+        alloc: Global,
+        machine: &Machine,
+        choices: &[Choice],
+    ) -> Result<(), AllocError>
+        ensures { OnOk result (self.new ≡ with_moments (world_of machine.now) choices.now self.old) }
+    {
+        let mut copy = machine.copy(alloc)?;
+        self.know_all(alloc, &mut copy, choices)
+    }
+
     /// Plays choices one after another, and appends them.
     fn add_steps(
         &mut self,
@@ -234,8 +270,7 @@ impl Teller {
     ) -> Result<(), AllocError>
         ensures { OnOk result (self.new ≡ with_other (world_of machine.now) choices.now self.old) }
     {
-        self.add(b"other ", machine.choices())?;
-        self.text.extend_from_slice(b"\n")?;
+        self.add_last(b"other ", machine.choices())?;
         let mut copy = machine.copy(alloc)?;
         self.add_steps(alloc, &mut copy, choices)
     }
@@ -263,9 +298,7 @@ impl Teller {
         ensures { OnOk result (self.new ≡ with_fork (world_of machine.now) own.now choice self.old) }
     {
         let end = self.text.len();
-        let most = room_for(machine, own);
-        let planned = other_choices(alloc, machine.copy(alloc)?, most, choice, own)?;
-        let choices = choices_of(alloc, planned.runs.as_slice())?;
+        let choices = fork(alloc, machine, own, choice)?;
         self.add_other(alloc, machine, choices.as_slice())?;
         self.cut_at(end);
         Ok(())
@@ -349,6 +382,20 @@ impl Teller {
         }
         self.tell_here(alloc, machine, &[])
     }
+
+    /// Appends the other runs of each moment of a run that begins at this machine.
+    fn tell_run(
+        &mut self,
+        alloc: Global,
+        machine: &Machine,
+        choices: &[Choice],
+    ) -> Result<(), AllocError>
+        requires { length choices.now ≤ most_choices }
+        ensures { OnOk result (self.new ≡ told_along (world_of machine.now) choices.now self.old) }
+    {
+        let mut copy = machine.copy(alloc)?;
+        self.tell_along(alloc, &mut copy, choices)
+    }
 }
 
 /// Returns the text of the other runs of a run that begins at this machine.
@@ -357,8 +404,8 @@ fn told_text(alloc: Global, machine: &Machine, choices: &[Choice]) -> Result<Vec
     ensures { IfOk result (λ text. text.items ≡ told_text (world_of machine.now) choices.now) }
 {
     let mut teller = Teller::new(alloc);
-    teller.know_all(alloc, &mut machine.copy(alloc)?, choices)?;
-    teller.tell_along(alloc, &mut machine.copy(alloc)?, choices)?;
+    teller.know_run(alloc, machine, choices)?;
+    teller.tell_run(alloc, machine, choices)?;
     Ok(teller.into_text())
 }
 

@@ -1,6 +1,6 @@
 ghost use Rattle.std.specs.Prelude.{◌≡◌, ◌≢◌, ◌++◌, ◌<◌, ◌⊎◌, false, length, IfOk, OnOk, Err, Some, None};
 ghost use Rattle.loader.specs.declared.load_fault.LoadFault.{LoadFault};
-ghost use Rattle.pictures.specs.Page.{IsPageIn, IsPageOf, escaped, moment, moments, most_choices, page_text, parts_of, run_shown};
+ghost use Rattle.pictures.specs.Page.{IsPageFrom, IsPageIn, IsPageOf, escaped, fixed_parts, moment, moments, most_choices, page_text, parts_of, run_shown};
 ghost use Rattle.pictures.specs.Others.{others_text};
 ghost use Rattle.pictures.specs.Showing.{Shows};
 ghost use Rattle.schedule_reader.specs.declared.fault.ScheduleFault.{ScheduleFault};
@@ -132,6 +132,42 @@ fn page_in(
     Ok(page)
 }
 
+/// Returns the page of the run that begins at this machine under a schedule, with these fixed parts and texts.
+fn show_run(
+    alloc: Global,
+    frame: Frame,
+    others: OtherRuns,
+    listing: &[u8],
+    source: &[u8],
+    machine: &mut Machine,
+    schedule: &[u8],
+) -> Result<Shown, PageFault>
+    requires { length schedule.now < 9223372036854775807 }
+    ensures page { IfOk result (λ shown. IsPageFrom (parts_of frame.entry) others listing.now (world_of machine.old)
+        source.now schedule.now shown.bytes.items) }
+    ensures load { (fault : LoadFault) → result ≢ Err (PageFault.Load fault) }
+    ensures schedule { (fault : ScheduleFault) → result ≡ Err (PageFault.Schedule fault)
+        → ((finished_schedule schedule.now).fault ≡ Some fault) × (fault ≢ ScheduleFault.Memory) }
+    ensures many { result ≡ Err PageFault.Choices → ((finished_schedule schedule.now).fault ≡ None)
+        × (most_choices < length (choices_of (finished_schedule schedule.now).runs)) }
+{
+    let choices = choices_in(alloc, schedule)?;
+    let others = others_text(alloc, others, machine, choices.as_slice())?;
+    let page = page_in(
+        alloc,
+        frame,
+        listing,
+        source,
+        others.as_slice(),
+        machine,
+        choices.as_slice(),
+    )?;
+    Ok(Shown {
+        bytes: page,
+        missing: missing(machine, choices.as_slice()),
+    })
+}
+
 /// Returns the page's fault if an image can't become a machine.
 fn fault_of(fault: StartFault) -> PageFault
     ensures load { (told : LoadFault) → result ≡ PageFault.Load told → fault ≡ StartFault.Load told }
@@ -167,25 +203,31 @@ fn page_with(
     let Ok(listing) = disassemble(alloc, &image) else {
         return Err(PageFault::Memory);
     };
-    let mut machine = match first_machine(alloc, image) {
-        Ok(machine) => machine,
-        Err(fault) => return Err(fault_of(fault)),
-    };
-    let choices = choices_in(alloc, schedule)?;
-    let others = others_text(alloc, others, &machine, choices.as_slice())?;
-    let page = page_in(
-        alloc,
-        frame,
-        listing.as_slice(),
-        source,
-        others.as_slice(),
-        &mut machine,
-        choices.as_slice(),
-    )?;
-    Ok(Shown {
-        bytes: page,
-        missing: missing(&machine, choices.as_slice()),
-    })
+    match first_machine(alloc, image) {
+        Ok(mut machine) => show_run(
+            alloc,
+            frame,
+            others,
+            listing.as_slice(),
+            source,
+            &mut machine,
+            schedule,
+        ),
+        Err(fault) => Err(fault_of(fault)),
+    }
+}
+
+/// Returns the parts that every page has.
+fn frame() -> Frame<'static>
+    ensures { parts_of result ≡ fixed_parts }
+{
+    Frame {
+        head: HEAD,
+        before_source: BEFORE_SOURCE,
+        before_run: BEFORE_RUN,
+        before_others: BEFORE_OTHERS,
+        tail: TAIL,
+    }
 }
 
 /// Returns the page of a program, with its source, its run under a schedule, and its other runs. The source is shown as it is
@@ -208,12 +250,5 @@ pub fn page(
     ensures refused { (fault : LoadFault) → IsRefused fault image
         → (result ≡ Err (PageFault.Load fault)) ⊎ (result ≡ Err PageFault.Memory) }
 {
-    let frame = Frame {
-        head: HEAD,
-        before_source: BEFORE_SOURCE,
-        before_run: BEFORE_RUN,
-        before_others: BEFORE_OTHERS,
-        tail: TAIL,
-    };
-    page_with(alloc, frame, others, image, source, schedule)
+    page_with(alloc, frame(), others, image, source, schedule)
 }

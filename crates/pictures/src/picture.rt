@@ -11,7 +11,23 @@ use assembler::Symbols;
 use std::alloc::{AllocError, Global};
 use thread_machine::{Choice, Machine};
 
-/// Draws the block of this number, and an empty line.
+/// Draws the block of this number, and an empty line. It plays the choices on this machine.
+fn draw_spaced(
+    pen: &Pen<'_, '_>,
+    text: &mut Vec<u8>,
+    machine: &mut Machine,
+    choices: &[Choice],
+    number: u16,
+) -> Result<(), AllocError>
+    ensures { OnOk result (text.new.items ≡ text.old.items
+        ++ lines_text pen.now.sheet.width (other_block pen.now.sheet pen.now.symbols.now (world_of machine.old) choices.now number)) }
+{
+    let first = usize::from(number) * usize::from(pen.sheet.beside);
+    draw_block(pen, text, machine, first, choices)?;
+    push_line(text, pen.sheet.width, b"")
+}
+
+/// Draws the block of this number, and an empty line. The machine stays as it is.
 fn draw_other(
     pen: &Pen<'_, '_>,
     text: &mut Vec<u8>,
@@ -22,14 +38,11 @@ fn draw_other(
     ensures { OnOk result (text.new.items ≡ text.old.items
         ++ lines_text pen.now.sheet.width (other_block pen.now.sheet pen.now.symbols.now (world_of machine.now) choices.now number)) }
 {
-    let first = usize::from(number) * usize::from(pen.sheet.beside);
     let mut copy = machine.copy(pen.alloc)?;
-    draw_block(pen, text, &mut copy, first, choices)?;
-    push_line(text, pen.sheet.width, b"")
+    draw_spaced(pen, text, &mut copy, choices, number)
 }
 
 /// Draws the first `count` blocks, each with an empty line after it.
-#[tactic(auto, using(crate::proofs::Cells::closing_steps))]
 fn draw_others(
     pen: &Pen<'_, '_>,
     text: &mut Vec<u8>,

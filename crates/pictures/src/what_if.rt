@@ -88,7 +88,6 @@ fn add_what_if_of(
 }
 
 /// Appends what the two choices of each thread would do. The machine is the same afterwards, to the stored word.
-#[tactic(auto, using(trace_text::proofs::Traces::text_steps))]
 pub fn add_what_ifs(text: &mut Vec<u8>, machine: &mut Machine) -> Result<(), AllocError>
     ensures text { OnOk result (text.new.items ≡ text.old.items
         ++ numbered_texts (what_if_of (world_of machine.old)) 0 machine.old.scene.threads) }

@@ -1,0 +1,14 @@
+use Rattle.std.specs.Prelude.{[], replicate}
+use Rattle.schedule_reader.specs.declared.run.Run.{Run}
+use Rattle.pictures.proofs.Appended.{none_left, one_more}
+use Rattle.pictures.proofs.others.choices_of.Goals as goal
+
+pub loop-run-preserved : goal.loop-run-preserved
+loop-run-preserved c =
+    one_more (λ (run : Run). replicate run.times run.choice) c.args.runs.now c.loop-run.run-index _ c.loop-run.choices.items
+    c.add_times.new.choices.items [] c.loop-run-test.true c.in_ok-add_times.ensures c.loop-run.invariant
+
+pub returns : goal.returns
+returns c =
+    none_left (λ (run : Run). replicate run.times run.choice) c.args.runs.now c.loop-run.run-index c.loop-run.choices.items []
+    c.loop-run-test.false c.loop-run.invariant
