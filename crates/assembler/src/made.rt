@@ -13,14 +13,10 @@ fn makes(line: &KeptLine<'_>, kind: OperandKind) -> bool {
     }
 }
 
-/// Returns the number of the line, from 1, that makes the row or the object of this number, from 0. Returns `None` if a line of
-/// the text has a fault, or if there are fewer.
-pub fn line_that_makes(alloc: Global, text: &[u8], kind: OperandKind, number: u64) -> Option<u64> {
-    let Ok((draft, _)) = lines_read(alloc, text) else {
-        return None;
-    };
+/// Returns the number of the line among these that makes the row or the object of this number, from 0.
+fn line_among(lines: &[KeptLine<'_>], kind: OperandKind, number: u64) -> Option<u64> {
     let mut left = number;
-    for line in draft.lines() {
+    for line in lines {
         if makes(line, kind) {
             if left == 0 {
                 return Some(line.number());
@@ -29,4 +25,13 @@ pub fn line_that_makes(alloc: Global, text: &[u8], kind: OperandKind, number: u6
         }
     }
     None
+}
+
+/// Returns the number of the line, from 1, that makes the row or the object of this number, from 0. Returns `None` if a line of
+/// the text has a fault, or if there are fewer.
+pub fn line_that_makes(alloc: Global, text: &[u8], kind: OperandKind, number: u64) -> Option<u64> {
+    match lines_read(alloc, text) {
+        Ok((draft, _)) => line_among(draft.lines(), kind, number),
+        Err(_) => None,
+    }
 }

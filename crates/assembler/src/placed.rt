@@ -151,6 +151,26 @@ fn without_place(fault: AsmFault) -> PlacedFault
     }
 }
 
+/// A name that isn't known among those of this draft, in a line of these words.
+fn placed_name_in(draft: &Draft<'_>, fault: AsmFault, line: &[u8], words: &[&[u8]]) -> PlacedFault
+    requires { fault.kind ≡ kinds.UnknownName }
+    ensures fault { result.fault ≡ fault }
+    ensures place { IfSome result.at (IsPlaceOf fault.kind line.now) }
+{
+    let Some((number, wanted)) = unknown_in_line(draft, words) else {
+        return without_place(fault);
+    };
+    let given = match words.get(number) {
+        Some(name) => draft.place_named(*name).map(|place| place.kind),
+        None => None,
+    };
+    PlacedFault {
+        fault,
+        at: place_of_word(before_comment(line), number),
+        unknown: Some(UnknownName { wanted, given }),
+    }
+}
+
 /// A name that isn't known, in a line of these words.
 fn placed_name(
     alloc: Global,
@@ -163,20 +183,9 @@ fn placed_name(
     ensures fault { result.fault ≡ fault }
     ensures place { IfSome result.at (IsPlaceOf fault.kind line.now) }
 {
-    let Ok((draft, _)) = lines_read(alloc, text) else {
-        return without_place(fault);
-    };
-    let Some((number, wanted)) = unknown_in_line(&draft, words) else {
-        return without_place(fault);
-    };
-    let given = match words.get(number) {
-        Some(name) => draft.place_named(*name).map(|place| place.kind),
-        None => None,
-    };
-    PlacedFault {
-        fault,
-        at: place_of_word(before_comment(line), number),
-        unknown: Some(UnknownName { wanted, given }),
+    match lines_read(alloc, text) {
+        Ok((draft, _)) => placed_name_in(&draft, fault, line, words),
+        Err(_) => without_place(fault),
     }
 }
 

@@ -1,6 +1,6 @@
 -- Texts of lists, element by element.
-use Rattle.std.proofs.Common.{◌≡◌, ◌∙◌, ◌+◌, ◌*◌, ◌<◌, ◌≤◌, ℕ, ℤ, List, ◌++◌, codes, length, length-append, get_or, drop, refl, ap, sym, arith, append_assoc, rules}
-use Rattle.std.proofs.lemmas.List.{drop_more}
+use Rattle.std.proofs.Common.{◌≡◌, ◌∙◌, ◌+◌, ◌*◌, ◌<◌, ◌≤◌, ℕ, ℤ, List, ◌++◌, codes, length, length-append, get_or, drop, refl, ap, sym, arith, append_assoc}
+use Rattle.std.proofs.lemmas.List.{append-nil, drop_all, drop_more}
 use Rattle.std.specs.Fmt.{signed_decimal}
 use Rattle.std.proofs.lemmas.Option.{slice_get_within, get_or_from_slice_get}
 use Rattle.std.specs.Prelude.{flat_map, slice_get, Option, Some, None}
@@ -26,6 +26,26 @@ pub ruleset text_steps = (flat_map-drop, numbered_texts-drop)
 pub one_text_more : (now next start one rest more all : List ℕ) → next ≡ now ++ one → rest ≡ one ++ more
     → now ++ rest ≡ start ++ all → next ++ more ≡ start ++ all
 one_text_more now next start one rest more all is first before = grind (arith, append_assoc)
+
+-- the same of a list whose texts begin with their numbers
+pub one_numbered_more : {A : Type 0} (text : ℕ → A → List ℕ) (xs : List A) (i : ℕ) (d : A) (now next start : List ℕ) → i < length xs
+    → next ≡ now ++ text i (get_or xs i d) → now ++ numbered_texts text i (drop i xs) ≡ start ++ numbered_texts text 0 xs
+    → next ++ numbered_texts text (i + 1) (drop (i + 1) xs) ≡ start ++ numbered_texts text 0 xs
+one_numbered_more text xs i d now next start there is before =
+    one_text_more now next start (text i (get_or xs i d)) (numbered_texts text i (drop i xs))
+    (numbered_texts text (i + 1) (drop (i + 1) xs)) (numbered_texts text 0 xs) is (numbered_texts-drop text xs i d there) before
+
+-- all of them are written where none is left
+pub all_numbered : {A : Type 0} (text : ℕ → A → List ℕ) (xs : List A) (i : ℕ) (now start : List ℕ) → length xs ≤ i
+    → now ++ numbered_texts text i (drop i xs) ≡ start ++ numbered_texts text 0 xs → now ≡ start ++ numbered_texts text 0 xs
+all_numbered text xs i now start enough before =
+    sym (append-nil now) ∙ ap (λ rest. now ++ numbered_texts text i rest) (sym (drop_all i xs enough)) ∙ before
+
+-- the same of texts without numbers
+pub all_written : {A B : Type 0} (text : A → List B) (xs : List A) (i : ℕ) (now start : List B) → length xs ≤ i
+    → now ++ flat_map text (drop i xs) ≡ start ++ flat_map text xs → now ≡ start ++ flat_map text xs
+all_written text xs i now start enough before =
+    sym (append-nil now) ∙ ap (λ rest. now ++ flat_map text rest) (sym (drop_all i xs enough)) ∙ before
 
 -- what one number more adds to the length of what is written
 pub one_value_more : (values : List ℤ) (i : ℕ) (d : ℤ) → i < length values → length (signed_decimal (get_or values i d)) ≤ 11
@@ -53,4 +73,11 @@ pub stack_text-drop : (stack : List Frame) (i : ℕ) (entry : Entry)
     → stack_text (drop i stack) ≡ entry_text entry ++ stack_text (drop (i + 1) stack)
 stack_text-drop stack i entry same = stack_text-drop_by stack i entry (slice_get stack i) refl same
 
-pub ruleset stack_steps = (stack_text-drop, append_assoc)
+-- one entry more is written
+pub one_entry_more : (stack : List Frame) (i : ℕ) (entry : Entry) (now next start : List ℕ)
+    → option_map entry_of (slice_get stack i) ≡ Some entry → next ≡ now ++ entry_text entry
+    → now ++ stack_text (drop i stack) ≡ start ++ stack_text stack
+    → next ++ stack_text (drop (i + 1) stack) ≡ start ++ stack_text stack
+one_entry_more stack i entry now next start there is before =
+    one_text_more now next start (entry_text entry) (stack_text (drop i stack)) (stack_text (drop (i + 1) stack))
+    (stack_text stack) is (stack_text-drop stack i entry there) before

@@ -1,9 +1,11 @@
 ghost use Rattle.std.specs.Prelude.{◌≡◌, ◌+◌, ◌≤◌, [], Ok, Err, IfErr, IfOk, OnOk, false};
+ghost use Rattle.row_code.specs.declared.image.Image.{Image};
 ghost use Rattle.schedule_reader.specs.Schedule.{choices_of};
 ghost use Rattle.thread_machine.specs.World.{world_of};
 ghost use Rattle.trace_text.specs.declared.run_end.RunEnd.{RunEnd};
 ghost use Rattle.trace_text.specs.Outcome.{ComesTo, Stops, StopsFrom};
 ghost use Rattle.trace_text.specs.Playing.{HasPlayedAll, IsToldOf, PlaysOn, StopsAt, played_fault};
+ghost use Rattle.trace_text.specs.Start.{Begins};
 
 use crate::choice_line::ChoiceLine;
 use crate::play::{PlayFault, Refused, play_runs};
@@ -134,6 +136,32 @@ fn play_stream<S: Source, W: Sink>(
     Err(RunFault::Read)
 }
 
+/// Plays a schedule on a machine and writes the trace, and returns how the run has ended. The contract says what this is for an
+/// image whose program begins at this machine.
+fn run_from<S: Source, W: Sink>(
+    alloc: Global,
+    machine: &mut Machine,
+    schedule: &mut S,
+    output: &mut W,
+) -> Result<RunEnd, RunFault>
+    ensures outcome { (image : Image) → Begins image (world_of machine.old)
+        → ComesTo image result (S.left schedule.old) (S.left schedule.new) (S.has_failed schedule.new)
+        (W.written output.old) (W.written output.new) (W.has_failed output.new) }
+    ensures reads { S.reads schedule.new ≤ S.reads schedule.old + 1000000000 }
+{
+    let Ok(mut runs) = Vec::with_capacity(alloc, MOST_RUNS) else {
+        return Err(RunFault::Memory);
+    };
+    let refused = match play_stream(machine, schedule, &mut runs, output) {
+        Ok(refused) => refused,
+        Err(fault) => return Err(fault),
+    };
+    match push_end(alloc, machine, refused, output) {
+        Ok(end) => Ok(end),
+        Err(fault) => Err(RunFault::of_play(fault)),
+    }
+}
+
 /// Plays an image's program under a schedule, writes the trace, and returns how the run has ended. The trace has a line for
 /// each choice, written when it is played, and then the state. The schedule is read piece by piece, always to its end, and its
 /// first fault is returned, even if a choice was refused before. The memory that this takes doesn't depend on the length of the
@@ -148,21 +176,10 @@ pub fn run_to_end<S: Source, W: Sink>(
         (W.written output.old) (W.written output.new) (W.has_failed output.new) }
     ensures reads { S.reads schedule.new ≤ S.reads schedule.old + 1000000000 }
 {
-    let mut machine = match first_machine(alloc, image) {
-        Ok(machine) => machine,
-        Err(StartFault::Load(fault)) => return Err(RunFault::Load(fault)),
-        Err(StartFault::Memory) => return Err(RunFault::Memory),
-    };
-    let Ok(mut runs) = Vec::with_capacity(alloc, MOST_RUNS) else {
-        return Err(RunFault::Memory);
-    };
-    let refused = match play_stream(&mut machine, schedule, &mut runs, output) {
-        Ok(refused) => refused,
-        Err(fault) => return Err(fault),
-    };
-    match push_end(alloc, &machine, refused, output) {
-        Ok(end) => Ok(end),
-        Err(fault) => Err(RunFault::of_play(fault)),
+    match first_machine(alloc, image) {
+        Ok(mut machine) => run_from(alloc, &mut machine, schedule, output),
+        Err(StartFault::Load(fault)) => Err(RunFault::Load(fault)),
+        Err(StartFault::Memory) => Err(RunFault::Memory),
     }
 }
 

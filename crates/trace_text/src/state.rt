@@ -67,7 +67,6 @@ fn add_entry(text: &mut Vec<u8>, entry: Entry) -> Result<(), AllocError>
 }
 
 /// Appends the entries of a thread's stack.
-#[tactic(auto, using(crate::proofs::Traces::stack_steps))]
 fn add_stack(text: &mut Vec<u8>, machine: &Machine, thread: u8) -> Result<(), AllocError>
     requires { thread < length machine.now.scene.threads }
     ensures text { OnOk result (text.new.items
@@ -99,7 +98,6 @@ fn add_registers(
 }
 
 /// Appends what a thread has put out.
-#[tactic(auto, using(crate::proofs::Traces::text_steps))]
 fn add_values(text: &mut Vec<u8>, values: &[i32]) -> Result<(), AllocError>
     ensures text { OnOk result (text.new.items ≡ text.old.items ++ flat_map value_text values.now) }
     ensures few { OnOk result (length (flat_map value_text values.now) ≤ 12 * length values.now) }
@@ -166,7 +164,6 @@ fn add_thread(text: &mut Vec<u8>, machine: &Machine, thread: u8) -> Result<(), A
 }
 
 /// Appends the lines of all threads.
-#[tactic(auto, using(crate::proofs::Traces::text_steps))]
 fn add_threads(text: &mut Vec<u8>, machine: &Machine) -> Result<(), AllocError>
     ensures text { OnOk result (text.new.items
         ≡ text.old.items ++ numbered_texts thread_text 0 machine.now.scene.threads) }
@@ -203,7 +200,6 @@ fn add_phaser(text: &mut Vec<u8>, forest: &Forest, id: PhaserId) -> Result<(), A
 }
 
 /// Appends the lines of all phasers.
-#[tactic(auto, using(crate::proofs::Traces::text_steps))]
 fn add_phasers(text: &mut Vec<u8>, forest: &Forest) -> Result<(), AllocError>
     ensures { OnOk result (text.new.items
         ≡ text.old.items ++ numbered_texts phaser_text 0 (phasers_of forest.now)) }
@@ -229,7 +225,6 @@ fn add_barrier(text: &mut Vec<u8>, number: u8, barrier: &Barrier) -> Result<(), 
 }
 
 /// Appends the lines of all barriers.
-#[tactic(auto, using(crate::proofs::Traces::text_steps))]
 fn add_barriers(text: &mut Vec<u8>, machine: &Machine) -> Result<(), AllocError>
     ensures { OnOk result (text.new.items
         ≡ text.old.items ++ numbered_texts barrier_text 0 machine.now.scene.barriers) }
@@ -253,7 +248,6 @@ fn add_cell(text: &mut Vec<u8>, number: usize, value: i32) -> Result<(), AllocEr
 }
 
 /// Appends the lines of all cells that aren't 0.
-#[tactic(auto, using(crate::proofs::Traces::text_steps))]
 fn add_cells(text: &mut Vec<u8>, cells: &[i32]) -> Result<(), AllocError>
     ensures { OnOk result (text.new.items
         ≡ text.old.items ++ numbered_texts cell_text 0 cells.now) }

@@ -1,7 +1,8 @@
-use Rattle.std.proofs.Common.{rules, ◌≡◌, ◌+◌, ◌≤◌, ◌++◌, drop, flat_map, get_or, length, pos}
+use Rattle.std.proofs.Common.{rules, arith, ap, ◌≡◌, ◌+◌, ◌≤◌, ◌++◌, drop, flat_map, get_or, length, pos}
+use Rattle.std.proofs.lemmas.List.{drop_all}
 use Rattle.std.specs.Fmt.{signed_decimal}
 use Rattle.trace_text.specs.State.{value_text}
-use Rattle.trace_text.proofs.Traces.{flat_map-drop, one_text_more, one_value_more}
+use Rattle.trace_text.proofs.Traces.{all_written, flat_map-drop, one_text_more, one_value_more}
 use Rattle.trace_text.proofs.state.add_values.Goals as goal
 
 pub loop-value-preserved : goal.loop-value-preserved
@@ -18,4 +19,15 @@ loop-value-preserved c =
           (flat_map value_text (drop (i + 1) values)) (flat_map value_text values) more
           (flat_map-drop value_text values i (pos 0) c.loop-value-test.true) c.loop-value.invariant.text;
       few = one_value_more values i (pos 0) c.loop-value-test.true short c.loop-value.invariant.few;
+    }
+
+pub returns : goal.returns
+returns c =
+    let values = c.args.values.now in
+    let i = c.loop-value.value-index in
+    let none = ap (λ rest. length (flat_map value_text rest)) (drop_all i values c.loop-value-test.false) in
+    record {
+      text = all_written value_text values i c.loop-value.text.items c.args.text.now.items c.loop-value-test.false
+          c.loop-value.invariant.text;
+      few = omega (arith, none, c.loop-value.auto.value-index-end, c.loop-value.invariant.few);
     }
