@@ -41,6 +41,32 @@ impl Model for Debugger {
     ghost invariant = { λ debugger. IsTrail debugger.played debugger.undos.notes };
 }
 
+/// What a debugger allocates.
+#[derive(Drop)]
+struct Room {
+    undos: Undos,
+    spare: Box<Undo>,
+    marks: Marks,
+}
+
+impl Room {
+    /// Allocates what undoes so many choices, and a mark for each row.
+    fn new(alloc: Global, rows: usize, kept: u16) -> Result<Room, AllocError>
+        requires { 0 < kept }
+        ensures undos { IfOk result (λ room. room.undos ≡ record { notes = []; most = kept }) }
+        ensures marks { IfOk result (λ room. room.marks ≡ replicate rows false) }
+    {
+        let marks = Marks::new(alloc, rows)?;
+        let undos = Undos::new(alloc, kept)?;
+        let spare = Box::new(alloc, Undo::new())?;
+        Ok(Room {
+            undos,
+            spare,
+            marks,
+        })
+    }
+}
+
 impl Debugger {
     /// Makes a debugger that can take back so many of the last choices. It has no breakpoints yet. Only this call allocates,
     /// and a value that is put out. Fails if it is out of memory.
@@ -54,14 +80,22 @@ impl Debugger {
           breaks = replicate (length machine.program.rows) false;
         }) }
     {
-        let marks = Marks::new(alloc, machine.loaded().rows().len())?;
-        Ok(Debugger {
-            played: machine,
-            undos: Undos::new(alloc, kept)?,
-            spare: Box::new(alloc, Undo::new())?,
-            marks,
-            alloc,
-        })
+        match Room::new(alloc, machine.loaded().rows().len(), kept) {
+            Ok(
+                Room {
+                    undos,
+                    spare,
+                    marks,
+                },
+            ) => Ok(Debugger {
+                played: machine,
+                undos,
+                spare,
+                marks,
+                alloc,
+            }),
+            Err(failed) => Err(failed),
+        }
     }
 
     /// Returns the machine as it is now.

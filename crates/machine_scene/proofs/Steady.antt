@@ -4,7 +4,7 @@ use Rattle.std.proofs.Common.{◌≡◌, ◌≢◌, ◌∙◌, ℕ, ℤ, pos, ze
 use Rattle.std.specs.Prelude.{nat_abs, int_lt, Option, Some, None, slice_set, slice_index_or}
 use Rattle.std.proofs.lemmas.List.{get_or-set_other}
 use Rattle.instruction_table.specs.declared.row.Row.{Row}
-use Rattle.instruction_table.specs.declared.row.Row.TheVariants.{Preg, Paaa, Cawait}
+use Rattle.instruction_table.specs.declared.row.Row.TheVariants.{Preg, Parr, Pdereg, Paaa, Cawait}
 use Rattle.instruction_table.specs.declared.register.Reg.{Reg}
 use Rattle.tier_tree.specs.Stored.{Stored, phasers_of}
 use Rattle.tier_tree.specs.Registration.{registration, after_registration}
@@ -21,8 +21,11 @@ use Rattle.thread_state.specs.declared.frame.Frame.{Frame}
 use Rattle.thread_state.specs.declared.status.Status.{Status}
 use Rattle.thread_state.specs.Thread.{ThreadState, top_of, is_full, interrupted}
 use Rattle.machine_scene.specs.declared.group.Group.{Group}
+use Rattle.machine_scene.specs.declared.manner.Manner.{Manner}
+use Rattle.machine_scene.specs.Manner.{manner_of}
 use Rattle.machine_scene.specs.Scene.{Scene, StoredScene, Outcome, scene_of, thread_at, barrier_at, with_thread, with_phasers, with_barrier}
 use Rattle.machine_scene.specs.PhaserRows.{is_own_tree, is_past, unless_own, outcome_of_registered, outcome_of_bulk, outcome_of_phaser_row}
+use Rattle.machine_scene.specs.PhaserRows.{outcome_of_arrival}
 use Rattle.machine_scene.specs.BarrierRows.{is_run_by, unless_busy, unless_runner, outcome_of_entered, outcome_of_await_at, outcome_of_barrier_row}
 use Rattle.machine_scene.specs.Waits.{outcome_of_awaited, outcome_of_phase_wait, outcome_of_release, outcome_of_barrier_wait}
 use Rattle.machine_scene.specs.Outcomes.{outcome_in_group, outcome_in, is_ready, timeout_in}
@@ -118,10 +121,23 @@ calm_unless_own : (p t : ℕ) (row : Row) (scene : Scene) (outcome : Option Outc
 calm_unless_own p t row scene outcome calm =
     either (CalmIf t row scene) (is_own_tree p (thread_at scene t) scene) {b = outcome} (λ quiet. still t row scene _) calm
 
+calm_arrival : (manner : Manner) (p t : ℕ) (row : Row) (program : Program) (scene : Scene)
+    → CalmIf t row scene (Some (outcome_of_arrival manner p t program scene))
+calm_arrival manner p t row program scene = search (rules, arrival-standings, still)
+
 quiet_phaser_row : (row : Row) (t : ℕ) (program : Program) (scene : Scene) → QuietIf t row scene (outcome_of_phaser_row row t program scene)
 quiet_phaser_row (Preg into p) t program scene =
     quiet_if t (Preg into p) scene _ (calm_unless_own p t (Preg into p) scene _ (calm_registration into p 1 t (Preg into p) scene))
-quiet_phaser_row row t program scene = search (rules, quiet_if, calm_unless_own, calm_registration, calm_bulk, arrival-standings, still)
+quiet_phaser_row (Parr into p) t program scene =
+    quiet_if t (Parr into p) scene _ (calm_unless_own p t (Parr into p) scene _
+    (calm_arrival (manner_of (Parr into p)) p t (Parr into p) program scene))
+quiet_phaser_row (Pdereg into p) t program scene =
+    quiet_if t (Pdereg into p) scene _ (calm_unless_own p t (Pdereg into p) scene _
+    (calm_arrival (manner_of (Pdereg into p)) p t (Pdereg into p) program scene))
+quiet_phaser_row (Paaa into p) t program scene =
+    quiet_if t (Paaa into p) scene _ (calm_unless_own p t (Paaa into p) scene _
+    (calm_arrival (manner_of (Paaa into p)) p t (Paaa into p) program scene))
+quiet_phaser_row row t program scene = search (rules, quiet_if, calm_unless_own, calm_bulk, still)
 
 -- rows at barriers
 

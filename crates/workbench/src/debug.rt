@@ -6,6 +6,7 @@ ghost use Rattle.trace_text.specs.RunText.{GivesOnAndOn};
 ghost use Rattle.debugger.specs.Command.{goes_on, line_order};
 ghost use Rattle.debugger.specs.Reply.{Replies};
 ghost use Rattle.debugger.specs.declared.stop.Stop.{Stop};
+ghost use Rattle.row_code.specs.declared.image.Image.{Image};
 ghost use Rattle.workbench.specs.declared.debug.PlayedTrace.TheVariants as played;
 ghost use Rattle.workbench.specs.declared.fault.Fault.{Fault};
 ghost use Rattle.workbench.specs.Debug.{Converses, Debugs, DebugsAt, Exchange, Finished, GivesFew, HasConversed, HasNoSession, IsDialogue, IsFirstSession, IsPlayedTo, bytes_of};
@@ -95,12 +96,27 @@ pub fn debug_behind<C: Companion, K: Sink>(
         (K.written output.old) (K.written output.new) (K.has_failed output.new) }
     ensures few { GivesFew (C.left commands.old) (C.left commands.new) }
 {
-    let mut debugger = match first_debugger(alloc, image) {
-        Ok(debugger) => debugger,
-        Err(fault) => return Err(fault),
-    };
+    match first_debugger(alloc, image) {
+        Ok(mut debugger) => debug_runs(alloc, &mut debugger, runs, commands, output),
+        Err(fault) => Err(fault),
+    }
+}
+
+/// Like `debug_behind`, from a session on that hasn't begun.
+fn debug_runs<C: Companion, K: Sink>(
+    alloc: Global,
+    debugger: &mut Debugger,
+    runs: &[Run],
+    commands: &mut C,
+    output: &mut K,
+) -> Result<(), Fault>
+    ensures outcome { (image : Image) → IsFirstSession image debugger.old → Debugs (Some runs.now) image result
+        (C.left commands.old) (C.left commands.new) (C.has_failed commands.new)
+        (K.written output.old) (K.written output.new) (K.has_failed output.new) }
+    ensures few { GivesFew (C.left commands.old) (C.left commands.new) }
+{
     match debugger.go_command(runs, output) {
-        Ok(()) => converse(alloc, &mut debugger, commands, output),
+        Ok(()) => converse(alloc, debugger, commands, output),
         Err(_) => Err(Fault::Write),
     }
 }
@@ -120,17 +136,33 @@ pub fn debug_at<T: Source, C: Companion, K: Sink>(
         (K.written output.old) (K.written output.new) (K.has_failed output.new) }
     ensures few { GivesFew (C.left commands.old) (C.left commands.new) }
 {
-    let mut debugger = match first_debugger(alloc, image) {
-        Ok(debugger) => debugger,
-        Err(fault) => return Err(fault),
-    };
-    let stop = match play_trace(alloc, &mut debugger, trace) {
+    match first_debugger(alloc, image) {
+        Ok(mut debugger) => debug_from(alloc, &mut debugger, trace, commands, output),
+        Err(fault) => Err(fault),
+    }
+}
+
+/// Like `debug_at`, from a session on that hasn't begun.
+fn debug_from<T: Source, C: Companion, K: Sink>(
+    alloc: Global,
+    debugger: &mut Debugger,
+    trace: &mut T,
+    commands: &mut C,
+    output: &mut K,
+) -> Result<Done, Fault>
+    ensures outcome { (image : Image) → IsFirstSession image debugger.old
+        → DebugsAt image result (T.left trace.old) (T.left trace.new) (T.has_failed trace.new)
+        (C.left commands.old) (C.left commands.new) (C.has_failed commands.new)
+        (K.written output.old) (K.written output.new) (K.has_failed output.new) }
+    ensures few { GivesFew (C.left commands.old) (C.left commands.new) }
+{
+    let stop = match play_trace(alloc, debugger, trace) {
         Ok(PlayedTrace::To(stop)) => stop,
         Ok(PlayedTrace::NotATrace { line }) => return not_a_trace(output, line),
         Err(fault) => return Err(fault),
     };
     match say_stop(output, stop) {
-        Ok(()) => as_asked(converse(alloc, &mut debugger, commands, output)),
+        Ok(()) => as_asked(converse(alloc, debugger, commands, output)),
         Err(_) => Err(Fault::Write),
     }
 }
