@@ -10,7 +10,7 @@ use command_line::typed::push_word;
 use diagnostics::endless::Found;
 use diagnostics::mistaken::is_plan;
 use diagnostics::shown::{push_file, push_file_alone, push_line_of, push_marked, word_at};
-use refusals::entries::finding::FINDING;
+use refusals::entries::finding::FINDING_OF_COMMAND;
 use refusals::entry::{Entry, Place};
 use suggestions::file_kind::is_schedule;
 use thread_machine::Standing;
@@ -22,7 +22,10 @@ pub const CARRIAGE_RETURN: &str = "the trace's line ends with CR LF, the run's w
 
 /// The entry of what a command finds, by the form of its line.
 fn entry_of(form: &str) -> Option<Entry> {
-    FINDING.iter().find(|entry| entry.told == form).copied()
+    FINDING_OF_COMMAND
+        .iter()
+        .find(|entry| entry.told == form)
+        .copied()
 }
 
 /// Writes what a line of this form means, with the place in the trace, and what helps, if that is more than its entry says.

@@ -40,6 +40,12 @@ fn session<'a, C: Companion>(
     Ok(as_asked(flushed(answer, &mut output))?)
 }
 
+/// The session of the commands on standard input.
+fn session_of_lines<'a>(rt: &HostRuntime, image: Image, runs: Option<&[Run]>) -> Answer<'a> {
+    let mut commands = BlockSource::new(rt.alloc(), ReadPort::new(rt.stdin()))?;
+    session(rt, image, runs, &mut commands)
+}
+
 /// The session of a person. Besides the replies it shows which threads can go on.
 fn session_of_person<'a>(
     rt: &HostRuntime,
@@ -136,12 +142,11 @@ fn session_of_commands<'a>(
     program: Program<'_>,
     steps: OpenSteps<'_>,
 ) -> Answer<'a> {
-    let mut commands = BlockSource::new(rt.alloc(), ReadPort::new(rt.stdin()))?;
     match steps {
-        OpenSteps::Beside => session(rt, program.image, None, &mut commands),
+        OpenSteps::Beside => session_of_lines(rt, program.image, None),
         OpenSteps::Plan(name, plan) => {
             let (runs, _) = runs_of_plan(rt, &program, name, plan.as_slice())?;
-            session(rt, program.image, Some(runs.as_slice()), &mut commands)
+            session_of_lines(rt, program.image, Some(runs.as_slice()))
         }
         OpenSteps::Named(trace) => session_at(rt, program.image, trace),
     }

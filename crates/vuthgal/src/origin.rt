@@ -2,4 +2,4 @@
 
 /// The version, the kit whose logic proves it, and the sum of the sources but for this file.
 pub const VERSION: &str =
-    "1.2.0\nkit rattle-kit-13f logic dac8208d650f15bf\nsources 0d6f7eaf1ba5989fb83afdc3d48537314d5b0952b642a3ba76e7c1b5b6ae67b2";
+    "1.2.0\nkit rattle-kit-13f logic dac8208d650f15bf\nsources d0ca5579241297e331be02c0b0c898e602cbc73531f994f8ead05eef6b038845";

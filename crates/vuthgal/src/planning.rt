@@ -1,6 +1,6 @@
 //! The schedules of plans.
 
-ghost use Rattle.std.specs.Prelude.{IfOk};
+ghost use Rattle.std.specs.Prelude.{◌≤◌, IfOk};
 ghost use Rattle.command_line.specs.Request.{AreInRange};
 ghost use Rattle.plans.specs.Planned.{AreRuns};
 
@@ -131,6 +131,27 @@ fn settled_by(
     Done::Unlike
 }
 
+/// Writes what the orders of seeds lead to on a program, each after this plan, and shows how far they are. Returns the first run
+/// that ended differently than expected.
+fn report_orders(
+    rt: &HostRuntime,
+    program: Program<'_>,
+    plan: &[u8],
+    seeds: &Seeds<'_>,
+) -> Result<Option<Unlike>, Unplanned>
+    requires { seeds.now.count ≤ 100000 }
+{
+    let shown = OrderMeter::new(rt, seeds.count);
+    let mut output = WritePort::new(BehindProgress::new(rt.stdout(), shown.meter()));
+    let answer = report_seeds(rt.alloc(), program, plan, seeds, &shown, &mut output);
+    shown.meter().end();
+    let unlike = answer?;
+    match flushed(Ok(()), &mut output) {
+        Ok(()) => Ok(unlike),
+        Err(fault) => Err(Unplanned::Fault(fault)),
+    }
+}
+
 /// Writes what the orders of seeds lead to on a program, each after this plan, which may have been standard input.
 fn count_orders_on<'a>(
     rt: &HostRuntime,
@@ -151,19 +172,8 @@ fn count_orders_on<'a>(
         expected: expected.as_slice(),
         has_names,
     };
-    let shown = OrderMeter::new(rt, seeds.count);
-    let mut output = WritePort::new(BehindProgress::new(rt.stdout(), shown.meter()));
-    let answer = report_seeds(
-        rt.alloc(),
-        program,
-        plan.as_slice(),
-        &seeds,
-        &shown,
-        &mut output,
-    );
-    shown.meter().end();
+    let answer = report_orders(rt, program, plan.as_slice(), &seeds);
     let (unlike, _) = told(answer, plan, is_input)?;
-    flushed(Ok(()), &mut output)?;
     Ok(settled_by(rt, text, expected.as_slice(), unlike))
 }
 

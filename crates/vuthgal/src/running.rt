@@ -1,11 +1,11 @@
 //! Runs: a program that is played under a schedule, and what is expected of its end.
 
 use crate::expectation::{as_expected, expectations, tell_unmet};
-use crate::input::{Schedule, told};
+use crate::input::{Input, Schedule, told};
 use crate::notes;
 use crate::progress::{ShownWriter, trace_port};
 use crate::steps::{Holds, OpenSteps, opened};
-use byte_ports::{BlockPort, ReadPort, WritePort};
+use byte_ports::{BlockPort, ReadPort, Source, WritePort};
 use command_line::request::Steps;
 use fault_reports::help::{Files, push_explained, push_missing};
 use fault_reports::trouble::{Answer, Trouble};
@@ -91,24 +91,52 @@ fn scheduled<'a>(
     ended(rt, answer, output, program, expected, live, files)
 }
 
+/// Plays a program under a schedule. If the run ends without one, this is reported. It takes what `live` means at the end.
+fn played<'a, S: Source>(
+    rt: &HostRuntime,
+    program: Program<'_>,
+    schedule: &mut S,
+    has_schedule: bool,
+    expected: &[&str],
+    live: &str,
+    files: Files<'_>,
+) -> Answer<'a> {
+    let expected = expectations(rt.alloc(), &program.names, expected)?;
+    let expected = expected.as_slice();
+    played_to(rt, program, schedule, has_schedule, expected, live, files)
+}
+
+/// The same, with the texts of the states that are expected.
+fn played_to<'a, S: Source>(
+    rt: &HostRuntime,
+    program: Program<'_>,
+    schedule: &mut S,
+    has_schedule: bool,
+    expected: &[Vec<u8>],
+    live: &str,
+    files: Files<'_>,
+) -> Answer<'a> {
+    let mut output = trace_port(rt)?;
+    let answer = shown::run(rt.alloc(), program.image, schedule, &mut output);
+    if answer.is_ok() && !has_schedule {
+        notes::push_no_schedule(rt);
+    }
+    scheduled(rt, answer, output, program.bytes, expected, live, files)
+}
+
 /// Plays a text with its schedule, which was on standard input.
 fn play_text<'a>(rt: &HostRuntime, bytes: &[u8], expected: &[&str]) -> Answer<'a> {
     let (text, schedule) = split_at_run(bytes);
     let program = program_of_text(rt.alloc(), text)?;
-    let expected = expectations(rt.alloc(), &program.names, expected)?;
-    let mut schedule = SliceSource::new(schedule);
-    let mut output = trace_port(rt)?;
-    let answer = shown::run(rt.alloc(), program.image, &mut schedule, &mut output);
-    if answer.is_ok() && text.len() == bytes.len() {
-        notes::push_no_schedule(rt);
-    }
+    let mut source = SliceSource::new(schedule);
+    let has_schedule = text.len() != bytes.len();
     let files = Files::of_input().with_text(bytes);
-    scheduled(
+    played(
         rt,
-        answer,
-        output,
-        text,
-        expected.as_slice(),
+        program,
+        &mut source,
+        has_schedule,
+        expected,
         SCHEDULE_ENDS,
         files,
     )
@@ -137,20 +165,22 @@ fn play<'a>(
     files: Files<'_>,
 ) -> Answer<'a> {
     let (planned, is_stopped) = steps.planned(rt, &program)?;
-    let expected = expectations(rt.alloc(), &program.names, expected)?;
-    let mut schedule = Schedule::whole(rt.alloc(), steps.schedule(beside, planned.as_str()));
-    let mut output = trace_port(rt)?;
-    let answer = shown::run(rt.alloc(), program.image, &mut schedule, &mut output);
     let live = if is_stopped { "" } else { SCHEDULE_ENDS };
-    let done = scheduled(
-        rt,
-        answer,
-        output,
-        program.bytes,
-        expected.as_slice(),
-        live,
-        files,
-    );
+    let schedule = steps.schedule(beside, planned.as_str());
+    play_under(rt, program, schedule, expected, live, files)
+}
+
+/// Plays a program under the schedule that is read. It takes what `live` means at the end.
+fn play_under<'a>(
+    rt: &HostRuntime,
+    program: Program<'_>,
+    schedule: Input<'_>,
+    expected: &[&str],
+    live: &str,
+    files: Files<'_>,
+) -> Answer<'a> {
+    let mut schedule = Schedule::whole(rt.alloc(), schedule);
+    let done = played(rt, program, &mut schedule, true, expected, live, files);
     told(schedule, done)
 }
 

@@ -28,17 +28,22 @@ pub fn write_image<'a>(rt: &HostRuntime, source: &'a str, image: &'a str) -> Ans
     Ok(Done::AsAsked)
 }
 
-/// Writes the canonical text of the program in a file, or its rows.
-pub fn write_list<'a>(rt: &HostRuntime, file: &'a str, has_rows: bool) -> Answer<'a> {
-    let file = files::contents(rt, file)?;
-    let program = program_in(rt.alloc(), file.as_slice())?;
+/// Writes the canonical text of the program that a file holds, or its rows.
+fn push_list(rt: &HostRuntime, file: &[u8], has_rows: bool) -> Result<(), Fault> {
+    let program = program_in(rt.alloc(), file)?;
     let mut output = WritePort::new(printable::output(rt));
     let answer = if has_rows {
         list_rows(rt.alloc(), &program, &mut output)
     } else {
         shown::list(rt.alloc(), &program.image, &mut output)
     };
-    Ok(as_asked(flushed(answer, &mut output))?)
+    flushed(answer, &mut output)
+}
+
+/// Writes the canonical text of the program in a file, or its rows.
+pub fn write_list<'a>(rt: &HostRuntime, file: &'a str, has_rows: bool) -> Answer<'a> {
+    let file = files::contents(rt, file)?;
+    Ok(as_asked(push_list(rt, file.as_slice(), has_rows))?)
 }
 
 /// The words of texts, each of which may have several.

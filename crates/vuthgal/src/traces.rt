@@ -1,7 +1,8 @@
 //! Traces that are read: compared with their run, and as the schedule that they have.
 
+use crate::files;
+use crate::input::{self, Input};
 use crate::progress::ShownSource;
-use crate::{files, input};
 use byte_ports::{BlockPort, ReadPort, Source, WritePort};
 use command_line::ports::printable;
 use commands::choices::choices;
@@ -58,19 +59,29 @@ fn compared_and_shown<'a, S: Source>(
     Ok(verdict)
 }
 
+/// Compares a trace that is read with the run of an image's program, and shows the lines that differ if asked for.
+fn judged<'a>(
+    rt: &HostRuntime,
+    image: Image,
+    trace: Input<'_>,
+    is_shown: bool,
+) -> Result<Verdict, Trouble<'a>> {
+    let size = input::size(&trace);
+    let mut trace = ShownSource::new(rt, ReadPort::new(trace), size);
+    if is_shown {
+        compared_and_shown(rt, image, &mut trace)
+    } else {
+        compared(rt, image, &mut trace)
+    }
+}
+
 /// Compares a trace with the run of the program in a file, and shows the lines that differ if asked for.
 pub fn compare<'a>(rt: &HostRuntime, file: &'a str, trace: &'a str, is_shown: bool) -> Answer<'a> {
     let program = files::read(rt, file)?;
     let read = input::named(rt, trace)?;
-    let size = input::size(&read);
-    let mut input = ShownSource::new(rt, ReadPort::new(read), size);
     let program = read_all(rt.alloc(), &mut ReadPort::new(program))?;
     let image = program_in(rt.alloc(), program.as_slice())?.image;
-    let verdict = if is_shown {
-        compared_and_shown(rt, image, &mut input)?
-    } else {
-        compared(rt, image, &mut input)?
-    };
+    let verdict = judged(rt, image, read, is_shown)?;
     Ok(ended(rt, file, trace, verdict, is_shown))
 }
 
