@@ -83,7 +83,7 @@ uint8_t vuthgal_plan(const uint8_t *program, size_t program_length,
                      uint8_t *output, size_t output_room, size_t *output_length,
                      uint8_t *line, size_t line_room, size_t *line_length);
 
-/* Shows a run, as `vuthgal show FILE SCHEDULE`. The output is a page for a browser, in UTF-8, which needs no network. */
+/* Shows a run, as `vuthgal show FILE SCHEDULE`. The output is a page for a browser, in ASCII, which needs no network. */
 uint8_t vuthgal_show(const uint8_t *program, size_t program_length,
                      const uint8_t *schedule, size_t schedule_length,
                      uint8_t *output, size_t output_room, size_t *output_length,
