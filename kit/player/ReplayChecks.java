@@ -37,8 +37,11 @@ final class ReplayChecks {
         this.part = part;
     }
 
-    /** All transcripts are right on each of the ports, those that no program makes also on the JDK, and wrong ports are found. */
-    void check(List<Kit.Port> ports) throws IOException {
+    /**
+     * All transcripts are right on each of the ports, those that no program makes also on the JDK, and wrong ports are found,
+     * among them one of the phaser without a lock, unless there is none.
+     */
+    void check(List<Kit.Port> ports, String lockFree) throws IOException {
         List<Runnable> checks = new ArrayList<>();
         for (Kit.Port port : ports) {
             checks.add(() -> soak(0, "while 60 threads wait: ", port.command()));

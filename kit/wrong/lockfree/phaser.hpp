@@ -24,6 +24,9 @@ enum class Fault {
   kEndByStoring,
   kTakenOffByComparing,
   kQueuedForGood,
+  kRegisterByStoring,
+  kEmptyBeforeOnAdvance,
+  kFreedWhileQueued,
 };
 
 /// All its numbers are one word (docs/FORMATS.md, "Packed word"), which calls exchange by comparing. Who waits pushes a node
