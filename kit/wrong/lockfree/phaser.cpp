@@ -35,7 +35,7 @@ Fault fault_of_environment() {
                          "advance-in-two-steps", "force-by-storing", "stale-answer", "sixteen-are-woken",
                          "nodes-used-again", "phase-before-counts", "end-by-storing",
                          "taken-off-by-comparing", "queued-for-good", "register-by-storing",
-                         "empty-before-on-advance", "freed-while-queued"};
+                         "empty-before-on-advance", "freed-while-queued", "permit-is-kept"};
   for (int at = 1; name && at < static_cast<int>(std::size(names)); at++) {
     if (std::strcmp(name, names[at]) == 0) {
       return static_cast<Fault>(at);
@@ -61,7 +61,7 @@ class Parker {
     if (!permit_) {
       interruptibly ? Thread::current().wait(monitor_, lock, time) : monitor_->changed.wait(lock);
     }
-    permit_ = false;
+    permit_ = fault == Fault::kPermitIsKept && permit_;
   }
 
  private:

@@ -27,6 +27,7 @@ enum class Fault {
   kRegisterByStoring,
   kEmptyBeforeOnAdvance,
   kFreedWhileQueued,
+  kPermitIsKept,
 };
 
 /// All its numbers are one word (docs/FORMATS.md, "Packed word"), which calls exchange by comparing. Who waits pushes a node
