@@ -46,6 +46,11 @@ final class PortThread extends RealThread {
     }
 
     @Override
+    protected double share() {
+        return process.tasks().share();
+    }
+
+    @Override
     protected void check() {
         process.check();
     }
