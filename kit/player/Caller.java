@@ -300,7 +300,7 @@ final class Caller {
                 return thread.ok();
             }
             case FAULT -> {
-                scene.odd(given.words());
+                scene.odd(pending.words(thread) + " " + given.told());
                 return thread.fail(-1);
             }
             default -> {
