@@ -109,7 +109,7 @@ final class Notes {
     /** What is said of these cases, in which threads spin. */
     static String spinning(List<String> cases) {
         String few = String.join(", ", cases.subList(0, Math.min(cases.size(), MOST_NAMES)));
-        return "threads spin while all should wait, in " + cases.size() + " cases: " + few
+        return "threads spin while all should wait, in " + cases.size() + (cases.size() == 1 ? " case: " : " cases: ") + few
             + (cases.size() > MOST_NAMES ? ", .." : "");
     }
 
