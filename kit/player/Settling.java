@@ -12,8 +12,12 @@ final class Settling {
     private static final int TRIPS = 3;
     /** A real side that isn't at rest after so many times, though it has run, is one that spins while it waits. */
     private static final int MOST_ROUNDS = 10;
-    /** So much of a processor, while somebody waits: a round trip takes less, and a thread that spins before it sleeps. */
+    /**
+     * So much of a processor, while somebody waits, or, where the machine is busy, so much of what is left for one thread: a round
+     * trip takes less, and a thread that spins before it sleeps.
+     */
     private static final double MUCH = 0.2;
+    private static final double LEAST = 0.05;
 
     private final Stage stage;
     private final Patience patience;
@@ -45,7 +49,8 @@ final class Settling {
             RealThread.Outcome outcome = RealThread.outcome(call);
             if (waits || runs || outcome != RealThread.Outcome.BLOCKED || System.nanoTime() > limit) {
                 unsure |= outcome == RealThread.Outcome.BLOCKED && !waits;
-                spins |= outcome == RealThread.Outcome.BLOCKED && runs && thread.share() > MUCH;
+                spins |= outcome == RealThread.Outcome.BLOCKED && runs
+                    && thread.share() > Math.max(LEAST, MUCH / Load.factor());
                 return outcome;
             }
         }
