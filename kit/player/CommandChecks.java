@@ -385,7 +385,7 @@ final class CommandChecks {
         Path told = Files.createTempFile("vuthgal", ".told");
         Process player = start(told, "--patience", "100", "--port", port + "ok child; sleep 600", folder("reset"));
         List<ProcessHandle> below = List.of();
-        for (int wait = 0; wait < 200 && !hasChild(below); wait++) {
+        for (int wait = 0; wait < 1_200 && !hasChild(below); wait++) {
             Thread.sleep(50);
             below = player.descendants().toList();
         }
