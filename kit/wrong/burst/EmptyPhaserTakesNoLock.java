@@ -14,6 +14,7 @@ public final class EmptyPhaserTakesNoLock extends LockedFactory {
                 if (count <= 0 || getRegisteredParties() > 0 || isTurned() || isTerminated()) {
                     return super.bulkRegister(count);
                 }
+                Thread.yield();     // so that it comes about soon
                 addParties(count);
                 return view();
             }

@@ -11,6 +11,7 @@ public final class InterruptAtABarrierIsLost extends LockedFactory {
         return new LockedBarrier(parties, action) {
             @Override
             void fallsAsleep() {
+                Thread.yield();     // so that it comes about soon
                 Thread.interrupted();
             }
         };

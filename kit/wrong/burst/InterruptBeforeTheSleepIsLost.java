@@ -11,6 +11,7 @@ public final class InterruptBeforeTheSleepIsLost extends LockedFactory {
         return new LockedPhaser(parties, asked) {
             @Override
             void fallsAsleep() {
+                Thread.yield();     // so that it comes about soon
                 Thread.interrupted();
             }
         };
