@@ -35,7 +35,7 @@ from marks import TOP
 PROGRAM = Path(os.environ.get("VUTHGAL", TOP / "bin" / "vuthgal")).resolve()
 PAGES = (TOP / "README.md", *sorted((TOP / "docs").glob("*.md")))
 MADE = re.compile(r"(<!-- the (program|run)(?: (\S+))?, by bin/made examples(?:\n([^>]*?))? -->\n).*?(<!-- end of the \2 -->)", re.S)
-SHORT = re.compile(r"(?<=\n\n)(?:    \$ \./vuthgal [^\n]*\n(?:    (?!\$ )[^\n]*\n)*)+")
+SHORT = re.compile(r"(?<=\n\n)(?:    \$ (?:\./vuthgal|bin/check|[a-z]+=)[^\n]*\n(?:    (?!\$ )[^\n]*\n)*)+")
 FILLED = re.compile(f"{MADE.pattern}|{SHORT.pattern}", re.S)
 TOLD = re.compile(r"<!-- (first|status 0 or 1|not run|holds), by bin/made examples(?:: )?([^>]*?) -->")
 
@@ -92,6 +92,7 @@ def filled(page, room):
 
     def short(command):
         output = printed(command, variables, room)
+        variables.extend(variables_in(command))
         if "\n\n" in output:
             sys.exit(f"{command}\nprints an empty line, so that it needs marks")
         return block(f"$ {command}\n{output}")
