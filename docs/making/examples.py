@@ -35,7 +35,7 @@ from marks import TOP
 PROGRAM = Path(os.environ.get("VUTHGAL", TOP / "bin" / "vuthgal")).resolve()
 PAGES = (TOP / "README.md", *sorted((TOP / "docs").glob("*.md")))
 MADE = re.compile(r"(<!-- the (program|run)(?: (\S+))?, by bin/made examples(?:\n([^>]*?))? -->\n).*?(<!-- end of the \2 -->)", re.S)
-SHORT = re.compile(r"(?<=\n\n)(?:    \$ (?:\./vuthgal|bin/check|[a-z]+=)[^\n]*\n(?:    (?!\$ )[^\n]*\n)*)+")
+SHORT = re.compile(r"(?<=\n\n)(?:    \$ (?:\./vuthgal|bin/check|cat|[a-z]+=)[^\n]*\n(?:    (?!\$ )[^\n]*\n)*)+")
 FILLED = re.compile(f"{MADE.pattern}|{SHORT.pattern}", re.S)
 TOLD = re.compile(r"<!-- (first|status 0 or 1|not run|holds), by bin/made examples(?:: )?([^>]*?) -->")
 
