@@ -66,7 +66,9 @@ function drawChoice(box, e) {
   button.style.setProperty("--hue", hueOf(e.thread));
   button.classList.toggle("second", isSecond(e.thread));
   button.setAttribute("data-choice", tokenOf(e));
-  button.title = threadTitle(e.thread) + ": what it would do, and a click goes on with it";
+  const isDead = runBy(run, at, tokenOf(e)) < 0 && !host;
+  button.classList.toggle("dead", isDead);
+  button.title = threadTitle(e.thread) + ": what it would do" + (isDead ? "; this page hasn't the run that goes on with it" : ", and a click goes on with it");
   button.onfocus = () => whatIf(button, e);
   button.onpointerenter = event => { if (event.pointerType !== "touch") whatIf(button, e); };
   // a finger can't point, so its first touch tells
@@ -79,7 +81,7 @@ function drawChoice(box, e) {
 }
 // what the choices that could be next would do. Where what comes later is hidden, it isn't told before a click
 function whatIf(button, e) {
-  const old = id("next").querySelector(".asked"), isThere = e && runBy(run, at, tokenOf(e)) >= 0, isHidden = id("hide").checked;
+  const old = id("next").querySelector(".asked"), isThere = e && (host || runBy(run, at, tokenOf(e)) >= 0), isHidden = id("hide").checked;
   const asks = matchMedia("(hover: none)").matches ? "Tap a name." : "Point at a name; a click goes on with it.";
   if (old) old.classList.remove("asked");
   if (button) button.classList.add("asked");
@@ -96,7 +98,10 @@ function whatIf(button, e) {
 // the focus at the way back, and then again at the name; and at a name, too, who went on with the first run
 function goWith(e, event) {
   const k = runBy(run, at, tokenOf(e)), isByKey = k >= 0 && k !== run && !event.detail;
-  if (k < 0) return;
+  if (k < 0) {
+    ask(ownerOf(run, at), at, tokenOf(e), () => goWith(e, event));
+    return;
+  }
   go(at + 1, k);
   if (isByKey && k) id("crumbs").querySelector(".leave").focus();
   else if (isByKey) focusName(tokenOf(e));
@@ -106,10 +111,66 @@ function focusName(token) {
   const name = id("next").querySelector("[data-choice=" + token + "]") || id("next").querySelector(".choice");
   if (name) name.focus();
 }
-// back to the moment at which this run forks from the first
+// ---- A host: a page that has this one in a frame and plays what this one hasn't. It says so first; then a choice whose run isn't
+// here is asked of it, by the choices before it, the choice, and those that the run shown goes on with. It is told what is shown.
+let host = null, asked = { number: 0 };
+
+const tell = message => { if (host) host.source.postMessage(message, host.origin); };
+function ask(k, i, token, behind, failed) {
+  if (!host) return;
+  const own = momentsOf(k), left = own.slice(i + 1).filter(moment => !moment.refused).map(moment => moment.event);
+  asked = { number: asked.number + 1, k: k, i: i, token: token, run: run, at: at, behind: behind, failed: failed };
+  document.body.classList.add("asking");
+  tell({ vuthgal: "ask", number: asked.number, before: scheduleOf(own.slice(1, i + 1).map(moment => moment.event)), choice: token, rest: scheduleOf(left) });
+}
+function answered(number, text, why) {
+  if (number !== asked.number || !asked.behind) return;
+  const behind = asked.behind;
+  asked.behind = null;
+  document.body.classList.remove("asking");
+  try {
+    need(typeof text === "string", why || "no answer");
+    if (runBy(asked.k, asked.i, asked.token) < 0) joinRun(asked.k, asked.i, asked.token, text);
+  } catch (error) {
+    fill(id("would"), ["This run can't be shown: " + error.message + "."]);
+    if (asked.failed) asked.failed();
+    return;
+  }
+  // who has gone elsewhere meanwhile stays there
+  if (asked.run === run && asked.at === at) behind();
+  else if (asked.failed) asked.failed();
+}
+// goes to an address, by runs that the host is asked for
+function reach(to) {
+  const place = placeBy(to), moment = momentsOf(place.run)[place.at], stay = () => tellWhere(to);
+  if (place.missing && moment && nextLine(moment.of, place.missing)) ask(ownerOf(place.run, place.at), place.at, place.missing, () => reach(to), stay);
+  else {
+    goTo(place.run, place.at);
+    tellWhere(to);
+  }
+}
+function heard(event) {
+  const said = event.data;
+  if (window === window.parent || event.source !== window.parent || !said || !said.vuthgal) return;
+  if (said.vuthgal === "host") {
+    host = { source: event.source, origin: event.origin };
+    for (const [name, is] of [["hide", said.hide], ["java", said.java]]) if (is !== undefined && id(name).checked !== is) id(name).click();
+    document.body.classList.toggle("blind", Boolean(said.blind));
+    fillNext(at, false);
+    tellWhere();
+  } else if (said.vuthgal === "run") answered(said.number, said.text, said.why);
+  else if (said.vuthgal === "go") reach(said.to);
+  else if (said.vuthgal === "step") go(next(said.by));
+}
+// what is shown, and, behind an order of the host, that it is carried out
+function tellWhere(to) {
+  tell({ vuthgal: "at", to: to, address: address(), at: at, last: moments.length - 1, fork: run ? runs[run].fork : -1, parent: run ? addressOf(runs[run].parent, at) : "", word: stateAt(at).word,
+    end: endText(run), name: run ? momentsOf(run)[runs[run].fork].step + 1 + ": " + chosenText(forkOf(run)) : "The run", schedule: scheduleOf(eventsTo(moments.length - 1)) });
+}
+// back to the moment at which this run forks from its parent
 function leave(event) {
   const token = tokenOf(forkOf(run)), isByKey = !(event && event.detail) && id("crumbs").contains(document.activeElement);
-  go(runs[run].fork, 0);
+  go(runs[run].fork, runs[run].parent);
   if (isByKey) focusName(token);
 }
 function take(k) {
@@ -130,13 +191,20 @@ function drawCrumbs() {
   ends.classList.toggle("over", isLast);
   if (isOver !== ends.hasChildNodes()) fill(ends, isOver ? bothEnds() : []);
 }
+// the runs from the first one to this, without the first
+const lineage = k => k ? lineage(runs[k].parent).concat(k) : [];
+const crumbText = k => momentsOf(k)[runs[k].fork].step + 1 + ": " + chosenText(forkOf(k));
 function drawWay(box) {
   box.setAttribute("data-run", run);
   box.textContent = "";
   if (!run) return;
-  add(box, "button", "", "The run").onclick = leave;
+  add(box, "button", "", "The run").onclick = runs[run].parent ? () => go(runs[lineage(run)[0]].fork, 0) : leave;
+  for (const k of lineage(run).slice(0, -1)) {
+    add(box, "span", "", " \u203A ");
+    add(box, "button", "", crumbText(k)).onclick = () => go(Math.min(at, momentsOf(k).length - 1), k);
+  }
   add(box, "span", "", " \u203A ");
-  const crumb = add(box, "b", "crumb", momentsOf(run)[runs[run].fork].step + 1 + ": " + chosenText(forkOf(run)));
+  const crumb = add(box, "b", "crumb", crumbText(run));
   crumb.setAttribute("aria-current", "true");
   add(crumb, "span", "instead", insteadText(run));
   const back = add(box, "button", "leave", "Back to the fork ");
@@ -188,6 +256,7 @@ function show(i, isTried) {
   id("things").classList.toggle("slim", layout.isSlim && isWider(id("things")));
   markLines();
   if (isTried) return;
+  tellWhere();
   tellSheets(0);
   bringTimeline(i);
   markMap();
@@ -234,13 +303,21 @@ function go(i, k) {
   goTo(k === undefined ? run : k, i);
 }
 // an address names a choice by its number; in another run the choice at which it forks stands before it, as `7t2.9`
-const address = () => "#" + (run ? momentsOf(run)[runs[run].fork].step + 1 + tokenOf(forkOf(run)) + "." : "") + (at ? moments[at].event.step : 0);
+const ADDRESS = /^#((?:\d+[tx]\d+\.)*)(\d+)$/, FORK = /(\d+)([tx]\d+)\./g;
+const addressOf = (k, i) => "#" + lineage(k).map(one => momentsOf(one)[runs[one].fork].step + 1 + tokenOf(forkOf(one)) + ".").join("") + (i ? momentsOf(k)[Math.min(i, momentsOf(k).length - 1)].step : 0);
+const address = () => addressOf(run, at);
 // the run and the moment that the page's address names, as far as they are there; the start where it names none
-function fromAddress() {
-  const m = /^#(?:(\d+)([tx]\d+)\.)?(\d+)$/.exec(location.hash), first = runMoments()[0].step;
-  if (!m) return { run: 0, at: 0 };
-  const fork = m[1] - 1 - first, k = m[1] ? Math.max(0, runBy(0, fork, m[2])) : 0;
-  return { run: k, at: m[1] && !k && !makes(runMoments()[fork + 1], m[2]) ? fork : m[3] - first };
+const fromAddress = () => placeBy(location.hash);
+function placeBy(to) {
+  const m = ADDRESS.exec(to), first = runMoments()[0].step;
+  let k = 0;
+  if (!m) return { run: 0, at: 0, missing: null };
+  for (const [, step, token] of m[1].matchAll(FORK)) {
+    const fork = step - 1 - first, by = runBy(k, fork, token);
+    if (by < 0) return { run: k, at: fork, missing: token };
+    k = by;
+  }
+  return { run: k, at: m[2] - first, missing: null };
 }
 // ---- size and layout. The reader's size is remembered, where the browser has a place for it. Without one, the text grows in a
 // wide window while all has room.
@@ -405,6 +482,7 @@ function listen() {
   window.onbeforeprint = beforePrint;
   window.onafterprint = afterPrint;
   document.addEventListener("keydown", pressed);
+  window.addEventListener("message", event => whenDrawn(() => heard(event)));
 }
 function nameThePage() {
   const name = about ? about.split(/[.:]( |$)/)[0] : "A run of " + listed(threads.slice(0, 8).map((_, t) => threadName(t)).concat(threads.length > 8 ? ["others"] : []));
@@ -431,8 +509,10 @@ function begin() {
   chosenSize = remembered();
   findFullest();
   listen();
-  arrange();
+  whenDrawn(arrange);
 }
+// in a frame the script may run before anything has a size; then it waits for the first picture
+const whenDrawn = act => { if (id("tool").getClientRects().length) act(); else requestAnimationFrame(() => whenDrawn(act)); };
 
 try {
   begin();

@@ -209,15 +209,15 @@ const forkOf = k => momentsOf(k)[runs[k].fork + 1].event;
 const chosenText = e => threadName(e.thread) + (e.expiry ? "'s time-out" : "");
 // whose choice the other run's is made in place of
 function insteadText(k) {
-  const old = runMoments()[runs[k].fork + 1];
+  const old = momentsOf(runs[k].parent)[runs[k].fork + 1];
   return old && !old.refused ? " instead of " + chosenText(old.event) : "";
 }
 // how the first run ends, and this one
 function bothEnds() {
-  const there = endText(0), here = endText(run);
-  if (endOf(0).of === endOf(run).of) return ["Both end alike: ", [here], "."];
+  const from = runs[run].parent, there = endText(from), here = endText(run);
+  if (endOf(from).of === endOf(run).of) return ["Both end alike: ", [here], "."];
   if (there !== here) return ["There: ", [there], ". Here: ", [here], "."];
-  return ["There and here: ", [here], ". But " + differences(stateOf(endOf(0).of), stateOf(endOf(run).of)) + "."];
+  return ["There and here: ", [here], ". But " + differences(stateOf(endOf(from).of), stateOf(endOf(run).of)) + "."];
 }
 // what is there and what is here, of two states that differ: the first three
 function differences(there, here) {
