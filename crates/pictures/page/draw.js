@@ -342,7 +342,7 @@ function closingWords(k) {
 }
 // what is said there of a thread
 function closingWord(k, t) {
-  const s = stateOf(endOf(k).of), thread = s.threads[t], word = { ended: "ended", died: "died of " + thread.code, runs: "not ended", throws: "throws " + thread.code,
+  const s = stateOf(endOf(k).of), thread = s.threads[t], word = { ended: "ended", died: "died of " + thrownName(thread.code), runs: "not ended", throws: "throws " + thrownName(thread.code),
     waits: s.word === "stuck" ? "waits for ever" : "waits" }[thread.status];
   return word + (run && thread.out.length ? ", out " + outText(thread.out) : "");
 }

@@ -58,15 +58,17 @@ function rootOf(p) {
 }
 
 // ---- the text as it was written: names and comments. What doesn't agree with the listing is left aside.
-let names = { P: [], B: [], T: [], C: [], L: {} }, written = null, about = "";
+// A comment that begins with `?` is a question, asked where its row was played, or the next one of the text.
+let names = { P: [], B: [], T: [], C: [], L: {} }, written = null, about = "", questions = [];
 
 function readSource() {
-  const found = { P: [], B: [], T: [], C: [], L: {} }, out = [], introduction = [];
+  const found = { P: [], B: [], T: [], C: [], L: {} }, out = [], introduction = [], asked = [];
   const kinds = { ".phaser": "P", ".barrier": "B", ".thread": "T", ".cell": "C" };
   let count = 0, begun = false;
   const lines = id("source").textContent.split("\n");
   for (const line of lines) {
-    const cut = line.indexOf(";"), code = cut < 0 ? line : line.slice(0, cut), talk = cut < 0 ? "" : line.slice(cut);
+    const cut = line.indexOf(";"), code = cut < 0 ? line : line.slice(0, cut), question = cut >= 0 && line[cut + 1] === "?";
+    const talk = cut < 0 || question ? "" : line.slice(cut);
     const w = wordsOf(code);
     let row = -1;
     if (w.length && /:$/.test(w[0])) (found.L[count] = found.L[count] || []).push(w.shift().slice(0, -1));
@@ -75,6 +77,8 @@ function readSource() {
       if (count >= rows.length || rows[count].word !== w[0]) return;
       row = count++;
     }
+    if (question) asked.push({ row: row < 0 ? count : row, text: line.slice(cut + 2).trim() });
+    if (question && !code.trim()) continue;
     begun = begun || code.trim() !== "";
     if (begun) out.push({ row: row, code: code.replace(/\r/g, ""), talk: talk.replace(/\r/g, ""), rule: row < 0 && w.length > 0 });
     else if (talk) introduction.push(talk.slice(1).trim());
@@ -86,6 +90,7 @@ function readSource() {
   names = found;
   written = out;
   about = introduction.join(" ").trim();
+  questions = asked.filter(one => one.text);
 }
 const nameOf = (kind, n) => names[kind][n] || { P: "p", B: "b", T: "t", C: "c" }[kind] + n;
 const threadName = t => nameOf("T", t);
