@@ -104,13 +104,13 @@ class Browser:
         return got["result"].get("value")
 
     def until(self, script, frame=None, seconds=10):
-        """Waits until an expression holds, and gives it."""
+        """Waits until an expression holds."""
         end, last = time.monotonic() + seconds, None
         while time.monotonic() < end:
             try:
-                got = self.run(script, frame)
+                got = self.run(f"Boolean({script})", frame)
                 if got:
-                    return got
+                    return
             except (RuntimeError, StopIteration, IndexError) as fault:
                 last = fault
             time.sleep(0.05)
