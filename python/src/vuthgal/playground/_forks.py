@@ -5,6 +5,7 @@ from typing import Iterable, Iterator, List, Optional, Tuple
 
 from .._calls import debug, plan, run
 from .._calls import list as canonical
+from .._errors import Refused
 
 #: how many choices a page shows, and how many choices times threads
 MOST, MOST_LANES = 2000, 40_000
@@ -46,7 +47,8 @@ def most_of(program: bytes) -> int:
 
 def planned(program: bytes, text: str) -> Tuple[List[str], bool]:
     """The choices of a plan, cut to what is shown, and whether there would be more. No word plays more than one choice more than
-    that, so that a plan for ever is short."""
+    that, so that a plan for ever is short. What is refused as a plan may be a schedule, in which a thread that isn't there is refused
+    as it is played."""
     most = most_of(program)
 
     def bounded(found: "re.Match[str]") -> str:
@@ -56,7 +58,13 @@ def planned(program: bytes, text: str) -> Tuple[List[str], bool]:
             return f"*{min(int(found[2]), most + 1)}"
         return found[0]
 
-    whole = plan(program, _WORDS.sub(bounded, text))
+    try:
+        whole = plan(program, _WORDS.sub(bounded, text))
+    except Refused:
+        if not all(map(_TOKEN.fullmatch, text.split())):
+            raise
+        own = tokens(text)
+        return own[:most], len(own) > most
     out: List[str] = []
     for word in whole.split():
         token, _, count = word.partition("*")

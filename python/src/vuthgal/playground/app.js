@@ -125,7 +125,7 @@ async function heard(event) {
   if (mine === played) event.source.postMessage({ vuthgal: "run", number: said.number, text: told.text, why: told.means || told.refused }, "*");
 }
 function moved(k, said) {
-  const frame = frames[k], path = pathOf(said.address);
+  const frame = frames[k], path = pathOf(said.address), isSame = frame.address === said.address;
   frame.now = said;
   frame.address = said.address;
   if (frame.wanted && said.to !== frame.wanted) return;
@@ -140,9 +140,10 @@ function moved(k, said) {
     keepLink();
     dare(said);
   }
-  if (!isTwo() || said.to !== undefined) return;
+  // who steps in one of two takes the other along; a page that is only drawn anew tells no step
+  if (!isTwo() || said.to !== undefined || isSame) return;
   if (k === 1) go(0, said.parent || said.address);
-  else if (!frames[1].now || said.at !== frames[1].now.at) go(1, pathOf(frames[1].address) + said.at);
+  else go(1, pathOf(frames[1].wanted || frames[1].address) + said.at);
 }
 // the runs so far, each below that from which it forks
 function drawTree() {
@@ -238,7 +239,7 @@ function readRun() {
   return { moments: moments.filter(one => one.word), questions, rowOf: m => rows[m.at] || "", nameOf: t => names[t] || "t" + t };
 }
 function questionAt(i, { moments, questions, rowOf, nameOf }) {
-  const here = moments[i], then = moments[i + 1], own = then && questions.find(one => one.row === then.at && !quiz.seen.has(one));
+  const here = moments[i], then = moments[i + 1], own = then && questions.find(one => one.row === then.at && !quiz.seen.has(one.row + one.text));
   if (i === 0 && !quiz.asked) return { text: "How does this run end?", kind: "radio", options: Object.values(ENDS), right: [ENDS[moments[moments.length - 1].word]] };
   if (!then) return null;
   const who = nameOf(+then.token.slice(1));
@@ -278,7 +279,7 @@ function ask() {
 function answer(form, question) {
   const given = [...form.elements].filter(one => one.checked).map(one => one.value).sort().join(), isRight = given === [...question.right].sort().join();
   if (!given && question.kind === "radio") return;
-  if (question.own) quiz.seen.add(question.own);
+  if (question.own) quiz.seen.add(question.own.row + question.own.text);
   else {
     quiz.asked++;
     if (isRight) quiz.right++;
