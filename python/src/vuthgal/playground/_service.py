@@ -45,8 +45,7 @@ class Template:
 
     def of_run(self, program: bytes, choices: List[str]) -> str:
         told = _forks.moments(program, [], choices, True)
-        source = re.sub(r"[^\t\n\r -~]", "?", program.decode())
-        return self.filled([html.escape(it, quote=False) for it in (_forks.canonical(program), source, told, "")])
+        return self.filled([html.escape(it, quote=False) for it in (_forks.canonical(program), program.decode(), told, "")])
 
     def saved(self, program: bytes, choices: List[str]) -> str:
         """The page of a run that stands alone: the library's texts."""
