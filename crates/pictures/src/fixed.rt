@@ -4,8 +4,8 @@
 #[rattlefmt::skip]
 pub const HEAD: &[u8] = b"\
 <!doctype html>\n<html lang=\"en\">\n<head>\n<meta charset=\"utf-8\">\n<meta name=\"viewport\" content=\"width=device-width, initial-scale=1\
-\">\n<meta http-equiv=\"Content-Security-Policy\" content=\"default-src 'none'; style-src 'sha256-3L0Wz1FMui2Y7tHurUlDF8sZiDAxCuugZifaG/XNfP\
-c='; script-src 'sha256-yuN4VaNiOAcaS/YvGvmN/WCj99QB0FENTswLuzrsVn4='\">\n<meta name=\"generator\" content=\"vuthgal show\">\n<title>A run, \
+\">\n<meta http-equiv=\"Content-Security-Policy\" content=\"default-src 'none'; style-src 'sha256-gkV42qtaqqK4NWoURIqKGU/rNvj1V9aiP8SPwetrl0\
+k='; script-src 'sha256-yuN4VaNiOAcaS/YvGvmN/WCj99QB0FENTswLuzrsVn4='\">\n<meta name=\"generator\" content=\"vuthgal show\">\n<title>A run, \
 step by step</title>\n<style>\n:root {\n  color-scheme: light;\n  --ink: #111; --soft: #505050; --faint: #666; --rule: #bbb; --line: #777; -\
 -paper: #fff; --now: #fff3b8; --branch: #d9e8ff; --branch-edge: #1a4fb0; --edge: #111; --face: #f2f2f2; --pressed: #ddd; --focus: #0b57d0;\n  \
 --h0: #4664d1; --h1: #d56819; --h2: #599462; --h3: #b280af; --h4: #5a5200; --h5: #0098ff; --h6: #31318d; --h7: #78002f;\n  --map-off: #fff; \
@@ -167,77 +167,77 @@ nt: inherit; font-size: .85em }\n/* on a phone, and on a low screen, the steps, 
 f the height at most; a\n   longer sentence scrolls, with a shadow where there is more of it, and who may go next stays in view */\n@media s\
 creen and (max-width: 40rem), screen and (max-height: 30rem) {\n  body { padding: .5rem .5rem .8rem }\n  button { padding: .2rem .5rem }\n  \
 #keys, #speed, #slider, #top .word, #branch, #if.note, #crumbs .ends:not(.over), #crumbs .leave { display: none }\n  body:not(.wide) #top { \
-display: flex; flex-direction: column; max-height: 33vh; overflow: auto }\n  #top > * { flex: none }\n  #crumbs { margin: 0; padding: .1rem \
-.4rem; line-height: 1.2 }\n  #crumbs .crumb { flex: 1 1 0; overflow-wrap: anywhere }\n  #crumbs .ends { flex-basis: 100%; margin: 0; font-si\
-ze: .92rem }\n  #bar { gap: .25rem; margin: .2rem 0 }\n  #bar button { flex: none; min-width: 2.2rem; min-height: 2.2rem; padding: .2rem .35\
-rem }\n  #where { flex: 1 1 auto; text-align: right }\n  body:not(.wide) #said { display: flex; flex-direction: column; overflow: hidden; fl\
-ex-shrink: 9; min-height: 2.9rem; max-height: none; font-size: 1.05rem; line-height: 1.25; padding: .15rem .5rem; margin: 0 }\n  body:not(.w\
-ide) #what { overflow: auto; min-height: 1.25em; background: linear-gradient(var(--now) 30%, transparent) top / 100% 1rem no-repeat local, l\
-inear-gradient(transparent, var(--now) 70%) bottom / 100% 1rem no-repeat local, linear-gradient(var(--line), transparent) top / 100% .4rem n\
-o-repeat, linear-gradient(transparent, var(--line)) bottom / 100% .4rem no-repeat }\n  body:not(.wide) #next { flex-shrink: 0; overflow: aut\
-o; max-height: 4.2rem }\n  #if { flex-wrap: nowrap; flex-shrink: 1; align-items: stretch; min-height: 2.6rem; font-size: .92rem; line-height\
-: 1.25; margin: .2rem 0 0 }\n  #would { flex: 1 1 0; overflow: auto }\n  #goon { flex: none; align-self: center; min-height: 2.6rem }\n}\n@m\
-edia print {\n  @page { margin: 12mm }\n  html { font-size: 9.5pt }\n  body { padding: 0 }\n  #bar, #view, #if, #foot, #map, #crumbs .leave, \
-body:not(.sheet) #answers, body:not(.sheet) #pupil { display: none }\n  #crumbs button { border: 0; background: none }\n  #panes, .inner { d\
-isplay: block }\n  #panes > section { display: block; border: 0; padding: 0; margin-top: 5mm }\n  .scroll { overflow: visible !important }\n  \
-#lanes thead th { position: static }\n  #lanes .n { position: static }\n  #lanes .gap { display: none }\n  #lanes tr, #rows tr, #state .bloc\
-k, .moment { break-inside: avoid }\n  h2, h3 { break-after: avoid }\n  #text:not([open]), .hiding #text, .sheet #text, .states #state, body:\
-not(.states) #handout { display: none }\n  /* all states: of each choice what it did, and its tables beside one another */\n  .moment { marg\
-in-top: 3mm; padding-top: 1mm; border-top: 1px solid var(--line) }\n  .moment .facts { display: flex; flex-wrap: wrap; gap: 1mm 6mm }\n  .mo\
-ment .facts table { width: auto }\n  .moment h3 { margin: .1rem 0 }\n  /* a worksheet: of what comes later, whose turn it is, and lines to w\
-rite on */\n  .sheet #code { break-inside: avoid }\n  #pupil { display: flex; gap: 5mm; margin: 5mm 0 }\n  #pupil span { flex: 2 1 0; border\
--bottom: 1px solid var(--ink); padding-bottom: 1mm }\n  #pupil span:last-child { flex: 1 1 0 }\n  #answers ol { padding-left: 6mm; margin: 5\
-mm 0 0 }\n  #answers li { break-inside: avoid; margin-bottom: 4mm }\n  #answers li::after { content: \"\"; display: block; height: 24mm; bac\
-kground: repeating-linear-gradient(var(--paper) 0 calc(8mm - 1px), var(--line) calc(8mm - 1px) 8mm); print-color-adjust: exact; -webkit-prin\
-t-color-adjust: exact }\n  .sheet #lanes { width: 100% }\n  .sheet #lanes .m, .sheet #lanes .w:last-child { width: 99% }\n  .sheet #lanes tr\
-.later > * { height: 8mm }\n  .sheet tr.later .tag, .sheet tr.later .mark { display: none }\n  .sheet tr.later { visibility: visible }\n  .s\
-heet tr.later > * { border-bottom: 1px solid var(--line) }\n  .sheet tr.later > * > *, .sheet tr.later .t::before, .sheet tr.later .t::after\
-, .sheet tr.close { visibility: hidden }\n  .sheet tr.later .dot, .sheet tr.later .in-line { visibility: visible }\n  .sheet tr.later .dot { \
-width: .85rem; height: .85rem; margin: -.425rem 0 0 -.425rem; border: 2px solid var(--ink); border-radius: 50%; background: var(--paper); cl\
-ip-path: none }\n  .sheet tr.later .dot::before { display: none }\n}\n@media screen {\n  #handout, #answers, #pupil { display: none }\n}\n</\
-style>\n</head>\n<body>\n<header>\n<h1 id=\"title\">A run, step by step</h1>\n<div id=\"view\" role=\"group\" aria-label=\"View\" hidden>\n<\
-label><input type=\"checkbox\" id=\"hide\"> hide what comes later</label>\n<label><input type=\"checkbox\" id=\"fold\"> fold idle choices</l\
-abel>\n<label><input type=\"checkbox\" id=\"java\"> Java's words</label>\n<label><input type=\"checkbox\" id=\"alone\"> timeline alone</labe\
-l>\n</div>\n<p id=\"about\" hidden></p>\n</header>\n<noscript><p class=\"alarm\">The picture of this run needs this page's script. Without i\
-t, the run stands below as text, in which <code>t0</code>, <code>p0</code>, <code>b0</code> and <code>c0</code> are the first thread, phaser\
-, barrier and cell of the program.</p></noscript>\n<p id=\"broken\" class=\"alarm\" hidden>This page's text can't be read as a run, so nothi\
-ng is drawn from it: <span id=\"why\"></span>.</p>\n<main id=\"tool\" hidden>\n<div id=\"top\">\n<nav id=\"crumbs\" aria-label=\"Which run\" \
-aria-live=\"polite\" hidden></nav>\n<div id=\"bar\" role=\"group\" aria-label=\"Steps\">\n<button type=\"button\" id=\"first\" title=\"To th\
-e start (Home)\" aria-label=\"To the start\">|&lt;</button>\n<button type=\"button\" id=\"back\" title=\"One choice back (left arrow)\" aria\
--label=\"Back\">&lt;<span class=\"word\"> Back</span></button>\n<button type=\"button\" id=\"forth\" title=\"One choice forward (right arrow\
-)\" aria-label=\"Forward\"><span class=\"word\">Forward </span>&gt;</button>\n<button type=\"button\" id=\"last\" title=\"To the end (End)\" \
-aria-label=\"To the end\">&gt;|</button>\n<button type=\"button\" id=\"play\" title=\"A choice after another (space)\" aria-pressed=\"false\"\
->Play</button>\n<select id=\"speed\" aria-label=\"Speed of Play\">\n<option value=\"0.5\">every half second</option>\n<option value=\"1\">ev\
-ery second</option>\n<option value=\"2\" selected>every 2 seconds</option>\n<option value=\"4\">every 4 seconds</option>\n<option value=\"8\"\
->every 8 seconds</option>\n</select>\n<input type=\"range\" id=\"slider\" min=\"0\" value=\"0\" step=\"1\" aria-label=\"Choice\">\n<output i\
-d=\"where\" for=\"slider\"></output>\n</div>\n<p id=\"said\" role=\"status\" aria-live=\"polite\"><span id=\"what\"></span> <span id=\"next\"\
-></span></p>\n<p id=\"question\" hidden></p>\n<div id=\"if\" role=\"group\" aria-label=\"What if\">\n<span id=\"would\" aria-live=\"polite\"\
-></span>\n<button type=\"button\" id=\"goon\" hidden></button>\n<button type=\"button\" id=\"branch\" hidden>Copy with this choice</button>\n\
-</div>\n</div>\n<p id=\"pupil\"><span>Name</span> <span>Date</span></p>\n<div id=\"panes\">\n<section id=\"time\" aria-label=\"Timeline\">\n\
-<h2>Timeline</h2>\n<div class=\"inner\">\n<div id=\"map\" aria-hidden=\"true\" hidden><canvas></canvas><div id=\"unseen\"></div><div id=\"he\
-re\"></div></div>\n<div class=\"scroll\" tabindex=\"0\" role=\"region\" aria-label=\"Timeline: a column for each thread, a line for each cho\
-ice\"><table id=\"lanes\"></table></div>\n</div>\n<ul id=\"legend\">\n<li><i class=\"bar wait\"></i> waits</li>\n<li><i class=\"bar\"></i> m\
-ay go on</li>\n<li><i class=\"part\"></i> took part</li>\n<li><i class=\"dot throw\"></i> throws</li>\n<li><i class=\"dot die\"></i> dies</l\
-i>\n<li><i class=\"dot end\"></i> ends</li>\n</ul>\n<details id=\"names\" hidden><summary>Names of the threads</summary><ul></ul></details>\n\
-</section>\n<section id=\"code\" aria-label=\"Program\"><h2>Program</h2><div class=\"scroll\" tabindex=\"0\" role=\"region\" aria-label=\"Pr\
-ogram, with the row of each thread\"><table id=\"rows\"></table></div></section>\n<section id=\"state\" aria-label=\"State\"><h2 id=\"after\"\
->State</h2><div class=\"scroll facts\" tabindex=\"0\" role=\"region\" aria-label=\"State after this choice\" id=\"things\"></div></section>\n\
-</div>\n<section id=\"answers\" aria-label=\"Worksheet\">\n<ol>\n<li>Beside each line: what does the choice answer, and who waits behind it?\
-</li>\n<li>How does the run end? Who waits for ever, and for whom?</li>\n<li>Before which choice could another have gone, so that it ends ot\
-herwise? Who, and how does it end then?</li>\n</ol>\n</section>\n<section id=\"handout\" aria-label=\"State after each choice\"></section>\n\
-<div id=\"foot\">\n<p id=\"keys\">Keys: <kbd>&#8594;</kbd> or <kbd>Page Down</kbd> forward, <kbd>&#8592;</kbd> or <kbd>Page Up</kbd> back, <\
-kbd>Home</kbd>, <kbd>End</kbd>, <kbd>space</kbd> plays, <kbd>+</kbd> and <kbd>-</kbd> the size, <kbd>0</kbd> the one that fits, <kbd>f</kbd> \
-the timeline alone, <kbd>Esc</kbd> from another run back to the fork. <label><input type=\"checkbox\" id=\"letters\" checked> keys of one le\
-tter or sign</label></p>\n<div id=\"paper\" role=\"group\" aria-label=\"Copy and print\">\n<input type=\"text\" id=\"copied\" readonly hidde\
-n aria-label=\"What was copied\">\n<button type=\"button\" id=\"whole\" title=\"The schedule of the run that is shown\">Copy the schedule</b\
-utton>\n<button type=\"button\" id=\"command\" title=\"The command that makes the page of the run that is shown\">Copy the command</button>\n\
-<button type=\"button\" id=\"states\" title=\"The program, the timeline, and of each choice its sentence and the state after it\">Print all \
-states</button>\n<button type=\"button\" id=\"sheet\" title=\"The timeline with empty lines from the next choice on; at the end, from the st\
-art on\">Print a worksheet</button>\n</div>\n</div>\n</main>\n<details id=\"text\" open>\n<summary>The text that this page draws</summary>\n\
-<p>Written by <code>vuthgal show</code>: the program, then the state at the start, and then of each choice its line and the state after it; \
-with each state, the line that each choice would have as the next one. Below it the other runs: what each of those choices leads to, by a fi\
-xed rule. These texts are the runs', word for word. This page's script draws a picture of them, and plays nothing.</p>\n<h3>Program, in cano\
-nical form</h3>\n<pre id=\"listing\">\n";
+display: flex; flex-direction: column; max-height: max(33vh, 7.8rem); overflow: auto }\n  #top > * { flex: none }\n  #crumbs { margin: 0; pa\
+dding: .1rem .4rem; line-height: 1.2 }\n  #crumbs .crumb { flex: 1 1 0; overflow-wrap: anywhere }\n  #crumbs .ends { flex-basis: 100%; margi\
+n: 0; font-size: .92rem }\n  #bar { gap: .25rem; margin: .2rem 0 }\n  #bar button { flex: none; min-width: 2.2rem; min-height: 2.2rem; paddi\
+ng: .2rem .35rem }\n  #where { flex: 1 1 auto; text-align: right }\n  body:not(.wide) #said { display: flex; flex-direction: column; overflo\
+w: hidden; flex-shrink: 9; min-height: 2.9rem; max-height: none; font-size: 1.05rem; line-height: 1.25; padding: .15rem .5rem; margin: 0 }\n  \
+body:not(.wide) #what { overflow: auto; min-height: 1.25em; background: linear-gradient(var(--now) 30%, transparent) top / 100% 1rem no-repe\
+at local, linear-gradient(transparent, var(--now) 70%) bottom / 100% 1rem no-repeat local, linear-gradient(var(--line), transparent) top / 1\
+00% .4rem no-repeat, linear-gradient(transparent, var(--line)) bottom / 100% .4rem no-repeat }\n  body:not(.wide) #next { flex-shrink: 0; ov\
+erflow: auto; max-height: 4.2rem }\n  #if { flex-wrap: nowrap; flex-shrink: 1; align-items: stretch; min-height: 2.6rem; font-size: .92rem; \
+line-height: 1.25; margin: .2rem 0 0 }\n  #would { flex: 1 1 0; overflow: auto }\n  #goon { flex: none; align-self: center; min-height: 2.6r\
+em }\n}\n@media print {\n  @page { margin: 12mm }\n  html { font-size: 9.5pt }\n  body { padding: 0 }\n  #bar, #view, #if, #foot, #map, #cru\
+mbs .leave, body:not(.sheet) #answers, body:not(.sheet) #pupil { display: none }\n  #crumbs button { border: 0; background: none }\n  #panes\
+, .inner { display: block }\n  #panes > section { display: block; border: 0; padding: 0; margin-top: 5mm }\n  .scroll { overflow: visible !i\
+mportant }\n  #lanes thead th { position: static }\n  #lanes .n { position: static }\n  #lanes .gap { display: none }\n  #lanes tr, #rows tr\
+, #state .block, .moment { break-inside: avoid }\n  h2, h3 { break-after: avoid }\n  #text:not([open]), .hiding #text, .sheet #text, .states \
+#state, body:not(.states) #handout { display: none }\n  /* all states: of each choice what it did, and its tables beside one another */\n  .\
+moment { margin-top: 3mm; padding-top: 1mm; border-top: 1px solid var(--line) }\n  .moment .facts { display: flex; flex-wrap: wrap; gap: 1mm \
+6mm }\n  .moment .facts table { width: auto }\n  .moment h3 { margin: .1rem 0 }\n  /* a worksheet: of what comes later, whose turn it is, an\
+d lines to write on */\n  .sheet #code { break-inside: avoid }\n  #pupil { display: flex; gap: 5mm; margin: 5mm 0 }\n  #pupil span { flex: 2 \
+1 0; border-bottom: 1px solid var(--ink); padding-bottom: 1mm }\n  #pupil span:last-child { flex: 1 1 0 }\n  #answers ol { padding-left: 6mm\
+; margin: 5mm 0 0 }\n  #answers li { break-inside: avoid; margin-bottom: 4mm }\n  #answers li::after { content: \"\"; display: block; height\
+: 24mm; background: repeating-linear-gradient(var(--paper) 0 calc(8mm - 1px), var(--line) calc(8mm - 1px) 8mm); print-color-adjust: exact; -\
+webkit-print-color-adjust: exact }\n  .sheet #lanes { width: 100% }\n  .sheet #lanes .m, .sheet #lanes .w:last-child { width: 99% }\n  .shee\
+t #lanes tr.later > * { height: 8mm }\n  .sheet tr.later .tag, .sheet tr.later .mark { display: none }\n  .sheet tr.later { visibility: visi\
+ble }\n  .sheet tr.later > * { border-bottom: 1px solid var(--line) }\n  .sheet tr.later > * > *, .sheet tr.later .t::before, .sheet tr.late\
+r .t::after, .sheet tr.close { visibility: hidden }\n  .sheet tr.later .dot, .sheet tr.later .in-line { visibility: visible }\n  .sheet tr.l\
+ater .dot { width: .85rem; height: .85rem; margin: -.425rem 0 0 -.425rem; border: 2px solid var(--ink); border-radius: 50%; background: var(\
+--paper); clip-path: none }\n  .sheet tr.later .dot::before { display: none }\n}\n@media screen {\n  #handout, #answers, #pupil { display: n\
+one }\n}\n</style>\n</head>\n<body>\n<header>\n<h1 id=\"title\">A run, step by step</h1>\n<div id=\"view\" role=\"group\" aria-label=\"View\" \
+hidden>\n<label><input type=\"checkbox\" id=\"hide\"> hide what comes later</label>\n<label><input type=\"checkbox\" id=\"fold\"> fold idle \
+choices</label>\n<label><input type=\"checkbox\" id=\"java\"> Java's words</label>\n<label><input type=\"checkbox\" id=\"alone\"> timeline a\
+lone</label>\n</div>\n<p id=\"about\" hidden></p>\n</header>\n<noscript><p class=\"alarm\">The picture of this run needs this page's script. \
+Without it, the run stands below as text, in which <code>t0</code>, <code>p0</code>, <code>b0</code> and <code>c0</code> are the first threa\
+d, phaser, barrier and cell of the program.</p></noscript>\n<p id=\"broken\" class=\"alarm\" hidden>This page's text can't be read as a run, \
+so nothing is drawn from it: <span id=\"why\"></span>.</p>\n<main id=\"tool\" hidden>\n<div id=\"top\">\n<nav id=\"crumbs\" aria-label=\"Whi\
+ch run\" aria-live=\"polite\" hidden></nav>\n<div id=\"bar\" role=\"group\" aria-label=\"Steps\">\n<button type=\"button\" id=\"first\" titl\
+e=\"To the start (Home)\" aria-label=\"To the start\">|&lt;</button>\n<button type=\"button\" id=\"back\" title=\"One choice back (left arro\
+w)\" aria-label=\"Back\">&lt;<span class=\"word\"> Back</span></button>\n<button type=\"button\" id=\"forth\" title=\"One choice forward (ri\
+ght arrow)\" aria-label=\"Forward\"><span class=\"word\">Forward </span>&gt;</button>\n<button type=\"button\" id=\"last\" title=\"To the en\
+d (End)\" aria-label=\"To the end\">&gt;|</button>\n<button type=\"button\" id=\"play\" title=\"A choice after another (space)\" aria-presse\
+d=\"false\">Play</button>\n<select id=\"speed\" aria-label=\"Speed of Play\">\n<option value=\"0.5\">every half second</option>\n<option val\
+ue=\"1\">every second</option>\n<option value=\"2\" selected>every 2 seconds</option>\n<option value=\"4\">every 4 seconds</option>\n<option \
+value=\"8\">every 8 seconds</option>\n</select>\n<input type=\"range\" id=\"slider\" min=\"0\" value=\"0\" step=\"1\" aria-label=\"Choice\">\
+\n<output id=\"where\" for=\"slider\"></output>\n</div>\n<p id=\"said\" role=\"status\" aria-live=\"polite\"><span id=\"what\"></span> <span \
+id=\"next\"></span></p>\n<p id=\"question\" hidden></p>\n<div id=\"if\" role=\"group\" aria-label=\"What if\">\n<span id=\"would\" aria-live\
+=\"polite\"></span>\n<button type=\"button\" id=\"goon\" hidden></button>\n<button type=\"button\" id=\"branch\" hidden>Copy with this choic\
+e</button>\n</div>\n</div>\n<p id=\"pupil\"><span>Name</span> <span>Date</span></p>\n<div id=\"panes\">\n<section id=\"time\" aria-label=\"T\
+imeline\">\n<h2>Timeline</h2>\n<div class=\"inner\">\n<div id=\"map\" aria-hidden=\"true\" hidden><canvas></canvas><div id=\"unseen\"></div>\
+<div id=\"here\"></div></div>\n<div class=\"scroll\" tabindex=\"0\" role=\"region\" aria-label=\"Timeline: a column for each thread, a line \
+for each choice\"><table id=\"lanes\"></table></div>\n</div>\n<ul id=\"legend\">\n<li><i class=\"bar wait\"></i> waits</li>\n<li><i class=\"\
+bar\"></i> may go on</li>\n<li><i class=\"part\"></i> took part</li>\n<li><i class=\"dot throw\"></i> throws</li>\n<li><i class=\"dot die\">\
+</i> dies</li>\n<li><i class=\"dot end\"></i> ends</li>\n</ul>\n<details id=\"names\" hidden><summary>Names of the threads</summary><ul></ul\
+></details>\n</section>\n<section id=\"code\" aria-label=\"Program\"><h2>Program</h2><div class=\"scroll\" tabindex=\"0\" role=\"region\" ar\
+ia-label=\"Program, with the row of each thread\"><table id=\"rows\"></table></div></section>\n<section id=\"state\" aria-label=\"State\"><h\
+2 id=\"after\">State</h2><div class=\"scroll facts\" tabindex=\"0\" role=\"region\" aria-label=\"State after this choice\" id=\"things\"></d\
+iv></section>\n</div>\n<section id=\"answers\" aria-label=\"Worksheet\">\n<ol>\n<li>Beside each line: what does the choice answer, and who w\
+aits behind it?</li>\n<li>How does the run end? Who waits for ever, and for whom?</li>\n<li>Before which choice could another have gone, so \
+that it ends otherwise? Who, and how does it end then?</li>\n</ol>\n</section>\n<section id=\"handout\" aria-label=\"State after each choice\
+\"></section>\n<div id=\"foot\">\n<p id=\"keys\">Keys: <kbd>&#8594;</kbd> or <kbd>Page Down</kbd> forward, <kbd>&#8592;</kbd> or <kbd>Page U\
+p</kbd> back, <kbd>Home</kbd>, <kbd>End</kbd>, <kbd>space</kbd> plays, <kbd>+</kbd> and <kbd>-</kbd> the size, <kbd>0</kbd> the one that fit\
+s, <kbd>f</kbd> the timeline alone, <kbd>Esc</kbd> from another run back to the fork. <label><input type=\"checkbox\" id=\"letters\" checked\
+> keys of one letter or sign</label></p>\n<div id=\"paper\" role=\"group\" aria-label=\"Copy and print\">\n<input type=\"text\" id=\"copied\" \
+readonly hidden aria-label=\"What was copied\">\n<button type=\"button\" id=\"whole\" title=\"The schedule of the run that is shown\">Copy t\
+he schedule</button>\n<button type=\"button\" id=\"command\" title=\"The command that makes the page of the run that is shown\">Copy the com\
+mand</button>\n<button type=\"button\" id=\"states\" title=\"The program, the timeline, and of each choice its sentence and the state after \
+it\">Print all states</button>\n<button type=\"button\" id=\"sheet\" title=\"The timeline with empty lines from the next choice on; at the e\
+nd, from the start on\">Print a worksheet</button>\n</div>\n</div>\n</main>\n<details id=\"text\" open>\n<summary>The text that this page dr\
+aws</summary>\n<p>Written by <code>vuthgal show</code>: the program, then the state at the start, and then of each choice its line and the s\
+tate after it; with each state, the line that each choice would have as the next one. Below it the other runs: what each of those choices le\
+ads to, by a fixed rule. These texts are the runs', word for word. This page's script draws a picture of them, and plays nothing.</p>\n<h3>P\
+rogram, in canonical form</h3>\n<pre id=\"listing\">\n";
 
 /// What stands between the listing and the program's text.
 #[rattlefmt::skip]

@@ -158,6 +158,8 @@ function drawTree() {
     button.onclick = () => go(frames.length - 1, node.path + (last().now || { at: 0 }).at);
     lists.set(node.path, add(line, "ul"));
   }
+  const here = box.querySelector("[aria-current]");
+  if (here && (here.offsetTop < box.offsetTop + box.scrollTop || here.offsetTop + here.offsetHeight > box.offsetTop + box.scrollTop + box.clientHeight)) box.scrollTop = here.offsetTop - box.offsetTop;
 }
 async function beside() {
   const is = !isTwo(), now = last() && last().now;
