@@ -4,5 +4,6 @@ import sys
 from .playground import main
 
 if sys.argv[1:2] != ["playground"]:
-    sys.exit("usage: python3 -m vuthgal playground [FILE|FOLDER]")
+    print("usage: python3 -m vuthgal playground [FILE|FOLDER]", file=sys.stderr)
+    sys.exit(2)
 sys.exit(main(sys.argv[2:]))
