@@ -6,7 +6,6 @@ from pathlib import Path
 
 HERE = Path(__file__).resolve().parent
 LIBRARY = HERE.parent / "lib" / "libvuthgal.so.1"
-SCRIPTS = "[console_scripts]\nvuthgal-playground = vuthgal.playground:main\n"
 
 
 def _version():
@@ -22,12 +21,6 @@ def _files():
     for path in sorted((HERE / "src").rglob("*")):
         if path.suffix in (".py", ".typed", ".html", ".css", ".js"):
             yield path.relative_to(HERE / "src").as_posix(), path.read_bytes()
-    # the menu of the playground
-    examples = HERE.parent / "examples"
-    for folder in (examples, examples / "lessons", examples / "tutorial"):
-        for path in sorted(folder.glob("*")):
-            if path.suffix in (".asm", ".txt", ".schedule", ".plan"):
-                yield f"vuthgal/{path.relative_to(HERE.parent).as_posix()}", path.read_bytes()
     if LIBRARY.is_file():
         yield "vuthgal/libvuthgal.so.1", LIBRARY.read_bytes()
 
@@ -50,7 +43,6 @@ def prepare_metadata_for_build_wheel(metadata_directory, config_settings=None):
     folder.mkdir()
     (folder / "METADATA").write_text(_metadata(version))
     (folder / "WHEEL").write_text(_wheel())
-    (folder / "entry_points.txt").write_text(SCRIPTS)
     return folder.name
 
 
@@ -64,7 +56,7 @@ def build_wheel(wheel_directory, config_settings=None, metadata_directory=None):
     files = dict(_files())
     files[f"{info}/METADATA"] = _metadata(version).encode()
     files[f"{info}/WHEEL"] = _wheel().encode()
-    files[f"{info}/entry_points.txt"] = SCRIPTS.encode()
+    files[f"{info}/entry_points.txt"] = b"[console_scripts]\nvuthgal-playground = vuthgal.playground:main\n"
     record = []
     for name, content in files.items():
         digest = base64.urlsafe_b64encode(hashlib.sha256(content).digest()).rstrip(b"=").decode()
