@@ -9,7 +9,9 @@ own the commands of a run, as a reader types them:
 <!-- end of the run -->
 
 Between them comes the text of the file; or the commands, and then what they print. A command knows the variables that a run
-before it in the same document has set.
+before it in the same document has set. A short run needs no marks. It is a block in which each command follows a `$`:
+
+    $ ./vuthgal draw examples/methods/arrive.asm --plan 'ann bob'
 
 With --check each other command of these documents is run, too, as it stands there, in their order and in a folder like a clone:
 each block that begins with a command, and of a text what stands in backticks and begins with the program, bin/check or sed. It
@@ -33,6 +35,8 @@ from marks import TOP
 PROGRAM = Path(os.environ.get("VUTHGAL", TOP / "bin" / "vuthgal")).resolve()
 PAGES = (TOP / "README.md", *sorted((TOP / "docs").glob("*.md")))
 MADE = re.compile(r"(<!-- the (program|run)(?: (\S+))?, by bin/made examples(?:\n([^>]*?))? -->\n).*?(<!-- end of the \2 -->)", re.S)
+SHORT = re.compile(r"(?<=\n\n)(?:    \$ (?:\./vuthgal|bin/check|cat|[a-z]+=)[^\n]*\n(?:    (?!\$ )[^\n]*\n)*)+")
+FILLED = re.compile(f"{MADE.pattern}|{SHORT.pattern}", re.S)
 TOLD = re.compile(r"<!-- (first|status 0 or 1|not run|holds), by bin/made examples(?:: )?([^>]*?) -->")
 
 # how a command begins, in a block and within a text; and why some are never run here
@@ -86,7 +90,16 @@ def filled(page, room):
     """The text of a document, with what stands between its marks made anew."""
     variables = []
 
+    def short(command):
+        output = printed(command, variables, room)
+        variables.extend(variables_in(command))
+        if "\n\n" in output:
+            sys.exit(f"{command}\nprints an empty line, so that it needs marks")
+        return block(f"$ {command}\n{output}")
+
     def made(marks):
+        if not marks[1]:
+            return "".join(short(command) for command in re.findall(r"(?m)^    \$ (.*)", marks[0]))
         begin, kind, path, commands, end = marks.groups()
         if kind == "program":
             return f"{begin}\n{block((TOP / path).read_text())}\n{end}"
@@ -97,7 +110,7 @@ def filled(page, room):
     text = page.read_text()
     if text.count(", by bin/made examples") != len(MADE.findall(text)) + len(TOLD.findall(text)):
         sys.exit(f"{page.relative_to(TOP)} has a mark of bin/made that is spelled otherwise, or has no end")
-    return MADE.sub(made, text)
+    return FILLED.sub(made, text)
 
 
 def made():

@@ -1,7 +1,8 @@
-"""Makes two tables of the kit. In kit/cases/README.md that of the cases: for each heading of docs/BEHAVIOUR.md how many cases of each
-folder name it in their first line, in the order of the headings. In kit/wrong/README.md that of the adapters in kit/wrong/burst: what each has
+"""Makes two tables of the kit. In kit/cases/README.md that of the cases: for each heading of the rules how many cases of each folder
+name it in their first line, in the order of the headings. In kit/wrong/README.md that of the adapters in kit/wrong/burst: what each has
 misunderstood, the kind of burst that finds it, and where lock-step does, as its comment says; and of the faults in
-kit/wrong/lockfree/table.txt. Each heading has to be one of BEHAVIOUR's, and each kind of burst one of the player's."""
+kit/wrong/lockfree/table.txt. The rules are docs/BEHAVIOUR.md, docs/PHASER.md and
+docs/CYCLICBARRIER.md. Each heading has to be one of theirs, and each kind of burst one of the player's."""
 import re
 import sys
 from collections import Counter
@@ -12,15 +13,15 @@ KEPT = TOP / "kit" / "cases" / "README.md"
 WRONG = TOP / "kit" / "wrong" / "README.md"
 ADAPTERS = TOP / "kit" / "wrong" / "burst"
 LOCK_FREE = TOP / "kit" / "wrong" / "lockfree" / "table.txt"
-RULES = (TOP / "docs" / "BEHAVIOUR.md").read_text()
+RULES = "\n".join((TOP / "docs" / f"{page}.md").read_text() for page in ("PHASER", "CYCLICBARRIER", "BEHAVIOUR"))
 RIGHT = "UnderOneLock"  # the classes of which the wrong ones are made
 ADAPTER = re.compile(r"/\*\*\n((?: \* .*\n)+) \*\n \* <p>Found by ([\w-]+)(?:; in lock-step (.*))?\.\n \*/\npublic final class (\w+)")
 
 
 def place_of(heading):
-    """Where a heading stands in BEHAVIOUR, and where behind it a part of it (`Tiers, Joining`); none where it doesn't."""
+    """Where a heading stands in the rules, and where behind it a part of it (`Tiers, Joining`); none where it doesn't."""
     for title, part in ((heading, ""), tuple(heading.split(", ", 1)) if ", " in heading else (heading, "")):
-        begin = re.search(rf"(?m)^##+ {re.escape(title)}$", RULES)
+        begin = re.search(rf"(?m)^#+ {re.escape(title)}$", RULES)
         if begin and not part:
             return begin.start(), 0
         if begin:
@@ -37,7 +38,7 @@ def table_of_cases():
         cases.setdefault(heading, Counter())[path.parent.name] += 1
     missing = [heading for heading in cases if not place_of(heading)]
     if missing:
-        sys.exit(f"no headings of docs/BEHAVIOUR.md: {'; '.join(missing)}")
+        sys.exit(f"no headings of the rules: {'; '.join(missing)}")
     rows = []
     for heading in sorted(cases, key=place_of):
         folders = ", ".join(f"`{folder}` {count}" for folder, count in cases[heading].items())

@@ -77,7 +77,7 @@ record Answer(Kind kind, int number, String words) {
             case VOID -> "ok";
             case THROWN -> "throws " + exception();
             case THROUGH -> "throws what its onAdvance or action threw";
-            case FAULT -> "throws something else: " + words;
+            case FAULT -> "throws something else, `" + words + "`";
         };
     }
 

@@ -8,6 +8,8 @@ final class BreakBursts {
     static final List<BurstKind> KINDS = List.of(
         new BurstKind("interrupts-at-a-barrier", BreakBursts::interrupts,
             "Interrupts while the parties come."),
+        new BurstKind("an-interrupt-alone-at-a-barrier", BreakBursts::interruptAlone,
+            "Waits that only an interrupt ends, which comes when they begin."),
         new BurstKind("resets-among-waiters", BreakBursts::resets,
             "Resets while more come than there are parties."),
         new BurstKind("no-time-among-waiters", BreakBursts::noTime,
@@ -22,6 +24,7 @@ final class BreakBursts {
             "Looks while parties come and one resets the barrier."));
 
     private static final int MOST_BARRIERS = 6;
+    private static final long DAY = 86_400_000_000_000L;
 
     private BreakBursts() {
     }
@@ -49,6 +52,16 @@ final class BreakBursts {
             make.then(thread, BurstStep.interrupt(make.between(0, parties - 1)));
         }
         make.then(thread, BurstMaker.call(Method.IS_BROKEN, barrier));
+    }
+
+    /** Each waits at a barrier of its own. */
+    private static void interruptAlone(BurstMaker make) {
+        int waiters = make.between(1, 2);
+        for (int waiter = 0; waiter < waiters; waiter++) {
+            int barrier = make.barrier(2);
+            make.thread(make.of(50) ? await(barrier) : BurstMaker.timed(Method.AWAIT_FOR, barrier, 0, DAY));
+        }
+        make.interruptsEach(waiters);
     }
 
     private static void resets(BurstMaker make) {

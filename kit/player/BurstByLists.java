@@ -165,7 +165,7 @@ final class BurstByLists {
 
     private void enter(BurstEntry entry, PortLine where) {
         if (where.kind() == PortLine.Kind.ENTERS_ROUTINE) {
-            history.asks(Entered.onAdvance(where.number(0), where.number(1), where.number(2)));
+            history.asks(Entered.onAdvance(where.number(0), where.number(1), where.number(2)), entry);
         } else {
             entry.enters(Entered.action(where.number(0)));
         }

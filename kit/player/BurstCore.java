@@ -17,7 +17,7 @@ final class BurstCore {
 
     private final BurstHistory history;
     private final boolean waiting;
-    private final long limit = System.nanoTime() + LONGEST;
+    private final long limit = System.nanoTime() + (long) (LONGEST * Load.factor());
     private final Set<BurstEntry> answers = new HashSet<>();
     private final Set<BurstEntry> calls = new HashSet<>();
     private final List<BurstEntry> entries;

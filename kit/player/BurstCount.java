@@ -2,6 +2,8 @@ package kit.player;
 
 import java.io.PrintStream;
 import java.util.HashSet;
+import java.util.IntSummaryStatistics;
+import java.util.Locale;
 import java.util.Map;
 import java.util.Set;
 import java.util.TreeMap;
@@ -15,10 +17,13 @@ final class BurstCount {
     private static final int OVERTAKEN_TO_COUNT = 3;
     private static final int ROUNDS_OF_OVERTAKING = 5_000;
     private static final long SECOND = 1_000_000_000L;
+    /** With points most faults take up to so many bursts of a kind. */
+    private static final int ENOUGH_WITH_POINTS = 100;
 
     private final long begun = System.nanoTime();
     private final BurstSuite suite = new BurstSuite();
-    private final Set<String> kindsPlayed = new HashSet<>();
+    /** How many bursts each had. */
+    private final Map<String, Integer> kindsPlayed = new TreeMap<>();
     private final Set<String> kindsLeftOut = new HashSet<>();
     private final Map<String, Integer> whyLeftOut = new TreeMap<>();
     private final BurstOverlap overlap = new BurstOverlap();
@@ -64,7 +69,7 @@ final class BurstCount {
     synchronized void played(Burst burst, int count, long nanoseconds) {
         rounds++;
         calls += count;
-        kindsPlayed.add(burst.kind());
+        kindsPlayed.merge(burst.kind(), 1, Integer::sum);
         suite.played(burst.kind(), nanoseconds);
     }
 
@@ -101,8 +106,13 @@ final class BurstCount {
         return (System.nanoTime() - begun) / SECOND + " s";
     }
 
+    /** How long the bursts of a kind took. */
+    synchronized long nanoseconds(String kind) {
+        return suite.nanoseconds(kind);
+    }
+
     /** In some lines; {@code round} is the one that was played again and again, or negative. */
-    synchronized void tell(long round, PrintStream to) {
+    synchronized void tell(long round, boolean withPoints, PrintStream to) {
         whyLeftOut.forEach((why, kinds) -> to.println(kinds + " kinds left out: " + why));
         if (rounds == 0) {
             to.println("nothing was compared");
@@ -113,9 +123,23 @@ final class BurstCount {
             + (findings == 0 || round >= 0 ? "" : ", the first at try " + firstTry + ", in round " + firstFound + ", after " + firstAfter)
             + (overtaken == 0 ? "" : "; an interrupt won over the end of a phase " + overtaken + " times"));
         overlap.tell(to);
+        if (kindsPlayed.size() > 1) {
+            to.println(eachHad(withPoints));
+        }
         if (round >= 0) {
             to.println("round " + round + (findings == 0 ? " didn't fail in " + rounds + " tries" : " failed at try " + firstTry));
         }
+    }
+
+    /** Points matter little in some kinds: these may have fewer. */
+    private String eachHad(boolean withPoints) {
+        IntSummaryStatistics each = BurstKind.ALL.stream()
+            .filter(kind -> kindsPlayed.containsKey(kind.name()) && (!withPoints || kind.needsPoints()))
+            .mapToInt(kind -> kindsPlayed.get(kind.name())).summaryStatistics();
+        return each.getCount() + " kinds" + (withPoints ? " in which points matter" : "") + ", " + each.getMin() + " to "
+            + each.getMax() + " bursts each" + (!withPoints || each.getMin() >= ENOUGH_WITH_POINTS ? ""
+                : String.format(Locale.ROOT, "; too few, at a load of %.0f on %d processors: leave off other work, or take --kind",
+                    Load.now(), Load.PROCESSORS));
     }
 
     BurstSuite suite() {

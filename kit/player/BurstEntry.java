@@ -13,6 +13,7 @@ final class BurstEntry {
     private final long begin;
     private final long beganAt;
     private final List<Entered> entered = new ArrayList<>(1);
+    private final List<Entered> asked = new ArrayList<>(1);
     private volatile Answer answer;
     private volatile long end = Long.MAX_VALUE;
     private volatile long endedAt = Long.MAX_VALUE;
@@ -74,6 +75,16 @@ final class BurstEntry {
     /** The actions that it ran. */
     List<Entered> entered() {
         return entered;
+    }
+
+    /** Its thread runs an onAdvance. */
+    void asks(Entered where) {
+        asked.add(where);
+    }
+
+    /** What its onAdvance was asked; empty if it ran none, or that isn't known. */
+    List<Entered> asked() {
+        return asked;
     }
 
     void finish(Answer answer, long end, long endedAt) {

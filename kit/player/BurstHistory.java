@@ -14,6 +14,8 @@ final class BurstHistory {
     private final AtomicLong clock = new AtomicLong();
     private final Queue<BurstEntry> entries = new ConcurrentLinkedQueue<>();
     private final Queue<Entered> asked = new ConcurrentLinkedQueue<>();
+    /** What this thread has begun, where it makes the calls itself. */
+    private final ThreadLocal<BurstEntry> begun = new ThreadLocal<>();
 
     /** {@code timed}: its clock is that of the real side, in nanoseconds, and it is told what began and ended when. */
     BurstHistory(Burst burst, boolean timed) {
@@ -33,6 +35,7 @@ final class BurstHistory {
         long now = System.nanoTime();
         BurstEntry entry = new BurstEntry(thread, step, clock.incrementAndGet(), now);
         entries.add(entry);
+        begun.set(entry);
         return entry;
     }
 
@@ -45,9 +48,17 @@ final class BurstHistory {
         entries.add(entry);
     }
 
-    /** The {@code onAdvance} of a phaser was asked. */
+    /** The {@code onAdvance} of a phaser was asked, by a call of the present thread, if that makes calls. */
     void asks(Entered where) {
+        asks(where, begun.get());
+    }
+
+    /** {@code by} is null where it isn't known. */
+    void asks(Entered where, BurstEntry by) {
         asked.add(where);
+        if (by != null && !by.step().interrupts()) {
+            by.asks(where);
+        }
     }
 
     boolean wasAsked(Entered where) {

@@ -47,7 +47,8 @@ final class BurstJudge {
                 return "waits for ever: " + entry.words();
             }
             if (entry.answer().kind() == Answer.Kind.FAULT) {
-                return entry.words();
+                long same = entries.stream().filter(other -> entry.answer().equals(other.answer())).count();
+                return entry.words() + (same > 1 ? ", and so do " + (same - 1) + " more calls" : "");
             }
             if (entry.answer().isThrown(Answer.TIMEOUT) && entry.lasted() < entry.request().nanoseconds()) {
                 return "its time is over after " + entry.lasted() + " ns: " + entry.words();

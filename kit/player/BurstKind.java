@@ -29,6 +29,15 @@ record BurstKind(String name, Consumer<BurstMaker> maker, String words) {
         return ALL.stream().map(BurstKind::name).filter(name -> !name.equals(differs)).collect(Collectors.toSet());
     }
 
+    /** Those of times and crowds: their races aren't of two instructions, so points matter little there. */
+    private static final Set<String> WITHOUT_POINTS = Set.of("time-at-the-advance", "time-that-runs-out", "time-among-pokes",
+        "the-longest-time", "a-crowd-at-a-phase", "time-at-the-trip", "time-during-the-action", "the-longest-time-at-a-barrier",
+        "a-crowd-at-a-barrier", "time-that-breaks");
+
+    boolean needsPoints() {
+        return !WITHOUT_POINTS.contains(name);
+    }
+
     static boolean isName(String name) {
         return ALL.stream().anyMatch(kind -> kind.name.equals(name));
     }

@@ -183,6 +183,17 @@ final class BurstKit {
         return finding;
     }
 
+    /** A port that loses interrupts is found by the waits that only an interrupt ends, at either class. */
+    void checkLosesInterrupts(Kit.Port port) {
+        for (String kind : List.of("an-interrupt-alone", "an-interrupt-alone-at-a-barrier")) {
+            Stage stage = new PortStage(port.command());
+            String finding = finding(stage, kind);
+            stage.close();
+            part.take("`" + port.command() + "`, " + kind, finding != null, "no burst finds it");
+            part.to.println("  `" + port.command() + "` is found by " + finding);
+        }
+    }
+
     /** The phaser without a lock: its bursts find nothing as long as it has no fault, and each fault of the table. */
     void checkLockFree(Path table, String command) throws IOException {
         checkPort(new Kit.Port(command, ROUNDS_ON_THE_RIGHT_ONE));

@@ -126,12 +126,22 @@ final class BurstMaker {
 
     // ---- the rest
 
+    /** A thread for each of so many, that interrupts it once. */
+    void interruptsEach(int count) {
+        for (int target = 0; target < count; target++) {
+            thread(BurstStep.interrupt(target).after(time(0, 20)));
+        }
+    }
+
     /** The looker makes this call now and then as long as somebody waits. */
     void closes(Request request) {
         closer = request;
     }
 
-    /** The looker makes these calls over and over as long as somebody runs; they change nothing in the end. */
+    /**
+     * The looker makes these calls over and over as long as somebody runs; they change nothing in the end. A wait among them is
+     * another thread's, and an interrupt ends it.
+     */
     void pokes(BurstStep step) {
         pokes.add(step);
     }

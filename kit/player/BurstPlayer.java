@@ -24,6 +24,8 @@ final class BurstPlayer {
 
     private final Stage stage;
     private final long bound;
+    /** The wait that is a poke; null where there is none. */
+    private Call poke;
 
     /** What takes longer than {@code bound}, in nanoseconds, is taken to wait for ever. */
     BurstPlayer(Stage stage, long bound) {
@@ -33,6 +35,7 @@ final class BurstPlayer {
 
     /** Its history; calls that wait for ever have no answer in it. Unplayable where the real side can't make the objects. */
     BurstHistory play(Burst burst) {
+        poke = null;
         BurstHistory history = stage.takesLists() ? playByLists(burst) : playByCalls(burst);
         stage.checkWarnings();
         return history;
@@ -77,13 +80,14 @@ final class BurstPlayer {
                 }
                 limit = System.nanoTime() + bound;
             } else if (pokes) {
-                burst.pokes().forEach(poke -> ask(poke.request()));
+                poke(burst);
             } else if (closes && System.nanoTime() > nextClosing) {
                 lists.close();
                 pause = Math.min(2 * pause, LONGEST_PAUSE);
                 nextClosing = System.nanoTime() + pause;
             }
         }
+        endPoke(burst);
         return true;
     }
 
@@ -167,13 +171,14 @@ final class BurstPlayer {
             } else if (System.nanoTime() > limit) {
                 return false;
             } else if (pokes) {
-                burst.pokes().forEach(poke -> ask(poke.request()));
+                poke(burst);
             } else if (burst.closer() != null && System.nanoTime() > nextClosing) {
                 close(burst, history);
                 pause = Math.min(2 * pause, LONGEST_PAUSE);
                 nextClosing = System.nanoTime() + pause;
             }
         }
+        endPoke(burst);
         return true;
     }
 
@@ -203,9 +208,29 @@ final class BurstPlayer {
         }
     }
 
-    private void ask(Request request) {
-        RealThread looker = stage.thread(Stage.LOOKER);
-        looker.done(looker.tell(request), bound);
+    private void poke(Burst burst) {
+        endPoke(burst);
+        for (BurstStep each : burst.pokes()) {
+            if (each.request().method().interruptible()) {
+                poke = stage.thread(burst.looker()).tell(each.request());
+            } else {
+                RealThread looker = stage.thread(Stage.LOOKER);
+                looker.done(looker.tell(each.request()), bound);
+            }
+        }
+    }
+
+    private void endPoke(Burst burst) {
+        if (poke == null) {
+            return;
+        }
+        Call wait = poke;
+        poke = null;
+        RealThread poker = stage.thread(burst.looker());
+        poker.interrupt();
+        if (!poker.done(wait, bound)) {
+            throw new Hangs("an interrupt doesn't end " + wait.request.words());
+        }
     }
 
     /** The looks of a player when all is quiet, and each thread's interrupted status; false where one hangs. */

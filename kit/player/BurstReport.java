@@ -32,8 +32,9 @@ final class BurstReport {
         line("  in the order in which they began, each with its begin and its end"
             + (history.isTimed() ? ", in nanoseconds:" : ":"));
         history.entries().forEach(this::entry);
-        history.asked().forEach(where -> line("    onAdvance of phaser " + where.object() + " was asked: phase "
-            + where.phase() + ", parties " + where.parties()));
+        List<Entered> left = new ArrayList<>(history.asked());
+        history.entries().forEach(entry -> entry.asked().forEach(left::remove));
+        left.forEach(where -> line("    " + asked(where)));
         if (!history.hasOpen() && !finding.overtaken()) {
             unexplained();
         }
@@ -84,9 +85,14 @@ final class BurstReport {
         }
     }
 
+    private static String asked(Entered where) {
+        return "onAdvance of phaser " + where.object() + " was asked: phase " + where.phase() + ", parties " + where.parties();
+    }
+
     private void entry(BurstEntry entry) {
         line("    " + at(entry.begin()) + ".." + (entry.isOpen() ? "" : at(entry.end())) + " " + entry.words()
             + (entry.entered().isEmpty() ? "" : ", ran the action"));
+        entry.asked().forEach(where -> line("      in it " + asked(where)));
     }
 
     /** A moment of the history's clock, as it is told. */

@@ -30,6 +30,11 @@ final class BurstSuite {
         kind(name).nanoseconds += nanoseconds;
     }
 
+    long nanoseconds(String name) {
+        Kind kind = kinds.get(name);
+        return kind == null ? 0 : kind.nanoseconds;
+    }
+
     /** The first failure of a kind is told whole. */
     void fails(String name, String text) {
         Kind kind = kind(name);

@@ -15,6 +15,10 @@ final class Bursts {
     private static final long UNIT_OF_PORT = 100_000;
     private static final int MOST_FINDINGS = 5;
     private static final int MILLISECONDS_OF_PROGRESS = 1_000;
+    /** With points, the time of a kind that has little to do with them counts so many times. */
+    private static final int LESS_WITHOUT_POINTS = 4;
+    /** For a burst that hasn't ended, in nanoseconds. */
+    private static final long SOME_TIME = 50_000;
 
     /** One real side. */
     private record Place(Stage stage, BurstPlayer player) {
@@ -33,6 +37,8 @@ final class Bursts {
     private final BurstCount count = new BurstCount();
     private BurstOrder order = new BurstOrder(1, BurstOrder.EACH, 0, 0);
     private long given;
+    /** How many rounds of each kind, where time decides. */
+    private final long[] givenOf = new long[BurstKind.ALL.size()];
     private long until;
     private RuntimeException failed;
     private LastWords last;
@@ -98,7 +104,7 @@ final class Bursts {
         if (enough || failed != null || count.asked() >= order.count() || System.nanoTime() > until) {
             return null;
         }
-        long round = again ? order.round() : nextRound();
+        long round = again ? order.round() : order.points().areNone() ? nextRound() : nextByTime();
         if (round < 0 || count.isLeftOut(BurstKind.of(round).name())) {
             return null;
         }
@@ -117,6 +123,22 @@ final class Bursts {
             }
         }
         return -1;
+    }
+
+    /** Of the kind that has had the least time so far: first one in which points matter. */
+    private long nextByTime() {
+        int least = -1;
+        long time = Long.MAX_VALUE;
+        for (int at = 0; at < BurstKind.ALL.size(); at++) {
+            BurstKind kind = BurstKind.ALL.get(at);
+            long had = (count.nanoseconds(kind.name()) + givenOf[at] * SOME_TIME) * (kind.needsPoints() ? 1 : LESS_WITHOUT_POINTS)
+                + (kind.needsPoints() ? 0 : 1);
+            if (order.wants(kind.name()) && !count.isLeftOut(kind.name()) && had < time) {
+                least = at;
+                time = had;
+            }
+        }
+        return least < 0 ? -1 : least + BurstKind.ALL.size() * givenOf[least]++;
     }
 
     /** How much has been given, of the rounds or of the time, from 0 to 1. */
@@ -228,6 +250,6 @@ final class Bursts {
         if (!stopped && !stage.isHere() && !stage.takesLists()) {
             to.println("the port takes no lists, so its calls came one by one through the pipe, and hardly overlapped");
         }
-        count.tell(order.round(), to);
+        count.tell(order.round(), !order.points().areNone(), to);
     }
 }

@@ -193,11 +193,11 @@ final class Caller {
         return WaitTime.runsOut(real, transcribed, until);
     }
 
-    /** How long the choices and the expiries after the one step take, up to the other. */
+    /** How long the choices and the expiries after the one step take, up to the other, on a machine that is as busy as now. */
     private long realTime(int step, int until) {
         long settle = scene.patience.settle();
-        return scene.plan.expiriesBetween(step, until) * (scene.patience.expiry() + 4 * settle)
-            + (until - step) * (2 * settle + TRIPS_OF_A_CHOICE * scene.roundTrip());
+        return (long) (Load.factor() * (scene.plan.expiriesBetween(step, until) * (scene.patience.expiry() + 4 * settle)
+            + (until - step) * (2 * settle + TRIPS_OF_A_CHOICE * scene.roundTrip())));
     }
 
     private long transcribedTime(int step, int until) {
@@ -300,7 +300,7 @@ final class Caller {
                 return thread.ok();
             }
             case FAULT -> {
-                scene.odd(given.words());
+                scene.odd(pending.words(thread) + " " + given.told());
                 return thread.fail(-1);
             }
             default -> {

@@ -220,11 +220,15 @@ final class CommandChecks {
                 kit.resolve("differences").toString()),
             new Check(0, "the port takes no lists, so its calls came one by one", "--burst", "3", "--port", port + "without lists"),
             new Check(0, "the port takes no lists, so its calls came one by one", "--burst", "3", "--port", port + "old lists"),
-            new Check(0, "90 bursts of 45 kinds, ", "--burst", "90", "--jobs", "2", "--port", port + "nothing ''"),
-            new Check(0, "16 kinds left out: it makes no barrier\n45 bursts of 29 kinds, ",
-                "--burst", "45", "--port", port + "without barrier"),
+            new Check(0, "98 bursts of 49 kinds, ", "--burst", "98", "--jobs", "2", "--port", port + "nothing ''"),
+            new Check(0, "17 kinds left out: it makes no barrier\n49 bursts of 32 kinds, ",
+                "--burst", "49", "--port", port + "without barrier"),
             new Check(2, "nothing was compared\n", "--burst", "45", "--port", port + "without case"),
             new Check(0, "12 bursts of 12 kinds, ", "--burst", "12", "--points", "3", "--port", right(python)),
+            new Check(0, "12 kinds in which points matter, 1 to 1 bursts each; too few, at a load of ",
+                "--burst", "12", "--points", "3", "--port", right(python)),
+            new Check(0, "threads spin while all should wait, in 1 case: ", "--port", wrong + "polls.py 0",
+                folder("waiting") + "/for-the-present-phase.txt"),
             new Check(1, "with POINTS=7\nagain: --burst 20000 --seed 1 --round 0 --points 7..7\n",
                 "--burst", "1", "--points", "7..9", "--port", port + "'0 did' 'exit 3'"),
             new Check(1, "burst 1 0 meetings\n  the port's race detector warns:\n    WARNING: DATA RACE, as kit/faults/port.py"
@@ -381,7 +385,7 @@ final class CommandChecks {
         Path told = Files.createTempFile("vuthgal", ".told");
         Process player = start(told, "--patience", "100", "--port", port + "ok child; sleep 600", folder("reset"));
         List<ProcessHandle> below = List.of();
-        for (int wait = 0; wait < 200 && !hasChild(below); wait++) {
+        for (int wait = 0; wait < 1_200 && !hasChild(below); wait++) {
             Thread.sleep(50);
             below = player.descendants().toList();
         }

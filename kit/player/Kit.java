@@ -72,7 +72,8 @@ public final class Kit {
 
     /**
      * The words are the repository's folder, the program to hold all against, the command of Python, that of the phaser without
-     * a lock (each empty where there is none), and, for each port, how many bursts it plays, and its command.
+     * a lock (each empty where there is none), and, for each port, how many bursts it plays, and its command; one of no bursts
+     * loses interrupts.
      */
     public static void main(String[] words) throws IOException {
         Kit kit = new Kit(Path.of(words[0]), Path.of(words[1]));
@@ -80,7 +81,8 @@ public final class Kit {
     }
 
     /** All that mostly waits is played at once, and the bursts, which need the processors, behind it. */
-    private boolean check(String python, String lockFree, List<Port> ports) {
+    private boolean check(String python, String lockFree, List<Port> all) {
+        List<Port> ports = all.stream().filter(port -> port.bursts() > 0).toList();
         Map<String, Body> atOnce = new LinkedHashMap<>();
         atOnce.put("commands", part -> commands(part).checkWords());
         atOnce.put("forms of cases", part -> commands(part).checkForms());
@@ -90,7 +92,7 @@ public final class Kit {
             atOnce.put("commands on ports", part -> commands(part).checkPorts(python));
             atOnce.put("ends of commands", part -> commands(part).checkEnds(python));
             atOnce.put("faults of ports", part -> new FaultTable(kit.resolve("faults")).check(vuthgal, python, part));
-            atOnce.put("transcripts and soaks", part -> new ReplayChecks(kit, python, part).check(ports));
+            atOnce.put("transcripts and soaks", part -> new ReplayChecks(kit, python, part).check(ports, lockFree));
         }
         atOnce.put("cases", this::checkCases);
         atOnce.put("differences", this::checkDifferences);
@@ -103,6 +105,8 @@ public final class Kit {
         play("wrong adapters for bursts", part -> bursts(part).checkAdapters(
             new WrongAdapters(kit.resolve("wrong").resolve("burst"), "kit.wrong.burst")));
         ports.forEach(port -> play("bursts on `" + port.command() + "`", part -> bursts(part).checkPort(port)));
+        play("ports that lose interrupts",
+            part -> all.stream().filter(port -> port.bursts() == 0).forEach(port -> bursts(part).checkLosesInterrupts(port)));
         if (!lockFree.isEmpty()) {
             play("a phaser without a lock",
                 part -> bursts(part).checkLockFree(kit.resolve("wrong/lockfree/table.txt"), lockFree));

@@ -18,6 +18,8 @@ final class MeetingBursts {
             "Others come and go again while the parties meet."),
         new BurstKind("bulk-registration-while-a-phase-ends", MeetingBursts::bulkRegistration,
             "Others come, several at once, and go again while one party ends phases."),
+        new BurstKind("registration-at-an-empty-phaser", MeetingBursts::emptyRoot,
+            "Threads come to a phaser without parties, and leave it empty."),
         new BurstKind("looks-at-a-phaser", MeetingBursts::manyLooks,
             "Looks at the counts while many come and go."),
         new BurstKind("arrivals-that-nobody-awaits", MeetingBursts::arrivals,
@@ -29,7 +31,9 @@ final class MeetingBursts {
         new BurstKind("arrivals-behind-a-look", MeetingBursts::arrivalsBehindALook,
             "Each thread looks at the phaser, and arrives: whoever has seen a phase begin isn't refused as in one that ends."),
         new BurstKind("waits-while-arrivals-barge", MeetingBursts::waitsWhileArrivalsBarge,
-            "Threads that only arrive end phases, while others await some of them: two may wake waiters at once."));
+            "Threads that only arrive end phases, while others await some of them: two may wake waiters at once."),
+        new BurstKind("two-who-release", MeetingBursts::twoWhoRelease,
+            "Some await phase after phase, which two end and forced terminations cut short."));
 
     private static final int MANY = 24;
 
@@ -109,6 +113,23 @@ final class MeetingBursts {
             make.thread(steps);
         }
         looks(make, phaser);
+    }
+
+    private static void emptyRoot(BurstMaker make) {
+        int phaser = make.root(0, make.of(80) ? BurstMaker.NEVER : Policy.DEFAULT);
+        for (int other = make.between(2, 4); other > 0; other--) {
+            List<BurstStep> steps = new ArrayList<>();
+            for (int often = make.between(1, 4); often > 0; often--) {
+                steps.add(BurstMaker.call(Method.REGISTER, phaser));
+                if (make.of(30)) {
+                    steps.add(BurstMaker.call(Method.GET_REGISTERED_PARTIES, phaser));
+                }
+                Method leaves = make.of(90) ? Method.ARRIVE_AND_DEREGISTER : Method.ARRIVE_AND_AWAIT_ADVANCE;
+                steps.add(BurstMaker.call(leaves, phaser));
+            }
+            make.thread(steps);
+        }
+        make.closes(Request.of(Method.FORCE_TERMINATION, phaser));
     }
 
     private static void manyLooks(BurstMaker make) {
@@ -202,6 +223,24 @@ final class MeetingBursts {
             }
             make.thread(steps);
         }
+    }
+
+    /** Two arrive at the same moments, again and again, so that both release: others have come back to wait by then. */
+    private static void twoWhoRelease(BurstMaker make) {
+        int phaser = make.root(1, BurstMaker.NEVER);
+        int often = make.between(2, 6);
+        long pause = make.time(50, 500);
+        for (int thread = 0; thread < 2; thread++) {
+            make.thread(BurstMaker.times(often, BurstMaker.call(Method.ARRIVE, phaser).after(pause)));
+        }
+        for (int waiter = make.between(2, 5); waiter > 0; waiter--) {
+            List<BurstStep> steps = new ArrayList<>();
+            for (int phase = 0; phase < often + 1; phase++) {
+                steps.add(BurstMaker.call(Method.AWAIT_ADVANCE, phaser, phase));
+            }
+            make.thread(steps);
+        }
+        make.closes(Request.of(Method.FORCE_TERMINATION, phaser));
     }
 
     private static void looks(BurstMaker make, int phaser) {

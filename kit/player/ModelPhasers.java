@@ -3,7 +3,7 @@ package kit.player;
 import java.util.ArrayList;
 import java.util.List;
 
-/** The phasers of the model: numbers, and one call at a time, as docs/BEHAVIOUR.md has it under "Phaser". */
+/** The phasers of the model: numbers, and one call at a time, as docs/PHASER.md and docs/BEHAVIOUR.md have it. */
 final class ModelPhasers {
     private static final int MOST_PARTIES = 65535;
     private static final int NOBODY = -1;

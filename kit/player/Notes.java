@@ -36,6 +36,10 @@ final class Notes {
     }
 
     final Transcript transcript = new Transcript();
+    /** Whether threads of the real side ran while all should wait. */
+    boolean spins;
+
+    private static final int MOST_NAMES = 5;
 
     private final Map<Kind, Integer> counts = new EnumMap<>(Kind.class);
     private final Map<String, Integer> differences = new TreeMap<>();
@@ -100,6 +104,13 @@ final class Notes {
     /** How often each documented difference was told over, by the name of its program. */
     Map<String, Integer> differences() {
         return differences;
+    }
+
+    /** What is said of these cases, in which threads spin. */
+    static String spinning(List<String> cases) {
+        String few = String.join(", ", cases.subList(0, Math.min(cases.size(), MOST_NAMES)));
+        return "threads spin while all should wait, in " + cases.size() + (cases.size() == 1 ? " case: " : " cases: ") + few
+            + (cases.size() > MOST_NAMES ? ", .." : "");
     }
 
     /** The line below a verdict. */

@@ -11,6 +11,8 @@ final class PhaseBursts {
             "Some wait for a phase, and phases end one behind the other."),
         new BurstKind("interrupt-behind-the-advance", PhaseBursts::interruptBehind,
             "Who ends the phase interrupts the waiters at once."),
+        new BurstKind("an-interrupt-alone", PhaseBursts::interruptAlone,
+            "Waits that only an interrupt ends, which comes when they begin."),
         new BurstKind("interrupts-among-waiters", PhaseBursts::interruptsAmong,
             "Interrupts at any moment of waits that hear them, and of waits that don't."),
         new BurstKind("time-at-the-advance", PhaseBursts::timeAtTheAdvance,
@@ -18,7 +20,7 @@ final class PhaseBursts {
         new BurstKind("time-that-runs-out", PhaseBursts::timeThatRunsOut,
             "A time of less than a millisecond is over, and the phaser is as it was."),
         new BurstKind("time-among-pokes", PhaseBursts::timeAmongPokes,
-            "A time is over although others come and go all the while."),
+            "A time is over although others come and go all the while, or are interrupted in their waits."),
         new BurstKind("the-longest-time", PhaseBursts::longestTime,
             "A time so long that what is added to it overflows."),
         new BurstKind("a-crowd-at-a-phase", PhaseBursts::crowd,
@@ -87,6 +89,16 @@ final class PhaseBursts {
         }
     }
 
+    private static void interruptAlone(BurstMaker make) {
+        int phaser = make.root(1);
+        int waiters = make.between(1, 2);
+        for (int waiter = 0; waiter < waiters; waiter++) {
+            make.thread(BurstMaker.timed(
+                make.of(50) ? Method.AWAIT_ADVANCE_INTERRUPTIBLY : Method.AWAIT_ADVANCE_FOR, phaser, 0, DAY));
+        }
+        make.interruptsEach(waiters);
+    }
+
     private static void interruptsAmong(BurstMaker make) {
         int parties = make.between(1, 2);
         int phaser = make.root(parties, make.of(50) ? Policy.DEFAULT : BurstMaker.NEVER);
@@ -121,13 +133,17 @@ final class PhaseBursts {
     }
 
     /**
-     * A time is over although others come and go all the while. Now and then it is a long one, since on a busy machine they
-     * make longer breaks.
+     * A time is over although others come and go all the while, or are interrupted. Now and then it is a long one, since on a
+     * busy machine they make longer breaks.
      */
     private static void timeAmongPokes(BurstMaker make) {
         int phaser = make.root(1);
         long time = make.time(20_000, 30_000) * (make.of(25) ? 10 : 1);
         make.thread(BurstMaker.timed(Method.AWAIT_ADVANCE_FOR, phaser, 0, time));
+        if (make.of(50)) {
+            make.pokes(BurstMaker.call(Method.AWAIT_ADVANCE_INTERRUPTIBLY, phaser));
+            return;
+        }
         make.pokes(BurstMaker.call(Method.REGISTER, phaser));
         make.pokes(BurstMaker.call(Method.ARRIVE_AND_DEREGISTER, phaser));
     }

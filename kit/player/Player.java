@@ -74,6 +74,9 @@ public final class Player {
         to.println(verdict.words() + verdict.triesInWords());
         to.println(verdict.notes().sums());
         verdict.notes().lines().forEach(to::println);
+        if (verdict.notes().spins) {
+            to.println(Notes.spinning(List.of(each.name())));
+        }
         if (options.trace() != null) {
             Files.writeString(options.trace(), verdict.trace());
         }

@@ -46,6 +46,11 @@ final class PortThread extends RealThread {
     }
 
     @Override
+    protected double share() {
+        return process.tasks().share();
+    }
+
+    @Override
     protected void check() {
         process.check();
     }
@@ -84,7 +89,7 @@ final class PortThread extends RealThread {
             case VOID -> nothing(said, method);
             case THROWN -> thrown(said);
             case THROUGH -> through(said, wasToldToThrow);
-            case FAULT -> Answer.fault(Excerpt.of(said.line()));
+            case FAULT -> Answer.fault(Excerpt.of(said.line().replaceFirst("^.*?fault ", "")));
             default -> throw said.fault("it is no answer of a call");
         };
     }

@@ -77,6 +77,11 @@ abstract class RealThread {
         return Rest.ASLEEP;
     }
 
+    /** How much of a processor the real side has taken since {@code markRest}, as far as can be seen. */
+    protected double share() {
+        return 0;
+    }
+
     /** Whether none of the real side's threads runs now, as far as can be seen. */
     protected final boolean isAtRest() {
         return rest() == Rest.ASLEEP;

@@ -37,8 +37,11 @@ final class ReplayChecks {
         this.part = part;
     }
 
-    /** All transcripts are right on each of the ports, those that no program makes also on the JDK, and wrong ports are found. */
-    void check(List<Kit.Port> ports) throws IOException {
+    /**
+     * All transcripts are right on each of the ports, those that no program makes also on the JDK, and wrong ports are found,
+     * among them one of the phaser without a lock, unless there is none.
+     */
+    void check(List<Kit.Port> ports, String lockFree) throws IOException {
         List<Runnable> checks = new ArrayList<>();
         for (Kit.Port port : ports) {
             checks.add(() -> soak(0, "while 60 threads wait: ", port.command()));
@@ -46,6 +49,10 @@ final class ReplayChecks {
         checks.add(() -> soak(0, "left out: it makes no barrier\n", python + " " + kit.resolve("faults/port.py") + " without barrier"));
         checks.add(() -> soak(1, " 0.0 bytes a wait are left, resident\n", wrong + "polls.py"));
         checks.add(() -> soak(1, "while 60 threads wait: 0.", wrong + "keeps_waits.py"));
+        if (!lockFree.isEmpty()) {
+            checks.add(() -> soak(1, "\n  waits after a release alone: ", "FAULT=permit-is-kept " + lockFree));
+            checks.add(() -> soak(1, "behind waits that are late, ", "FAULT=freed-while-queued " + lockFree));
+        }
         checks.add(() -> soak(2, "case has to have the answers ok, and has okay\n",
             python + " " + kit.resolve("faults/port.py") + " ok 'say okay\\n'"));
         checks.add(() -> check(2, "kit/soak COMMAND [WAITS]", Map.of(), python + " '" + kit.resolve("soak") + "'"));

@@ -126,7 +126,9 @@ final class Scene {
 
     /** What this call of the thread has come to, once it is done, enters, or is blocked. */
     RealThread.Outcome settle(ProgramThread thread, Call call) {
-        return seen(thread, call, settling.settle(real(thread), call));
+        RealThread.Outcome outcome = settling.settle(real(thread), call);
+        notes.spins |= settling.spins();
+        return seen(thread, call, outcome);
     }
 
     /** The same of a call that never waits. */

@@ -12,11 +12,18 @@ final class Settling {
     private static final int TRIPS = 3;
     /** A real side that isn't at rest after so many times, though it has run, is one that spins while it waits. */
     private static final int MOST_ROUNDS = 10;
+    /**
+     * So much of a processor, while somebody waits, or, where the machine is busy, so much of what is left for one thread: a round
+     * trip takes less, and a thread that spins before it sleeps.
+     */
+    private static final double MUCH = 0.2;
+    private static final double LEAST = 0.05;
 
     private final Stage stage;
     private final Patience patience;
     private long trip;
     private boolean unsure;
+    private boolean spins;
 
     Settling(Stage stage, Patience patience) {
         this.stage = stage;
@@ -38,10 +45,12 @@ final class Settling {
             RealThread.Rest rest = thread.rest();
             last = roundTrip();
             boolean waits = rest == RealThread.Rest.ASLEEP && last <= still;
-            boolean spins = rest == RealThread.Rest.RUNNING && last <= still && round >= MOST_ROUNDS;
+            boolean runs = rest == RealThread.Rest.RUNNING && last <= still && round >= MOST_ROUNDS;
             RealThread.Outcome outcome = RealThread.outcome(call);
-            if (waits || spins || outcome != RealThread.Outcome.BLOCKED || System.nanoTime() > limit) {
+            if (waits || runs || outcome != RealThread.Outcome.BLOCKED || System.nanoTime() > limit) {
                 unsure |= outcome == RealThread.Outcome.BLOCKED && !waits;
+                spins |= outcome == RealThread.Outcome.BLOCKED && runs
+                    && thread.share() > Math.max(LEAST, MUCH / Load.factor());
                 return outcome;
             }
         }
@@ -69,6 +78,11 @@ final class Settling {
     /** Whether a call was taken to wait though the real side wasn't at rest: it may not have begun. */
     boolean isUnsure() {
         return unsure;
+    }
+
+    /** Whether the real side has spun while a call waited. */
+    boolean spins() {
+        return spins;
     }
 
     /** How long a round trip has taken of late. */

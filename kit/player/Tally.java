@@ -1,6 +1,8 @@
 package kit.player;
 
 import java.io.PrintStream;
+import java.util.ArrayList;
+import java.util.List;
 import java.util.Map;
 import java.util.TreeMap;
 
@@ -16,6 +18,7 @@ final class Tally {
     private final Map<String, Integer> whyLeftOut = new TreeMap<>();
     private final Map<String, Integer> differences = new TreeMap<>();
     private final Map<String, Integer> excused = new TreeMap<>();
+    private final List<String> spinning = new ArrayList<>();
     private int same;
     private int different;
     private int stuck;
@@ -52,6 +55,9 @@ final class Tally {
         verdict.notes().differences().forEach((program, count) -> differences.merge(program, count, Integer::sum));
         verdict.notes().excused().forEach((program, count) -> excused.merge(program, count, Integer::sum));
         again += verdict.tries() > 1 ? 1 : 0;
+        if (verdict.notes().spins) {
+            spinning.add(played.each().name());
+        }
         switch (verdict.kind()) {
             case SAME -> same++;
             case DIFFERS -> different++;
@@ -93,6 +99,9 @@ final class Tally {
         to.println(sums.line());
         differences.forEach((program, count) -> to.println("  " + count + " told over as in differences/" + program));
         excused.forEach((program, count) -> to.println("  " + count + " not as the JDK, but as ours, as in differences/" + program));
+        if (!spinning.isEmpty()) {
+            to.println(Notes.spinning(spinning));
+        }
         if (compared() == 0) {
             to.println("nothing was compared");
         }

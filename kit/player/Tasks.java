@@ -27,6 +27,7 @@ final class Tasks {
     private final List<Path> folders;
     /** What was seen when the present call was told. */
     private Map<Path, Seen> before = Map.of();
+    private long marked;
 
     Tasks(Process process) {
         this(Stream.concat(Stream.of(process.toHandle()), process.descendants())
@@ -52,6 +53,17 @@ final class Tasks {
     /** From now on {@code rest} counts how long each has run. */
     void mark() {
         before = look();
+        marked = System.nanoTime();
+    }
+
+    /** How much of a processor they have taken since the mark, all together. */
+    double share() {
+        long ran = 0;
+        for (Map.Entry<Path, Seen> now : look().entrySet()) {
+            Seen then = before.get(now.getKey());
+            ran += now.getValue().ran() - (then == null ? 0 : then.ran());
+        }
+        return (double) ran / (System.nanoTime() - marked);
     }
 
     /** How much they rest, and whether those that don't have run since the mark. */

@@ -75,7 +75,8 @@ record Verdict(Kind kind, int line, String trace, Notes notes, Plan plan, Breakd
 
     /** This one, with the try before it. What slowness doesn't explain there counts, whatever comes of the case now. */
     Verdict behind(Verdict earlier) {
-        String told = earlier.before.isEmpty() ? earlier.wordsWithOdd() : earlier.before + "; " + earlier.wordsWithOdd();
+        String odd = earlier.wordsWithOdd();
+        String told = earlier.before.isEmpty() ? odd : earlier.before.equals(odd) ? odd + " (2 times)" : earlier.before + "; " + odd;
         Flaw graver = Flaw.graver(earlier.flaw, flaw);
         boolean counts = isSame() && graver != null;
         return new Verdict(counts ? graver.kind() : kind, counts ? graver.line() : line, trace, notes, plan, breakdown,

@@ -82,7 +82,7 @@
     if (address !== "#" + fork) wrong(name, "a first touch goes on");
     click(k, 0);
     if (address !== name) wrong(name, "a key behind a touch leads elsewhere");
-    if (!document.activeElement.matches(".leave")) wrong(name, "the focus isn't at the way back");
+    if (!document.activeElement.matches(".crumb")) wrong(name, "the focus isn't at the run's name");
     escape();
     if (document.activeElement !== nameAt(k)) wrong(name, "the focus isn't at the name again");
     goTo(name);

@@ -7,7 +7,7 @@ ghost use Rattle.commands.specs.Outcomes.{IsMostFrequentFirst, report, done_by};
 ghost use Rattle.commands.specs.Runs.{AreOutcomesFrom, Reports};
 
 use crate::outcomes::{Outcomes, sort};
-use crate::pauses::Pauses;
+use crate::pauses::{Pauses, Pausing};
 use crate::report::{done_by, push_report};
 use crate::runs::add_runs;
 use byte_ports::Sink;
@@ -16,7 +16,6 @@ use row_code::Image;
 use std::alloc::Global;
 use std::sync::Wait;
 use std::thread::Threads;
-use thread_runner::Gate;
 use workbench::done::Done;
 use workbench::fault::Fault;
 
@@ -36,7 +35,7 @@ pub struct Asked<'a> {
 /// the most frequent first: how often one did, `all`, `stuck` or `live`, with `+died` if a thread died, and the schedule of the
 /// first run that did. Nothing is written before all runs are over. The threads of each run pass `gate` after their pauses, as
 /// in `workbench::live::live`.
-pub fn report_runs<R: Threads + Wait + Sync, G: Gate + Sync, K: Sink>(
+pub fn report_runs<R: Threads + Wait + Sync, G: Pausing + Sync, K: Sink>(
     rt: &R,
     alloc: Global,
     asked: &Asked<'_>,
@@ -61,7 +60,7 @@ pub fn report_runs<R: Threads + Wait + Sync, G: Gate + Sync, K: Sink>(
 }
 
 /// Returns the outcomes of a program's runs, the most frequent first.
-fn outcomes_of<R: Threads + Wait + Sync, G: Gate + Sync>(
+fn outcomes_of<R: Threads + Wait + Sync, G: Pausing + Sync>(
     rt: &R,
     alloc: Global,
     asked: &Asked<'_>,

@@ -1,6 +1,7 @@
 //! The commands.
-ghost use Rattle.std.specs.Prelude.{◌≡◌, ◌≢◌, ◌⊎◌, ◌≤◌, Err, IfErr, IsTrue, OnOk, false, length};
-ghost use Rattle.commands.specs.Pictures.{HasMade, HasWritten, HaveNone};
+ghost use Rattle.std.specs.Prelude.{◌≡◌, ◌≢◌, ◌⊎◌, ◌≤◌, Err, IfErr, IfOk, IsTrue, OnOk, false, length};
+ghost use Rattle.commands.specs.Pictures.{HasMade, HasMissing, HasWritten, HaveNone};
+ghost use Rattle.pictures.specs.Missing.{IsMissingIn};
 ghost use Rattle.commands.specs.Pictures.{program_of, schedule_behind};
 ghost use Rattle.commands.specs.Picture.{HaveNoPicture};
 ghost use Rattle.workbench.specs.Fault.{status_of};
@@ -28,6 +29,7 @@ pub fn make<P: Picture, S: Source, K: Sink>(
 ) -> Result<Option<(u64, Choice)>, Fault>
     ensures done { OnOk result (HasMade (P.is_picture picture.now program.entry)
         (S.left schedule.old) (S.left schedule.new) (K.written output.old) (K.written output.new)) }
+    ensures missing { IfOk result (HasMissing program.entry.image (S.left schedule.old) (S.left schedule.new)) }
     ensures refused { IfErr result (λ fault. status_of fault ≡ 3
         → HaveNone P.kind fault program.entry.image (S.left schedule.old) (S.left schedule.new)) }
     ensures unwritten { IfErr result (λ fault. fault ≢ Fault.Write → K.written output.new ≡ K.written output.old) }
@@ -65,6 +67,7 @@ fn write<P: Picture, K: Sink>(
     requires { length schedule.now ≤ most_bytes }
     ensures done { OnOk result (HasWritten (P.is_picture picture.now program.entry schedule.now)
         (K.written output.old) (K.written output.new)) }
+    ensures missing { IfOk result (λ missing. IsMissingIn program.entry.image schedule.now missing) }
     ensures refused { IfErr result (λ fault. status_of fault ≡ 3 → HaveNoPicture P.kind fault program.entry.image schedule.now) }
     ensures unwritten { IfErr result (λ fault. fault ≢ Fault.Write → K.written output.new ≡ K.written output.old) }
     ensures read { result ≢ Err Fault.Read }

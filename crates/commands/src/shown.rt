@@ -1,13 +1,9 @@
 //! What follows a verdict.
 ghost use Rattle.std.specs.Prelude.{◌≡◌, ◌++◌, IfOk, OnOk, codes, option_map};
-ghost use Rattle.commands.specs.Showing.{StandsBehind, line_behind};
+ghost use Rattle.commands.specs.Showing.{StandsBehind, line_behind, wanted};
 
 use std::alloc::{AllocError, Global};
 use trace_compare::{Judged, Verdict};
-
-/// What a line of a trace has to be.
-const WANTED: &[u8] =
-    b"wanted STEP tN ROW WHAT, STEP xN ROW WHAT, or the lines of a state, from state CHOICES STEPS WORD on\n";
 
 /// Appends a line after a word, or only the word if there is no line.
 fn push_line(text: &mut Vec<u8>, word: &[u8], line: Option<&[u8]>) -> Result<(), AllocError>
@@ -33,10 +29,14 @@ fn differing(alloc: Global, trace: Option<&[u8]>, run: Option<&[u8]>) -> Result<
 }
 
 /// A line of what is no trace, and what it would have to be.
-fn not_a_trace(alloc: Global, trace: Option<&[u8]>) -> Result<Vec<u8>, AllocError> {
+fn not_a_trace(alloc: Global, trace: Option<&[u8]>) -> Result<Vec<u8>, AllocError>
+    ensures { IfOk result (λ text. text.items ≡ line_behind (codes "trace") (option_map (λ l. l.now) trace.entry) ++ wanted) }
+{
     let mut text = Vec::new(alloc);
     push_line(&mut text, b"trace", trace)?;
-    text.extend_from_slice(WANTED)?;
+    text.extend_from_slice(
+        b"wanted STEP tN ROW WHAT, STEP xN ROW WHAT, or the lines of a state, from state CHOICES STEPS WORD on\n",
+    )?;
     Ok(text)
 }
 

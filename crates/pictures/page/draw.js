@@ -342,16 +342,16 @@ function closingWords(k) {
 }
 // what is said there of a thread
 function closingWord(k, t) {
-  const s = stateOf(endOf(k).of), thread = s.threads[t], word = { ended: "ended", died: "died of " + thread.code, runs: "not ended", throws: "throws " + thread.code,
+  const s = stateOf(endOf(k).of), thread = s.threads[t], word = { ended: "ended", died: "died of " + thrownName(thread.code), runs: "not ended", throws: "throws " + thrownName(thread.code),
     waits: s.word === "stuck" ? "waits for ever" : "waits" }[thread.status];
   return word + (run && thread.out.length ? ", out " + outText(thread.out) : "");
 }
 // of another run also how the one ends that it forks from, above its own end
-const closingRuns = () => run ? [0, run] : [0];
+const closingRuns = () => run ? [runs[run].parent, run] : [0];
 
 function drawClose(body) {
   closingRuns().forEach((k, place) => {
-    const line = add(body, "tr", "close" + (k ? " other" : ""));
+    const line = add(body, "tr", "close" + (place ? " other" : ""));
     lineOf.set(moments.length + place, line);
     markLine(line, moments.length + place);
     head(line, "row", "n", !run ? "end" : k === run ? "here" : "there");

@@ -30,6 +30,11 @@ function sheetsOf() {
   const all = (to - lines.from) * (4 + tallest + 2 * (beside - 1)) * 4.4 + (rows.length + to - lines.from) * 6;
   return Math.ceil(all / 273);
 }
+// a worksheet has empty lines from the next choice on; behind the last one, that is all of the run again
+function printSheet() {
+  if (at === moments.length - 1) go(0);
+  print("sheet");
+}
 // many sheets are told before they are printed, and told anew once they may be more or fewer
 let isTold = false;
 

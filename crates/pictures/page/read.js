@@ -58,15 +58,17 @@ function rootOf(p) {
 }
 
 // ---- the text as it was written: names and comments. What doesn't agree with the listing is left aside.
-let names = { P: [], B: [], T: [], C: [], L: {} }, written = null, about = "";
+// A comment that begins with `?` is a question, asked where its row was played, or the next one of the text.
+let names = { P: [], B: [], T: [], C: [], L: {} }, written = null, about = "", questions = [];
 
 function readSource() {
-  const found = { P: [], B: [], T: [], C: [], L: {} }, out = [], introduction = [];
+  const found = { P: [], B: [], T: [], C: [], L: {} }, out = [], introduction = [], asked = [];
   const kinds = { ".phaser": "P", ".barrier": "B", ".thread": "T", ".cell": "C" };
   let count = 0, begun = false;
   const lines = id("source").textContent.split("\n");
   for (const line of lines) {
-    const cut = line.indexOf(";"), code = cut < 0 ? line : line.slice(0, cut), talk = cut < 0 ? "" : line.slice(cut);
+    const cut = line.indexOf(";"), code = cut < 0 ? line : line.slice(0, cut), question = cut >= 0 && line[cut + 1] === "?";
+    const talk = cut < 0 || question ? "" : line.slice(cut);
     const w = wordsOf(code);
     let row = -1;
     if (w.length && /:$/.test(w[0])) (found.L[count] = found.L[count] || []).push(w.shift().slice(0, -1));
@@ -75,6 +77,8 @@ function readSource() {
       if (count >= rows.length || rows[count].word !== w[0]) return;
       row = count++;
     }
+    if (question) asked.push({ row: row < 0 ? count : row, text: line.slice(cut + 2).trim() });
+    if (question && !code.trim()) continue;
     begun = begun || code.trim() !== "";
     if (begun) out.push({ row: row, code: code.replace(/\r/g, ""), talk: talk.replace(/\r/g, ""), rule: row < 0 && w.length > 0 });
     else if (talk) introduction.push(talk.slice(1).trim());
@@ -86,6 +90,7 @@ function readSource() {
   names = found;
   written = out;
   about = introduction.join(" ").trim();
+  questions = asked.filter(one => one.text);
 }
 const nameOf = (kind, n) => names[kind][n] || { P: "p", B: "b", T: "t", C: "c" }[kind] + n;
 const threadName = t => nameOf("T", t);
@@ -105,7 +110,7 @@ const NEXT = "next ";
 const OVER = 0, RUNS = 1, HELD = 2, WAITS = 3, FREE = 4, THROWS = 5;
 // The states of all runs, each once, by where its lines stand; and the runs: the first is the one that was written down, and each
 // other one forks from it, at a moment by a choice. `moments` are those of the run that is shown.
-const states = [], runs = [], forks = {};
+const states = [], runs = [], forks = {}, numbers = new Map();
 let moments = [], run = 0, lines = [], lanes, places;
 
 function eventOf(line) {
@@ -179,13 +184,23 @@ function readMoment(at, event) {
 // a state's text without the numbers of its place
 const bareText = state => lines.slice(state.from, state.to).join("\n").replace(/^state \d+ \d+ /, "state ").replace(/^next \d+ /gm, NEXT);
 
+// room for what the threads do in so many states
+function makeRoom(all) {
+  const old = [lanes, places], used = states.length * threads.length;
+  if (old[0] && old[0].length >= all * threads.length) return;
+  lanes = new Uint8Array(all * threads.length);
+  places = new Uint16Array(all * threads.length);
+  if (old[0]) {
+    lanes.set(old[0].subarray(0, used));
+    places.set(old[1].subarray(0, used));
+  }
+}
 function readRun() {
   lines = linesOf("run");
-  const most = lines.reduce((count, line) => count + (/^\d/.test(line) ? 1 : 0), 1), end = lines.length, count = threads.length, numbers = new Map();
+  const most = lines.reduce((count, line) => count + (/^\d/.test(line) ? 1 : 0), 1), end = lines.length, count = threads.length;
   lines = lines.concat(linesOf("others"));
   const all = most + lines.reduce((count, line) => count + (line.startsWith("state") ? 1 : 0), 0), isAlone = end === lines.length;
-  lanes = new Uint8Array(all * count);
-  places = new Uint16Array(all * count);
+  makeRoom(all);
   let at = 0;
   for (let i = 0; i < most; i++) {
     const last = i ? moments[i - 1] : null;
@@ -211,7 +226,7 @@ function readRun() {
     } else numbers.set(text, moments[i].of);
   }
   need(at === end, "there are lines behind the run's end: " + lines[at]);
-  runs.push({ fork: -1, moments: moments });
+  runs.push({ parent: -1, fork: -1, moments: moments });
   while (at < lines.length) at = readOther(at);
 }
 
@@ -238,11 +253,43 @@ function readOther(at) {
   }
   need(steps.length, "another run has no choice: " + begins);
   need(!lines[states[last].to - 1].startsWith(NEXT) || steps.length >= ownCount() - fork, "another run ends before its end: " + begins);
-  const name = fork + " " + steps[0].token, next = runMoments()[fork + 1];
+  const name = "0 " + fork + " " + steps[0].token, next = runMoments()[fork + 1];
   need(!forks[name] && !(next && !next.refused && tokenOf(next.event) === steps[0].token), "this run is there already: " + begins);
   forks[name] = runs.length;
-  runs.push({ fork: fork, steps: steps, moments: null });
+  runs.push({ parent: 0, fork: fork, steps: steps, moments: null });
   return at;
+}
+// A run that the host of this page played: what the run's own text has of it behind its fork, a line of each choice and the moment
+// after it. It is read as the page's own texts are; of one that is no such run nothing stays.
+function joinRun(k, fork, token, text) {
+  const was = { lines: lines.length, states: states.length }, steps = [], more = text.split("\n");
+  need(more.pop() === "", "the text of this run doesn't end with a line");
+  let at = lines.length, step = momentsOf(k)[fork].step, last = momentsOf(k)[fork].of;
+  try {
+    lines = lines.concat(more);
+    makeRoom(states.length + 1 + more.reduce((count, line) => count + (/^\d/.test(line) ? 1 : 0), 0));
+    while (at < lines.length) {
+      const event = eventOf(lines[at]), next = nextLine(last, tokenOf(event));
+      need(event.step === ++step && next && next.slice(NEXT.length).replace(/^\d+ /, "") === lines[at].replace(/^\d+ /, ""), "this choice can't be next there: " + lines[at]);
+      at = readMoment(at + 1, event);
+      checkThreads(event, last, states.length - 1);
+      last = states.length - 1;
+      const bare = bareText(states[last]);
+      if (numbers.has(bare)) {
+        states.pop();
+        last = numbers.get(bare);
+      }
+      steps.push({ token: tokenOf(event), of: last });
+    }
+    need(steps.length && steps[0].token === token, "it isn't the run that was asked for");
+  } catch (error) {
+    lines.length = was.lines;
+    states.length = was.states;
+    throw error;
+  }
+  steps.forEach(step => { if (step.of >= was.states) numbers.set(bareText(states[step.of]), step.of); });
+  forks[k + " " + fork + " " + token] = runs.length;
+  runs.push({ parent: k, fork: fork, steps: steps, moments: null });
 }
 // how many choices of the run were made
 const ownCount = () => runMoments().filter(moment => !moment.refused).length - 1;
@@ -255,11 +302,11 @@ function nextLine(of, token) {
   }
   return null;
 }
-// the moments of a run: those of the first up to its fork, and its own
+// the moments of a run: those of its parent up to its fork, and its own
 function momentsOf(k) {
   const one = runs[k];
   if (!one.moments) {
-    one.moments = runMoments().slice(0, one.fork + 1);
+    one.moments = momentsOf(one.parent).slice(0, one.fork + 1);
     for (const step of one.steps) {
       const last = one.moments[one.moments.length - 1], event = eventOf(nextLine(last.of, step.token).slice(NEXT.length));
       event.step = last.step + 1;
@@ -273,9 +320,13 @@ const makes = (moment, token) => Boolean(moment && moment.event) && !moment.refu
 // the run that makes a choice behind moment i of this one, -1 where there is none
 function runBy(k, i, token) {
   if (makes(momentsOf(k)[i + 1], token)) return k;
-  if (k && i > runs[k].fork) return -1;
-  if (makes(runMoments()[i + 1], token)) return 0;
-  return forks[i + " " + token] || -1;
+  const owner = ownerOf(k, i);
+  return owner !== k && makes(momentsOf(owner)[i + 1], token) ? owner : forks[owner + " " + i + " " + token] || -1;
+}
+// the run whose own a moment is, which a run may share with those that it forks from
+function ownerOf(k, i) {
+  while (k && i <= runs[k].fork) k = runs[k].parent;
+  return k;
 }
 
 // a moment's text

@@ -42,6 +42,14 @@ function bringTimeline(i) {
   if (cell.offsetLeft - side < box.scrollLeft) box.scrollLeft = cell.offsetLeft - side;
   else if (cell.offsetLeft + cell.offsetWidth > box.scrollLeft + box.clientWidth) box.scrollLeft = cell.offsetLeft + cell.offsetWidth - box.clientWidth;
 }
+// the same in the window, below the steps, where the panes stand below one another; who reads what is below the timeline stays there
+function bringLine() {
+  const line = lineOf.get(at), top = id("top").getBoundingClientRect();
+  if (isWide() || !line || id("time").getBoundingClientRect().bottom < top.bottom) return;
+  const now = line.getBoundingClientRect(), high = now.top - top.height - 4, low = now.bottom - innerHeight + 4;
+  if (now.top < top.bottom) scrollBy(0, high);
+  else if (low > 0) scrollBy(0, Math.min(low, high));
+}
 function bringThread() {
   const line = id("things").querySelector(".its");
   if (line) bring(id("things"), line, line.closest("table").tHead.offsetHeight);
@@ -60,31 +68,44 @@ function fillNext(i, isWhole) {
   }
   whatIf(null, null);
 }
+// up to which choice of the first run others begin here
+const lastFork = () => runs.reduce((most, one) => one.parent === 0 ? Math.max(most, runMoments()[one.fork].step + 1) : most, 0);
+// why this page can't go on with a choice
+function whyNot() {
+  if (run) return "From another run this page goes on with no other choice.";
+  return lastFork() ? "Other runs begin here up to choice " + lastFork() + ", and this isn't one of them." : "No other run is in this page.";
+}
 function drawChoice(box, e) {
-  const button = add(box, "button", "choice", threadName(e.thread));
+  const isDead = runBy(run, at, tokenOf(e)) < 0 && !host, button = add(box, isDead ? "span" : "button", "choice", threadName(e.thread));
   let goesOn = true;
   button.style.setProperty("--hue", hueOf(e.thread));
   button.classList.toggle("second", isSecond(e.thread));
   button.setAttribute("data-choice", tokenOf(e));
-  button.title = threadTitle(e.thread) + ": what it would do, and a click goes on with it";
+  button.title = threadTitle(e.thread) + ": what it would do" + (isDead ? ". " + whyNot() : ", and a click goes on with it");
+  if (isDead) {
+    button.classList.add("dead");
+    button.tabIndex = 0;
+    button.setAttribute("role", "note");
+  }
   button.onfocus = () => whatIf(button, e);
   button.onpointerenter = event => { if (event.pointerType !== "touch") whatIf(button, e); };
   // a finger can't point, so its first touch tells
   button.addEventListener("pointerdown", event => { goesOn = event.pointerType !== "touch" || chosen === e; }, true);
   button.onclick = event => {
-    if (goesOn) goWith(e, event);
+    if (goesOn && !isDead) goWith(e, event);
     else whatIf(button, e);
     goesOn = true;
   };
 }
 // what the choices that could be next would do. Where what comes later is hidden, it isn't told before a click
 function whatIf(button, e) {
-  const old = id("next").querySelector(".asked"), isThere = e && runBy(run, at, tokenOf(e)) >= 0, isHidden = id("hide").checked;
-  const asks = matchMedia("(hover: none)").matches ? "Tap a name." : "Point at a name; a click goes on with it.";
+  const old = id("next").querySelector(".asked"), isThere = e && (host || runBy(run, at, tokenOf(e)) >= 0), isHidden = id("hide").checked;
+  const live = id("next").querySelector("button.choice"), names = live || id("next").querySelector(".choice");
+  const asks = matchMedia("(hover: none)").matches ? "Tap a name." : live ? "Point at a name; a click goes on with it." : "Point at a name.";
   if (old) old.classList.remove("asked");
   if (button) button.classList.add("asked");
   chosen = e;
-  fill(id("would"), (e ? isHidden ? [] : whatIfText(at, e) : ["What if another went? " + asks]).concat(e && !isThere ? " How it would go on isn't in this page." : []));
+  fill(id("would"), (e ? isHidden ? [] : whatIfText(at, e) : names ? ["What if another went? " + asks] : []).concat(e && !isThere ? " " + whyNot() : []));
   id("if").className = e ? "" : "note";
   id("branch").hidden = !e;
   id("goon").hidden = !isThere;
@@ -92,13 +113,16 @@ function whatIf(button, e) {
   if (e) add(id("goon"), "span", "word", " with " + chosenText(e));
 }
 
-// ---- other runs: each goes on with another choice than the first run, and comes to its own end. Who went there by a key has
-// the focus at the way back, and then again at the name; and at a name, too, who went on with the first run
+// ---- other runs: each goes on with another choice than the one that it forks from, and comes to its own end. Who went there by a
+// key has the focus at the run's name, before the way back, and then again at the choice's; and there, too, who went on with the first
 function goWith(e, event) {
   const k = runBy(run, at, tokenOf(e)), isByKey = k >= 0 && k !== run && !event.detail;
-  if (k < 0) return;
+  if (k < 0) {
+    ask(ownerOf(run, at), at, tokenOf(e), () => goWith(e, event));
+    return;
+  }
   go(at + 1, k);
-  if (isByKey && k) id("crumbs").querySelector(".leave").focus();
+  if (isByKey && k) id("crumbs").querySelector(".crumb").focus();
   else if (isByKey) focusName(tokenOf(e));
 }
 // the focus to the name of this choice, or to the first name where this one can't be next
@@ -106,10 +130,66 @@ function focusName(token) {
   const name = id("next").querySelector("[data-choice=" + token + "]") || id("next").querySelector(".choice");
   if (name) name.focus();
 }
-// back to the moment at which this run forks from the first
+// ---- A host: a page that has this one in a frame and plays what this one hasn't. It says so first; then a choice whose run isn't
+// here is asked of it, by the choices before it, the choice, and those that the run shown goes on with. It is told what is shown.
+let host = null, asked = { number: 0 };
+
+const tell = message => { if (host) host.source.postMessage(message, host.origin); };
+function ask(k, i, token, behind, failed) {
+  if (!host) return;
+  const own = momentsOf(k), left = own.slice(i + 1).filter(moment => !moment.refused).map(moment => moment.event);
+  asked = { number: asked.number + 1, k: k, i: i, token: token, run: run, at: at, behind: behind, failed: failed };
+  document.body.classList.add("asking");
+  tell({ vuthgal: "ask", number: asked.number, before: scheduleOf(own.slice(1, i + 1).map(moment => moment.event)), choice: token, rest: scheduleOf(left) });
+}
+function answered(number, text, why) {
+  if (number !== asked.number || !asked.behind) return;
+  const behind = asked.behind;
+  asked.behind = null;
+  document.body.classList.remove("asking");
+  try {
+    need(typeof text === "string", why || "no answer");
+    if (runBy(asked.k, asked.i, asked.token) < 0) joinRun(asked.k, asked.i, asked.token, text);
+  } catch (error) {
+    fill(id("would"), ["This run can't be shown: " + error.message + "."]);
+    if (asked.failed) asked.failed();
+    return;
+  }
+  // who has gone elsewhere meanwhile stays there
+  if (asked.run === run && asked.at === at) behind();
+  else if (asked.failed) asked.failed();
+}
+// goes to an address, by runs that the host is asked for
+function reach(to) {
+  const place = placeBy(to), moment = momentsOf(place.run)[place.at], stay = () => tellWhere(to);
+  if (place.missing && moment && nextLine(moment.of, place.missing)) ask(ownerOf(place.run, place.at), place.at, place.missing, () => reach(to), stay);
+  else {
+    goTo(place.run, place.at);
+    tellWhere(to);
+  }
+}
+function heard(event) {
+  const said = event.data;
+  if (window === window.parent || event.source !== window.parent || !said || !said.vuthgal) return;
+  if (said.vuthgal === "host") {
+    host = { source: event.source, origin: event.origin };
+    for (const [name, is] of [["hide", said.hide], ["java", said.java]]) if (is !== undefined && id(name).checked !== is) id(name).click();
+    document.body.classList.toggle("blind", Boolean(said.blind));
+    fillNext(at, false);
+    tellWhere();
+  } else if (said.vuthgal === "run") answered(said.number, said.text, said.why);
+  else if (said.vuthgal === "go") reach(said.to);
+  else if (said.vuthgal === "step") go(next(said.by));
+}
+// what is shown, and, behind an order of the host, that it is carried out
+function tellWhere(to) {
+  tell({ vuthgal: "at", to: to, address: address(), at: at, last: moments.length - 1, fork: run ? runs[run].fork : -1, parent: run ? addressOf(runs[run].parent, at) : "", word: stateAt(at).word, question: questionsAt(at).join(" "),
+    end: endText(run), name: run ? momentsOf(run)[runs[run].fork].step + 1 + ": " + chosenText(forkOf(run)) : "The run", schedule: scheduleOf(eventsTo(moments.length - 1)) });
+}
+// back to the moment at which this run forks from its parent
 function leave(event) {
   const token = tokenOf(forkOf(run)), isByKey = !(event && event.detail) && id("crumbs").contains(document.activeElement);
-  go(runs[run].fork, 0);
+  go(runs[run].fork, runs[run].parent);
   if (isByKey) focusName(token);
 }
 function take(k) {
@@ -130,14 +210,22 @@ function drawCrumbs() {
   ends.classList.toggle("over", isLast);
   if (isOver !== ends.hasChildNodes()) fill(ends, isOver ? bothEnds() : []);
 }
+// the runs from the first one to this, without the first
+const lineage = k => k ? lineage(runs[k].parent).concat(k) : [];
+const crumbText = k => momentsOf(k)[runs[k].fork].step + 1 + ": " + chosenText(forkOf(k));
 function drawWay(box) {
   box.setAttribute("data-run", run);
   box.textContent = "";
   if (!run) return;
-  add(box, "button", "", "The run").onclick = leave;
+  add(box, "button", "", "The run").onclick = runs[run].parent ? () => go(runs[lineage(run)[0]].fork, 0) : leave;
+  for (const k of lineage(run).slice(0, -1)) {
+    add(box, "span", "", " \u203A ");
+    add(box, "button", "", crumbText(k)).onclick = () => go(Math.min(at, momentsOf(k).length - 1), k);
+  }
   add(box, "span", "", " \u203A ");
-  const crumb = add(box, "b", "crumb", momentsOf(run)[runs[run].fork].step + 1 + ": " + chosenText(forkOf(run)));
+  const crumb = add(box, "b", "crumb", crumbText(run));
   crumb.setAttribute("aria-current", "true");
+  crumb.tabIndex = -1;
   add(crumb, "span", "instead", insteadText(run));
   const back = add(box, "button", "leave", "Back to the fork ");
   add(back, "kbd", "", "Esc");
@@ -163,6 +251,8 @@ function copy(text) {
   box.hidden = false;
   try { navigator.clipboard.writeText(text).catch(mark); } catch (error) { mark(); }
 }
+// the questions of the program's text that belong to the choice of a moment
+const questionsAt = i => questions.filter(one => moments[i].event && one.row === moments[i].event.row).map(one => one.text);
 // what a moment's line says
 const saidOf = i => isFolded(lineNumber[i]) ? foldedText(lineNumber[i]) : sentence(i);
 const eventsTo = i => moments.slice(1, i + 1).map(moment => moment.event);
@@ -179,6 +269,7 @@ function show(i, isTried) {
   id("forth").disabled = id("last").disabled = i === final;
   drawCrumbs();
   fill(id("what"), saidOf(i));
+  id("question").textContent = questionsAt(i).join(" ");
   fillNext(i, false);
   id("next").className = s.word === "stuck" ? "halt" : "";
   markProgram(e, s);
@@ -188,6 +279,7 @@ function show(i, isTried) {
   id("things").classList.toggle("slim", layout.isSlim && isWider(id("things")));
   markLines();
   if (isTried) return;
+  tellWhere();
   tellSheets(0);
   bringTimeline(i);
   markMap();
@@ -207,7 +299,7 @@ function play() {
     return;
   }
   if (at === moments.length - 1) show(0);
-  timer = setInterval(() => { if (at >= moments.length - 1) stop(); else show(next(1)); }, 1000 * id("speed").value);
+  timer = setInterval(() => { if (at >= moments.length - 1) stop(); else { show(next(1)); bringLine(); } }, 1000 * id("speed").value);
   id("play").textContent = "Pause";
   id("play").setAttribute("aria-pressed", "true");
 }
@@ -227,6 +319,7 @@ function goTo(k, i) {
     at = -1;
   }
   show(i);
+  bringLine();
 }
 // goes to a moment of this run, or of another, from which the browser comes back
 function go(i, k) {
@@ -234,13 +327,21 @@ function go(i, k) {
   goTo(k === undefined ? run : k, i);
 }
 // an address names a choice by its number; in another run the choice at which it forks stands before it, as `7t2.9`
-const address = () => "#" + (run ? momentsOf(run)[runs[run].fork].step + 1 + tokenOf(forkOf(run)) + "." : "") + (at ? moments[at].event.step : 0);
+const ADDRESS = /^#((?:\d+[tx]\d+\.)*)(\d+)$/, FORK = /(\d+)([tx]\d+)\./g;
+const addressOf = (k, i) => "#" + lineage(k).map(one => momentsOf(one)[runs[one].fork].step + 1 + tokenOf(forkOf(one)) + ".").join("") + (i ? momentsOf(k)[Math.min(i, momentsOf(k).length - 1)].step : 0);
+const address = () => addressOf(run, at);
 // the run and the moment that the page's address names, as far as they are there; the start where it names none
-function fromAddress() {
-  const m = /^#(?:(\d+)([tx]\d+)\.)?(\d+)$/.exec(location.hash), first = runMoments()[0].step;
-  if (!m) return { run: 0, at: 0 };
-  const fork = m[1] - 1 - first, k = m[1] ? Math.max(0, runBy(0, fork, m[2])) : 0;
-  return { run: k, at: m[1] && !k && !makes(runMoments()[fork + 1], m[2]) ? fork : m[3] - first };
+const fromAddress = () => placeBy(location.hash);
+function placeBy(to) {
+  const m = ADDRESS.exec(to), first = runMoments()[0].step;
+  let k = 0;
+  if (!m) return { run: 0, at: 0, missing: null };
+  for (const [, step, token] of m[1].matchAll(FORK)) {
+    const fork = step - 1 - first, by = runBy(k, fork, token);
+    if (by < 0) return { run: k, at: fork, missing: token };
+    k = by;
+  }
+  return { run: k, at: m[2] - first, missing: null };
 }
 // ---- size and layout. The reader's size is remembered, where the browser has a place for it. Without one, the text grows in a
 // wide window while all has room.
@@ -334,6 +435,7 @@ function standAlone() {
 // what a key does, wherever the focus is but in a box that has a use for it of its own
 function actionOf(key, on) {
   const slides = on === id("slider"), scrolls = on.classList && on.classList.contains("scroll"), writes = on === id("speed") || on === id("copied");
+  if (key.length === 1 && key !== " " && !id("letters").checked) return null;
   if (key === "PageDown") return () => go(next(1));
   if (key === "PageUp") return () => go(next(-1));
   if (writes) return null;
@@ -365,7 +467,7 @@ function listen() {
   id("fold").onchange = id("java").onchange = arrange;
   id("alone").onchange = standAlone;
   id("states").onclick = printStates;
-  id("sheet").onclick = () => print("sheet");
+  id("sheet").onclick = printSheet;
   id("hide").onchange = () => {
     document.body.classList.toggle("hiding", id("hide").checked);
     drawCrumbs();
@@ -405,9 +507,15 @@ function listen() {
   window.onbeforeprint = beforePrint;
   window.onafterprint = afterPrint;
   document.addEventListener("keydown", pressed);
+  window.addEventListener("message", event => whenDrawn(() => heard(event)));
+}
+// what a talk begins with, up to its first `:`, or its first `.` that ends a sentence, which one of `e.g.` doesn't
+function nameOfTalk(text) {
+  const m = /^(.*?(?:[^A-Za-z.]|[^\s.][A-Za-z]))(?:\.(?= +[^a-z\s]|$)|:(?= |$))/.exec(text);
+  return m ? m[1] : text.replace(/[.:]$/, "");
 }
 function nameThePage() {
-  const name = about ? about.split(/[.:]( |$)/)[0] : "A run of " + listed(threads.slice(0, 8).map((_, t) => threadName(t)).concat(threads.length > 8 ? ["others"] : []));
+  const name = about ? nameOfTalk(about) : "A run of " + listed(threads.slice(0, 8).map((_, t) => threadName(t)).concat(threads.length > 8 ? ["others"] : []));
   const more = about.slice(name.length + 1).trim();
   document.title = name.replace(/`/g, "");
   fillTalk(id("title"), name);
@@ -422,6 +530,12 @@ function begin() {
   readStrays();
   nameThePage();
   findUses();
+  id("question").hidden = !questions.length;
+  if (questions.length) {
+    const list = id("answers").querySelector("ol");
+    list.textContent = "";
+    questions.forEach(one => add(list, "li", "", one.text));
+  }
   id("slider").max = moments.length - 1;
   id("panes").classList.toggle("crowd", isCrowd());
   id("tool").hidden = id("view").hidden = false;
@@ -431,8 +545,10 @@ function begin() {
   chosenSize = remembered();
   findFullest();
   listen();
-  arrange();
+  whenDrawn(arrange);
 }
+// in a frame the script may run before anything has a size; then it waits for the first picture
+const whenDrawn = act => { if (id("tool").getClientRects().length) act(); else requestAnimationFrame(() => whenDrawn(act)); };
 
 try {
   begin();

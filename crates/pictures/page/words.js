@@ -209,15 +209,15 @@ const forkOf = k => momentsOf(k)[runs[k].fork + 1].event;
 const chosenText = e => threadName(e.thread) + (e.expiry ? "'s time-out" : "");
 // whose choice the other run's is made in place of
 function insteadText(k) {
-  const old = runMoments()[runs[k].fork + 1];
+  const old = momentsOf(runs[k].parent)[runs[k].fork + 1];
   return old && !old.refused ? " instead of " + chosenText(old.event) : "";
 }
 // how the first run ends, and this one
 function bothEnds() {
-  const there = endText(0), here = endText(run);
-  if (endOf(0).of === endOf(run).of) return ["Both end alike: ", [here], "."];
+  const from = runs[run].parent, there = endText(from), here = endText(run);
+  if (endOf(from).of === endOf(run).of) return ["Both end alike: ", [here], "."];
   if (there !== here) return ["There: ", [there], ". Here: ", [here], "."];
-  return ["There and here: ", [here], ". But " + differences(stateOf(endOf(0).of), stateOf(endOf(run).of)) + "."];
+  return ["There and here: ", [here], ". But " + differences(stateOf(endOf(from).of), stateOf(endOf(run).of)) + "."];
 }
 // what is there and what is here, of two states that differ: the first three
 function differences(there, here) {
@@ -269,7 +269,7 @@ function doing(s, t) {
   if (status === "waits" && s.next[t]) more.push("may go on");
   if (s.expire[t]) more.push("may time out");
   if (thread.flag) more.push("interrupted");
-  const plain = { throws: "throws " + thread.code, died: "died of " + thread.code, ended: "ended", runs: "runs",
+  const plain = { throws: "throws " + thrownName(thread.code), died: "died of " + thrownName(thread.code), ended: "ended", runs: "runs",
     waits: "waits" + at + (s.word === "stuck" ? " for ever" : "") }[status];
   return [plain].concat(more).join(", ");
 }
@@ -278,15 +278,31 @@ const inJava = () => id("java").checked;
 // a row in the timeline: its word and its object, or Java's words
 function shortRow(row, e) {
   const call = KINDS[row.word][1], object = objectOf(row);
+  const cell = operandOf(row, "C");
+  if (cell >= 0) return cellText(row, nameOf("C", cell), e);
   if (!inJava()) return row.word + only(" " + object, "").trimEnd();
   if (!call) return e.value === null || row.kinds[0] !== "r" ? javaText(row).replace(/ (goto|\/\/) .*/, "") : row.operands[0];
   return (object && only(object + ".", "")) + call.split("(")[0].replace("@", () => threadName(operandOf(row, "T")));
 }
+// what a row loads or stores: the cell, and the number
+function cellText(row, cell, e) {
+  const isStore = row.word === "sts", number = isStore && e.what === "ok" ? cellAfter(e, operandOf(row, "C")) : "";
+  if (inJava()) return isStore ? cell + " = " + number : row.operands[0] + " = " + cell;
+  return row.word + " " + cell + (isStore ? " = " + number : "");
+}
+// the number in a cell behind a choice of the run that is shown
+function cellAfter(e, n) {
+  const of = stateLines(e.step - moments[0].step), name = "c" + n + " ";
+  for (let i = of.from; i < of.to; i++) if (lines[i].startsWith(name)) return +lines[i].slice(name.length);
+  return 0;
+}
+// what is thrown, in few words
+const thrownName = code => inJava() && code > 0 && code < 6 ? THROWN[code] : "" + code;
 // the few words of a choice in the timeline
 function tagText(e) {
   const row = e.row < 0 ? null : rows[e.row], head = row ? shortRow(row, e) + " " : "";
   const said = { none: "refused", limit: "refused", idle: "can't go", end: "ends", wait: head + "waits", enter: head + "enters",
-    out: inJava() ? "println(" + e.value + ")" : "out " + e.value, "=": head + "= " + e.value, die: "dies of " + e.value, catch: "catches " + e.value, unwind: "unwinds",
-    throw: (e.expiry ? "time is up: " : "") + "throws " + e.value, ok: head.trimEnd() };
+    out: inJava() ? "println(" + e.value + ")" : "out " + e.value, "=": head + "= " + e.value, die: "dies of " + thrownName(e.value), catch: "catches " + thrownName(e.value), unwind: "unwinds",
+    throw: (e.expiry ? "time is up: " : "") + "throws " + thrownName(e.value), ok: head.trimEnd() };
   return said[e.what];
 }

@@ -202,11 +202,6 @@ pub fn row_of(alloc: Global, word: &[u8]) -> Result<Option<&'static str>, AllocE
     Ok(None)
 }
 
-/// Returns whether a word is a call as Java writes it, as `p.arrive()`.
-pub fn is_call(word: &[u8]) -> bool {
-    word.contains(&b'(') || word.get(1..).unwrap_or(&[]).contains(&b'.')
-}
-
 /// Returns what the language has in place of the statement that a word begins, if it has no row for it.
 pub fn in_place_of(word: &[u8]) -> Option<&'static str> {
     if word.ends_with(b"++") || word.ends_with(b"--") {

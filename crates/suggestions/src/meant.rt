@@ -1,7 +1,8 @@
 //! What a line may have been meant as, if that is more than its fault's entry says.
 
 use crate::file_kind::{helps_at_encoding, is_schedule};
-use crate::java::{before, in_place_of, is_call, method_in, row_of};
+use crate::java::{before, in_place_of, method_in, row_of};
+use crate::line::{first_word, word, word_behind};
 use crate::names::is_word_of_the_language;
 use crate::plan_word::{AT_COMMENT, has_comment_sign};
 use instruction_table::shape_of;
@@ -9,7 +10,8 @@ use line_reader::asm_fault::AsmFaultKind;
 use line_reader::directive::is_directive;
 use line_reader::label::{before_last, is_label};
 use line_reader::words::{before_comment, is_blank, length_before};
-use std::alloc::Global;
+use refusals::table::row::row_entry;
+use std::alloc::{AllocError, Global};
 
 /// What helps if operands are separated by commas.
 const AT_COMMA: &str = "no commas: put blanks between operands, as in `paaa r0 p`";
@@ -49,18 +51,6 @@ fn is_number(word: &[u8]) -> bool {
             .all(|byte| byte.is_ascii_digit() || *byte == b'-')
 }
 
-/// Returns the word behind this one, if this one is the first of a line.
-fn word_behind<'a>(line: &'a [u8], word: &[u8]) -> Option<&'a [u8]> {
-    let mut words = before_comment(line)
-        .split(|byte| is_blank(*byte))
-        .filter(|word| !word.is_empty());
-    if words.next() == Some(word) {
-        words.next()
-    } else {
-        None
-    }
-}
-
 /// Whether an instruction follows the first word of a line.
 fn has_statement_behind(line: &[u8], word: &[u8]) -> bool {
     word_behind(line, word).is_some_and(|second| is_word_of_the_language(second))
@@ -72,7 +62,7 @@ fn has_colon_behind(line: &[u8], word: &[u8]) -> bool {
 }
 
 /// Returns the word after the one that is `=`, if a line has one.
-pub fn word_assigned(line: &[u8]) -> Option<&[u8]> {
+fn word_assigned(line: &[u8]) -> Option<&[u8]> {
     let mut words = before_comment(line)
         .split(|byte| is_blank(*byte))
         .filter(|word| !word.is_empty())
@@ -121,10 +111,6 @@ fn helps_at_absent(word: &[u8]) -> Option<&'static str> {
 const AT_VARIABLE: &str =
     "a thread has the registers r0 to r7, as in `ldi r0 3`; `.cell x` declares a cell that all threads share";
 
-/// What helps if a line has a call as Java writes it, whose row is shown.
-const AT_CALL: &str =
-    "the instruction first, then its operands, with blanks: no dots and no parentheses";
-
 /// Classes of Java and types, and how the language declares what they are for.
 static DECLARED: [(&str, &str); 10] = [
     ("phaser", "`.phaser p 2` declares a phaser of 2 parties"),
@@ -168,7 +154,7 @@ fn declaration_in(line: &[u8]) -> Option<&'static str> {
 }
 
 /// Returns what the language has in place of a word of Java: a declaration, rows, or nothing.
-pub fn helps_at_java(word: &[u8]) -> Option<&'static str> {
+fn helps_at_java(word: &[u8]) -> Option<&'static str> {
     declaration_of(word)
         .or(in_place_of(word))
         .or(helps_at_absent(word))
@@ -183,17 +169,21 @@ fn word_made<'a>(line: &'a [u8], word: &[u8]) -> Option<&'a [u8]> {
     }
 }
 
-/// Returns the row that a line assigns the result of, as in `phase = p.arrive()`.
-fn row_assigned(alloc: Global, line: &[u8]) -> Option<&'static str> {
-    match row_of(alloc, word_assigned(line)?) {
-        Ok(row) => row,
-        Err(_) => None,
+/// Returns the row that a word or a line was meant as: the row of the method that it calls, or whose result it assigns, or the row
+/// that it writes as a call.
+pub fn row_meant(
+    alloc: Global,
+    line: &[u8],
+    word: &[u8],
+) -> Result<Option<&'static str>, AllocError> {
+    if let Some(assigned) = word_assigned(line) {
+        return row_of(alloc, assigned);
     }
-}
-
-/// Returns whether a word is a call of a method that has a row.
-fn is_call_of_row(alloc: Global, word: &[u8]) -> bool {
-    is_call(word) && matches!(row_of(alloc, word), Ok(Some(_)))
+    let called = before(word, b'(');
+    match shape_of(called) {
+        Some(shape) if called.len() < word.len() => Ok(row_entry(shape.opcode).map(|row| row.word)),
+        _ => row_of(alloc, word),
+    }
 }
 
 /// Whether a word ends with a colon, and isn't the first of its line.
@@ -210,11 +200,8 @@ fn has_statement_within(word: &[u8]) -> bool {
 }
 
 /// Whether a word is in the place of the name that a line declares.
-fn is_in_place_of_name(line: &[u8], word: &[u8]) -> bool {
-    let mut words = before_comment(line)
-        .split(|byte| is_blank(*byte))
-        .filter(|word| !word.is_empty());
-    words.next().is_some_and(|first| is_directive(first)) && words.next() == Some(word)
+fn is_in_place_of_name(line: &[u8], name: &[u8]) -> bool {
+    word(line, 0).is_some_and(|first| is_directive(first)) && word(line, 1) == Some(name)
 }
 
 /// Whether a line has an instruction after another one.
@@ -226,30 +213,16 @@ fn has_two_statements(line: &[u8]) -> bool {
         > 1
 }
 
-/// The word that a line says something with: its first, or the one after its label.
-fn word_of_line(line: &[u8]) -> Option<&[u8]> {
-    before_comment(line)
-        .split(|byte| is_blank(*byte))
-        .filter(|word| !word.is_empty() && !is_label(word))
-        .next()
-}
-
 /// Whether a text has an instruction.
 fn has_row(text: &[u8]) -> bool {
-    text.split(|byte| *byte == b'\n').any(|line| word_of_line(line).is_some_and(|word| shape_of(
-        word,
-    ).is_some()))
+    text.split(|byte| *byte == b'\n')
+        .any(|line| shape_of(first_word(line)).is_some())
 }
 
 /// Whether a line of a text has this directive with this name.
 fn declares(text: &[u8], directive: &[u8], name: &[u8]) -> bool {
     text.split(|byte| *byte == b'\n')
         .any(|line| word_behind(line, directive) == Some(name))
-}
-
-/// Whether this word is the first of a line.
-fn begins_with(line: &[u8], word: &[u8]) -> bool {
-    word_of_line(line) == Some(word)
 }
 
 /// What helps if a line gives the result of an instruction as Java does.
@@ -261,8 +234,8 @@ const AT_SUM: &str = "`ldi r1 1` puts 1 into r1, and then `add r0 r0 r1` adds it
 
 /// Returns what helps if a line is one of Java's.
 fn helps_at_java_line(alloc: Global, line: &[u8], word: &[u8]) -> Option<&'static str> {
-    if row_assigned(alloc, line).is_some() {
-        return Some(AT_RESULT);
+    if word_assigned(line).is_some_and(|assigned| matches!(row_of(alloc, assigned), Ok(Some(_)))) {
+        return None;
     }
     let made = word_made(line, word).and_then(|made| helps_at_java(made));
     if let Some(helps) = made.or(helps_at_java(word)).or(declaration_in(line)) {
@@ -274,8 +247,6 @@ fn helps_at_java_line(alloc: Global, line: &[u8], word: &[u8]) -> Option<&'stati
         } else {
             AT_RESULT
         })
-    } else if is_call_of_row(alloc, word) {
-        Some(AT_CALL)
     } else {
         word_behind(line, word).and_then(|second| helps_at_sum(second))
     }
@@ -314,14 +285,14 @@ fn helps_at_word(alloc: Global, text: &[u8], line: &[u8], word: &[u8]) -> Option
         Some(helps_at_run(line, word))
     } else if has_comment_sign(word) {
         Some(AT_COMMENT)
+    } else if word.ends_with(b".") {
+        Some("this looks like a plan: the program comes first")
     } else if is_choice(word) {
         Some("a schedule follows a line `.run`, below the program")
     } else if is_label(word) {
         Some("a line has one label: put the other on a line of its own")
     } else if has_statement_within(word) {
         Some("put a blank behind the colon, as in `main: paaa r0 p`")
-    } else if word.contains(&b'(') && is_word_of_the_language(before(word, b'(')) {
-        Some(AT_CALL)
     } else if is_label_alone(text, line, word) {
         Some("a label needs a colon, as in `main:`")
     } else if has_colon_behind(line, word) {
@@ -336,7 +307,7 @@ fn helps_at_word(alloc: Global, text: &[u8], line: &[u8], word: &[u8]) -> Option
 /// What helps at a sign that other languages have in a word.
 fn helps_at_sign(line: &[u8], word: &[u8]) -> Option<&'static str> {
     if word.ends_with(b",") {
-        Some(if begins_with(line, b".thread") {
+        Some(if first_word(line) == b".thread".as_slice() {
             AT_THREAD
         } else {
             AT_COMMA
@@ -359,9 +330,9 @@ fn helps_at_equals(line: &[u8]) -> Option<&'static str> {
 
 /// What helps if a line has too few or too many operands.
 fn helps_at_count(line: &[u8]) -> Option<&'static str> {
-    if begins_with(line, b".thread") {
+    if first_word(line) == b".thread".as_slice() {
         Some(AT_THREAD)
-    } else if begins_with(line, b".cell") {
+    } else if first_word(line) == b".cell".as_slice() {
         Some("a cell has only a name, and begins at 0: `.cell total`")
     } else if has_other_comment(line) {
         Some(AT_COMMENT)

@@ -3,10 +3,10 @@
 ghost use Rattle.std.specs.Prelude.{◌≡◌, ◌⊎◌, ◌<◌, IfOk, Some};
 
 use crate::java::{METHODS, method_in, row_of};
+use crate::line::word;
 use instruction_table::{OperandKind, shape_of};
 use line_reader::directive::is_directive;
 use line_reader::label::{before_last, is_label};
-use line_reader::words::{before_comment, is_blank};
 use refusals::entries::tables;
 use refusals::table::directive::DIRECTIVES;
 use refusals::table::row::row_entry;
@@ -45,10 +45,7 @@ fn kind_declared(directive: &[u8]) -> OperandKind {
 
 /// The name that a line gives, if it gives one: its label's, or that of what it declares.
 fn name_given(line: &[u8]) -> Option<Given<'_>> {
-    let mut words = before_comment(line)
-        .split(|byte| is_blank(*byte))
-        .filter(|word| !word.is_empty());
-    let first = words.next()?;
+    let first = word(line, 0)?;
     if is_label(first) {
         return Some(Given {
             name: before_last(first),
@@ -56,22 +53,45 @@ fn name_given(line: &[u8]) -> Option<Given<'_>> {
         });
     }
     if is_directive(first) {
-        let name = words.next()?;
         return Some(Given {
-            name,
+            name: word(line, 1)?,
             kind: kind_declared(first),
         });
     }
     None
 }
 
-/// Returns the name that a line gives to something, if that is of this kind.
-pub fn name_of_kind(line: &[u8], kind: Option<OperandKind>) -> Option<&[u8]> {
+/// The name that a line gives to something, if that is of this kind.
+fn name_of_kind(line: &[u8], kind: Option<OperandKind>) -> Option<&[u8]> {
     let given = name_given(line)?;
     match kind {
         Some(kind) if kind != given.kind => None,
         _ => Some(given.name),
     }
+}
+
+/// Returns the names that things of a kind have, so many at most, in a line.
+pub fn names_of_kind(
+    alloc: Global,
+    text: &[u8],
+    kind: Option<OperandKind>,
+    most: usize,
+) -> Result<Vec<u8>, AllocError> {
+    let mut names = Vec::new(alloc);
+    let mut count: usize = 0;
+    for line in text.split(|byte| *byte == b'\n') {
+        if let Some(name) = name_of_kind(line, kind) {
+            if count < most {
+                names.extend_from_slice(if count == 0 { b"" } else { b", ".as_slice() })?;
+                names.extend_from_slice(name)?;
+            }
+            count = count.saturating_add(1);
+        }
+    }
+    if count > most {
+        names.extend_from_slice(b", ..")?;
+    }
+    Ok(names)
 }
 
 /// Returns the number of the first line that gives this name, from 1.

@@ -1,5 +1,10 @@
 //! What a word of a plan may have been meant as, if that is more than its fault says.
 
+use crate::names::distance_of_names;
+use line_reader::words::length_before;
+use plans::fault::PlanFaultKind;
+use std::alloc::{AllocError, Global};
+
 /// What helps if a comment begins as in other languages.
 pub const AT_COMMENT: &str = "a comment begins with `;`";
 
@@ -46,7 +51,7 @@ const AT_COMMA: &str = "no commas: put blanks between the words of a plan";
 const AT_COUNTED_DOT: &str = "a dot has no count: `ann*3`, or `( ann. )*3`";
 
 /// What helps at a star, if its count isn't only too small or too large.
-pub fn helps_at_star(word: &[u8]) -> Option<&'static str> {
+fn helps_at_star(word: &[u8]) -> Option<&'static str> {
     if word.ends_with(b".") {
         Some(AT_COUNTED_DOT)
     } else if word.contains(&b',') {
@@ -87,7 +92,7 @@ fn helps_at_dot(word: &[u8]) -> Option<&'static str> {
 }
 
 /// What helps at a word that a plan doesn't have, by the byte before it.
-pub fn helps_at_word(word: &[u8], before: Option<u8>) -> Option<&'static str> {
+fn helps_at_word(word: &[u8], before: Option<u8>) -> Option<&'static str> {
     if has_comment_sign(word) {
         Some(AT_COMMENT)
     } else if word.contains(&b',') {
@@ -99,8 +104,8 @@ pub fn helps_at_word(word: &[u8], before: Option<u8>) -> Option<&'static str> {
     }
 }
 
-/// Returns what helps if a seed is wrong.
-pub fn helps_at_seed(word: &[u8]) -> Option<&'static str> {
+/// What helps if a seed is wrong.
+fn helps_at_seed(word: &[u8]) -> Option<&'static str> {
     if word == b"?".as_slice() {
         Some("a number follows the question mark without a blank, as in `?7`")
     } else {
@@ -139,8 +144,8 @@ fn has_capital(word: &[u8]) -> bool {
     }
 }
 
-/// Returns what helps at a word that no thread has as its name.
-pub fn helps_at_name(word: &[u8]) -> Option<&'static str> {
+/// What helps at a word that no thread has as its name.
+fn helps_at_name(word: &[u8]) -> Option<&'static str> {
     if has_capital(word) {
         return Some("threads are `t0`, `t1` and so on, in small letters");
     }
@@ -148,4 +153,65 @@ pub fn helps_at_name(word: &[u8]) -> Option<&'static str> {
         .iter()
         .find(|(name, _)| name.as_bytes() == word)
         .map(|(_, helps)| *helps)
+}
+
+/// Returns what helps at a word of a plan, by what is wrong with it and the byte before it.
+pub fn helps_at(kind: PlanFaultKind, word: &[u8], before: Option<u8>) -> Option<&'static str> {
+    match kind {
+        PlanFaultKind::BadWord => helps_at_word(word, before),
+        PlanFaultKind::BadCount => helps_at_star(word),
+        PlanFaultKind::BadSeed => helps_at_seed(word),
+        PlanFaultKind::NotNamed => helps_at_name(word),
+        _ => None,
+    }
+}
+
+/// The name in a word, and the dot or count behind it.
+fn name_and_tail(word: &[u8]) -> (&[u8], &[u8]) {
+    let name = length_before(b'.', word).min(length_before(b'*', word));
+    word.split_at(name.min(word.len()))
+}
+
+/// The name that is nearest to this one, and how far it is, if it is near.
+fn nearest<'a>(
+    alloc: Global,
+    names: &[&'a [u8]],
+    name: &[u8],
+) -> Result<Option<(&'a [u8], usize)>, AllocError> {
+    let mut found: Option<(&'a [u8], usize)> = None;
+    for given in names.iter() {
+        let far = distance_of_names(alloc, *given, name)?;
+        let least = found.map_or(3, |(_, far)| far);
+        if far < least && far < name.len() {
+            found = Some((*given, far));
+        }
+    }
+    Ok(found)
+}
+
+/// A choice: an `x` if it is an expiry, a name, and the dot or count behind it.
+fn choice(alloc: Global, letter: &[u8], name: &[u8], behind: &[u8]) -> Result<Vec<u8>, AllocError> {
+    let mut text = Vec::from_slice(alloc, letter)?;
+    text.extend_from_slice(name)?;
+    text.extend_from_slice(behind)?;
+    Ok(text)
+}
+
+/// Returns the choice that may have been meant by a word that no thread of these names has.
+pub fn near_choice(
+    alloc: Global,
+    names: &[&[u8]],
+    word: &[u8],
+) -> Result<Option<Vec<u8>>, AllocError> {
+    let (name, behind) = name_and_tail(word);
+    let expiry = match name {
+        [b'x', waiting @ ..] => nearest(alloc, names, waiting)?,
+        _ => None,
+    };
+    let least = expiry.map_or(3, |(_, far)| far);
+    match (nearest(alloc, names, name)?, expiry) {
+        (Some((near, far)), _) if far <= least => Ok(Some(choice(alloc, b"", near, behind)?)),
+        (_, Some((near, _))) => Ok(Some(choice(alloc, b"x", near, behind)?)),
+        _ => Ok(None),
+    }
 }

@@ -3,7 +3,6 @@
 
 use crate::java::row_of;
 use crate::names::{in_small_letters, nearest_asked, nearest_word};
-use crate::unshown::Unshown;
 use byte_ports::{Failed, Sink};
 use line_reader::label::is_label;
 use refusals::entries::tables;
@@ -162,33 +161,21 @@ fn nearest_question(alloc: Global, word: &[u8]) -> Result<Option<&'static str>, 
     }
 }
 
-/// Writes the nearest word that asks for something, if one is near.
-fn push_nearest_question<E: Sink>(
-    alloc: Global,
-    errors: &mut E,
-    word: &[u8],
-) -> Result<(), Unshown> {
-    if let Some(near) = nearest_question(alloc, word)? {
-        push_pieces(errors, &[b"Near: ", near.as_bytes(), b"\n"])?;
-    }
-    Ok(())
-}
-
 /// Writes what is near to a word that asks for nothing: the rows that it begins, the nearest word of the language, or the nearest
 /// word that asks for an entry.
 pub fn push_near_question<E: Sink>(
     alloc: Global,
     errors: &mut E,
-    words: &[&str],
-) -> Result<(), Unshown> {
-    let [word] = words else {
-        return Ok(());
-    };
+    word: &str,
+) -> Result<(), Failed> {
     if word.ends_with("Exception") {
-        return Ok(errors.push(b"Near: exception 1 .. exception 5\n")?);
+        return errors.push(b"Near: exception 1 .. exception 5\n");
     }
     if push_rows_from(errors, word)? {
         return Ok(());
     }
-    push_nearest_question(alloc, errors, word.as_bytes())
+    match nearest_question(alloc, word.as_bytes()) {
+        Ok(Some(near)) => push_pieces(errors, &[b"Near: ", near.as_bytes(), b"\n"]),
+        _ => Ok(()),
+    }
 }

@@ -2,6 +2,8 @@
 
 import threading
 
+import points
+
 
 class IllegalState(Exception):
     """A call that the state of the object doesn't allow."""
@@ -34,6 +36,7 @@ class Thread(threading.Thread):
     def interrupt(self):
         """Sets the status, and wakes the thread where it waits interruptibly."""
         self.interrupted = True
+        points.point()
         condition = self._waits_at
         if condition is not None:
             with condition:
@@ -42,6 +45,7 @@ class Thread(threading.Thread):
     def wait_interruptibly(self, condition, seconds=None):
         """Waits at a condition whose lock this thread holds: until it is notified, interrupted, or out of time."""
         self._waits_at = condition      # before the look at the status, since `interrupt` sets that one first
+        points.point()
         try:
             if not self.interrupted:
                 condition.wait(seconds)

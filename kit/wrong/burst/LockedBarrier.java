@@ -65,6 +65,10 @@ class LockedBarrier implements BarrierUnderTest {
         return parties - 1 - waiting;
     }
 
+    /** A waiter has looked, and sleeps next; the lock is held. */
+    void fallsAsleep() {
+    }
+
     /** A waiter woke up, maybe for nothing, and hasn't looked yet; {@code left} is what is left of its time. */
     void wakesUp(boolean timed, long left) throws InterruptedException, TimeoutException {
     }
@@ -175,6 +179,7 @@ class LockedBarrier implements BarrierUnderTest {
                 breakIt();
                 throw new TimeoutException();
             }
+            fallsAsleep();
             sleep(timed, left(began, nanoseconds));
             wakesUp(timed, left(began, nanoseconds));
         } while (!mine.isOver());

@@ -80,6 +80,10 @@ class LockedPhaser implements PhaserUnderTest {
         unarrived = count;
     }
 
+    /** A waiter has looked, and sleeps next; the lock is held. */
+    void fallsAsleep() {
+    }
+
     /** A waiter woke up, maybe for nothing, and hasn't looked yet; {@code left} is what is left of its time. */
     void wakesUp(boolean timed, long left) throws InterruptedException, TimeoutException {
     }
@@ -235,6 +239,7 @@ class LockedPhaser implements PhaserUnderTest {
                 if (timed && left(began, nanoseconds) <= 0) {
                     throw new TimeoutException();
                 }
+                fallsAsleep();
                 sleep(timed, left(began, nanoseconds));
                 wakesUp(timed, left(began, nanoseconds));
             }

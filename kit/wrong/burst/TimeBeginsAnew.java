@@ -3,7 +3,7 @@ package kit.wrong.burst;
 import java.util.concurrent.TimeoutException;
 
 /**
- * Every arrival wakes the waiters, and the time of each begins anew as it sleeps on.
+ * Whoever is interrupted wakes the other waiters, and the time of each begins anew as it sleeps on.
  *
  * <p>Found by time-among-pokes.
  */
@@ -14,11 +14,6 @@ public final class TimeBeginsAnew extends LockedFactory {
             private final ThreadLocal<Long> woken = new ThreadLocal<>();
 
             @Override
-            void counted() {
-                wakeAll();
-            }
-
-            @Override
             int await(int awaited, boolean timed, long nanoseconds) throws InterruptedException, TimeoutException {
                 woken.remove();
                 return super.await(awaited, timed, nanoseconds);
@@ -26,6 +21,9 @@ public final class TimeBeginsAnew extends LockedFactory {
 
             @Override
             void wakesUp(boolean timed, long left) {
+                if (Thread.currentThread().isInterrupted()) {
+                    wakeAll();
+                }
                 if (left > 0) {
                     woken.set(System.nanoTime());
                 }

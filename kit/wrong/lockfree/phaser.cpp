@@ -34,7 +34,8 @@ Fault fault_of_environment() {
   const char* names[] = {"", "check-push-park", "park-once", "register-by-adding", "arrive-by-subtracting",
                          "advance-in-two-steps", "force-by-storing", "stale-answer", "sixteen-are-woken",
                          "nodes-used-again", "phase-before-counts", "end-by-storing",
-                         "taken-off-by-comparing", "queued-for-good"};
+                         "taken-off-by-comparing", "queued-for-good", "register-by-storing",
+                         "empty-before-on-advance", "freed-while-queued", "permit-is-kept"};
   for (int at = 1; name && at < static_cast<int>(std::size(names)); at++) {
     if (std::strcmp(name, names[at]) == 0) {
       return static_cast<Fault>(at);
@@ -44,7 +45,6 @@ Fault fault_of_environment() {
 }
 
 const Fault fault = fault_of_environment();
-const bool takes_off_one_by_one = fault == Fault::kNodesUsedAgain || fault == Fault::kTakenOffByComparing;
 
 /// A permit to go on: `unpark` gives it, and `park` takes it, or waits for it.
 class Parker {
@@ -61,7 +61,7 @@ class Parker {
     if (!permit_) {
       interruptibly ? Thread::current().wait(monitor_, lock, time) : monitor_->changed.wait(lock);
     }
-    permit_ = false;
+    permit_ = fault == Fault::kPermitIsKept && permit_;
   }
 
  private:
@@ -97,6 +97,14 @@ struct Phaser::Node {
     if (--owners == 0) {
       delete this;
     }
+  }
+
+  /// The waiter goes, and the phase hasn't ended.
+  void leave() {
+    if (fault == Fault::kFreedWhileQueued && queued) {
+      let_go();
+    }
+    let_go();
   }
 };
 
@@ -136,6 +144,10 @@ int Phaser::bulk_register(int count) {
     if (fault == Fault::kRegisterByAdding && !empty(word)) {
       return view_of(word_.fetch_add(count * kParty + count));
     }
+    if (fault == Fault::kRegisterByStoring && empty(word)) {
+      word_ = fresh(phase_of(word), count);
+      return phase_of(word);
+    }
     const Word more = empty(word) ? fresh(phase_of(word), count) : word + count * kParty + count;
     if (word_.compare_exchange_strong(word, more)) {
       return phase_of(word);
@@ -150,6 +162,7 @@ int Phaser::arrive(bool leaves) {
   Word word = word_;
   const Word first = word;
   Word less;
+  Word next;
   do {
     if (terminated(word)) {
       return view_of(word);
@@ -163,7 +176,9 @@ int Phaser::arrive(bool leaves) {
       less = word - 1 - (leaves ? kParty : 0);
       break;
     }
-  } while (!word_.compare_exchange_weak(word, less));
+    const bool empties = fault == Fault::kEmptyBeforeOnAdvance && turned(less) && parties_of(less) == 0;
+    next = empties ? fresh(phase_of(word), 0) : less;
+  } while (!word_.compare_exchange_weak(word, next));
   const int phase = phase_of(fault == Fault::kStaleAnswer ? first : word);
   if (turned(less)) {
     advance(phase, parties_of(less));
@@ -228,18 +243,18 @@ int Phaser::await_advance_interruptibly(int phase, const Time& time) {
 
 /// Until the phase has ended. It has a node on the stack whenever it parks.
 void Phaser::wait(int phase, bool interruptibly, const Time& time) {
-  if (takes_off_one_by_one) {
+  if (fault == Fault::kNodesUsedAgain) {
     release_one_by_one();  // so nobody of a phase before is left below
   }
   Node* node = fault == Fault::kNodesUsedAgain ? Node::of_own() : new Node();
   node->phase = phase;
   while (view_of(word_) == phase) {
     if (interruptibly && Thread::current().clear_interrupted()) {
-      node->let_go();
+      node->leave();
       throw Interrupted();
     }
     if (time.is_over() && view_of(word_) == phase) {  // else the phase ended in time, behind the look above
-      node->let_go();
+      node->leave();
       throw TimedOut();
     }
     if (!node->queued) {
@@ -254,7 +269,7 @@ void Phaser::wait(int phase, bool interruptibly, const Time& time) {
     }
   }
   node->let_go();
-  if (takes_off_one_by_one) {
+  if (fault == Fault::kNodesUsedAgain) {
     release_one_by_one();
   }
 }
@@ -270,7 +285,7 @@ void Phaser::push(Node* node) {
 
 /// Wakes all. A node is its waiter's again once it isn't queued: its successor is read before.
 void Phaser::release_all() {
-  if (takes_off_one_by_one) {
+  if (fault == Fault::kNodesUsedAgain || fault == Fault::kTakenOffByComparing) {
     return release_one_by_one();
   }
   const int most = fault == Fault::kSixteenAreWoken ? 16 : kMostParties;
@@ -288,19 +303,20 @@ void Phaser::release_all() {
   }
 }
 
-/// Who ends a phase, and all who go on, take off whoever is first, as long as that is first. Meanwhile another may take it off,
-/// and its place in memory may be the first anew, for the next phase, and above others than before: a waiter uses its node again,
-/// or deletes it, and the next one gets its memory. If it is woken before it is taken off, that is much more likely.
+/// Takes off whoever is first, as long as that is first. Meanwhile another may take it off, and its place in memory may be the
+/// first anew, above others than before: a waiter uses its node again, or deletes it, and the next one gets its memory. If it is
+/// woken before it is taken off, that is much more likely.
 void Phaser::release_one_by_one() {
-  for (Node* node = waiters_; node && node->phase != view_of(word_); node = waiters_) {
+  const bool wakes_first = fault == Fault::kNodesUsedAgain;  // and leaves those who await the present phase
+  for (Node* node = waiters_; node && !(wakes_first && node->phase == view_of(word_)); node = waiters_) {
     Node* const next = node->next;
     Node* first = node;
-    if (fault == Fault::kNodesUsedAgain) {
+    if (wakes_first) {
       node->parker.unpark();
     }
     if (waiters_.compare_exchange_strong(first, next)) {
       node->queued = false;
-      if (fault == Fault::kTakenOffByComparing) {
+      if (!wakes_first) {
         node->parker.unpark();
       }
       node->let_go();

@@ -24,6 +24,10 @@ enum class Fault {
   kEndByStoring,
   kTakenOffByComparing,
   kQueuedForGood,
+  kRegisterByStoring,
+  kEmptyBeforeOnAdvance,
+  kFreedWhileQueued,
+  kPermitIsKept,
 };
 
 /// All its numbers are one word (docs/FORMATS.md, "Packed word"), which calls exchange by comparing. Who waits pushes a node

@@ -1,5 +1,5 @@
 #!/usr/bin/env python3
-"""The port of kit/ports/python whose waiters wake up every millisecond to look."""
+"""The port of kit/ports/python whose waiters wake up every millisecond to look, or so many seconds: with 0 they spin."""
 
 import sys
 import threading
@@ -9,6 +9,7 @@ sys.path.insert(0, str(Path(__file__).resolve().parents[2] / "ports" / "python")
 
 import port  # noqa: E402
 
+PAUSE = float((sys.argv[1:] + ["0.001"])[0])
 right_wait = threading.Condition.wait
-threading.Condition.wait = lambda condition, seconds=None: right_wait(condition, 0.001)
+threading.Condition.wait = lambda condition, seconds=None: right_wait(condition, PAUSE)
 port.main()

@@ -4,7 +4,7 @@ ghost use Rattle.std.specs.Io.{WritesAtMost};
 ghost use Rattle.std.specs.Io.KnownBytes.{WriteAppends};
 ghost use Rattle.std.specs.Prelude.{None, if◌then◌else◌};
 
-use std::io::{IsTerminal, Stderr, Stdout, Write};
+use std::io::{IsTerminal, Stderr, Write};
 use std::os::unix::fs::FileTypeExt;
 use std::{fs, io};
 
@@ -19,10 +19,10 @@ pub struct Printable<W> {
     is_terminal: bool,
 }
 
-/// Standard output.
-pub fn output(rt: &HostRuntime) -> Printable<Stdout> {
+/// A writer over standard output.
+pub fn output<W>(rt: &HostRuntime, writer: W) -> Printable<W> {
     Printable {
-        writer: rt.stdout(),
+        writer,
         is_terminal: rt.stdout().is_terminal(),
     }
 }

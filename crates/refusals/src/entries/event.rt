@@ -113,7 +113,7 @@ pub static EVENT_AT_END: [Entry; 4] = [
     Entry {
         asked: &[&["idle"], &["_", "_", "_", "idle", ".."]],
         told: "idle",
-        means: "the choice did nothing: its thread waits, or has ended or died",
+        means: "the choice did nothing: its thread can't continue now, has no timed wait that `xN` could end, or has ended or died",
         helps: "a plan makes no such choices with `ann.` and `..`",
         example: "printf '.thread t #0\\nhalt\\n.run\\nt0*2\\n' | vuthgal",
         more: "docs/TRACES.md, \"Trace text\"",

@@ -42,7 +42,7 @@ pub static FINDING_OF_RUN: [Entry; 4] = [
         asked: &[&["stuck"], &["state", "_", "_", "stuck"], &["deadlock"]],
         told: "state CHOICES STEPS stuck",
         means: "some threads haven't ended, and none of them can continue",
-        helps: "`vuthgal draw` shows which thread waits, and where",
+        helps: "`vuthgal draw` shows where each thread stopped",
         example: "printf '.phaser p 2\\n.thread t #0\\npaaa r0 p\\nhalt\\n.run\\nt0\\n' | vuthgal",
         more: "docs/TRACES.md, \"Trace text\"",
     },

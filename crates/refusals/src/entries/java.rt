@@ -20,7 +20,7 @@ pub static JAVA_TOOLS: [Entry; 4] = [
         means: "a program has no locks, monitors or semaphores",
         helps: "threads wait only at phasers and barriers, as in `paaa r0 p` and `cawait r0 b`",
         example: "none: no row is one of these",
-        more: "docs/BEHAVIOUR.md, \"Where the JDK differs\"",
+        more: "docs/LANGUAGE.md, \"Instruction table\"",
     },
     Entry {
         asked: &[
@@ -77,7 +77,7 @@ pub static JAVA_WAITS: [Entry; 4] = [
         means: "no wait ends without a reason: see the rules of the call",
         helps: "a turn of a thread that has to wait on is `idle` in the trace",
         example: "none: no wait ends so",
-        more: "docs/BEHAVIOUR.md, \"Waiting for a phase\"",
+        more: "docs/PHASER.md, \"Waiting for a phase\"",
     },
     Entry {
         asked: &[
@@ -101,7 +101,7 @@ pub static JAVA_WAITS: [Entry; 4] = [
         means: "no time passes: the schedule says who goes on, and which timed wait times out",
         helps: "`cawaitt r0 b r1` or `pawaitt r0 p r1 r2`; in a plan `xann` ends ann's wait",
         example: "none: no row has this name",
-        more: "docs/BEHAVIOUR.md, \"Waiting for a time\"",
+        more: "docs/PHASER.md, \"Waiting for a time\"",
     },
     Entry {
         asked: &[

@@ -64,7 +64,7 @@ pub static TERM_OF_PROGRAM: [Entry; 4] = [
         means: "an arrival by a thread that isn't registered: it takes the place of another",
         helps: "`preg r0 p` registers a party before it arrives",
         example: "printf '.phaser p 2\\n.thread a #0\\n.thread b #0\\n.thread c #2\\npaaa r0 p\\nhalt\\nparr r0 p\\nhalt\\n.run\\nt0 t2 t0 t1\\n' | vuthgal",
-        more: "docs/BEHAVIOUR.md, \"Arriving\"",
+        more: "docs/PHASER.md, \"Arriving\"",
     },
     Entry {
         asked: &[&["image"], &["images"], &["binary"]],

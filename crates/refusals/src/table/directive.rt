@@ -14,7 +14,7 @@ static PHASER: WordEntry = WordEntry {
     java: "new Phaser(parent, parties)",
     means: "makes the next phaser; `never`, `until N` and `onadvance L` say when it terminates at the end of a phase",
     event: "none",
-    example: ".phaser house 1 phase 3 until 9\n.phaser room 1 parent house\n.thread ann main\nmain: parr r0 room\nhalt\n.run\nt0*2",
+    example: ".phaser house 0 phase 3 onadvance greet\n.phaser room 1 parent house\n.phaser door 1 until 9\n.thread ann main\nmain: parr r0 room\nhalt\ngreet: ldi r0 0\nret\n.run\nt0*4",
 };
 
 static BARRIER: WordEntry = WordEntry {

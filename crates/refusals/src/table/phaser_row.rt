@@ -79,7 +79,7 @@ static PFORCE: WordEntry = WordEntry {
     form: "pforce P",
     operands: "P: a phaser, its name or # and a number",
     java: "forceTermination()",
-    means: "terminates the phaser: no thread waits there any more",
+    means: "terminates all phasers of its tree: no thread waits there any more",
     event: "`ok`",
     example: ".phaser door 2\n.thread ann main\n.thread bob other\nmain: paaa r0 door\nout r0\nhalt\nother: pforce door\nhalt\n.run\nt0 t1*2 t0*3",
 };
