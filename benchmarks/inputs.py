@@ -25,7 +25,7 @@ TREE = '.phaser r 0' + ''.join(
     for c in range(9) for level in range(7))
 LEAVES = ' | '.join(f'parr r0 c{c}l6' for c in range(9))
 
-# The plays: directives, threads, rows, and the pattern of the schedule. docs/SPEED.md says what each does. (`preg` registers
+# The plays: directives, threads, rows, and the pattern of the schedule. goals.txt says what each does. (`preg` registers
 # at every second choice, 65535 times at most.)
 PLAYS = {
     'idle': ('.phaser p 2', 2, 'paaa r0 p | halt', 't0*'),

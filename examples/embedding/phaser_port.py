@@ -1,4 +1,5 @@
-"""A small port of Java's `Phaser`: one phaser, and the calls that never wait. One is right, and one has a fault."""
+"""A small port of Java's `Phaser`: one phaser, without the calls that wait, and with them. One of each is right, and one has a fault."""
+import threading
 
 
 class IllegalState(Exception):
@@ -63,3 +64,57 @@ class FaultyPhaser(Phaser):
         if leaves and not self.terminated:
             self.parties -= 1
         return phase
+
+
+class WaitingPhaser(Phaser):
+    """With the calls that wait, and one lock. Right, as far as these calls go."""
+
+    def __init__(self, parties):
+        super().__init__(parties)
+        self.moved = threading.Condition()
+
+    def register(self):
+        with self.moved:
+            return super().register()
+
+    def arrive(self):
+        with self.moved:
+            return self._arrive(False)
+
+    def arrive_and_deregister(self):
+        with self.moved:
+            return self._arrive(True)
+
+    def arrive_and_await_advance(self):
+        with self.moved:
+            return self._await(self._arrive(False))
+
+    def await_advance(self, phase):
+        with self.moved:
+            return self._await(phase)
+
+    def force_termination(self):
+        with self.moved:
+            super().force_termination()
+            self.moved.notify_all()
+
+    def _await(self, phase):
+        if phase < 0:
+            return phase
+        while self.view == phase:
+            self.moved.wait()
+        return self.view
+
+    def _advance(self):
+        super()._advance()
+        self.wake()
+
+    def wake(self):
+        self.moved.notify_all()
+
+
+class ForgetfulPhaser(WaitingPhaser):
+    """The end of a phase wakes one of those that wait, and forgets the others."""
+
+    def wake(self):
+        self.moved.notify()

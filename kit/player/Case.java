@@ -73,17 +73,16 @@ record Case(String name, Path file, Program program, List<Choice> schedule, Stri
     }
 
     /**
-     * The trace that is kept of a case: that of {@code NAME.trace} beside it, or what the file {@code traces} of its folder has after
-     * the line {@code == NAME}. It is null if none is kept.
+     * The trace that is kept of a case, after the line {@code == NAME}: in the file {@code traces} of its folder, or of this folder
+     * in the archive {@code traces.zip} beside it. It is null if none is kept.
      */
-    static String keptTrace(Path file) {
-        Path alone = beside(file, ".trace");
-        Path all = file.resolveSibling("traces");
-        if (Files.exists(alone)) {
-            return read(alone);
-        }
+    static String keptTrace(Path file) throws IOException {
+        Path folder = file.toAbsolutePath().normalize().getParent();
+        Path alone = folder.resolve("traces");
+        String all = Files.exists(alone) ? read(alone)
+            : Archive.read(folder.resolveSibling("traces.zip")).getOrDefault(folder.getFileName() + TEXT, "");
         String named = title(file) + "\n";
-        for (String each : Files.exists(all) ? ("\n" + read(all) + "== ").split("\n== ") : new String[0]) {
+        for (String each : ("\n" + all + "== ").split("\n== ")) {
             if (each.startsWith(named)) {
                 return each.substring(named.length()) + "\n";
             }

@@ -171,6 +171,7 @@ public final class Kit {
         List<Learned> same = new ArrayList<>();
         Sums sums = new Sums();
         Transcripts transcripts = new Transcripts();
+        Map<String, String> kept = Transcripts.made(kit.resolve(KEPT));
         Judge judge = new Judge(new JvmStage(new JdkFactory()), KnownDifferences.COUNTS).warm();
         for (Path file : Player.casesBelow(kit.resolve("cases"))) {
             String name = kit.relativize(file).toString();
@@ -179,21 +180,21 @@ public final class Kit {
             part.take(name, verdict.isSame() && isWholeJudged(verdict.notes()) && isTrace(each), whatFails(each, verdict));
             tellAgain(part, name, verdict);
             sums.add(verdict.notes());
-            transcripts.add(each, sureTranscript(judge, each, verdict));
+            transcripts.add(each, sureTranscript(judge, kept, each, verdict));
             if (verdict.isSame()) {
                 same.add(new Learned(each, verdict.plan()));
             }
         }
         learned.complete(same);
-        transcripts.compare(kit.resolve(KEPT), (file, kept) -> part.take("transcripts/" + file, kept,
-            "it isn't what was played: kit/play --known --transcripts kit/transcripts kit/cases"));
+        transcripts.compare(kept, (file, difference) -> part.take("transcripts/" + file, difference.isEmpty(),
+            "it isn't what was played (kit/play --known --transcripts kit/transcripts/cases.zip kit/cases):" + difference));
         part.to.println("cases on the JDK: " + same.size() + " the same, " + sums.line());
     }
 
     /** Where the machine is busy somebody may go on a little late, and another play has the transcript that is kept. */
-    private Verdict sureTranscript(Judge judge, Case each, Verdict first) throws IOException {
+    private static Verdict sureTranscript(Judge judge, Map<String, String> kept, Case each, Verdict first) {
         Verdict verdict = first;
-        for (int play = 0; play < PLAYS && verdict.isSame() && !Transcripts.isKept(kit.resolve(KEPT), each, verdict); play++) {
+        for (int play = 0; play < PLAYS && verdict.isSame() && !Transcripts.isKept(kept, each, verdict); play++) {
             verdict = judge.judge(each, verdict.plan());
         }
         return verdict;
@@ -204,12 +205,12 @@ public final class Kit {
         return notes.count(Notes.Kind.LEFT_OUT) + notes.count(Notes.Kind.TOLD_AGAIN) + notes.count(Notes.Kind.UNSEEN) == 0;
     }
 
-    private static boolean isTrace(Case each) {
+    private static boolean isTrace(Case each) throws IOException {
         return each.wanted().equals(Case.keptTrace(each.file()));
     }
 
-    private static String whatFails(Case each, Verdict verdict) {
-        String trace = isTrace(each) ? "" : "its trace isn't Vuthgal's; ";
+    private static String whatFails(Case each, Verdict verdict) throws IOException {
+        String trace = isTrace(each) ? "" : "its trace isn't Vuthgal's, as kit/traces shows; ";
         return trace + verdict.words() + "; " + String.join("; ", verdict.notes().lines());
     }
 

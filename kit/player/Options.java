@@ -27,7 +27,8 @@ final class Options {
           --known            tells documented differences over (docs/BEHAVIOUR.md, "Where the JDK differs"), and counts them
           --trace FILE       writes the trace of what was played
           --transcripts FOLDER
-                             writes what was said to the JDK's classes and what they answered, for kit/replay
+                             writes what was said to the JDK's classes and what they answered, for kit/replay, a file for
+                             each folder of cases; into one archive where it is named NAME.zip
           --random N         plays N scenarios of its own, with documented differences told over
           --burst ROUNDS     plays so many bursts: several calls at once on threads that run freely
           --for SECONDS      plays bursts for so long, and no more than ROUNDS where these are given

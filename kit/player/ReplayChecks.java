@@ -7,7 +7,6 @@ import java.util.ArrayList;
 import java.util.List;
 import java.util.Map;
 import java.util.concurrent.TimeUnit;
-import java.util.stream.Stream;
 
 /** Whether what works without a JDK does: {@code kit/replay} with the transcripts, and the words that name it. */
 final class ReplayChecks {
@@ -116,14 +115,12 @@ final class ReplayChecks {
 
     /** The folders of cases of which there are transcripts. */
     private List<String> folders() throws IOException {
-        try (Stream<Path> all = Files.list(kit.resolve("transcripts"))) {
-            return all.map(file -> file.getFileName().toString().replace(".txt", "")).sorted().toList();
-        }
+        return Transcripts.kept(kit.resolve("transcripts")).keySet().stream().map(file -> file.replace(".txt", "")).toList();
     }
 
     /** All transcripts of this folder's cases are right. */
     private Check right(String command, String folder) throws IOException {
-        String transcripts = Files.readString(kit.resolve("transcripts").resolve(folder + ".txt"));
+        String transcripts = Transcripts.kept(kit.resolve("transcripts")).get(folder + ".txt");
         return new Check(0, transcripts.lines().filter(line -> line.startsWith("# ")).count() + RIGHT, command, folder);
     }
 

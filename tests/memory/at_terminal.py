@@ -1,10 +1,11 @@
 #!/usr/bin/env python3
 """Has each request for memory refused where standard error is a terminal, alone and with all behind it: the call ends with status 4
-and `memory`, or all is as ever, but that lines for a person may be missing on the terminal, or say the name of a file in place of its
-line.
+and `memory`, or all is as ever, but that lines for a person may be missing on the terminal, may end early, or may be the general ones:
+without a line and a column, or with what helps anyone.
 usage: at_terminal.py VUTHGAL LIBRARY EXAMPLES, the library made of refuse.c"""
 import multiprocessing
 import os
+import re
 import select
 import sys
 import tempfile
@@ -74,12 +75,25 @@ class Terminal:
         return self.call(words, is_session, {"LD_PRELOAD": self.library, refusal: str(request)})
 
 
-def judge(answer, usual, files):
+READ = b"a file or standard input can't be read, doesn't exist, or is too long"
+
+
+def without_place(line):
+    return re.sub(rb"(:[0-9]+)+: ", b": ", line, count=1)
+
+
+def is_left_of(line, usual):
+    """Whether a line may stand where there is less memory than there was for these."""
+    return (line in (READ, *usual) or line.startswith(b"help: ") or any(one.startswith(line.rstrip()) for one in usual)
+            or without_place(line) in map(without_place, usual))
+
+
+def judge(answer, usual):
     status, output, shown, _ = answer
-    lines = usual[2].splitlines() + [b"  File:    " + file.encode() for file in files]
+    lines = usual[2].splitlines()
     if status == 4 and b"memory\n" in shown and usual[1].startswith(output):
         return "memory"
-    if (status, output) != usual[:2] or any(line not in lines for line in shown.splitlines()):
+    if (status, output) != usual[:2] or not all(is_left_of(line, lines) for line in shown.splitlines()):
         return f"status {status}, {output!r}, {shown!r}"
     return "as ever" if shown == usual[2] else "fewer words"
 
@@ -111,7 +125,7 @@ def sweep(program, library, examples, command, is_session):
         usual = terminal.call(command.split(), is_session, {})
         for refusal in ("REFUSE_REQUEST", "REFUSE_FROM"):
             for answer in swept(lambda request: terminal.refused(command.split(), is_session, refusal, request)):
-                came.add(judge(answer, usual, command.split()[1:]) if answer else "requests without an end")
+                came.add(judge(answer, usual) if answer else "requests without an end")
         os.chdir("/")
     return came
 

@@ -1,5 +1,5 @@
 -- Lines read one after the other, and a text with its image: what is read is said, and what is said is read.
-use Rattle.std.proofs.Common.{◌≡◌, inl, inr, ℕ, suc, ◌+◌, Bool, true, not, List, [], ◌∷◌, ◌++◌, length, take, drop, find, Option, Some, None, Result, Ok, IfOk, refl, sym, ap, subst, ◌∙◌, append_assoc, arith}
+use Rattle.std.proofs.Common.{◌≡◌, inl, inr, ℕ, suc, ◌+◌, Bool, true, not, List, [], ◌∷◌, ◌++◌, length, take, drop, find, Option, Some, None, Result, Ok, Err, IfOk, refl, sym, ap, subst, ◌∙◌, append_assoc, arith}
 use Rattle.std.specs.List.{list_all}
 use Rattle.std.proofs.lemmas.List.{append-nil, take-append-drop}
 use Rattle.row_code.specs.declared.image.Image.{Image}
@@ -13,7 +13,8 @@ use Rattle.assembler.specs.Statements.{EachFollows}
 use Rattle.assembler.specs.Meaning.{are_known, SayInOrder, StandsFor}
 use Rattle.row_code.specs.Answers.{◌>>=◌}
 use Rattle.assembler.specs.Reading.{line_behind}
-use Rattle.assembler.specs.Answers.{AnswersAt, FailsAt}
+use Rattle.assembler.specs.Answers.{AnswersAt, FailsAt, unplaced}
+use Rattle.assembler.specs.declared.placed.PlacedFault.{PlacedFault}
 use Rattle.assembler.specs.Passes.{behind, lines_read, first_unknown, looked_up, assembled}
 use Rattle.line_reader.proofs.Steps.{by_test, both_true}
 use Rattle.assembler.proofs.SpelledLines.{LineSays, line_takes, line_again}
@@ -172,3 +173,9 @@ pub fault_answered : (text : List ℕ) (e : AsmFault) → FailsAt e.kind e (line
     FailsAt e.kind e (assembled text)
 unfolding assembled
 fault_answered text e fails = grind arith
+
+-- ---- what is said of a result without the place of its fault
+
+pub unplaced_ok : {A : Type 0} (P : A → Type 0) (r : Result A PlacedFault) → IfOk (unplaced r) P → IfOk r P
+unplaced_ok P (Ok x) p = p
+unplaced_ok P (Err e) p = tt

@@ -3,6 +3,8 @@ use Rattle.std.specs.Prelude.{ℕ, Bool, true, false, Result, Ok, Err}
 use Rattle.row_code.specs.Answers.{Answers, FailsUnless}
 use Rattle.line_reader.specs.declared.asm_fault.AsmFault.{AsmFault}
 use Rattle.line_reader.specs.declared.asm_fault.AsmFaultKind.{AsmFaultKind}
+use Rattle.line_reader.specs.declared.asm_fault.WordFault.{WordFault}
+use Rattle.assembler.specs.declared.placed.PlacedFault.{PlacedFault}
 use Rattle.line_reader.specs.declared.asm_fault.AsmFaultKind.TheVariants as fault
 
 -- whether a fault is out of memory, which any call may return instead of its result
@@ -15,10 +17,19 @@ abbrev pub FailsAt : {Y : Type 0} → AsmFaultKind → AsmFault → Result Y Asm
 FailsAt kind e read = FailsUnless (is_memory kind) e read
 
 -- the result for the line of this number
-abbrev pub at_line : {X : Type 0} → ℕ → Result X AsmFaultKind → Result X AsmFault
+abbrev pub at_line : {X : Type 0} → ℕ → Result X WordFault → Result X AsmFault
 at_line number (Ok x) = Ok x
-at_line number (Err kind) = Err (record { line = number; kind = kind })
+at_line number (Err refused) = Err (record { line = number; kind = refused.kind })
 
 -- the result, seen through view, is what is read, unless the call is out of memory
 abbrev pub AnswersAt : {X Y : Type 0} → (X → Y) → Result X AsmFault → Result Y AsmFault → Type 0
 AnswersAt view answered read = Answers (λ e. is_memory e.kind) view answered read
+
+-- a fault without its place
+abbrev pub unplaced : {X : Type 0} → Result X PlacedFault → Result X AsmFault
+unplaced (Ok x) = Ok x
+unplaced (Err e) = Err e.fault
+
+-- the same, whatever the place of the fault
+abbrev pub AnswersPlaced : {X Y : Type 0} → (X → Y) → Result X PlacedFault → Result Y AsmFault → Type 0
+AnswersPlaced view answered read = AnswersAt view (unplaced answered) read

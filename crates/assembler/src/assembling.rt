@@ -1,6 +1,6 @@
 ghost use Rattle.std.specs.Prelude.{◌≡◌, ◌≤◌, IfErr, IfOk, Ok, length, max};
 ghost use Rattle.row_code.specs.declared.image.Image.{Image};
-ghost use Rattle.assembler.specs.Answers.{AnswersAt};
+ghost use Rattle.assembler.specs.Answers.{AnswersAt, AnswersPlaced};
 ghost use Rattle.assembler.specs.Meaning.{StandsFor};
 ghost use Rattle.assembler.specs.Passes.{assembled};
 ghost use Rattle.assembler.specs.Symbols.{symbols_in};
@@ -8,9 +8,10 @@ ghost use Rattle.line_reader.specs.Words.{lines_of};
 ghost use Rattle.line_reader.specs.declared.asm_fault.AsmFaultKind.TheVariants as fault;
 
 use crate::first_pass::lines_read;
+use crate::placed::PlacedFault;
 use crate::resolution::image_of;
 use crate::symbols::{Symbols, symbols_of};
-use line_reader::asm_fault::{AsmFault, AsmFaultKind};
+use line_reader::asm_fault::AsmFault;
 use row_code::Image;
 use std::alloc::Global;
 
@@ -20,7 +21,6 @@ use std::alloc::Global;
 /// refers to an unknown one has the fault `UnknownName`. The expected time is linear in the length of the text, whatever its
 /// names are. It doesn't check whether a row or an object that the text names by its number exists. `Memory` has the line that
 /// was being read, or the last line if names were being looked up.
-#[tactic(auto, unfolding(crate::specs::Passes::assembled))]
 pub fn assemble(alloc: Global, text: &[u8]) -> Result<Image, AsmFault>
     // The returned image is the one that the text stands for.
     ensures found { IfOk result (λ image. StandsFor text.now image) }
@@ -36,16 +36,39 @@ pub fn assemble(alloc: Global, text: &[u8]) -> Result<Image, AsmFault>
     ensures memory { IfErr result (λ e. e.kind ≡ fault.Memory
         → (1 ≤ e.line) × (e.line ≤ max (length (lines_of text.now)) 1)) }
 {
+    match assemble_placed(alloc, text) {
+        Ok(image) => Ok(image),
+        Err(placed) => Err(placed.fault),
+    }
+}
+
+/// Returns the image of a program's text, as `assemble` does, or its fault with the place in its line.
+#[tactic(auto, unfolding(crate::specs::Passes::assembled))]
+pub fn assemble_placed(alloc: Global, text: &[u8]) -> Result<Image, PlacedFault>
+    // The returned image is the one that the text stands for.
+    ensures found { IfOk result (λ image. StandsFor text.now image) }
+
+    // The image that a text stands for is returned, unless memory runs out.
+    ensures only { (image : Image) → StandsFor text.now image →
+        AnswersPlaced (λ answered. answered) result (Ok image) }
+
+    // Which fault it is, and at which line.
+    ensures exact { AnswersPlaced (λ image. image) result (assembled text.now) }
+
+    // Out of memory is also reported with a line of the text, or with the first if the text has none.
+    ensures memory { IfErr result (λ e. e.fault.kind ≡ fault.Memory
+        → (1 ≤ e.fault.line) × (e.fault.line ≤ max (length (lines_of text.now)) 1)) }
+{
     let (draft, lines) = match lines_read(alloc, text) {
         Ok(read) => read,
         Err(fault) => return Err(fault),
     };
-    image_of(alloc, &draft, lines.max(1))
+    image_of(alloc, &draft, text, lines.max(1))
 }
 
 /// The image of a text, and the text's names: what they name, and the line of each row.
 #[tactic(auto, unfolding(crate::specs::Passes::assembled, crate::specs::Symbols::symbols_in))]
-pub fn assemble_named(alloc: Global, text: &[u8]) -> Result<(Image, Symbols<'_>), AsmFault>
+pub fn assemble_named(alloc: Global, text: &[u8]) -> Result<(Image, Symbols<'_>), PlacedFault>
     // The image is the one that the text stands for.
     ensures found { IfOk result (λ both. StandsFor text.now both.0) }
 
@@ -53,26 +76,23 @@ pub fn assemble_named(alloc: Global, text: &[u8]) -> Result<(Image, Symbols<'_>)
     ensures symbols { IfOk result (λ both. symbols_in text.now ≡ Ok both.1) }
 
     // Which fault it is, and at which line.
-    ensures exact { AnswersAt (λ both. both.0) result (assembled text.now) }
+    ensures exact { AnswersPlaced (λ both. both.0) result (assembled text.now) }
 
     // As above.
-    ensures memory { IfErr result (λ e. e.kind ≡ fault.Memory
-        → (1 ≤ e.line) × (e.line ≤ max (length (lines_of text.now)) 1)) }
+    ensures memory { IfErr result (λ e. e.fault.kind ≡ fault.Memory
+        → (1 ≤ e.fault.line) × (e.fault.line ≤ max (length (lines_of text.now)) 1)) }
 {
     let (draft, lines) = match lines_read(alloc, text) {
         Ok(read) => read,
         Err(fault) => return Err(fault),
     };
     let last = lines.max(1);
-    let image = match image_of(alloc, &draft, last) {
+    let image = match image_of(alloc, &draft, text, last) {
         Ok(image) => image,
         Err(fault) => return Err(fault),
     };
     match symbols_of(alloc, draft) {
         Ok(symbols) => Ok((image, symbols)),
-        Err(_) => Err(AsmFault {
-            line: last,
-            kind: AsmFaultKind::Memory,
-        }),
+        Err(_) => Err(PlacedFault::memory(last)),
     }
 }

@@ -1,6 +1,6 @@
 ghost use Rattle.std.specs.Prelude.{◌≡◌, ◌<◌, ◌≤◌, [], ◌∷◌, IfErr, IfOk, IsErr, Ok, OnOk, false, length, map, true};
 ghost use Rattle.line_reader.specs.Reading.{is_directive, is_label};
-ghost use Rattle.assembler.specs.Answers.{AnswersAt, at_line};
+ghost use Rattle.assembler.specs.Answers.{AnswersAt, AnswersPlaced, at_line};
 ghost use Rattle.line_reader.specs.declared.asm_fault.AsmFaultKind.TheVariants as fault;
 ghost use Rattle.assembler.specs.Passes.{behind, lines_read};
 ghost use Rattle.assembler.specs.Reading.{line_behind, words_behind};
@@ -11,8 +11,9 @@ ghost use Rattle.line_reader.specs.Words.{lines_of};
 use crate::draft::Draft;
 use crate::kept_line::KeptLine;
 use crate::name_hash::NameHash;
+use crate::placed::{PlacedFault, placed};
 use crate::reading::{directive_behind, label_behind, row_behind};
-use line_reader::asm_fault::{AsmFault, AsmFaultKind};
+use line_reader::asm_fault::{AsmFaultKind, WordFault, read_at};
 use line_reader::directive::is_directive;
 use line_reader::first_line::put_line;
 use line_reader::label::is_label;
@@ -20,13 +21,16 @@ use std::alloc::{AllocError, Global};
 
 /// Returns whether a line was added: it is read already, so only memory can be missing.
 #[inline(always)]
-fn pushed(added: Result<(), AllocError>) -> Result<(), AsmFaultKind>
+fn pushed(added: Result<(), AllocError>) -> Result<(), WordFault>
     ensures ok { OnOk result (added ≡ Ok tt) }
-    ensures err { IfErr result (λ kind. (kind ≡ fault.Memory) × IsErr added) }
+    ensures err { IfErr result (λ refused. (refused.kind ≡ fault.Memory) × IsErr added) }
 {
     match added {
         Ok(()) => Ok(()),
-        Err(_) => Err(AsmFaultKind::Memory),
+        Err(_) => Err(WordFault {
+            kind: AsmFaultKind::Memory,
+            left: 0,
+        }),
     }
 }
 
@@ -38,7 +42,7 @@ fn add_labelled<'a>(
     number: u64,
     word: &'a [u8],
     words: &[&'a [u8]],
-) -> Result<(), AsmFaultKind>
+) -> Result<(), WordFault>
     requires { is_label word.now ≡ true }
     ensures { AnswersAt (λ _. draft.new) (at_line number result)
         (behind draft.old number (words_behind draft.old (word.now ∷ map name_seen words.now))) }
@@ -55,7 +59,7 @@ fn add_directive<'a>(
     number: u64,
     word: &'a [u8],
     words: &[&'a [u8]],
-) -> Result<(), AsmFaultKind>
+) -> Result<(), WordFault>
     requires label { is_label word.now ≡ false }
     requires directive { is_directive word.now ≡ true }
     ensures { AnswersAt (λ _. draft.new) (at_line number result)
@@ -73,7 +77,7 @@ fn add_row<'a>(
     number: u64,
     word: &'a [u8],
     words: &[&'a [u8]],
-) -> Result<(), AsmFaultKind>
+) -> Result<(), WordFault>
     requires label { is_label word.now ≡ false }
     requires directive { is_directive word.now ≡ false }
     ensures { AnswersAt (λ _. draft.new) (at_line number result)
@@ -86,7 +90,7 @@ fn add_row<'a>(
 /// Adds what the words of the line of this number say.
 #[inline(always)]
 #[tactic(auto, unfolding(crate::specs::Reading::words_behind))]
-fn add_words<'a>(draft: &mut Draft<'a>, number: u64, words: &[&'a [u8]]) -> Result<(), AsmFaultKind>
+fn add_words<'a>(draft: &mut Draft<'a>, number: u64, words: &[&'a [u8]]) -> Result<(), WordFault>
     ensures { AnswersAt (λ _. draft.new) (at_line number result)
         (behind draft.old number (words_behind draft.old (map name_seen words.now))) }
 {
@@ -113,23 +117,23 @@ fn read_line<'a>(
     words: &mut Vec<&'a [u8]>,
     number: u64,
     text: &'a [u8],
-) -> Result<&'a [u8], AsmFaultKind>
+) -> Result<&'a [u8], WordFault>
     requires { 0 < length text.now }
     ensures read { AnswersAt (λ _. draft.new) (at_line number result)
         (behind draft.old number (line_behind draft.old (first_line text.now))) }
     ensures lines { IfOk result (λ after. lines_of text.now ≡ first_line text.now ∷ lines_of after.now) }
     ensures shorter { IfOk result (λ after. length after.now < length text.now) }
 {
-    let after = put_line(words, text)?;
+    let after = read_at(0, put_line(words, text))?;
     add_words(draft, number, words)?;
     Ok(after)
 }
 
 /// Reads all lines of a text: what they say, and how many lines there are.
-pub fn lines_read(alloc: Global, text: &[u8]) -> Result<(Draft<'_>, u64), AsmFault>
-    ensures read { AnswersAt (λ x. x.0) result (lines_read 1 [] (lines_of text.now)) }
+pub fn lines_read(alloc: Global, text: &[u8]) -> Result<(Draft<'_>, u64), PlacedFault>
+    ensures read { AnswersPlaced (λ x. x.0) result (lines_read 1 [] (lines_of text.now)) }
     ensures lines { IfOk result (λ x. x.1 ≡ length (lines_of text.now)) }
-    ensures line { IfErr result (λ e. (1 ≤ e.line) × (e.line ≤ length (lines_of text.now))) }
+    ensures line { IfErr result (λ e. (1 ≤ e.fault.line) × (e.fault.line ≤ length (lines_of text.now))) }
 {
     let mut draft = Draft::new(alloc, NameHash::new(text));
     let mut words = Vec::new(alloc);
@@ -139,7 +143,7 @@ pub fn lines_read(alloc: Global, text: &[u8]) -> Result<(Draft<'_>, u64), AsmFau
         number += 1;
         match read_line(&mut draft, &mut words, number, rest) {
             Ok(after) => rest = after,
-            Err(kind) => return Err(AsmFault { line: number, kind }),
+            Err(fault) => return Err(placed(number, fault, rest, words.len())),
         }
     }
     Ok((draft, number))

@@ -24,8 +24,8 @@ pub mod word_place;
 // What texts mean, and that the canonical text of an image is assembled to it.
 pub mod meaning;
 
-pub use assembling::{assemble, assemble_named};
+pub use assembling::{assemble, assemble_named, assemble_placed};
 pub use line_reader::asm_fault::{AsmFault, AsmFaultKind};
 pub use line_reader::disassemble;
-pub use placed::{PlacedFault, assemble_placed};
+pub use placed::PlacedFault;
 pub use symbols::{Symbol, Symbols};

@@ -1,5 +1,5 @@
 ghost use Rattle.std.specs.Prelude.{◌≡◌, IfOk, Option, false, map, option_map, true};
-ghost use Rattle.line_reader.specs.Seen.{seen};
+ghost use Rattle.line_reader.specs.Seen.{seen_in};
 ghost use Rattle.line_reader.specs.Reading.{before_last, is_label};
 ghost use Rattle.line_reader.specs.Symbols.{Name};
 ghost use Rattle.line_reader.specs.declared.statement.Statement.TheVariants as statement;
@@ -11,7 +11,7 @@ ghost use Rattle.line_reader.specs.Seen.{name_seen, statement_seen};
 
 use crate::draft::{Draft, name_in};
 use crate::kept_line::KeptLine;
-use line_reader::asm_fault::AsmFaultKind;
+use line_reader::asm_fault::{AsmFaultKind, WordFault, read_at};
 use line_reader::directive::{directive_at, is_directive};
 use line_reader::kept_row::{KeptRow, row_at};
 use line_reader::label::before_last;
@@ -34,20 +34,29 @@ pub fn directive_behind<'a>(
     draft: &Draft<'a>,
     word: &[u8],
     words: &[&'a [u8]],
-) -> Result<Statement<&'a [u8]>, AsmFaultKind>
-    ensures said { seen statement_seen result
+) -> Result<Statement<&'a [u8]>, WordFault>
+    ensures said { seen_in statement_seen result
         ≡ directive_behind draft.now word.now (map name_seen words.now) }
     ensures directive { IfOk result (λ said. is_code (statement_seen said) ≡ false) }
 {
     if draft.has_code() {
-        return Err(AsmFaultKind::MisplacedDirective);
+        return Err(WordFault {
+            kind: AsmFaultKind::MisplacedDirective,
+            left: words.len().saturating_add(1),
+        });
     }
     let said = directive_at(word, words)?;
     if !is_new(draft, name_in(&said)) {
-        return Err(AsmFaultKind::NameTwice);
+        return Err(WordFault {
+            kind: AsmFaultKind::NameTwice,
+            left: words.len(),
+        });
     }
     if !draft.has_room(&said) {
-        return Err(AsmFaultKind::TooMany);
+        return Err(WordFault {
+            kind: AsmFaultKind::TooMany,
+            left: words.len().saturating_add(1),
+        });
     }
     Ok(said)
 }
@@ -59,13 +68,16 @@ pub fn row_behind<'a>(
     draft: &Draft<'a>,
     word: &[u8],
     words: &[&'a [u8]],
-) -> Result<KeptRow<'a>, AsmFaultKind>
-    ensures { (label : Option Name) → seen (λ row. statement.Row label (row_kept row)) result
+) -> Result<KeptRow<'a>, WordFault>
+    ensures { (label : Option Name) → seen_in (λ row. statement.Row label (row_kept row)) result
         ≡ row_behind draft.now label word.now (map name_seen words.now) }
 {
     let row = row_at(word, words)?;
     if !draft.has_room_for_row() {
-        return Err(AsmFaultKind::TooMany);
+        return Err(WordFault {
+            kind: AsmFaultKind::TooMany,
+            left: words.len().saturating_add(1),
+        });
     }
     Ok(row)
 }
@@ -77,8 +89,8 @@ fn labelled_behind<'a>(
     number: u64,
     label: &'a [u8],
     words: &[&'a [u8]],
-) -> Result<KeptLine<'a>, AsmFaultKind>
-    ensures said { seen statement_kept result
+) -> Result<KeptLine<'a>, WordFault>
+    ensures said { seen_in statement_kept result
         ≡ labelled_behind draft.now label.now (map name_seen words.now) }
     ensures number { IfOk result (λ line. number_kept line ≡ number) }
 {
@@ -86,7 +98,10 @@ fn labelled_behind<'a>(
         [] => Ok(KeptLine::Label(number, label)),
         [word, operands @ ..] => {
             if is_directive(*word) {
-                return Err(AsmFaultKind::MisplacedDirective);
+                return Err(WordFault {
+                    kind: AsmFaultKind::MisplacedDirective,
+                    left: words.len(),
+                });
             }
             let row = row_behind(draft, *word, operands)?;
             Ok(KeptLine::LabelledRow(number, label, row))
@@ -101,15 +116,19 @@ pub fn label_behind<'a>(
     number: u64,
     word: &'a [u8],
     words: &[&'a [u8]],
-) -> Result<KeptLine<'a>, AsmFaultKind>
+) -> Result<KeptLine<'a>, WordFault>
     requires { is_label word.now ≡ true }
-    ensures said { seen statement_kept result
+    ensures said { seen_in statement_kept result
         ≡ statement_behind draft.now word.now (map name_seen words.now) }
     ensures number { IfOk result (λ line. number_kept line ≡ number) }
 {
-    let label = name_at(before_last(word))?;
+    let left = words.len().saturating_add(1);
+    let label = read_at(left, name_at(before_last(word)))?;
     if draft.is_given(label) {
-        return Err(AsmFaultKind::NameTwice);
+        return Err(WordFault {
+            kind: AsmFaultKind::NameTwice,
+            left,
+        });
     }
     labelled_behind(draft, number, label, words)
 }

@@ -75,3 +75,15 @@ pub fn place_of_word(text: &[u8], number: usize) -> Option<WordPlace>
     }
     None
 }
+
+/// The place of the last word that is this one, in a line without its comment.
+pub fn last_place_of(text: &[u8], word: &[u8]) -> Option<WordPlace> {
+    for number in (0..text.len()).rev() {
+        if let Some(place) = place_of_word(text, number) {
+            if text.get(place.at..place.at.saturating_add(place.length)) == Some(word) {
+                return Some(place);
+            }
+        }
+    }
+    None
+}

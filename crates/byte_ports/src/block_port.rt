@@ -1,19 +1,21 @@
-ghost use Rattle.std.specs.Prelude.{◌≡◌, ◌+◌, ◌≤◌, [], ◌++◌, length, false, IsTrue, IfOk, OnOk};
+ghost use Rattle.std.specs.Prelude.{◌≡◌, ◌⊎◌, ◌+◌, ◌≤◌, [], ◌++◌, length, false, IsTrue, IfOk, OnErr, OnOk};
 ghost use Rattle.std.specs.Io.KnownBytes.{Appends, Keeps, append_known};
 ghost use Rattle.byte_ports.specs.Port.{FailsForGood};
 
 use crate::failed::Failed;
 use crate::short_copy::copy_short;
 use crate::sink::Sink;
+use crate::write_port::WritePort;
 use std::alloc::{AllocError, Global};
+use std::io::Write;
 use std::marker::Model;
 
 /// How many bytes a block has.
 const BLOCK: usize = 65_536;
 
 /// A sink that collects bytes in a block, and passes whole blocks on to another sink. Use it for long output in short pieces:
-/// most calls only copy their bytes. Only `into_inner` passes on what is left in the block. If you drop the port instead, those
-/// bytes are lost.
+/// most calls only copy their bytes. Only `finish` passes on what is left in the block. If you drop the port instead, those bytes
+/// are lost.
 #[derive(Drop)]
 pub struct BlockPort<K> {
     port: K,
@@ -50,20 +52,6 @@ impl<K: Sink + Drop> BlockPort<K> {
         })
     }
 
-    /// Passes on what is left in the block, and returns the sink. Fails if this or an earlier call failed.
-    pub fn into_inner(mut self) -> Result<K, Failed>
-        ensures bytes { IfOk result
-            (λ port. Keeps (append_known (K.written self.inner) self.held) (K.written port)) }
-        ensures failed { IfOk result (λ _. self.failed ≡ false) }
-    {
-        if self.failed {
-            return Err(Failed);
-        }
-        self.hand_on()?;
-        let BlockPort { port, .. } = self;
-        Ok(port)
-    }
-
     /// Hands on what is held.
     fn hand_on(&mut self) -> Result<(), Failed>
         requires { self.old.failed ≡ false }
@@ -71,6 +59,7 @@ impl<K: Sink + Drop> BlockPort<K> {
             (Keeps (append_known (K.written self.old.inner) self.old.held) (K.written self.new.inner)) }
         ensures held { OnOk result (self.new.held ≡ []) }
         ensures failed { FailsForGood false self.new.failed result }
+        ensures cause { OnErr result (IsTrue (K.has_failed self.new.inner)) }
     {
         if self.port.push(&self.block.as_slice()[..self.held]).is_err() {
             self.failed = true;
@@ -88,6 +77,7 @@ impl<K: Sink + Drop> BlockPort<K> {
         ensures bytes { OnOk result (Appends (append_known (K.written self.old.inner) self.old.held)
             (append_known (K.written self.new.inner) self.new.held) bytes.now) }
         ensures idle { IsTrue self.old.failed → self.new ≡ self.old }
+        ensures cause { OnErr result (IsTrue self.old.failed ⊎ IsTrue (K.has_failed self.new.inner)) }
     {
         if self.failed {
             return Err(Failed);
@@ -116,6 +106,27 @@ impl<K: Sink + Drop> BlockPort<K> {
     }
 }
 
+impl<W: Write + Drop> BlockPort<WritePort<W>> {
+    /// Passes on what is left in the block, and flushes the writer. A program calls it once, after its last `push`. Fails if this
+    /// or an earlier call failed.
+    pub fn finish(&mut self) -> Result<(), Failed>
+        ensures failed { FailsForGood self.old.failed self.new.failed result }
+        ensures bytes { OnOk result
+            (Keeps (append_known (W.contents self.old.inner.inner) self.old.held) (W.contents self.new.inner.inner)) }
+        ensures cause { OnErr result (IsTrue self.old.failed ⊎ IsTrue self.new.inner.failed) }
+    {
+        if self.failed {
+            return Err(Failed);
+        }
+        self.hand_on()?;
+        if self.port.finish().is_err() {
+            self.failed = true;
+            return Err(Failed);
+        }
+        Ok(())
+    }
+}
+
 impl<K: Sink + Drop> Sink for BlockPort<K> {
     ghost written = { λ p. append_known (K.written p.inner) p.held };
 
@@ -129,6 +140,9 @@ impl<K: Sink + Drop> Sink for BlockPort<K> {
 
         // Once it has failed, it doesn't use the sink any more.
         ensures idle { IsTrue self.old.failed → self.new ≡ self.old }
+
+        // It fails only where it had failed before, or the sink has.
+        ensures cause { OnErr result (IsTrue self.old.failed ⊎ IsTrue (K.has_failed self.new.inner)) }
     {
         if self.failed || BLOCK - self.held < bytes.len() {
             return self.push_far(bytes);

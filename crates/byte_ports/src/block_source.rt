@@ -1,4 +1,4 @@
-ghost use Rattle.std.specs.Prelude.{◌≡◌, ◌≢◌, ◌≤◌, ◌+◌, [], ◌++◌, false, min, length, take, IfOk, OnOk, OnErr};
+ghost use Rattle.std.specs.Prelude.{◌≡◌, ◌≢◌, ◌⊎◌, ◌≤◌, ◌+◌, [], ◌++◌, false, min, length, take, IsTrue, IfOk, OnOk, OnErr};
 ghost use Rattle.std.specs.Io.KnownBytes.{IsAtEnd, Keeps, ReadConsumes, prepend_known};
 ghost use Rattle.byte_ports.specs.Port.{FailsForGood};
 
@@ -60,6 +60,7 @@ impl<S: Source + Drop> BlockSource<S> {
             (prepend_known self.new.held (S.left self.new.inner)) }
         ensures end { OnOk result (self.new.held ≡ [] → IsAtEnd (S.left self.new.inner)) }
         ensures err { OnErr result (self.new.held ≡ []) }
+        ensures cause { OnErr result (IsTrue (S.has_failed self.new.inner)) }
         ensures reads { S.reads self.new.inner ≤ S.reads self.old.inner + 1 }
     {
         self.next = 0;
@@ -122,6 +123,9 @@ impl<S: Source + Drop> Source for BlockSource<S> {
             (prepend_known self.new.held (S.left self.new.inner)) result buffer.new }
         ensures reads { S.reads self.new.inner ≤ S.reads self.old.inner + 1 }
         ensures waits { self.old.held ≢ [] → (self.new.inner ≡ self.old.inner) }
+
+        // It fails only where it had failed before, or the source has.
+        ensures cause { OnErr result (IsTrue self.old.failed ⊎ IsTrue (S.has_failed self.new.inner)) }
     {
         if self.failed {
             return Err(Failed);

@@ -1,4 +1,2 @@
-pub mod Request
-pub mod Told
-pub mod Commands
 pub mod Input
+pub mod Request

@@ -1,9 +1,7 @@
-//! The commands, their arguments and options, and their help.
-ghost use Rattle.std.specs.Prelude.{◌≡◌, IfOk, false, fold, map};
-ghost use Rattle.clap.specs.Words.{app_of, rule_of, with_subcommand};
-ghost use Rattle.command_line.specs.Commands.{alone, bare, command_of, commands, rule_by, vuthgal};
+//! The table of the commands: their arguments and options, other names, and their help. `clap` reads the words by it.
 
 use crate::texts;
+use clap::builder::ValueParser;
 use clap::{Arg, ArgAction, Command};
 use std::alloc::{AllocError, Global};
 
@@ -18,24 +16,37 @@ pub enum Kind {
     Several,
     /// `--NAME`.
     Flag,
-    /// `--NAME VALUE`, if it is given.
-    Value(&'static str),
-    /// `--NAME VALUE`, as often as it is given.
-    Values(&'static str),
-    /// `--NAME VALUE`, and required.
-    NeededValue(&'static str),
-    /// `--NAME VALUE`, and the value if it isn't given.
-    DefaultValue(&'static str, &'static str),
+    /// `--NAME VALUE`.
+    Value(&'static str, Rule),
+    /// `--NAME N`, a number from the first to the second.
+    Number(&'static str, u64, u64, Rule),
+}
+
+/// How often a value is given, and with what.
+#[derive(Clone, Copy)]
+pub enum Rule {
+    /// Once, or not at all.
+    Once,
+    Often,
+    Needed,
+    /// With this option.
+    With(&'static str),
+    OftenWith(&'static str),
+    /// In place of these arguments.
+    Instead(&'static [&'static str]),
+    /// This is the value if it isn't given.
+    Default(&'static str),
 }
 
 /// An argument or an option of a command: its name, how it is given, and its help.
 #[derive(Clone, Copy)]
 pub struct Word(pub &'static str, pub Kind, pub &'static str);
 
-/// A command: its name, its help in a line, and its arguments in order.
+/// A command: its name, what it is called otherwise, its help in a line, and its arguments in order.
 #[derive(Clone, Copy)]
 pub struct Subcommand {
     pub name: &'static str,
+    pub aliases: &'static [&'static str],
     pub about: &'static str,
     pub words: &'static [Word],
 }
@@ -60,19 +71,19 @@ const TRACE: Word = Word(
 
 const PLAN: Word = Word(
     "plan",
-    Kind::Value("PLAN"),
+    Kind::Value("PLAN", Rule::Instead(&["SCHEDULE"])),
     "Plays this plan instead of a schedule, such as 'ann. bob.'",
 );
 
 const PLAN_FILE: Word = Word(
     "plan-file",
-    Kind::Value("FILE"),
+    Kind::Value("FILE", Rule::Instead(&["SCHEDULE", "plan"])),
     "Plays the plan in this file instead of a schedule",
 );
 
 const EXPECT: Word = Word(
     "expect",
-    Kind::Values("STATE"),
+    Kind::Value("STATE", Rule::Often),
     "Exits with 1 if the run ends differently; can be repeated",
 );
 
@@ -80,6 +91,7 @@ const EXPECT: Word = Word(
 static COMMANDS: [Subcommand; 12] = [
     Subcommand {
         name: "asm",
+        aliases: &["assemble", "compile", "build"],
         about: "Assembles a program text into an image",
         words: &[
             Word("SRC", Kind::Needed, "The file of the program text"),
@@ -88,6 +100,7 @@ static COMMANDS: [Subcommand; 12] = [
     },
     Subcommand {
         name: "list",
+        aliases: &["disasm", "disassemble", "dump"],
         about: "Writes the canonical text of a program",
         words: &[
             FILE,
@@ -100,11 +113,13 @@ static COMMANDS: [Subcommand; 12] = [
     },
     Subcommand {
         name: "run",
+        aliases: &["play", "exec", "execute", "replay", "simulate"],
         about: "Plays a program under a schedule and writes the trace",
         words: &[FILE, SCHEDULE, EXPECT, PLAN, PLAN_FILE],
     },
     Subcommand {
         name: "compare",
+        aliases: &["diff", "verify"],
         about: "Compares a trace with the run that it names",
         words: &[
             FILE,
@@ -118,28 +133,30 @@ static COMMANDS: [Subcommand; 12] = [
     },
     Subcommand {
         name: "debug",
+        aliases: &["step", "gdb"],
         about: "Plays a program by commands, forwards and backwards",
         words: &[
             FILE,
             Word(
                 "at",
-                Kind::Value("TRACE"),
+                Kind::Value("TRACE", Rule::Once),
                 "Begins after the choices of the trace in this file",
             ),
             Word(
                 "plan",
-                Kind::Value("PLAN"),
+                Kind::Value("PLAN", Rule::Instead(&["at"])),
                 "Begins after the choices of this plan, such as 'ann. bob.'",
             ),
             Word(
                 "plan-file",
-                Kind::Value("FILE"),
+                Kind::Value("FILE", Rule::Instead(&["at", "plan"])),
                 "Begins after the choices of the plan in this file",
             ),
         ],
     },
     Subcommand {
         name: "show",
+        aliases: &["page", "html", "view"],
         about: "Writes a page that shows a run",
         words: &[
             FILE,
@@ -155,13 +172,14 @@ static COMMANDS: [Subcommand; 12] = [
     },
     Subcommand {
         name: "draw",
+        aliases: &["picture", "diagram", "graph"],
         about: "Draws a run as text",
         words: &[
             FILE,
             SCHEDULE,
             Word(
                 "width",
-                Kind::DefaultValue("N", "80"),
+                Kind::Number("N", 60, 1000, Rule::Default("80")),
                 "The longest line in bytes, 60 to 1000",
             ),
             PLAN,
@@ -170,22 +188,23 @@ static COMMANDS: [Subcommand; 12] = [
     },
     Subcommand {
         name: "live",
+        aliases: &["stress"],
         about: "Plays a program on real threads and writes the trace",
         words: &[
             FILE,
             Word(
                 "limit",
-                Kind::DefaultValue("N", "1000000"),
+                Kind::Number("N", 1, 1_000_000_000, Rule::Default("1000000")),
                 "How many steps at most, 1 to 1000000000",
             ),
             Word(
                 "stir",
-                Kind::Value("SEED"),
+                Kind::Number("SEED", 0, 4_294_967_295, Rule::Once),
                 "Makes threads pause before some of their turns, 0 to 4294967295",
             ),
             Word(
                 "runs",
-                Kind::Value("N"),
+                Kind::Number("N", 1, 100_000, Rule::Once),
                 "Plays N runs and counts how they end, 1 to 100000",
             ),
             EXPECT,
@@ -193,27 +212,30 @@ static COMMANDS: [Subcommand; 12] = [
     },
     Subcommand {
         name: "race",
+        aliases: &[],
         about: "Lets real threads meet at a shared phaser",
         words: &[
             Word(
                 "parties",
-                Kind::NeededValue("N"),
+                Kind::Number("N", 1, 16, Rule::Needed),
                 "How many threads, 1 to 16",
             ),
             Word(
                 "rounds",
-                Kind::NeededValue("R"),
+                Kind::Number("R", 1, 1_000_000, Rule::Needed),
                 "How many phases, 1 to 1000000",
             ),
         ],
     },
     Subcommand {
         name: "choices",
+        aliases: &[],
         about: "Writes the schedule of a trace",
         words: &[TRACE],
     },
     Subcommand {
         name: "plan",
+        aliases: &[],
         about: "Writes the schedule of a plan",
         words: &[
             FILE,
@@ -224,17 +246,17 @@ static COMMANDS: [Subcommand; 12] = [
             ),
             Word(
                 "seeds",
-                Kind::Value("FROM..TO"),
+                Kind::Value("FROM..TO", Rule::Once),
                 "Counts how the runs of these seeds end, such as 1..1000",
             ),
             Word(
                 "limit",
-                Kind::Value("N"),
+                Kind::Number("N", 1, 1_000_000, Rule::With("seeds")),
                 "With --seeds: how many choices of each seed, 1 to 1000000",
             ),
             Word(
                 "expect",
-                Kind::Values("STATE"),
+                Kind::Value("STATE", Rule::OftenWith("seeds")),
                 "With --seeds: exits with 1 if a run ends differently; can be repeated",
             ),
             Word(
@@ -246,6 +268,7 @@ static COMMANDS: [Subcommand; 12] = [
     },
     Subcommand {
         name: "explain",
+        aliases: &[],
         about: "Says in words what a line on standard error means",
         words: &[Word(
             "WORD",
@@ -256,83 +279,75 @@ static COMMANDS: [Subcommand; 12] = [
 ];
 
 impl Word {
-    /// It, as `clap` reads it.
-    fn arg<'a>(&self, alloc: Global) -> Arg<'a>
-        ensures rule { rule_of result ≡ rule_by self.now }
-        ensures local { result.global ≡ false }
-    {
+    fn arg<'a>(&self, alloc: Global) -> Result<Arg<'a>, AllocError> {
         let Word(name, kind, help) = *self;
         let arg = Arg::new(alloc, name).help(help);
-        match kind {
-            Kind::Needed => arg.required(true),
-            Kind::Given => arg,
-            Kind::Several => arg.action(ArgAction::Append),
-            Kind::Flag => arg.long(name).action(ArgAction::SetTrue),
-            Kind::Value(value) => arg.long(name).value_name(value),
-            Kind::Values(value) => arg.long(name).value_name(value).action(ArgAction::Append),
-            Kind::NeededValue(value) => arg.long(name).value_name(value).required(true),
-            Kind::DefaultValue(value, default) => arg
-                .long(name)
-                .value_name(value)
-                .default_value(default),
+        let (arg, rule) = match kind {
+            Kind::Needed => (arg, Rule::Needed),
+            Kind::Given => (arg, Rule::Once),
+            Kind::Several => (arg, Rule::Often),
+            Kind::Flag => (arg.long(name).action(ArgAction::SetTrue), Rule::Once),
+            Kind::Value(value, rule) => (arg.long(name).value_name(value), rule),
+            Kind::Number(value, least, most, rule) => (
+                arg.long(name)
+                    .value_name(value)
+                    .value_parser(ValueParser::unsigned(least, most)),
+                rule,
+            ),
+        };
+        match rule {
+            Rule::Once => Ok(arg),
+            Rule::Often => Ok(arg.action(ArgAction::Append)),
+            Rule::Needed => Ok(arg.required(true)),
+            Rule::With(other) => arg.requires_arg(other),
+            Rule::OftenWith(other) => arg.action(ArgAction::Append).requires_arg(other),
+            Rule::Instead(others) => arg.conflicts_with_all(others),
+            Rule::Default(value) => Ok(arg.default_value(value)),
         }
     }
 }
 
 impl Subcommand {
-    /// It, as `clap` reads it.
-    fn command<'a>(&self, alloc: Global) -> Result<Command<'a>, AllocError>
-        ensures { IfOk result (λ command. app_of command ≡ alone (command_of self.now)) }
-    {
+    fn command<'a>(&self, alloc: Global) -> Result<Command<'a>, AllocError> {
         let mut command = Command::new(alloc, self.name)
             .about(self.about)
             .long_about(texts::of(self.name))
-            .after_help(texts::STATUSES);
+            .after_help(texts::STATUSES)
+            .aliases(self.aliases)?;
         for word in self.words {
-            command = command.arg(word.arg(alloc))?;
+            command = command.arg(word.arg(alloc)?)?;
         }
         Ok(command)
     }
 }
 
-/// The table.
-pub fn commands() -> &'static [Subcommand]
-    ensures { map command_of result.now ≡ commands }
-{
-    &COMMANDS
+/// When a failure is explained: an option of the program and of each command.
+fn explain<'a>(alloc: Global) -> Result<Arg<'a>, AllocError> {
+    Arg::new(alloc, "explain")
+        .long("explain")
+        .value_name("WHEN")
+        .value_parser(["always", "auto", "never"].as_slice())
+        .help("Explains what is refused; auto is at a terminal")
+        .global(true)
+        .overrides_with("explain")
 }
 
 /// The program without its commands, of this version.
-fn bare<'a>(alloc: Global, version: &'a str) -> Result<Command<'a>, AllocError>
-    ensures { IfOk result (λ program. app_of program ≡ bare) }
-{
+fn bare<'a>(alloc: Global, version: &'a str) -> Result<Command<'a>, AllocError> {
     Command::new(alloc, "vuthgal")
         .version(version)
         .about("Plays programs of threads that call phasers and barriers")
         .long_about(texts::PROGRAM)
         .after_help(texts::STATUSES)
-        .arg(EXPECT.arg(alloc))
+        .arg(EXPECT.arg(alloc)?)?
+        .arg(explain(alloc)?)
 }
 
-/// The program with these commands, too.
-fn with_commands<'a>(
-    alloc: Global,
-    mut program: Command<'a>,
-    commands: &[Subcommand],
-) -> Result<Command<'a>, AllocError>
-    ensures { IfOk result (λ grown. app_of grown
-        ≡ fold with_subcommand (app_of program.entry) (map command_of commands.now)) }
-{
-    for subcommand in commands {
+/// The program with its commands.
+pub fn program<'a>(alloc: Global, version: &'a str) -> Result<Command<'a>, AllocError> {
+    let mut program = bare(alloc, version)?;
+    for subcommand in &COMMANDS {
         program = program.subcommand(subcommand.command(alloc)?)?;
     }
     Ok(program)
-}
-
-/// The program with all its commands.
-pub fn program<'a>(alloc: Global, version: &'a str) -> Result<Command<'a>, AllocError>
-    ensures { IfOk result (λ program. app_of program ≡ vuthgal) }
-{
-    let program = bare(alloc, version)?;
-    with_commands(alloc, program, commands())
 }

@@ -1,5 +1,7 @@
 //! The ports of the program: what it reads and writes, over any readers and writers of the system.
 
 pub mod input;
+pub mod needed;
 pub mod printable;
-pub mod schedule;
+pub mod reasoned;
+pub mod watched;

@@ -7,7 +7,7 @@ use Rattle.loader.specs.Fault.{first_fault}
 use Rattle.loader.specs.Program.{Program, IsProgramOf}
 use Rattle.thread_machine.specs.World.{first_world}
 use Rattle.thread_machine.proofs.Firsts.{is_first}
-use Rattle.commands.specs.declared.command.Asked.{Asked}
+use Rattle.commands.specs.declared.many_runs.Asked.{Asked}
 use Rattle.commands.specs.declared.end_state.EndState.{EndState}
 use Rattle.commands.specs.declared.outcomes.Outcome.{Outcome}
 use Rattle.workbench.specs.declared.done.Done.{Done}

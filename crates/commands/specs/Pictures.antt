@@ -1,7 +1,9 @@
 -- What the commands read and write for any kind of picture: `IsPicture schedule bytes` says which bytes are a picture.
 use Rattle.std.specs.Prelude.{ℕ, if◌then◌else◌, List, [], Option}
 use Rattle.std.specs.Io.KnownBytes.{Appends}
+use Rattle.pictures.specs.Missing.{IsMissingIn}
 use Rattle.row_code.specs.declared.image.Image.{Image}
+use Rattle.thread_machine.specs.declared.choice.Choice.{Choice}
 use Rattle.commands.specs.Picture.{HaveNoPicture}
 use Rattle.workbench.specs.declared.fault.Fault.{Fault}
 use Rattle.workbench.specs.declared.fault.PictureKind.{PictureKind}
@@ -27,6 +29,11 @@ abbrev pub HasMade : (IsPicture : List ℕ → List ℕ → Type 0)
 HasMade IsPicture schedule_before schedule_after output_before output_after =
     (schedule : List ℕ) × (GivesAll schedule_before schedule_after schedule
     × HasWritten (IsPicture schedule) output_before output_after)
+
+-- it was read to its end, and this choice of a thread that isn't there ended the run of the program under it
+abbrev pub HasMissing : Image → (schedule_before schedule_after : Option (List ℕ)) → Option (ℕ × Choice) → Type 0
+HasMissing image schedule_before schedule_after missing =
+    (schedule : List ℕ) × (GivesAll schedule_before schedule_after schedule × IsMissingIn image schedule missing)
 
 -- it was read to its end, and there is no picture for this reason
 abbrev pub HaveNone : PictureKind → Fault → Image → (schedule_before schedule_after : Option (List ℕ)) → Type 0

@@ -8,7 +8,7 @@ use Rattle.trace_text.specs.Start.{IsRefused}
 use Rattle.workbench.specs.declared.fault.Fault.{Fault}
 use Rattle.workbench.specs.declared.fault.Fault.TheVariants as fault
 use Rattle.workbench.specs.declared.done.Done.{Done}
-use Rattle.commands.specs.declared.command.Asked.{Asked}
+use Rattle.commands.specs.declared.many_runs.Asked.{Asked}
 use Rattle.commands.specs.declared.end_state.EndState.{EndState}
 use Rattle.commands.specs.declared.outcomes.Outcome.{Outcome}
 use Rattle.commands.specs.Outcomes.{AreOutcomes, Ended, IsEndedFrom, IsMostFrequentFirst, report, done_by}

@@ -4,6 +4,7 @@ ghost use Rattle.commands.specs.Drawing.{IsDrawingIn};
 ghost use Rattle.commands.specs.Picture.{HaveNoPicture};
 ghost use Rattle.workbench.specs.declared.fault.PictureKind.TheVariants as picture;
 ghost use Rattle.workbench.specs.declared.fault.Fault.{Fault};
+ghost use Rattle.pictures.specs.Missing.{IsMissingIn, missing_in};
 ghost use Rattle.pictures.specs.Picture.{picture as text_of};
 ghost use Rattle.thread_machine.specs.World.{world_of};
 ghost use Rattle.workbench.specs.Fault.{status_of};
@@ -12,8 +13,8 @@ ghost use Rattle.workbench.specs.Input.{most_bytes};
 use crate::picture::{Picture, fault_of, start_fault};
 use assembler::Symbols;
 use pictures::choices::choices_in;
+use pictures::missing::{Shown, missing};
 use pictures::picture::picture;
-use pictures::shown::{Shown, missing};
 use std::alloc::Global;
 use thread_machine::{Choice, Machine};
 use trace_text::start::first_machine;
@@ -35,6 +36,7 @@ fn drawing_of(
 ) -> Result<Shown, Fault>
     requires { length schedule.now ≤ most_bytes }
     ensures drawing { IfOk result (λ shown. IsDrawingIn width program.entry.image program.entry.names schedule.now shown.bytes.items) }
+    ensures missing { IfOk result (λ shown. IsMissingIn program.entry.image schedule.now shown.missing) }
     ensures refused { IfErr result (λ fault. status_of fault ≡ 3 → HaveNoPicture picture.Drawing fault program.entry.image schedule.now) }
     ensures other { (result ≢ Err Fault.Read) × (result ≢ Err Fault.Write) × (result ≢ Err Fault.Spawn) }
 {
@@ -58,6 +60,7 @@ fn drawn(
     choices: &[Choice],
 ) -> Result<Shown, Fault>
     ensures drawing { IfOk result (λ shown. shown.bytes.items ≡ text_of width names.now (world_of machine.old) choices.now) }
+    ensures missing { IfOk result (λ shown. shown.missing ≡ missing_in (world_of machine.old) choices.now) }
     ensures memory { IfErr result (λ fault. fault ≡ Fault.Memory) }
 {
     match picture(alloc, machine, names, width, choices) {

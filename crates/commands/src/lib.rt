@@ -13,36 +13,36 @@
 
 // Schedules of traces and plans, lines that differ, and rows.
 pub mod choices;
-pub mod difference;
+pub mod comparison;
 mod image_rows;
 pub mod named;
 pub mod plan;
 pub mod rows;
-mod shown;
 mod text_rows;
 pub mod unplanned;
+mod verdict_lines;
 
 // Pictures of a run.
 pub mod drawing;
-pub mod making;
 pub mod page;
 pub mod picture;
+pub mod write_picture;
 
 // Many live runs, and the orders of many seeds.
-pub mod command;
 pub mod end_state;
 mod law;
+pub mod many_runs;
 pub mod outcomes;
 pub mod pauses;
 mod report;
 mod runs;
 pub mod seeds;
 
-pub use command::{Asked, report_runs};
-pub use difference::show_comparison;
+pub use comparison::show_comparison;
 pub use law::{
     a_file_has_one_listing, a_line_of_a_schedule_is_the_schedule,
     a_row_is_told_with_the_line_that_says_it,
 };
+pub use many_runs::{Asked, report_runs};
 pub use pauses::Pauses;
 pub use rows::list_rows;

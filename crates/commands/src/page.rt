@@ -2,14 +2,15 @@
 ghost use Rattle.std.specs.Prelude.{◌≡◌, ◌≢◌, ◌≤◌, Err, IfErr, IfOk, length};
 ghost use Rattle.commands.specs.Page.{IsPageIn, source_of};
 ghost use Rattle.commands.specs.Picture.{HaveNoPicture};
+ghost use Rattle.pictures.specs.Missing.{IsMissingIn};
 ghost use Rattle.workbench.specs.declared.fault.PictureKind.TheVariants as picture;
 ghost use Rattle.workbench.specs.Fault.{status_of};
 ghost use Rattle.workbench.specs.Input.{most_bytes};
 
 use crate::picture::{Picture, fault_of};
+use pictures::missing::Shown;
 use pictures::others::OtherRuns;
 use pictures::page::page;
-use pictures::shown::Shown;
 use row_code::is_image_file;
 use std::alloc::Global;
 use workbench::Program;
@@ -37,6 +38,7 @@ fn page_of(
 ) -> Result<Shown, Fault>
     requires { length schedule.now ≤ most_bytes }
     ensures page { IfOk result (λ shown. IsPageIn others program.entry.image program.entry.bytes.now schedule.now shown.bytes.items) }
+    ensures missing { IfOk result (λ shown. IsMissingIn program.entry.image schedule.now shown.missing) }
     ensures refused { IfErr result (λ fault. status_of fault ≡ 3 → HaveNoPicture picture.Page fault program.entry.image schedule.now) }
     ensures other { (result ≢ Err Fault.Read) × (result ≢ Err Fault.Write) × (result ≢ Err Fault.Spawn) }
 {

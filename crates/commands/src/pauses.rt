@@ -9,6 +9,7 @@ ghost use Rattle.std.specs.Prelude.{◌≡◌, option_map};
 pub mod pause;
 pub mod stirred;
 
+use crate::pauses::pause::Pause;
 use crate::pauses::stirred::Stirred;
 use thread_runner::Gate;
 
@@ -41,11 +42,25 @@ impl Pauses {
     }
 }
 
-impl<'a, G: Gate> Gate for RunGate<'a, G> {
+/// What a worker passes before each of its turns: a pause, and a gate behind it.
+pub trait Pausing {
+    fn pass_after(&self, pause: Pause, thread: u8, step: u32);
+}
+
+/// At a gate it waits as long as the pause says, and then passes. A test may only note the pause.
+impl<G: Gate> Pausing for G {
+    fn pass_after(&self, pause: Pause, thread: u8, step: u32) {
+        pause.wait();
+        self.pass(thread, step);
+    }
+}
+
+impl<'a, G: Pausing> Gate for RunGate<'a, G> {
     fn pass(&self, thread: u8, step: u32) {
-        if let Some(stirred) = self.stirred {
-            stirred.pass(thread, step);
-        }
-        self.behind.pass(thread, step);
+        let pause = match self.stirred {
+            Some(stirred) => stirred.pause(thread, step),
+            None => Pause::NoPause,
+        };
+        self.behind.pass_after(pause, thread, step);
     }
 }

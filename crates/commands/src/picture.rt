@@ -1,14 +1,15 @@
 //! What a picture of a run can be made as, and why there is none.
 ghost use Rattle.std.specs.Prelude.{◌≡◌, ◌≢◌, ◌≤◌, ℕ, List, Err, IfErr, IfOk, length};
 ghost use Rattle.commands.specs.Picture.{HaveNoPicture};
+ghost use Rattle.pictures.specs.Missing.{IsMissingIn};
 ghost use Rattle.commands.specs.PictureFault.{fault_of, start_fault};
 ghost use Rattle.workbench.specs.declared.fault.PictureKind.{PictureKind};
 ghost use Rattle.workbench.specs.declared.program.Program.{Program};
 ghost use Rattle.workbench.specs.Fault.{status_of};
 ghost use Rattle.workbench.specs.Input.{most_bytes};
 
+use pictures::missing::Shown;
 use pictures::page::PageFault;
-use pictures::shown::Shown;
 use std::alloc::Global;
 use trace_text::start::StartFault;
 use workbench::Program;
@@ -26,6 +27,7 @@ pub trait Picture {
     fn of(&self, alloc: Global, program: Program<'_>, schedule: &[u8]) -> Result<Shown, Fault>
         requires { length schedule.now ≤ most_bytes }
         ensures picture { IfOk result (λ shown. is_picture self.now program.entry schedule.now shown.bytes.items) }
+        ensures missing { IfOk result (λ shown. IsMissingIn program.entry.image schedule.now shown.missing) }
         ensures refused { IfErr result (λ fault. status_of fault ≡ 3 → HaveNoPicture kind fault program.entry.image schedule.now) }
         ensures other { (result ≢ Err Fault.Read) × (result ≢ Err Fault.Write) × (result ≢ Err Fault.Spawn) };
 }

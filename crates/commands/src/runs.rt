@@ -11,7 +11,7 @@ ghost use Rattle.commands.specs.Outcomes.{AreOutcomes, Ended, IsEndedFrom, is_st
 
 use crate::end_state::EndState;
 use crate::outcomes::{Outcomes, add};
-use crate::pauses::Pauses;
+use crate::pauses::{Pauses, Pausing};
 use loader::Loaded;
 use schedule_reader::{joined, read_schedule, write_schedule};
 use std::alloc::Global;
@@ -88,7 +88,7 @@ fn add_run(alloc: Global, run: &LiveRun, outcomes: &mut Outcomes) -> Result<(), 
 
 /// Plays a program so often, each run with the pauses of its number, and adds what the runs came to. Behind these pauses the threads
 /// pass `gate`.
-pub fn add_runs<R: Threads + Wait + Sync, G: Gate + Sync>(
+pub fn add_runs<R: Threads + Wait + Sync, G: Pausing + Sync>(
     rt: &R,
     alloc: Global,
     program: &Loaded,

@@ -1,4 +1,3 @@
-pub mod Boxes
 pub mod Trails
 pub mod Histories
 pub mod Moves

@@ -98,12 +98,6 @@ order_by letter rest =
 abbrev pub line_order : List ℕ → Order
 line_order line = order_by (letter_of (word_of line)) (rest_of line)
 
--- the orders whose replies are made in memory
-abbrev pub wants_memory : Order → Bool
-wants_memory (Step choice) = true
-wants_memory Print = true
-wants_memory _ = false
-
 -- only `q` ends the session
 abbrev pub goes_on : Order → Bool
 goes_on Quit = false

@@ -9,7 +9,7 @@ use Rattle.thread_machine.specs.declared.fault.StepFault.TheVariants as step
 use Rattle.debugger.specs.declared.session.reply.CommandFault.{CommandFault}
 use Rattle.debugger.specs.declared.session.reply.CommandFault.TheVariants as fault
 use Rattle.thread_machine.specs.World.{StoredWorld, world_of}
-use Rattle.thread_machine.specs.Step.{refusal_of}
+use Rattle.thread_machine.specs.Step.{puts_out, refusal_of}
 use Rattle.trace_text.specs.State.{state_text}
 use Rattle.trace_text.specs.Trace.{lines_of}
 use Rattle.debugger.specs.declared.stop.Stop.{Stop}
@@ -64,6 +64,12 @@ Replies session (Clear row) after text =
 Replies session Print after text = (after ≡ session) × (text ≡ state_text (world_of session.machine))
 Replies session Quit after text = (after ≡ session) × (text ≡ [])
 Replies session Unknown after text = (after ≡ session) × (text ≡ codes "?\n")
+
+-- whether a command may be out of memory: a choice only where it puts out a value; the text of a state is made in memory
+abbrev pub wants_memory : Session → Order → Bool
+wants_memory session (Step choice) = puts_out (world_of session.machine) choice
+wants_memory session Print = true
+wants_memory session _ = false
 
 -- a command was carried out, and its reply was written; or it was carried out, and the output has failed; or it was not, since
 -- it is out of memory, and nothing was written

@@ -20,8 +20,6 @@ pub use reply::{CommandFault, say_stop};
 pub struct Debugger {
     played: Machine,
     undos: Undos,
-    /// What undoes the next choice is written here.
-    spare: Box<Undo>,
     marks: Marks,
     alloc: Global,
 }
@@ -45,7 +43,6 @@ impl Model for Debugger {
 #[derive(Drop)]
 struct Room {
     undos: Undos,
-    spare: Box<Undo>,
     marks: Marks,
 }
 
@@ -58,12 +55,7 @@ impl Room {
     {
         let marks = Marks::new(alloc, rows)?;
         let undos = Undos::new(alloc, kept)?;
-        let spare = Box::new(alloc, Undo::new())?;
-        Ok(Room {
-            undos,
-            spare,
-            marks,
-        })
+        Ok(Room { undos, marks })
     }
 }
 
@@ -81,16 +73,9 @@ impl Debugger {
         }) }
     {
         match Room::new(alloc, machine.loaded().rows().len(), kept) {
-            Ok(
-                Room {
-                    undos,
-                    spare,
-                    marks,
-                },
-            ) => Ok(Debugger {
+            Ok(Room { undos, marks }) => Ok(Debugger {
                 played: machine,
                 undos,
-                spare,
                 marks,
                 alloc,
             }),
@@ -122,11 +107,12 @@ impl Debugger {
         ensures memory { result ≡ Err StepFault.Memory → puts_out (world_of self.old.machine) choice ≡ true }
         ensures err { OnErr result (self.new ≡ self.old) }
     {
-        let event = match self.played.step_into(choice, &mut self.spare) {
+        let mut undo = Undo::new();
+        let event = match self.played.step_into(choice, &mut undo) {
             Ok(event) => event,
             Err(fault) => return Err(fault),
         };
-        self.undos.push(&mut self.spare);
+        self.undos.push(undo);
         Ok(event)
     }
 

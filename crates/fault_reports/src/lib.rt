@@ -1,19 +1,17 @@
 //! Reports to a person why the program didn't do what it was asked for.
 //!
-//! The modules `trouble` and `no_command` always write one line, and return the exit status that belongs to it. More lines
-//! follow at a terminal, or if `--explain` asks for them. They show the file and the place, what may have been meant, and
-//! what helps. For this the files are read again.
+//! A `Failure` is the line that the formats fix, and for a person the place, a sentence and what helps. `Report` writes each
+//! failure of each command in one form: the line always, and at most four lines after it at a terminal, or if `--explain` asks
+//! for them. No file is read again for this.
 #![tactic(auto)]
 
-// Whether more lines follow.
-pub mod explaining;
+// How a failure is written.
+pub mod place;
+pub mod report;
 
-// Why no command is begun: the arguments, or a file that can't be opened.
-pub mod no_command;
-mod usage;
-
-// What a refused file, a plan that is stopped, a trace and an end of a run lead to.
-pub mod help;
-mod mistaken;
-pub mod trouble;
-pub mod unlike;
+// What is wrong with a file, a program, a schedule, a plan and a trace, and what helps.
+pub mod files;
+pub mod plan;
+pub mod program;
+pub mod schedule;
+pub mod trace;

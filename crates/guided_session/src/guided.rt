@@ -4,8 +4,7 @@
 //! have these names instead of numbers. A line may also be words of a plan, and an empty one repeats the command before it. Two
 //! words are answered here and aren't passed on: `help`, and `w`, which writes the choices that were played as a plan.
 
-ghost use Rattle.std.specs.Prelude.{◌≡◌, ◌≤◌, ◌⊎◌, IfErr, IfOk, IfSome, None, length};
-ghost use Rattle.plans.specs.Planned.{AreRuns};
+ghost use Rattle.std.specs.Prelude.{◌≡◌, ◌≤◌, ◌⊎◌, IfErr, IfOk, None, length};
 ghost use Rattle.workbench.specs.declared.fault.Fault.{Fault};
 ghost use Rattle.workbench.specs.Debug.{HasNoEnd};
 
@@ -26,7 +25,7 @@ use plans::words::Words;
 use schedule_reader::{Run, write_schedule};
 use std::alloc::{AllocError, Global};
 use std::mem::replace;
-use thread_machine::{Choice, Machine};
+use thread_machine::Machine;
 use workbench::companion::Companion;
 use workbench::fault::Fault;
 
@@ -36,7 +35,6 @@ const MOST: u64 = 1_000_000_000;
 /// How many threads a program has at most.
 const MOST_THREADS: usize = 64;
 
-/// What can be written.
 const HELP: &[u8] = b"  s tN      one choice: thread N's turn; `s xN`: its timed wait expires
   s NAME    the same by its name, also NAME alone, or `s xNAME`
   g TOKENS  choices, as in a schedule (`g t0 bob*3`), up to a breakpoint
@@ -103,34 +101,6 @@ struct Person<'a, S, K, E> {
 }
 
 impl<'a, S: Source + Drop, K: Sink + Drop, E: Sink + Drop> Person<'a, S, K, E> {
-    /// Shows what a line may have been meant as that the debugger doesn't know.
-    fn show_unknown(&mut self, debugger: &Debugger) -> Result<(), AllocError> {
-        let names = self.names(debugger)?;
-        note(push_unknown(
-            self.alloc,
-            &mut self.notes,
-            &self.symbols,
-            names.as_slice(),
-            debugger.machine(),
-            self.said.as_slice(),
-        ));
-        Ok(())
-    }
-
-    /// Sees what one choice came to.
-    fn look_at_choice(
-        &mut self,
-        choice: Choice,
-        threads: usize,
-        more: u64,
-    ) -> Result<(), AllocError> {
-        if usize::from(choice.thread) >= threads {
-            note(push_threads(&mut self.notes, threads));
-            return Ok(());
-        }
-        self.played.push_first(&[Run::once(choice)], more)
-    }
-
     /// Shows the lines of choices of which so many were played at once.
     fn look_at_runs(&mut self, runs: &[Run], more: u64) -> Result<(), AllocError> {
         if let Some(mut before) = self.before.take() {
@@ -142,8 +112,12 @@ impl<'a, S: Source + Drop, K: Sink + Drop, E: Sink + Drop> Person<'a, S, K, E> {
     /// Sees what a command came to, and shows its effect where the debugger's reply doesn't.
     fn look_at(&mut self, command: &Command, machine: &Machine) -> Result<(), AllocError> {
         let more = machine.choices().saturating_sub(self.choices);
+        let threads = machine.thread_count();
         match command {
-            Command::Step(choice) => self.look_at_choice(*choice, machine.thread_count(), more)?,
+            Command::Step(choice) if usize::from(choice.thread) >= threads => {
+                note(push_threads(&mut self.notes, threads));
+            }
+            Command::Step(choice) => self.played.push_first(&[Run::once(*choice)], more)?,
             Command::Go(runs) => self.look_at_runs(runs.as_slice(), more)?,
             Command::Print => note(push_names(&mut self.notes, &self.symbols)),
             _ if machine.choices() < self.choices => self.played.pop(),
@@ -153,11 +127,19 @@ impl<'a, S: Source + Drop, K: Sink + Drop, E: Sink + Drop> Person<'a, S, K, E> {
         Ok(())
     }
 
-    /// Sees what the last command came to.
+    /// Sees what the last command came to. If the debugger doesn't know it, shows what it may have been meant as.
     fn look(&mut self, debugger: &Debugger) -> Result<(), AllocError> {
         let command = replace(&mut self.command, Command::Print);
         if is_unknown(&command, debugger) {
-            self.show_unknown(debugger)?;
+            let names = self.names(debugger)?;
+            note(push_unknown(
+                self.alloc,
+                &mut self.notes,
+                &self.symbols,
+                names.as_slice(),
+                debugger.machine(),
+                self.said.as_slice(),
+            ));
         }
         self.look_at(&command, debugger.machine())
     }
@@ -171,15 +153,10 @@ impl<'a, S: Source + Drop, K: Sink + Drop, E: Sink + Drop> Person<'a, S, K, E> {
         thread_names(self.alloc, &self.symbols, count.min(MOST_THREADS))
     }
 
-    /// The choices that were played, by the names of the threads.
-    fn played_text(&self, debugger: &Debugger) -> Result<Vec<u8>, AllocError> {
-        let names = self.names(debugger)?;
-        named_text(self.alloc, names.as_slice(), self.played.runs())
-    }
-
     /// Writes the choices that were played, by the names of the threads, in a line.
     fn write_played(&mut self, debugger: &Debugger) -> Result<(), AllocError> {
-        let mut line = self.played_text(debugger)?;
+        let names = self.names(debugger)?;
+        let mut line = named_text(self.alloc, names.as_slice(), self.played.runs())?;
         line.push(b'\n')?;
         note(self.output.push(line.as_slice()));
         Ok(())
@@ -195,64 +172,31 @@ impl<'a, S: Source + Drop, K: Sink + Drop, E: Sink + Drop> Person<'a, S, K, E> {
         }
     }
 
-    /// Returns the choices that these words make from the session's machine on.
-    fn runs_of(&self, debugger: &Debugger, words: &Words) -> Result<Vec<Run>, AllocError>
-        ensures { IfOk result (λ runs. AreRuns runs.items) }
-    {
+    /// Takes the line for the choices that these words of a plan make from the session's machine on, as for `g`.
+    fn go(&mut self, debugger: &Debugger, words: &Words) -> Result<(), AllocError> {
         let machine = debugger.machine().copy(self.alloc)?;
         let planned = plan_runs_at(self.alloc, machine, &words.all())?;
-        Ok(planned.runs)
-    }
-
-    /// Returns the choices that a plan makes from the session's machine on, if the line is a plan.
-    fn planned(&self, debugger: &Debugger) -> Result<Option<Vec<Run>>, AllocError>
-        ensures { IfOk result (λ planned. IfSome planned (λ runs. AreRuns runs.items)) }
-    {
-        match self.words(debugger)? {
-            Some(words) => Ok(Some(self.runs_of(debugger, &words)?)),
-            None => Ok(None),
-        }
-    }
-
-    /// Takes the line for these choices, as for `g`.
-    fn go(&mut self, runs: Vec<Run>) -> Result<(), AllocError>
-        requires { AreRuns runs.items }
-    {
-        let tokens = write_schedule(self.alloc, runs.as_slice())?;
+        let tokens = write_schedule(self.alloc, planned.runs.as_slice())?;
         self.line.clear();
         self.line.extend_from_slice(b"g ")?;
         self.line.extend_from_slice(tokens.as_bytes())?;
-        self.command = Command::Go(runs);
+        self.command = Command::Go(planned.runs);
         Ok(())
     }
 
-    /// Reads what the line asks the debugger for. If it is no command, it may be the choices of a plan, as for `g`.
-    fn understand(&mut self, debugger: &Debugger) -> Result<(), AllocError> {
+    /// Takes the line for the debugger: a command, or else words of a plan. Keeps the machine as it is if the line asks for several
+    /// choices at once.
+    fn take(&mut self, debugger: &Debugger) -> Result<(), AllocError> {
         self.command = command_of(Vec::new(self.alloc), self.line.as_slice())?;
-        let Command::Unknown = &self.command else {
-            return Ok(());
-        };
-        if self.said.trim_ascii().is_empty() {
-            return Ok(());
+        if matches!(&self.command, Command::Unknown) && !self.said.trim_ascii().is_empty() {
+            if let Some(words) = self.words(debugger)? {
+                self.go(debugger, &words)?;
+            }
         }
-        match self.planned(debugger)? {
-            Some(runs) => self.go(runs),
-            None => Ok(()),
-        }
-    }
-
-    /// Keeps the machine as it is if the line asks for several choices at once.
-    fn keep_before(&mut self, debugger: &Debugger) -> Result<(), AllocError> {
         if let Command::Go(_) = &self.command {
             self.before = Some(debugger.machine().copy(self.alloc)?);
         }
         Ok(())
-    }
-
-    /// Takes the line for the debugger.
-    fn take(&mut self, debugger: &Debugger) -> Result<(), AllocError> {
-        self.understand(debugger)?;
-        self.keep_before(debugger)
     }
 
     /// Reads a line, and puts it in place of the one before, with numbers; an empty one repeats the one before. Returns whether

@@ -1,351 +1,114 @@
 //! What a line that is no command may have been meant as.
 ghost use Rattle.std.specs.Prelude.{◌≤◌, length};
 
-use crate::names::near_symbol;
+use crate::spoken::first_and_rest;
 use assembler::Symbols;
+use assembler::word_place::WordPlace;
 use byte_ports::{Failed, Sink};
 use instruction_table::OperandKind;
 use itoa::Buffer;
 use line_reader::words::is_blank;
-use plans::cutting::word_length;
 use plans::fault::PlanFaultKind;
-use plans::read_plan;
 use refusals::entry::push_pieces;
-use std::alloc::Global;
-use suggestions::plan_word::{helps_at_name, helps_at_seed, helps_at_star, helps_at_word};
+use std::alloc::{AllocError, Global};
+use suggestions::java::found_in;
+use suggestions::nearest::nearest_of;
+use suggestions::plan_line::{fault_of_word, word_places};
+use suggestions::plan_word::{helps_at, near_choice};
 use thread_machine::Machine;
 
 /// What is shown of a line of which nothing more is known.
 const NO_COMMAND: &str = "not a command, or no such thread or row: `help` lists the commands";
 
-/// What helps if a key isn't read.
-const AT_KEY: &str =
-    "such keys aren't read: Enter repeats the last command, `b` takes a choice back";
-
-/// What helps if someone wants to play on.
-const PLAY_ON: &str =
-    "`..` plays all threads in turn, up to a breakpoint; `ann.` plays ann until it waits";
-
-/// What helps if someone wants one choice.
 const ONE_CHOICE: &str = "`s NAME`, or NAME alone, is one choice of a thread; Enter repeats it";
 
-/// What helps if someone wants the state.
-const STATE: &str = "`p` shows the state";
-
-/// What helps if someone wants to take a choice back.
-const BACK: &str = "`b` takes the last choice back";
-
-/// What helps if someone wants a breakpoint.
 const BREAK: &str =
-    "`k ROW` sets a breakpoint at a row or a label, as in `k 3`; `b` takes a choice back";
+    "`k ROW` sets a breakpoint at a row or a label, and `c ROW` clears it; `b` takes a choice back";
 
-/// What helps if someone wants to see the breakpoints.
-const BREAKPOINTS: &str = "breakpoints aren't listed: `k ROW` sets one, and `c ROW` clears it";
-
-/// What helps if someone wants the rows.
-const ROWS: &str =
-    "the rows are above the first reply; `vuthgal list --rows FILE` writes them, too";
-
-/// What helps if someone wants to begin again.
-const AGAIN: &str = "`b` takes choices back, one by one; to begin again, use `q` and `debug FILE`";
-
-/// What helps if someone wants to end a timed wait.
-const EXPIRY: &str = "`xann` lets the time of ann's wait run out";
-
-/// What helps if a command is in capitals.
-const SMALL: &str = "commands are in small letters, as in `s ann`";
-
-/// What helps if someone wants to keep the choices.
-const PLAN: &str = "`w` writes the choices so far, as a plan";
-
-/// What helps if someone wants to change or to watch a value.
-const FIXED: &str = "only the choices change values: `p` shows them, `k ROW` stops at a row";
-
-/// What helps at a command of the program.
-const OUTSIDE: &str =
-    "that is no command of a session: `q` ends it, and `w` writes the plan before";
-
-/// What helps at the end.
-const END: &str = "`q` ends the session";
-
-/// A command of other debuggers, and what does the same here.
-static ELSEWHERE: [(&str, &str); 85] = [
-    (".run", PLAY_ON),
-    ("bb", BACK),
-    ("redo", ONE_CHOICE),
-    ("forward", ONE_CHOICE),
-    ("expire", EXPIRY),
-    ("timeout", EXPIRY),
-    ("choices", PLAN),
-    ("plan", PLAN),
-    ("breakpoints", BREAKPOINTS),
-    ("breaks", BREAKPOINTS),
-    ("goto", FIXED),
-    ("quit", END),
-    ("exit", END),
-    ("quit()", END),
-    ("exit()", END),
-    (":q", END),
-    ("kill", END),
-    ("undo", BACK),
-    ("u", BACK),
-    ("back", BACK),
-    ("prev", BACK),
-    ("reverse", BACK),
-    ("reverse-step", BACK),
-    ("reverse-next", BACK),
-    ("reverse-continue", BACK),
-    ("rc", BACK),
-    ("bakc", BACK),
-    ("rs", BACK),
-    ("rn", BACK),
-    ("step", ONE_CHOICE),
-    ("next", ONE_CHOICE),
-    ("n", ONE_CHOICE),
-    ("si", ONE_CHOICE),
-    ("thread", ONE_CHOICE),
-    ("play", PLAY_ON),
-    ("go", PLAY_ON),
-    ("run", PLAY_ON),
-    ("r", PLAY_ON),
-    ("continue", PLAY_ON),
-    ("cont", PLAY_ON),
-    ("resume", PLAY_ON),
-    ("start", PLAY_ON),
-    ("finish", PLAY_ON),
-    ("until", PLAY_ON),
-    ("break", BREAK),
-    ("stop", BREAK),
-    ("tb", BREAK),
-    ("tbreak", BREAK),
-    ("breakpoint", BREAK),
-    ("delete", "`c ROW` clears a breakpoint"),
-    ("clear", "`c ROW` clears a breakpoint"),
-    ("print", STATE),
-    ("dump", STATE),
-    ("display", STATE),
-    ("frame", STATE),
-    ("up", STATE),
-    ("down", STATE),
-    ("locals", STATE),
-    ("state", STATE),
-    ("info", STATE),
-    ("where", STATE),
-    ("bt", STATE),
-    ("threads", STATE),
-    ("show", STATE),
-    ("list", ROWS),
-    ("l", ROWS),
-    ("ls", ROWS),
-    ("rows", ROWS),
-    ("disas", ROWS),
-    ("disassemble", ROWS),
-    ("save", PLAN),
-    ("history", PLAN),
-    ("watch", FIXED),
-    ("set", FIXED),
-    ("eval", FIXED),
-    ("j", FIXED),
-    ("jump", FIXED),
-    ("draw", OUTSIDE),
-    ("compare", OUTSIDE),
-    ("explain", OUTSIDE),
-    ("version", OUTSIDE),
-    ("vuthgal", OUTSIDE),
-    ("reset", AGAIN),
-    ("restart", AGAIN),
+/// The commands of other debuggers, and what does the same here.
+static ELSEWHERE: [(&str, &str); 9] = [
+    ("step next n", ONE_CHOICE),
+    (
+        "continue cont run r",
+        "`..` plays all threads in turn, up to a breakpoint; `ann.` plays ann until it waits",
+    ),
+    ("break breakpoint clear", BREAK),
+    ("undo u back", "`b` takes the last choice back"),
+    ("print info state bt", "`p` shows the state"),
+    (
+        "list",
+        "the rows are above the first reply; `vuthgal list --rows FILE` writes them, too",
+    ),
+    ("save", "`w` writes the choices so far, as a plan"),
+    ("quit exit", "`q` ends the session"),
     ("h", "`help` lists the commands"),
 ];
 
-/// What does the same as this command of other debuggers.
-fn helps_elsewhere(word: &[u8]) -> Option<&'static str> {
-    ELSEWHERE
-        .iter()
-        .find(|(name, _)| name.as_bytes().eq_ignore_ascii_case(word))
-        .map(|(_, helps)| *helps)
+/// What helps if `s` or `g` isn't followed by choices alone.
+fn helps_at_choices(word: &[u8], rest: &[u8]) -> Option<&'static str> {
+    let is_step = word == b"s".as_slice();
+    if is_step && rest.is_empty() {
+        Some(ONE_CHOICE)
+    } else if is_step && rest.iter().any(|byte| is_blank(*byte)) {
+        Some("`s` is one choice: `g ann bob` plays several")
+    } else if is_step && rest.contains(&b'*') {
+        Some("`s` is one choice: `g ann*3` plays three")
+    } else if rest.contains(&b'.') || rest.contains(&b'?') || rest.contains(&b'(') {
+        Some("a plan is typed without a command, as in `ann.` or `..`")
+    } else {
+        None
+    }
 }
 
-/// What helps if something follows a command that is a whole line.
-fn helps_at_whole(word: &[u8]) -> Option<&'static str> {
+/// What helps at a line by its first word: a command of other debuggers, or one of this one with something that it doesn't take.
+fn helps_at_command(said: &[u8]) -> Option<&'static str> {
+    let (word, rest) = first_and_rest(said);
+    if said.contains(&27) {
+        return Some(
+            "such keys aren't read: Enter repeats the last command, `b` takes a choice back",
+        );
+    }
+    if matches!(
+        word,
+        [b'B' | b'C' | b'G' | b'K' | b'P' | b'Q' | b'S' | b'W']
+    ) {
+        return Some("commands are in small letters, as in `s ann`");
+    }
     match word {
+        b"" => Some("there is no command to repeat yet: `help` lists the commands"),
         b"b" => Some(BREAK),
         b"p" => Some("`p` alone shows the whole state"),
         b"w" => Some("`w` alone writes the choices so far, as a plan"),
         b"q" => Some("`q` alone ends the session"),
         b"help" | b"?" => Some("`help` alone lists the commands"),
-        _ => None,
-    }
-}
-
-/// What helps if nothing is typed, or a command without its ROW.
-fn helps_at_missing(word: &[u8], rest: &[u8]) -> Option<&'static str> {
-    match word {
         b"k" if rest.is_empty() => Some(BREAK),
         b"c" if rest.is_empty() => Some(
             "`c ROW` clears a breakpoint; `..` plays on, up to a breakpoint",
         ),
-        _ if word.is_empty() => Some(
-            "there is no command to repeat yet: `help` lists the commands",
-        ),
-        _ => None,
+        b"s" | b"g" => helps_at_choices(word, rest),
+        _ => found_in(&ELSEWHERE, word),
     }
 }
 
-/// What helps if `s` or `g` isn't followed by choices alone.
-fn helps_at_choices(word: &[u8], rest: &[u8]) -> Option<&'static str> {
-    let is_one = !rest.iter().any(|byte| is_blank(*byte));
-    match word {
-        b"s" if rest.is_empty() => Some(ONE_CHOICE),
-        b"s" if !is_one => Some("`s` is one choice: `g ann bob` plays several"),
-        b"s" if rest.contains(&b'*') => Some("`s` is one choice: `g ann*3` plays three"),
-        b"s" | b"g" if rest.contains(&b'.') || rest.contains(&b'?') || rest.contains(&b'(') => Some(
-            "a plan is typed without a command, as in `ann.` or `..`",
-        ),
-        _ => None,
-    }
-}
-
-/// The words of a line.
-fn words(line: &[u8]) -> (&[u8], &[u8]) {
-    let line = line.trim_ascii();
-    match line.iter().position(|byte| is_blank(*byte)) {
-        Some(end) => (
-            line.get(..end).unwrap_or(line),
-            line.get(end..).unwrap_or(&[]).trim_ascii(),
-        ),
-        None => (line, &[]),
-    }
-}
-
-/// What helps if a command is a capital letter.
-fn helps_at_capital(word: &[u8]) -> Option<&'static str> {
-    match word {
-        [b'B' | b'C' | b'G' | b'K' | b'P' | b'Q' | b'S' | b'W'] => Some(SMALL),
-        _ => None,
-    }
-}
-
-/// What helps at a line by its commands: those of other debuggers, and those of this one with something that they don't take.
-fn helps_at_command(said: &[u8]) -> Option<&'static str> {
-    let (word, rest) = words(said);
-    if said.contains(&27) {
-        return Some(AT_KEY);
-    }
-    if word == b"info".as_slice() && rest.starts_with(b"b") {
-        return Some(BREAKPOINTS);
-    }
-    helps_elsewhere(word)
-        .or(helps_at_capital(word))
-        .or(helps_at_whole(word))
-        .or(helps_at_missing(word, rest))
-        .or(helps_at_choices(word, rest))
-}
-
-/// The first wrong word of a plan, what is wrong with it, and the byte before it.
-#[derive(Clone, Copy)]
-struct Wrong<'a> {
-    word: &'a [u8],
-    kind: PlanFaultKind,
-    before: Option<u8>,
-}
-
-/// Returns what is wrong with a word of a plan by itself. A parenthesis alone isn't wrong.
-fn fault_of(alloc: Global, names: &[&[u8]], word: &[u8]) -> Option<PlanFaultKind>
+/// Returns the first wrong word of a plan, and what is wrong with it.
+fn wrong_word(alloc: Global, names: &[&[u8]], plan: &[u8]) -> Option<(WordPlace, PlanFaultKind)>
     requires { length names.now ≤ 64 }
 {
-    match read_plan(alloc, word, names) {
-        Ok(_) => None,
-        Err(fault) => match fault.kind {
-            PlanFaultKind::NotOpened | PlanFaultKind::NotClosed | PlanFaultKind::Memory => None,
-            kind => Some(kind),
-        },
-    }
-}
-
-/// Returns the first wrong word of a plan.
-fn wrong_word<'a>(alloc: Global, names: &[&[u8]], plan: &'a [u8]) -> Option<Wrong<'a>>
-    requires { length names.now ≤ 64 }
-{
-    let mut behind = 0;
-    let mut before = None;
-    for at in 0..plan.len() {
-        if at >= behind {
-            let length = word_length(&plan[at..]);
-            behind = at.saturating_add(length);
-            if length > 0 {
-                let word = plan.get(at..behind).unwrap_or(&[]);
-                if let Some(kind) = fault_of(alloc, names, word) {
-                    return Some(Wrong { word, kind, before });
-                }
-            }
+    for place in word_places(alloc, plan).ok()?.iter() {
+        let word = plan.get(place.at..place.at.saturating_add(place.length))?;
+        if let Some(kind) = fault_of_word(alloc, names, word) {
+            return Some((*place, kind));
         }
-        before = Some(plan[at]);
     }
     None
 }
 
-/// What helps at a wrong word of a plan.
-fn helps_at_wrong(wrong: Wrong<'_>) -> Option<&'static str> {
-    match wrong.kind {
-        PlanFaultKind::BadWord => helps_at_word(wrong.word, wrong.before),
-        PlanFaultKind::BadCount => helps_at_star(wrong.word).or(Some(
-            "a number from 1 to 1000000 follows the star",
-        )),
-        PlanFaultKind::BadSeed => helps_at_seed(wrong.word).or(Some(
-            "a number follows the question mark, as in `?7`",
-        )),
-        PlanFaultKind::NotNamed => helps_at_name(wrong.word),
-        _ => None,
-    }
-}
-
-/// Writes a line that begins so.
 fn push_line<E: Sink>(notes: &mut E, label: &[u8], text: &[u8]) -> Result<(), Failed> {
     push_pieces(notes, &[label, text, b"\n"])
 }
 
-/// Writes what helps.
 fn push_help<E: Sink>(notes: &mut E, helps: &str) -> Result<(), Failed> {
     push_line(notes, b"  ", helps.as_bytes())
-}
-
-/// A word's name, and the dot or count behind it.
-fn name_and_tail(word: &[u8]) -> (&[u8], &[u8]) {
-    let end = word
-        .iter()
-        .position(|byte| *byte == b'.' || *byte == b'*')
-        .unwrap_or(word.len());
-    word.split_at(end.min(word.len()))
-}
-
-/// Returns the thread's name that may have been meant, and whether it is meant as the expiry of its wait.
-fn near_choice<'a>(alloc: Global, symbols: &Symbols<'a>, name: &[u8]) -> Option<(&'a [u8], bool)> {
-    if let Some(near) = near_symbol(alloc, symbols, OperandKind::Thread, name) {
-        return Some((near, false));
-    }
-    let expiring = name.strip_prefix(b"x".as_slice())?;
-    let near = near_symbol(alloc, symbols, OperandKind::Thread, expiring)?;
-    Some((near, true))
-}
-
-/// Writes that no thread has this name, and the name that may have been meant, with the dot or count behind it.
-fn push_no_thread<E: Sink>(
-    alloc: Global,
-    notes: &mut E,
-    symbols: &Symbols<'_>,
-    word: &[u8],
-) -> Result<(), Failed> {
-    let (name, tail) = name_and_tail(word);
-    push_help(notes, NO_COMMAND)?;
-    let Some((near, is_expiry)) = near_choice(alloc, symbols, name) else {
-        return Ok(());
-    };
-    notes.push(if is_expiry {
-        b"  Near: x".as_slice()
-    } else {
-        b"  Near: ".as_slice()
-    })?;
-    push_line(notes, near, tail)
 }
 
 /// Writes which threads there are.
@@ -364,23 +127,52 @@ pub fn push_threads<E: Sink>(notes: &mut E, count: usize) -> Result<(), Failed> 
 fn push_at_plan<E: Sink>(
     alloc: Global,
     notes: &mut E,
-    symbols: &Symbols<'_>,
     names: &[&[u8]],
     machine: &Machine,
     plan: &[u8],
 ) -> Result<(), Failed>
     requires { length names.now ≤ 64 }
 {
-    let Some(wrong) = wrong_word(alloc, names, plan) else {
+    let Some((place, kind)) = wrong_word(alloc, names, plan) else {
         return push_help(notes, "each `(` needs a `)` behind it, as in `(ann bob)*3`");
     };
-    if let Some(helps) = helps_at_wrong(wrong) {
+    let (front, rest) = plan.split_at(place.at.min(plan.len()));
+    let word = rest.get(..place.length).unwrap_or(rest);
+    if let Some(helps) = helps_at(kind, word, front.last().copied()) {
         return push_help(notes, helps);
     }
-    match wrong.kind {
+    match kind {
         PlanFaultKind::NoThread => push_threads(notes, machine.thread_count()),
-        _ => push_no_thread(alloc, notes, symbols, wrong.word),
+        PlanFaultKind::BadCount => push_help(notes, "a number from 1 to 1000000 follows the star"),
+        PlanFaultKind::BadSeed => push_help(
+            notes,
+            "a number follows the question mark, as in `?7`",
+        ),
+        _ => {
+            push_help(notes, NO_COMMAND)?;
+            match near_choice(alloc, names, word) {
+                Ok(Some(near)) => push_line(notes, b"  near: ", near.as_slice()),
+                _ => Ok(()),
+            }
+        }
     }
+}
+
+/// The label that is nearest to a word, if one is near.
+fn nearest_label<'a>(
+    alloc: Global,
+    symbols: &Symbols<'a>,
+    word: &[u8],
+) -> Result<Option<&'a [u8]>, AllocError> {
+    let mut labels: Vec<&'a [u8]> = Vec::new(alloc);
+    for index in 0..symbols.len() {
+        if let Some(symbol) = symbols.get(index) {
+            if symbol.kind == OperandKind::Target {
+                labels.push(symbol.name)?;
+            }
+        }
+    }
+    Ok(nearest_of(alloc, labels.as_slice(), word)?.meant)
 }
 
 /// Writes which rows there are, and the label that may have been meant.
@@ -397,9 +189,9 @@ fn push_rows<E: Sink>(
         b"  ROW is a label, or a number from 0 to ",
         Buffer::new().format(rows.saturating_sub(1)).as_bytes(),
     )?;
-    match near_symbol(alloc, symbols, OperandKind::Target, row) {
-        Some(label) => push_line(notes, b"  Near: ", label),
-        None => Ok(()),
+    match nearest_label(alloc, symbols, row) {
+        Ok(Some(label)) => push_line(notes, b"  near: ", label),
+        _ => Ok(()),
     }
 }
 
@@ -417,9 +209,9 @@ pub fn push_unknown<E: Sink>(
     if let Some(helps) = helps_at_command(said) {
         return push_help(notes, helps);
     }
-    match words(said) {
+    match first_and_rest(said) {
         (b"k" | b"c", row) => push_rows(alloc, notes, symbols, machine, row),
-        (b"s" | b"g", tokens) => push_at_plan(alloc, notes, symbols, names, machine, tokens),
-        _ => push_at_plan(alloc, notes, symbols, names, machine, said),
+        (b"s" | b"g", tokens) => push_at_plan(alloc, notes, names, machine, tokens),
+        _ => push_at_plan(alloc, notes, names, machine, said),
     }
 }

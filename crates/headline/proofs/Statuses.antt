@@ -9,6 +9,8 @@ use Rattle.line_reader.specs.Words.{is_line_end}
 use Rattle.line_reader.specs.FaultNumber.{asm_number}
 use Rattle.row_code.specs.FaultNumber.{image_number}
 use Rattle.row_code.specs.declared.image.Image.{Image}
+use Rattle.assembler.specs.declared.placed.PlacedFault.{PlacedFault}
+use Rattle.line_reader.specs.declared.asm_fault.AsmFault.{AsmFault}
 use Rattle.assembler.specs.Meaning.{StandsFor}
 use Rattle.assembler.proofs.ReadLines.{stands_for-assembled}
 use Rattle.loader.specs.FaultNumber.{load_number}
@@ -42,7 +44,7 @@ refusal_low (Some n) = omega arith
 refusal_low None = omega arith
 
 status_high : (f : Fault) → 3 ≤ status_of f
-status_high (fault.Asm f) = refusal_high (asm_number f.kind)
+status_high (fault.Asm f) = refusal_high (asm_number f.fault.kind)
 status_high (fault.Image f) = refusal_high (image_number f)
 status_high (fault.Load f) = refusal_high (load_number f)
 status_high (fault.Schedule f) = refusal_high (schedule_number f)
@@ -53,7 +55,7 @@ status_high fault.Read = omega arith
 status_high fault.Write = omega arith
 
 status_low : (f : Fault) → status_of f ≤ 5
-status_low (fault.Asm f) = omega (arith, refusal_low (asm_number f.kind))
+status_low (fault.Asm f) = omega (arith, refusal_low (asm_number f.fault.kind))
 status_low (fault.Image f) = omega (arith, refusal_low (image_number f))
 status_low (fault.Load f) = omega (arith, refusal_low (load_number f))
 status_low (fault.Schedule f) = omega (arith, refusal_low (schedule_number f))
@@ -136,7 +138,7 @@ unwritten text image run_fault.Read (Some left) before after failed (world, (beg
 unwritten text image run_fault.Write rest before after failed (world, (begins, has_failed)) few is = has_failed
 
 no_port : (f : Fault) (text : List ℕ) → IsNoTextFor f text → status_of f ≡ 5 → ⊥
-no_port (fault.Asm f) text none is = absurd (omega (arith, refusal_low (asm_number f.kind), is))
+no_port (fault.Asm f) text none is = absurd (omega (arith, refusal_low (asm_number f.fault.kind), is))
 no_port (fault.Image f) text none is = absurd none
 no_port (fault.Load f) text none is = absurd none
 no_port (fault.Schedule f) text none is = absurd none

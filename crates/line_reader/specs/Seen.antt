@@ -16,6 +16,7 @@ use Rattle.line_reader.specs.declared.statement.Statement.{Statement}
 use Rattle.line_reader.specs.declared.statement.Statement.TheVariants as statement
 use Rattle.line_reader.specs.declared.statement.Line.{Line}
 use Rattle.line_reader.specs.declared.asm_fault.AsmFaultKind.{AsmFaultKind}
+use Rattle.line_reader.specs.declared.asm_fault.WordFault.{WordFault}
 use Rattle.line_reader.specs.Symbols.{Name}
 
 abbrev pub Borrowed : Type 0
@@ -83,3 +84,12 @@ line_seen line = record { number = line.number; statement = statement_seen line.
 abbrev pub seen : {X Y : Type 0} → (X → Y) → Result X AsmFaultKind → Result Y AsmFaultKind
 seen view (Ok x) = Ok (view x)
 seen view (Err kind) = Err kind
+
+-- the same of a call that reads several words, without the place of its fault
+abbrev pub seen_in : {X Y : Type 0} → (X → Y) → Result X WordFault → Result Y AsmFaultKind
+seen_in view (Ok x) = Ok (view x)
+seen_in view (Err fault) = Err fault.kind
+
+abbrev pub seen_word : {X : Type 0} → Result X WordFault → Result X AsmFaultKind
+seen_word (Ok x) = Ok x
+seen_word (Err fault) = Err fault.kind

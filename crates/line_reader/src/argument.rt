@@ -1,25 +1,31 @@
 ghost use Rattle.std.specs.Prelude.{◌≡◌, map, option_map, pos};
-ghost use Rattle.line_reader.specs.Seen.{seen};
+ghost use Rattle.line_reader.specs.Seen.{seen_in, seen_word};
 ghost use Rattle.line_reader.specs.Reading.{argument_at, end_at, number_at, reference_at, reference_option_at};
 ghost use Rattle.line_reader.specs.Spelling.{greatest_int};
 ghost use Rattle.line_reader.specs.Seen.{name_seen, reference_seen};
 
-use crate::asm_fault::AsmFaultKind;
+use crate::asm_fault::{AsmFaultKind, WordFault, read_at};
 use crate::number::number_at;
 use crate::reference::{Reference, reference_at};
 use crate::words::is_word;
+
+/// How many words are left at an option without its argument: the option, which is the last word.
+const OPTION_ALONE: usize = 1;
 
 /// Reads the argument of an option, a row or an object. Returns it and the words after it.
 pub fn reference_argument<'a, 'w>(
     high: u16,
     words: &'w [&'a [u8]],
-) -> Result<(Reference<&'a [u8]>, &'w [&'a [u8]]), AsmFaultKind>
-    ensures { seen (λ x. (reference_seen x.0, map name_seen x.1.now)) result
+) -> Result<(Reference<&'a [u8]>, &'w [&'a [u8]]), WordFault>
+    ensures { seen_in (λ x. (reference_seen x.0, map name_seen x.1.now)) result
         ≡ argument_at (reference_at high) (map name_seen words.now) }
 {
     match words {
-        [] => Err(AsmFaultKind::OperandCount),
-        [word, rest @ ..] => Ok((reference_at(high, *word)?, rest)),
+        [] => Err(WordFault {
+            kind: AsmFaultKind::OperandCount,
+            left: OPTION_ALONE,
+        }),
+        [word, rest @ ..] => Ok((read_at(words.len(), reference_at(high, *word))?, rest)),
     }
 }
 
@@ -29,8 +35,8 @@ pub fn reference_option_at<'a, 'w>(
     option: &str,
     high: u16,
     words: &'w [&'a [u8]],
-) -> Result<(Option<Reference<&'a [u8]>>, &'w [&'a [u8]]), AsmFaultKind>
-    ensures { seen (λ x. (option_map reference_seen x.0, map name_seen x.1.now)) result
+) -> Result<(Option<Reference<&'a [u8]>>, &'w [&'a [u8]]), WordFault>
+    ensures { seen_in (λ x. (option_map reference_seen x.0, map name_seen x.1.now)) result
         ≡ reference_option_at option.now high (map name_seen words.now) }
 {
     match words {
@@ -46,22 +52,28 @@ pub fn reference_option_at<'a, 'w>(
 }
 
 /// Reads the argument of an option, a phase. Returns it and the words after it.
-pub fn phase_argument<'a, 'w>(words: &'w [&'a [u8]]) -> Result<(i32, &'w [&'a [u8]]), AsmFaultKind>
-    ensures { seen (λ x. (x.0, map name_seen x.1.now)) result
+pub fn phase_argument<'a, 'w>(words: &'w [&'a [u8]]) -> Result<(i32, &'w [&'a [u8]]), WordFault>
+    ensures { seen_in (λ x. (x.0, map name_seen x.1.now)) result
         ≡ argument_at (number_at (pos 0) greatest_int) (map name_seen words.now) }
 {
     match words {
-        [] => Err(AsmFaultKind::OperandCount),
-        [word, rest @ ..] => Ok((number_at(0, i32::MAX, *word)?, rest)),
+        [] => Err(WordFault {
+            kind: AsmFaultKind::OperandCount,
+            left: OPTION_ALONE,
+        }),
+        [word, rest @ ..] => Ok((read_at(words.len(), number_at(0, i32::MAX, *word))?, rest)),
     }
 }
 
 /// That no word is left.
-pub fn end_at(words: &[&[u8]]) -> Result<(), AsmFaultKind>
-    ensures { result ≡ end_at (map name_seen words.now) }
+pub fn end_at(words: &[&[u8]]) -> Result<(), WordFault>
+    ensures { seen_word result ≡ end_at (map name_seen words.now) }
 {
     match words {
         [] => Ok(()),
-        _ => Err(AsmFaultKind::BadOption),
+        _ => Err(WordFault {
+            kind: AsmFaultKind::BadOption,
+            left: words.len(),
+        }),
     }
 }

@@ -1,5 +1,6 @@
 ghost use Rattle.std.specs.Prelude.{◌≡◌};
 ghost use Rattle.line_reader.specs.FaultNumber.{asm_number};
+ghost use Rattle.line_reader.specs.Seen.{seen_word};
 ghost use Rattle.line_reader.specs.declared.asm_fault.AsmFaultKind.TheVariants.{Memory};
 
 use std::alloc::{AllocError, AllocFailed};
@@ -66,6 +67,24 @@ impl AsmFaultKind {
 pub struct AsmFault {
     pub line: u64,
     pub kind: AsmFaultKind,
+}
+
+/// What is wrong with the words of a line, and how many of them are left there: the first of these is wrong.
+#[derive(Clone, Copy, Debug, PartialEq, Eq)]
+pub struct WordFault {
+    pub kind: AsmFaultKind,
+    pub left: usize,
+}
+
+/// Returns the result of a word from which on so many words are left.
+#[inline(always)]
+pub fn read_at<T>(left: usize, read: Result<T, AsmFaultKind>) -> Result<T, WordFault>
+    ensures { seen_word result ≡ read }
+{
+    match read {
+        Ok(read) => Ok(read),
+        Err(kind) => Err(WordFault { kind, left }),
+    }
 }
 
 impl From<AllocError> for AsmFaultKind {

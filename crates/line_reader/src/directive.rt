@@ -1,9 +1,9 @@
 ghost use Rattle.std.specs.Prelude.{◌≡◌, map};
-ghost use Rattle.line_reader.specs.Seen.{seen};
+ghost use Rattle.line_reader.specs.Seen.{seen_in};
 ghost use Rattle.line_reader.specs.Reading.{cell_at, directive_at, is_directive};
 ghost use Rattle.line_reader.specs.Seen.{name_seen, statement_seen};
 
-use crate::asm_fault::AsmFaultKind;
+use crate::asm_fault::{AsmFaultKind, WordFault, read_at};
 use crate::name::name_at;
 use crate::statement::Statement;
 use crate::symbolic_barrier::barrier_at;
@@ -29,22 +29,22 @@ pub fn is_directive(word: &[u8]) -> bool
 
 /// Reads the operand of `.cell`.
 #[tactic(auto, unfolding(crate::specs::Reading::cell_at))]
-fn cell_at<'a>(words: &[&'a [u8]]) -> Result<&'a [u8], AsmFaultKind>
-    ensures { seen name_seen result ≡ cell_at (map name_seen words.now) }
+fn cell_at<'a>(words: &[&'a [u8]]) -> Result<&'a [u8], WordFault>
+    ensures { seen_in name_seen result ≡ cell_at (map name_seen words.now) }
 {
     match words {
-        [name] => name_at(*name),
-        _ => Err(AsmFaultKind::OperandCount),
+        [name] => read_at(words.len(), name_at(*name)),
+        _ => Err(WordFault {
+            kind: AsmFaultKind::OperandCount,
+            left: words.len().saturating_add(1),
+        }),
     }
 }
 
 /// Reads a directive: the word that begins it, and its operands.
 #[tactic(auto, unfolding(crate::specs::Reading::directive_at))]
-pub fn directive_at<'a>(
-    word: &[u8],
-    words: &[&'a [u8]],
-) -> Result<Statement<&'a [u8]>, AsmFaultKind>
-    ensures { seen statement_seen result ≡ directive_at word.now (map name_seen words.now) }
+pub fn directive_at<'a>(word: &[u8], words: &[&'a [u8]]) -> Result<Statement<&'a [u8]>, WordFault>
+    ensures { seen_in statement_seen result ≡ directive_at word.now (map name_seen words.now) }
 {
     if is_word(word, ".phaser") {
         Ok(Statement::Phaser(phaser_at(words)?))

@@ -1,9 +1,9 @@
 ghost use Rattle.std.specs.Prelude.{◌≡◌, ◌<◌, [], ◌∷◌, IfOk, IfSome, length, false, map, true};
 ghost use Rattle.line_reader.specs.Reading.{operand_at, operand_there, register_at, row_at, row_of_kinds};
-ghost use Rattle.line_reader.specs.Seen.{name_seen, seen};
+ghost use Rattle.line_reader.specs.Seen.{name_seen, seen, seen_in};
 ghost use Rattle.line_reader.specs.KeptRow.{is_other, is_other_there, is_register, one_other, operand_kept, row_kept};
 
-use crate::asm_fault::AsmFaultKind;
+use crate::asm_fault::{AsmFaultKind, WordFault, read_at};
 use crate::number::number_at;
 use crate::reference::{Reference, reference_at};
 use instruction_table::{OperandKind, Reg, opcode_named, operands_of};
@@ -128,8 +128,8 @@ fn operand_there<'a>(
     kinds: &[OperandKind],
     words: &[&'a [u8]],
     place: usize,
-) -> Result<KeptOperand, AsmFaultKind>
-    ensures read { seen (operand_kept held.new) result
+) -> Result<KeptOperand, WordFault>
+    ensures read { seen_in (operand_kept held.new) result
         ≡ operand_there kinds.now (map name_seen words.now) place }
     ensures register { is_other_there kinds.now place ≡ false → held.new ≡ held.old }
     ensures place { is_other_there kinds.now place ≡ false
@@ -137,7 +137,12 @@ fn operand_there<'a>(
     ensures opcode { held.new.opcode ≡ held.old.opcode }
 {
     match (kinds.get(place), words.get(place)) {
-        (Some(kind), Some(word)) => operand_at(held, *kind, *word),
+        (Some(kind), Some(word)) => {
+            read_at(
+                words.len().saturating_sub(place),
+                operand_at(held, *kind, *word),
+            )
+        }
         _ => Ok(KeptOperand::Absent),
     }
 }
@@ -149,9 +154,9 @@ fn row_of_kinds<'a>(
     opcode: u8,
     kinds: &[OperandKind],
     words: &[&'a [u8]],
-) -> Result<KeptRow<'a>, AsmFaultKind>
+) -> Result<KeptRow<'a>, WordFault>
     requires { one_other kinds.now ≡ true }
-    ensures { seen row_kept result ≡ row_of_kinds opcode kinds.now (map name_seen words.now) }
+    ensures { seen_in row_kept result ≡ row_of_kinds opcode kinds.now (map name_seen words.now) }
 {
     let mut held = Held {
         name: &[],
@@ -175,47 +180,23 @@ fn row_of_kinds<'a>(
 /// Reads a row: the word that begins it, and its operands.
 #[inline(always)]
 #[tactic(auto, unfolding(crate::specs::Reading::row_at))]
-pub fn row_at<'a>(word: &[u8], words: &[&'a [u8]]) -> Result<KeptRow<'a>, AsmFaultKind>
-    ensures { seen row_kept result ≡ row_at word.now (map name_seen words.now) }
+pub fn row_at<'a>(word: &[u8], words: &[&'a [u8]]) -> Result<KeptRow<'a>, WordFault>
+    ensures { seen_in row_kept result ≡ row_at word.now (map name_seen words.now) }
 {
     let Some(opcode) = opcode_named(word) else {
-        return Err(AsmFaultKind::UnknownWord);
+        return Err(WordFault {
+            kind: AsmFaultKind::UnknownWord,
+            left: words.len().saturating_add(1),
+        });
     };
     let kinds = operands_of(opcode);
     if words.len() != kinds.len() {
-        return Err(AsmFaultKind::OperandCount);
+        return Err(WordFault {
+            kind: AsmFaultKind::OperandCount,
+            left: words.len().saturating_add(1),
+        });
     }
     row_of_kinds(opcode, kinds, words)
-}
-
-/// The place, from 0, of the first word that isn't what its kind wants.
-fn wrong_of_kinds(kinds: &[OperandKind], words: &[&[u8]]) -> Option<usize>
-    ensures { IfSome result (λ place. place < length words.now) }
-{
-    let mut held = Held {
-        name: &[],
-        number: 0,
-        object: 0,
-        opcode: 0,
-    };
-    for place in 0..words.len() {
-        if operand_there(&mut held, kinds, words, place).is_err() {
-            return Some(place);
-        }
-    }
-    None
-}
-
-/// Returns the place, from 0, of the first operand that has the wrong kind, if the row has the right number of operands.
-pub fn wrong_operand(word: &[u8], words: &[&[u8]]) -> Option<usize>
-    ensures { IfSome result (λ place. place < length words.now) }
-{
-    let kinds = operands_of(opcode_named(word)?);
-    if words.len() == kinds.len() {
-        wrong_of_kinds(kinds, words)
-    } else {
-        None
-    }
 }
 
 impl<'a> KeptRow<'a> {

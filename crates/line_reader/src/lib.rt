@@ -25,7 +25,6 @@ pub mod symbolic_thread;
 mod argument;
 pub mod asm_fault;
 pub mod directive;
-pub mod wrong_word;
 
 // How the lines of an image are written.
 pub mod listing;

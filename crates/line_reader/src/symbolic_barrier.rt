@@ -1,10 +1,10 @@
 ghost use Rattle.std.specs.Prelude.{◌≡◌, map};
-ghost use Rattle.line_reader.specs.Seen.{seen};
+ghost use Rattle.line_reader.specs.Seen.{seen_in};
 ghost use Rattle.line_reader.specs.Reading.{barrier_at};
 ghost use Rattle.line_reader.specs.Seen.{barrier_seen, name_seen};
 
 use crate::argument::{end_at, reference_option_at};
-use crate::asm_fault::AsmFaultKind;
+use crate::asm_fault::{AsmFaultKind, WordFault, read_at};
 use crate::name::name_at;
 use crate::number::count_at;
 use crate::reference::Reference;
@@ -19,14 +19,17 @@ pub struct SymbolicBarrier<N> {
 
 /// Reads the operands of `.barrier`.
 #[tactic(auto, unfolding(crate::specs::Reading::barrier_at))]
-pub fn barrier_at<'a>(words: &[&'a [u8]]) -> Result<SymbolicBarrier<&'a [u8]>, AsmFaultKind>
-    ensures { seen barrier_seen result ≡ barrier_at (map name_seen words.now) }
+pub fn barrier_at<'a>(words: &[&'a [u8]]) -> Result<SymbolicBarrier<&'a [u8]>, WordFault>
+    ensures { seen_in barrier_seen result ≡ barrier_at (map name_seen words.now) }
 {
     let [name, parties, options @ ..] = words else {
-        return Err(AsmFaultKind::OperandCount);
+        return Err(WordFault {
+            kind: AsmFaultKind::OperandCount,
+            left: words.len().saturating_add(1),
+        });
     };
-    let name = name_at(*name)?;
-    let parties = count_at(u16::MAX, *parties)?;
+    let name = read_at(words.len(), name_at(*name))?;
+    let parties = read_at(words.len().saturating_sub(1), count_at(u16::MAX, *parties))?;
     let (action, rest) = reference_option_at("action", u16::MAX, options)?;
     end_at(rest)?;
     Ok(SymbolicBarrier {

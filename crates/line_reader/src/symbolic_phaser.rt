@@ -1,10 +1,10 @@
 ghost use Rattle.std.specs.Prelude.{◌≡◌, map};
-ghost use Rattle.line_reader.specs.Seen.{seen};
+ghost use Rattle.line_reader.specs.Seen.{seen_in};
 ghost use Rattle.line_reader.specs.Reading.{first_phase_at, phaser_at, phaser_with, policy_at};
 ghost use Rattle.line_reader.specs.Seen.{name_seen, phaser_seen, policy_seen};
 
 use crate::argument::{end_at, phase_argument, reference_argument, reference_option_at};
-use crate::asm_fault::AsmFaultKind;
+use crate::asm_fault::{AsmFaultKind, WordFault, read_at};
 use crate::name::name_at;
 use crate::number::count_at;
 use crate::reference::Reference;
@@ -36,8 +36,8 @@ pub(crate) const LAST_PHASER: u16 = 63;
 #[tactic(auto, unfolding(crate::specs::Reading::first_phase_at))]
 pub(crate) fn first_phase_at<'a, 'w>(
     words: &'w [&'a [u8]],
-) -> Result<(i32, &'w [&'a [u8]]), AsmFaultKind>
-    ensures { seen (λ x. (x.0, map name_seen x.1.now)) result
+) -> Result<(i32, &'w [&'a [u8]]), WordFault>
+    ensures { seen_in (λ x. (x.0, map name_seen x.1.now)) result
         ≡ first_phase_at (map name_seen words.now) }
 {
     match words {
@@ -55,8 +55,8 @@ pub(crate) fn first_phase_at<'a, 'w>(
 #[tactic(auto, unfolding(crate::specs::Reading::policy_at))]
 pub(crate) fn policy_at<'a, 'w>(
     words: &'w [&'a [u8]],
-) -> Result<(SymbolicPolicy<&'a [u8]>, &'w [&'a [u8]]), AsmFaultKind>
-    ensures { seen (λ x. (policy_seen x.0, map name_seen x.1.now)) result
+) -> Result<(SymbolicPolicy<&'a [u8]>, &'w [&'a [u8]]), WordFault>
+    ensures { seen_in (λ x. (policy_seen x.0, map name_seen x.1.now)) result
         ≡ policy_at (map name_seen words.now) }
 {
     match words {
@@ -83,8 +83,8 @@ fn phaser_with<'a>(
     name: &'a [u8],
     parties: u16,
     options: &[&'a [u8]],
-) -> Result<SymbolicPhaser<&'a [u8]>, AsmFaultKind>
-    ensures { seen phaser_seen result
+) -> Result<SymbolicPhaser<&'a [u8]>, WordFault>
+    ensures { seen_in phaser_seen result
         ≡ phaser_with name.now parties (map name_seen options.now) }
 {
     let (parent, rest) = reference_option_at("parent", LAST_PHASER, options)?;
@@ -102,13 +102,16 @@ fn phaser_with<'a>(
 
 /// Reads the operands of `.phaser`.
 #[tactic(auto, unfolding(crate::specs::Reading::phaser_at))]
-pub fn phaser_at<'a>(words: &[&'a [u8]]) -> Result<SymbolicPhaser<&'a [u8]>, AsmFaultKind>
-    ensures { seen phaser_seen result ≡ phaser_at (map name_seen words.now) }
+pub fn phaser_at<'a>(words: &[&'a [u8]]) -> Result<SymbolicPhaser<&'a [u8]>, WordFault>
+    ensures { seen_in phaser_seen result ≡ phaser_at (map name_seen words.now) }
 {
     let [name, parties, options @ ..] = words else {
-        return Err(AsmFaultKind::OperandCount);
+        return Err(WordFault {
+            kind: AsmFaultKind::OperandCount,
+            left: words.len().saturating_add(1),
+        });
     };
-    let name = name_at(*name)?;
-    let parties = count_at(u16::MAX, *parties)?;
+    let name = read_at(words.len(), name_at(*name))?;
+    let parties = read_at(words.len().saturating_sub(1), count_at(u16::MAX, *parties))?;
     phaser_with(name, parties, options)
 }

@@ -1,9 +1,9 @@
 ghost use Rattle.std.specs.Prelude.{◌≡◌, [], ◌∷◌, map};
-ghost use Rattle.line_reader.specs.Seen.{seen};
+ghost use Rattle.line_reader.specs.Seen.{seen_in};
 ghost use Rattle.line_reader.specs.Reading.{thread_at};
 ghost use Rattle.line_reader.specs.Seen.{name_seen, thread_seen};
 
-use crate::asm_fault::AsmFaultKind;
+use crate::asm_fault::{AsmFaultKind, WordFault, read_at};
 use crate::name::name_at;
 use crate::reference::{Reference, reference_at};
 
@@ -15,22 +15,25 @@ pub struct SymbolicThread<N> {
 }
 
 #[tactic(auto, unfolding(crate::specs::Reading::thread_at))]
-fn thread_of<'a>(name: &'a [u8], row: &'a [u8]) -> Result<SymbolicThread<&'a [u8]>, AsmFaultKind>
-    ensures { seen thread_seen result ≡ thread_at (name.now ∷ row.now ∷ []) }
+fn thread_of<'a>(name: &'a [u8], row: &'a [u8]) -> Result<SymbolicThread<&'a [u8]>, WordFault>
+    ensures { seen_in thread_seen result ≡ thread_at (name.now ∷ row.now ∷ []) }
 {
     Ok(SymbolicThread {
-        name: name_at(name)?,
-        first_row: reference_at(u16::MAX, row)?,
+        name: read_at(2, name_at(name))?,
+        first_row: read_at(1, reference_at(u16::MAX, row))?,
     })
 }
 
 /// Reads the operands of `.thread`.
 #[tactic(auto, unfolding(crate::specs::Reading::thread_at))]
-pub fn thread_at<'a>(words: &[&'a [u8]]) -> Result<SymbolicThread<&'a [u8]>, AsmFaultKind>
-    ensures { seen thread_seen result ≡ thread_at (map name_seen words.now) }
+pub fn thread_at<'a>(words: &[&'a [u8]]) -> Result<SymbolicThread<&'a [u8]>, WordFault>
+    ensures { seen_in thread_seen result ≡ thread_at (map name_seen words.now) }
 {
     match words {
         [name, row] => thread_of(*name, *row),
-        _ => Err(AsmFaultKind::OperandCount),
+        _ => Err(WordFault {
+            kind: AsmFaultKind::OperandCount,
+            left: words.len().saturating_add(1),
+        }),
     }
 }

@@ -38,6 +38,18 @@ shown_by before after end choice accepted old mid new line is led answer is_acce
     ∙ ap (λ go. old ++ escaped (lines ++ (if go then moment (world_of end) else []))) (sym is_accepted) in
     record { text = text; world = ap world_of same ∙ led; answer = answer }
 
+-- the world that the rest leads to is the same before and after an accepted choice
+pub led_next : (now after : World) (choice : Choice) (rest more : List Choice) (accepted : Bool) (old mid : List ℕ)
+    → rest ≡ choice ∷ more → Shows now after choice accepted old mid → accepted ≡ true
+    → (execution after more).world ≡ (execution now rest).world
+led_next now after choice rest more accepted old mid is shown is_accepted = grind arith
+
+-- a refused choice leads to the world that it leaves
+pub led_refused : (now after : World) (choice : Choice) (rest more : List Choice) (accepted : Bool) (old mid : List ℕ)
+    → rest ≡ choice ∷ more → Shows now after choice accepted old mid → accepted ≡ false
+    → after ≡ (execution now rest).world
+led_refused now after choice rest more accepted old mid is shown is_refused = grind arith
+
 -- a moment is shown by a machine that is as before it, and then the choices from there on
 pub run_more : {E : Type 0} (result : Result (Unit {0}) E) (first now : StoredWorld) (choices : List Choice) (old mid new : List ℕ)
     → now ≡ first → mid ≡ old ++ escaped (moment (world_of first))

@@ -7,3 +7,4 @@ pub mod Others
 pub mod Knowing
 pub mod Page
 pub mod Showing
+pub mod Missing

@@ -16,10 +16,10 @@ mod escape;
 pub mod fixed;
 pub mod frame;
 mod known;
+pub mod missing;
 mod moment;
 pub mod others;
 pub mod page;
-pub mod shown;
 mod what_if;
 
 // The text.

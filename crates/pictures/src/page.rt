@@ -1,10 +1,13 @@
-ghost use Rattle.std.specs.Prelude.{◌≡◌, ◌≢◌, ◌++◌, ◌<◌, ◌⊎◌, false, length, IfOk, OnOk, Err, Some, None};
+ghost use Rattle.std.specs.Prelude.{◌≡◌, ◌≢◌, ◌++◌, ◌<◌, ◌⊎◌, false, length, List, IfOk, OnOk, Err, Some, None};
 ghost use Rattle.loader.specs.declared.load_fault.LoadFault.{LoadFault};
-ghost use Rattle.pictures.specs.Page.{IsPageFrom, IsPageIn, IsPageOf, escaped, fixed_parts, moment, moments, most_choices, page_text, parts_of, run_shown};
+ghost use Rattle.pictures.specs.Page.{AreChoicesOf, IsPageFrom, IsPageIn, IsPageOf, escaped, fixed_parts, moment, moments, most_choices, page_text, parts_of, run_shown};
+ghost use Rattle.pictures.specs.Missing.{IsMissingIn, missing_in};
 ghost use Rattle.pictures.specs.Others.{others_text};
 ghost use Rattle.pictures.specs.Showing.{Shows};
 ghost use Rattle.schedule_reader.specs.declared.fault.ScheduleFault.{ScheduleFault};
 ghost use Rattle.schedule_reader.specs.Schedule.{choices_of, finished_schedule};
+ghost use Rattle.thread_machine.specs.declared.choice.Choice.{Choice};
+ghost use Rattle.thread_machine.specs.Execution.{execution};
 ghost use Rattle.thread_machine.specs.World.{world_of};
 ghost use Rattle.trace_text.specs.Start.{IsRefused, is_want_of_memory};
 
@@ -12,9 +15,9 @@ use crate::choices::choices_in;
 use crate::escape::add_escaped;
 use crate::fixed::{BEFORE_OTHERS, BEFORE_RUN, BEFORE_SOURCE, HEAD, TAIL};
 use crate::frame::Frame;
+use crate::missing::{Shown, missing};
 use crate::moment;
 use crate::others::{OtherRuns, others_text};
-use crate::shown::{Shown, missing};
 use line_reader::disassemble;
 use loader::LoadFault;
 use row_code::Image;
@@ -83,7 +86,8 @@ fn add_choices(
     machine: &mut Machine,
     choices: &[Choice],
 ) -> Result<(), AllocError>
-    ensures { OnOk result (page.new.items ≡ page.old.items ++ escaped (moments (world_of machine.old) choices.now)) }
+    ensures text { OnOk result (page.new.items ≡ page.old.items ++ escaped (moments (world_of machine.old) choices.now)) }
+    ensures world { OnOk result (world_of machine.new ≡ (execution (world_of machine.old) choices.now).world) }
 {
     for choice in choices {
         if !add_choice(alloc, page, machine, *choice)? {
@@ -100,7 +104,8 @@ fn add_run(
     machine: &mut Machine,
     choices: &[Choice],
 ) -> Result<(), AllocError>
-    ensures { OnOk result (page.new.items ≡ page.old.items ++ escaped (run_shown (world_of machine.old) choices.now)) }
+    ensures text { OnOk result (page.new.items ≡ page.old.items ++ escaped (run_shown (world_of machine.old) choices.now)) }
+    ensures world { OnOk result (world_of machine.new ≡ (execution (world_of machine.old) choices.now).world) }
 {
     add_moment(alloc, page, machine)?;
     add_choices(alloc, page, machine, choices)
@@ -116,8 +121,9 @@ fn page_in(
     machine: &mut Machine,
     choices: &[Choice],
 ) -> Result<Vec<u8>, AllocError>
-    ensures { IfOk result (λ page. page.items ≡ page_text (parts_of frame.entry)
+    ensures page { IfOk result (λ page. page.items ≡ page_text (parts_of frame.entry)
         listing.now source.now (run_shown (world_of machine.old) choices.now) others.now) }
+    ensures world { OnOk result (world_of machine.new ≡ (execution (world_of machine.old) choices.now).world) }
 {
     let mut page = Vec::new(alloc);
     page.extend_from_slice(frame.head)?;
@@ -145,6 +151,8 @@ fn show_run(
     requires { length schedule.now < 9223372036854775807 }
     ensures page { IfOk result (λ shown. IsPageFrom (parts_of frame.entry) others listing.now (world_of machine.old)
         source.now schedule.now shown.bytes.items) }
+    ensures missing { IfOk result (λ shown. (choices : List Choice) × (AreChoicesOf schedule.now choices
+        × (shown.missing ≡ missing_in (world_of machine.old) choices))) }
     ensures load { (fault : LoadFault) → result ≢ Err (PageFault.Load fault) }
     ensures schedule { (fault : ScheduleFault) → result ≡ Err (PageFault.Schedule fault)
         → ((finished_schedule schedule.now).fault ≡ Some fault) × (fault ≢ ScheduleFault.Memory) }
@@ -191,6 +199,7 @@ fn page_with(
     requires { length schedule.now < 9223372036854775807 }
     ensures page { IfOk result (λ shown. IsPageIn (parts_of frame.entry) others image
         source.now schedule.now shown.bytes.items) }
+    ensures missing { IfOk result (λ shown. IsMissingIn image schedule.now shown.missing) }
     ensures load { (fault : LoadFault) → result ≡ Err (PageFault.Load fault)
         → IsRefused fault image × (is_want_of_memory fault ≡ false) }
     ensures schedule { (fault : ScheduleFault) → result ≡ Err (PageFault.Schedule fault)
@@ -241,6 +250,7 @@ pub fn page(
 ) -> Result<Shown, PageFault>
     requires { length schedule.now < 9223372036854775807 }
     ensures page { IfOk result (λ shown. IsPageOf others image source.now schedule.now shown.bytes.items) }
+    ensures missing { IfOk result (λ shown. IsMissingIn image schedule.now shown.missing) }
     ensures load { (fault : LoadFault) → result ≡ Err (PageFault.Load fault)
         → IsRefused fault image × (is_want_of_memory fault ≡ false) }
     ensures schedule { (fault : ScheduleFault) → result ≡ Err (PageFault.Schedule fault)

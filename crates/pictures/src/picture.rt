@@ -1,5 +1,6 @@
 ghost use Rattle.std.specs.Prelude.{◌≡◌, ◌++◌, ◌<◌, IfOk, OnOk};
 ghost use Rattle.pictures.specs.Picture.{each_from, lines_on, lines_text, other_block, picture};
+ghost use Rattle.thread_machine.specs.Execution.{execution};
 ghost use Rattle.thread_machine.specs.World.{world_of};
 
 use crate::block::draw_block;
@@ -67,8 +68,9 @@ fn draw_all(
     choices: &[Choice],
 ) -> Result<(), AllocError>
     requires { 0 < pen.now.sheet.beside }
-    ensures { OnOk result (text.new.items ≡ text.old.items
+    ensures text { OnOk result (text.new.items ≡ text.old.items
         ++ lines_text pen.now.sheet.width (lines_on pen.now.sheet pen.now.symbols.now (world_of machine.old) choices.now)) }
+    ensures world { OnOk result (world_of machine.new ≡ (execution (world_of machine.old) choices.now).world) }
 {
     let others = pen.sheet.other_blocks(machine.thread_count() as u16);
     draw_others(pen, text, machine, choices, others)?;
@@ -86,7 +88,8 @@ pub fn picture(
     width: u16,
     choices: &[Choice],
 ) -> Result<Vec<u8>, AllocError>
-    ensures { IfOk result (λ text. text.items ≡ picture width symbols.now (world_of machine.old) choices.now) }
+    ensures picture { IfOk result (λ text. text.items ≡ picture width symbols.now (world_of machine.old) choices.now) }
+    ensures world { OnOk result (world_of machine.new ≡ (execution (world_of machine.old) choices.now).world) }
 {
     let sheet = Sheet::new(width, machine.thread_count() as u16);
     let pen = Pen {

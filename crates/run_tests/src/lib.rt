@@ -17,6 +17,8 @@ mod names;
 #[cfg(test)]
 mod orders;
 #[cfg(test)]
+mod pauses;
+#[cfg(test)]
 mod plan_texts;
 #[cfg(test)]
 mod programs;

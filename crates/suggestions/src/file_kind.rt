@@ -25,6 +25,13 @@ pub fn is_trace(bytes: &[u8]) -> bool {
     bytes.starts_with(b"1 t") || bytes.starts_with(b"1 x") || bytes.starts_with(b"state ")
 }
 
+/// Returns whether these bytes are a program's text with a thread.
+pub fn is_whole_program(bytes: &[u8]) -> bool {
+    bytes
+        .split(|byte| *byte == b'\n')
+        .any(|line| line.trim_ascii_start().starts_with(b".thread"))
+}
+
 /// Whether bytes are UTF-16, by how they begin: with a mark, or with letters of two bytes.
 fn is_utf_16(bytes: &[u8]) -> bool {
     match bytes {

@@ -4,16 +4,22 @@
 //! the language has in place of a statement of other languages.
 #![tactic(auto)]
 
-// Names and words that are near to one.
+// What helps, as a line.
+pub mod hint;
+
+// Names and words that are near to one, and the form of a row.
 pub mod file_name;
+pub mod form;
 pub mod names;
+pub mod nearest;
 
 // What other languages have, and what a line, a word of a plan and a file may be.
 pub mod file_kind;
 pub mod java;
+pub mod line;
 pub mod meant;
+pub mod plan_line;
 pub mod plan_word;
 
 // What is asked for.
 pub mod sought;
-pub mod unshown;

@@ -1,17 +1,16 @@
-//! The names that a text gives, and what they name.
-
-ghost use Rattle.std.specs.Prelude.{◌≡◌, ◌⊎◌, ◌<◌, IfOk, Some};
+//! The names that a text gives, the words of the language, and which of them is near to a word.
 
 use crate::java::{METHODS, method_in, row_of};
-use instruction_table::{OperandKind, shape_of};
+use crate::line::word;
+use crate::nearest::Nearest;
+use instruction_table::OperandKind;
 use line_reader::directive::is_directive;
 use line_reader::label::{before_last, is_label};
-use line_reader::words::{before_comment, is_blank};
 use refusals::entries::tables;
 use refusals::table::directive::DIRECTIVES;
 use refusals::table::row::row_entry;
+use refusals::word::word_entry;
 use std::alloc::{AllocError, Global};
-use strsim::osa_distance;
 
 /// A name, and what has it.
 #[derive(Clone, Copy)]
@@ -33,45 +32,55 @@ pub fn called(kind: OperandKind) -> &'static str {
     }
 }
 
-/// What a directive declares.
-fn kind_declared(directive: &[u8]) -> OperandKind {
-    match directive {
-        b".phaser" => OperandKind::Phaser,
-        b".barrier" => OperandKind::Barrier,
-        b".thread" => OperandKind::Thread,
-        _ => OperandKind::Cell,
+/// Returns the letter that stands for a thing of this kind in the state, before its number.
+pub fn letter_of(kind: OperandKind) -> Option<&'static str> {
+    match kind {
+        OperandKind::Thread => Some("t"),
+        OperandKind::Phaser => Some("p"),
+        OperandKind::Barrier => Some("b"),
+        OperandKind::Cell => Some("c"),
+        OperandKind::Target | OperandKind::Register | OperandKind::Number => None,
     }
 }
 
 /// The name that a line gives, if it gives one: its label's, or that of what it declares.
 fn name_given(line: &[u8]) -> Option<Given<'_>> {
-    let mut words = before_comment(line)
-        .split(|byte| is_blank(*byte))
-        .filter(|word| !word.is_empty());
-    let first = words.next()?;
+    let first = word(line, 0)?;
     if is_label(first) {
         return Some(Given {
             name: before_last(first),
             kind: OperandKind::Target,
         });
     }
-    if is_directive(first) {
-        let name = words.next()?;
-        return Some(Given {
-            name,
-            kind: kind_declared(first),
-        });
+    if !is_directive(first) {
+        return None;
     }
-    None
+    Some(Given {
+        name: word(line, 1)?,
+        kind: match first {
+            b".phaser" => OperandKind::Phaser,
+            b".barrier" => OperandKind::Barrier,
+            b".thread" => OperandKind::Thread,
+            _ => OperandKind::Cell,
+        },
+    })
 }
 
-/// Returns the name that a line gives to something, if that is of this kind.
-pub fn name_of_kind(line: &[u8], kind: Option<OperandKind>) -> Option<&[u8]> {
-    let given = name_given(line)?;
-    match kind {
-        Some(kind) if kind != given.kind => None,
-        _ => Some(given.name),
+/// Returns the names that a text gives to things of a kind, or to all.
+pub fn names_in(
+    alloc: Global,
+    text: &[u8],
+    kind: Option<OperandKind>,
+) -> Result<Vec<&[u8]>, AllocError> {
+    let mut names = Vec::new(alloc);
+    for line in text.split(|byte| *byte == b'\n') {
+        if let Some(given) = name_given(line) {
+            if kind.is_none() || kind == Some(given.kind) {
+                names.push(given.name)?;
+            }
+        }
     }
+    Ok(names)
 }
 
 /// Returns the number of the first line that gives this name, from 1.
@@ -86,227 +95,91 @@ pub fn first_line(text: &[u8], name: &[u8]) -> Option<u64> {
     None
 }
 
-/// How far two words are from each other, in letters that are changed, left out, added, or have changed places.
-fn distance(alloc: Global, a: &[u8], b: &[u8]) -> Result<usize, AllocError> {
-    match (str::from_utf8(a), str::from_utf8(b)) {
-        (Ok(a), Ok(b)) => osa_distance(alloc, a, b),
-        _ => Ok(usize::MAX),
-    }
-}
-
-/// Returns how far two names are from each other, in whatever letters.
-pub fn distance_of_names(alloc: Global, a: &[u8], b: &[u8]) -> Result<usize, AllocError> {
-    let a = in_small_letters(alloc, a)?;
-    let b = in_small_letters(alloc, b)?;
-    distance(alloc, a.as_slice(), b.as_slice())
-}
-
-/// Returns the word in small letters.
-pub fn in_small_letters(alloc: Global, word: &[u8]) -> Result<Vec<u8>, AllocError> {
-    let mut small = Vec::new(alloc);
-    for byte in word {
-        small.push(byte.to_ascii_lowercase())?;
-    }
-    Ok(small)
-}
-
-/// The nearest word so far, and how far it is.
-#[derive(Clone, Copy)]
-struct Nearest {
-    word: Option<&'static str>,
-    far: usize,
-}
-
-impl Nearest {
-    /// None so far: to be near a word at all, more than half of its letters have to be right.
-    fn to(small: &[u8]) -> Nearest {
-        Nearest {
-            word: None,
-            far: small.len().div_ceil(2).min(3),
-        }
-    }
-
-    /// Returns this word if it is nearer.
-    fn or(self, alloc: Global, word: &'static str, small: &[u8]) -> Result<Nearest, AllocError> {
-        self.or_meant(alloc, word.as_bytes(), word, small)
-    }
-
-    /// Returns what a name means if the name is nearer than what was found before. Of names that are equally near, the first one
-    /// counts.
-    fn or_meant(
-        self,
-        alloc: Global,
-        name: &[u8],
-        meant: &'static str,
-        small: &[u8],
-    ) -> Result<Nearest, AllocError>
-        ensures nearer { IfOk result (λ found. (found ≡ self)
-            ⊎ ((found.word ≡ Some meant.entry) × (found.far < self.far))) }
-    {
-        let far = distance(alloc, name, small)?;
-        if far < self.far {
-            Ok(Nearest {
-                word: Some(meant),
-                far,
-            })
-        } else {
-            Ok(self)
-        }
-    }
-
-    /// Returns the word that asks for an entry by itself if it is nearer, in whatever letters.
-    fn or_asked(
-        self,
-        alloc: Global,
-        asked: &[&'static str],
-        small: &[u8],
-    ) -> Result<Nearest, AllocError> {
-        let [name] = asked else {
-            return Ok(self);
-        };
-        let spelt = in_small_letters(alloc, name.as_bytes())?;
-        self.or_meant(alloc, spelt.as_slice(), *name, small)
-    }
-}
-
 /// How many letters a method's name has at least that may be misspelt.
 const LEAST: usize = 5;
 
-/// Returns the row of the method of Java whose name is nearest to that of a call, or what was nearer before.
-fn or_method(alloc: Global, found: Nearest, word: &[u8]) -> Result<Nearest, AllocError> {
-    let called = in_small_letters(alloc, method_in(word))?;
-    let mut nearest = Nearest {
-        far: found.far.min(Nearest::to(called.as_slice()).far),
-        ..found
-    };
-    for (method, row) in &METHODS {
-        if method.len() >= LEAST {
-            nearest = nearest.or_meant(alloc, method.as_bytes(), *row, called.as_slice())?;
-        }
-    }
-    Ok(nearest)
-}
-
 /// Returns the row of a method of Java that has a letter of the rows before it, as in `parrive`.
-fn row_of_method_behind(alloc: Global, word: &[u8]) -> Result<Option<&'static str>, AllocError> {
+fn row_of_method_behind(word: &[u8]) -> Option<&'static str> {
     match word {
-        [b'p' | b'c' | b'b', method @ ..] if method.len() >= LEAST => row_of(alloc, method),
-        _ => Ok(None),
+        [b'p' | b'c' | b'b', method @ ..] if method.len() >= LEAST => row_of(method),
+        _ => None,
     }
 }
 
-/// The row whose word is nearest to this one, in small letters.
-fn nearest_row(alloc: Global, small: &[u8]) -> Result<Nearest, AllocError> {
-    let mut nearest = Nearest::to(small);
+/// Returns the word of the language that is nearest to this one: a row's, a directive's, or the row for a method of Java.
+pub fn nearest_word(alloc: Global, word: &[u8]) -> Result<Nearest<'static>, AllocError> {
+    if let Some(row) = row_of_method_behind(word) {
+        return Ok(Nearest {
+            meant: Some(row.as_bytes()),
+            far: 0,
+        });
+    }
+    let name = method_in(word);
+    let mut nearest = Nearest::to(name);
     for opcode in 0..=255 {
         if let Some(entry) = row_entry(opcode) {
-            nearest = nearest.or(alloc, entry.word, small)?;
+            nearest = nearest.or(alloc, entry.word.as_bytes(), entry.word.as_bytes(), name)?;
+        }
+    }
+    for directive in &DIRECTIVES {
+        let directive = (*directive).as_bytes();
+        nearest = nearest.or(alloc, method_in(directive), directive, name)?;
+    }
+    for (methods, row) in &METHODS {
+        for method in methods.split_ascii_whitespace() {
+            if method.len() >= LEAST {
+                nearest = nearest.or(alloc, method.as_bytes(), row.as_bytes(), name)?;
+            }
         }
     }
     Ok(nearest)
 }
 
-/// The row or the directive whose word is nearest to this one, in small letters.
-fn nearest_statement(alloc: Global, small: &[u8]) -> Result<Nearest, AllocError> {
-    let mut nearest = nearest_row(alloc, small)?;
-    for directive in &DIRECTIVES {
-        nearest = nearest.or(alloc, *directive, small)?;
-    }
-    Ok(nearest)
-}
-
-/// The row of a method of Java, which may have a letter of the rows before it.
-fn row_of_method(alloc: Global, word: &[u8]) -> Result<Option<&'static str>, AllocError> {
-    match row_of(alloc, word)? {
-        Some(row) => Ok(Some(row)),
-        None => row_of_method_behind(alloc, word),
-    }
-}
-
-/// Returns the other word of the language that is nearest to this one, if it is near: more than half of its letters are right.
-/// A method of Java's is nearest to its row, also if it is misspelt.
-pub fn nearest_word(alloc: Global, word: &[u8]) -> Result<Option<&'static str>, AllocError> {
-    if word == b".run".as_slice() {
-        return Ok(None);
-    }
-    if let Some(row) = row_of_method(alloc, word)? {
-        return Ok(Some(row));
-    }
-    let small = in_small_letters(alloc, word)?;
-    let nearest = nearest_statement(alloc, small.as_slice())?;
-    Ok(or_method(alloc, nearest, word)?.word)
-}
-
-/// Returns the nearest word that asks for an entry by itself, if it is near.
-pub fn nearest_asked(alloc: Global, word: &[u8]) -> Result<Option<&'static str>, AllocError> {
-    let small = in_small_letters(alloc, word)?;
-    let mut nearest = Nearest::to(small.as_slice());
+/// Returns the word that asks for an entry, or begins a line of the language, and is nearest to this one.
+pub fn nearest_question(alloc: Global, word: &[u8]) -> Result<Nearest<'static>, AllocError> {
+    let mut nearest = nearest_word(alloc, word)?;
     for table in tables().iter() {
         for entry in table.iter() {
             for asked in entry.asked.iter() {
-                nearest = nearest.or_asked(alloc, *asked, small.as_slice())?;
+                if let [name] = *asked {
+                    nearest = nearest.or(alloc, name.as_bytes(), name.as_bytes(), word)?;
+                }
             }
         }
     }
-    Ok(nearest.word)
+    Ok(nearest)
 }
 
-/// What `.phaser` may say after a name and the parties, and what is meant by it: `.barrier` has an action.
-static OF_PHASER: [(&str, &str); 6] = [
-    ("never", "never"),
-    ("onadvance", "onadvance"),
-    ("parent", "parent"),
-    ("phase", "phase"),
-    ("until", "until"),
-    ("action", "onadvance"),
-];
+fn form_of(directive: &str) -> &'static [u8] {
+    word_entry(directive).map_or(b"", |entry| entry.form.as_bytes())
+}
 
-/// What `.barrier` may say after a name and the parties, and what is meant by what only `.phaser` may say.
-static OF_BARRIER: [(&str, &str); 2] = [("action", "action"), ("onadvance", "action")];
+/// Returns whether a directive has this word as an option, or as its name without the dot.
+pub fn has_option(directive: &str, word: &[u8]) -> bool {
+    !word.is_empty()
+        && form_of(directive)
+            .split(|byte| !byte.is_ascii_lowercase())
+            .any(|option| option == word)
+}
 
-/// Returns the option of a directive that is nearest to this word, if it is near. The directive's own option in the wrong place is
-/// right by itself.
+/// Returns the option of a directive that is nearest to this word, if another one is near. `action` and `onadvance` mean each other
+/// where only the other one may be said.
 pub fn nearest_option(
     alloc: Global,
-    directive: &[u8],
+    directive: &str,
     word: &[u8],
-) -> Result<Option<&'static str>, AllocError> {
-    let options: &[(&'static str, &'static str)] = if directive == b".barrier".as_slice() {
-        &OF_BARRIER
+) -> Result<Option<&'static [u8]>, AllocError> {
+    let mut nearest = Nearest::to(word);
+    for option in form_of(directive)
+        .split(|byte| !byte.is_ascii_lowercase())
+        .skip(2)
+    {
+        nearest = nearest.or(alloc, option, option, word)?;
+    }
+    let nearest = if has_option(directive, b"action") {
+        nearest.or(alloc, b"onadvance", b"action", word)?
     } else {
-        &OF_PHASER
+        nearest.or(alloc, b"action", b"onadvance", word)?
     };
-    let small = in_small_letters(alloc, word)?;
-    let mut nearest = Nearest::to(small.as_slice());
-    for (option, meant) in options {
-        nearest = nearest.or_meant(alloc, option.as_bytes(), *meant, small.as_slice())?;
-    }
-    Ok(nearest.word.filter(|meant| meant.as_bytes() != word))
-}
-
-/// Returns whether a row or a directive has this word.
-pub fn is_word_of_the_language(word: &[u8]) -> bool {
-    shape_of(word).is_some() || is_directive(word)
-}
-
-/// Returns the name of the text that is nearest to this one, if it is near, in whatever letters. If something of one kind is needed,
-/// it is the name of such a thing.
-pub fn nearest_name<'a>(
-    alloc: Global,
-    text: &'a [u8],
-    needed: Option<OperandKind>,
-    name: &[u8],
-) -> Result<Option<&'a [u8]>, AllocError> {
-    let mut found: Option<&'a [u8]> = None;
-    let mut least = 3;
-    for line in text.split(|byte| *byte == b'\n') {
-        if let Some(given) = name_of_kind(line, needed) {
-            let far = distance_of_names(alloc, given, name)?;
-            if far < least && far < name.len() {
-                found = Some(given);
-                least = far;
-            }
-        }
-    }
-    Ok(found)
+    Ok(nearest.meant.filter(|meant| *meant != word))
 }

@@ -1,5 +1,5 @@
 -- A replay of one choice more.
-use Rattle.std.proofs.Common.{◌≡◌, ◌+◌, ◌*◌, ◌<◌, ◌≤◌, ℕ, true, List, [], ◌∷◌, ◌++◌, length, sym, subst, arith, length-append}
+use Rattle.std.proofs.Common.{◌≡◌, ◌+◌, ◌*◌, ◌<◌, ◌≤◌, ℕ, true, List, [], ◌∷◌, ◌++◌, length, ◌∙◌, ap, append_assoc, sym, subst, arith, length-append}
 use Rattle.std.specs.Prelude.{All, Option, Some, None}
 use Rattle.std.proofs.lemmas.List.Elements.{All-push}
 use Rattle.loader.specs.Program.{Program}
@@ -14,7 +14,9 @@ use Rattle.schedule_reader.specs.Schedule.{choices_of, finished_schedule}
 use Rattle.schedule_reader.specs.Record.{IsNamed, record_text}
 use Rattle.schedule_reader.proofs.Records.{choices-once, record-few, record-read}
 use Rattle.thread_runner.specs.Recording.{Recording, recording_of, with_choice}
-use Rattle.thread_runner.specs.Replay.{IsReplay, IsRecordOf}
+use Rattle.thread_runner.specs.Replay.{HasKept, IsReplay, IsRecordOf}
+use Rattle.thread_runner.specs.declared.fault.LiveFault.{LiveFault}
+use Rattle.thread_runner.specs.declared.fault.LiveFault.TheVariants as fault
 use Rattle.thread_runner.specs.Turns.{IsDue, AreDue}
 
 -- what a choice leaves as it was, and what it counts
@@ -100,3 +102,9 @@ due_at [] world choice rest accepted due = due.0
 due_at (first ∷ before) world choice rest accepted due =
     at_by (refusal_of world first) world first before (before ++ choice ∷ rest) choice accepted
     (λ later. due_at before (played world first).world choice rest later due.1)
+
+-- what has all choices of a longer record has those of its beginning
+pub kept_more : (a b : Recording) (more : List Choice) → b.choices ≡ a.choices ++ more → (f : LiveFault) → HasKept b f → HasKept a f
+kept_more a b more is (fault.Memory schedule) (rest, kept) =
+    (more ++ rest, kept ∙ ap (λ l. l ++ rest) is ∙ append_assoc a.choices more rest)
+kept_more a b more is fault.Spawn kept = tt

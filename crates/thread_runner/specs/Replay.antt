@@ -1,9 +1,10 @@
 -- What is true of every record, and of its text.
-use Rattle.std.specs.Prelude.{◌≡◌, ◌≤◌, ℕ, All, List, length, None}
+use Rattle.std.specs.Prelude.{◌≡◌, ◌≤◌, ◌++◌, ℕ, All, List, length, None}
+use Rattle.thread_machine.specs.declared.choice.Choice.{Choice}
 use Rattle.thread_machine.specs.World.{World}
 use Rattle.thread_machine.specs.Execution.{execution}
 use Rattle.schedule_reader.specs.Record.{IsNamed, record_text}
-use Rattle.schedule_reader.specs.Schedule.{finished_schedule}
+use Rattle.schedule_reader.specs.Schedule.{choices_of, finished_schedule}
 use Rattle.thread_runner.specs.declared.fault.LiveFault.{LiveFault}
 use Rattle.thread_runner.specs.declared.fault.LiveFault.TheVariants as fault
 use Rattle.thread_runner.specs.Recording.{Recording, recording_of, recorded_world}
@@ -31,6 +32,12 @@ pub record IsRecordOf (first : World) (text : List ℕ) (world : World) : Type 0
   pub text_is : text ≡ record_text (recording_of first text).choices
   pub named : All IsNamed (recording_of first text).choices
   pub replay : IsReplayOfText first text world
+
+-- out of memory, it left all choices of this record, and perhaps more behind them
+abbrev pub HasKept : Recording → LiveFault → Type 0
+HasKept recording (fault.Memory schedule) =
+    (more : List Choice) × (choices_of (finished_schedule schedule.items).runs ≡ recording.choices ++ more)
+HasKept recording fault.Spawn = Unit {0}
 
 -- what a run that was broken off left: out of memory, the record of what was played until then
 abbrev pub HasLeft : World → LiveFault → Type 0

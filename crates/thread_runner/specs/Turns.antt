@@ -1,6 +1,6 @@
 -- Which choice a thread may make by itself: its turn if it is ready, or the expiry of its wait if this wait is due. A wait is
 -- due if no thread is ready, and no thread with a lower number has a wait that can expire.
-use Rattle.std.specs.Prelude.{◌≡◌, ℕ, Bool, true, false, not, ◌&&◌, ◌||◌, List, [], ◌∷◌, length}
+use Rattle.std.specs.Prelude.{◌≡◌, ◌<◌, ℕ, Bool, true, false, not, ◌&&◌, ◌||◌, List, [], ◌∷◌, length}
 use Rattle.std.specs.List.{list_any, range_with_len}
 use Rattle.machine_scene.specs.Outcomes.{is_ready}
 use Rattle.thread_machine.specs.declared.choice.Choice.{Choice}
@@ -39,7 +39,11 @@ is_due world t = can_expire_in world t && (not (some_turn world) && not (some_lo
 abbrev pub may_choose : World → ℕ → Bool
 may_choose world t = is_ready_in world t || is_due world t
 
--- it
+-- it is the lowest that has one
+abbrev pub IsNext : World → ℕ → Type 0
+IsNext world t = (may_choose world t ≡ true) × ((k : ℕ) → k < t → may_choose world k ≡ false)
+
+-- the choice that it has to make
 abbrev pub choice_in : World → ℕ → Choice
 choice_in world t = record { thread = t; expiry = not (is_ready_in world t) }
 

@@ -1,5 +1,7 @@
 -- When the worker of a thread waits, and when it stops.
-use Rattle.std.specs.Prelude.{ℕ, Bool, not, ◌&&◌, ◌||◌, Option, is_some}
+use Rattle.std.specs.Prelude.{ℕ, Bool, not, ◌&&◌, ◌||◌, length, Option, is_some}
+use Rattle.std.specs.List.{list_any, range_with_len}
+use Rattle.cyclic_barrier.specs.ThreadSet.{has}
 use Rattle.thread_state.specs.Thread.{is_finished}
 use Rattle.machine_scene.specs.Scene.{thread_at}
 use Rattle.thread_machine.specs.World.{World}
@@ -18,3 +20,11 @@ leaves broken world t = is_some broken || (is_over world || has_finished world t
 -- its worker waits: it doesn't stop, and its thread has no choice to make
 abbrev pub waits : Option Break → World → ℕ → Bool
 waits broken world t = not (leaves broken world t) && not (may_choose world t)
+
+-- it was last found to wait, and needn't any longer
+abbrev pub wakes : Option Break → World → (sleepers : ℕ) → ℕ → Bool
+wakes broken world sleepers t = has sleepers t && not (waits broken world t)
+
+-- that is so of some worker
+abbrev pub some_wakes : Option Break → World → (sleepers : ℕ) → Bool
+some_wakes broken world sleepers = list_any (wakes broken world sleepers) (range_with_len 0 (length world.scene.threads))

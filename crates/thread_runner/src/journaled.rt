@@ -1,11 +1,11 @@
-ghost use Rattle.std.specs.Prelude.{◌≡◌, ◌≢◌, ◌↔◌, ◌+◌, ◌*◌, ◌<◌, ◌≤◌, ◌++◌, ◌∷◌, [], length, IfOk, IfErr, OnOk, OnErr, Err, true, false, Some, None};
+ghost use Rattle.std.specs.Prelude.{◌≡◌, ◌≢◌, ◌↔◌, ℕ, ◌+◌, ◌*◌, ◌<◌, ◌≤◌, ◌++◌, ◌∷◌, [], length, IfOk, IfErr, OnOk, OnErr, Err, true, false, Some, None};
 ghost use Rattle.thread_machine.specs.World.{world_of, first_world};
 ghost use Rattle.thread_machine.specs.Ready.{is_choice_ready};
 ghost use Rattle.thread_machine.specs.Step.{played};
 ghost use Rattle.schedule_reader.specs.Schedule.{choices_of, finished_schedule};
 ghost use Rattle.schedule_reader.specs.Record.{record_text};
 ghost use Rattle.thread_runner.specs.Recording.{recorded_world, begun, recording_of, with_choice};
-ghost use Rattle.thread_runner.specs.Turns.{turn_of, expiry_of, choice_in, is_ready_in, can_expire_in, is_due, may_choose, some_turn, some_lower, IsDue};
+ghost use Rattle.thread_runner.specs.Turns.{turn_of, expiry_of, choice_in, is_ready_in, can_expire_in, is_due, may_choose, some_turn, some_lower, IsDue, IsNext};
 ghost use Rattle.thread_runner.specs.Replay.{IsRecordOf, IsReplay};
 ghost use Rattle.thread_runner.specs.Endings.{ending_of};
 ghost use Rattle.thread_runner.specs.Waiting.{has_finished};
@@ -135,7 +135,7 @@ impl Journaled {
     }
 
     /// A law: there are at most 64 threads, and as many as at first. Nothing of it is used.
-    fn has_few_threads(&self)
+    pub(crate) fn has_few_threads(&self)
         ensures few { length self.now.first.scene.threads ≤ 64 }
         ensures now { length (recorded_world self.now).scene.threads ≡ length self.now.first.scene.threads }
     {
@@ -208,6 +208,8 @@ impl Journaled {
         requires { ending_of (recorded_world self.old) ≡ None }
         ensures first { self.new.first ≡ self.old.first }
         ensures more { OnOk result (length self.new.choices ≡ length self.old.choices + 1) }
+        ensures recorded { OnOk result ((t : ℕ) × (IsNext (recorded_world self.old) t
+            × (self.new ≡ with_choice (choice_in (recorded_world self.old) t) self.old))) }
         ensures memory { IfErr result (λ fault. fault ≡ TakeFault.Memory) }
         ensures err { OnErr result (self.new ≡ self.old) }
     {

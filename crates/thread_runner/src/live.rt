@@ -2,7 +2,8 @@ ghost use Rattle.std.specs.Prelude.{◌≡◌, ◌⊎◌, ◌<◌, length, true,
 ghost use Rattle.thread_machine.specs.World.{World};
 ghost use Rattle.thread_runner.specs.Recording.{recorded_world, with_choice, no_world};
 ghost use Rattle.thread_runner.specs.Turns.{choice_in};
-ghost use Rattle.thread_runner.specs.Waiting.{leaves, waits};
+ghost use Rattle.machine_scene.specs.ReadySet.{IsSetAt};
+ghost use Rattle.thread_runner.specs.Waiting.{leaves, some_wakes, waits, wakes};
 
 use crate::fault::TakeFault;
 use crate::journaled::Journaled;
@@ -38,12 +39,26 @@ pub struct Live<O: Origin> {
     pub ghost begins: { journaled.first ≡ O.first },
 }
 
+/// The set with this thread, or without it: bit `n` is thread `n`.
+#[tactic(auto, using(machine_scene::proofs::ThreadSets::set_at))]
+fn set_at(set: u64, thread: u8, within: bool) -> u64
+    requires { thread < 64 }
+    ensures { IsSetAt thread within set result }
+{
+    if within {
+        set | (1 << thread)
+    } else {
+        set & !(1 << thread)
+    }
+}
+
 impl<O: Origin> Live<O> {
     /// Makes a run that nobody has broken off.
     pub fn new(journaled: Journaled) -> Live<O>
         requires { journaled.first ≡ O.first }
         ensures journaled { result.journaled ≡ journaled }
         ensures broken { result.broken ≡ None }
+        ensures sleepers { result.sleepers ≡ 0 }
     {
         Live {
             journaled,
@@ -75,23 +90,31 @@ impl<O: Origin> Live<O> {
     pub fn falls_asleep(&mut self, thread: u8) -> bool
         requires { thread < length O.first.scene.threads }
         ensures waits { result ≡ waits self.old.broken (recorded_world self.old.journaled) thread }
+        ensures sleepers { IsSetAt thread result self.old.sleepers self.new.sleepers }
         ensures journaled { self.new.journaled ≡ self.old.journaled }
         ensures broken { self.new.broken ≡ self.old.broken }
     {
+        self.journaled.has_few_threads();
         let waits = self.waits(thread);
-        let worker = 1u64 << (thread & 63);
-        if waits {
-            self.sleepers |= worker;
-        } else {
-            self.sleepers &= !worker;
-        }
+        self.sleepers = set_at(self.sleepers, thread, waits);
         waits
     }
 
+    /// Returns whether the worker of a thread was last found to wait, and needn't wait any longer.
+    fn wakes(&self, thread: u8) -> bool
+        requires { thread < length O.first.scene.threads }
+        ensures { result ≡ wakes self.now.broken (recorded_world self.now.journaled) self.now.sleepers thread }
+    {
+        self.journaled.has_few_threads();
+        (self.sleepers >> thread) & 1 == 1 && !self.waits(thread)
+    }
+
     /// Returns whether one of the waiting workers needn't wait any longer.
-    pub fn some_wakes(&self) -> bool {
+    pub fn some_wakes(&self) -> bool
+        ensures { result ≡ some_wakes self.now.broken (recorded_world self.now.journaled) self.now.sleepers }
+    {
         for thread in 0..self.journaled.thread_count() {
-            if self.sleepers >> (thread as u32 & 63) & 1 == 1 && !self.waits(thread as u8) {
+            if self.wakes(thread as u8) {
                 return true;
             }
         }
@@ -110,6 +133,7 @@ impl<O: Origin> Live<O> {
         ensures stops { result ≡ false → (self.new.journaled ≡ self.old.journaled)
             × (((leaves self.old.broken (recorded_world self.old.journaled) thread ≡ true)
             × (self.new.broken ≡ self.old.broken)) ⊎ (self.new.broken ≡ Some Break.Memory)) }
+        ensures sleepers { self.new.sleepers ≡ self.old.sleepers }
     {
         if self.leaves(thread) {
             return false;
@@ -130,6 +154,7 @@ impl<O: Origin> Live<O> {
         ensures broken { is_some self.new.broken ≡ true }
         ensures before { is_some self.old.broken ≡ true → self.new.broken ≡ self.old.broken }
         ensures none { self.old.broken ≡ None → self.new.broken ≡ Some Break.Spawn }
+        ensures sleepers { self.new.sleepers ≡ self.old.sleepers }
     {
         if self.broken.is_none() {
             self.broken = Some(Break::Spawn);

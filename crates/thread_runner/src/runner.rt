@@ -1,9 +1,10 @@
-ghost use Rattle.std.specs.Prelude.{◌≡◌, ◌≢◌, ◌↔◌, ◌*◌, ◌<◌, ◌≤◌, length, IfErr, IfOk, Err, Some};
+ghost use Rattle.std.specs.Prelude.{◌≡◌, ◌≢◌, ◌↔◌, ◌*◌, ◌<◌, ◌≤◌, length, is_some, IfErr, IfOk, Err, Some, true};
 ghost use Rattle.std.specs.Thread.{IsSend, IsSync};
+ghost use Rattle.cyclic_barrier.specs.ThreadSet.{has};
 ghost use Rattle.thread_machine.specs.World.{world_of, first_world};
 ghost use Rattle.thread_runner.specs.declared.live.Break.{Break};
 ghost use Rattle.thread_runner.specs.Recording.{recorded_world};
-ghost use Rattle.thread_runner.specs.Replay.{HasLeft, IsRecordOf};
+ghost use Rattle.thread_runner.specs.Replay.{HasKept, HasLeft, IsRecordOf};
 ghost use Rattle.thread_runner.specs.Endings.{ending_of};
 ghost use Rattle.thread_runner.specs.Waiting.{waits};
 
@@ -56,8 +57,9 @@ fn work<O: Origin, R: Wait, G: Gate>(
             lock.lock(rt),
             |live| -> bool
                 requires { thread < length O.first.scene.threads }
-                ensures { (result ≡ waits live.old.broken (recorded_world live.old.journaled) thread)
+                ensures waits { (result ≡ waits live.old.broken (recorded_world live.old.journaled) thread)
                     × (live.new.journaled ≡ live.old.journaled) × (live.new.broken ≡ live.old.broken) }
+                ensures noted { has live.new.sleepers thread ≡ result }
             { live.falls_asleep(thread) },
         );
         let goes_on = live.turn(thread);
@@ -71,11 +73,19 @@ fn work<O: Origin, R: Wait, G: Gate>(
     }
 }
 
+/// Wakes all workers of a run that is broken off, so that they stop.
+fn stop_all<O: Origin>(live: &Live<O>, changed: &Condvar)
+    requires broken { is_some live.now.broken ≡ true }
+{
+    let _ = live;
+    changed.notify_all();
+}
+
 /// Notes under the lock that a thread could not be started, so that all workers stop.
 fn refuse<O: Origin, R: Wait>(rt: &R, lock: &Mutex<Live<O>>, changed: &Condvar) {
     let mut live = lock.lock(rt);
     live.refuse();
-    changed.notify_all();
+    stop_all(&live, changed);
     drop(live);
 }
 
@@ -115,6 +125,7 @@ fn play_on(mut journaled: Journaled) -> Result<(Journaled, Ending), LiveFault>
     ensures first { IfOk result (λ both. both.0.first ≡ journaled.first) }
     ensures ending { IfOk result (λ both. ending_of (recorded_world both.0) ≡ Some both.1) }
     ensures left { IfErr result (HasLeft journaled.first) }
+    ensures kept { IfErr result (HasKept journaled) }
     ensures spawn { result ≢ Err LiveFault.Spawn }
 {
     loop {
@@ -122,8 +133,9 @@ fn play_on(mut journaled: Journaled) -> Result<(Journaled, Ending), LiveFault>
             return Ok((journaled, ending));
         }
         journaled.each_record_is_a_replay();
-        if journaled.take_next().is_err() {
-            return Err(out_of_memory(journaled));
+        match journaled.take_next() {
+            Ok(_) => {}
+            Err(_) => return Err(out_of_memory(journaled)),
         }
     }
 }
@@ -131,6 +143,7 @@ fn play_on(mut journaled: Journaled) -> Result<(Journaled, Ending), LiveFault>
 /// Returns the fault of a run that ran out of memory.
 fn out_of_memory(journaled: Journaled) -> LiveFault
     ensures left { HasLeft journaled.first result }
+    ensures kept { HasKept journaled result }
     ensures spawn { result ≢ LiveFault.Spawn }
 {
     let (schedule, _) = journaled.into_parts();
@@ -142,6 +155,7 @@ fn end<O: Origin>(live: Live<O>) -> Result<(Journaled, Ending), LiveFault>
     ensures first { IfOk result (λ both. both.0.first ≡ O.first) }
     ensures ending { IfOk result (λ both. ending_of (recorded_world both.0) ≡ Some both.1) }
     ensures left { IfErr result (HasLeft O.first) }
+    ensures kept { IfErr result (HasKept live.journaled) }
     ensures spawn { (result ≡ Err LiveFault.Spawn) ↔ (live.broken ≡ Some Break.Spawn) }
 {
     match live.broken {

@@ -72,7 +72,7 @@ told_so first last choices None world_is is = ap (option_map (refusal_in last)) 
 told_so first last choices (Some refused) world_is is =
     let there = refused_there choices first refused is in
     let line = refused_line last refused.choice refused.why (ap (λ (w : World). refusal_of w refused.choice) world_is ∙ there) in
-    ap (λ text. Some (record { line = text; choice = refused.choice; why = refused.why })) line ∙ ap (option_map (refusal_in last)) is
+    ap (λ text. Some (record { number = last.choices + 1; line = text; choice = refused.choice; why = refused.why })) line ∙ ap (option_map (refusal_in last)) is
 
 -- the lines, and then the state that they leave
 traced_by : (end : RunEnd) (first last : World) (choices : List Choice) (refused : Option Refused) (old between new : Option (List ℕ))

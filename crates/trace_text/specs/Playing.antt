@@ -34,7 +34,12 @@ row_of world choice =
 -- what is reported of a choice if it is refused in this world
 abbrev pub told_as : World → Refused → Refusal
 told_as world refused =
-    record { line = refusal_text (world.choices + 1) refused.choice (row_of world refused.choice); choice = refused.choice; why = refused.why }
+    record {
+      number = world.choices + 1;
+      line = refusal_text (world.choices + 1) refused.choice (row_of world refused.choice);
+      choice = refused.choice;
+      why = refused.why;
+    }
 
 -- whatever was played before, with these choices it is all played
 abbrev pub PlaysOn : World → World → Option Refused → Option Refused → List Choice → Option (List ℕ) → Option (List ℕ) → Type 0

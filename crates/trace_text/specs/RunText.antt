@@ -1,5 +1,5 @@
 -- What a run returns and writes if its schedule comes as a stream.
-use Rattle.std.specs.Prelude.{◌≡◌, ◌⊎◌, ◌≤◌, ℕ, List, [], ◌∷◌, ◌++◌, length, Option, Some, None, option_map}
+use Rattle.std.specs.Prelude.{◌≡◌, ◌⊎◌, ◌≤◌, ◌+◌, ℕ, List, [], ◌∷◌, ◌++◌, length, Option, Some, None, option_map}
 use Rattle.std.specs.Io.KnownBytes.{Appends, Consumes, IsAtEnd}
 use Rattle.schedule_reader.specs.declared.fault.ScheduleFault.{ScheduleFault}
 use Rattle.schedule_reader.specs.declared.run.Run.{Run}
@@ -14,10 +14,15 @@ use Rattle.trace_text.specs.declared.run_end.RunEnd.{RunEnd}
 use Rattle.trace_text.specs.State.{state_text}
 use Rattle.trace_text.specs.Trace.{lines_of, refused_of, trace_of}
 
--- what is reported of a choice that is refused in this world, with its line
+-- what is reported of a choice that is refused in this world, with its number and its line
 abbrev pub refusal_in : World → Refused → Refusal
 refusal_in world refused =
-    record { line = lines_of world (refused.choice ∷ []); choice = refused.choice; why = refused.why }
+    record {
+      number = world.choices + 1;
+      line = lines_of world (refused.choice ∷ []);
+      choice = refused.choice;
+      why = refused.why;
+    }
 
 -- choices were executed to this end: the word for the program's state, the text of its state, and the choice that was refused,
 -- if one was

@@ -17,6 +17,8 @@ use thread_machine::{Choice, Machine, Standing, StepFault};
 /// The refused choice that ended a run.
 #[derive(Drop)]
 pub struct Refusal {
+    /// Its number, from 1.
+    pub number: u64,
     /// Its line, with its LF: the last before the state.
     pub line: LineEnd,
     pub choice: Choice,
@@ -50,13 +52,15 @@ fn told(machine: &Machine, refused: Refused) -> Refusal
     ensures { result ≡ told_as (world_of machine.now) refused }
 {
     let mut line = LineEnd::new();
+    let number = machine.choices() + 1;
     put_refusal(
         &mut line,
-        machine.choices() + 1,
+        number,
         refused.choice,
         row_of(machine, refused.choice),
     );
     Refusal {
+        number,
         line,
         choice: refused.choice,
         why: refused.why,

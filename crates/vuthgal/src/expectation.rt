@@ -6,28 +6,20 @@ ghost use Rattle.vuthgal.specs.Expectation.{are_as_expected, done_by};
 use assembler::Symbols;
 use byte_ports::{Failed, Sink, WritePort};
 use command_line::ports::printable;
-use fault_reports::explaining::is_explained;
-use fault_reports::unlike::push_unmet_help;
-use instruction_table::OperandKind;
+use fault_reports::report::{Report, Reported};
 use itoa::Buffer;
+use refusals::entry::push_pieces;
 use std::alloc::{AllocError, Global};
-use suggestions::names::nearest_name;
+use suggestions::hint::{Hint, near};
+use suggestions::names::{letter_of, names_in};
+use suggestions::nearest::nearest_of;
+use thread_machine::Standing;
 use trace_text::RunEnd;
-use trace_text::form::{end_words, subject_of, words_of};
+use trace_text::form::{end_words, subject_of};
 use trace_text::meeting::{is_end_expected, is_met};
 use trace_text::state_line::{has_died, line_of};
 use workbench::done::Done;
-
-/// The letter with which the lines of such things begin, if they have lines.
-fn letter_of(kind: OperandKind) -> Option<&'static [u8]> {
-    match kind {
-        OperandKind::Thread => Some(b"t"),
-        OperandKind::Phaser => Some(b"p"),
-        OperandKind::Barrier => Some(b"b"),
-        OperandKind::Cell => Some(b"c"),
-        _ => None,
-    }
-}
+use workbench::fault::Fault;
 
 /// Appends the word that begins the line of what has this name, or the name itself if nothing has it. A declared name goes
 /// before a number, so `t0` is thread 0 only if nothing else has this name.
@@ -38,7 +30,7 @@ fn push_subject(text: &mut Vec<u8>, symbols: &Symbols<'_>, name: &[u8]) -> Resul
         };
         if symbol.name == name {
             if let Some(letter) = letter_of(symbol.kind) {
-                text.extend_from_slice(letter)?;
+                text.extend_from_slice(letter.as_bytes())?;
                 return text.extend_from_slice(Buffer::new().format(symbol.number).as_bytes());
             }
         }
@@ -46,27 +38,39 @@ fn push_subject(text: &mut Vec<u8>, symbols: &Symbols<'_>, name: &[u8]) -> Resul
     text.extend_from_slice(name)
 }
 
-/// Returns what is expected, with numbers instead of names.
-fn numbered(alloc: Global, symbols: &Symbols<'_>, text: &[u8]) -> Result<Vec<u8>, AllocError> {
+/// Returns what is expected, with numbers instead of names, and one blank between words.
+fn numbered(alloc: Global, symbols: &Symbols<'_>, text: &str) -> Result<Vec<u8>, AllocError> {
     let mut numbered = Vec::new(alloc);
-    if end_words(text).is_some() {
-        numbered.extend_from_slice(text)?;
-    } else {
-        push_subject(&mut numbered, symbols, subject_of(text))?;
-        numbered.extend_from_slice(words_of(text))?;
+    let mut is_first = true;
+    for word in text.split_ascii_whitespace() {
+        if !is_first {
+            numbered.push(b' ')?;
+            numbered.extend_from_slice(word.as_bytes())?;
+        } else if end_words(text.as_bytes()).is_some() {
+            numbered.extend_from_slice(word.as_bytes())?;
+        } else {
+            push_subject(&mut numbered, symbols, word.as_bytes())?;
+        }
+        is_first = false;
     }
     Ok(numbered)
 }
 
 /// Returns what is expected of a run of a program with these names, by the numbers of its objects.
 pub fn expectations(
-    alloc: Global,
+    report: &Report<'_>,
     names: &Symbols<'_>,
     texts: &[&str],
-) -> Result<Vec<Vec<u8>>, AllocError> {
-    let mut expected = Vec::new(alloc);
+) -> Result<Vec<Vec<u8>>, Reported> {
+    let mut expected = Vec::new(report.alloc());
     for text in texts {
-        expected.push(numbered(alloc, names, text.as_bytes())?)?;
+        let is_pushed = match numbered(report.alloc(), names, *text) {
+            Ok(numbered) => expected.push(numbered).is_ok(),
+            Err(_) => false,
+        };
+        if !is_pushed {
+            return Err(report.fault(Fault::Memory));
+        }
     }
     Ok(expected)
 }
@@ -104,87 +108,80 @@ fn line_against<'a>(state: &'a [u8], text: &[u8]) -> Option<&'a [u8]> {
     line_of(state, b"state")
 }
 
-/// Says which name of the program is nearest to the name in a text, if nothing has that name.
-fn push_near<E: Sink>(alloc: Global, errors: &mut E, program: &[u8], text: &[u8]) {
-    if end_words(subject_of(text)).is_some() {
-        return;
-    }
-    if let Ok(Some(name)) = nearest_name(alloc, program, None, subject_of(text)) {
-        let _ = errors.push(b"  Near:    ");
-        let _ = errors.push(name);
-        let _ = errors.push(b"\n");
-    }
-}
-
-/// Adds the seed of a run, if its order has one, as plans have it.
-fn push_seed<E: Sink>(errors: &mut E, seed: Option<u64>) -> Result<(), Failed> {
-    if let Some(seed) = seed {
-        errors.push(b"?")?;
-        errors.push(Buffer::new().format(seed).as_bytes())?;
-        errors.push(b" ")?;
-    }
-    Ok(())
-}
-
-/// Adds what is expected, and what stands in its place.
-fn push_unmet<E: Sink>(
-    errors: &mut E,
-    text: &[u8],
-    seed: Option<u64>,
-    line: &[u8],
-) -> Result<(), Failed> {
-    errors.push(b"expected ")?;
-    errors.push(text)?;
-    errors.push(b": ")?;
-    push_seed(errors, seed)?;
-    errors.push(line)?;
-    errors.push(b"\n")
-}
-
-/// A line without its end.
-fn without_end(line: &[u8]) -> &[u8] {
-    line.strip_suffix(b"\n").unwrap_or(line)
-}
-
-/// Adds each text that isn't met, with the line that says otherwise.
+/// Adds each text that isn't met, with the seed of the run, if its order has one, and the line that says otherwise.
 fn push_all_unmet<E: Sink>(
     errors: &mut E,
     expected: &[Vec<u8>],
     seed: Option<u64>,
     end: &RunEnd,
 ) -> Result<(), Failed> {
-    for text in expected {
-        let text = text.as_slice();
-        if is_end_expected(end, text) {
-            continue;
-        }
+    for text in expected
+        .iter()
+        .filter(|text| !is_end_expected(end, text.as_slice()))
+    {
         let line = match &end.refused {
-            Some(refused) => without_end(refused.line.as_slice()),
-            None => line_against(end.state.as_slice(), text).unwrap_or(b"no such line"),
+            Some(refused) => refused.line.as_slice().trim_ascii_end(),
+            None => line_against(end.state.as_slice(), text.as_slice()).unwrap_or(b"no such line"),
         };
-        push_unmet(errors, text, seed, line)?;
+        push_pieces(errors, &[b"expected ", text.as_slice(), b": "])?;
+        if let Some(seed) = seed {
+            push_pieces(errors, &[b"?", Buffer::new().format(seed).as_bytes(), b" "])?;
+        }
+        push_pieces(errors, &[line, b"\n"])?;
     }
     Ok(())
 }
 
-/// Reports what differs from what was expected at the end of a run, whose order may have a seed: a line for each, and at a
-/// terminal which name may have been meant, and what helps.
-pub fn tell_unmet(
-    rt: &HostRuntime,
+/// What helps if a run ended so, and something else was expected of it.
+fn helps_at_end(standing: Standing, has_seed: bool) -> &'static str {
+    match standing {
+        _ if has_seed => "`vuthgal draw FILE --plan '?SEED'` draws the run of this seed",
+        Standing::Live => "more choices, as `..` at the end of a plan, or `--expect live`",
+        Standing::Stuck =>
+            "`vuthgal draw` shows which thread waits, and where, or `--expect stuck`",
+        Standing::All =>
+            "another schedule, or what the line says; `--expect all` allows dead threads",
+    }
+}
+
+/// Shows a person what helps if a run's end isn't as a text expects.
+fn note_unmet(report: &Report<'_>, program: &[u8], text: &[u8], end: &RunEnd, has_seed: bool) {
+    if line_against(end.state.as_slice(), text).is_some() {
+        return report.help(helps_at_end(end.standing, has_seed));
+    }
+    report.hint(
+        hint_at_subject(report.alloc(), program, subject_of(text)),
+        "the first word of a STATE is a thread, a phaser, a barrier or a cell",
+    );
+}
+
+/// What is near to the word that names the line of a state.
+fn hint_at_subject(alloc: Global, program: &[u8], subject: &[u8]) -> Hint {
+    let names = names_in(alloc, program, None)?;
+    match nearest_of(alloc, names.as_slice(), subject)?.meant {
+        Some(name) => near(alloc, name),
+        None => Ok(None),
+    }
+}
+
+/// Reports what differs from what was expected at the end of a run, whose order may have a seed: a line for each, and for a person
+/// what helps at the first.
+pub fn report_unmet(
+    report: &Report<'_>,
     program: &[u8],
     expected: &[Vec<u8>],
     seed: Option<u64>,
     end: &RunEnd,
 ) {
-    let mut errors = WritePort::new(printable::errors(rt));
+    let mut errors = WritePort::new(printable::errors(report.rt));
     let _ = push_all_unmet(&mut errors, expected, seed, end);
-    if end.refused.is_some() || !is_explained(rt) {
+    if end.refused.is_some() || !report.explains() {
         return;
     }
-    for text in expected {
-        if line_against(end.state.as_slice(), text.as_slice()).is_none() {
-            push_near(rt.alloc(), &mut errors, program, text.as_slice());
-        }
+    let unmet = expected
+        .iter()
+        .find(|text| !is_end_expected(end, text.as_slice()));
+    if let Some(text) = unmet {
+        note_unmet(report, program, text.as_slice(), end, seed.is_some());
     }
-    push_unmet_help(&mut errors, end.standing, seed.is_some());
 }

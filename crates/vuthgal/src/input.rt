@@ -1,46 +1,75 @@
-//! What the program reads: the file that an argument names, or standard input. It may be the schedule of a run.
+//! What the program reads: the file that an argument names, or standard input. What is read whole is read once.
 
-use crate::files;
+ghost use Rattle.std.specs.Prelude.{IfOk};
+ghost use Rattle.workbench.specs.ProgramFile.{IsNamedProgram};
+
+use crate::notes;
+use byte_ports::{BlockPort, ReadPort, WritePort};
 use command_line::ports::input::InputOf;
-use command_line::ports::schedule::ScheduleOf;
-use fault_reports::no_command::NoCommand;
-use fault_reports::trouble::Trouble;
-use std::fs::File;
-use std::io::Stdin;
+use command_line::ports::reasoned::Reasoned;
+use fault_reports::files::{self, STANDARD_INPUT};
+use fault_reports::program::{ProgramFile, fail_to_read};
+use fault_reports::report::{Report, Reported};
+use std::fs::{self, File};
+use std::io::{Stdin, Stdout};
+use workbench::Program;
 use workbench::fault::Fault;
+use workbench::input::read_all;
+use workbench::program::program_in;
 
-/// What the program reads.
-pub type Input<'a> = InputOf<'a, File, Stdin>;
+/// A stream that the program reads.
+pub type Stream<'a> = InputOf<'a, Reasoned<'a, File>, Reasoned<'a, Stdin>>;
 
-/// Opens what an argument names: standard input for `-`.
-pub fn named<'a, 'b>(rt: &HostRuntime, word: &'b str) -> Result<Input<'a>, NoCommand<'b>> {
-    if word == "-" {
-        return Ok(Input::Standard(rt.stdin()));
-    }
-    Ok(Input::File(files::read(rt, word)?))
+/// Standard output, which is written in blocks.
+pub type OutputBlocks<'a> = BlockPort<WritePort<Reasoned<'a, Stdout>>>;
+
+/// Returns standard output, for what is written in blocks.
+pub fn block_port<'a>(report: &'a Report<'_>) -> Result<OutputBlocks<'a>, Reported> {
+    let output = WritePort::new(report.kept(report.rt.stdout()));
+    BlockPort::new(report.alloc(), output).map_err(|_| report.fault(Fault::Memory))
 }
 
-/// Returns how many bytes there are, or 0 if that isn't known.
-pub fn size(input: &Input<'_>) -> u64 {
-    match input {
-        Input::File(file) => files::size(file),
-        Input::Standard(_) | Input::Text(_) => 0,
-    }
+/// Opens the file of this name.
+pub fn open(report: &Report<'_>, name: &str) -> Result<File, Reported> {
+    fs::open(report.rt, name).map_err(|error| files::fail_to_open(report, name, &error))
 }
 
-/// What the program reads as a schedule.
-pub type Schedule<'a> = ScheduleOf<'a, File, Stdin>;
+/// Opens the file of this name to be read as a stream.
+pub fn stream<'a>(report: &'a Report<'_>, name: &str) -> Result<Stream<'a>, Reported> {
+    Ok(Stream::File(report.kept(open(report, name)?)))
+}
 
-/// Returns a result, with what was read of a schedule that is refused, if that was standard input.
-pub fn told<'a, A: Drop>(
-    schedule: Schedule<'_>,
-    answer: Result<A, Trouble<'a>>,
-) -> Result<A, Trouble<'a>> {
-    match answer {
-        Err(Trouble::Fault(fault @ Fault::Schedule(_))) => match schedule.into_kept() {
-            Some(kept) => Err(Trouble::OfInput(fault, kept)),
-            None => Err(Trouble::Fault(fault)),
-        },
-        answer => answer,
+/// Returns standard input as a stream.
+pub fn standard<'a>(report: &'a Report<'_>) -> Stream<'a> {
+    Stream::Standard(report.kept(report.rt.stdin()))
+}
+
+/// Opens what an argument names: standard input for `-`, which is waited for with these words. Returns it with its name.
+pub fn named<'a, 'b>(
+    report: &'a Report<'_>,
+    word: &'b str,
+    waiting: &[u8],
+) -> Result<(&'b str, Stream<'a>), Reported> {
+    if word != "-" {
+        return Ok((word, stream(report, word)?));
+    }
+    notes::push_waiting(report, waiting);
+    Ok((STANDARD_INPUT, standard(report)))
+}
+
+/// Returns all that a stream of this name holds.
+pub fn contents(report: &Report<'_>, name: &str, stream: Stream<'_>) -> Result<Vec<u8>, Reported> {
+    read_all(report.alloc(), &mut ReadPort::new(stream)).map_err(|fault| files::fail(
+        report, name, "", fault,
+    ))
+}
+
+/// Returns the program of a file.
+pub fn program<'a>(report: &Report<'_>, file: ProgramFile<'a>) -> Result<Program<'a>, Reported>
+    ensures { IfOk result (λ program. IsNamedProgram program.bytes.now program.image program.names) }
+{
+    match program_in(report.alloc(), file.text) {
+        Ok(program) => Ok(program),
+        Err(fault) => Err(fail_to_read(report, file, fault)),
     }
 }

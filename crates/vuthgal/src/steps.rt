@@ -1,105 +1,132 @@
-//! What is played: a program in a file, and the steps that the arguments name.
+//! What is played: a program in a file, and the choices that the arguments name.
+ghost use Rattle.std.specs.Prelude.{IfOk};
+ghost use Rattle.plans.specs.Planned.{AreRuns};
 
-use crate::input::{self, Input};
-use crate::planning::runs_of_plan;
-use crate::{files, notes};
-use byte_ports::ReadPort;
+use crate::input::{self, Stream};
+use crate::notes;
 use command_line::request::Steps;
-use commands::making::parts_of;
-use fault_reports::help::ARGUMENT;
-use fault_reports::trouble::Trouble;
-use schedule_reader::write_schedule;
+use commands::plan::{planned_in, thread_names};
+use commands::unplanned::Unplanned;
+use commands::write_picture::parts_of;
+use fault_reports::files::{self, STANDARD_INPUT, STANDARD_OUTPUT};
+use fault_reports::plan::{self, ARGUMENT, PlanFile, report_stopped};
+use fault_reports::program::{ProgramFile, fail_to_load};
+use fault_reports::report::{Report, Reported};
+use plans::planned::Planned;
 use workbench::Program;
 use workbench::fault::Fault;
-use workbench::input::read_all;
 
-/// What a file holds that is given instead of a schedule.
-#[derive(Clone, Copy, PartialEq, Eq)]
-pub enum Holds {
-    Schedule,
-    Trace,
-}
+/// How many threads a program has at most.
+const MOST_THREADS: usize = 64;
 
-/// Steps whose file is open.
+/// Choices whose file is open.
 #[derive(Drop)]
 pub enum OpenSteps<'a> {
     /// The schedule in the program's own file.
     Beside,
-    /// A schedule, or a trace.
-    Named(Input<'a>),
+    /// A schedule, or a trace: its name, and what is read.
+    Named(&'a str, Stream<'a>),
     /// The choices of a plan: the name of its file, and what it holds.
     Plan(&'a str, Vec<u8>),
 }
 
-/// The file that a word names: a schedule may be standard input, a trace stands in a file.
-fn named<'a>(rt: &HostRuntime, word: &'a str, holds: Holds) -> Result<Input<'a>, Trouble<'a>> {
-    if holds == Holds::Trace {
-        return Ok(Input::File(files::read(rt, word)?));
+/// Opens what steps name: a schedule may be standard input, a trace stands in a file. The file of a plan is read.
+fn open_steps<'a>(report: &'a Report<'_>, steps: Steps<'a>) -> Result<OpenSteps<'a>, Reported> {
+    match steps {
+        Steps::Beside => Ok(OpenSteps::Beside),
+        Steps::Trace(name) => Ok(OpenSteps::Named(name, input::stream(report, name)?)),
+        Steps::Named(word) => {
+            let (name, stream) = input::named(
+                report,
+                word,
+                b"reading a schedule from the terminal (Ctrl-D ends it)\n",
+            )?;
+            Ok(OpenSteps::Named(name, stream))
+        }
+        Steps::Plan(plan) => {
+            notes::push_odd_plan(report, plan);
+            match Vec::from_slice(report.alloc(), plan.as_bytes()) {
+                Ok(plan) => Ok(OpenSteps::Plan(ARGUMENT, plan)),
+                Err(_) => Err(report.fault(Fault::Memory)),
+            }
+        }
+        Steps::PlanFile(name) => {
+            let stream = input::stream(report, name)?;
+            Ok(OpenSteps::Plan(name, input::contents(report, name, stream)?))
+        }
     }
-    notes::push_schedule_waited_for(rt, word);
-    Ok(input::named(rt, word)?)
 }
 
-/// Returns what a program's file holds, after the file of the steps is opened, too.
+/// Returns what a program's file, or standard input, holds, after the file of the steps is opened, too.
 pub fn opened<'a>(
-    rt: &HostRuntime,
-    file: &'a str,
+    report: &'a Report<'_>,
+    file: Option<&str>,
     steps: Steps<'a>,
-    holds: Holds,
-) -> Result<(Vec<u8>, OpenSteps<'a>), Trouble<'a>> {
-    let program = files::read(rt, file)?;
-    let steps = match steps {
-        Steps::Beside => OpenSteps::Beside,
-        Steps::Named(word) => OpenSteps::Named(named(rt, word, holds)?),
-        Steps::Plan(plan) => {
-            notes::push_odd_plan(rt, plan);
-            OpenSteps::Plan(ARGUMENT, Vec::from_slice(rt.alloc(), plan.as_bytes())?)
-        }
-        Steps::PlanFile(word) => OpenSteps::Plan(word, files::contents(rt, word)?),
+) -> Result<(Vec<u8>, OpenSteps<'a>), Reported> {
+    let (name, program) = match file {
+        Some(name) => (name, input::stream(report, name)?),
+        None => (STANDARD_INPUT, input::standard(report)),
     };
-    let program = read_all(rt.alloc(), &mut ReadPort::new(program))?;
-    Ok((program, steps))
+    let steps = open_steps(report, steps)?;
+    Ok((input::contents(report, name, program)?, steps))
 }
 
 impl<'a> OpenSteps<'a> {
     /// Returns what is read of a file as a program, and the schedule after the text's line `.run`, if no other is named.
     pub fn parts<'b>(&self, file: &'b [u8]) -> (&'b [u8], &'b [u8]) {
         match self {
-            OpenSteps::Named(_) => (file, &[]),
+            OpenSteps::Named(_, _) => (file, &[]),
             OpenSteps::Beside | OpenSteps::Plan(_, _) => parts_of(file),
         }
     }
+}
 
-    /// Reports that nothing is played, if this program's file should have the schedule and has none.
-    pub fn push_missing(&self, rt: &HostRuntime, program: &Program<'_>, file: &[u8]) {
-        if let (OpenSteps::Beside, true) = (self, program.bytes.len() == file.len()) {
-            notes::push_no_schedule(rt);
-        }
-    }
+/// Returns the names of the threads of a program whose plan may be refused.
+pub fn names_of<'a>(report: &Report<'_>, program: &Program<'a>) -> Result<Vec<&'a [u8]>, Reported> {
+    let threads = program.image.threads.as_slice().len();
+    thread_names(report.alloc(), &program.names, threads.min(MOST_THREADS)).map_err(
+        |_| report.fault(Fault::Memory),
+    )
+}
 
-    /// Returns the schedule that a plan stands for on a program, or an empty text if there is no plan, and whether the plan was
-    /// stopped.
-    pub fn planned<'b>(
-        &self,
-        rt: &HostRuntime,
-        program: &Program<'_>,
-    ) -> Result<(String, bool), Trouble<'b>> {
-        let OpenSteps::Plan(name, plan) = self else {
-            return Ok((String::new(rt.alloc()), false));
-        };
-        let (runs, is_stopped) = runs_of_plan(rt, program, *name, plan.as_slice())?;
-        match write_schedule(rt.alloc(), runs.as_slice()) {
-            Ok(text) => Ok((text, is_stopped)),
-            Err(_) => Err(Trouble::Fault(Fault::Memory)),
+/// Reports why a plan isn't played on the program of this file, whose threads have these names, or where its schedule isn't
+/// written.
+pub fn fail_at_plan(
+    report: &Report<'_>,
+    file: ProgramFile<'_>,
+    names: &[&[u8]],
+    plan: PlanFile<'_>,
+    why: Unplanned,
+) -> Reported {
+    match why {
+        Unplanned::Plan(fault) => {
+            let names = names.get(..MOST_THREADS).unwrap_or(names);
+            plan::fail(report, plan, names, fault)
         }
+        Unplanned::Fault(Fault::Load(fault)) => fail_to_load(report, file, fault),
+        Unplanned::Fault(fault) => files::fail(report, plan.name, STANDARD_OUTPUT, fault),
     }
+}
 
-    /// Returns the schedule under which a program is played: the planned one, if there is a plan.
-    pub fn schedule(self, beside: &'a [u8], planned: &'a str) -> Input<'a> {
-        match self {
-            OpenSteps::Beside => Input::Text(beside),
-            OpenSteps::Named(schedule) => schedule,
-            OpenSteps::Plan(_, _) => Input::Text(planned.as_bytes()),
-        }
+/// Returns what a plan plays on a program. It is reported if the plan needs more choices than it may make.
+pub fn planned(
+    report: &Report<'_>,
+    file: ProgramFile<'_>,
+    program: &Program<'_>,
+    plan: PlanFile<'_>,
+) -> Result<Planned, Reported>
+    ensures { IfOk result (λ planned. AreRuns planned.runs.items) }
+{
+    let names = names_of(report, program)?;
+    let planned = planned_in(report.alloc(), program, plan.bytes).map_err(|why| fail_at_plan(
+        report,
+        file,
+        names.as_slice(),
+        plan,
+        why,
+    ))?;
+    if planned.stopped {
+        report_stopped(report, plan);
     }
+    Ok(planned)
 }

@@ -1,3 +1,4 @@
 mod ProgramPlans
 mod Words
 mod Faults
+pub mod Values

@@ -78,7 +78,8 @@ SettlesPlan (Err reason) status line_failed line_before line_after =
 abbrev pub Plans : (file steps : List ℕ) (status : ℕ) (schedule line : List ℕ) → Type 0
 Plans file steps status schedule line =
     (answer : Result Bool Unplanned) × (PlansSteps file steps answer (Some []) (Some schedule) false
-    × SettlesPlan answer status false (Some []) (Some line))
+    × SettlesPlan answer status false (Some []) (Some line)
+    × (IsTooMuch file steps → answer ≡ Err (why.Fault fault.Read)))
 
 -- why a program and a schedule are refused a picture: the file holds no program; or they have none
 abbrev pub IsUnmadeFor : PictureKind → Fault → (file schedule : List ℕ) → Type 0
@@ -101,4 +102,4 @@ abbrev pub Makes : (IsPicture : Program → List ℕ → List ℕ → Type 0) �
     (status : ℕ) (picture line : List ℕ) → Type 0
 Makes IsPicture kind file schedule status picture line =
     (answer : Result (Unit {0}) Fault) × (MakesPicture IsPicture kind file schedule answer (Some []) (Some picture) false
-    × Settles as_asked answer status line)
+    × Settles as_asked answer status line × (most_bytes < length file → answer ≡ Err fault.Read))

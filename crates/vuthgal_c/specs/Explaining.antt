@@ -1,5 +1,5 @@
 -- What `vuthgal_explain` promises.
-use Rattle.std.specs.Prelude.{◌≡◌, ◌⊎◌, ℕ, Bool, true, false, IsTrue, IfErr, List, [], ◌++◌, Option, Some, Result, Ok, Err}
+use Rattle.std.specs.Prelude.{◌≡◌, ◌⊎◌, ◌<◌, ℕ, Bool, true, false, IsTrue, IfErr, List, [], ◌++◌, length, Option, Some, Result, Ok, Err}
 use Rattle.std.specs.Borrow.{Bor}
 use Rattle.std.specs.Str.{IsUtf8}
 use Rattle.std.specs.Io.KnownBytes.{Appends}
@@ -19,15 +19,21 @@ MeansNothing tables text =
     (IsUtf8 text → ⊥)
     ⊎ ((words : List (List ℕ)) × AreWordsOf text words × ((q : Question) → AsksFor tables words q → ⊥) × AreNoWord words)
 
+-- how many bytes a text may have
+abbrev pub most_explained : ℕ
+most_explained = 65536
+
 -- what a text's words mean, by some tables of entries, was written; or they mean nothing, and nothing was; or there was no memory,
--- or the output has failed
+-- or the text is too long, or the output has failed
 pub record ExplainsText (questions text : List ℕ) (answer : Result Bool Fault)
     (output_before output_after : Option (List ℕ)) (output_failed : Bool) : Type 0 where
   pub tables : List (Bor (List Entry))
   pub told : answer ≡ Ok true
       → (words : List (List ℕ)) × AreWordsOf text words × HasExplained questions tables words output_before output_after
   pub none : answer ≡ Ok false → MeansNothing tables text × (output_after ≡ output_before)
-  pub fault : IfErr answer (λ f. ((f ≡ fault.Memory) × (output_after ≡ output_before)) ⊎ ((f ≡ fault.Write) × IsTrue output_failed))
+  pub limit : most_explained < length text → answer ≡ Err fault.Read
+  pub fault : IfErr answer (λ f. (((f ≡ fault.Memory) ⊎ ((f ≡ fault.Read) × (most_explained < length text)))
+      × (output_after ≡ output_before)) ⊎ ((f ≡ fault.Write) × IsTrue output_failed))
 
 -- the status of the result for words, and its line, which says what can be asked if they mean nothing
 abbrev pub SettlesExplaining : (questions no_line : List ℕ) → Result Bool Fault → (status : ℕ) (line_failed : Bool)

@@ -4,3 +4,5 @@ pub mod Shows
 pub mod Calls
 pub mod Beyond
 pub mod Explaining
+pub mod Keep
+pub mod Sessions

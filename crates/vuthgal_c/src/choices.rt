@@ -5,7 +5,7 @@ ghost use Rattle.vuthgal_c.specs.Shows.{Shows};
 ghost use Rattle.workbench.specs.Done.{IsSettledBy};
 
 use crate::counting_sink::CountingSink;
-use crate::handing::{hand_over, no_memory};
+use crate::handing::hand_both;
 use byte_ports::Sink;
 use commands::choices::choices;
 use std::alloc::Global;
@@ -41,10 +41,13 @@ pub extern "C" fn vuthgal_choices(
     let mut told = CountingSink::new(alloc, line.len());
     let answer = choices(alloc, &mut trace, &mut shown);
     let status = settled(answer, &mut told);
-    if !shown.has_kept(output.len()) || !told.has_kept(line.len()) {
-        return no_memory(output, output_length, line, line_length);
-    }
-    hand_over(&shown, output, output_length);
-    hand_over(&told, line, line_length);
-    status
+    hand_both(
+        status,
+        &shown,
+        &told,
+        output,
+        output_length,
+        line,
+        line_length,
+    )
 }

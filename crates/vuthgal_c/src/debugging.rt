@@ -3,7 +3,7 @@ ghost use Rattle.vuthgal_c.specs.Calls.{DebugsProgram};
 ghost use Rattle.vuthgal_c.specs.Shows.{Shows};
 
 use crate::counting_sink::CountingSink;
-use crate::handing::{hand_over, no_memory};
+use crate::handing::hand_both;
 use std::alloc::Global;
 use workbench::debug_cmd;
 use workbench::slice_source::SliceSource;
@@ -26,10 +26,13 @@ pub extern "C" fn vuthgal_debug(
     let mut shown = CountingSink::new(alloc, output.len());
     let mut told = CountingSink::new(alloc, line.len());
     let status = debug_cmd(alloc, &mut program, &mut commands, &mut shown, &mut told);
-    if !shown.has_kept(output.len()) || !told.has_kept(line.len()) {
-        return no_memory(output, output_length, line, line_length);
-    }
-    hand_over(&shown, output, output_length);
-    hand_over(&told, line, line_length);
-    status
+    hand_both(
+        status,
+        &shown,
+        &told,
+        output,
+        output_length,
+        line,
+        line_length,
+    )
 }

@@ -5,13 +5,16 @@ ghost use Rattle.vuthgal_c.specs.Shows.{Shows};
 ghost use Rattle.vuthgal_c.specs.Words.{AreWordsOf};
 
 use crate::counting_sink::CountingSink;
-use crate::handing::{hand_over, no_memory};
+use crate::handing::hand_both;
 use byte_ports::Sink;
 use refusals::entries::tables;
 use refusals::explain::{NO_LINE, QUESTIONS, explain, push_no_line};
 use std::alloc::{AllocError, Global};
 use workbench::done;
 use workbench::fault::Fault;
+
+/// How many bytes words may have.
+const MOST_BYTES: usize = 65_536;
 
 /// The words of a text.
 fn words_of(alloc: Global, text: &str) -> Result<Vec<&str>, AllocError>
@@ -28,6 +31,9 @@ fn words_of(alloc: Global, text: &str) -> Result<Vec<&str>, AllocError>
 fn explained<K: Sink>(alloc: Global, text: &[u8], output: &mut K) -> Result<bool, Fault>
     ensures { ExplainsText QUESTIONS.now text.now result (K.written output.old) (K.written output.new) (K.has_failed output.new) }
 {
+    if text.len() > MOST_BYTES {
+        return Err(Fault::Read);
+    }
     let Ok(text) = str::from_utf8(text) else {
         return Ok(false);
     };
@@ -70,10 +76,13 @@ pub extern "C" fn vuthgal_explain(
     let mut told = CountingSink::new(alloc, line.len());
     let answer = explained(alloc, words, &mut shown);
     let status = settled(answer, &mut told);
-    if !shown.has_kept(output.len()) || !told.has_kept(line.len()) {
-        return no_memory(output, output_length, line, line_length);
-    }
-    hand_over(&shown, output, output_length);
-    hand_over(&told, line, line_length);
-    status
+    hand_both(
+        status,
+        &shown,
+        &told,
+        output,
+        output_length,
+        line,
+        line_length,
+    )
 }

@@ -1,7 +1,7 @@
 //! What a command wrote, in the memory of the caller.
-ghost use Rattle.std.specs.Prelude.{◌≡◌, ◌≤◌, ℕ, List, [], IsTrue, length, min, codes};
+ghost use Rattle.std.specs.Prelude.{◌≡◌, ◌≤◌, ℕ, List, length, min};
 ghost use Rattle.vuthgal_c.specs.Counting.{AreFirst, most_counted};
-ghost use Rattle.vuthgal_c.specs.Shows.{Holds};
+ghost use Rattle.vuthgal_c.specs.Shows.{HandsOver, Holds};
 
 use crate::counting_sink::CountingSink;
 
@@ -34,18 +34,25 @@ pub fn hand_over(sink: &CountingSink, room: &mut [u8], told: &mut usize)
     hand(sink.kept(), sink.count(), room, told);
 }
 
-/// Reports that it is out of memory, and returns the status.
-pub fn no_memory(
-    shown: &mut [u8],
-    shown_count: &mut usize,
+/// Hands over what came to the two sinks of a call, or reports that there was no memory to keep it. Returns the status.
+pub fn hand_both(
+    status: u8,
+    shown: &CountingSink,
+    told: &CountingSink,
+    output: &mut [u8],
+    output_length: &mut usize,
     line: &mut [u8],
-    line_count: &mut usize,
+    line_length: &mut usize,
 ) -> u8
-    ensures status { result ≡ 4 }
-    ensures shown { Holds shown.old shown.new shown_count.new [] }
-    ensures line { Holds line.old line.new line_count.new (codes "memory\n") }
+    ensures { HandsOver status shown.now.written told.now.written result
+        output.old output.new output_length.new line.old line.new line_length.new }
 {
-    hand_all(&[], shown, shown_count);
-    hand_all(NO_MEMORY, line, line_count);
-    4
+    if !shown.has_kept(output.len()) || !told.has_kept(line.len()) {
+        hand_all(&[], output, output_length);
+        hand_all(NO_MEMORY, line, line_length);
+        return 4;
+    }
+    hand_over(shown, output, output_length);
+    hand_over(told, line, line_length);
+    status
 }

@@ -2,8 +2,8 @@
 //!
 //! The caller passes the input of a command as bytes, and two buffers in its own memory. As `snprintf` does, a call writes as
 //! many bytes as fit into a buffer, and reports the count of all bytes. Each call belongs to a command. The output, the
-//! status and the line of a fault are those that this command promises for ports in memory. Nothing is kept between calls.
-//! `include/vuthgal.h` declares the calls.
+//! status and the line of a fault are those that this command promises for ports in memory. Only a session goes on from call to
+//! call. It is in memory that belongs to its handle, and the caller closes it. `include/vuthgal.h` declares the calls.
 #![tactic(auto)]
 
 // A sink that counts all bytes, and how its bytes are passed to the caller.
@@ -14,6 +14,12 @@ pub mod handing;
 // The program in a file.
 pub mod files;
 
+// A session in the memory of its caller.
+mod handle;
+mod held;
+mod keeping;
+mod loose;
+
 // The calls.
 pub mod choices;
 pub mod debugging;
@@ -21,6 +27,7 @@ pub mod explaining;
 mod origin;
 pub mod planning;
 pub mod playing;
+pub mod sessions;
 pub mod showing;
 pub mod texts;
 pub mod traces;

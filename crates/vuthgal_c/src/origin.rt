@@ -2,4 +2,7 @@
 
 /// The version, the kit whose logic proves it, and the sum of the sources but for this file.
 pub const VERSION: &str =
-    "1.2.0\nkit rattle-kit-13f logic dac8208d650f15bf\nsources 79ed04cbedb368accf78db6b822551af90477bff64b8bc0fc80a1ed6df69e82d";
+    "1.3.0\nkit rattle-kit-13f logic dac8208d650f15bf\nsources fac21875dbefb2d8fa9945f8e328a7bd2544cad9d71bd0f10a1ea10a38d54869";
+
+/// The version as a number.
+pub const NUMBER: u32 = 10300;

@@ -1,16 +1,17 @@
 //! The schedules of plans.
-ghost use Rattle.std.specs.Prelude.{[], Some, false};
-ghost use Rattle.vuthgal_c.specs.Beyond.{Plans, PlansSteps, SettlesPlan};
+ghost use Rattle.std.specs.Prelude.{◌≡◌, [], Err, Some, false};
+ghost use Rattle.vuthgal_c.specs.Beyond.{IsTooMuch, Plans, PlansSteps, SettlesPlan};
 ghost use Rattle.vuthgal_c.specs.Shows.{Shows};
 ghost use Rattle.commands.specs.declared.unplanned.Unplanned.{Unplanned};
+ghost use Rattle.workbench.specs.declared.fault.Fault.{Fault};
 
 use crate::counting_sink::CountingSink;
 use crate::files::{is_within, whole_program};
-use crate::handing::{hand_over, no_memory};
+use crate::handing::hand_both;
 use byte_ports::Sink;
-use commands::making::parts_of;
 use commands::plan::plan;
 use commands::unplanned::Unplanned;
+use commands::write_picture::parts_of;
 use std::alloc::Global;
 use workbench::fault::Fault;
 
@@ -21,7 +22,8 @@ fn planned<K: Sink>(
     steps: &[u8],
     output: &mut K,
 ) -> Result<bool, Unplanned>
-    ensures { PlansSteps file.now steps.now result (K.written output.old) (K.written output.new) (K.has_failed output.new) }
+    ensures plans { PlansSteps file.now steps.now result (K.written output.old) (K.written output.new) (K.has_failed output.new) }
+    ensures limit { IsTooMuch file.now steps.now → result ≡ Err (Unplanned.Fault Fault.Read) }
 {
     if !is_within(file) || !is_within(steps) {
         return Err(Unplanned::Fault(Fault::Read));
@@ -66,10 +68,13 @@ pub extern "C" fn vuthgal_plan(
     let mut told = CountingSink::new(alloc, line.len());
     let answer = planned(alloc, program, plan, &mut shown);
     let status = settled(answer, &mut told);
-    if !shown.has_kept(output.len()) || !told.has_kept(line.len()) {
-        return no_memory(output, output_length, line, line_length);
-    }
-    hand_over(&shown, output, output_length);
-    hand_over(&told, line, line_length);
-    status
+    hand_both(
+        status,
+        &shown,
+        &told,
+        output,
+        output_length,
+        line,
+        line_length,
+    )
 }

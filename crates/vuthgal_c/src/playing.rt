@@ -3,7 +3,7 @@ ghost use Rattle.vuthgal_c.specs.Calls.{Runs, RunsText};
 ghost use Rattle.vuthgal_c.specs.Shows.{Shows};
 
 use crate::counting_sink::CountingSink;
-use crate::handing::{hand_over, no_memory};
+use crate::handing::hand_both;
 use std::alloc::Global;
 use workbench::slice_source::SliceSource;
 use workbench::{both_cmd, run_cmd};
@@ -26,12 +26,15 @@ pub extern "C" fn vuthgal_run(
     let mut shown = CountingSink::new(alloc, output.len());
     let mut told = CountingSink::new(alloc, line.len());
     let status = run_cmd(alloc, &mut program, &mut schedule, &mut shown, &mut told);
-    if !shown.has_kept(output.len()) || !told.has_kept(line.len()) {
-        return no_memory(output, output_length, line, line_length);
-    }
-    hand_over(&shown, output, output_length);
-    hand_over(&told, line, line_length);
-    status
+    hand_both(
+        status,
+        &shown,
+        &told,
+        output,
+        output_length,
+        line,
+        line_length,
+    )
 }
 
 /// Plays a text under the schedule after its line `.run`. The output is the trace.
@@ -50,10 +53,13 @@ pub extern "C" fn vuthgal_both(
     let mut shown = CountingSink::new(alloc, output.len());
     let mut told = CountingSink::new(alloc, line.len());
     let status = both_cmd(alloc, &mut text, &mut shown, &mut told);
-    if !shown.has_kept(output.len()) || !told.has_kept(line.len()) {
-        return no_memory(output, output_length, line, line_length);
-    }
-    hand_over(&shown, output, output_length);
-    hand_over(&told, line, line_length);
-    status
+    hand_both(
+        status,
+        &shown,
+        &told,
+        output,
+        output_length,
+        line,
+        line_length,
+    )
 }

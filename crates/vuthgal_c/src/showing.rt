@@ -1,20 +1,22 @@
 //! Pictures of a run.
-ghost use Rattle.std.specs.Prelude.{[], Some, false};
+ghost use Rattle.std.specs.Prelude.{◌≡◌, ◌<◌, [], Err, Some, false, length};
 ghost use Rattle.commands.specs.Drawing.{IsDrawingIn};
 ghost use Rattle.commands.specs.Page.{IsPageIn};
 ghost use Rattle.vuthgal_c.specs.Beyond.{Makes, MakesPicture};
 ghost use Rattle.vuthgal_c.specs.Shows.{Shows};
 ghost use Rattle.pictures.specs.declared.others.OtherRuns.TheVariants as others;
+ghost use Rattle.workbench.specs.declared.fault.Fault.{Fault};
+ghost use Rattle.workbench.specs.Input.{most_bytes};
 ghost use Rattle.workbench.specs.declared.fault.PictureKind.TheVariants as picture;
 
 use crate::counting_sink::CountingSink;
 use crate::files::{is_within, whole_program};
-use crate::handing::{hand_over, no_memory};
+use crate::handing::hand_both;
 use byte_ports::Sink;
 use commands::drawing::Drawing;
-use commands::making::make;
 use commands::page::Page;
 use commands::picture::Picture;
+use commands::write_picture::make;
 use pictures::others::OtherRuns;
 use std::alloc::Global;
 use workbench::done::settled_as_asked;
@@ -29,8 +31,9 @@ fn made<P: Picture, K: Sink>(
     schedule: &[u8],
     output: &mut K,
 ) -> Result<(), Fault>
-    ensures { MakesPicture (P.is_picture picture.now) P.kind file.now schedule.now result
+    ensures made { MakesPicture (P.is_picture picture.now) P.kind file.now schedule.now result
         (K.written output.old) (K.written output.new) (K.has_failed output.new) }
+    ensures limit { most_bytes < length file.now → result ≡ Err Fault.Read }
 {
     if !is_within(file) {
         return Err(Fault::Read);
@@ -67,12 +70,15 @@ pub extern "C" fn vuthgal_show(
     };
     let answer = made(alloc, &page, program, schedule, &mut shown);
     let status = settled_as_asked(answer, &mut told);
-    if !shown.has_kept(output.len()) || !told.has_kept(line.len()) {
-        return no_memory(output, output_length, line, line_length);
-    }
-    hand_over(&shown, output, output_length);
-    hand_over(&told, line, line_length);
-    status
+    hand_both(
+        status,
+        &shown,
+        &told,
+        output,
+        output_length,
+        line,
+        line_length,
+    )
 }
 
 /// Draws the run of a program under a schedule, in lines of at most `width` columns. The output is the drawing.
@@ -95,10 +101,13 @@ pub extern "C" fn vuthgal_draw(
     let drawing = Drawing { width };
     let answer = made(alloc, &drawing, program, schedule, &mut shown);
     let status = settled_as_asked(answer, &mut told);
-    if !shown.has_kept(output.len()) || !told.has_kept(line.len()) {
-        return no_memory(output, output_length, line, line_length);
-    }
-    hand_over(&shown, output, output_length);
-    hand_over(&told, line, line_length);
-    status
+    hand_both(
+        status,
+        &shown,
+        &told,
+        output,
+        output_length,
+        line,
+        line_length,
+    )
 }

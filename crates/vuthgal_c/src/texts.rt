@@ -3,7 +3,7 @@ ghost use Rattle.vuthgal_c.specs.Calls.{AssemblesText, ListsProgram};
 ghost use Rattle.vuthgal_c.specs.Shows.{Shows};
 
 use crate::counting_sink::CountingSink;
-use crate::handing::{hand_over, no_memory};
+use crate::handing::hand_both;
 use std::alloc::Global;
 use workbench::slice_source::SliceSource;
 use workbench::{asm_cmd, list_cmd};
@@ -24,12 +24,15 @@ pub extern "C" fn vuthgal_asm(
     let mut shown = CountingSink::new(alloc, output.len());
     let mut told = CountingSink::new(alloc, line.len());
     let status = asm_cmd(alloc, &mut text, &mut shown, &mut told);
-    if !shown.has_kept(output.len()) || !told.has_kept(line.len()) {
-        return no_memory(output, output_length, line, line_length);
-    }
-    hand_over(&shown, output, output_length);
-    hand_over(&told, line, line_length);
-    status
+    hand_both(
+        status,
+        &shown,
+        &told,
+        output,
+        output_length,
+        line,
+        line_length,
+    )
 }
 
 /// Lists a program, an image or a text. The output is its canonical text.
@@ -48,10 +51,13 @@ pub extern "C" fn vuthgal_list(
     let mut shown = CountingSink::new(alloc, output.len());
     let mut told = CountingSink::new(alloc, line.len());
     let status = list_cmd(alloc, &mut program, &mut shown, &mut told);
-    if !shown.has_kept(output.len()) || !told.has_kept(line.len()) {
-        return no_memory(output, output_length, line, line_length);
-    }
-    hand_over(&shown, output, output_length);
-    hand_over(&told, line, line_length);
-    status
+    hand_both(
+        status,
+        &shown,
+        &told,
+        output,
+        output_length,
+        line,
+        line_length,
+    )
 }

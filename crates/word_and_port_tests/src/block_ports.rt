@@ -1,6 +1,6 @@
-//! Sinks that pass on blocks.
-use byte_ports::{BlockPort, MemorySink, Sink};
-use std::alloc::Global;
+//! Writers behind blocks.
+use byte_ports::{BlockPort, Sink, WritePort};
+use std::alloc::{AllocError, Global};
 
 /// How many bytes a block has.
 const BLOCK: usize = 65_536;
@@ -16,47 +16,25 @@ static PUSHES: [(usize, usize); 7] = [
     (BLOCK + 1, 2),
 ];
 
-/// Returns whether a port takes a piece so often.
-fn takes(port: &mut BlockPort<MemorySink>, piece: &[u8], times: usize) -> bool {
+/// Returns whether a port takes a piece so often, and writes all of it by its end.
+fn writes(alloc: Global, piece: &[u8], times: usize) -> Result<bool, AllocError> {
+    let mut kept = Vec::new(alloc);
+    let mut port = BlockPort::new(alloc, WritePort::new(&mut kept))?;
     for _ in 0..times {
         if port.push(piece).is_err() {
-            return false;
+            return Ok(false);
         }
     }
-    true
-}
-
-/// Returns how many bytes a port has handed on at its end, if it does not fail.
-fn handed_on(port: BlockPort<MemorySink>) -> Option<usize> {
-    match port.into_inner() {
-        Ok(sink) => Some(sink.bytes().len()),
-        Err(_) => None,
-    }
-}
-
-/// A port over a sink with room for three blocks.
-fn block_port(alloc: Global) -> Option<BlockPort<MemorySink>> {
-    match MemorySink::new(alloc, 3 * BLOCK, None) {
-        Ok(sink) => BlockPort::new(alloc, sink).ok(),
-        Err(_) => None,
-    }
-}
-
-/// Returns whether a port takes a piece so often, and hands all of it on.
-fn hands_on(alloc: Global, piece: &[u8], times: usize) -> bool {
-    let Some(mut port) = block_port(alloc) else {
-        return false;
-    };
-    let is_taken = takes(&mut port, piece, times);
-    handed_on(port) == Some(piece.len().saturating_mul(times)) && is_taken
+    let is_finished = port.finish().is_ok();
+    drop(port);
+    Ok(is_finished && kept.len() == piece.len().saturating_mul(times))
 }
 
 #[test]
-fn blocks_are_handed_on(rt: HostRuntime) {
+fn blocks_are_handed_on(rt: HostRuntime) -> Result<(), AllocError> {
     for (length, times) in &PUSHES {
-        match Vec::from_elem(rt.alloc(), b'a', *length) {
-            Ok(piece) => assert!(rt; hands_on(rt.alloc(), piece.as_slice(), *times), "{length}"),
-            Err(_) => assert!(rt; false),
-        }
+        let piece = Vec::from_elem(rt.alloc(), b'a', *length)?;
+        assert!(rt; writes(rt.alloc(), piece.as_slice(), *times)?, "{length}");
     }
+    Ok(())
 }

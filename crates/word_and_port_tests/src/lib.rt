@@ -1,4 +1,4 @@
-//! Tests the lowest crates by their public calls: ports, packed words, trees of phasers, and the word that real threads
+//! Tests the lowest crates by their public calls: ports, rows, packed words, trees of phasers, and the word that real threads
 //! share.
 #![tactic(auto)]
 
@@ -9,6 +9,10 @@ mod block_ports;
 mod port_callers;
 #[cfg(test)]
 mod std_ports;
+
+// Rows.
+#[cfg(test)]
+mod rows;
 
 // Words.
 #[cfg(test)]

@@ -1,5 +1,5 @@
 //! Ports over readers and writers that fail or are interrupted.
-use byte_ports::{ReadPort, Sink, Source, WritePort};
+use byte_ports::{BlockPort, ReadPort, Sink, Source, WritePort};
 use std::alloc::Global;
 use std::io;
 use std::io::{BufWriter, ErrorKind, Read, Write};
@@ -240,5 +240,15 @@ fn fails_late_behind_a_buffer(rt: HostRuntime) -> Result<(), Fail> {
     let mut writer = FakeWriter::new(rt.alloc(), 0, Some(0));
     let mut port = WritePort::new(BufWriter::new(rt.alloc(), &mut writer)?);
     assert!(rt; fails_late(&mut port));
+    Ok(())
+}
+
+#[test]
+fn flushes_behind_a_block(rt: HostRuntime) -> Result<(), Fail> {
+    let mut writer = FakeWriter::new(rt.alloc(), 0, None);
+    let mut port = BlockPort::new(rt.alloc(), WritePort::new(&mut writer))?;
+    let is_written = port.push(b"abc").is_ok() && port.finish().is_ok();
+    drop(port);
+    assert!(rt; is_written && writer.has_met(b"abc", 3, 1));
     Ok(())
 }

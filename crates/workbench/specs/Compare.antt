@@ -21,14 +21,14 @@ verdict_line verdict.Same = codes "same\n"
 verdict_line (verdict.Differs line) = counted_line (codes "differs ") line
 verdict_line (verdict.NotATrace line) = counted_line (codes "not a trace ") line
 
--- why there is no verdict: the program can be loaded, and the output failed; or the trace couldn't be read, or there was no memory, or
--- the program isn't loaded, and nothing was written
+-- why there is no verdict: the program can be loaded, and the output failed, or the trace couldn't be read and nothing was written; or
+-- there was no memory, or the program isn't loaded, and nothing was written
 abbrev pub StopsComparing : Fault → Image → (trace_before trace_after : Option (List ℕ)) (trace_failed : Bool)
     (output_before output_after : Option (List ℕ)) (output_failed : Bool) → Type 0
 StopsComparing fault.Write image trace_before trace_after trace_failed output_before output_after output_failed =
     (first_fault image ≡ None) × IsTrue output_failed
 StopsComparing fault.Read image trace_before trace_after trace_failed output_before output_after output_failed =
-    (IsTrue trace_failed ⊎ GivesOnAndOn trace_before trace_after) × (output_after ≡ output_before)
+    (first_fault image ≡ None) × (IsTrue trace_failed ⊎ GivesOnAndOn trace_before trace_after) × (output_after ≡ output_before)
 StopsComparing fault.Memory image trace_before trace_after trace_failed output_before output_after output_failed = output_after ≡ output_before
 StopsComparing (fault.Load f) image trace_before trace_after trace_failed output_before output_after output_failed =
     IsRefused f image × IsUntouched trace_before trace_after output_before output_after

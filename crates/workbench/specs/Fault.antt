@@ -18,7 +18,7 @@ use Rattle.workbench.specs.declared.fault.PictureKind.TheVariants as picture
 
 -- the number of a refusal's kind; missing memory has none
 abbrev pub number_of : Fault → Option ℕ
-number_of (fault.Asm f) = asm_number f.kind
+number_of (fault.Asm f) = asm_number f.fault.kind
 number_of (fault.Image f) = image_number f
 number_of (fault.Load f) = load_number f
 number_of (fault.Schedule f) = schedule_number f
@@ -47,7 +47,7 @@ counted_line word n = word ++ (decimal n ++ codes "\n")
 
 -- what precedes the number: the word for the kind of refusal, and for a text the line
 abbrev pub word_of : Fault → List ℕ
-word_of (fault.Asm f) = counted (codes "refused asm ") f.line ++ codes " "
+word_of (fault.Asm f) = counted (codes "refused asm ") f.fault.line ++ codes " "
 word_of (fault.Image f) = codes "refused image "
 word_of (fault.Load f) = codes "refused load "
 word_of (fault.Schedule f) = codes "refused schedule "

@@ -31,7 +31,7 @@ IsNamedProgram file image names =
 
 -- why a text has no image: its first fault, unless it is out of memory (status 4)
 abbrev pub IsNoTextFor : Fault → List ℕ → Type 0
-IsNoTextFor (fault.Asm f) text = status_of (fault.Asm f) ≡ 3 → assembled text ≡ Err f
+IsNoTextFor (fault.Asm f) text = status_of (fault.Asm f) ≡ 3 → assembled text ≡ Err f.fault
 IsNoTextFor _ text = ⊥
 
 -- why a file is no program: the first fault of the image, or of the text, unless it is out of memory

@@ -9,7 +9,7 @@ ghost use Rattle.workbench.specs.Outcome.{ComesOf};
 use crate::done::{settled, settled_as_asked};
 use crate::fault::Fault;
 use crate::input::read_all;
-use assembler::assemble;
+use assembler::assemble_placed;
 use byte_ports::{Sink, Source};
 use row_code::{Image, write_image};
 use std::alloc::Global;
@@ -39,7 +39,7 @@ pub fn asm_cmd<S: Source, K: Sink, E: Sink>(
 pub fn asm<K: Sink>(alloc: Global, text: &[u8], output: &mut K) -> Result<(), Fault>
     ensures { Assembles text.now result (K.written output.old) (K.written output.new) (K.has_failed output.new) }
 {
-    match assemble(alloc, text) {
+    match assemble_placed(alloc, text) {
         Ok(image) => push_image(&image, output),
         Err(fault) => Err(Fault::Asm(fault)),
     }

@@ -10,7 +10,7 @@ use crate::input::read_all;
 use crate::run::run;
 use crate::run_line::split_at_run;
 use crate::slice_source::SliceSource;
-use assembler::assemble;
+use assembler::assemble_placed;
 use byte_ports::{Sink, Source};
 use std::alloc::Global;
 use trace_text::RunEnd;
@@ -42,7 +42,7 @@ fn both<K: Sink>(alloc: Global, text: &[u8], output: &mut K) -> Result<RunEnd, F
     ensures { PlaysText text.now result (K.written output.old) (K.written output.new) (K.has_failed output.new) }
 {
     let (program, schedule) = split_at_run(text);
-    match assemble(alloc, program) {
+    match assemble_placed(alloc, program) {
         Ok(image) => {
             let mut schedule = SliceSource::new(schedule);
             run(alloc, image, &mut schedule, output)

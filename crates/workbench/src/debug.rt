@@ -218,8 +218,8 @@ fn not_a_trace<K: Sink>(output: &mut K, line: u64) -> Result<Done, Fault>
     }
 }
 
-/// A debugger of an image's program before its first choice.
-fn first_debugger(alloc: Global, image: Image) -> Result<Debugger, Fault>
+/// Makes the debugger of an image's program before its first choice.
+pub fn first_debugger(alloc: Global, image: Image) -> Result<Debugger, Fault>
     ensures first { IfOk result (λ debugger. IsFirstSession image debugger) }
     ensures none { IfErr result (λ fault. HasNoSession fault image) }
 {

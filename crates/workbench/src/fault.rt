@@ -3,7 +3,7 @@ ghost use Rattle.std.specs.Io.KnownBytes.{Appends};
 ghost use Rattle.workbench.specs.Outcome.{told_as};
 ghost use Rattle.workbench.specs.Fault.{counted, counted_line, line_of, number_of, place_of, refusal_line, refusal_status, status_of, too_long, word_of};
 
-use assembler::AsmFault;
+use assembler::PlacedFault;
 use byte_ports::{Failed, Sink};
 use itoa::Buffer;
 use loader::{LoadFault, Place};
@@ -36,7 +36,7 @@ impl PictureKind {
 #[derive(Clone, Copy)]
 pub enum Fault {
     /// The program's text has this fault, or there was no memory for it.
-    Asm(AsmFault),
+    Asm(PlacedFault),
     /// The image has this fault, or there was no memory for it.
     Image(ImageFault),
     /// The program isn't loaded, for this fault.
@@ -116,7 +116,7 @@ impl Fault {
         ensures { result ≡ number_of self }
     {
         match self {
-            Fault::Asm(fault) => fault.kind.number(),
+            Fault::Asm(fault) => fault.fault.kind.number(),
             Fault::Image(fault) => fault.number(),
             Fault::Load(fault) => fault.number(),
             Fault::Schedule(fault) => fault.number(),
@@ -131,7 +131,7 @@ impl Fault {
     {
         match self {
             Fault::Asm(fault) => {
-                push_with_count(errors, b"refused asm ", fault.line)?;
+                push_with_count(errors, b"refused asm ", fault.fault.line)?;
                 errors.push(b" ")
             }
             Fault::Image(_) => errors.push(b"refused image "),

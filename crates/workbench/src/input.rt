@@ -1,4 +1,4 @@
-ghost use Rattle.std.specs.Prelude.{◌≡◌, ◌⊎◌, ◌≤◌, ◌<◌, ◌++◌, Err, IsTrue, false, IfOk, IfErr, OnOk, length};
+ghost use Rattle.std.specs.Prelude.{◌≡◌, ◌⊎◌, ◌≤◌, ◌<◌, ◌+◌, ◌++◌, Err, IsTrue, false, IfOk, IfErr, OnOk, length};
 ghost use Rattle.std.specs.Io.KnownBytes.{ReadConsumes, Consumes, IsAtEnd};
 ghost use Rattle.workbench.specs.Input.{GivesTooMuch, most_bytes};
 
@@ -18,6 +18,7 @@ pub fn pull<S: Source>(source: &mut S, piece: &mut [u8]) -> Result<usize, Fault>
     ensures bound { IfOk result (λ n. n ≤ length piece.new) }
     ensures read { IfErr result (λ fault. (fault ≡ Fault.Read) × IsTrue (S.has_failed source.new)) }
     ensures sound { OnOk result (S.has_failed source.new ≡ false) }
+    ensures reads { S.reads source.new ≤ S.reads source.old + 1 }
 {
     match source.pull(piece) {
         Ok(count) => Ok(count),
@@ -39,7 +40,8 @@ fn append(bytes: &mut Vec<u8>, piece: &[u8]) -> Result<(), Fault>
     bytes.extend_from_slice(piece).map_err(|_| Fault::Memory)
 }
 
-/// Returns everything that a source has left, or `Read` if it fails or has more than 16,777,216 bytes.
+/// Returns everything that a source has left, or `Read` if it fails or has more than 16,777,216 bytes. Each read returns a byte at
+/// least, except the last one.
 pub fn read_all<S: Source>(alloc: Global, source: &mut S) -> Result<Vec<u8>, Fault>
     ensures bytes { IfOk result (λ bytes. Consumes (S.left source.old) (S.left source.new) bytes.items) }
     ensures end { IfOk result (λ bytes. IsAtEnd (S.left source.new)) }
@@ -48,6 +50,8 @@ pub fn read_all<S: Source>(alloc: Global, source: &mut S) -> Result<Vec<u8>, Fau
         ⊎ GivesTooMuch (S.left source.old) (S.left source.new) }
     ensures fault { IfErr result (λ fault. ((fault ≡ Fault.Memory) × (S.has_failed source.new ≡ false)) ⊎ (fault ≡ Fault.Read)) }
     ensures sound { OnOk result (S.has_failed source.new ≡ false) }
+    ensures reads { IfOk result (λ bytes. S.reads source.new ≤ S.reads source.old + (length bytes.items + 1)) }
+    ensures most_reads { S.reads source.new ≤ S.reads source.old + (most_bytes + 1) }
 {
     let mut bytes = Vec::new(alloc);
     let mut piece = [0u8; PIECE];

@@ -1,9 +1,11 @@
-ghost use Rattle.std.specs.Prelude.{◌≡◌, ◌⊎◌, ◌≤◌, All, None, IfOk, IfErr, OnOk, Result};
+ghost use Rattle.std.specs.Prelude.{◌≡◌, ◌⊎◌, ◌≤◌, All, None, Ok, Err, IfOk, IfErr, OnOk, Result, length};
 ghost use Rattle.row_code.specs.declared.image.Image.{Image};
 ghost use Rattle.loader.specs.Fault.{first_fault};
 ghost use Rattle.loader.specs.Program.{IsProgramOf};
 ghost use Rattle.loader.specs.declared.load_fault.LoadFault.{LoadFault};
-ghost use Rattle.schedule_reader.specs.Schedule.{IsRun, choices_of};
+ghost use Rattle.schedule_reader.specs.Schedule.{IsRun, choices_of, finished_schedule};
+ghost use Rattle.thread_runner.specs.declared.fault.LiveFault.{LiveFault};
+ghost use Rattle.thread_runner.specs.declared.runner.LiveRun.{LiveRun};
 ghost use Rattle.trace_text.specs.Start.{IsRefused};
 ghost use Rattle.trace_text.specs.declared.run_end.RunEnd.{RunEnd};
 ghost use Rattle.workbench.specs.declared.fault.Fault.{Fault};
@@ -21,7 +23,7 @@ use schedule_reader::{Run, read_schedule};
 use std::alloc::Global;
 use std::sync::Wait;
 use std::thread::Threads;
-use thread_runner::{Gate, LiveFault, NoGate, run_live};
+use thread_runner::{Gate, LiveFault, LiveRun, NoGate, run_live};
 use trace_text::loaded::run_loaded;
 use trace_text::{PlayFault, RunEnd};
 
@@ -108,6 +110,25 @@ pub fn fault_of_live(fault: LiveFault) -> Fault
     }
 }
 
+/// The choices of a live run, or why it was broken off.
+fn runs_of(alloc: Global, ran: Result<LiveRun, LiveFault>) -> Result<Vec<Run>, Fault>
+    requires few { IfOk ran (λ run. length run.schedule.items ≤ 4000000000) }
+    ensures runs { IfOk result (λ runs. All IsRun runs.items) }
+    ensures choices { IfOk result (λ runs. (run : LiveRun) × ((ran ≡ Ok run)
+        × (choices_of (finished_schedule run.schedule.items).runs ≡ choices_of runs.items))) }
+    ensures broken { (fault : LiveFault) → ran ≡ Err fault → result ≡ Err (fault_of_live fault) }
+    ensures fault { IfErr result (λ fault. (fault ≡ Fault.Memory) ⊎ (fault ≡ Fault.Spawn)) }
+{
+    let run = match ran {
+        Ok(run) => run,
+        Err(fault) => return Err(fault_of_live(fault)),
+    };
+    match read_schedule(alloc, run.schedule.as_slice()) {
+        Ok(runs) => Ok(runs),
+        Err(_) => Err(Fault::Memory),
+    }
+}
+
 /// The choices that were recorded of a run of a loaded program on real threads.
 fn recorded<R: Threads + Wait + Sync, G: Gate + Sync>(
     rt: &R,
@@ -122,12 +143,5 @@ fn recorded<R: Threads + Wait + Sync, G: Gate + Sync>(
     ensures runs { IfOk result (λ runs. All IsRun runs.items) }
     ensures fault { IfErr result (λ fault. (fault ≡ Fault.Memory) ⊎ (fault ≡ Fault.Spawn)) }
 {
-    let run = match run_live(rt, alloc, program, limit, gate) {
-        Ok(run) => run,
-        Err(fault) => return Err(fault_of_live(fault)),
-    };
-    match read_schedule(alloc, run.schedule.as_slice()) {
-        Ok(runs) => Ok(runs),
-        Err(_) => Err(Fault::Memory),
-    }
+    runs_of(alloc, run_live(rt, alloc, program, limit, gate))
 }

@@ -21,15 +21,21 @@ from ._calls import (
     run,
     version,
 )
-from ._errors import Differs, NoLine, NotATrace, OutOfMemory, Refused, TooLong
+from ._errors import Closed, Differs, Error, Malformed, NoHistory, NoLine, NotATrace, OutOfMemory, Refused, TooLong
+from ._library import free_rooms
+from ._session import Session
 from ._shown import Drawing, Page, Schedule
 from ._trace import Barrier, Line, Phaser, State, Thread, Trace
 
 __all__ = [
     "Barrier",
+    "Closed",
     "Differs",
     "Drawing",
+    "Error",
     "Line",
+    "Malformed",
+    "NoHistory",
     "NoLine",
     "NotATrace",
     "OutOfMemory",
@@ -37,6 +43,7 @@ __all__ = [
     "Phaser",
     "Refused",
     "Schedule",
+    "Session",
     "State",
     "Thread",
     "TooLong",
@@ -47,7 +54,7 @@ __all__ = [
     "debug",
     "draw",
     "explain",
-    "list",
+    "free_rooms",
     "page",
     "plan",
     "run",

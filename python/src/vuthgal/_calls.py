@@ -10,7 +10,7 @@ from ._shown import Drawing, Page, Schedule
 from ._trace import Trace
 
 #: A text; bytes; or the path of a file that holds them.
-Text = Union[str, bytes, "os.PathLike[str]"]
+Text = Union[str, bytes, bytearray, memoryview, "os.PathLike[str]"]
 
 
 def _bytes(text: Text) -> bytes:
@@ -18,6 +18,8 @@ def _bytes(text: Text) -> bytes:
         return text
     if isinstance(text, str):
         return text.encode("utf-8")
+    if isinstance(text, (bytearray, memoryview)):
+        return bytes(text)
     return Path(text).read_bytes()
 
 
@@ -30,7 +32,7 @@ def _told(status: int, output: bytes, line: bytes) -> bytes:
     if status == 4:
         raise OutOfMemory(output)
     if status == 5:
-        raise TooLong("an input has more than 16,777,216 bytes")
+        raise TooLong("an input has more bytes than it may have")
     raise AssertionError(f"the library returns status {status}")
 
 
@@ -111,7 +113,7 @@ def explain(words: str = "") -> str:
     text = words.encode("utf-8")
     status, output, line = called("explain", text, len(text))
     if status == 2:
-        raise NoLine(words)
+        raise NoLine(words, line.decode("utf-8"))
     return _told(status, output, line).decode("utf-8")
 
 

@@ -2,7 +2,11 @@
 from typing import Optional, Tuple
 
 
-class Refused(ValueError):
+class Error(Exception):
+    """What each of these is."""
+
+
+class Refused(Error, ValueError):
     """An input is refused. `str()` is the line of it, and what it means."""
 
     def __init__(self, told: str, output: bytes = b"") -> None:
@@ -33,7 +37,7 @@ class Refused(ValueError):
         return f"{self.told}\n{self.meaning}"
 
 
-class Differs(AssertionError):
+class Differs(Error, AssertionError):
     """A trace isn't that of the run."""
 
     def __init__(self, told: str, line: int) -> None:
@@ -53,11 +57,18 @@ class NotATrace(Differs):
         self.before: str = before
 
 
-class NoLine(LookupError):
-    """Words to be explained are those of no line."""
+class NoLine(Error, LookupError):
+    """Words to be explained are those of no line. `told` lists what can be asked."""
+
+    def __init__(self, words: str, told: str = "") -> None:
+        super().__init__(words, told)
+        self.told: str = told
+
+    def __str__(self) -> str:
+        return str(self.args[0])
 
 
-class OutOfMemory(MemoryError):
+class OutOfMemory(Error, MemoryError):
     """There is no memory for a call. `output` is a beginning of what it would have written."""
 
     def __init__(self, output: bytes) -> None:
@@ -65,5 +76,17 @@ class OutOfMemory(MemoryError):
         self.output: bytes = output
 
 
-class TooLong(ValueError):
+class TooLong(Error, ValueError):
     """An input has more bytes than it may have."""
+
+
+class Malformed(Error, ValueError):
+    """A text is no line, no state or no trace."""
+
+
+class NoHistory(Error, LookupError):
+    """No choice is kept that could be taken back."""
+
+
+class Closed(Error, ValueError):
+    """A session is closed, or another thread uses it."""

@@ -3,7 +3,7 @@ import ctypes
 import os
 import threading
 from pathlib import Path
-from typing import List, Tuple
+from typing import Any, List, Tuple
 
 _HERE = Path(__file__).resolve().parent
 
@@ -30,7 +30,7 @@ _out = [ctypes.c_void_p, _size, ctypes.c_void_p]
 _in = [ctypes.c_char_p, _size]
 
 
-def _declared(name: str, inputs: int, extra: Tuple[type, ...] = ()):
+def _declared(name: str, inputs: int, extra: Tuple[Any, ...] = ()) -> Any:
     call = getattr(_library, "vuthgal_" + name)
     call.argtypes = _in * inputs + [*extra] + _out + _out
     call.restype = ctypes.c_uint8
@@ -50,6 +50,24 @@ _calls = {
     "debug": _declared("debug", 2),
     "explain": _declared("explain", 1),
 }
+
+
+class _Handle(ctypes.Structure):
+    """`vuthgal_session`: only the library looks into it."""
+
+    _fields_ = [("at", ctypes.c_void_p), ("is_open", ctypes.c_uint64)]
+
+
+_handle = [ctypes.POINTER(_Handle)]
+_open = _library.vuthgal_session_open
+_open.argtypes, _open.restype = _handle + _in + _out, ctypes.c_uint8
+_command = _library.vuthgal_session_command
+_command.argtypes, _command.restype = _handle + _in + _out, ctypes.c_uint8
+_reply = _library.vuthgal_session_reply
+_reply.argtypes, _reply.restype = _handle + _out, ctypes.c_uint8
+_close = _library.vuthgal_session_close
+_close.argtypes, _close.restype = _handle, None
+
 _library.vuthgal_version.argtypes = _out
 _library.vuthgal_version.restype = None
 
@@ -79,6 +97,11 @@ class _Room:
 
     def line(self) -> bytes:
         return ctypes.string_at(self._line, min(self._line_count.value, _LINE_ROOM))
+
+
+def free_rooms() -> None:
+    """Frees what this thread keeps for its next call: a room of at most 16 MiB."""
+    _thread.free.clear()
 
 
 class _Thread(threading.local):
@@ -130,3 +153,38 @@ def version_text() -> str:
     output = ctypes.create_string_buffer(512)
     _library.vuthgal_version(ctypes.addressof(output), 512, ctypes.addressof(count))
     return output.raw[: count.value].decode()
+
+
+class Held:
+    """A session that the library holds. One thread may use it at a time."""
+
+    __slots__ = ("_handle", "_at", "_room", "_count", "_places")
+
+    def __init__(self) -> None:
+        self._handle = _Handle()
+        self._at = ctypes.byref(self._handle)
+        self._room = ctypes.create_string_buffer(512)
+        self._count = _size()
+        self._places = (ctypes.addressof(self._room), 512, ctypes.addressof(self._count))
+
+    @property
+    def is_open(self) -> bool:
+        return bool(self._handle.is_open)
+
+    def open(self, program: bytes) -> Tuple[int, bytes]:
+        """The status, and the line."""
+        status = _open(self._at, program, len(program), *self._places)
+        return status, ctypes.string_at(self._room, self._count.value)
+
+    def command(self, line: bytes) -> Tuple[int, bytes]:
+        """The status, and the reply."""
+        status = _command(self._at, line, len(line), *self._places)
+        count = self._count.value
+        if count <= 512:
+            return status, ctypes.string_at(self._room, count)
+        room = ctypes.create_string_buffer(count)
+        status = _reply(self._at, ctypes.addressof(room), count, ctypes.addressof(self._count))
+        return status, room.raw
+
+    def close(self) -> None:
+        _close(self._at)

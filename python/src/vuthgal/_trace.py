@@ -2,6 +2,8 @@
 from dataclasses import dataclass
 from typing import Dict, List, Optional, Tuple
 
+from ._errors import Malformed
+
 
 @dataclass(frozen=True)
 class Line:
@@ -23,6 +25,14 @@ class Line:
     #: the view behind `+p0`
     view: Optional[int]
     text: str
+
+    @staticmethod
+    def parse(text: str) -> "Line":
+        """The line that a text is. It raises `Malformed` where it is none."""
+        try:
+            return _line(text)
+        except (ValueError, IndexError) as error:
+            raise Malformed(f"no line of a trace: {text!r}") from error
 
     def __str__(self) -> str:
         return self.text
@@ -72,6 +82,16 @@ class State:
     barriers: Tuple[Barrier, ...]
     #: the cells that aren't 0
     cells: Dict[int, int]
+
+    @staticmethod
+    def parse(text: str) -> "State":
+        """The state that lines are, from `state` on. It raises `Malformed` where they are none."""
+        try:
+            if not text.startswith("state "):
+                raise ValueError("the first line begins with `state`")
+            return _state(text.splitlines())
+        except (ValueError, IndexError, TypeError) as error:
+            raise Malformed(f"no state: {text!r}") from error
 
 
 _HAS_VALUE = {"=", "out", "throw", "catch", "die"}
@@ -131,28 +151,26 @@ class Trace:
         self._lines: Optional[Tuple[Line, ...]] = None
         self._state: Optional[State] = None
 
-    def _read(self) -> None:
-        texts = self._bytes.decode("ascii").split("\n")[:-1]
-        at = next((n for n, text in enumerate(texts) if text.startswith("state ")), None)
-        if at is None:
-            raise ValueError("a trace has a line that begins with `state`")
-        self._lines = tuple(map(_line, texts[:at]))
-        self._state = _state(texts[at:])
+    def _end(self) -> int:
+        """Where the state begins. No line of a state begins as its first does, so the last one that does is it."""
+        at = self._bytes.rfind(b"\nstate ") + 1
+        if not at and not self._bytes.startswith(b"state "):
+            raise Malformed("a trace has a line that begins with `state`")
+        return at
 
     @property
     def lines(self) -> Tuple[Line, ...]:
         """A line for each choice."""
         if self._lines is None:
-            self._read()
-        assert self._lines is not None
+            texts = self._bytes[: self._end()].decode("ascii").split("\n")[:-1]
+            self._lines = tuple(map(Line.parse, texts))
         return self._lines
 
     @property
     def state(self) -> State:
-        """How all stand at the end."""
+        """How all stand at the end. The lines before aren't looked at."""
         if self._state is None:
-            self._read()
-        assert self._state is not None
+            self._state = State.parse(self._bytes[self._end() :].decode("ascii"))
         return self._state
 
     def __bytes__(self) -> bytes:
@@ -162,10 +180,10 @@ class Trace:
         return self._bytes.decode("ascii")
 
     def __repr__(self) -> str:
-        return f"<Trace of {len(self.lines)} lines, {self.state.word}>"
+        return f"<Trace of {self._bytes.count(10, 0, self._end())} lines, {self.state.word}>"
 
     def __eq__(self, other: object) -> bool:
-        return self._bytes == other._bytes if isinstance(other, Trace) else NotImplemented
+        return isinstance(other, Trace) and self._bytes == other._bytes
 
     def __hash__(self) -> int:
         return hash(self._bytes)

@@ -32,6 +32,33 @@ calls! {
     vuthgal_explain(words, words_length);
 }
 
+/// A session. Only the calls look into it. It is closed if both are 0.
+#[repr(C)]
+#[derive(Debug)]
+#[allow(non_camel_case_types)]
+pub struct vuthgal_session {
+    pub at: *mut u8,
+    pub is_open: u64,
+}
+
 extern "C" {
+    pub fn vuthgal_session_open(
+        session: *mut vuthgal_session,
+        program: *const u8,
+        program_length: usize,
+        line: *mut u8,
+        line_room: usize,
+        line_length: *mut usize,
+    ) -> u8;
+    pub fn vuthgal_session_command(
+        session: *mut vuthgal_session,
+        command: *const u8,
+        command_length: usize,
+        output: *mut u8,
+        output_room: usize,
+        output_length: *mut usize,
+    ) -> u8;
+    pub fn vuthgal_session_reply(session: *mut vuthgal_session, output: *mut u8, output_room: usize, output_length: *mut usize) -> u8;
+    pub fn vuthgal_session_close(session: *mut vuthgal_session);
     pub fn vuthgal_version(output: *mut u8, output_room: usize, output_length: *mut usize);
 }

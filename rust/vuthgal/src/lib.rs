@@ -7,6 +7,12 @@
 //!
 //! A program is the bytes of a text or of an image. docs/README.md lists the formats.
 
+mod session;
+mod trace;
+
+pub use session::Session;
+pub use trace::{Barrier, Line, Malformed, Phaser, State, Thread, Trace};
+
 use std::cell::RefCell;
 use std::error::Error;
 use std::fmt;
@@ -14,13 +20,16 @@ use vuthgal_sys as sys;
 
 /// What ends a call that doesn't do as it was asked.
 #[derive(Clone, Debug, PartialEq, Eq)]
+#[non_exhaustive]
 pub enum Fault {
     /// An input is refused: the line of it, and what was written before.
     Refused { line: String, output: Vec<u8> },
     /// There is no memory: what stands there is a beginning of the whole.
     Memory { output: Vec<u8> },
-    /// An input has more than 16,777,216 bytes.
+    /// An input has more than 16,777,216 bytes, or words to explain have more than 65,536.
     TooLong,
+    /// The session is closed, since there was no memory for a reply.
+    Closed,
     /// The library returned what none does that this crate knows: a status, or a line.
     Unknown { answer: String },
 }
@@ -33,7 +42,8 @@ impl fmt::Display for Fault {
                 _ => f.write_str(line),
             },
             Fault::Memory { .. } => f.write_str("memory"),
-            Fault::TooLong => f.write_str("an input has more than 16,777,216 bytes"),
+            Fault::TooLong => f.write_str("an input has more bytes than it may have"),
+            Fault::Closed => f.write_str("the session is closed"),
             Fault::Unknown { answer } => write!(f, "the library answers `{answer}`"),
         }
     }
@@ -73,7 +83,17 @@ struct Room {
 }
 
 thread_local! {
-    static ROOM: RefCell<Room> = const { RefCell::new(Room { output: Vec::new(), line: [0; 4096] }) };
+    static ROOM: RefCell<Option<Room>> = RefCell::new(None);
+}
+
+/// Frees what this thread keeps for its next call: a room of at most 16 MiB.
+pub fn free_room() {
+    drop(taken());
+}
+
+/// The room of this thread. It has none while a call within a call uses it, and none at its end.
+fn taken() -> Option<Room> {
+    ROOM.try_with(|room| room.try_borrow_mut().ok()?.take()).ok().flatten()
 }
 
 /// A call, by what it is handed: output, room, length; line, room, length.
@@ -81,31 +101,27 @@ type Call<'a> = &'a dyn Fn(*mut u8, usize, *mut usize, *mut u8, usize, *mut usiz
 
 /// The status, the output and the line of a call, which is made again where there was too little room.
 fn called(call: Call<'_>) -> (u8, Vec<u8>, Vec<u8>) {
-    ROOM.with_borrow_mut(|room| {
-        if room.output.is_empty() {
-            room.output.resize(1 << 16, 0);
-        }
-        loop {
-            let (mut length, mut line_length) = (0, 0);
-            let status = call(
-                room.output.as_mut_ptr(),
-                room.output.len(),
-                &mut length,
-                room.line.as_mut_ptr(),
-                room.line.len(),
-                &mut line_length,
-            );
-            if length <= room.output.len() {
-                let line = room.line[..line_length.min(room.line.len())].to_vec();
-                let output = room.output[..length].to_vec();
-                if room.output.len() > KEPT {
-                    room.output = Vec::new();
-                }
-                return (status, output, line);
+    let mut room = taken().unwrap_or_else(|| Room { output: vec![0; 1 << 16], line: [0; 4096] });
+    loop {
+        let (mut length, mut line_length) = (0, 0);
+        let status = call(
+            room.output.as_mut_ptr(),
+            room.output.len(),
+            &mut length,
+            room.line.as_mut_ptr(),
+            room.line.len(),
+            &mut line_length,
+        );
+        if length <= room.output.len() {
+            let line = room.line[..line_length.min(room.line.len())].to_vec();
+            let output = room.output[..length].to_vec();
+            if room.output.len() <= KEPT {
+                let _ = ROOM.try_with(|kept| kept.try_borrow_mut().map(|mut kept| *kept = Some(room)));
             }
-            room.output.resize(length, 0);
+            return (status, output, line);
         }
-    })
+        room.output = vec![0; length];
+    }
 }
 
 fn text(bytes: Vec<u8>) -> String {
@@ -119,6 +135,7 @@ fn answer((status, output, line): (u8, Vec<u8>, Vec<u8>)) -> Result<(bool, Vec<u
         3 => Err(Fault::Refused { line: text(line).trim_end().to_owned(), output }),
         4 => Err(Fault::Memory { output }),
         5 => Err(Fault::TooLong),
+        6 => Err(Fault::Closed),
         _ => Err(unknown(format!("status {status}"))),
     }
 }

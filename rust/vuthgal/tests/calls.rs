@@ -42,3 +42,49 @@ fn tells() {
     assert_eq!(vuthgal::explain("hm hm"), Ok(None));
     assert_eq!(vuthgal::version().lines().count(), 3);
 }
+
+#[test]
+fn a_session_goes_on() {
+    let mut session = vuthgal::Session::open(PROGRAM).unwrap();
+    let whole: vuthgal::Trace = TRACE.parse().unwrap();
+    for line in &whole.lines {
+        assert_eq!(session.step(line.thread).as_ref(), Ok(line));
+    }
+    assert_eq!(session.state().unwrap(), whole.state);
+    assert_eq!(session.step(9).unwrap().what, "none");
+    for _ in &whole.lines {
+        assert_eq!(session.back(), Ok(true));
+    }
+    assert_eq!(session.back(), Ok(false));
+    assert_eq!(session.state().unwrap().phasers[0].view, 0);
+    assert_eq!(session.command("g t0 t1"), Ok("end 2\n".to_owned()));
+    assert!(matches!(vuthgal::Session::open(b"ldi r8 1\n"), Err(Fault::Refused { line, .. }) if line == "refused asm 1 5"));
+    std::thread::spawn(move || session.step(0).unwrap()).join().unwrap();
+}
+
+#[test]
+fn a_trace_is_read() {
+    let trace: vuthgal::Trace = TRACE.parse().unwrap();
+    assert_eq!((trace.lines[1].mark.as_deref(), trace.lines[1].view, trace.lines[1].value), (Some("+p0"), Some(1), Some(1)));
+    assert_eq!((trace.state.word.as_str(), trace.state.phasers[0].parties, trace.state.threads[0].out[0]), ("all", 2, 1));
+    for text in ["", "1 t0 0 = 0\n", "state 1\n", "state 1 1 all\nt0 0\n", "hm\nstate 1 1 all\n"] {
+        assert!(text.parse::<vuthgal::Trace>().is_err(), "{text}");
+    }
+}
+
+#[test]
+fn nothing_panics_at_a_threads_end() {
+    struct Late;
+    impl Drop for Late {
+        fn drop(&mut self) {
+            assert_eq!(vuthgal::run(PROGRAM, SCHEDULE).unwrap(), TRACE);
+        }
+    }
+    thread_local!(static LATE: Late = Late);
+    std::thread::spawn(|| {
+        LATE.with(|_| vuthgal::run(PROGRAM, SCHEDULE).unwrap());
+        vuthgal::free_room();
+    })
+    .join()
+    .unwrap();
+}

@@ -4,9 +4,8 @@ ghost use Rattle.std.specs.Io.{WritesAtMost};
 ghost use Rattle.std.specs.Io.KnownBytes.{WriteAppends};
 ghost use Rattle.std.specs.Prelude.{None, if◌then◌else◌};
 
-use std::io::{IsTerminal, Stderr, Stdout, Write};
-use std::os::unix::fs::FileTypeExt;
-use std::{fs, io};
+use std::io;
+use std::io::{IsTerminal, Stderr, Write};
 
 /// How many bytes are written to a terminal at a time.
 const PIECE: usize = 512;
@@ -19,10 +18,10 @@ pub struct Printable<W> {
     is_terminal: bool,
 }
 
-/// Standard output.
-pub fn output(rt: &HostRuntime) -> Printable<Stdout> {
+/// A writer over standard output.
+pub fn output<W>(rt: &HostRuntime, writer: W) -> Printable<W> {
     Printable {
-        writer: rt.stdout(),
+        writer,
         is_terminal: rt.stdout().is_terminal(),
     }
 }
@@ -32,14 +31,6 @@ pub fn errors(rt: &HostRuntime) -> Printable<Stderr> {
     Printable {
         writer: rt.stderr(),
         is_terminal: rt.stderr().is_terminal(),
-    }
-}
-
-/// Returns whether standard output is a pipe, so that another program shows or uses what is written.
-pub fn writes_to_pipe(rt: &HostRuntime) -> bool {
-    match fs::metadata(rt, "/dev/stdout") {
-        Ok(metadata) => metadata.file_type().is_fifo(),
-        Err(_) => false,
     }
 }
 

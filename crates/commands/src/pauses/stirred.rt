@@ -4,9 +4,8 @@ ghost use Rattle.commands.specs.Pauses.{pause_of, word_at};
 use crate::pauses::pause::Pause;
 use rand_core::utils::NextWord;
 use rand_pcg::Pcg32;
-use thread_runner::Gate;
 
-/// A gate at which a worker pauses before some of its turns. The generator of the seed says how, for each run, thread and turn.
+/// The pauses of a run's workers before some of their turns. The generator of the seed says which, for each run, thread and turn.
 #[derive(Clone, Copy, Debug, PartialEq, Eq)]
 pub struct Stirred {
     pub seed: u64,
@@ -23,11 +22,5 @@ impl Stirred {
         let mut words = Pcg32::new(self.seed, stream);
         words.advance(u64::from(step));
         Pause::of(words.next_word())
-    }
-}
-
-impl Gate for Stirred {
-    fn pass(&self, thread: u8, step: u32) {
-        self.pause(thread, step).wait();
     }
 }

@@ -2,8 +2,8 @@ ghost use Rattle.std.specs.Prelude.{◌≡◌, ◌+◌, ◌≤◌, ◌∷◌, []
 ghost use Rattle.std.specs.Fmt.{decimal};
 ghost use Rattle.std.specs.Io.KnownBytes.{Appends};
 ghost use Rattle.debugger.specs.declared.stop.Stop.{Stop};
-ghost use Rattle.debugger.specs.Command.{Back, Break, Clear, Go, Print, Step, Unknown, go_by, goes_on, line_order, order_of, runs_in, wants_memory};
-ghost use Rattle.debugger.specs.Reply.{IsCarriedOut, number_line, stop_text};
+ghost use Rattle.debugger.specs.Command.{Back, Break, Clear, Go, Print, Step, Unknown, go_by, goes_on, line_order, order_of, runs_in};
+ghost use Rattle.debugger.specs.Reply.{IsCarriedOut, number_line, stop_text, wants_memory};
 
 use crate::command::{Command, are_tokens, command_by, letter_of, lone_turn, split_word};
 use crate::number_line::{ROOM, put_number_line};
@@ -12,7 +12,7 @@ use crate::stop::Stop;
 use byte_ports::{Failed, Sink};
 use schedule_reader::Run;
 use std::alloc::AllocError;
-use thread_machine::{Choice, StepFault};
+use thread_machine::{Choice, StepFault, Undo};
 use trace_text::line::{put_event, put_refusal};
 use trace_text::line_end::LineEnd;
 use trace_text::state::state_text;
@@ -125,9 +125,10 @@ fn going_on(done: Result<(), CommandFault>) -> Result<bool, CommandFault>
 impl Debugger {
     /// Plays a choice as the command `s` does, and writes its line. It takes no memory but for what is put out.
     fn step_command<W: Sink>(&mut self, choice: Choice, output: &mut W) -> Result<(), CommandFault>
-        ensures { IsCarriedOut (wants_memory (Step choice) ≡ true) result self.old (Step choice) self.new
+        ensures { IsCarriedOut (wants_memory self.old (Step choice) ≡ true) result self.old (Step choice) self.new
             (W.written output.old) (W.written output.new) (W.has_failed output.new) }
     {
+        let mut undo = Undo::new();
         let number = self.played.choices() + 1;
         let mut line = LineEnd::new();
         if usize::from(choice.thread) >= self.played.thread_count() {
@@ -135,9 +136,9 @@ impl Debugger {
             return say_line(output, &line);
         }
         let pc = self.played.pc(choice.thread);
-        match self.played.step_into(choice, &mut self.spare) {
+        match self.played.step_into(choice, &mut undo) {
             Ok(event) => {
-                self.undos.push(&mut self.spare);
+                self.undos.push(undo);
                 put_event(&mut line, number, choice, pc, &event);
                 say_line(output, &line)
             }
@@ -196,7 +197,7 @@ impl Debugger {
 
     /// Writes the machine's state.
     fn print_command<W: Sink>(&self, output: &mut W) -> Result<(), CommandFault>
-        ensures { IsCarriedOut (wants_memory Print ≡ true) result self.now Print self.now
+        ensures { IsCarriedOut (wants_memory self.now Print ≡ true) result self.now Print self.now
             (W.written output.old) (W.written output.new) (W.has_failed output.new) }
     {
         let text = state_text(self.alloc, self.machine())?;
@@ -235,7 +236,7 @@ impl Debugger {
         command: &Command,
         output: &mut W,
     ) -> Result<bool, CommandFault>
-        ensures outcome { IsCarriedOut (wants_memory (order_of command.now) ≡ true) result self.old (order_of command.now) self.new
+        ensures outcome { IsCarriedOut (wants_memory self.old (order_of command.now) ≡ true) result self.old (order_of command.now) self.new
             (W.written output.old) (W.written output.new) (W.has_failed output.new) }
         ensures goes_on { IfOk result (λ more. more ≡ goes_on (order_of command.now)) }
     {
@@ -256,7 +257,7 @@ impl Debugger {
     /// for what is put out and for the state. After `Write` the command was carried out, and how much of its reply went out is left
     /// open; after `Memory` it was not, and nothing was written.
     pub fn command<W: Sink>(&mut self, line: &[u8], output: &mut W) -> Result<bool, CommandFault>
-        ensures outcome { IsCarriedOut (wants_memory (line_order line.now) ≡ true) result self.old (line_order line.now) self.new
+        ensures outcome { IsCarriedOut (wants_memory self.old (line_order line.now) ≡ true) result self.old (line_order line.now) self.new
             (W.written output.old) (W.written output.new) (W.has_failed output.new) }
         ensures goes_on { IfOk result (λ more. more ≡ goes_on (line_order line.now)) }
     {

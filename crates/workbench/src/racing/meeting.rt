@@ -1,8 +1,8 @@
 //! Threads that meet at one shared phaser.
-ghost use Rattle.std.specs.Prelude.{◌≡◌, ◌≢◌, ◌++◌, map, ℕ, All, IfOk, IfErr, IfSome, None};
+ghost use Rattle.std.specs.Prelude.{◌≡◌, ◌≢◌, ◌+◌, ◌<◌, ◌≤◌, ◌++◌, [], map, ℕ, All, IfOk, IfErr, true, false, length, vec_len, vec_capacity};
 ghost use Rattle.std.specs.List.{range_with_len};
 ghost use Rattle.shared_phaser.specs.declared.history.Kept.{Kept};
-ghost use Rattle.shared_phaser.specs.Known.{phaser_of};
+ghost use Rattle.shared_phaser.specs.Known.{EndsAs, phaser_of};
 ghost use Rattle.workbench.specs.Race.{AreMeetings, HasMet, IsFinal, IsFresh, number_of};
 
 use crate::racing::fault::RaceFault;
@@ -74,47 +74,51 @@ fn callers(
     Ok(callers)
 }
 
-/// Starts a thread for each caller, and waits until all have ended. If one can't be started, it terminates the phaser, so that
-/// those that run come back.
+/// Starts a thread for each caller, and waits until all have ended. Returns whether each could be started. If one can't be, it
+/// terminates the phaser, so that those that run come back.
 fn run<R: Threads + Wait + Sync, P: Pace + Sync>(
     rt: &R,
-    alloc: Global,
     phaser: &SharedPhaser,
     first: Party,
     callers: Vec<Party>,
+    running: Vec<Running>,
     rounds: u32,
     pace: &P,
-) -> (Party, Vec<Running>, Option<RaceFault>)
+) -> (Party, Vec<Running>, bool)
     requires first { first.known.number ≡ 0 }
     requires phaser { phaser_of first ≡ phaser.now }
     requires callers { All (IsFresh phaser.now) callers.items }
+    requires none { running.items ≡ [] }
+    requires room { length callers.items ≤ vec_capacity running }
     ensures first { result.0.known.number ≡ 0 }
     ensures phaser { phaser_of result.0 ≡ phaser.now }
     ensures running { All (λ h. phaser_of h.promise.caller.value ≡ phaser.now) result.1.items }
     ensures rounds { All (λ h. h.promise.rounds ≡ rounds) result.1.items }
-    ensures numbers { result.2 ≡ None
+    ensures numbers { result.2 ≡ true
         → map (λ h. number_of h.promise.caller.value) result.1.items ≡ map number_of callers.items }
-    ensures kept { result.2 ≡ None → result.0 ≡ first }
-    ensures fault { IfSome result.2 (λ fault. fault ≢ RaceFault.Write) }
+    ensures kept { result.2 ≡ true → result.0 ≡ first }
+    ensures some { result.2 ≡ false → length result.1.items < length callers.items }
 {
     thread::scope(
         thread::scope_env(),
         rt,
-        move |scope| -> (Party, Vec<Running>, Option<RaceFault>)
+        move |scope| -> (Party, Vec<Running>, bool)
             requires first { first.known.number ≡ 0 }
             requires phaser { phaser_of first ≡ phaser.now }
             requires callers { All (IsFresh phaser.now) callers.items }
+            requires none { running.items ≡ [] }
+            requires room { length callers.items ≤ vec_capacity running }
             ensures first { result.0.known.number ≡ 0 }
             ensures phaser { phaser_of result.0 ≡ phaser.entry.now }
             ensures running { All (λ h. phaser_of h.promise.caller.value ≡ phaser.entry.now) result.1.items }
             ensures rounds { All (λ h. h.promise.rounds ≡ rounds) result.1.items }
-            ensures numbers { result.2 ≡ None
+            ensures numbers { result.2 ≡ true
                 → map (λ h. number_of h.promise.caller.value) result.1.items ≡ map number_of callers.items }
-            ensures kept { result.2 ≡ None → result.0 ≡ first }
-            ensures fault { IfSome result.2 (λ fault. fault ≢ RaceFault.Write) }
+            ensures kept { result.2 ≡ true → result.0 ≡ first }
+            ensures some { result.2 ≡ false → length result.1.items < length callers.items }
         {
             let mut first = first;
-            let mut running = Vec::new(alloc);
+            let mut running = running;
             for caller in callers {
                 let home = Home {
                     caller: Snapshot::of(&caller),
@@ -128,14 +132,11 @@ fn run<R: Threads + Wait + Sync, P: Pace + Sync>(
                     { work(rt, phaser, caller, rounds, pace) },
                 ) else {
                     phaser.force(rt, &mut first);
-                    return (first, running, Some(RaceFault::Spawn));
+                    return (first, running, false);
                 };
-                let Ok(()) = running.push(handle) else {
-                    phaser.force(rt, &mut first);
-                    return (first, running, Some(RaceFault::Memory));
-                };
+                running.push_reserved(handle);
             }
-            (first, running, None)
+            (first, running, true)
         },
     )
 }
@@ -162,6 +163,30 @@ fn gather<R: Threads>(rt: &R, phaser: &SharedPhaser, first: &mut Party, running:
     }
 }
 
+/// Returns the last word of a race whose callers have all come back, if each of its threads was started.
+fn ended(phaser: SharedPhaser, first: Party, is_whole: bool) -> Result<Word, RaceFault>
+    requires first { first.known.number ≡ 0 }
+    requires phaser { phaser_of first ≡ phaser }
+    ensures word { IfOk result (λ word. (is_whole ≡ true) × EndsAs first.known word) }
+    ensures spawn { IfErr result (λ fault. (is_whole ≡ false) × (fault ≡ RaceFault.Spawn)) }
+{
+    if !is_whole {
+        return Err(RaceFault::Spawn);
+    }
+    Ok(phaser.close(first))
+}
+
+/// Why there is no phaser for a race.
+fn fault_of_new(fault: NewFault) -> RaceFault
+    requires { fault ≢ NewFault.RoutinePolicy }
+    ensures { result ≡ RaceFault.Memory }
+{
+    match fault {
+        NewFault::Memory => RaceFault::Memory,
+        NewFault::RoutinePolicy => unreachable!(),
+    }
+}
+
 /// So many threads meet so often at a phaser with as many parties. Returns its last word, when every caller has come back. Each
 /// thread reports each meeting to `pace`.
 pub fn race<R: Threads + Wait + Sync, P: Pace + Sync>(
@@ -177,16 +202,11 @@ pub fn race<R: Threads + Wait + Sync, P: Pace + Sync>(
     let made = SharedPhaser::new(alloc, parties, Policy::Default, Phase::prevailing(0));
     let (phaser, mut first) = match made {
         Ok(both) => both,
-        Err(NewFault::Memory) => return Err(RaceFault::Memory),
-        Err(NewFault::RoutinePolicy) => unreachable!(),
+        Err(fault) => return Err(fault_of_new(fault)),
     };
-    let Ok(callers) = callers(alloc, &phaser, &mut first, parties) else {
-        return Err(RaceFault::Memory);
-    };
-    let (mut first, running, fault) = run(rt, alloc, &phaser, first, callers, rounds, pace);
+    let callers = callers(alloc, &phaser, &mut first, parties)?;
+    let running = Vec::with_capacity(alloc, callers.len())?;
+    let (mut first, running, is_whole) = run(rt, &phaser, first, callers, running, rounds, pace);
     gather(rt, &phaser, &mut first, running);
-    if let Some(fault) = fault {
-        return Err(fault);
-    }
-    Ok(phaser.close(first))
+    ended(phaser, first, is_whole)
 }

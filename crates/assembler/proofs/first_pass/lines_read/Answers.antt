@@ -1,4 +1,4 @@
-use Rattle.std.proofs.Common.{◌∙◌, ◌+◌, Ok, sym, ap, subst, refl, arith}
+use Rattle.std.proofs.Common.{◌∙◌, ◌+◌, ◌≤◌, [], length, Ok, sym, ap, subst, refl, arith}
 use Rattle.line_reader.specs.declared.asm_fault.AsmFault.{AsmFault}
 use Rattle.assembler.specs.Answers.{FailsAt}
 use Rattle.line_reader.specs.FirstLine.{after_line, first_line}
@@ -30,10 +30,12 @@ returns-in-Err-clause-read c =
     let next =
     next_line (lines_of c.args.text.now) k draft line more before.met
     (sym before.left ∙ lines_first rest (some_text rest c.loop-rest-test.ensures)) in
-    let fault : AsmFault = record { line = k + 1; kind = c.in-Err.kind } in
+    let fault : AsmFault = record { line = k + 1; kind = c.in-Err.fault.kind } in
+    let told : FailsAt fault.kind fault (lines_read 1 [] (lines_of c.args.text.now)) =
     subst (λ r. FailsAt fault.kind fault r) (sym next)
     (fails_then fault.kind fault (behind draft (k + 1) (line_behind draft line))
-    (λ lines. lines_read (k + 1 + 1) lines more) c.in-Err.ensures.read)
+    (λ lines. lines_read (k + 1 + 1) lines more) c.in-Err.ensures.read) in
+    subst (λ (f : AsmFault). FailsAt f.kind f (lines_read 1 [] (lines_of c.args.text.now))) (sym c.placed.ensures) told
 
 pub returns-in-Err-clause-line : goal.returns-in-Err-clause-line
 returns-in-Err-clause-line c =
@@ -41,6 +43,7 @@ returns-in-Err-clause-line c =
     let rest = c.loop-rest.rest.now in
     let within = one_left (lines_of c.args.text.now) c.loop-rest.number (first_line rest) (lines_of (after_line rest))
     (sym before.left ∙ lines_first rest (some_text rest c.loop-rest-test.ensures)) in
+    subst (λ (f : AsmFault). (1 ≤ f.line) × (f.line ≤ length (lines_of c.args.text.now))) (sym c.placed.ensures)
     (omega arith, omega (arith, within))
 
 pub loop-rest-preserved : goal.loop-rest-preserved

@@ -1,9 +1,10 @@
-use Rattle.std.proofs.Common.{rules, ◌≡◌, inl, inr}
+use Rattle.std.proofs.Common.{rules, ◌≡◌, ◌∙◌, ap, inl, inr}
 use Rattle.thread_machine.specs.World.{world_of}
 use Rattle.std.proofs.lemmas.Result.{IfOk-weaker}
 use Rattle.commands.proofs.Drawings.{drawing_in}
 use Rattle.workbench.specs.declared.fault.PictureKind.TheVariants as kind
 use Rattle.commands.proofs.NoPicture.{no_picture}
+use Rattle.pictures.specs.Missing.{missing_in}
 use Rattle.commands.proofs.drawing.drawing_of.Goals as goal
 
 pub returns-clause-refused : goal.returns-clause-refused
@@ -20,3 +21,11 @@ returns-in-Ok-choices_in-clause-drawing c =
     drawing_in c.args.width c.args.schedule.now shown.bytes.items c.args.program.image
     c.args.program.names (world_of c.in-Ok.machine) c.in-Ok-choices_in.choices.items c.as_slice.result.now
     c.in-Ok.ensures.machine c.in-Ok-choices_in.ensures.choices c.in-Ok-choices_in.ensures.few same is) c.drawn.ensures.drawing
+
+pub returns-in-Ok-choices_in-clause-missing : goal.returns-in-Ok-choices_in-clause-missing
+returns-in-Ok-choices_in-clause-missing c =
+    let world = world_of c.in-Ok.machine in
+    let all = c.in-Ok-choices_in.choices.items in
+    let same : c.as_slice.result.now ≡ all = search rules in
+    IfOk-weaker c.drawn.result _ _ (λ shown is.
+    (world, (all, (c.in-Ok.ensures.machine, c.in-Ok-choices_in.ensures.choices, is ∙ ap (missing_in world) same)))) c.drawn.ensures.missing

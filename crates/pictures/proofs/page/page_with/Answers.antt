@@ -7,7 +7,7 @@ use Rattle.trace_text.specs.Start.{Begins}
 use Rattle.std.specs.Prelude.{IfOk, Result}
 use Rattle.pictures.specs.declared.others.OtherRuns.{OtherRuns}
 use Rattle.pictures.specs.declared.page.PageFault.{PageFault}
-use Rattle.pictures.specs.declared.shown.Shown.{Shown}
+use Rattle.pictures.specs.declared.missing.Shown.{Shown}
 use Rattle.pictures.specs.Others.{others_text}
 use Rattle.pictures.specs.Page.{IsPageFrom, IsPageIn, Parts, page_text, parts_of, run_shown}
 use Rattle.pictures.proofs.page.page_with.Goals as goal

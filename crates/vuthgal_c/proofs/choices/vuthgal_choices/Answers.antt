@@ -1,6 +1,6 @@
-use Rattle.std.proofs.Common.{rules, Some, inl}
+use Rattle.std.proofs.Common.{rules, Some}
 use Rattle.vuthgal_c.proofs.choices.vuthgal_choices.Goals as goal
 
--- what the two sinks were handed
+-- what came to the two sinks
 pub returns : goal.returns
-returns c = (c.choices-answer.new.output.written, (c.settled-status.new.line.written, (search rules, search rules, inl (c.choices-answer.result, (Some c.choices-answer.new.trace, (search rules, search rules))))))
+returns c = (c.settled-status.result, (c.choices-answer.new.output.written, (c.settled-status.new.line.written, ((c.choices-answer.result, (Some c.choices-answer.new.trace, (search rules, search rules))), c.hand_both.ensures))))

@@ -1,6 +1,6 @@
-use Rattle.std.proofs.Common.{rules, inl}
+use Rattle.std.proofs.Common.{rules}
 use Rattle.vuthgal_c.proofs.explaining.vuthgal_explain.Goals as goal
 
--- what the two sinks were handed
+-- what came to the two sinks
 pub returns : goal.returns
-returns c = (c.explained-answer.new.output.written, (c.settled-status.new.line.written, (search rules, search rules, inl (c.explained-answer.result, (search rules, search rules)))))
+returns c = (c.settled-status.result, (c.explained-answer.new.output.written, (c.settled-status.new.line.written, ((c.explained-answer.result, (search rules, search rules)), c.hand_both.ensures))))

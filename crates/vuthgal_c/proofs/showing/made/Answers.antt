@@ -1,12 +1,34 @@
-use Rattle.std.proofs.Common.{rules, ℕ, List, Some, inl, inr, refl, subst}
+use Rattle.std.proofs.Common.{rules, ℕ, List, Some, inl, inr, refl, subst, ◌∙◌}
 use Rattle.std.proofs.lemmas.Bool.{false≢true}
+use Rattle.commands.specs.Pictures.{HasWritten}
 use Rattle.workbench.specs.Input.{GivesTooMuch}
-use Rattle.vuthgal_c.proofs.Faults.{err_again}
+use Rattle.vuthgal_c.proofs.Faults.{all_given, err_again}
 use Rattle.vuthgal_c.proofs.showing.made.Goals as goal
 
+-- the schedule was read to its end
+pub returns-in-Ok-make-clause-made : goal.returns-in-Ok-make-clause-made
+returns-in-Ok-make-clause-made g c =
+    let made = c.in-Ok-make.ensures.done in
+    let all = all_given _ _ _ made.1.0 ∙ c.new-schedule.ensures in
+    record {
+      done = (
+        c.in-Ok.program,
+        (
+          c.in-Ok.ensures.program,
+          subst (λ (s : List ℕ). HasWritten (g.P.Picture.is_picture c.args.picture.now c.in-Ok.program s)
+              (g.K.Sink.written c.args.output.now) (g.K.Sink.written c.make.new.output)) all made.1.1,
+        ),
+      );
+      refused = search rules;
+      unwritten = search rules;
+      read = search rules;
+      write = search rules;
+      spawn = search rules;
+    }
+
 -- the source is in memory: its bytes can't be read only where there are too many
-pub returns-in-Err-make : goal.returns-in-Err-make
-returns-in-Err-make g c = record {
+pub returns-in-Err-make-clause-made : goal.returns-in-Err-make-clause-made
+returns-in-Err-make-clause-made g c = record {
   done = search rules;
   refused = search rules;
   unwritten = search rules;

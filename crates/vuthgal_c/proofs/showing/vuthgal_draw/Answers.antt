@@ -1,6 +1,22 @@
-use Rattle.std.proofs.Common.{rules, inl}
+use Rattle.std.proofs.Common.{rules, ℕ, false, List, Some, subst, ap}
+use Rattle.commands.specs.Drawing.{IsDrawingIn}
+use Rattle.workbench.specs.declared.fault.PictureKind.TheVariants as picture
+use Rattle.vuthgal_c.specs.Beyond.{MakesPicture}
+use Rattle.vuthgal_c.specs.Counting.{Tally}
 use Rattle.vuthgal_c.proofs.showing.vuthgal_draw.Goals as goal
 
--- what the two sinks were handed
+-- what came to the two sinks
 pub returns : goal.returns
-returns c = (c.made-answer.new.output.written, (c.settled_as_asked-status.new.errors.written, (search rules, search rules, inl (c.made-answer.result, (search rules, search rules)))))
+returns c =
+    let begun = ap (λ (t : Tally). t.written) c.new-shown.ensures in
+    let made = subst (λ (w : List ℕ). MakesPicture (λ program schedule text. IsDrawingIn c.args.width program.image program.names schedule text)
+    picture.Drawing c.args.program.now c.args.schedule.now c.made-answer.result (Some w) (Some c.made-answer.new.output.written) false) begun c.made-answer.ensures.made in (
+      c.settled_as_asked-status.result,
+      (
+        c.made-answer.new.output.written,
+        (
+          c.settled_as_asked-status.new.errors.written,
+          ((c.made-answer.result, (made, search rules, search rules)), c.hand_both.ensures),
+        ),
+      ),
+    )

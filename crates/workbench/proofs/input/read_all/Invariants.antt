@@ -1,4 +1,4 @@
-use Rattle.std.proofs.Common.{◌≤◌}
+use Rattle.std.proofs.Common.{◌≤◌, ◌+◌}
 use Rattle.std.specs.Prelude.{vec_len}
 use Rattle.std.specs.Io.KnownBytes.{Consumes}
 use Rattle.workbench.proofs.input.read_all.Given as goal
@@ -9,4 +9,5 @@ invariant-loop g l = record {
   given : Consumes (g.S.Source.left l.fn.source) (g.S.Source.left l.source) l.bytes.items;
   few : vec_len l.bytes ≤ 16777216;
   counted : l.counter ≤ vec_len l.bytes;
+  reads : g.S.Source.reads l.source ≤ g.S.Source.reads l.fn.source + l.counter;
 }

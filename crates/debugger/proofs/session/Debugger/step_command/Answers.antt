@@ -2,7 +2,8 @@ use Rattle.std.proofs.Common.{◌≡◌, ◌∙◌, ◌+◌, true, ap, sym}
 use Rattle.machine_scene.specs.Scene.{thread_at}
 use Rattle.thread_machine.specs.World.{StoredWorld, world_of}
 use Rattle.thread_machine.specs.Step.{Played, played, refusal_of}
-use Rattle.debugger.specs.Command.{Step, wants_memory}
+use Rattle.debugger.specs.Command.{Step}
+use Rattle.debugger.specs.Reply.{wants_memory}
 use Rattle.debugger.specs.Session.{Session}
 use Rattle.debugger.proofs.Trails.{trail_on, session_on}
 use Rattle.debugger.proofs.Goes.{step_unless}
@@ -21,7 +22,7 @@ returns-in-Ok g c =
     let seen : c.self.inside.played ≡ session.machine = ap (λ (s : Session). s.machine) c.self.view_is in
     let accepted = ap (λ (w : StoredWorld). refusal_of (world_of w) choice) (sym seen) ∙ c.in-Ok.ensures.accepted in
     let both = c.in-Ok.ensures.played ∙ ap (λ (w : StoredWorld). played (world_of w) choice) seen in
-    stepped (wants_memory (Step choice) ≡ true) c.say_line-in-Ok.result session _ choice c.put_event.new.line _ _ _
+    stepped (wants_memory session (Step choice) ≡ true) c.say_line-in-Ok.result session _ choice c.put_event.new.line _ _ _
     (step_unless (refusal_of (world_of session.machine) choice) session _ choice accepted
     (record {
       accepted = accepted;

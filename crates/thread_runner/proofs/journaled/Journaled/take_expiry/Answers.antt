@@ -1,4 +1,4 @@
-use Rattle.std.proofs.Common.{◌∙◌, sym, rules, arith}
+use Rattle.std.proofs.Common.{rules, arith}
 use Rattle.thread_runner.specs.Recording.{recorded_world}
 use Rattle.thread_runner.proofs.Choosing.{due_by_expiry}
 use Rattle.thread_runner.proofs.journaled.Journaled.take_expiry.Goals as goal

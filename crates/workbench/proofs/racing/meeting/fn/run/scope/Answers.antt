@@ -1,4 +1,4 @@
-use Rattle.std.proofs.Common.{◌≡◌, ◌∙◌, ◌∷◌, All, ap, subst, sym, rules}
+use Rattle.std.proofs.Common.{◌≡◌, ◌∙◌, ◌∷◌, [], All, ap, arith, length, length-append, subst, sym, rules}
 use Rattle.std.specs.Prelude.{map}
 use Rattle.std.specs.Vec.Iter.{into_iter_items}
 use Rattle.std.proofs.lemmas.List.Elements.{All-head, All-push, All-rest}
@@ -20,7 +20,7 @@ loop-caller-preserved g c =
     All-head (IsFresh c.captures.phaser.now) caller rest (subst (All (IsFresh c.captures.phaser.now)) first inv.callers) in
     let given : c.in-Ok.handle.promise.caller.value ≡ caller = search rules in
     let rounds : c.in-Ok.handle.promise.rounds ≡ c.captures.rounds = search rules in
-    let more = c.in-Ok-push.ensures.items in
+    let more = c.push_reserved.ensures.items in
     record {
       number = inv.number;
       phaser = inv.phaser;
@@ -32,8 +32,10 @@ loop-caller-preserved g c =
       rounds = subst (All (λ (h : PromisedHandle Party Home). h.promise.rounds ≡ c.captures.rounds)) (sym more)
           (All-push (λ (h : PromisedHandle Party Home). h.promise.rounds ≡ c.captures.rounds)
           c.loop-caller.running.items c.in-Ok.handle inv.rounds rounds);
-      numbers = moved_on (λ (h : PromisedHandle Party Home). number_of h.promise.caller.value) c.loop-caller.running.items c.push.new.self.items
+      numbers = moved_on (λ (h : PromisedHandle Party Home). number_of h.promise.caller.value) c.loop-caller.running.items c.push_reserved.new.self.items
           c.in-Ok.handle (number_of caller) _ _ _ more (ap number_of given) (ap (map number_of) first) inv.numbers;
+      count = omega (arith, inv.count, ap length first, ap length more, length-append c.loop-caller.running.items (c.in-Ok.handle ∷ []));
+      room = omega (arith, inv.room, c.push_reserved.ensures.capacity);
     }
 
 pub spawn_with-requires-clause-keeps : goal.spawn_with-requires-clause-keeps

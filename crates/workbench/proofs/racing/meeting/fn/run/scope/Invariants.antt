@@ -1,5 +1,5 @@
-use Rattle.std.proofs.Common.{◌≡◌, ◌++◌, All}
-use Rattle.std.specs.Prelude.{map}
+use Rattle.std.proofs.Common.{◌≡◌, ◌+◌, ◌≤◌, ◌++◌, All, length}
+use Rattle.std.specs.Prelude.{map, vec_capacity}
 use Rattle.std.specs.Vec.Iter.{into_iter_items}
 use Rattle.shared_phaser.specs.Known.{phaser_of}
 use Rattle.workbench.specs.Race.{IsFresh, number_of}
@@ -16,4 +16,6 @@ invariant-loop-caller g l = record {
   rounds : All (λ h. h.promise.rounds ≡ l.rounds) l.running.items;
   numbers : map (λ h. number_of h.promise.caller.value) l.running.items ++ map number_of (into_iter_items l.caller-iterator)
       ≡ map number_of (into_iter_items l.initial.caller-iterator);
+  count : length l.running.items + length (into_iter_items l.caller-iterator) ≡ length (into_iter_items l.initial.caller-iterator);
+  room : length (into_iter_items l.initial.caller-iterator) ≤ vec_capacity l.running;
 }

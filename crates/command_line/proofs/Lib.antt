@@ -1,4 +1,0 @@
-pub mod Parsing
-pub mod Words
-pub mod Growing
-pub mod Seeds

@@ -1,0 +1,114 @@
+//! As much of a schedule as a picture needs.
+
+ghost use Rattle.std.specs.Prelude.{◌≡◌, ◌≤◌, ◌+◌, if◌then◌else◌, false, IfOk, IfSome, None, length};
+ghost use Rattle.std.specs.Io.KnownBytes.{ReadConsumes};
+ghost use Rattle.byte_ports.specs.Port.{FailsForGood};
+
+use byte_ports::{Failed, Source};
+use schedule_reader::{Reader, Run};
+use std::alloc::{AllocError, Global};
+
+/// How long a schedule is that a picture takes.
+const LONGEST: u64 = 16_777_216;
+
+/// What was seen of a schedule: whether a picture needs more of it.
+#[derive(Drop)]
+struct Seen {
+    reader: Reader,
+    /// The run that the last byte ended, if it did. There is room for it, so none is lost.
+    ended: Vec<Run>,
+    choices: u64,
+    /// How many choices a picture shows.
+    most: u64,
+}
+
+impl Seen {
+    /// Nothing so far, for a picture of so many choices.
+    fn new(alloc: Global, most: u64) -> Result<Seen, AllocError> {
+        Ok(Seen {
+            reader: Reader::new(),
+            ended: Vec::with_capacity(alloc, 1)?,
+            choices: 0,
+            most,
+        })
+    }
+
+    /// Returns whether a picture needs nothing after this byte: it makes the schedule's fault, or ends one choice too many.
+    fn is_enough_with(&mut self, byte: u8) -> bool {
+        if self.reader.bytes_read() > LONGEST {
+            return false;
+        }
+        self.ended.clear();
+        let told = self.reader.feed(&[byte], &mut self.ended);
+        for run in self.ended.as_slice() {
+            self.choices = self.choices.saturating_add(u64::from(run.times));
+        }
+        told.is_err() || self.choices > self.most
+    }
+
+    /// Returns how many of these bytes a picture needs, if it needs nothing after one of them.
+    fn needed(&mut self, bytes: &[u8]) -> Option<usize>
+        ensures { IfSome result (λ n. n ≤ length bytes.now) }
+    {
+        for (at, byte) in bytes.iter().enumerate() {
+            if self.is_enough_with(*byte) {
+                return Some(at + 1);
+            }
+        }
+        None
+    }
+}
+
+/// A schedule that ends as soon as a picture needs no more of it: at the byte that makes its fault, or at one choice more than the
+/// most that a picture shows. This is refused as the whole schedule would be, without waiting for the rest.
+#[derive(Drop)]
+pub struct Needed<S> {
+    source: S,
+    seen: Seen,
+    is_over: bool,
+}
+
+impl<S: Drop> Needed<S> {
+    /// Of a schedule, for a picture of so many choices.
+    pub fn new(alloc: Global, source: S, most: u64) -> Result<Needed<S>, AllocError> {
+        Ok(Needed {
+            source,
+            seen: Seen::new(alloc, most)?,
+            is_over: false,
+        })
+    }
+
+    /// Returns the schedule.
+    pub fn source(&self) -> &S {
+        &self.source
+    }
+}
+
+impl<S: Source> Source for Needed<S> {
+    // What it leaves of its source is unknown.
+    ghost left = { λ _. None };
+
+    ghost has_failed = { λ s. if s.is_over then false else S.has_failed s.source };
+
+    ghost reads = { λ s. S.reads s.source };
+
+    fn pull(&mut self, buffer: &mut [u8]) -> Result<usize, Failed>
+        ensures failed { FailsForGood (if self.old.is_over then false else S.has_failed self.old.source)
+            (if self.new.is_over then false else S.has_failed self.new.source) result }
+        ensures bound { IfOk result (λ n. n ≤ length buffer.new) }
+        ensures bytes { ReadConsumes None None result buffer.new }
+        ensures reads { S.reads self.new.source ≤ S.reads self.old.source + 1 }
+    {
+        if self.is_over {
+            return Ok(0);
+        }
+        let count = self.source.pull(buffer)?;
+        match self.seen.needed(&buffer[..count]) {
+            Some(needed) => {
+                self.is_over = true;
+                Ok(needed)
+            }
+            None => Ok(count),
+        }
+    }
+}

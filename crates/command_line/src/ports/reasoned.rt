@@ -1,0 +1,89 @@
+//! Readers and writers that keep the system's reason if a call fails.
+
+ghost use Rattle.std.specs.Io.{ReadsAtMost, WritesAtMost};
+ghost use Rattle.std.specs.Io.KnownBytes.{ReadConsumes, WriteAppends};
+
+use std::io;
+use std::io::{Read, Write};
+use std::sync::atomic::{AtomicI32, Ordering};
+
+/// The system's reason of the last call that failed, 0 if none has.
+#[derive(Drop)]
+pub struct Reason {
+    code: AtomicI32,
+}
+
+impl Reason {
+    /// No call has failed.
+    pub fn none() -> Reason {
+        Reason {
+            code: AtomicI32::new(0),
+        }
+    }
+
+    /// Keeps the reason of an error.
+    pub fn keep(&self, error: &io::Error) {
+        self.code
+            .store(error.raw_os_error().unwrap_or(0), Ordering::SeqCst);
+    }
+
+    /// Returns the error, if a call has failed.
+    pub fn error(&self) -> Option<io::Error> {
+        match self.code.load(Ordering::SeqCst) {
+            0 => None,
+            code => Some(io::Error::from_raw_os_error(code)),
+        }
+    }
+}
+
+/// A reader or a writer whose errors are kept.
+#[derive(Drop)]
+pub struct Reasoned<'a, T> {
+    inner: T,
+    reason: &'a Reason,
+}
+
+impl<'a, T> Reasoned<'a, T> {
+    /// Over a reader or a writer.
+    pub fn new(inner: T, reason: &'a Reason) -> Reasoned<'a, T> {
+        Reasoned { inner, reason }
+    }
+}
+
+impl<'a, R: Read> Read for Reasoned<'a, R> {
+    ghost remaining = { λ r. R.remaining r.inner };
+
+    fn read(&mut self, buffer: &mut [u8]) -> io::Result<usize>
+        ensures bound { ReadsAtMost result buffer.new }
+        ensures bytes { ReadConsumes (R.remaining self.old.inner) (R.remaining self.new.inner) result buffer.new }
+    {
+        let answer = self.inner.read(buffer);
+        if let Err(error) = &answer {
+            self.reason.keep(error);
+        }
+        answer
+    }
+}
+
+impl<'a, W: Write> Write for Reasoned<'a, W> {
+    ghost contents = { λ w. W.contents w.inner };
+
+    fn write(&mut self, bytes: &[u8]) -> io::Result<usize>
+        ensures bound { WritesAtMost result bytes.now }
+        ensures bytes { WriteAppends (W.contents self.old.inner) (W.contents self.new.inner) result bytes.now }
+    {
+        let answer = self.inner.write(bytes);
+        if let Err(error) = &answer {
+            self.reason.keep(error);
+        }
+        answer
+    }
+
+    fn flush(&mut self) -> io::Result<()> {
+        let answer = self.inner.flush();
+        if let Err(error) = &answer {
+            self.reason.keep(error);
+        }
+        answer
+    }
+}

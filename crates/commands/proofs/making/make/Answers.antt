@@ -1,9 +1,0 @@
-use Rattle.std.proofs.Common.{rules, ◌≡◌}
-use Rattle.commands.proofs.Written.{schedule_read}
-use Rattle.commands.proofs.making.make.Goals as goal
-
-pub returns-clause-done : goal.returns-clause-done
-returns-clause-done g c =
-    let choices : c.as_slice.result.now ≡ c.in_ok-choices.choices.items = search rules in
-    schedule_read _ c.write.result c.as_slice.result.now c.in_ok-choices.choices.items _ _ _ _ choices
-    (c.in_ok-choices.ensures.bytes, c.in_ok-choices.ensures.end, c.in_ok-choices.ensures.few) c.write.ensures.done

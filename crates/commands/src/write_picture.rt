@@ -1,0 +1,82 @@
+//! The commands.
+ghost use Rattle.std.specs.Prelude.{◌≡◌, ◌≢◌, ◌⊎◌, ◌≤◌, Err, IfErr, IfOk, IsTrue, OnOk, false, length};
+ghost use Rattle.commands.specs.Pictures.{HasMade, HasMissing, HasWritten, HaveNone};
+ghost use Rattle.pictures.specs.Missing.{IsMissingIn};
+ghost use Rattle.commands.specs.Pictures.{program_of, schedule_behind};
+ghost use Rattle.commands.specs.Picture.{HaveNoPicture};
+ghost use Rattle.workbench.specs.Fault.{status_of};
+ghost use Rattle.workbench.specs.Input.{GivesTooMuch, most_bytes};
+
+use crate::picture::Picture;
+use byte_ports::{Sink, Source};
+use row_code::is_image_file;
+use std::alloc::Global;
+use thread_machine::Choice;
+use workbench::Program;
+use workbench::fault::Fault;
+use workbench::input::read_all;
+use workbench::run_line::split_at_run;
+
+/// Writes the picture of a program under the schedule in `schedule` to `output`. The schedule is read to its end and the picture is
+/// whole before anything is written, so only after `Write` a part of it may stand. Answers the choice of a thread that isn't there,
+/// with its place from 1, if one ended the run.
+pub fn make<P: Picture, S: Source, K: Sink>(
+    alloc: Global,
+    picture: &P,
+    program: Program<'_>,
+    schedule: &mut S,
+    output: &mut K,
+) -> Result<Option<(u64, Choice)>, Fault>
+    ensures done { OnOk result (HasMade (P.is_picture picture.now program.entry)
+        (S.left schedule.old) (S.left schedule.new) (K.written output.old) (K.written output.new)) }
+    ensures missing { IfOk result (HasMissing program.entry.image (S.left schedule.old) (S.left schedule.new)) }
+    ensures refused { IfErr result (λ fault. status_of fault ≡ 3
+        → HaveNone P.kind fault program.entry.image (S.left schedule.old) (S.left schedule.new)) }
+    ensures unwritten { IfErr result (λ fault. fault ≢ Fault.Write → K.written output.new ≡ K.written output.old) }
+    ensures read { result ≡ Err Fault.Read → IsTrue (S.has_failed schedule.new)
+        ⊎ GivesTooMuch (S.left schedule.old) (S.left schedule.new) }
+    ensures memory { result ≡ Err Fault.Memory → S.has_failed schedule.new ≡ false }
+    ensures spawn { result ≢ Err Fault.Spawn }
+    ensures write { result ≡ Err Fault.Write → IsTrue (K.has_failed output.new) }
+{
+    let choices = read_all(alloc, schedule)?;
+    write(alloc, picture, program, choices.as_slice(), output)
+}
+
+/// Returns the program and the schedule of a file: an image has none, and a text has it after its line `.run`.
+pub fn parts_of(file: &[u8]) -> (&[u8], &[u8])
+    ensures program { result.0.now ≡ program_of file.now }
+    ensures schedule { result.1.now ≡ schedule_behind file.now }
+    ensures within { length result.1.now ≤ length file.now }
+{
+    if is_image_file(file) {
+        (file, &[])
+    } else {
+        split_at_run(file)
+    }
+}
+
+/// Writes the picture of a program and a schedule, once it is whole.
+fn write<P: Picture, K: Sink>(
+    alloc: Global,
+    picture: &P,
+    program: Program<'_>,
+    schedule: &[u8],
+    output: &mut K,
+) -> Result<Option<(u64, Choice)>, Fault>
+    requires { length schedule.now ≤ most_bytes }
+    ensures done { OnOk result (HasWritten (P.is_picture picture.now program.entry schedule.now)
+        (K.written output.old) (K.written output.new)) }
+    ensures missing { IfOk result (λ missing. IsMissingIn program.entry.image schedule.now missing) }
+    ensures refused { IfErr result (λ fault. status_of fault ≡ 3 → HaveNoPicture P.kind fault program.entry.image schedule.now) }
+    ensures unwritten { IfErr result (λ fault. fault ≢ Fault.Write → K.written output.new ≡ K.written output.old) }
+    ensures read { result ≢ Err Fault.Read }
+    ensures spawn { result ≢ Err Fault.Spawn }
+    ensures write { result ≡ Err Fault.Write → IsTrue (K.has_failed output.new) }
+{
+    let shown = picture.of(alloc, program, schedule)?;
+    match output.push(shown.bytes.as_slice()) {
+        Ok(()) => Ok(shown.missing),
+        Err(_) => Err(Fault::Write),
+    }
+}

@@ -1,0 +1,102 @@
+//! Why a file can't be opened, read or written.
+
+use crate::report::{Report, Reported};
+use commands::unplanned::Unplanned;
+use std::io;
+use suggestions::file_name::near_file;
+use suggestions::hint::{Hint, help, near};
+use workbench::fault::Fault;
+
+/// The name of standard input, as it is shown.
+pub const STANDARD_INPUT: &str = "standard input";
+
+/// The name of standard output, as it is shown.
+pub const STANDARD_OUTPUT: &str = "standard output";
+
+/// What is said if `-` isn't standard input.
+const AT_MINUS: &[u8] =
+    b"`-` is standard input as SCHEDULE, TRACE or PLAN; `vuthgal < FILE` plays a text with its schedule";
+
+/// The system's number for a pipe that nobody reads.
+const BROKEN_PIPE: i32 = 32;
+
+/// What helps if no file of this name can be opened: it may be none, or a plan, or near to that of a file.
+fn hint_at_name(rt: &HostRuntime, name: &str) -> Hint {
+    let alloc = rt.alloc();
+    if name == "-" {
+        return help(alloc, AT_MINUS);
+    }
+    if name.ends_with(".html") {
+        return help(
+            alloc,
+            b"`vuthgal show FILE > page.html` writes the page to a file",
+        );
+    }
+    if name.ends_with(".") || name.contains(' ') || name.contains('*') || name.contains('?') {
+        let plan = format!(in alloc; "`--plan '{name}'` plays this as a plan")?;
+        return help(alloc, plan.as_bytes());
+    }
+    match near_file(rt, name) {
+        Some(file) => near(alloc, file.as_bytes()),
+        None => Ok(None),
+    }
+}
+
+/// Reports a fault of a file with the system's reason.
+fn fail_by(
+    report: &Report<'_>,
+    fault: Fault,
+    name: &str,
+    error: &io::Error,
+    hint: Hint,
+) -> Reported {
+    match format!(in report.alloc(); "{error}") {
+        Ok(reason) => report.fail_for(fault, name, reason.as_str(), hint),
+        Err(_) => report.fault(fault),
+    }
+}
+
+/// Reports a file that can't be opened to be read.
+pub fn fail_to_open(report: &Report<'_>, name: &str, error: &io::Error) -> Reported {
+    fail_by(
+        report,
+        Fault::Read,
+        name,
+        error,
+        hint_at_name(report.rt, name),
+    )
+}
+
+/// Reports a file that can't be opened to be written.
+pub fn fail_to_create(report: &Report<'_>, name: &str, error: &io::Error) -> Reported {
+    fail_by(report, Fault::Write, name, error, Ok(None))
+}
+
+/// Reports that two names are those of one file.
+pub fn fail_for_one_file(report: &Report<'_>, name: &str) -> Reported {
+    report.fail_for(
+        Fault::Write,
+        name,
+        "SRC and OUT are the same file",
+        Ok(None),
+    )
+}
+
+/// Reports a fault of a command that read the file of one name and wrote to that of the other.
+pub fn fail(report: &Report<'_>, input: &str, output: &str, fault: Fault) -> Reported {
+    match (fault, report.reason.error()) {
+        (Fault::Read, Some(error)) => fail_by(report, fault, input, &error, Ok(None)),
+        (Fault::Read, None) => report.fail_for(
+            fault,
+            input,
+            "it has more than 16777216 bytes",
+            Ok(None),
+        ),
+        // The reader of a pipe has gone, and needs no reason.
+        (Fault::Write, Some(error)) if error.raw_os_error() == Some(BROKEN_PIPE) => {
+            report.line(Unplanned::Fault(fault))
+        }
+        (Fault::Write, Some(error)) => fail_by(report, fault, output, &error, Ok(None)),
+        _ => report.fail(Unplanned::Fault(fault), input, None, Ok(None)),
+    }
+}

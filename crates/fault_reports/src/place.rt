@@ -1,0 +1,158 @@
+//! A line of a file, and the part of it that is marked.
+
+ghost use Rattle.std.specs.Prelude.{◌≤◌, ◌+◌, ◌<◌, length};
+
+use assembler::word_place::{WordPlace, line_at};
+use byte_ports::{Failed, Sink};
+use command_line::ports::watched::{Line, Watched};
+use itoa::Buffer;
+use line_reader::words::{before_comment, is_blank};
+
+/// How many bytes of a line are shown.
+const WIDTH: usize = 72;
+
+/// What stands for the beginning of a line that isn't shown.
+const DOTS: &[u8] = b"... ";
+
+/// A line, and a part of it.
+#[derive(Clone, Copy)]
+pub struct Place<'a> {
+    pub line: Line<'a>,
+    pub part: Option<WordPlace>,
+}
+
+/// Returns the bytes of a part of a line.
+pub fn word_at(line: &[u8], part: WordPlace) -> &[u8] {
+    line.get(part.at..part.at.saturating_add(part.length))
+        .unwrap_or(&[])
+}
+
+/// Writes bytes of an input, each that is none of printable ASCII as `?`, and a tab as a blank.
+pub fn push_shown<E: Sink>(errors: &mut E, bytes: &[u8]) -> Result<(), Failed> {
+    for byte in bytes.iter() {
+        match *byte {
+            b'\t' | b'\r' => errors.push(b" ")?,
+            32..=126 => errors.push(&[*byte])?,
+            _ => errors.push(b"?")?,
+        }
+    }
+    Ok(())
+}
+
+/// Where the part of a line begins that is shown: its beginning, or a part with the place in its middle.
+fn window(line: &[u8], place: WordPlace) -> usize
+    ensures begin { result ≤ place.at }
+    ensures end { place.at < length line.now → place.at ≤ result + 72 }
+{
+    if place.at.saturating_add(place.length) <= WIDTH {
+        return 0;
+    }
+    let middle = place.at.saturating_add(place.length.min(WIDTH) / 2);
+    middle
+        .saturating_sub(WIDTH / 2)
+        .min(line.len().saturating_sub(WIDTH))
+}
+
+/// Returns what a line without its comment says behind its label, without the blanks round it.
+fn statement(line: &[u8], behind_label: usize) -> Option<WordPlace> {
+    let said = line.get(behind_label..)?;
+    let at = said.iter().position(|byte| !is_blank(*byte))?;
+    let last = said.iter().rposition(|byte| !is_blank(*byte))?;
+    Some(WordPlace {
+        at: behind_label.saturating_add(at),
+        length: last.saturating_add(1).saturating_sub(at),
+    })
+}
+
+impl<'a> Place<'a> {
+    /// Returns the place in the line of this number, from 1, of a text.
+    pub fn in_text(text: &'a [u8], number: u64, part: Option<WordPlace>) -> Option<Place<'a>> {
+        Some(Place {
+            line: Line {
+                number,
+                before: 0,
+                bytes: line_at(text, number)?,
+            },
+            part,
+        })
+    }
+
+    /// Returns the place of all that a line of a text says.
+    pub fn of_statement(text: &'a [u8], number: u64) -> Option<Place<'a>> {
+        let line = before_comment(line_at(text, number)?);
+        let label = match line.iter().position(|byte| *byte == b':') {
+            Some(at) => at.saturating_add(1),
+            None => 0,
+        };
+        Place::in_text(text, number, statement(line, label))
+    }
+
+    /// Returns the place of the byte at this offset of what is watched, if it is still known.
+    pub fn of_byte<S>(watched: &'a Watched<S>, offset: u64) -> Option<Place<'a>> {
+        let (line, at) = watched.line_of(offset)?;
+        Some(Place {
+            line,
+            part: Some(WordPlace { at, length: 1 }),
+        })
+    }
+
+    /// Returns the whole line of this number, from 1, of what is watched, if it is still known.
+    pub fn of_line<S>(watched: &'a Watched<S>, number: u64) -> Option<Place<'a>> {
+        Some(Place {
+            line: watched.line(number)?,
+            part: None,
+        })
+    }
+
+    /// Returns the bytes of the part.
+    pub fn marked(&self) -> &'a [u8] {
+        match self.part {
+            Some(part) => word_at(self.line.bytes, part),
+            None => &[],
+        }
+    }
+
+    /// Writes the numbers of the line and of the part's first byte, from 1, each with a colon.
+    pub fn push_numbers<E: Sink>(&self, errors: &mut E) -> Result<(), Failed> {
+        errors.push(Buffer::new().format(self.line.number).as_bytes())?;
+        errors.push(b":")?;
+        let Some(part) = self.part else {
+            return Ok(());
+        };
+        let column = self
+            .line
+            .before
+            .saturating_add(part.at as u64)
+            .saturating_add(1);
+        errors.push(Buffer::new().format(column).as_bytes())?;
+        errors.push(b":")
+    }
+
+    /// Writes as much of the line as is shown, and a mark below the part.
+    pub fn push_line<E: Sink>(&self, errors: &mut E) -> Result<(), Failed> {
+        let line = self.line.bytes;
+        let from = match self.part {
+            Some(part) => window(line, part),
+            None => 0,
+        };
+        let dots: &[u8] = if from > 0 || self.line.before > 0 {
+            DOTS
+        } else {
+            &[]
+        };
+        let shown = line.get(from..).unwrap_or(&[]);
+        errors.push(dots)?;
+        push_shown(errors, shown.get(..WIDTH).unwrap_or(shown).trim_ascii_end())?;
+        errors.push(b"\n")?;
+        let Some(part) = self.part else {
+            return Ok(());
+        };
+        for _ in 0..part.at.saturating_sub(from).saturating_add(dots.len()) {
+            errors.push(b" ")?;
+        }
+        for _ in 0..part.length.min(WIDTH) {
+            errors.push(b"^")?;
+        }
+        errors.push(b"\n")
+    }
+}

@@ -1,0 +1,234 @@
+//! How a failure is reported: its one line, and for a person at most four more in one form.
+//!
+//!     refused asm 4 3
+//!     x.asm:4:4: UnknownWord: no instruction or directive has this name
+//!     a: arive p
+//!        ^^^^^
+//!     near: parr
+
+ghost use Rattle.std.specs.Prelude.{◌≡◌};
+ghost use Rattle.commands.specs.Unplanned.{unplanned_status};
+ghost use Rattle.commands.specs.declared.unplanned.Unplanned.TheVariants as unplanned;
+
+use crate::place::{Place, push_shown};
+use byte_ports::{Failed, MemorySink, Sink, WritePort};
+use command_line::ports::printable;
+use command_line::ports::reasoned::{Reason, Reasoned};
+use command_line::request::When;
+use commands::unplanned::Unplanned;
+use refusals::entries::tables;
+use refusals::entry::{Entry, push_pieces};
+use refusals::question::{question_in_line, question_of};
+use std::alloc::Global;
+use std::env::{Env, FillError};
+use std::io::IsTerminal;
+use suggestions::hint::Hint;
+use workbench::fault::Fault;
+
+/// The variable that says when a failure is explained, if the arguments don't.
+const VARIABLE: &str = "VUTHGAL_EXPLAIN";
+
+/// More bytes than any value has that is looked at.
+const ROOM: usize = 32;
+
+/// More bytes than a line has that the formats fix.
+const LONGEST_LINE: usize = 64;
+
+/// A failure that is reported. Only the exit status is left.
+#[derive(Clone, Copy, Debug, PartialEq, Eq)]
+pub struct Reported {
+    pub status: u8,
+}
+
+/// Where failures are reported, and whether a person is told more than the line.
+#[derive(Drop)]
+pub struct Report<'a> {
+    pub rt: &'a HostRuntime,
+    is_explained: bool,
+    /// Whether the arguments say so.
+    is_said: bool,
+    /// The system's reason, if a read or a write failed.
+    pub reason: Reason,
+}
+
+/// What the environment says.
+fn when_set(rt: &HostRuntime) -> Option<When> {
+    let mut room = [0u8; ROOM];
+    match rt.var(VARIABLE, &mut room) {
+        Ok(length) => When::of(str::from_utf8(&room[..length]).unwrap_or("")),
+        Err(_) => None,
+    }
+}
+
+impl<'a> Report<'a> {
+    /// By what the arguments say, or else the environment, or else whether standard error is a terminal.
+    pub fn new(rt: &'a HostRuntime, said: Option<When>) -> Report<'a> {
+        Report {
+            rt,
+            is_explained: match said.or(when_set(rt)) {
+                Some(When::Always) => true,
+                Some(When::Never) => false,
+                Some(When::Auto) | None => rt.stderr().is_terminal(),
+            },
+            is_said: said.is_some(),
+            reason: Reason::none(),
+        }
+    }
+
+    /// The allocator.
+    pub fn alloc(&self) -> Global {
+        self.rt.alloc()
+    }
+
+    /// Returns a reader or a writer whose errors are kept.
+    pub fn kept<T>(&self, inner: T) -> Reasoned<'_, T> {
+        Reasoned::new(inner, &self.reason)
+    }
+
+    /// Reports a value of the environment that is none.
+    fn push_wrong_value<E: Sink>(&self, errors: &mut E) -> Result<(), Failed> {
+        let mut room = [0u8; ROOM];
+        let value = match self.rt.var(VARIABLE, &mut room) {
+            Ok(length) => &room[..length],
+            Err(FillError::TooLong) => b"this value".as_slice(),
+            Err(FillError::NotPresent) => return Ok(()),
+        };
+        if value.is_empty() || When::of(str::from_utf8(value).unwrap_or("")).is_some() {
+            return Ok(());
+        }
+        push_pieces(
+            errors,
+            &[
+                b"VUTHGAL_EXPLAIN is always, auto or never: ",
+                value,
+                b" counts for nothing\n",
+            ],
+        )
+    }
+
+    /// Returns whether a person is told more. Where it is by the environment, a value that is none is reported.
+    pub fn explains(&self) -> bool {
+        if !self.is_said {
+            let _ = self.push_wrong_value(&mut WritePort::new(printable::errors(self.rt)));
+        }
+        self.is_explained
+    }
+
+    /// Reports a failure by its line alone.
+    pub fn line(&self, why: Unplanned) -> Reported
+        ensures { result.status ≡ unplanned_status why }
+    {
+        let _ = why.tell(&mut WritePort::new(self.rt.stderr()));
+        Reported {
+            status: why.status(),
+        }
+    }
+
+    /// Reports why a command gave up, in a file and at a place in it if that is known, and what helps, or else what the entry of
+    /// the line says.
+    pub fn fail(&self, why: Unplanned, file: &str, place: Option<Place<'_>>, hint: Hint) -> Reported
+        ensures { result.status ≡ unplanned_status why }
+    {
+        let reported = self.line(why);
+        if self.explains() {
+            let entry = entry_of(self.alloc(), why);
+            let means = entry.map_or("", |entry| entry.means);
+            let helps = entry.map_or("", |entry| entry.helps);
+            self.push_lines(file, place, means, hint, helps);
+        }
+        reported
+    }
+
+    /// Reports why a command gave up, with this reason in place of the sentence of its entry.
+    pub fn fail_for(&self, fault: Fault, file: &str, reason: &str, hint: Hint) -> Reported
+        ensures { result.status ≡ unplanned_status (unplanned.Fault fault) }
+    {
+        let reported = self.line(Unplanned::Fault(fault));
+        if self.explains() {
+            self.push_lines(file, None, reason, hint, "");
+        }
+        reported
+    }
+
+    /// Reports a fault of which nothing more is known.
+    pub fn fault(&self, fault: Fault) -> Reported {
+        self.fail(Unplanned::Fault(fault), "", None, Ok(None))
+    }
+
+    /// Shows a person a place, what is to be said of it, and what helps, where nothing failed.
+    pub fn note(&self, file: &str, place: Option<Place<'_>>, says: &str, helps: &str) {
+        if self.explains() {
+            self.push_lines(file, place, says, Ok(None), helps);
+        }
+    }
+
+    /// Shows a person a line of what helps or may have been meant, where nothing failed, or else this text, unless it is empty.
+    pub fn hint(&self, hint: Hint, helps: &str) {
+        if self.is_explained {
+            let _ = push_hint(&mut WritePort::new(printable::errors(self.rt)), hint, helps);
+        }
+    }
+
+    /// Shows a person what helps where nothing failed, unless the text is empty.
+    pub fn help(&self, helps: &str) {
+        self.hint(Ok(None), helps);
+    }
+
+    /// Writes at most four lines: a sentence with its file and place, the line of the file, a mark in it, and what helps.
+    fn push_lines(
+        &self,
+        file: &str,
+        place: Option<Place<'_>>,
+        says: &str,
+        hint: Hint,
+        helps: &str,
+    ) {
+        let mut errors = WritePort::new(printable::errors(self.rt));
+        let _ = push_place(&mut errors, file, place, says);
+        let _ = push_hint(&mut errors, hint, helps);
+    }
+}
+
+/// The entry of the line of a failure. It needs no memory if it is out of memory.
+fn entry_of(alloc: Global, why: Unplanned) -> Option<Entry> {
+    let question = if why.status() == 4 && !matches!(why, Unplanned::Fault(Fault::Spawn)) {
+        question_of(&tables(), &["memory"])
+    } else {
+        let mut line = MemorySink::new(alloc, LONGEST_LINE, None).ok()?;
+        why.tell(&mut line).ok()?;
+        question_in_line(alloc, line.bytes()).ok()?
+    };
+    question.map(|question| question.entry)
+}
+
+/// Writes a sentence with its file and place, the line of the file, and a mark in it.
+fn push_place<E: Sink>(
+    errors: &mut E,
+    file: &str,
+    place: Option<Place<'_>>,
+    says: &str,
+) -> Result<(), Failed> {
+    if !file.is_empty() {
+        push_shown(errors, file.as_bytes())?;
+        errors.push(b":")?;
+        if let Some(place) = place {
+            place.push_numbers(errors)?;
+        }
+        errors.push(b" ")?;
+    }
+    push_pieces(errors, &[says.as_bytes(), b"\n"])?;
+    match place {
+        Some(place) => place.push_line(errors),
+        None => Ok(()),
+    }
+}
+
+/// Writes the line of what helps, or else of this text, unless it is empty.
+fn push_hint<E: Sink>(errors: &mut E, hint: Hint, helps: &str) -> Result<(), Failed> {
+    match hint {
+        Ok(Some(line)) => push_shown(errors, line.as_slice())?,
+        _ if helps.is_empty() => return Ok(()),
+        _ => push_pieces(errors, &[b"help: ", helps.as_bytes()])?,
+    }
+    errors.push(b"\n")
+}

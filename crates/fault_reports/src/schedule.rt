@@ -1,0 +1,119 @@
+//! Why a schedule is refused, and which choice of it was.
+
+use crate::place::Place;
+use crate::report::{Report, Reported};
+use assembler::word_place::WordPlace;
+use command_line::ports::watched::Watched;
+use commands::unplanned::Unplanned;
+use line_reader::words::{is_blank, length_before};
+use schedule_reader::ScheduleFault;
+use suggestions::file_kind::{helps_at_encoding, is_trace, is_whole_program};
+use suggestions::hint::help_if_any;
+use workbench::fault::Fault;
+
+/// Where a schedule is from.
+#[derive(Clone, Copy, PartialEq, Eq)]
+pub enum Origin {
+    /// Below the line `.run` of the program's file.
+    Beside,
+    File,
+    Standard,
+    /// A plan stands for it.
+    Plan,
+}
+
+/// What helps if a schedule is refused at this byte, if that is more than its entry says.
+fn helps_at(bytes: &[u8], byte: u8, origin: Origin) -> Option<&'static str> {
+    if let Some(helps) = helps_at_encoding(bytes) {
+        Some(helps)
+    } else if is_whole_program(bytes) {
+        Some("this is a program: a schedule is a list of turns such as `t0 t1*3`")
+    } else if is_trace(bytes) {
+        Some("this looks like a trace: `vuthgal choices TRACE` writes its schedule")
+    } else if byte == b';' {
+        Some("a schedule can't have comments; a program text can, above its line `.run`")
+    } else if !byte.is_ascii_alphabetic() && !matches!(byte, b'.' | b'?' | b'(' | b')') {
+        None
+    } else if origin == Origin::Beside {
+        Some("below `.run` is a schedule of tN and xN; a plan is an option: `--plan 'ann. bob.'`")
+    } else if origin == Origin::Standard {
+        Some("a schedule has tN and xN; `--plan-file /dev/stdin` plays the plan on standard input")
+    } else {
+        Some("a schedule has tN and xN; `--plan-file FILE` plays the plan in a file")
+    }
+}
+
+/// Reports why a schedule is refused.
+pub fn fail<S>(
+    report: &Report<'_>,
+    name: &str,
+    origin: Origin,
+    watched: &Watched<S>,
+    fault: ScheduleFault,
+) -> Reported {
+    let place = match fault {
+        ScheduleFault::Byte(at) | ScheduleFault::Number(at) | ScheduleFault::Repeat(at) => {
+            Place::of_byte(watched, at)
+        }
+        ScheduleFault::Memory => None,
+    };
+    let marked = place.map_or(b"".as_slice(), |place| place.marked());
+    let byte = marked.first().copied().unwrap_or(0);
+    let helps = helps_at(watched.whole().unwrap_or(&[]), byte, origin);
+    report.fail(
+        Unplanned::Fault(Fault::Schedule(fault)),
+        name,
+        place,
+        help_if_any(report.alloc(), helps),
+    )
+}
+
+/// How many choices a token of a schedule stands for.
+fn times_of(token: &[u8]) -> u64 {
+    let digits = token
+        .get(length_before(b'*', token).saturating_add(1)..)
+        .unwrap_or(&[]);
+    match str::from_utf8(digits).unwrap_or("").parse::<u64>() {
+        Ok(times) => times,
+        Err(_) => 1,
+    }
+}
+
+/// Where the token of a choice is in a schedule, by the choice's number, from 1.
+fn token_of_choice(schedule: &[u8], number: u64) -> Option<WordPlace> {
+    let mut at: usize = 0;
+    let mut played: u64 = 0;
+    for token in schedule.split(|byte| *byte == b'\n' || is_blank(*byte)) {
+        if !token.is_empty() {
+            played = played.saturating_add(times_of(token));
+        }
+        if played >= number {
+            return Some(WordPlace {
+                at,
+                length: token.len(),
+            });
+        }
+        at = at.saturating_add(token.len()).saturating_add(1);
+    }
+    None
+}
+
+/// The place of a choice in a schedule, by the choice's number, from 1, if the whole schedule is still known.
+fn place_of_choice<S>(watched: &Watched<S>, number: u64) -> Option<Place<'_>> {
+    let token = token_of_choice(watched.whole()?, number)?;
+    let (line, at) = watched.line_of(token.at as u64)?;
+    Some(Place {
+        line,
+        part: Some(WordPlace { at, ..token }),
+    })
+}
+
+/// Shows a person the choice of this number, from 1, which is that of a thread that the program doesn't have.
+pub fn note_missing<S>(report: &Report<'_>, name: &str, watched: &Watched<S>, number: u64) {
+    report.note(
+        name,
+        place_of_choice(watched, number),
+        "none: the program has no such thread, and the rest of the schedule wasn't played",
+        "threads are numbered from 0, in the order of their `.thread` lines",
+    );
+}

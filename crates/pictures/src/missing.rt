@@ -1,0 +1,26 @@
+ghost use Rattle.std.specs.Prelude.{◌≡◌};
+ghost use Rattle.pictures.specs.Missing.{missing_at};
+ghost use Rattle.thread_machine.specs.World.{world_of};
+
+use thread_machine::{Choice, Machine};
+
+/// The bytes of a page or a picture, and whether a thread that doesn't exist ended its run.
+#[derive(Drop)]
+pub struct Shown {
+    pub bytes: Vec<u8>,
+    /// The choice of a thread that doesn't exist, and its place from 1, if that ended the run.
+    pub missing: Option<(u64, Choice)>,
+}
+
+/// Returns the choice that the machine refused because there is no such thread, and its place from 1. The machine has played
+/// the choices before it.
+pub fn missing(machine: &Machine, choices: &[Choice]) -> Option<(u64, Choice)>
+    ensures { result ≡ missing_at (world_of machine.now) choices.now }
+{
+    let made = machine.choices();
+    let choice = *choices.get(made as usize)?;
+    if usize::from(choice.thread) < machine.thread_count() {
+        return None;
+    }
+    Some((made.saturating_add(1), choice))
+}

@@ -1,0 +1,33 @@
+//! The words of a line of a program's text.
+
+use line_reader::label::is_label;
+use line_reader::words::{before_comment, is_blank};
+use std::alloc::{AllocError, Global};
+
+/// Returns the words of a line.
+pub fn words_of(alloc: Global, line: &[u8]) -> Result<Vec<&[u8]>, AllocError> {
+    let mut words = Vec::new(alloc);
+    for word in before_comment(line).split(|byte| is_blank(*byte)) {
+        if !word.is_empty() {
+            words.push(word)?;
+        }
+    }
+    Ok(words)
+}
+
+/// Returns the word of this number, from 0.
+pub fn word(line: &[u8], number: usize) -> Option<&[u8]> {
+    before_comment(line)
+        .split(|byte| is_blank(*byte))
+        .filter(|word| !word.is_empty())
+        .nth(number)
+}
+
+/// Returns the word that a line says something with, its first or the one after its label, or an empty one.
+pub fn first_word(line: &[u8]) -> &[u8] {
+    match word(line, 0) {
+        Some(first) if !is_label(first) => first,
+        Some(_) => word(line, 1).unwrap_or(&[]),
+        None => &[],
+    }
+}

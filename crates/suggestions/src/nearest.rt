@@ -1,0 +1,84 @@
+//! The nearest of several names.
+
+ghost use Rattle.std.specs.Prelude.{◌≡◌, ◌⊎◌, ◌<◌, IfOk, Some};
+
+use std::alloc::{AllocError, Global};
+use strsim::osa_distance;
+
+/// Returns the word in small letters.
+pub fn in_small_letters(alloc: Global, word: &[u8]) -> Result<Vec<u8>, AllocError> {
+    let mut small = Vec::new(alloc);
+    for byte in word {
+        small.push(byte.to_ascii_lowercase())?;
+    }
+    Ok(small)
+}
+
+/// How far two names are from each other, in letters that are changed, left out, added, or have changed places. Large and small
+/// letters are the same.
+fn distance(alloc: Global, a: &[u8], b: &[u8]) -> Result<usize, AllocError> {
+    let a = in_small_letters(alloc, a)?;
+    let b = in_small_letters(alloc, b)?;
+    match (str::from_utf8(a.as_slice()), str::from_utf8(b.as_slice())) {
+        (Ok(a), Ok(b)) => osa_distance(alloc, a, b),
+        _ => Ok(usize::MAX),
+    }
+}
+
+/// What the nearest name so far means, and how far the name is.
+#[derive(Clone, Copy)]
+pub struct Nearest<'a> {
+    pub meant: Option<&'a [u8]>,
+    pub far: usize,
+}
+
+impl<'a> Nearest<'a> {
+    /// None so far: to be near a word at all, more than half of its letters have to be right.
+    pub fn to(word: &[u8]) -> Nearest<'a> {
+        Nearest {
+            meant: None,
+            far: word.len().div_ceil(2).min(3),
+        }
+    }
+
+    /// Returns what a name means if the name is nearer to a word than what was found before. Of names that are equally near, the
+    /// first one counts.
+    pub fn or(
+        self,
+        alloc: Global,
+        name: &[u8],
+        meant: &'a [u8],
+        word: &[u8],
+    ) -> Result<Nearest<'a>, AllocError>
+        ensures nearer { IfOk result (λ found. (found ≡ self.entry)
+            ⊎ ((found.meant ≡ Some meant.entry) × (found.far < self.entry.far))) }
+    {
+        let far = distance(alloc, name, word)?;
+        if far < self.far {
+            Ok(Nearest {
+                meant: Some(meant),
+                far,
+            })
+        } else {
+            Ok(self)
+        }
+    }
+}
+
+/// Returns the nearest of these names.
+pub fn nearest_of<'a>(
+    alloc: Global,
+    names: &[&'a [u8]],
+    word: &[u8],
+) -> Result<Nearest<'a>, AllocError> {
+    let mut meant: Option<&'a [u8]> = None;
+    let mut least = Nearest::to(word).far;
+    for name in names.iter() {
+        let far = distance(alloc, *name, word)?;
+        if far < least {
+            meant = Some(*name);
+            least = far;
+        }
+    }
+    Ok(Nearest { meant, far: least })
+}

@@ -1,0 +1,159 @@
+//! The arguments of the command line, and why they ask for nothing.
+ghost use Rattle.std.specs.Prelude.{IfOk};
+ghost use Rattle.command_line.specs.Request.{IsInRange};
+
+use crate::origin::VERSION;
+use byte_ports::{Sink, WritePort};
+use clap::Error as WordsError;
+use clap::error::ErrorKind;
+use command_line::ports::printable;
+use command_line::request::{Request, When, no_text, parse};
+use fault_reports::files::{self, STANDARD_OUTPUT};
+use fault_reports::report::Report;
+use std::alloc::AllocError;
+use std::env::{Env, FillError};
+use std::fs;
+use thiserror::Error;
+use workbench::fault::Fault;
+
+/// The program's name, by whatever name it was called.
+const NAME: &str = "vuthgal";
+
+/// More bytes than the system lets an argument have.
+const LONGEST_WORD: usize = 131_072;
+
+/// What helps where a plan or a STATE lacks quotes.
+const QUOTES: &str =
+    "help: quote a plan and a STATE that have blanks: `--plan 'ann. bob.' --expect 'ann out 1'`\n";
+
+/// The status if the arguments are wrong.
+const WRONG_WORDS: u8 = 2;
+
+/// Why no command is begun.
+#[derive(Debug, Drop, Error)]
+pub enum NoCommand {
+    #[error("memory")]
+    Memory,
+    /// The arguments ask for none, or for help.
+    #[error("{0}")]
+    Words(#[from] WordsError),
+}
+
+impl From<AllocError> for NoCommand {
+    fn from(_error: AllocError) -> NoCommand {
+        NoCommand::Memory
+    }
+}
+
+/// One word more.
+fn push_word(rt: &HostRuntime, words: &mut Vec<String>, word: &str) -> Result<(), AllocError> {
+    words.push(String::from_str(rt.alloc(), word)?)?;
+    Ok(())
+}
+
+/// Returns the program's name and its words: a word may be no text. The name that it was called by isn't looked at, so the name
+/// of its folder may be any.
+pub fn given(rt: &HostRuntime) -> Result<Vec<String>, NoCommand> {
+    let mut words = Vec::new(rt.alloc());
+    push_word(rt, &mut words, NAME)?;
+    let mut room = Vec::from_elem(rt.alloc(), 0u8, LONGEST_WORD)?;
+    for number in 1..usize::MAX {
+        let length = match rt.arg(number, room.as_mut_slice()) {
+            Ok(length) => length,
+            Err(FillError::TooLong) => return Err(NoCommand::Memory),
+            Err(FillError::NotPresent) => break,
+        };
+        match str::from_utf8(&room[..length]) {
+            Ok(word) => push_word(rt, &mut words, word)?,
+            Err(_) => return Err(NoCommand::Words(no_text(rt.alloc(), VERSION))),
+        }
+    }
+    Ok(words)
+}
+
+/// Returns what the arguments ask for, and when a failure is explained, if they say so.
+pub fn requested<'a>(
+    rt: &HostRuntime,
+    words: &'a [String],
+) -> Result<(Request<'a>, Option<When>), NoCommand>
+    ensures { IfOk result (λ both. IsInRange both.0) }
+{
+    match parse(rt.alloc(), words, VERSION) {
+        Ok(both) => Ok(both),
+        Err(error) => Err(NoCommand::Words(error)),
+    }
+}
+
+/// Writes a help or the version. Returns the exit status.
+fn push_help(rt: &HostRuntime, text: &str) -> u8 {
+    match print!(rt; "{text}") {
+        Ok(()) => 0,
+        Err(error) => {
+            let report = Report::new(rt, None);
+            report.reason.keep(&error);
+            files::fail(&report, "", STANDARD_OUTPUT, Fault::Write).status
+        }
+    }
+}
+
+/// Writes a text to standard error, if there was memory for it.
+fn push_text(rt: &HostRuntime, text: Result<String, AllocError>) {
+    if let Ok(text) = text {
+        let _ = WritePort::new(printable::errors(rt)).push(text.as_bytes());
+    }
+}
+
+/// Whether these words have a plan or a STATE without quotes: another word follows its first.
+fn lack_quotes(words: &[String]) -> bool {
+    let mut before = 0;
+    for word in words {
+        let word = word.as_str();
+        if before == 2 && !word.starts_with("-") || before == 0 && word.ends_with(".") {
+            return true;
+        }
+        before = match word {
+            "--plan" | "--expect" => 1,
+            _ if before == 1 => 2,
+            _ => 0,
+        };
+    }
+    false
+}
+
+/// Says what may have been meant: a file is no command, and texts with blanks are quoted.
+fn push_way(rt: &HostRuntime, kind: ErrorKind, words: &[String]) {
+    let [_, word, ..] = words else {
+        return;
+    };
+    let word = word.as_str();
+    if kind == ErrorKind::InvalidSubcommand && fs::metadata(rt, word).is_ok() {
+        push_text(
+            rt,
+            format!(in rt.alloc();
+                "help: `vuthgal run {word}` plays a text with its schedule, `vuthgal run {word} SCHEDULE` a program\n"
+            ),
+        );
+    } else if kind != ErrorKind::InvalidSubcommand && lack_quotes(words) {
+        push_text(rt, String::from_str(rt.alloc(), QUOTES));
+    }
+}
+
+impl NoCommand {
+    /// Reports why the arguments ask for nothing, or writes the help that they ask for. Returns the exit status.
+    pub fn report(&self, rt: &HostRuntime, words: &[String]) -> u8 {
+        let text = match self {
+            NoCommand::Memory => Err(AllocError),
+            NoCommand::Words(error) if error.kind() == ErrorKind::OutOfMemory => Err(AllocError),
+            NoCommand::Words(error) => format!(in rt.alloc(); "{error}"),
+        };
+        match (text, self) {
+            (Ok(text), NoCommand::Words(error)) if error.use_stderr() => {
+                push_text(rt, Ok(text));
+                push_way(rt, error.kind(), words);
+                WRONG_WORDS
+            }
+            (Ok(text), _) => push_help(rt, text.as_str()),
+            (Err(_), _) => Report::new(rt, None).fault(Fault::Memory).status,
+        }
+    }
+}

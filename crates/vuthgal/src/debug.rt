@@ -1,0 +1,198 @@
+//! Sessions of the debugger.
+ghost use Rattle.workbench.specs.ProgramFile.{IsNamedProgram};
+
+use crate::input::{self, Stream};
+use crate::notes;
+use crate::run::fail;
+use crate::steps::{OpenSteps, opened, planned};
+use byte_ports::{BlockSource, ReadPort, Sink, WritePort};
+use command_line::ports::printable;
+use command_line::ports::watched::Watched;
+use command_line::request::Steps;
+use commands::list_rows;
+use fault_reports::files::STANDARD_INPUT;
+use fault_reports::plan::PlanFile;
+use fault_reports::program::ProgramFile;
+use fault_reports::report::{Report, Reported};
+use fault_reports::trace::{note_no_trace, wrong_line};
+use guided_session::GuidedCommands;
+use headline::shown;
+use row_code::{Image, is_image_file};
+use schedule_reader::Run;
+use std::io::IsTerminal;
+use trace_compare::naming::{Named, NamingFault, choices_in};
+use workbench::Program;
+use workbench::companion::Companion;
+use workbench::done::{Done, as_asked};
+use workbench::ending::flushed;
+use workbench::fault::{Fault, push_counted_line};
+
+/// Carries out commands on an image's program, after runs of choices if there are some. Nothing is kept back: standard output
+/// is flushed at each line's end.
+fn session<C: Companion>(
+    report: &Report<'_>,
+    file: ProgramFile<'_>,
+    image: Image,
+    runs: Option<&[Run]>,
+    commands: &mut C,
+) -> Result<Done, Reported> {
+    let mut output = WritePort::new(report.kept(report.rt.stdout()));
+    let answer = match runs {
+        Some(runs) => shown::debug_behind(report.alloc(), image, runs, commands, &mut output),
+        None => shown::debug(report.alloc(), image, commands, &mut output),
+    };
+    as_asked(flushed(answer, &mut output)).map_err(|fault| fail(
+        report,
+        file,
+        STANDARD_INPUT,
+        fault,
+    ))
+}
+
+/// The commands on standard input, as they are needed.
+fn commands<'a>(report: &'a Report<'_>) -> Result<BlockSource<ReadPort<Stream<'a>>>, Reported> {
+    BlockSource::new(report.alloc(), ReadPort::new(input::standard(report))).map_err(
+        |_| report.fault(Fault::Memory),
+    )
+}
+
+/// The session of a person. Besides the replies it shows which threads can go on.
+fn session_of_person(
+    report: &Report<'_>,
+    file: ProgramFile<'_>,
+    program: Program<'_>,
+    runs: Option<&[Run]>,
+) -> Result<Done, Reported> {
+    let Program { image, names, .. } = program;
+    let guided = GuidedCommands::new(
+        report.alloc(),
+        names,
+        runs,
+        commands(report)?,
+        WritePort::new(report.rt.stdout()),
+        WritePort::new(printable::errors(report.rt)),
+    );
+    match guided {
+        Ok(mut guided) => session(report, file, image, runs, &mut guided),
+        Err(fault) => Err(report.fault(fault)),
+    }
+}
+
+/// The session after the choices of a trace, which are played as they are read.
+fn session_at(
+    report: &Report<'_>,
+    file: ProgramFile<'_>,
+    image: Image,
+    name: &str,
+    trace: Stream<'_>,
+) -> Result<Done, Reported> {
+    let mut trace = Watched::new(report.alloc(), ReadPort::new(trace), 0);
+    let mut commands = commands(report)?;
+    let mut output = WritePort::new(report.kept(report.rt.stdout()));
+    let answer = shown::debug_at(
+        report.alloc(),
+        image,
+        &mut trace,
+        &mut commands,
+        &mut output,
+    );
+    let done = flushed(answer, &mut output).map_err(|fault| fail(report, file, name, fault))?;
+    if done == Done::Unlike {
+        let line = wrong_line(report.alloc(), &trace);
+        note_no_trace(report, name, &trace, line);
+    }
+    Ok(done)
+}
+
+/// Writes which line is the first that is no line of a trace.
+fn end_without_trace<S>(
+    report: &Report<'_>,
+    name: &str,
+    trace: &Watched<S>,
+    line: u64,
+) -> Result<Done, Reported> {
+    let mut output = WritePort::new(report.kept(report.rt.stdout()));
+    let answer = push_counted_line(&mut output, b"not a trace ", line).map_err(|_| Fault::Write);
+    flushed(answer, &mut output).map_err(|fault| report.fault(fault))?;
+    note_no_trace(report, name, trace, line);
+    Ok(Done::Unlike)
+}
+
+/// The session of a person after the choices of a trace, which are kept for `w`.
+fn session_of_person_at(
+    report: &Report<'_>,
+    file: ProgramFile<'_>,
+    program: Program<'_>,
+    name: &str,
+    trace: Stream<'_>,
+) -> Result<Done, Reported> {
+    let mut trace = Watched::new(report.alloc(), ReadPort::new(trace), 0);
+    match choices_in(report.alloc(), &mut trace) {
+        Ok(Named::Choices(runs)) => session_of_person(report, file, program, Some(runs.as_slice())),
+        Ok(Named::NotATrace { line }) => end_without_trace(report, name, &trace, line),
+        Err(NamingFault::Memory) => Err(report.fault(Fault::Memory)),
+        Err(NamingFault::Read) => Err(fail(report, file, name, Fault::Read)),
+    }
+}
+
+/// Shows a person the program's rows, and which commands are waited for.
+fn greet(report: &Report<'_>, program: &Program<'_>) -> Result<(), Reported>
+    requires { IsNamedProgram program.now.bytes.now program.now.image program.now.names }
+{
+    let mut errors = WritePort::new(printable::errors(report.rt));
+    let _ = errors.push(if is_image_file(program.bytes) {
+        b"row\n".as_slice()
+    } else {
+        b"row line\n"
+    });
+    if let Err(fault) = list_rows(report.alloc(), program, &mut errors) {
+        return Err(report.fault(fault));
+    }
+    notes::push_waiting(
+        report,
+        b"reading commands from the terminal (`help` lists them)\n",
+    );
+    Ok(())
+}
+
+/// What a person debugs: the program's rows are shown first.
+fn guide(
+    report: &Report<'_>,
+    file: ProgramFile<'_>,
+    program: Program<'_>,
+    steps: OpenSteps<'_>,
+) -> Result<Done, Reported>
+    requires { IsNamedProgram program.bytes.now program.image program.names }
+{
+    greet(report, &program)?;
+    match steps {
+        OpenSteps::Beside => session_of_person(report, file, program, None),
+        OpenSteps::Named(name, trace) => session_of_person_at(report, file, program, name, trace),
+        OpenSteps::Plan(name, plan) => {
+            let bytes = plan.as_slice();
+            let planned = planned(report, file, &program, PlanFile { name, bytes })?;
+            session_of_person(report, file, program, Some(planned.runs.as_slice()))
+        }
+    }
+}
+
+/// Carries out the commands on standard input on the program in a file, after the choices that the arguments name. A person at
+/// a terminal is guided.
+pub fn debug(report: &Report<'_>, name: &str, steps: Steps<'_>) -> Result<Done, Reported> {
+    let (bytes, steps) = opened(report, Some(name), steps)?;
+    let file = ProgramFile::whole(name, bytes.as_slice());
+    let program = input::program(report, file)?;
+    if report.rt.stdin().is_terminal() && report.rt.stderr().is_terminal() {
+        return guide(report, file, program, steps);
+    }
+    match steps {
+        OpenSteps::Beside => session(report, file, program.image, None, &mut commands(report)?),
+        OpenSteps::Named(name, trace) => session_at(report, file, program.image, name, trace),
+        OpenSteps::Plan(name, plan) => {
+            let bytes = plan.as_slice();
+            let planned = planned(report, file, &program, PlanFile { name, bytes })?;
+            let runs = Some(planned.runs.as_slice());
+            session(report, file, program.image, runs, &mut commands(report)?)
+        }
+    }
+}

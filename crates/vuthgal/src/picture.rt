@@ -1,0 +1,132 @@
+//! Pictures of a run: the page, and the text.
+
+use crate::run::{Choices, NO_SCHEDULE, fail};
+use crate::steps::{OpenSteps, opened, planned};
+use crate::{input, notes};
+use byte_ports::{ReadPort, WritePort};
+use command_line::ports::needed::Needed;
+use command_line::ports::watched::Watched;
+use command_line::request::Steps;
+use commands::drawing::Drawing;
+use commands::page::Page;
+use commands::picture::Picture;
+use commands::write_picture::make;
+use fault_reports::plan::PlanFile;
+use fault_reports::program::ProgramFile;
+use fault_reports::report::{Report, Reported};
+use fault_reports::schedule::{self, Origin};
+use pictures::choices::MOST_CHOICES;
+use pictures::others::OtherRuns;
+use schedule_reader::write_schedule;
+use workbench::Program;
+use workbench::done::Done;
+use workbench::ending::flushed;
+use workbench::fault::Fault;
+
+/// Writes the picture of a program under a schedule. It is written at once, so nothing is kept back.
+fn made<P: Picture>(
+    report: &Report<'_>,
+    picture: &P,
+    file: ProgramFile<'_>,
+    program: Program<'_>,
+    choices: Choices<'_>,
+) -> Result<Done, Reported> {
+    let Choices {
+        name,
+        origin,
+        stream,
+        lines,
+        live,
+    } = choices;
+    // Below `.run` the whole schedule was read, so its fault is told even behind too many choices.
+    let most = match origin {
+        Origin::Beside => u64::MAX,
+        _ => MOST_CHOICES as u64,
+    };
+    let watched = Watched::new(report.alloc(), ReadPort::new(stream), lines);
+    let mut schedule = Needed::new(report.alloc(), watched, most).map_err(|_| report.fault(
+        Fault::Memory,
+    ))?;
+    let mut output = WritePort::new(report.kept(report.rt.stdout()));
+    let answer = make(report.alloc(), picture, program, &mut schedule, &mut output);
+    match flushed(answer, &mut output) {
+        Ok(missing) => {
+            if live == NO_SCHEDULE {
+                report.help(live);
+            }
+            if let Some((number, _)) = missing {
+                schedule::note_missing(report, name, schedule.source(), number);
+            }
+            Ok(Done::AsAsked)
+        }
+        Err(Fault::Schedule(fault)) => Err(schedule::fail(
+            report,
+            name,
+            origin,
+            schedule.source(),
+            fault,
+        )),
+        Err(fault) => Err(fail(report, file, name, fault)),
+    }
+}
+
+fn picture<P: Picture>(
+    report: &Report<'_>,
+    picture: &P,
+    name: &str,
+    steps: Steps<'_>,
+) -> Result<Done, Reported> {
+    let (bytes, steps) = opened(report, Some(name), steps)?;
+    let (text, beside) = steps.parts(bytes.as_slice());
+    let file = ProgramFile {
+        name,
+        bytes: bytes.as_slice(),
+        text,
+    };
+    let program = input::program(report, file)?;
+    match steps {
+        OpenSteps::Beside => {
+            let choices = Choices::beside(file, beside);
+            made(report, picture, file, program, choices)
+        }
+        OpenSteps::Named(name, stream) => {
+            let choices = Choices::named(name, stream);
+            made(report, picture, file, program, choices)
+        }
+        OpenSteps::Plan(name, plan) => {
+            let bytes = plan.as_slice();
+            let planned = planned(report, file, &program, PlanFile { name, bytes })?;
+            let schedule = write_schedule(report.alloc(), planned.runs.as_slice()).map_err(
+                |_| report.fault(Fault::Memory),
+            )?;
+            let choices = Choices::planned(name, schedule.as_bytes());
+            made(report, picture, file, program, choices)
+        }
+    }
+}
+
+/// Writes the page of the program in a file.
+pub fn show(
+    report: &Report<'_>,
+    name: &str,
+    steps: Steps<'_>,
+    is_alone: bool,
+) -> Result<Done, Reported> {
+    notes::push_page_on_terminal(report);
+    let others = if is_alone {
+        OtherRuns::LeftOut
+    } else {
+        OtherRuns::Told
+    };
+    picture(report, &Page { others }, name, steps)
+}
+
+/// Draws the run of the program in a file, in lines of at most so many bytes.
+pub fn draw(
+    report: &Report<'_>,
+    name: &str,
+    steps: Steps<'_>,
+    width: u16,
+) -> Result<Done, Reported> {
+    picture(report, &Drawing { width }, name, steps)
+}

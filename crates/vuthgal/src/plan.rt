@@ -1,0 +1,156 @@
+//! The schedules of plans, and how the orders of seeds end.
+
+ghost use Rattle.std.specs.Prelude.{◌≤◌};
+ghost use Rattle.command_line.specs.Request.{AreInRange};
+
+use crate::expectation::{expectations, report_unmet};
+use crate::input::{self, OutputBlocks, block_port};
+use crate::progress::Meter;
+use crate::steps::{fail_at_plan, names_of};
+use byte_ports::WritePort;
+use command_line::request::Orders;
+use commands::seeds::{Seeds, Unlike, report_seeds};
+use commands::unplanned::Unplanned;
+use commands::write_picture::parts_of;
+use fault_reports::files::{self, STANDARD_OUTPUT};
+use fault_reports::plan::{PlanFile, report_stopped};
+use fault_reports::program::ProgramFile;
+use fault_reports::report::{Report, Reported};
+use trace_text::RunEnd;
+use workbench::Program;
+use workbench::done::Done;
+use workbench::ending::{flushed, passed_on};
+
+/// Returns what the program's file holds, and the plan with its name, after both are opened. Without a plan it is empty.
+fn inputs<'a>(
+    report: &Report<'_>,
+    file: &str,
+    plan: Option<&'a str>,
+) -> Result<(Vec<u8>, &'a str, Vec<u8>), Reported> {
+    let program = input::stream(report, file)?;
+    let Some(word) = plan else {
+        let program = input::contents(report, file, program)?;
+        return Ok((program, "", Vec::new(report.alloc())));
+    };
+    let (name, stream) = input::named(
+        report,
+        word,
+        b"reading a plan from the terminal (plan --help lists its words)\n",
+    )?;
+    let program = input::contents(report, file, program)?;
+    Ok((program, name, input::contents(report, name, stream)?))
+}
+
+/// A program's file. A plan is for the text above its line `.run`.
+fn file_of<'a>(name: &'a str, bytes: &'a [u8]) -> ProgramFile<'a> {
+    ProgramFile {
+        name,
+        bytes,
+        text: parts_of(bytes).0,
+    }
+}
+
+/// Writes the schedule that a plan stands for on the program in a file, with the names of the threads if asked for. The plan is
+/// standard input if no other is named.
+pub fn plan(
+    report: &Report<'_>,
+    file: &str,
+    plan: Option<&str>,
+    has_names: bool,
+) -> Result<Done, Reported> {
+    let (program, name, plan) = inputs(report, file, Some(plan.unwrap_or("-")))?;
+    let file = file_of(file, program.as_slice());
+    let bytes = plan.as_slice();
+    let plan = PlanFile { name, bytes };
+    let program = input::program(report, file)?;
+    let names = names_of(report, &program)?;
+    let mut output = WritePort::new(report.kept(report.rt.stdout()));
+    let planned = if has_names {
+        commands::plan::plan_with_names(report.alloc(), program, plan.bytes, &mut output)
+    } else {
+        commands::plan::plan(report.alloc(), program, plan.bytes, &mut output)
+    };
+    let is_stopped = planned.map_err(|why| fail_at_plan(
+        report,
+        file,
+        names.as_slice(),
+        plan,
+        why,
+    ))?;
+    match flushed(Ok(is_stopped), &mut output) {
+        Ok(false) => Ok(Done::AsAsked),
+        Ok(true) => {
+            report_stopped(report, plan);
+            Ok(Done::Unlike)
+        }
+        Err(fault) => Err(files::fail(report, plan.name, STANDARD_OUTPUT, fault)),
+    }
+}
+
+/// Returns the result of orders with these expectations. The first run that ended differently is reported.
+fn settled_by(
+    report: &Report<'_>,
+    program: &[u8],
+    expected: &[Vec<u8>],
+    unlike: Option<Unlike>,
+) -> Done {
+    let Some(unlike) = unlike else {
+        return Done::AsAsked;
+    };
+    let seed = Some(unlike.seed);
+    let end = RunEnd {
+        standing: unlike.ending.standing(),
+        state: unlike.state,
+        refused: None,
+    };
+    report_unmet(report, program, expected, seed, &end);
+    Done::Unlike
+}
+
+/// Writes how the orders of seeds end on a program, each after this plan, and shows how far they are. Returns the first run that
+/// ended differently than expected.
+fn report_orders(
+    report: &Report<'_>,
+    program: Program<'_>,
+    plan: &[u8],
+    seeds: &Seeds<'_>,
+    output: &mut OutputBlocks<'_>,
+) -> Result<Option<Unlike>, Unplanned>
+    requires { seeds.now.count ≤ 100000 }
+{
+    let meter = Meter::new(report.rt, ("", "seeds"));
+    let answer = report_seeds(report.alloc(), program, plan, seeds, &meter, output);
+    meter.end();
+    passed_on(Ok(answer?), output).map_err(|fault| Unplanned::Fault(fault))
+}
+
+/// Writes how the orders of seeds end, each after a plan if there is one, with the names of the threads if asked for.
+pub fn seeds(
+    report: &Report<'_>,
+    file: &str,
+    plan: Option<&str>,
+    has_names: bool,
+    orders: &Orders<'_>,
+) -> Result<Done, Reported>
+    requires { AreInRange orders.now }
+{
+    let (program, name, plan) = inputs(report, file, plan)?;
+    let file = file_of(file, program.as_slice());
+    let bytes = plan.as_slice();
+    let plan = PlanFile { name, bytes };
+    let program = input::program(report, file)?;
+    let names = names_of(report, &program)?;
+    let expected = expectations(report, &program.names, orders.expected.as_slice())?;
+    let seeds = Seeds {
+        first: orders.seeds.first,
+        count: orders.seeds.last - orders.seeds.first + 1,
+        limit: orders.limit,
+        expected: expected.as_slice(),
+        has_names,
+    };
+    let mut output = block_port(report)?;
+    match report_orders(report, program, plan.bytes, &seeds, &mut output) {
+        Ok(unlike) => Ok(settled_by(report, file.bytes, expected.as_slice(), unlike)),
+        Err(why) => Err(fail_at_plan(report, file, names.as_slice(), plan, why)),
+    }
+}

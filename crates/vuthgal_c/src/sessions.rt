@@ -1,0 +1,160 @@
+//! Sessions that go on from call to call.
+ghost use Rattle.std.specs.Prelude.{◌≡◌, ◌≤◌, ◌++◌, ℕ, List, None, IfOk, IfErr, OnOk, length};
+ghost use Rattle.workbench.specs.Fault.{line_of};
+ghost use Rattle.workbench.specs.Input.{most_bytes};
+ghost use Rattle.vuthgal_c.specs.Shows.{Holds};
+ghost use Rattle.vuthgal_c.specs.Sessions.{Answers, HasNone, IsFirstOf, Opens, Repeats};
+
+use crate::counting_sink::CountingSink;
+use crate::files::is_within;
+use crate::handing::{hand_all, hand_over};
+use crate::handle::Handle;
+use crate::held::{Held, Unanswered};
+use crate::keeping::{put, take};
+use std::alloc::Global;
+use workbench::debug::first_debugger;
+use workbench::fault::Fault;
+use workbench::program::program_in;
+
+/// The status where a handle has no session.
+const CLOSED: u8 = 6;
+
+/// Returns a session of the program in a file, before its first command.
+fn held_of(alloc: Global, file: &[u8]) -> Result<Held, Fault>
+    ensures first { IfOk result (λ held. IsFirstOf file.now held) }
+    ensures limit { OnOk result (length file.now ≤ most_bytes) }
+    ensures none { IfErr result (λ fault. HasNone file.now fault) }
+{
+    if !is_within(file) {
+        return Err(Fault::Read);
+    }
+    let image = match program_in(alloc, file) {
+        Ok(program) => program.image,
+        Err(fault) => return Err(fault),
+    };
+    match first_debugger(alloc, image) {
+        Ok(debugger) => Ok(Held::new(alloc, debugger)),
+        Err(fault) => Err(fault),
+    }
+}
+
+/// The same in a block of its own.
+fn boxed(alloc: Global, file: &[u8]) -> Result<Box<Held>, Fault>
+    ensures first { IfOk result (λ held. IsFirstOf file.now held.value) }
+    ensures limit { OnOk result (length file.now ≤ most_bytes) }
+    ensures none { IfErr result (λ fault. HasNone file.now fault) }
+{
+    let held = match held_of(alloc, file) {
+        Ok(held) => held,
+        Err(fault) => return Err(fault),
+    };
+    match Box::new(alloc, held) {
+        Ok(held) => Ok(held),
+        Err(_) => Err(Fault::Memory),
+    }
+}
+
+/// Tells why there is no session.
+fn tell(fault: Fault, told: &mut CountingSink)
+    ensures { told.new.written ≡ told.old.written ++ line_of fault }
+{
+    match fault.tell(told) {
+        Ok(()) => {}
+        Err(_) => {}
+    }
+}
+
+/// Opens a session of a program, an image or a text. One that was open is closed.
+#[unsafe(no_mangle)]
+pub extern "C" fn vuthgal_session_open(
+    alloc: Global,
+    session: &mut Handle,
+    program: &[u8],
+    line: &mut [u8],
+    line_length: &mut usize,
+) -> u8
+    ensures { (told : List ℕ) × (Holds line.old line.new line_length.new told
+        × Opens program.now session.new.session result told) }
+{
+    let _ = take(alloc, session);
+    let fault = match boxed(alloc, program) {
+        Ok(held) => {
+            put(alloc, session, held);
+            hand_all(b"", line, line_length);
+            return 0;
+        }
+        Err(fault) => fault,
+    };
+    let mut told = CountingSink::new(alloc, line.len());
+    let status = fault.status();
+    tell(fault, &mut told);
+    if !told.has_kept(line.len()) {
+        hand_all(b"memory\n", line, line_length);
+        return 4;
+    }
+    hand_over(&told, line, line_length);
+    status
+}
+
+/// Carries out a command, a line without its LF. The output is the reply.
+#[unsafe(no_mangle)]
+pub extern "C" fn vuthgal_session_command(
+    alloc: Global,
+    session: &mut Handle,
+    command: &[u8],
+    output: &mut [u8],
+    output_length: &mut usize,
+) -> u8
+    ensures { (reply : List ℕ) × (Holds output.old output.new output_length.new reply
+        × Answers session.old.session command.now session.new.session result reply) }
+{
+    let Some(mut held) = take(alloc, session) else {
+        hand_all(b"", output, output_length);
+        return CLOSED;
+    };
+    match held.command(alloc, command) {
+        Ok(()) => {
+            hand_all(held.reply(), output, output_length);
+            put(alloc, session, held);
+            0
+        }
+        Err(Unanswered::NotCarriedOut) => {
+            hand_all(b"", output, output_length);
+            put(alloc, session, held);
+            4
+        }
+        Err(Unanswered::ReplyLost) => {
+            hand_all(b"", output, output_length);
+            4
+        }
+    }
+}
+
+/// Tells the reply to the last command again, for a caller that had no room for it.
+#[unsafe(no_mangle)]
+pub extern "C" fn vuthgal_session_reply(
+    alloc: Global,
+    session: &mut Handle,
+    output: &mut [u8],
+    output_length: &mut usize,
+) -> u8
+    ensures reply { (reply : List ℕ) × (Holds output.old output.new output_length.new reply
+        × Repeats session.old.session result reply) }
+    ensures session { session.new.session ≡ session.old.session }
+{
+    let Some(held) = take(alloc, session) else {
+        hand_all(b"", output, output_length);
+        return CLOSED;
+    };
+    hand_all(held.reply(), output, output_length);
+    put(alloc, session, held);
+    0
+}
+
+/// Closes a session, if it is open, and frees all that it has.
+#[unsafe(no_mangle)]
+pub extern "C" fn vuthgal_session_close(alloc: Global, session: &mut Handle)
+    ensures { session.new.session ≡ None }
+{
+    let _ = take(alloc, session);
+}

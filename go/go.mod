@@ -1,0 +1,3 @@
+module vuthgal.dev/go
+
+go 1.19
