@@ -11,6 +11,7 @@
     if (line.top < top.bottom - 1 || line.bottom > innerHeight + 1) wrong.add("the line is out of view at " + where);
     if (!isHead && innerHeight <= 480 && top.height > innerHeight / 3 + 1) wrong.add("the steps take " + Math.round(top.height) + " of " + innerHeight + " pixels at " + where);
     const box = id("said").getBoundingClientRect(), first = id("next").getBoundingClientRect();
+    if (!isHead && box.bottom > top.bottom + 1) wrong.add("the sentence is cut off at " + where);
     if (!isHead && (first.top < box.top || first.top + 16 > box.bottom)) wrong.add("who may go next is out of view at " + where);
     if (!names().length && id("would").textContent) wrong.add("it asks for a name where there is none at " + where);
     for (const name of names()) {
@@ -40,7 +41,15 @@
   const place = id("where").textContent;
   click(names().find(one => one.classList.contains("dead")));
   if (id("where").textContent !== place || !/no other choice/.test(id("would").textContent)) wrong.add("a name without a run doesn't say so: " + id("would").textContent);
+  click(id("last"));
+  look();
   press("Escape");
+
+  // an open text takes no room of the timeline
+  const high = id("time").offsetHeight;
+  id("text").open = true;
+  if (id("time").offsetHeight !== high) wrong.add("with its text open the timeline is " + id("time").offsetHeight + " high, and not " + high);
+  id("text").open = false;
 
   // keys of one letter or sign
   const size = () => getComputedStyle(document.documentElement).getPropertyValue("--zoom");

@@ -27,10 +27,7 @@ fn pushed(added: Result<(), AllocError>) -> Result<(), WordFault>
 {
     match added {
         Ok(()) => Ok(()),
-        Err(_) => Err(WordFault {
-            kind: AsmFaultKind::Memory,
-            left: 0,
-        }),
+        Err(_) => Err(WordFault::at(0, AsmFaultKind::Memory)),
     }
 }
 
@@ -143,7 +140,7 @@ pub fn lines_read(alloc: Global, text: &[u8]) -> Result<(Draft<'_>, u64), Placed
         number += 1;
         match read_line(&mut draft, &mut words, number, rest) {
             Ok(after) => rest = after,
-            Err(fault) => return Err(placed(number, fault, rest, words.len())),
+            Err(fault) => return Err(placed(number, fault, text, words.len())),
         }
     }
     Ok((draft, number))

@@ -1,5 +1,5 @@
 //! The fault of a text, and the place of the word that makes it.
-ghost use Rattle.std.specs.Prelude.{◌≡◌, ◌<◌, length};
+ghost use Rattle.std.specs.Prelude.{◌≡◌};
 ghost use Rattle.line_reader.specs.declared.asm_fault.AsmFaultKind.TheVariants as kinds;
 ghost use Rattle.assembler.specs.KeptLine.{number_kept};
 
@@ -8,7 +8,6 @@ use crate::kept_line::KeptLine;
 use crate::word_place::{WordPlace, last_place_of, line_at, place_of_word};
 use instruction_table::OperandKind;
 use line_reader::asm_fault::{AsmFault, AsmFaultKind, WordFault};
-use line_reader::first_line::first_line;
 use line_reader::reference::Reference;
 use line_reader::symbolic_phaser::SymbolicPolicy;
 use line_reader::words::{before_comment, place_of_forbidden};
@@ -55,21 +54,25 @@ fn place_in(line: &[u8], fault: WordFault, words: usize) -> Option<WordPlace> {
     if fault.left == 0 {
         return None;
     }
-    place_of_word(before_comment(line), words.checked_sub(fault.left)?)
+    place_of_word(
+        before_comment(line),
+        words.checked_sub(usize::from(fault.left))?,
+    )
 }
 
-/// The fault of the line of this number, with which this text begins, and which has so many words.
+/// The fault of the line of this number of a text, which has so many words.
 pub fn placed(number: u64, fault: WordFault, text: &[u8], words: usize) -> PlacedFault
-    requires { 0 < length text.now }
     ensures { result.fault ≡ record { line = number; kind = fault.kind } }
 {
-    let (line, _) = first_line(text);
     PlacedFault {
         fault: AsmFault {
             line: number,
             kind: fault.kind,
         },
-        at: place_in(line, fault, words),
+        at: match line_at(text, number) {
+            Some(line) => place_in(line, fault, words),
+            None => None,
+        },
         unknown: None,
     }
 }

@@ -40,23 +40,17 @@ pub fn directive_behind<'a>(
     ensures directive { IfOk result (λ said. is_code (statement_seen said) ≡ false) }
 {
     if draft.has_code() {
-        return Err(WordFault {
-            kind: AsmFaultKind::MisplacedDirective,
-            left: words.len().saturating_add(1),
-        });
+        return Err(WordFault::at(
+            words.len().saturating_add(1),
+            AsmFaultKind::MisplacedDirective,
+        ));
     }
     let said = directive_at(word, words)?;
     if !is_new(draft, name_in(&said)) {
-        return Err(WordFault {
-            kind: AsmFaultKind::NameTwice,
-            left: words.len(),
-        });
+        return Err(WordFault::at(words.len(), AsmFaultKind::NameTwice));
     }
     if !draft.has_room(&said) {
-        return Err(WordFault {
-            kind: AsmFaultKind::TooMany,
-            left: words.len().saturating_add(1),
-        });
+        return Err(WordFault::at(words.len().saturating_add(1), AsmFaultKind::TooMany));
     }
     Ok(said)
 }
@@ -74,10 +68,7 @@ pub fn row_behind<'a>(
 {
     let row = row_at(word, words)?;
     if !draft.has_room_for_row() {
-        return Err(WordFault {
-            kind: AsmFaultKind::TooMany,
-            left: words.len().saturating_add(1),
-        });
+        return Err(WordFault::at(words.len().saturating_add(1), AsmFaultKind::TooMany));
     }
     Ok(row)
 }
@@ -98,10 +89,7 @@ fn labelled_behind<'a>(
         [] => Ok(KeptLine::Label(number, label)),
         [word, operands @ ..] => {
             if is_directive(*word) {
-                return Err(WordFault {
-                    kind: AsmFaultKind::MisplacedDirective,
-                    left: words.len(),
-                });
+                return Err(WordFault::at(words.len(), AsmFaultKind::MisplacedDirective));
             }
             let row = row_behind(draft, *word, operands)?;
             Ok(KeptLine::LabelledRow(number, label, row))
@@ -125,10 +113,7 @@ pub fn label_behind<'a>(
     let left = words.len().saturating_add(1);
     let label = read_at(left, name_at(before_last(word)))?;
     if draft.is_given(label) {
-        return Err(WordFault {
-            kind: AsmFaultKind::NameTwice,
-            left,
-        });
+        return Err(WordFault::at(left, AsmFaultKind::NameTwice));
     }
     labelled_behind(draft, number, label, words)
 }

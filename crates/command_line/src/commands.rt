@@ -54,7 +54,7 @@ pub struct Subcommand {
 const FILE: Word = Word(
     "FILE",
     Kind::Needed,
-    "The file of the image or of the program text",
+    "A program text, or an image: it begins with PBW1 or PBW2",
 );
 
 const SCHEDULE: Word = Word(

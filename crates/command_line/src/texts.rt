@@ -28,9 +28,6 @@ With `--expect STATE` the exit status is 1 if the run ends differently than
 STATE says (`vuthgal run --help`). `run` and `live` have this option too; then
 it goes after the command's name.
 
-Errors: `refused asm`, `refused load`, `refused schedule`, `memory`, `read`,
-`write`.
-
 Example: vuthgal < examples/two-threads-meet.txt";
 
 const ASM: &str = "\
@@ -39,18 +36,13 @@ Assembles the program text in SRC and writes its image to OUT.
 OUT is made empty first. `-` is a file of this name. SRC and OUT can't be the
 same file. `asm` doesn't check whether the program can be loaded.
 
-Errors: `refused asm`, `memory`, `read`, `write`.
-
 Example: vuthgal asm examples/meeting.asm meeting.image";
 
 const LIST: &str = "\
 Writes the canonical text of the program in FILE, an image or a program text.
 
-FILE is an image if its first four bytes are `PBW1` or `PBW2`, else a program
-text. With `--rows` it writes a line for each row instead: the row's number, as
-in traces, then for a text the line's number and the line, for an image the row.
-
-Errors: `refused asm`, `refused image`, `memory`, `read`, `write`.
+With `--rows` it writes a line for each row instead: the row's number, as in
+traces, then for a text the line's number and the line, for an image the row.
 
 Example: vuthgal list meeting.image";
 
@@ -58,10 +50,9 @@ const RUN: &str = "\
 Plays the program in FILE under the schedule in SCHEDULE and writes the trace:
 a line for each choice, and then the state.
 
-FILE is an image if its first four bytes are `PBW1` or `PBW2`, else a program
-text. SCHEDULE is a file of any length, or `-` for standard input. Without it
-FILE is a text with a line `.run`, and its schedule after that. A plan can
-replace the schedule: `--plan 'ann. bob.'`, or `--plan-file FILE` for a file.
+SCHEDULE is a file of any length, or `-` for standard input. Without it FILE is
+a text with a line `.run`, and its schedule after that. A plan can replace the
+schedule: `--plan 'ann. bob.'`, or `--plan-file FILE` for a file.
 
 STATE is one of
   all    all threads have ended or died
@@ -73,9 +64,6 @@ words in a row of its line in the final state, such as `--expect 't0 out 1 2'`.
 For each STATE that isn't met, standard error has a line, and the status is 1.
 If a choice is refused, none is met.
 
-Errors: `refused asm`, `refused image`, `refused load`, `refused schedule`,
-`refused plan`, `memory`, `read`, `write`.
-
 Example: vuthgal run examples/meeting.asm - <<< 't0 t1 t0*3 t1*2'";
 
 const COMPARE: &str = "\
@@ -83,16 +71,12 @@ Compares the trace in TRACE with the run of the program in FILE under the
 choices that the trace names.
 
 It writes `same`; or `differs LINE`, the first line that isn't the run's, byte
-for byte; or `not a trace LINE`, the first line that a trace can't have. FILE is
-an image if its first four bytes are `PBW1` or `PBW2`, else a program text.
-TRACE is a file of any length, or `-` for standard input.
+for byte; or `not a trace LINE`, the first line that a trace can't have. TRACE
+is a file of any length, or `-` for standard input.
 
 With `--show` two lines follow. After `differs LINE` they are this line of the
 trace, `trace ..`, and of the run, `run ..`. After `not a trace LINE` they are
 this line, `trace ..`, and what the line has to be, `wanted ..`.
-
-Errors: `refused asm`, `refused image`, `refused load`, `memory`, `read`,
-`write`.
 
 Example: vuthgal compare examples/meeting.asm examples/two-threads-meet.trace";
 
@@ -100,9 +84,8 @@ const DEBUG: &str = "\
 Plays the program in FILE by the commands on standard input, forwards and
 backwards.
 
-FILE is an image if its first four bytes are `PBW1` or `PBW2`, else a program
-text. Each line of standard input is one command. Its reply is written to
-standard output before the next line is read:
+Each line of standard input is one command. Its reply is written to standard
+output before the next line is read:
 
   s tN       one choice: thread N's turn; `s xN` lets its timed wait expire
   b          one choice back, up to 4096
@@ -121,42 +104,27 @@ with the choices of the trace in this file. If it isn't a trace, `debug` writes
 At a terminal `help` lists the commands, and `w` writes the choices so far as a
 plan. After each reply you see which threads can continue, and at which row.
 
-Errors: `refused asm`, `refused image`, `refused load`, `refused plan`,
-`memory`, `read`, `write`.
-
 Example: vuthgal debug examples/meeting.asm <<< 'g t0 t1 t0'";
 
 const SHOW: &str = "\
 Writes a page that shows a run: one HTML file that any browser opens, without a
 network.
 
-FILE is an image if its first four bytes are `PBW1` or `PBW2`, else a program
-text. SCHEDULE is a file, or `-` for standard input. Without it FILE is a text
-with a line `.run`, and its schedule after that. A plan can replace the
-schedule: `--plan 'ann. bob.'`, or `--plan-file FILE` for a file. A page shows
-at most 2000 choices.
+FILE, SCHEDULE and plans are as in `vuthgal run --help`. A page shows at most
+2000 choices.
 
 The page also shows other runs: what would have followed another choice. The
 chosen thread runs until it waits or ends, then the choices of the run follow
 that still do something, then all threads in turn. With `--alone` the page shows
 only the run.
 
-Errors: `refused asm`, `refused image`, `refused load`, `refused schedule`,
-`refused plan`, `refused show`, `memory`, `read`, `write`.
-
 Example: vuthgal show examples/two-threads-meet.txt > meeting.html";
 
 const DRAW: &str = "\
 Draws a run as text: a column for each thread, a line for each choice.
 
-FILE is an image if its first four bytes are `PBW1` or `PBW2`, else a program
-text. SCHEDULE is a file, or `-` for standard input. Without it FILE is a text
-with a line `.run`, and its schedule after that. A plan can replace the
-schedule: `--plan 'ann. bob.'`, or `--plan-file FILE` for a file. A line has at
-most N bytes (`--width N`), and a drawing at most 2000 choices.
-
-Errors: `refused asm`, `refused image`, `refused load`, `refused schedule`,
-`refused plan`, `refused draw`, `memory`, `read`, `write`.
+FILE, SCHEDULE and plans are as in `vuthgal run --help`. A line has at most N
+bytes (`--width N`), and a drawing at most 2000 choices.
 
 Example: vuthgal draw examples/two-threads-meet.txt";
 
@@ -164,12 +132,11 @@ const LIVE: &str = "\
 Plays the program in FILE on real threads, one for each thread of the program,
 and writes the trace of this run.
 
-FILE is an image if its first four bytes are `PBW1` or `PBW2`, else a program
-text. `live` records the choices of the run and writes their trace, which is
-`same` for `vuthgal compare`. The run ends if all threads have ended, if none
-can continue, or after N steps: in the state `all`, `stuck` or `live`. With
-`--stir SEED` each thread yields or pauses a little before about half of its
-turns, so that other runs happen too. The trace is still that of the run.
+`live` records the choices of the run and writes their trace, which is `same`
+for `vuthgal compare`. The run ends if all threads have ended, if none can
+continue, or after N steps: in the state `all`, `stuck` or `live`. With `--stir
+SEED` each thread yields or pauses a little before about half of its turns, so
+that other runs happen too. The trace is still that of the run.
 
 Time passes only if no thread can continue otherwise: a timed wait never expires
 before an arrival that is still possible. A plan with `xNAME` shows that case.
@@ -179,11 +146,7 @@ state in which a run ended, the most frequent first: how many runs ended in it,
 `all`, `stuck` or `live`, with `+died` if a thread died, and the schedule of the
 first of them, which `vuthgal run FILE -` plays again. The number of choices is
 no part of the state. With `--expect` the exit status is 1 if any run ended
-differently (`vuthgal run --help`). An interrupt (Ctrl-C) ends the command: it
-writes nothing, and the counts so far are lost.
-
-Errors: `refused asm`, `refused image`, `refused load`, `memory`, `spawn`,
-`read`, `write`.
+differently (`vuthgal run --help`).
 
 Example: vuthgal live examples/meeting.asm";
 
@@ -194,8 +157,6 @@ state at the end.
 N threads call `arriveAndAwaitAdvance` R times each on a phaser of N parties.
 The line is `phase A parties B unarrived C`. In any order of the threads A is R,
 and B and C are N.
-
-Errors: `memory`, `spawn`, `write`.
 
 Example: vuthgal race --parties 4 --rounds 10000";
 
@@ -210,18 +171,15 @@ names of its threads instead of their numbers:
 
   vuthgal choices TRACE | vuthgal plan FILE --names
 
-Errors: `memory`, `read`, `write`.
-
 Example: vuthgal choices examples/two-threads-meet.trace";
 
 const PLAN: &str = "\
 Writes the schedule of the plan in PLAN for the program in FILE. `run`, `show`
 and `draw` take it as SCHEDULE.
 
-FILE is an image if its first four bytes are `PBW1` or `PBW2`, else a program
-text, up to its line `.run`. PLAN is a file, or `-` for standard input. Without
-PLAN and `--seeds` it is standard input. To play the text of a plan, write
-`vuthgal run FILE --plan 'ann. bob.'`. A plan says whose turn it is:
+A program text ends at its line `.run`. PLAN is a file, or `-` for standard
+input. Without PLAN and `--seeds` it is standard input. To play the text of a
+plan, write `vuthgal run FILE --plan 'ann. bob.'`. A plan says whose turn it is:
 
   ann, t0    one turn of a thread, by its name or its number
   ann*3      three turns
@@ -247,14 +205,10 @@ and the seed and the schedule of the first of them.
 With `--limit N` each seed makes at most N choices after PLAN, like `?7*N`. With
 `--expect STATE` (`vuthgal run --help`) the exit status is 1 if any run ended
 differently, and standard error names the first such seed: `expected ended: ?7
-state stuck`. At a terminal you see the counts so far. An interrupt (Ctrl-C)
-ends the command: it writes nothing.
+state stuck`.
 
 With `--names` the threads have their names instead of numbers. What is written
 then is a plan and no schedule: `vuthgal run FILE --plan-file F` plays it.
-
-Errors: `refused asm`, `refused image`, `refused load`, `refused plan`,
-`memory`, `read`, `write`.
 
 Example: vuthgal plan examples/meeting.asm - <<< 't0. t1. t0.'";
 

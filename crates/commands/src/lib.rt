@@ -7,8 +7,7 @@
 //! - `show_comparison` writes the verdict of `compare_cmd`, and then the lines that differ.
 //! - `report_runs` plays a program many times on real threads. For each state in which runs ended, it writes a line. With
 //!   `Pauses` the threads pause now and then. So orders happen that are rare otherwise.
-//! - `report_seeds` plays a program in the orders that some seeds give, and writes lines of the same form. It calls an
-//!   `Observer` with the end of each run.
+//! - `report_seeds` plays a program in the orders that some seeds give, and writes lines of the same form.
 #![tactic(auto)]
 
 // Schedules of traces and plans, lines that differ, and rows.

@@ -36,11 +36,6 @@ use trace_text::meeting::are_met;
 use workbench::Program;
 use workbench::fault::Fault;
 
-/// A report of how far several runs have come. The command that plays them reports the end of each run here.
-pub trait Observer {
-    fn ended(&self, ending: Ending);
-}
-
 /// Which orders are asked for, and how they are written.
 #[derive(Clone, Copy)]
 pub struct Seeds<'a> {
@@ -124,14 +119,6 @@ fn judged(
     }))
 }
 
-/// How the order of a seed ended.
-#[derive(Drop)]
-struct OrderEnd {
-    ending: Ending,
-    /// The first run that ended differently than expected.
-    unlike: Option<Unlike>,
-}
-
 /// Plays the plan of a seed on a copy of a program.
 fn planned_by_seed(
     alloc: Global,
@@ -158,29 +145,29 @@ fn planned_by_seed(
     planned_on(alloc, program, names, text.as_slice())
 }
 
-/// Adds the outcome of an order, which was played so far.
+/// Adds the outcome of an order, which was played so far. Returns the run if it ended differently than expected.
 fn add_planned(
     alloc: Global,
     planned: &Planned,
     expected: &[Vec<u8>],
     seed: u64,
     outcomes: &mut Outcomes,
-) -> Result<OrderEnd, AllocError>
+) -> Result<Option<Unlike>, AllocError>
     requires runs { AreRuns planned.now.runs.items }
     requires few { (other : EndState) → IfSome (get is_state outcomes.old other) (λ outcome. outcome.times < 4294967295) }
-    ensures { (runs : List Ended) → AreOutcomes runs outcomes.old.entries → IfOk result (λ end.
+    ensures { (runs : List Ended) → AreOutcomes runs outcomes.old.entries → IfOk result (λ unlike.
         (ended : Ended) × (IsEndOf planned.now seed ended × AreOutcomes (runs ++ ended ∷ []) outcomes.new.entries
-        × IsFirstUnlike expected.now (ended ∷ []) end.unlike)) }
+        × IsFirstUnlike expected.now (ended ∷ []) unlike)) }
 {
     let ending = ending_of(&planned.machine);
     let state = EndState::of(alloc, ending, &planned.machine)?;
     let unlike = judged(alloc, expected, seed, ending, &state)?;
     let schedule = write_schedule(alloc, planned.runs.as_slice())?;
     add(outcomes, state, ending, Some(seed), schedule)?;
-    Ok(OrderEnd { ending, unlike })
+    Ok(unlike)
 }
 
-/// Adds the outcome of the order of a seed.
+/// Adds the outcome of the order of a seed. Returns its run if that ended differently than expected.
 fn add_order(
     alloc: Global,
     program: &Loaded,
@@ -189,13 +176,13 @@ fn add_order(
     seeds: &Seeds<'_>,
     seed: u64,
     outcomes: &mut Outcomes,
-) -> Result<OrderEnd, Unplanned>
+) -> Result<Option<Unlike>, Unplanned>
     requires names { length names.now ≤ 64 }
     requires few { (other : EndState) → IfSome (get is_state outcomes.old other) (λ outcome. outcome.times < 4294967295) }
-    ensures added { (runs : List Ended) → AreOutcomes runs outcomes.old.entries → IfOk result (λ end.
+    ensures added { (runs : List Ended) → AreOutcomes runs outcomes.old.entries → IfOk result (λ unlike.
         (ended : Ended) × (IsEndBy program.now (map name_seen names.now) plan.now seeds.now.limit seed ended
         × AreOutcomes (runs ++ ended ∷ []) outcomes.new.entries
-        × IsFirstUnlike seeds.now.expected.now (ended ∷ []) end.unlike)) }
+        × IsFirstUnlike seeds.now.expected.now (ended ∷ []) unlike)) }
     ensures refused { (f : PlanFault) → result ≡ Err (Unplanned.Plan f)
         → words_in_plan (map name_seen names.now) (plan_by plan.now seeds.now.limit seed) ≡ Err f }
     ensures other { (f : Fault) → result ≡ Err (Unplanned.Fault f) → f ≡ Fault.Memory }
@@ -205,7 +192,7 @@ fn add_order(
         Err(reason) => return Err(reason),
     };
     match add_planned(alloc, &planned, seeds.expected, seed, outcomes) {
-        Ok(end) => Ok(end),
+        Ok(unlike) => Ok(unlike),
         Err(_) => Err(Unplanned::Fault(Fault::Memory)),
     }
 }
@@ -217,14 +204,13 @@ struct Tally {
     unlike: Option<Unlike>,
 }
 
-/// Plays the orders of all seeds, and counts the states that they end in. The end of each run is reported at once.
-fn counted<O: Observer>(
+/// Plays the orders of all seeds, and counts the states that they end in.
+fn counted(
     alloc: Global,
     program: &Loaded,
     names: &[&[u8]],
     plan: &[u8],
     seeds: &Seeds<'_>,
-    observer: &O,
 ) -> Result<Tally, Unplanned>
     requires names { length names.now ≤ 64 }
     requires few { seeds.now.count ≤ 100000 }
@@ -240,10 +226,7 @@ fn counted<O: Observer>(
     for number in 0..seeds.count {
         let seed = u64::from(seeds.first) + u64::from(number);
         match add_order(alloc, program, names, plan, seeds, seed, &mut outcomes) {
-            Ok(end) => {
-                observer.ended(end.ending);
-                unlike = unlike.or(end.unlike);
-            }
+            Ok(found) => unlike = unlike.or(found),
             Err(reason) => return Err(reason),
         }
     }
@@ -251,13 +234,12 @@ fn counted<O: Observer>(
 }
 
 /// Plays the orders of all seeds, and returns their outcomes, sorted.
-fn tally_of<O: Observer>(
+fn tally_of(
     alloc: Global,
     program: Loaded,
     names: &[&[u8]],
     plan: &[u8],
     seeds: &Seeds<'_>,
-    observer: &O,
 ) -> Result<Tally, Unplanned>
     requires names { length names.now ≤ 64 }
     requires few { seeds.now.count ≤ 100000 }
@@ -269,7 +251,7 @@ fn tally_of<O: Observer>(
         × (words_in_plan (map name_seen names.now) (plan_by plan.now seeds.now.limit seed) ≡ Err f)) }
     ensures other { (f : Fault) → result ≡ Err (Unplanned.Fault f) → f ≡ Fault.Memory }
 {
-    let mut tally = match counted(alloc, &program, names, plan, seeds, observer) {
+    let mut tally = match counted(alloc, &program, names, plan, seeds) {
         Ok(tally) => tally,
         Err(reason) => return Err(reason),
     };
@@ -280,12 +262,11 @@ fn tally_of<O: Observer>(
 }
 
 /// Plays the orders of all seeds on a program. Returns their outcomes, sorted, and the names of the threads.
-fn tally_in<'a, O: Observer>(
+fn tally_in<'a>(
     alloc: Global,
     program: Program<'a>,
     plan: &[u8],
     seeds: &Seeds<'_>,
-    observer: &O,
 ) -> Result<(Tally, Vec<&'a [u8]>), Unplanned>
     requires { seeds.now.count ≤ 100000 }
     ensures outcomes { IfOk result (λ both. (loaded : Loaded) × (IsProgramOf program.entry.image loaded
@@ -298,7 +279,7 @@ fn tally_in<'a, O: Observer>(
         × (result ≢ Err (why.Fault Fault.Spawn)) }
 {
     let (loaded, names) = loaded_program(alloc, program.image, &program.names)?;
-    match tally_of(alloc, loaded, names.as_slice(), plan, seeds, observer) {
+    match tally_of(alloc, loaded, names.as_slice(), plan, seeds) {
         Ok(tally) => Ok((tally, names)),
         Err(reason) => Err(reason),
     }
@@ -308,12 +289,11 @@ fn tally_in<'a, O: Observer>(
 /// a line for each state that a run ended in, the most frequent first, as `report_runs` does for live runs: how often one did,
 /// `all`, `stuck` or `live`, with `+died` if a thread died, and the seed and the schedule of the first that did. Returns the
 /// first run that ended differently than expected, if one did.
-pub fn report_seeds<O: Observer, K: Sink>(
+pub fn report_seeds<K: Sink>(
     alloc: Global,
     program: Program<'_>,
     plan: &[u8],
     seeds: &Seeds<'_>,
-    observer: &O,
     output: &mut K,
 ) -> Result<Option<Unlike>, Unplanned>
     requires { seeds.now.count ≤ 100000 }
@@ -324,7 +304,7 @@ pub fn report_seeds<O: Observer, K: Sink>(
     ensures write { result ≡ Err (why.Fault Fault.Write) → IsTrue (K.has_failed output.new) }
     ensures other { (result ≢ Err (why.Fault Fault.Read)) × (result ≢ Err (why.Fault Fault.Spawn)) }
 {
-    let (tally, names) = tally_in(alloc, program, plan, seeds, observer)?;
+    let (tally, names) = tally_in(alloc, program, plan, seeds)?;
     let told = seeds.has_names.then_some(names.as_slice());
     match push_report(alloc, told, &tally.outcomes, output) {
         Ok(()) => Ok(tally.unlike),

@@ -21,10 +21,7 @@ pub fn reference_argument<'a, 'w>(
         ≡ argument_at (reference_at high) (map name_seen words.now) }
 {
     match words {
-        [] => Err(WordFault {
-            kind: AsmFaultKind::OperandCount,
-            left: OPTION_ALONE,
-        }),
+        [] => Err(WordFault::at(OPTION_ALONE, AsmFaultKind::OperandCount)),
         [word, rest @ ..] => Ok((read_at(words.len(), reference_at(high, *word))?, rest)),
     }
 }
@@ -57,10 +54,7 @@ pub fn phase_argument<'a, 'w>(words: &'w [&'a [u8]]) -> Result<(i32, &'w [&'a [u
         ≡ argument_at (number_at (pos 0) greatest_int) (map name_seen words.now) }
 {
     match words {
-        [] => Err(WordFault {
-            kind: AsmFaultKind::OperandCount,
-            left: OPTION_ALONE,
-        }),
+        [] => Err(WordFault::at(OPTION_ALONE, AsmFaultKind::OperandCount)),
         [word, rest @ ..] => Ok((read_at(words.len(), number_at(0, i32::MAX, *word))?, rest)),
     }
 }
@@ -71,9 +65,6 @@ pub fn end_at(words: &[&[u8]]) -> Result<(), WordFault>
 {
     match words {
         [] => Ok(()),
-        _ => Err(WordFault {
-            kind: AsmFaultKind::BadOption,
-            left: words.len(),
-        }),
+        _ => Err(WordFault::at(words.len(), AsmFaultKind::BadOption)),
     }
 }

@@ -73,7 +73,20 @@ pub struct AsmFault {
 #[derive(Clone, Copy, Debug, PartialEq, Eq)]
 pub struct WordFault {
     pub kind: AsmFaultKind,
-    pub left: usize,
+    pub left: u8,
+}
+
+impl WordFault {
+    /// Returns the fault of a word from which on so many words are left, at most 128 in a line.
+    #[inline(always)]
+    pub fn at(left: usize, kind: AsmFaultKind) -> WordFault
+        ensures { result.kind ≡ kind }
+    {
+        WordFault {
+            kind,
+            left: left.min(255) as u8,
+        }
+    }
 }
 
 /// Returns the result of a word from which on so many words are left.
@@ -83,7 +96,7 @@ pub fn read_at<T>(left: usize, read: Result<T, AsmFaultKind>) -> Result<T, WordF
 {
     match read {
         Ok(read) => Ok(read),
-        Err(kind) => Err(WordFault { kind, left }),
+        Err(kind) => Err(WordFault::at(left, kind)),
     }
 }
 

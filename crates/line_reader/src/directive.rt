@@ -34,10 +34,7 @@ fn cell_at<'a>(words: &[&'a [u8]]) -> Result<&'a [u8], WordFault>
 {
     match words {
         [name] => read_at(words.len(), name_at(*name)),
-        _ => Err(WordFault {
-            kind: AsmFaultKind::OperandCount,
-            left: words.len().saturating_add(1),
-        }),
+        _ => Err(WordFault::at(words.len().saturating_add(1), AsmFaultKind::OperandCount)),
     }
 }
 

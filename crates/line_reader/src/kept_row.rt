@@ -184,17 +184,11 @@ pub fn row_at<'a>(word: &[u8], words: &[&'a [u8]]) -> Result<KeptRow<'a>, WordFa
     ensures { seen_in row_kept result ≡ row_at word.now (map name_seen words.now) }
 {
     let Some(opcode) = opcode_named(word) else {
-        return Err(WordFault {
-            kind: AsmFaultKind::UnknownWord,
-            left: words.len().saturating_add(1),
-        });
+        return Err(WordFault::at(words.len().saturating_add(1), AsmFaultKind::UnknownWord));
     };
     let kinds = operands_of(opcode);
     if words.len() != kinds.len() {
-        return Err(WordFault {
-            kind: AsmFaultKind::OperandCount,
-            left: words.len().saturating_add(1),
-        });
+        return Err(WordFault::at(words.len().saturating_add(1), AsmFaultKind::OperandCount));
     }
     row_of_kinds(opcode, kinds, words)
 }

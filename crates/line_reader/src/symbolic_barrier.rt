@@ -23,10 +23,7 @@ pub fn barrier_at<'a>(words: &[&'a [u8]]) -> Result<SymbolicBarrier<&'a [u8]>, W
     ensures { seen_in barrier_seen result ≡ barrier_at (map name_seen words.now) }
 {
     let [name, parties, options @ ..] = words else {
-        return Err(WordFault {
-            kind: AsmFaultKind::OperandCount,
-            left: words.len().saturating_add(1),
-        });
+        return Err(WordFault::at(words.len().saturating_add(1), AsmFaultKind::OperandCount));
     };
     let name = read_at(words.len(), name_at(*name))?;
     let parties = read_at(words.len().saturating_sub(1), count_at(u16::MAX, *parties))?;

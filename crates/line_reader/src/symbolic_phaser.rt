@@ -106,10 +106,7 @@ pub fn phaser_at<'a>(words: &[&'a [u8]]) -> Result<SymbolicPhaser<&'a [u8]>, Wor
     ensures { seen_in phaser_seen result ≡ phaser_at (map name_seen words.now) }
 {
     let [name, parties, options @ ..] = words else {
-        return Err(WordFault {
-            kind: AsmFaultKind::OperandCount,
-            left: words.len().saturating_add(1),
-        });
+        return Err(WordFault::at(words.len().saturating_add(1), AsmFaultKind::OperandCount));
     };
     let name = read_at(words.len(), name_at(*name))?;
     let parties = read_at(words.len().saturating_sub(1), count_at(u16::MAX, *parties))?;

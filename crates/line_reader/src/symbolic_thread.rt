@@ -31,9 +31,6 @@ pub fn thread_at<'a>(words: &[&'a [u8]]) -> Result<SymbolicThread<&'a [u8]>, Wor
 {
     match words {
         [name, row] => thread_of(*name, *row),
-        _ => Err(WordFault {
-            kind: AsmFaultKind::OperandCount,
-            left: words.len().saturating_add(1),
-        }),
+        _ => Err(WordFault::at(words.len().saturating_add(1), AsmFaultKind::OperandCount)),
     }
 }

@@ -20,4 +20,5 @@ mod stage;
 
 pub use law::{a_first_scene_is_sound, who_is_ready};
 pub use note::SceneNote;
+pub use ready_set::set_at;
 pub use stage::Stage;

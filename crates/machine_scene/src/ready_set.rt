@@ -1,7 +1,24 @@
+ghost use Rattle.std.specs.Prelude.{◌<◌};
+ghost use Rattle.machine_scene.specs.ReadySet.{IsSetAt};
+
 /// Two sets of threads, with bit n for thread n: those whose turn is ready, and those that are about to register at a phaser,
 /// which may become ready or not with any other arrival.
 #[derive(Clone, Copy)]
 pub struct ReadySet {
     pub turns: u64,
     pub registering: u64,
+}
+
+/// Returns the set with this thread, or without it: bit n is thread n.
+#[inline(always)]
+#[tactic(auto, using(crate::proofs::ThreadSets::set_at))]
+pub fn set_at(set: u64, thread: usize, within: bool) -> u64
+    requires { thread < 64 }
+    ensures { IsSetAt thread within set result }
+{
+    if within {
+        set | (1 << thread)
+    } else {
+        set & !(1 << thread)
+    }
 }

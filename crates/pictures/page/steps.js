@@ -172,8 +172,8 @@ function heard(event) {
   const said = event.data;
   if (window === window.parent || event.source !== window.parent || !said || !said.vuthgal) return;
   if (said.vuthgal === "host") {
-    host = { source: event.source, origin: event.origin };
     for (const [name, is] of [["hide", said.hide], ["java", said.java]]) if (is !== undefined && id(name).checked !== is) id(name).click();
+    host = { source: event.source, origin: event.origin };
     document.body.classList.toggle("blind", Boolean(said.blind));
     fillNext(at, false);
     tellWhere();
@@ -183,7 +183,7 @@ function heard(event) {
 }
 // what is shown, and, behind an order of the host, that it is carried out
 function tellWhere(to) {
-  tell({ vuthgal: "at", to: to, address: address(), at: at, last: moments.length - 1, fork: run ? runs[run].fork : -1, parent: run ? addressOf(runs[run].parent, at) : "", word: stateAt(at).word, question: questionsAt(at).join(" "),
+  tell({ vuthgal: "at", to: to, address: address(), at: at, last: moments.length - 1, fork: run ? runs[run].fork : -1, parent: run ? addressOf(runs[run].parent, at) : "", word: stateAt(at).word, question: questionsAt(at).join(" "), hide: id("hide").checked, java: inJava(), size: size,
     end: endText(run), name: run ? momentsOf(run)[runs[run].fork].step + 1 + ": " + chosenText(forkOf(run)) : "The run", schedule: scheduleOf(eventsTo(moments.length - 1)) });
 }
 // back to the moment at which this run forks from its parent
@@ -198,6 +198,7 @@ function take(k) {
   readParts();
   readStrays();
   id("slider").max = moments.length - 1;
+  id("copied").hidden = true;
   document.body.classList.toggle("other", run > 0);
 }
 // which run is shown, and how it and the first one end; what stands there stays, and so does the focus
@@ -244,9 +245,9 @@ function scheduleOf(events) {
 }
 // the command that makes the page of a schedule
 const commandOf = schedule => "./vuthgal show PROGRAM - <<< '" + schedule + "' > page.html";
-// copies a text, and shows it; where the browser doesn't copy it is marked, to copy by hand
+// copies a text, and shows it; in a frame, or where the browser doesn't copy, it is marked, and copied as by hand
 function copy(text) {
-  const box = id("copied"), mark = () => box.select();
+  const box = id("copied"), mark = () => { box.select(); document.execCommand("copy"); };
   box.value = text;
   box.hidden = false;
   try { navigator.clipboard.writeText(text).catch(mark); } catch (error) { mark(); }
@@ -474,7 +475,9 @@ function listen() {
     whatIf(null, null);
     tellSheets(0);
     markMap();
+    tellWhere();
   };
+  id("text").ontoggle = () => { if (id("text").open) id("text").scrollIntoView(); };
   id("lanes").onclick = event => {
     const line = event.target.closest("tr[data-i]");
     if (line) go(+line.getAttribute("data-i"));

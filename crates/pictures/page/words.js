@@ -215,7 +215,7 @@ function insteadText(k) {
 // how the first run ends, and this one
 function bothEnds() {
   const from = runs[run].parent, there = endText(from), here = endText(run);
-  if (endOf(from).of === endOf(run).of) return ["Both end alike: ", [here], "."];
+  if (bareText(states[endOf(from).of]) === bareText(states[endOf(run).of])) return ["Both end alike: ", [here], "."];
   if (there !== here) return ["There: ", [there], ". Here: ", [here], "."];
   return ["There and here: ", [here], ". But " + differences(stateOf(endOf(from).of), stateOf(endOf(run).of)) + "."];
 }

@@ -85,14 +85,10 @@ pub fn names_in(
 
 /// Returns the number of the first line that gives this name, from 1.
 pub fn first_line(text: &[u8], name: &[u8]) -> Option<u64> {
-    let mut number: u64 = 0;
-    for line in text.split(|byte| *byte == b'\n') {
-        number = number.saturating_add(1);
-        if name_given(line).is_some_and(|given| given.name == name) {
-            return Some(number);
-        }
-    }
-    None
+    let before = text.split(|byte| *byte == b'\n').position(|line| name_given(line).is_some_and(
+        |given| given.name == name,
+    ))?;
+    Some((before as u64).saturating_add(1))
 }
 
 /// How many letters a method's name has at least that may be misspelt.

@@ -7,6 +7,7 @@ ghost use Rattle.thread_runner.specs.Waiting.{leaves, some_wakes, waits, wakes};
 
 use crate::fault::TakeFault;
 use crate::journaled::Journaled;
+use machine_scene::set_at;
 use std::marker::{Brand, PhantomData};
 
 /// Why a run was broken off.
@@ -37,19 +38,6 @@ pub struct Live<O: Origin> {
     pub sleepers: u64,
     pub of: PhantomData<O>,
     pub ghost begins: { journaled.first ≡ O.first },
-}
-
-/// The set with this thread, or without it: bit `n` is thread `n`.
-#[tactic(auto, using(machine_scene::proofs::ThreadSets::set_at))]
-fn set_at(set: u64, thread: u8, within: bool) -> u64
-    requires { thread < 64 }
-    ensures { IsSetAt thread within set result }
-{
-    if within {
-        set | (1 << thread)
-    } else {
-        set & !(1 << thread)
-    }
 }
 
 impl<O: Origin> Live<O> {
@@ -96,7 +84,7 @@ impl<O: Origin> Live<O> {
     {
         self.journaled.has_few_threads();
         let waits = self.waits(thread);
-        self.sleepers = set_at(self.sleepers, thread, waits);
+        self.sleepers = set_at(self.sleepers, usize::from(thread), waits);
         waits
     }
 

@@ -155,44 +155,32 @@ fn greet(report: &Report<'_>, program: &Program<'_>) -> Result<(), Reported>
     Ok(())
 }
 
-/// What a person debugs: the program's rows are shown first.
-fn guide(
-    report: &Report<'_>,
-    file: ProgramFile<'_>,
-    program: Program<'_>,
-    steps: OpenSteps<'_>,
-) -> Result<Done, Reported>
-    requires { IsNamedProgram program.bytes.now program.image program.names }
-{
-    greet(report, &program)?;
-    match steps {
-        OpenSteps::Beside => session_of_person(report, file, program, None),
-        OpenSteps::Named(name, trace) => session_of_person_at(report, file, program, name, trace),
-        OpenSteps::Plan(name, plan) => {
-            let bytes = plan.as_slice();
-            let planned = planned(report, file, &program, PlanFile { name, bytes })?;
-            session_of_person(report, file, program, Some(planned.runs.as_slice()))
-        }
-    }
-}
-
 /// Carries out the commands on standard input on the program in a file, after the choices that the arguments name. A person at
 /// a terminal is guided.
 pub fn debug(report: &Report<'_>, name: &str, steps: Steps<'_>) -> Result<Done, Reported> {
     let (bytes, steps) = opened(report, Some(name), steps)?;
     let file = ProgramFile::whole(name, bytes.as_slice());
     let program = input::program(report, file)?;
-    if report.rt.stdin().is_terminal() && report.rt.stderr().is_terminal() {
-        return guide(report, file, program, steps);
+    let is_guided = report.rt.stdin().is_terminal() && report.rt.stderr().is_terminal();
+    if is_guided {
+        greet(report, &program)?;
     }
     match steps {
+        OpenSteps::Beside if is_guided => session_of_person(report, file, program, None),
         OpenSteps::Beside => session(report, file, program.image, None, &mut commands(report)?),
+        OpenSteps::Named(name, trace) if is_guided => {
+            session_of_person_at(report, file, program, name, trace)
+        }
         OpenSteps::Named(name, trace) => session_at(report, file, program.image, name, trace),
         OpenSteps::Plan(name, plan) => {
             let bytes = plan.as_slice();
             let planned = planned(report, file, &program, PlanFile { name, bytes })?;
             let runs = Some(planned.runs.as_slice());
-            session(report, file, program.image, runs, &mut commands(report)?)
+            if is_guided {
+                session_of_person(report, file, program, runs)
+            } else {
+                session(report, file, program.image, runs, &mut commands(report)?)
+            }
         }
     }
 }

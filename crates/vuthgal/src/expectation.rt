@@ -41,9 +41,8 @@ fn push_subject(text: &mut Vec<u8>, symbols: &Symbols<'_>, name: &[u8]) -> Resul
 /// Returns what is expected, with numbers instead of names, and one blank between words.
 fn numbered(alloc: Global, symbols: &Symbols<'_>, text: &str) -> Result<Vec<u8>, AllocError> {
     let mut numbered = Vec::new(alloc);
-    let mut is_first = true;
     for word in text.split_ascii_whitespace() {
-        if !is_first {
+        if !numbered.is_empty() {
             numbered.push(b' ')?;
             numbered.extend_from_slice(word.as_bytes())?;
         } else if end_words(text.as_bytes()).is_some() {
@@ -51,7 +50,6 @@ fn numbered(alloc: Global, symbols: &Symbols<'_>, text: &str) -> Result<Vec<u8>,
         } else {
             push_subject(&mut numbered, symbols, word.as_bytes())?;
         }
-        is_first = false;
     }
     Ok(numbered)
 }

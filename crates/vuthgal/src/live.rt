@@ -4,7 +4,6 @@ ghost use Rattle.std.specs.Prelude.{◌≤◌, IfSome};
 
 use crate::expectation::expectations;
 use crate::input::{self, block_port};
-use crate::progress::Meter;
 use crate::run::{ended, fail};
 use byte_ports::WritePort;
 use commands::{Asked, Pauses, report_runs};
@@ -62,10 +61,8 @@ fn played_often<R: Threads + Wait + Sync>(
     requires limit { asked.now.limit ≤ 1000000000 }
     requires count { asked.now.runs ≤ 100000 }
 {
-    let meter = Meter::new(report.rt, ("about ", "choices"));
     let mut output = block_port(report)?;
-    let answer = report_runs(threads, report.alloc(), asked, &meter, image, &mut output);
-    meter.end();
+    let answer = report_runs(threads, report.alloc(), asked, &NoGate, image, &mut output);
     match passed_on(answer, &mut output) {
         Ok(Done::Unlike) => {
             report.help("some runs didn't end as expected: each line has the schedule of one run");

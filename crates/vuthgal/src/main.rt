@@ -4,7 +4,7 @@
 //!
 //! - `run`, `picture`, `live`, `text`, `trace`, `plan` and `debug` have the commands, with the ports that each gets.
 //! - `arguments`, `input` and `steps` read the arguments, files and streams.
-//! - `expectation`, `notes` and `progress` show a person more than the output.
+//! - `expectation` and `notes` show a person more than the output.
 //!
 //! `fault_reports` reports each failure.
 #![tactic(auto)]
@@ -18,7 +18,6 @@ mod notes;
 mod origin;
 mod picture;
 mod plan;
-mod progress;
 mod run;
 mod steps;
 mod text;

@@ -31,19 +31,14 @@ fn made<P: Picture>(
     program: Program<'_>,
     choices: Choices<'_>,
 ) -> Result<Done, Reported> {
-    let Choices {
-        name,
-        origin,
-        stream,
-        lines,
-        live,
-    } = choices;
+    let Choices { name, origin, .. } = choices;
     // Below `.run` the whole schedule was read, so its fault is told even behind too many choices.
     let most = match origin {
         Origin::Beside => u64::MAX,
         _ => MOST_CHOICES as u64,
     };
-    let watched = Watched::new(report.alloc(), ReadPort::new(stream), lines);
+    let source = ReadPort::new(choices.stream);
+    let watched = Watched::new(report.alloc(), source, choices.lines);
     let mut schedule = Needed::new(report.alloc(), watched, most).map_err(|_| report.fault(
         Fault::Memory,
     ))?;
@@ -51,8 +46,8 @@ fn made<P: Picture>(
     let answer = make(report.alloc(), picture, program, &mut schedule, &mut output);
     match flushed(answer, &mut output) {
         Ok(missing) => {
-            if live == NO_SCHEDULE {
-                report.help(live);
+            if choices.live == NO_SCHEDULE {
+                report.help(NO_SCHEDULE);
             }
             if let Some((number, _)) = missing {
                 schedule::note_missing(report, name, schedule.source(), number);

@@ -4,8 +4,7 @@ ghost use Rattle.std.specs.Prelude.{◌≤◌};
 ghost use Rattle.command_line.specs.Request.{AreInRange};
 
 use crate::expectation::{expectations, report_unmet};
-use crate::input::{self, OutputBlocks, block_port};
-use crate::progress::Meter;
+use crate::input::{self, block_port};
 use crate::steps::{fail_at_plan, names_of};
 use byte_ports::WritePort;
 use command_line::request::Orders;
@@ -17,7 +16,6 @@ use fault_reports::plan::{PlanFile, report_stopped};
 use fault_reports::program::ProgramFile;
 use fault_reports::report::{Report, Reported};
 use trace_text::RunEnd;
-use workbench::Program;
 use workbench::done::Done;
 use workbench::ending::{flushed, passed_on};
 
@@ -107,23 +105,6 @@ fn settled_by(
     Done::Unlike
 }
 
-/// Writes how the orders of seeds end on a program, each after this plan, and shows how far they are. Returns the first run that
-/// ended differently than expected.
-fn report_orders(
-    report: &Report<'_>,
-    program: Program<'_>,
-    plan: &[u8],
-    seeds: &Seeds<'_>,
-    output: &mut OutputBlocks<'_>,
-) -> Result<Option<Unlike>, Unplanned>
-    requires { seeds.now.count ≤ 100000 }
-{
-    let meter = Meter::new(report.rt, ("", "seeds"));
-    let answer = report_seeds(report.alloc(), program, plan, seeds, &meter, output);
-    meter.end();
-    passed_on(Ok(answer?), output).map_err(|fault| Unplanned::Fault(fault))
-}
-
 /// Writes how the orders of seeds end, each after a plan if there is one, with the names of the threads if asked for.
 pub fn seeds(
     report: &Report<'_>,
@@ -149,8 +130,12 @@ pub fn seeds(
         has_names,
     };
     let mut output = block_port(report)?;
-    match report_orders(report, program, plan.bytes, &seeds, &mut output) {
-        Ok(unlike) => Ok(settled_by(report, file.bytes, expected.as_slice(), unlike)),
-        Err(why) => Err(fail_at_plan(report, file, names.as_slice(), plan, why)),
-    }
+    let failed = |why| fail_at_plan(report, file, names.as_slice(), plan, why);
+    let unlike = report_seeds(report.alloc(), program, plan.bytes, &seeds, &mut output).map_err(
+        failed,
+    )?;
+    let unlike = passed_on(Ok(unlike), &mut output).map_err(|fault| failed(Unplanned::Fault(
+        fault,
+    )))?;
+    Ok(settled_by(report, file.bytes, expected.as_slice(), unlike))
 }

@@ -118,21 +118,16 @@ fn played(
     choices: Choices<'_>,
     expected: &[Vec<u8>],
 ) -> Result<Done, Reported> {
-    let Choices {
-        name,
-        origin,
-        stream,
-        lines,
-        live,
-    } = choices;
-    let mut schedule = Watched::new(report.alloc(), ReadPort::new(stream), lines);
+    let Choices { name, origin, .. } = choices;
+    let source = ReadPort::new(choices.stream);
+    let mut schedule = Watched::new(report.alloc(), source, choices.lines);
     let mut output = block_port(report)?;
     let answer = shown::run(report.alloc(), image, &mut schedule, &mut output).map_err(
         |fault| Fault::of_run(fault),
     );
     match passed_on(answer, &mut output) {
         Ok(end) => {
-            let done = ended(report, file.bytes, expected, &end, live);
+            let done = ended(report, file.bytes, expected, &end, choices.live);
             if let Some(refused) = &end.refused {
                 if refused.why == StepFault::NoSuchThread {
                     schedule::note_missing(report, name, &schedule, refused.number);

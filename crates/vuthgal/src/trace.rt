@@ -2,7 +2,7 @@
 
 use crate::input::{self, block_port};
 use crate::run::fail;
-use byte_ports::{ReadPort, Source, WritePort};
+use byte_ports::{ReadPort, WritePort};
 use command_line::ports::printable;
 use command_line::ports::watched::Watched;
 use commands::show_comparison;
@@ -11,29 +11,10 @@ use fault_reports::program::ProgramFile;
 use fault_reports::report::{Report, Reported};
 use fault_reports::trace::{note_difference, note_no_trace, wrong_line};
 use headline::shown;
-use row_code::Image;
 use trace_compare::Verdict;
 use workbench::compare::done_by;
 use workbench::done::Done;
 use workbench::ending::{flushed, passed_on};
-use workbench::fault::Fault;
-
-/// Compares a trace with the run of an image's program, and shows the lines that differ if asked for.
-fn verdict<S: Source>(
-    report: &Report<'_>,
-    image: Image,
-    trace: &mut S,
-    is_shown: bool,
-) -> Result<Verdict, Fault> {
-    let stdout = report.kept(report.rt.stdout());
-    let mut output = WritePort::new(printable::output(report.rt, stdout));
-    let answer = if is_shown {
-        show_comparison(report.alloc(), image, trace, &mut output).map(|judged| judged.verdict())
-    } else {
-        shown::compare(report.alloc(), image, trace, &mut output)
-    };
-    flushed(answer, &mut output)
-}
 
 /// Compares a trace with the run of the program in a file, and shows the lines that differ if asked for.
 pub fn compare(
@@ -48,9 +29,16 @@ pub fn compare(
     let file = ProgramFile::whole(name, bytes.as_slice());
     let image = input::program(report, file)?.image;
     let mut watched = Watched::new(report.alloc(), ReadPort::new(read), 0);
-    let verdict = verdict(report, image, &mut watched, is_shown).map_err(|fault| fail(
-        report, file, trace, fault,
-    ))?;
+    let stdout = report.kept(report.rt.stdout());
+    let mut output = WritePort::new(printable::output(report.rt, stdout));
+    let answer = if is_shown {
+        let judged = show_comparison(report.alloc(), image, &mut watched, &mut output);
+        judged.map(|judged| judged.verdict())
+    } else {
+        shown::compare(report.alloc(), image, &mut watched, &mut output)
+    };
+    let failed = |fault| fail(report, file, trace, fault);
+    let verdict = flushed(answer, &mut output).map_err(failed)?;
     match verdict {
         Verdict::Same => {}
         Verdict::Differs { line } => note_difference(report, trace, &watched, line, is_shown),

@@ -38,9 +38,23 @@ pub struct Watched<S> {
     of_line: u64,
 }
 
-/// Returns how many lines end in these bytes.
+/// An LF in each byte of a word.
+const ENDS: u64 = 0x0a0a_0a0a_0a0a_0a0a;
+
+/// All bits of each byte but its highest.
+const LOW: u64 = 0x7f7f_7f7f_7f7f_7f7f;
+
+/// Returns how many lines end in these bytes. It looks at eight bytes at once: of these, each that is an LF leaves one zero.
 pub fn lines_in(bytes: &[u8]) -> u64 {
-    bytes.iter().filter(|byte| **byte == b'\n').count() as u64
+    let (words, rest) = bytes.as_chunks::<8>();
+    let mut lines = 0u64;
+    for word in words {
+        let differs = u64::from_le_bytes(*word) ^ ENDS;
+        let others = ((differs & LOW) + LOW) | differs | LOW;
+        lines = lines.wrapping_add(others.count_zeros() as u64);
+    }
+    let end = rest.iter().filter(|byte| **byte == b'\n').count();
+    lines.wrapping_add(end as u64)
 }
 
 fn last_line(bytes: &[u8]) -> usize {

@@ -9,7 +9,7 @@ ghost use Rattle.machine_scene.specs.ReadySet.{AreReady, KnowsReady, IsSetAt, Ar
 
 use super::Stage;
 use super::ready::may_be_blocked;
-use crate::ready_set::ReadySet;
+use crate::ready_set::{ReadySet, set_at};
 use instruction_table::{Row, is_local};
 use loader::Loaded;
 use thread_state::{Event, Mark, Status, What};
@@ -34,20 +34,6 @@ fn first_in(set: u64) -> Option<usize>
         None
     } else {
         Some(set.trailing_zeros() as usize)
-    }
-}
-
-/// The set with this thread, or without it.
-#[inline(always)]
-#[tactic(auto, using(crate::proofs::ThreadSets::set_at))]
-fn set_at(set: u64, thread: usize, within: bool) -> u64
-    requires { thread < 64 }
-    ensures { IsSetAt thread within set result }
-{
-    if within {
-        set | (1 << thread)
-    } else {
-        set & !(1 << thread)
     }
 }
 

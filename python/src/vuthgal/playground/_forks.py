@@ -1,7 +1,7 @@
 """The text of a run as a page has it, and other runs by the rule of a page: the choice, its thread's turns, what the run shown still
 does, and then all in turn."""
 import re
-from typing import Iterable, Iterator, List, Optional, Tuple
+from typing import Any, Iterable, Iterator, List, Optional, Tuple
 
 from .._calls import debug, plan, run
 from .._calls import list as canonical
@@ -31,7 +31,7 @@ def tokens(schedule: str) -> List[str]:
 
 def joined(choices: Iterable[str]) -> str:
     """The schedule of some choices."""
-    out: List[List] = []
+    out: List[List[Any]] = []
     for it in choices:
         if out and out[-1][0] == it:
             out[-1][1] += 1
@@ -146,7 +146,7 @@ def _moment(replies: Iterator[str], tries: int) -> List[str]:
         out.append(line)
         line = next(replies, None)
     for k in range(tries):
-        line = line if k == 0 else next(replies)
+        line = (line if k == 0 else next(replies)) or ""
         if not line.endswith((" idle", " none")):
             out.append("next " + line)
         if not line.endswith((" none", " limit")):

@@ -7,8 +7,9 @@ import subprocess
 import threading
 import time
 from pathlib import Path
-from typing import Callable, Dict, List, Optional, Tuple
+from typing import Any, Callable, Dict, List, Optional, Tuple
 
+from .._calls import list as canonical
 from .._calls import page, run
 from .._errors import OutOfMemory, Refused, TooLong
 from . import _forks
@@ -19,6 +20,7 @@ MOST_PROGRAM, MOST_PLAN = 200_000, 4_000
 MOST_FILES, MOST_SEEDS = 200, 1000
 #: how long a request waits for its turn, and how long orders are tried, in seconds
 WAIT, TRIES = 2.0, 1.0
+Json = Dict[str, Any]
 _TEXTS = re.compile(r'<pre id="\w+">\n(.*?)</pre>', re.S)
 _HERE = Path(__file__).resolve().parents[1]
 
@@ -45,7 +47,7 @@ class Template:
 
     def of_run(self, program: bytes, choices: List[str]) -> str:
         told = _forks.moments(program, [], choices, True)
-        return self.filled([html.escape(it, quote=False) for it in (_forks.canonical(program), program.decode(), told, "")])
+        return self.filled([html.escape(it, quote=False) for it in (canonical(program), program.decode(), told, "")])
 
     def saved(self, program: bytes, choices: List[str]) -> str:
         """The page of a run that stands alone: the library's texts."""
@@ -58,7 +60,7 @@ def split(text: str) -> Tuple[str, str]:
     return (text[:found.start()], text[found.end():].strip()) if found else (text, "")
 
 
-def read(path: Path) -> Optional[dict]:
+def read(path: Path) -> Optional[Json]:
     """A file of the menu: a program and its plan, or the schedule beside it."""
     # a link may lead out of the folder
     if not path.is_file() or path.is_symlink() or path.stat().st_size > MOST_PROGRAM:
@@ -80,7 +82,7 @@ def examples() -> Optional[Path]:
 def column_of(program: str, line: int) -> Optional[Tuple[int, int]]:
     """Where in its line the word is that is refused, as the program tells it; nothing where there is no program."""
     named = (os.environ.get("VUTHGAL"), str(_HERE.parents[2] / "bin" / "vuthgal"), "vuthgal")
-    found = next(filter(None, map(shutil.which, filter(None, named))), None)
+    found = next((it for it in map(shutil.which, filter(None, named)) if it), None)
     if not found:
         return None
     try:
@@ -91,13 +93,11 @@ def column_of(program: str, line: int) -> Optional[Tuple[int, int]]:
             told = subprocess.run([found, "--explain", "always", "list", "/dev/stdin"], stdin=file, capture_output=True, timeout=WAIT).stderr.decode("utf-8", "replace")
     except (OSError, AttributeError, subprocess.TimeoutExpired):
         return None
-    for shown, mark in zip(told.split("\n"), told.split("\n")[1:]):
-        if re.fullmatch(r" {4} *\^+~* *", mark):
-            text = program.split("\n")[line - 1].rstrip("\r")
-            at = len(mark) - len(mark.lstrip()) - 4
-            if shown[4:] == text and at < len(text):
-                return at, at + len(re.match(r"[^\s;]*", text[at:])[0] or " ")  # type: ignore[index]
-    return None
+    column = re.search(rf"^/dev/stdin:{line}:(\d+): ", told, re.M)
+    if not column:
+        return None
+    at = int(column[1]) - 1
+    return at, at + len(re.match(r"[^\s;]*", program.split("\n")[line - 1][at:])[0] or " ")  # type: ignore[index]
 
 
 class Service:
@@ -106,7 +106,7 @@ class Service:
         self.template = template or Template()
         # the library's calls hold no lock of Python, so no more of them run at once than there are processors
         self.turn = threading.BoundedSemaphore(max(1, (os.cpu_count() or 2) - 1))
-        self.asked: Dict[str, Tuple[Callable[..., dict], Dict[str, type]]] = {
+        self.asked: Dict[str, Tuple[Callable[..., Json], Dict[str, type]]] = {
             "play": (self.play, {"program": str, "plan": str}),
             "save": (self.save, {"program": str, "plan": str}),
             "ask": (self.ask, {"program": str, "before": str, "choice": str, "rest": str}),
@@ -114,12 +114,12 @@ class Service:
             "file": (self.file, {"program": str, "plan": str}),
         }
 
-    def menu(self) -> List[dict]:
+    def menu(self) -> List[Json]:
         groups: List[Tuple[str, Path]] = [("Your files", self.named)] if self.named else []
         top = examples()
         if top:
             groups += [("Lessons", top / "lessons"), ("Tutorial", top / "tutorial"), ("Examples", top)]
-        out: List[dict] = []
+        out: List[Json] = []
         for group, place in groups:
             files = [place] if place.is_file() else sorted(it for it in place.glob("*") if it.suffix in (".asm", ".txt"))
             for path in files[:MOST_FILES]:
@@ -128,26 +128,27 @@ class Service:
                     out.append({"group": group, **one})
         return out
 
-    def file(self, program: str, plan: str) -> dict:
+    def file(self, program: str, plan: str) -> Json:
         """The file that is watched, where it isn't as the page has it."""
         one = read(self.named) if self.named and self.named.is_file() else None
         return {"watched": bool(self.named and self.named.is_file()), "file": one if one and (one["program"], one["plan"]) != (program, plan) else None}
 
-    def play(self, program: str, plan: str) -> dict:
+    def play(self, program: str, plan: str) -> Json:
         text = program.encode()
         choices, is_cut = _forks.planned(text, plan)
         return {"page": self.template.of_run(text, choices), "schedule": _forks.joined(choices), "cut": len(choices) if is_cut else 0}
 
-    def save(self, program: str, plan: str) -> dict:
+    def save(self, program: str, plan: str) -> Json:
         text = program.encode()
         return {"page": self.template.saved(text, _forks.planned(text, plan)[0])}
 
-    def ask(self, program: str, before: str, choice: str, rest: str) -> dict:
+    def ask(self, program: str, before: str, choice: str, rest: str) -> Json:
         return {"text": _forks.answer(program.encode(), before, choice, rest)}
 
-    def orders(self, program: str, seeds: int) -> dict:
+    def orders(self, program: str, seeds: int) -> Json:
         """How runs of random orders end, each outcome with a plan that has it."""
-        text, found, until, tried = program.encode(), {}, time.monotonic() + TRIES, 0
+        text, until, tried = program.encode(), time.monotonic() + TRIES, 0
+        found: Dict[str, List[Any]] = {}
         most = _forks.most_of(text)
         for seed in range(1, min(seeds, MOST_SEEDS) + 1):
             told = str(run(text, _forks.joined(_forks.planned(text, f"?{seed}*{most}")[0])))
@@ -155,9 +156,9 @@ class Service:
             tried = seed
             if time.monotonic() > until:
                 break
-        return {"tried": tried, "ends": [{"end": end, "count": count, "plan": plan} for end, (count, plan) in sorted(found.items(), key=lambda it: -it[1][0])]}
+        return {"tried": tried, "ends": [{"end": end, "count": count, "plan": plan} for end, (count, plan) in sorted(found.items(), key=lambda it: -int(it[1][0]))]}
 
-    def answer(self, name: str, asked: dict) -> dict:
+    def answer(self, name: str, asked: Json) -> Json:
         call, fields = self.asked[name]
         try:
             if not all(type(asked.get(field)) is kind for field, kind in fields.items()):
@@ -176,7 +177,7 @@ class Service:
             return {"refused": str(fault) or "memory", "group": "limit", "line": None, "means": str(fault), "helps": ""}
 
 
-def told_of(fault: Refused, program: str) -> dict:
+def told_of(fault: Refused, program: str) -> Json:
     means = dict(re.findall(r"^  (\w+): +(.*)$", fault.meaning, re.M))
     line = fault.line if fault.group != "load" else None
     word = column_of(program, line) if line and fault.group == "asm" else None

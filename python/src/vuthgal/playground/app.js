@@ -56,8 +56,9 @@ function goThere() {
   box.focus();
   box.setSelectionRange(before + from, before + to);
 }
-// plays the program under the plan, and shows the page, where it was before, if that is still there
-async function play(to) {
+// plays the program under the plan, and shows the page, where it was before, if that is still there; of these runs, or of all so far, a
+// click tells whether they are, too
+async function play(to, paths) {
   const mine = ++newest, program = id("program").value, plan = id("plan").value;
   let told;
   try { told = await post("play", { program, plan }); } catch (error) { say("No answer: " + error.message); return; }
@@ -65,7 +66,7 @@ async function play(to) {
   refuse(told.refused ? told : null);
   if (told.refused) return;
   played = { program, plan, ...told };
-  nodes = new Map();
+  nodes = new Map([...(paths || nodes.keys())].map(path => [path, {}]));
   id("ends").hidden = true;
   say(told.cut ? "The first " + told.cut + " choices are shown" : "");
   id("two").setAttribute("aria-pressed", "false");
@@ -80,11 +81,12 @@ function showFrames(to) {
   to.forEach((address, k) => {
     const one = add(id("frames"), "iframe", old.length ? "waiting" : "");
     one.setAttribute("sandbox", "allow-scripts allow-modals");
+    one.allow = "clipboard-write *";
     one.title = k < to.length - 1 ? "The run that it forks from" : "The run";
     if (old.length) { one.style.width = id("frames").clientWidth / to.length + "px"; one.style.height = id("frames").clientHeight + "px"; }
     fresh.push(new Promise(done => { one.onload = () => {
       frame.isThere = true;
-      send(k, { vuthgal: "host", ...veiled });
+      send(k, hosted());
       go(k, frame.wanted);
       done();
     }; }));
@@ -95,22 +97,36 @@ function showFrames(to) {
   return Promise.all(fresh).then(() => {
     old.forEach(one => one.remove());
     frames.forEach(({ element }) => { element.className = ""; element.style.width = element.style.height = ""; });
+    if (document.activeElement === document.body) enter();
   });
 }
 const last = () => frames[frames.length - 1];
 const send = (k, message) => { if (frames[k] && frames[k].isThere) frames[k].element.contentWindow.postMessage(message, "*"); };
-// what the pages hide, also those that aren't there yet
-let veiled = { hide: undefined, blind: false };
+// the keys step through the run
+function enter() {
+  document.activeElement.blur();
+  if (last()) last().element.focus();
+}
+// what is hidden in the pages, also in those that aren't there yet: by their reader, and by a quiz
+const wish = { hide: false, java: false };
+let veiled = { hide: false, blind: false };
+const hosted = () => ({ vuthgal: "host", hide: wish.hide || veiled.hide, java: wish.java, blind: veiled.blind });
 
 function veil(hide, blind) {
   veiled = { hide, blind };
-  frames.forEach((_, k) => send(k, { vuthgal: "host", ...veiled }));
+  frames.forEach((_, k) => send(k, hosted()));
 }
 function go(k, to) {
   frames[k].wanted = to;
   send(k, { vuthgal: "go", to });
 }
 const pathOf = address => address.replace(/\d+$/, "");
+// the runs from the first one to this, by their paths, and a run's name: the choice at which it forks
+const lineage = path => (path.match(/\d+[tx]\d+\./g) || []).reduce((all, fork) => [...all, all[all.length - 1] + fork], ["#"]);
+function nameOf(path) {
+  const fork = /(\d+)([tx])(\d+)\.$/.exec(path);
+  return fork ? fork[1] + ": " + (readRows(played.program).names[fork[3]] || "t" + fork[3]) + (fork[2] === "x" ? "'s time-out" : "") : "The run";
+}
 const isTwo = () => frames.length === 2;
 
 // a page asks for a run, or tells what it shows
@@ -128,14 +144,20 @@ function moved(k, said) {
   const frame = frames[k], path = pathOf(said.address), isSame = frame.address === said.address;
   frame.now = said;
   frame.address = said.address;
+  wish.java = said.java;
+  if (!quiz.on) wish.hide = said.hide;
+  const wanted = pathOf(frame.wanted);
   if (frame.wanted && said.to !== frame.wanted) return;
   frame.wanted = "";
-  const node = nodes.get(path) || { name: said.name, path: path };
-  node.end = said.end;
-  if (said.at === said.last) node.word = said.word;
-  nodes.set(path, node);
+  lineage(path).forEach(one => nodes.set(one, nodes.get(one) || {}));
+  if (said.at === said.last) nodes.set(path, { word: said.word, end: said.end });
+  if (wanted && wanted !== path) {
+    for (const one of nodes.keys()) if (one.startsWith(wanted)) nodes.delete(one);
+    say(nameOf(wanted) + " is no other run any more");
+  }
   if (frame === last()) {
     lastAddress = said.address;
+    id("tree").style.fontSize = said.size + "em";
     drawTree();
     keepLink();
     dare(said);
@@ -145,18 +167,17 @@ function moved(k, said) {
   if (k === 1) go(0, said.parent || said.address);
   else go(1, pathOf(frames[1].wanted || frames[1].address) + said.at);
 }
-// the runs so far, each below that from which it forks
+// the runs so far, each below that from which it forks, with the ends of those that were seen
 function drawTree() {
   const box = id("tree"), lists = new Map(), now = pathOf(lastAddress);
   box.textContent = "";
-  for (const node of [...nodes.values()].sort((a, b) => a.path.length - b.path.length)) {
-    let above = node.path;
-    do above = above.slice(0, -1).replace(/\d+[tx]\d+$/, ""); while (above.length > 1 && !lists.has(above));
-    const line = add(lists.get(above) || lists.get("") || lists.set("", add(box, "ul")).get(""), "li"), button = add(line, "button", node.word || "", node.name + " \u2014 " + node.end);
+  lists.set(undefined, add(box, "ul"));
+  for (const [path, { word, end }] of [...nodes].sort((a, b) => a[0].length - b[0].length)) {
+    const isKnown = word && !quiz.on, line = add(lists.get(lineage(path).slice(-2, -1)[0]), "li"), button = add(line, "button", isKnown ? word : "", nameOf(path) + (isKnown ? " \u2014 " + end : ""));
     button.type = "button";
-    if (node.path === now) button.setAttribute("aria-current", "true");
-    button.onclick = () => go(frames.length - 1, node.path + (last().now || { at: 0 }).at);
-    lists.set(node.path, add(line, "ul"));
+    if (path === now) button.setAttribute("aria-current", "true");
+    button.onclick = () => { go(frames.length - 1, path + (last().now || { at: 0 }).at); enter(); };
+    lists.set(path, add(line, "ul"));
   }
   const here = box.querySelector("[aria-current]");
   if (here && (here.offsetTop < box.offsetTop + box.scrollTop || here.offsetTop + here.offsetHeight > box.offsetTop + box.scrollTop + box.clientHeight)) box.scrollTop = here.offsetTop - box.offsetTop;
@@ -188,23 +209,29 @@ async function unpacked(text) {
   for (let all = 0, one; !(one = await reader.read()).done; parts.push(one.value)) if ((all += one.value.length) > 3 * MOST) throw new Error("too long");
   return JSON.parse(await new Blob(parts).text());
 }
-let kept = "";
+let kept = "", keeping = 0;
 
 async function keepLink() {
   if (!played) return;
-  kept = "#" + await packed({ p: played.program, s: played.plan, a: lastAddress });
-  history.replaceState(null, "", kept);
+  const mine = ++keeping, link = "#" + await packed({ p: played.program, s: played.plan, a: lastAddress });
+  // who has gone on or back meanwhile is elsewhere
+  if (mine !== keeping) return;
+  kept = link;
+  history.replaceState([...nodes.keys()], "", kept);
 }
 async function readLink() {
+  const paths = history.state || [];
   if (location.hash === kept) return true;
+  keeping++;
   try {
     const { p, s, a } = await unpacked(location.hash.slice(1));
     if (typeof p !== "string" || typeof s !== "string" || p.length > MOST) return false;
     id("program").value = p;
     id("plan").value = s;
-    id("menu").value = "";
+    const of = menu.findIndex(one => one.program === p);
+    id("menu").value = of < 0 ? "" : of;
     drawNumbers();
-    await play(ADDRESS.test(a) ? a : "#0");
+    await play(ADDRESS.test(a) ? a : "#0", paths);
     return true;
   } catch (error) { return false; }
 }
@@ -266,7 +293,7 @@ function ask() {
     add(form, "p", "", "That was all: " + quiz.right + " of " + quiz.asked + " are right.");
     return;
   }
-  add(form, "p", "", "At choice " + quiz.at + ": " + question.text + " (" + quiz.right + " of " + quiz.asked + " right)");
+  add(form, "p", "", headOf(question));
   for (const option of question.options) {
     const label = add(form, "label"), box = add(label, "input");
     Object.assign(box, { type: question.kind, name: "answer", value: option });
@@ -278,6 +305,7 @@ function ask() {
     answer(form, question);
   };
 }
+const headOf = question => "At choice " + quiz.at + ": " + question.text + " (" + quiz.right + " of " + quiz.asked + " right)";
 function answer(form, question) {
   const given = [...form.elements].filter(one => one.checked).map(one => one.value).sort().join(), isRight = given === [...question.right].sort().join();
   if (!given && question.kind === "radio") return;
@@ -285,6 +313,7 @@ function answer(form, question) {
   else {
     quiz.asked++;
     if (isRight) quiz.right++;
+    form.querySelector("p").textContent = headOf(question);
     add(form, "p", isRight ? "right" : "wrong", (isRight ? "Right: " : "No: ") + (question.right.join(", ") || "nobody"));
   }
   form.querySelector("button").remove();
@@ -307,6 +336,7 @@ async function toggleQuiz() {
   id("quiz").setAttribute("aria-pressed", quiz.on);
   if (isTwo()) await beside();
   id("ask").hidden = !quiz.on;
+  say(quiz.on && pathOf(lastAddress) !== "#" ? "The quiz is about the first run; \"Make it the run\" makes this one the first" : "");
   if (quiz.on) startQuiz();
   else veil(false, false);
 }
@@ -330,9 +360,10 @@ async function drawOrders() {
     const names = readRows(id("program").value).names, button = add(box, "button", "", one.count + " \u00d7 " + one.end.replace(/\bt(\d+)\b/g, (word, t) => names[t] || word));
     button.type = "button";
     button.onclick = async () => {
-      id("plan").value = one.plan;
-      await play("#0");
+      await choose({ program: id("program").value, plan: one.plan }, "#0");
       box.hidden = false;
+      say("The browser's Back leads to the runs before");
+      enter();
     };
   }
 }
@@ -344,7 +375,7 @@ async function watch() {
     const told = await post("file", { program: watched.program, plan: watched.plan });
     isWatched = told.watched;
     if (told.file) {
-      const isShown = id("program").value === watched.program && id("plan").value === watched.plan;
+      const isShown = id("program").value === watched.program && id("plan").value === named(watched);
       Object.assign(watched, told.file);
       if (menu[0]) Object.assign(menu[0], told.file);
       if (isShown) choose(told.file, undefined);
@@ -354,11 +385,21 @@ async function watch() {
 }
 const watched = { program: "", plan: "" };
 
-function choose(one, to) {
+// a schedule by the threads' names, which is a plan, too
+function named({ program, plan }) {
+  const names = readRows(program).names, isSchedule = /^(t\d+(\*\d+)?\s*)+$/.test(plan) && [...plan.matchAll(/t(\d+)/g)].every(([, t]) => names[t]);
+  return isSchedule ? plan.replace(/t(\d+)/g, (_, t) => names[t]) : plan;
+}
+// at an address the runs begin anew; to those so far the browser's Back leads
+async function choose(one, to) {
   id("program").value = one.program;
-  id("plan").value = one.plan;
+  id("plan").value = named(one);
   drawNumbers();
-  return play(to);
+  if (to !== undefined && played) {
+    await keepLink();
+    history.pushState(null, "", kept);
+  }
+  return play(to, to && []);
 }
 function save(text, name) {
   const link = add(document.body, "a");
@@ -370,11 +411,12 @@ function save(text, name) {
 function listen() {
   const later = () => { clearTimeout(timer); timer = setTimeout(() => play(), 350); };
   window.onmessage = heard;
-  window.onhashchange = readLink;
+  window.onpopstate = readLink;
   id("program").oninput = () => { drawNumbers(); later(); };
   id("plan").oninput = later;
   id("program").onscroll = scrollBoth;
-  id("menu").onchange = () => { if (menu[id("menu").value]) choose(menu[id("menu").value], "#0"); };
+  id("menu").onchange = () => { if (menu[id("menu").value]) choose(menu[id("menu").value], "#0").then(enter); };
+  document.querySelector("header").onclick = event => { if (event.detail && event.target.tagName === "BUTTON") enter(); };
   id("fault").querySelector("button").onclick = goThere;
   id("fold").onclick = () => foldEditor(!document.body.classList.contains("folded"));
   id("two").onclick = beside;
@@ -387,9 +429,7 @@ function listen() {
   };
   id("rerun").onclick = () => {
     const now = last() && last().now;
-    if (!now) return;
-    id("plan").value = now.schedule;
-    play("#" + now.at);
+    if (now) choose({ program: id("program").value, plan: now.schedule }, "#" + now.at);
   };
   id("link").onclick = async () => {
     await keepLink();
@@ -398,6 +438,7 @@ function listen() {
   id("save").onclick = async () => {
     const now = last() && last().now;
     if (!played) return;
+    say("");
     try { save((await post("save", { program: played.program, plan: now ? now.schedule : played.plan })).page, (menu[id("menu").value] || { name: "run" }).name); } catch (error) { say("No answer: " + error.message); }
   };
 }

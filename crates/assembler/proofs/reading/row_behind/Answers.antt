@@ -1,4 +1,4 @@
-use Rattle.std.proofs.Common.{map}
+use Rattle.std.proofs.Common.{◌∙◌, Err, ap, map}
 use Rattle.line_reader.specs.Seen.{name_seen}
 use Rattle.line_reader.specs.KeptRow.{row_kept}
 use Rattle.assembler.proofs.KeptLines.{row_refused, row_taken}
@@ -7,7 +7,7 @@ use Rattle.assembler.proofs.reading.row_behind.Goals as goal
 pub returns-then-not-has_room_for_row : goal.returns-then-not-has_room_for_row
 returns-then-not-has_room_for_row c = λ label.
     let row = row_kept c.in_ok-row.row in
-    row_refused c.args.draft.now label c.args.word.now (map name_seen c.args.words.now) row c.has_room_for_row.result
+    ap (λ kind. Err kind) c.at.ensures ∙ row_refused c.args.draft.now label c.args.word.now (map name_seen c.args.words.now) row c.has_room_for_row.result
     c.in_ok-row.ensures (c.has_room_for_row.ensures label row) c.if-not-has_room_for_row.true
 
 pub returns : goal.returns

@@ -11,16 +11,16 @@ use Rattle.commands.proofs.Seeded.{one_is_refused, one_more, one_more_unlike}
 use Rattle.commands.proofs.seeds.counted.Goals as goal
 
 pub loop-number-init : goal.loop-number-init
-loop-number-init g c = ([], (refl, tt, subst (AreOutcomes []) (sym c.new-outcomes.ensures.empty) nothing, tt))
+loop-number-init c = ([], (refl, tt, subst (AreOutcomes []) (sym c.new-outcomes.ensures.empty) nothing, tt))
 
 pub add_order-requires-clause-few : goal.add_order-requires-clause-few
-add_order-requires-clause-few g c = λ other.
+add_order-requires-clause-few c = λ other.
     let so = c.loop-number.invariant in
     few so.0 (get is_state c.loop-number.outcomes other) other.text.items (so.1.2.1 other)
     (omega (arith, so.1.0, c.loop-number-test.true, c.requires.few))
 
 pub loop-number-preserved : goal.loop-number-preserved
-loop-number-preserved g c =
+loop-number-preserved c =
     let so = c.loop-number.invariant in
     let more = c.in-Ok.ensures.added so.0 so.1.2 in
     let count = length-append so.0 (more.0 ∷ []) in
@@ -37,12 +37,12 @@ loop-number-preserved g c =
     )
 
 pub returns-in-Err-clause-refused : goal.returns-in-Err-clause-refused
-returns-in-Err-clause-refused g c = λ f is.
+returns-in-Err-clause-refused c = λ f is.
     let same : c.in-Err.reason ≡ why.Plan f = cc is in
     one_is_refused c.args.seeds.now (map name_seen c.args.names.now) c.args.plan.now f c.loop-number.number _ c.loop-number-test.true
     (omega (arith, c.from.ensures, c.from-in-loop-number.ensures)) (c.in-Err.ensures.refused f (ap Err same))
 
 pub returns-clause-outcomes : goal.returns-clause-outcomes
-returns-clause-outcomes g c =
+returns-clause-outcomes c =
     let so = c.loop-number.invariant in
     (so.0, (omega (arith, so.1.0, c.loop-number.far-number, c.loop-number-test.false), so.1.1, so.1.2, so.1.3))
