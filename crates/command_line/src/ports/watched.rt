@@ -83,9 +83,11 @@ impl<S> Watched<S> {
         ensures { self.new.source ≡ self.old.source }
     {
         let kept = self.kept.as_slice();
-        let line = last_line(kept);
+        let lines = lines_in(kept);
+        // The end of a long line isn't looked for in vain.
+        let line = if lines == 0 { 0 } else { last_line(kept) };
         let begin = line.max(kept.len().saturating_sub(LONGEST)).min(kept.len());
-        self.lines = self.lines.saturating_add(lines_in(&kept[..begin]));
+        self.lines = self.lines.saturating_add(lines);
         let of_line = begin.saturating_sub(line) as u64;
         self.of_line = if line == 0 {
             self.of_line.saturating_add(of_line)
