@@ -1,6 +1,7 @@
 //! Several runs of one program.
 ghost use Rattle.std.specs.Prelude.{◌≡◌, ◌⊎◌, ◌<◌, ◌≤◌, ◌++◌, ◌∷◌, [], All, List, None, Some, IfErr, IfOk, IfSome, OnOk, length};
 ghost use Rattle.std.specs.String.{string_bytes};
+ghost use Rattle.schedule_reader.specs.Joined.{AreJoined};
 ghost use Rattle.schedule_reader.specs.Schedule.{choices_of, finished_schedule};
 ghost use Rattle.indexmap.specs.IndexMap.{get};
 ghost use Rattle.thread_machine.specs.World.{World, first_world, world_of};
@@ -52,6 +53,7 @@ fn shown(alloc: Global, schedule: &[u8]) -> Result<String, Fault>
     ensures shown { IfOk result (λ text. (finished_schedule (string_bytes text)).fault ≡ None) }
     ensures choices { IfOk result (λ text. choices_of (finished_schedule (string_bytes text)).runs
         ≡ choices_of (finished_schedule schedule.now).runs) }
+    ensures joined { IfOk result (λ text. AreJoined (finished_schedule (string_bytes text)).runs) }
     ensures memory { IfErr result (λ fault. fault ≡ Fault.Memory) }
 {
     let Ok(runs) = read_schedule(alloc, schedule) else {

@@ -44,11 +44,6 @@ accepted_before first choices last accepted =
     accepted_by done.refusal (refusal_of done.world last) done last refl
     (ap (λ (e : Execution). e.refusal) (sym (execution-snoc choices first last)) ∙ accepted)
 
-pub world_after-snoc : (choices : List Choice) (world : World) (choice : Choice)
-    → world_after world (choices ++ choice ∷ []) ≡ (played (world_after world choices) choice).world
-world_after-snoc [] world choice = refl
-world_after-snoc (first ∷ choices) world choice = world_after-snoc choices (played world first).world choice
-
 worlds_before-snoc : (choices : List Choice) (world : World) (choice : Choice)
     → worlds_before world (choices ++ choice ∷ []) ≡ world_after world choices ∷ worlds_before world choices
 worlds_before-snoc [] world choice = refl

@@ -6,6 +6,4 @@ pub mod Places
 pub mod Unmarked
 pub mod PlayedRuns
 pub mod Replies
-pub mod Runs
-pub mod Tokens
 pub mod Standings

@@ -98,6 +98,10 @@ order_by letter rest =
 abbrev pub line_order : List ℕ → Order
 line_order line = order_by (letter_of (word_of line)) (rest_of line)
 
+-- a line of `g` or of `s`
+abbrev pub has_choices : List ℕ → Bool
+has_choices line = (letter_of (word_of line) == 103) || (letter_of (word_of line) == 115)
+
 -- only `q` ends the session
 abbrev pub goes_on : Order → Bool
 goes_on Quit = false

@@ -4,6 +4,5 @@ pub mod Moves
 pub mod Go
 pub mod Goes
 pub mod Command
-pub mod Tokens
 pub mod Reply
 pub mod Standing

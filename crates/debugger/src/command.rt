@@ -1,17 +1,12 @@
-ghost use Rattle.std.specs.Prelude.{◌≡◌, ◌≢◌, ◌↔◌, Err, OnErr, true, false, ◌&&◌, ◌==◌, ◌+◌, ◌≤◌, ◌<◌, ◌∷◌, [], List, Option, IfOk, IfSome, Some, is_some, length};
-ghost use Rattle.std.specs.Char.{is_ascii_digit};
+ghost use Rattle.std.specs.Prelude.{◌≡◌, OnErr, true, false, ◌==◌, ◌+◌, ◌≤◌, ◌<◌, ◌∷◌, [], IfOk, IfSome, length};
 ghost use Rattle.std.specs.List.{list_all, list_any, position, position_or_len};
 ghost use Rattle.std.specs.Option.{option_map};
-ghost use Rattle.std.specs.Str.Parse.{digits_value};
-ghost use Rattle.schedule_reader.specs.declared.run.Run.{Run};
 ghost use Rattle.schedule_reader.specs.Schedule.{choice_of, is_blank, run_of};
-ghost use Rattle.debugger.specs.Command.{Break, Clear, Go, alone, by_row, go_by, goes_on, is_letter, is_row, letter_of, line_order, order_by, order_of, rest_of, row_in, runs_in, step_by, word_of};
-ghost use Rattle.debugger.specs.Tokens.{with_word};
+ghost use Rattle.debugger.specs.Command.{Break, Clear, Go, alone, by_row, go_by, goes_on, has_choices, is_letter, is_row, letter_of, line_order, order_of, rest_of, row_in, runs_in, step_by, word_of};
 
-use crate::digits::{are_digits, digits_value};
-use crate::token::run_named;
-use schedule_reader::{Reader, Run, ScheduleFault};
-use std::alloc::AllocError;
+use line_reader::number::{are_digits, digits_value};
+use schedule_reader::{Run, ScheduleFault, is_blank, read_schedule};
+use std::alloc::{AllocError, Global};
 use thread_machine::Choice;
 
 /// The last thread that a token can name.
@@ -49,13 +44,6 @@ impl Command {
             Command::Quit => false,
         }
     }
-}
-
-/// Space, tab, CR and LF.
-fn is_blank(byte: u8) -> bool
-    ensures { result ≡ is_blank byte }
-{
-    matches!(byte, b' ' | b'\t' | b'\r' | b'\n')
 }
 
 /// Where the first word begins.
@@ -97,12 +85,10 @@ fn length_before_blank(line: &[u8]) -> usize
 }
 
 /// The first word, and what stands after it.
-#[tactic(auto, using(crate::proofs::Tokens::shorter_rest))]
-pub fn split_word(line: &[u8]) -> (&[u8], &[u8])
+fn split_word(line: &[u8]) -> (&[u8], &[u8])
     ensures word { result.0.now ≡ word_of line.now }
     ensures rest { result.1.now ≡ rest_of line.now }
     ensures lengths { length result.0.now + length result.1.now ≤ length line.now }
-    ensures shorter { 0 < length line.now → length result.1.now < length line.now }
 {
     let from = &line[length_before_word(line)..];
     let end = length_before_blank(from);
@@ -110,7 +96,7 @@ pub fn split_word(line: &[u8]) -> (&[u8], &[u8])
 }
 
 /// The letter of a word that is one, else 0.
-pub fn letter_of(word: &[u8]) -> u8
+fn letter_of(word: &[u8]) -> u8
     ensures letter { result ≡ letter_of word.now }
     ensures some { 0 < result → 0 < length word.now }
 {
@@ -134,53 +120,14 @@ fn has_star(rest: &[u8]) -> bool
     rest.iter().any(|byte| *byte == b'*')
 }
 
-/// Whether a word is a token, or there is none.
-fn may_be_token(word: &[u8]) -> bool
-    ensures { (runs : Option (List Run)) → is_some (with_word word.now runs) ≡ (result && is_some runs) }
+/// The runs of some tokens, if they are all faultless.
+fn runs_in(alloc: Global, tokens: &[u8]) -> Result<Option<Vec<Run>>, AllocError>
+    requires { length tokens.now < 9223372036854775807 }
+    ensures { IfOk result (λ runs. option_map (λ r. r.items) runs ≡ runs_in tokens.now) }
 {
-    word.is_empty() || run_named(word).is_some()
-}
-
-/// Whether each word of these bytes is a token.
-#[tactic(auto, using(crate::proofs::Tokens::next_word))]
-pub fn are_tokens(bytes: &[u8]) -> bool
-    ensures { result ≡ is_some (runs_in bytes.now) }
-{
-    let mut left = bytes;
-    while !left.is_empty() {
-        let (word, rest) = split_word(left);
-        if !may_be_token(word) {
-            return false;
-        }
-        left = rest;
-    }
-    true
-}
-
-/// Whether a reader was refused memory.
-fn is_refused(told: Result<(), ScheduleFault>) -> bool
-    ensures { (result ≡ true) ↔ (told ≡ Err ScheduleFault.Memory) }
-{
-    matches!(told, Err(ScheduleFault::Memory))
-}
-
-/// The runs of some tokens, if they are all faultless, in a list of which only the room is used.
-fn runs_in(room: Vec<Run>, rest: &[u8]) -> Result<Option<Vec<Run>>, AllocError>
-    requires { length rest.now < 9223372036854775807 }
-    ensures { IfOk result (λ runs. option_map (λ r. r.items) runs ≡ runs_in rest.now) }
-{
-    let mut reader = Reader::new();
-    let mut runs = room;
-    runs.clear();
-    if is_refused(reader.feed(rest, &mut runs)) {
-        return Err(AllocError);
-    }
-    let told = reader.finish(&mut runs);
-    if is_refused(told) {
-        return Err(AllocError);
-    }
-    match told {
-        Ok(()) => Ok(Some(runs)),
+    match read_schedule(alloc, tokens) {
+        Ok(runs) => Ok(Some(runs)),
+        Err(ScheduleFault::Memory) => Err(AllocError),
         Err(_) => Ok(None),
     }
 }
@@ -195,23 +142,15 @@ fn go_of(runs: Option<Vec<Run>>) -> Command
     }
 }
 
-/// The command `s` over these bytes: one token, and without a star.
-#[tactic(auto, using(crate::proofs::Tokens::one_token, crate::proofs::Tokens::more_words, crate::proofs::Tokens::no_token))]
-fn step_by(rest: &[u8]) -> Command
-    ensures { order_of result ≡ step_by (runs_in rest.now) rest.now }
+/// The command `s` over these runs, if the tokens had no fault: one, and without a star.
+fn step_of(runs: Option<Vec<Run>>, tokens: &[u8]) -> Command
+    ensures { order_of result ≡ step_by (option_map (λ r. r.items) runs) tokens.now }
 {
-    let (word, after) = split_word(rest);
-    match run_named(word) {
-        Some(run) => {
-            if !are_blank(after) {
-                return Command::Unknown;
-            }
-            if has_star(rest) {
-                Command::Unknown
-            } else {
-                Command::Step(run.choice)
-            }
-        }
+    match runs {
+        Some(runs) => match runs.as_slice() {
+            [run] if !has_star(tokens) => Command::Step(run.choice),
+            _ => Command::Unknown,
+        },
         None => Command::Unknown,
     }
 }
@@ -240,7 +179,7 @@ fn row_in(rest: &[u8]) -> Option<usize>
 {
     let (word, after) = split_word(rest);
     if is_row(word) && are_blank(after) {
-        Some(digits_value(word))
+        Some(digits_value(word) as usize)
     } else {
         None
     }
@@ -301,31 +240,20 @@ pub fn lone_turn(line: &[u8]) -> Option<Run>
     }
 }
 
-/// What a word of one letter, which is not `g`, asks for with what stands behind it.
-pub fn command_by(letter: u8, rest: &[u8]) -> Command
-    requires { letter ≢ 103 }
-    ensures { order_of result ≡ order_by letter rest.now }
+/// Reads what a line asks for. The runs of `s` and `g` are read into memory; it fails where that runs out.
+pub fn command_of(alloc: Global, line: &[u8]) -> Result<Command, AllocError>
+    ensures order { IfOk result (λ command. order_of command ≡ line_order line.now) }
+    ensures choices { OnErr result (has_choices line.now ≡ true) }
 {
-    match letter {
-        b's' => step_by(rest),
+    let (word, rest) = split_word(line);
+    Ok(match letter_of(word) {
+        b's' => step_of(runs_in(alloc, rest)?, rest),
+        b'g' => go_of(runs_in(alloc, rest)?),
         b'k' => break_of(row_in(rest)),
         b'c' => clear_of(row_in(rest)),
         b'b' => alone(Command::Back, rest),
         b'p' => alone(Command::Print, rest),
         b'q' => alone(Command::Quit, rest),
         _ => Command::Unknown,
-    }
-}
-
-/// Reads what a line asks for, the runs of `g` into a list of which only the room is used: for one who keeps them. It fails where
-/// memory for them runs out.
-pub fn command_of(room: Vec<Run>, line: &[u8]) -> Result<Command, AllocError>
-    ensures order { IfOk result (λ command. order_of command ≡ line_order line.now) }
-    ensures wants { OnErr result (letter_of (word_of line.now) ≡ 103) }
-{
-    let (word, rest) = split_word(line);
-    match letter_of(word) {
-        b'g' => Ok(go_of(runs_in(room, rest)?)),
-        letter => Ok(command_by(letter, rest)),
-    }
+    })
 }

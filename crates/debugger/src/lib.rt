@@ -5,14 +5,12 @@
 #![tactic(auto)]
 
 mod command;
-mod digits;
 mod law;
 mod marks;
 mod number_line;
 mod played;
 mod session;
 mod stop;
-mod token;
 mod undos;
 
 pub use command::{Command, command_of};

@@ -1,4 +1,4 @@
-ghost use Rattle.std.specs.Prelude.{◌≡◌, ◌≤◌, ◌<◌, ◌+◌, ◌-◌, ◌++◌, ◌∷◌, [], All, OnOk, Some, length, replicate, take};
+ghost use Rattle.std.specs.Prelude.{◌≡◌, ◌≤◌, ◌<◌, ◌+◌, ◌-◌, ◌++◌, ◌∷◌, [], All, None, OnOk, Some, length, replicate, take};
 ghost use Rattle.schedule_reader.specs.Schedule.{IsRun, choices_of};
 
 use schedule_reader::Run;
@@ -29,6 +29,7 @@ impl Model for Played {
 fn joined(last: Run, run: Run) -> Option<Run>
     ensures one { (both : Run) → result ≡ Some both → (both.choice ≡ run.choice) × (last.choice ≡ run.choice)
         × (both.times ≡ last.times + run.times) × (both.times ≤ 1000000000) }
+    ensures apart { result ≡ None → last.choice ≡ run.choice → 1000000000 < last.times + run.times }
 {
     let is_one = last.choice.thread == run.choice.thread && last.choice.expiry == run.choice.expiry;
     let times = last.times.saturating_add(run.times);

@@ -187,7 +187,7 @@ impl<'a, S: Source + Drop, K: Sink + Drop, E: Sink + Drop> Person<'a, S, K, E> {
     /// Takes the line for the debugger: a command, or else words of a plan. Keeps the machine as it is if the line asks for several
     /// choices at once.
     fn take(&mut self, debugger: &Debugger) -> Result<(), AllocError> {
-        self.command = command_of(Vec::new(self.alloc), self.line.as_slice())?;
+        self.command = command_of(self.alloc, self.line.as_slice())?;
         if matches!(&self.command, Command::Unknown) && !self.said.trim_ascii().is_empty() {
             if let Some(words) = self.words(debugger)? {
                 self.go(debugger, &words)?;

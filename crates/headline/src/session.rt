@@ -6,7 +6,7 @@ ghost use Rattle.thread_machine.specs.World.{world_of};
 ghost use Rattle.thread_machine.specs.declared.fault.StepFault.TheVariants as fault;
 ghost use Rattle.debugger.specs.Command.{goes_on, line_order};
 ghost use Rattle.debugger.specs.Go.{Stops};
-ghost use Rattle.debugger.specs.Reply.{IsCarriedOut, wants_memory};
+ghost use Rattle.debugger.specs.Reply.{IsCarriedOut, NeedsMemory};
 ghost use Rattle.debugger.specs.Session.{went_back, went_on};
 ghost use Rattle.headline.specs.Headline.{StepGivesTheRow};
 
@@ -88,7 +88,7 @@ pub fn command<K: Sink>(
     line: &[u8],
     output: &mut K,
 ) -> Result<bool, CommandFault>
-    ensures outcome { IsCarriedOut (wants_memory debugger.old (line_order line.now) ≡ true) result debugger.old (line_order line.now) debugger.new
+    ensures outcome { IsCarriedOut (NeedsMemory debugger.old line.now) result debugger.old (line_order line.now) debugger.new
         (K.written output.old) (K.written output.new) (K.has_failed output.new) }
     ensures goes_on { IfOk result (λ more. more ≡ goes_on (line_order line.now)) }
 {

@@ -14,7 +14,6 @@ use Rattle.line_reader.specs.declared.symbolic_barrier.SymbolicBarrier.{Symbolic
 use Rattle.line_reader.specs.declared.symbolic_thread.SymbolicThread.{SymbolicThread}
 use Rattle.line_reader.specs.declared.statement.Statement.{Statement}
 use Rattle.line_reader.specs.declared.statement.Statement.TheVariants as statement
-use Rattle.line_reader.specs.declared.statement.Line.{Line}
 use Rattle.line_reader.specs.declared.asm_fault.AsmFaultKind.{AsmFaultKind}
 use Rattle.line_reader.specs.declared.asm_fault.WordFault.{WordFault}
 use Rattle.line_reader.specs.Symbols.{Name}
@@ -76,9 +75,6 @@ statement_seen (statement.Thread t) = statement.Thread (thread_seen t)
 statement_seen (statement.Cell name) = statement.Cell name.now
 statement_seen (statement.Label name) = statement.Label name.now
 statement_seen (statement.Row label row) = statement.Row (option_map name_seen label) (row_seen row)
-
-abbrev pub line_seen : Line Borrowed → Line Name
-line_seen line = record { number = line.number; statement = statement_seen line.statement }
 
 -- the result of a call that needs no memory, with its names as bytes
 abbrev pub seen : {X Y : Type 0} → (X → Y) → Result X AsmFaultKind → Result Y AsmFaultKind

@@ -1,4 +1,4 @@
-ghost use Rattle.std.specs.Prelude.{◌≡◌};
+ghost use Rattle.std.specs.Prelude.{◌≡◌, ◌≤◌, IfErr};
 ghost use Rattle.line_reader.specs.FaultNumber.{asm_number};
 ghost use Rattle.line_reader.specs.Seen.{seen_word};
 ghost use Rattle.line_reader.specs.declared.asm_fault.AsmFaultKind.TheVariants.{Memory};
@@ -80,7 +80,8 @@ impl WordFault {
     /// Returns the fault of a word from which on so many words are left, at most 128 in a line.
     #[inline(always)]
     pub fn at(left: usize, kind: AsmFaultKind) -> WordFault
-        ensures { result.kind ≡ kind }
+        ensures kind { result.kind ≡ kind }
+        ensures left { left ≤ 255 → result.left ≡ left }
     {
         WordFault {
             kind,
@@ -92,7 +93,8 @@ impl WordFault {
 /// Returns the result of a word from which on so many words are left.
 #[inline(always)]
 pub fn read_at<T>(left: usize, read: Result<T, AsmFaultKind>) -> Result<T, WordFault>
-    ensures { seen_word result ≡ read }
+    ensures word { seen_word result ≡ read }
+    ensures left { IfErr result (λ fault. left ≤ 255 → fault.left ≡ left) }
 {
     match read {
         Ok(read) => Ok(read),

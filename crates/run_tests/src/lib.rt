@@ -1,9 +1,27 @@
-//! Tests runs by public calls, where no command of the program shows what is tested.
+//! Tests by public calls, where no command of the program shows what is tested.
 //!
-//! The tests cut streams anywhere, force threads into an order, and let writing a reply or any call of a port fail. They also
+//! The tests of the lowest crates call ports, rows, packed words, trees of phasers, and the word that real threads share. The
+//! tests of runs cut streams anywhere, force threads into an order, and let writing a reply or any call of a port fail. They also
 //! test the calls of `headline`.
 #![tactic(auto)]
 
+// Ports, rows and words.
+#[cfg(test)]
+mod block_ports;
+#[cfg(test)]
+mod port_callers;
+#[cfg(test)]
+mod rows;
+#[cfg(test)]
+mod shared_callers;
+#[cfg(test)]
+mod std_ports;
+#[cfg(test)]
+mod trees;
+#[cfg(test)]
+mod words;
+
+// Runs.
 #[cfg(test)]
 mod closing_page;
 #[cfg(test)]

@@ -16,6 +16,7 @@ mod whole;
 mod writing;
 
 pub use fault::ScheduleFault;
+pub use place::is_blank;
 pub use reader::Reader;
 pub use record::{MOST_CHOICE_BYTES, a_record_is_read_as_its_choices, push_choice};
 pub use run::{Run, joined, push_joined};

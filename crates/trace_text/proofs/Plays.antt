@@ -196,11 +196,6 @@ pub Plays-one : (world after : World) (choice : Choice) (event : Event) (step pc
     → PlaysTo world after (choice ∷ []) None old new
 Plays-one world after choice event step pc old new accepted both step_is pc_is line = grind (arith, played-choices, append-nil)
 
--- a choice that is refused
-pub Plays-none : (world : World) (choice : Choice) (why : StepFault) (old new : Option (List ℕ)) → refusal_of world choice ≡ Some why
-    → Appends old new (lines_of world (choice ∷ [])) → PlaysTo world world (choice ∷ []) (Some (record { choice = choice; why = why })) old new
-Plays-none world choice why old new refused line = grind arith
-
 -- nothing is a part of a text
 pub Part-none : (old : Option (List ℕ)) (text : List ℕ) → AppendsPartOf old old text
 Part-none old text = ([], (text, (refl, Appends-nil old)))

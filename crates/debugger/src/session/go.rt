@@ -1,17 +1,13 @@
-ghost use Rattle.std.specs.Prelude.{◌≡◌, ◌≤◌, ◌-◌, Some, is_some, true, ◌∷◌, [], ◌++◌, ℕ, List, replicate};
+ghost use Rattle.std.specs.Prelude.{◌≡◌, ◌≤◌, ◌-◌, ◌∷◌, [], ◌++◌, ℕ, List, replicate};
 ghost use Rattle.machine_scene.specs.Scene.{scene_of, thread_at};
 ghost use Rattle.schedule_reader.specs.Schedule.{choices_of};
 ghost use Rattle.thread_machine.specs.declared.choice.Choice.{Choice};
-ghost use Rattle.debugger.specs.Command.{runs_in};
 ghost use Rattle.debugger.specs.Go.{is_at_break, Stops};
 ghost use Rattle.debugger.specs.Goes.{Goes};
 ghost use Rattle.debugger.specs.Session.{Session};
-ghost use Rattle.debugger.specs.Tokens.{given, with_word};
 
-use crate::command::split_word;
 use crate::session::Debugger;
 use crate::stop::Stop;
-use crate::token::run_named;
 use schedule_reader::Run;
 use thread_machine::{Choice, Status, StepFault};
 
@@ -33,17 +29,6 @@ impl Debugger {
     {
         let before = self.machine().choices();
         let went = self.go_runs(runs);
-        self.stop_of(went, before)
-    }
-
-    /// Plays the choices that tokens name, as `go` does. The tokens are read one after another as their choices are played, so it
-    /// takes no memory for them.
-    pub(crate) fn go_tokens(&mut self, tokens: &[u8]) -> Stop
-        requires { is_some (runs_in tokens.now) ≡ true }
-        ensures { Stops self.old (choices_of (given (runs_in tokens.now))) result self.new }
-    {
-        let before = self.machine().choices();
-        let went = self.go_words(tokens);
         self.stop_of(went, before)
     }
 
@@ -90,34 +75,6 @@ impl Debugger {
             }
         }
         Went::On
-    }
-
-    /// Plays the choices that tokens name, as `go` does.
-    fn go_words(&mut self, tokens: &[u8]) -> Went
-        requires { is_some (runs_in tokens.now) ≡ true }
-        ensures { Goes self.old (choices_of (given (runs_in tokens.now))) result self.new }
-    {
-        let mut left = tokens;
-        while !left.is_empty() {
-            let (word, rest) = split_word(left);
-            match self.go_word(word) {
-                Went::On => {}
-                Went::Break => return Went::Break,
-                Went::Fault(fault) => return Went::Fault(fault),
-            }
-            left = rest;
-        }
-        Went::On
-    }
-
-    /// Plays the choices that a word names, as `go` does, if it is a token.
-    fn go_word(&mut self, word: &[u8]) -> Went
-        ensures { Goes self.old (choices_of (given (with_word word.now (Some [])))) result self.new }
-    {
-        match run_named(word) {
-            Some(run) => self.go_run(run),
-            None => Went::On,
-        }
     }
 
     /// Plays the choices of one run, as `go` does.

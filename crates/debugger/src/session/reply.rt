@@ -2,10 +2,10 @@ ghost use Rattle.std.specs.Prelude.{◌≡◌, ◌+◌, ◌≤◌, ◌∷◌, []
 ghost use Rattle.std.specs.Fmt.{decimal};
 ghost use Rattle.std.specs.Io.KnownBytes.{Appends};
 ghost use Rattle.debugger.specs.declared.stop.Stop.{Stop};
-ghost use Rattle.debugger.specs.Command.{Back, Break, Clear, Go, Print, Step, Unknown, go_by, goes_on, line_order, order_of, runs_in};
-ghost use Rattle.debugger.specs.Reply.{IsCarriedOut, number_line, stop_text, wants_memory};
+ghost use Rattle.debugger.specs.Command.{Back, Break, Clear, Go, Print, Step, Unknown, goes_on, line_order, order_of};
+ghost use Rattle.debugger.specs.Reply.{IsCarriedOut, NeedsMemory, number_line, stop_text, wants_memory};
 
-use crate::command::{Command, are_tokens, command_by, letter_of, lone_turn, split_word};
+use crate::command::{Command, command_of, lone_turn};
 use crate::number_line::{ROOM, put_number_line};
 use crate::session::Debugger;
 use crate::stop::Stop;
@@ -214,22 +214,6 @@ impl Debugger {
         Ok(())
     }
 
-    /// Plays the choices that tokens name as the command `g` does, and writes its reply, or `?` where one of them is faulty: then
-    /// nothing was played. It takes no memory but for what is put out, and fails only where the reply can't be written.
-    fn go_line<W: Sink>(&mut self, tokens: &[u8], output: &mut W) -> Result<(), CommandFault>
-        ensures { IsCarriedOut ⊥ result self.old (go_by (runs_in tokens.now)) self.new
-            (W.written output.old) (W.written output.new) (W.has_failed output.new) }
-    {
-        if !are_tokens(tokens) {
-            return self.unknown_command(output);
-        }
-        let stop = self.go_tokens(tokens);
-        match say_stop(output, stop) {
-            Ok(()) => Ok(()),
-            Err(_) => Err(CommandFault::Write),
-        }
-    }
-
     /// Carries out a command and writes its reply; false after `q`.
     fn carry_out<W: Sink>(
         &mut self,
@@ -253,11 +237,10 @@ impl Debugger {
     }
 
     /// Carries out the command of a line and writes its reply; false after `q`. The line is read whole before anything is
-    /// done, so one that is no command leaves the debugger as before. Its tokens are read from its bytes, so it takes no memory but
-    /// for what is put out and for the state. After `Write` the command was carried out, and how much of its reply went out is left
-    /// open; after `Memory` it was not, and nothing was written.
+    /// done, so one that is no command leaves the debugger as before. After `Write` the command was carried out, and how much of its
+    /// reply went out is left open; after `Memory` it was not, and nothing was written.
     pub fn command<W: Sink>(&mut self, line: &[u8], output: &mut W) -> Result<bool, CommandFault>
-        ensures outcome { IsCarriedOut (wants_memory self.old (line_order line.now) ≡ true) result self.old (line_order line.now) self.new
+        ensures outcome { IsCarriedOut (NeedsMemory self.old line.now) result self.old (line_order line.now) self.new
             (W.written output.old) (W.written output.new) (W.has_failed output.new) }
         ensures goes_on { IfOk result (λ more. more ≡ goes_on (line_order line.now)) }
     {
@@ -265,10 +248,7 @@ impl Debugger {
             self.go_command(&[run], output)?;
             return Ok(true);
         }
-        let (word, rest) = split_word(line);
-        match letter_of(word) {
-            b'g' => going_on(self.go_line(rest, output)),
-            letter => self.carry_out(&command_by(letter, rest), output),
-        }
+        let command = command_of(self.alloc, line)?;
+        self.carry_out(&command, output)
     }
 }

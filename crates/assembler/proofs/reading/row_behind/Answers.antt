@@ -7,7 +7,7 @@ use Rattle.assembler.proofs.reading.row_behind.Goals as goal
 pub returns-then-not-has_room_for_row : goal.returns-then-not-has_room_for_row
 returns-then-not-has_room_for_row c = λ label.
     let row = row_kept c.in_ok-row.row in
-    ap (λ kind. Err kind) c.at.ensures ∙ row_refused c.args.draft.now label c.args.word.now (map name_seen c.args.words.now) row c.has_room_for_row.result
+    ap (λ kind. Err kind) c.at.ensures.kind ∙ row_refused c.args.draft.now label c.args.word.now (map name_seen c.args.words.now) row c.has_room_for_row.result
     c.in_ok-row.ensures (c.has_room_for_row.ensures label row) c.if-not-has_room_for_row.true
 
 pub returns : goal.returns

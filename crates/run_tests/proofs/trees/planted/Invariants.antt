@@ -1,6 +1,6 @@
 use Rattle.tier_tree.specs.Declaration.{AreAllFresh}
 use Rattle.tier_tree.specs.Stored.{phasers_of}
-use Rattle.word_and_port_tests.proofs.trees.planted.Given as goal
+use Rattle.run_tests.proofs.trees.planted.Given as goal
 
 abbrev pub invariant-loop-plan : goal.invariant-loop-plan
 invariant-loop-plan l = AreAllFresh (phasers_of l.forest)

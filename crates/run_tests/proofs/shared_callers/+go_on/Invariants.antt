@@ -1,5 +1,5 @@
 use Rattle.std.proofs.Common.{length}
-use Rattle.word_and_port_tests.proofs.shared_callers.+go_on.Given as goal
+use Rattle.run_tests.proofs.shared_callers.+go_on.Given as goal
 
 abbrev pub decreases-go_on : goal.decreases-go_on
 decreases-go_on l = length l.calls.now

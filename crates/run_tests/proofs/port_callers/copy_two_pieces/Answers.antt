@@ -1,6 +1,6 @@
 use Rattle.std.proofs.Common.{◌++◌}
 use Rattle.std.proofs.KnownBytes.{Consumes-trans, Appends-trans}
-use Rattle.word_and_port_tests.proofs.port_callers.copy_two_pieces.Goals as goal
+use Rattle.run_tests.proofs.port_callers.copy_two_pieces.Goals as goal
 
 -- the bytes of the one piece and then of the other
 pub returns-clause-moved : goal.returns-clause-moved
