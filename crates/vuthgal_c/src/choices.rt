@@ -4,8 +4,7 @@ ghost use Rattle.vuthgal_c.specs.Beyond.{NamesChoices, done_by_trace};
 ghost use Rattle.vuthgal_c.specs.Shows.{Shows};
 ghost use Rattle.workbench.specs.Done.{IsSettledBy};
 
-use crate::counting_sink::CountingSink;
-use crate::handing::hand_both;
+use crate::reply::Reply;
 use byte_ports::Sink;
 use commands::choices::choices;
 use std::alloc::Global;
@@ -37,17 +36,8 @@ pub extern "C" fn vuthgal_choices(
     ensures { Shows (NamesChoices trace.now) result output.old output.new output_length.new line.old line.new line_length.new }
 {
     let mut trace = SliceSource::new(trace);
-    let mut shown = CountingSink::new(alloc, output.len());
-    let mut told = CountingSink::new(alloc, line.len());
-    let answer = choices(alloc, &mut trace, &mut shown);
-    let status = settled(answer, &mut told);
-    hand_both(
-        status,
-        &shown,
-        &told,
-        output,
-        output_length,
-        line,
-        line_length,
-    )
+    let mut reply = Reply::new(alloc, output.len(), line.len());
+    let answer = choices(alloc, &mut trace, &mut reply.shown);
+    let status = settled(answer, &mut reply.told);
+    reply.hand(status, output, output_length, line, line_length)
 }

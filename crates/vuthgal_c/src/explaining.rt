@@ -4,8 +4,7 @@ ghost use Rattle.vuthgal_c.specs.Explaining.{Explains, ExplainsText, SettlesExpl
 ghost use Rattle.vuthgal_c.specs.Shows.{Shows};
 ghost use Rattle.vuthgal_c.specs.Words.{AreWordsOf};
 
-use crate::counting_sink::CountingSink;
-use crate::handing::hand_both;
+use crate::reply::Reply;
 use byte_ports::Sink;
 use refusals::entries::tables;
 use refusals::explain::{NO_LINE, QUESTIONS, explain, push_no_line};
@@ -72,17 +71,8 @@ pub extern "C" fn vuthgal_explain(
 ) -> u8
     ensures { Shows (Explains QUESTIONS.now NO_LINE.now words.now) result output.old output.new output_length.new line.old line.new line_length.new }
 {
-    let mut shown = CountingSink::new(alloc, output.len());
-    let mut told = CountingSink::new(alloc, line.len());
-    let answer = explained(alloc, words, &mut shown);
-    let status = settled(answer, &mut told);
-    hand_both(
-        status,
-        &shown,
-        &told,
-        output,
-        output_length,
-        line,
-        line_length,
-    )
+    let mut reply = Reply::new(alloc, output.len(), line.len());
+    let answer = explained(alloc, words, &mut reply.shown);
+    let status = settled(answer, &mut reply.told);
+    reply.hand(status, output, output_length, line, line_length)
 }

@@ -1,12 +1,12 @@
 //! What a command wrote, in the memory of the caller.
 ghost use Rattle.std.specs.Prelude.{◌≡◌, ◌≤◌, ℕ, List, length, min};
 ghost use Rattle.vuthgal_c.specs.Counting.{AreFirst, most_counted};
-ghost use Rattle.vuthgal_c.specs.Shows.{HandsOver, Holds};
+ghost use Rattle.vuthgal_c.specs.Shows.{Holds};
 
 use crate::counting_sink::CountingSink;
 
 /// The line where there is no memory.
-const NO_MEMORY: &[u8] = b"memory\n";
+pub const NO_MEMORY: &[u8] = b"memory\n";
 
 /// Copies the first bytes, as many as there is room for, and tells how many all are.
 fn hand(first: &[u8], count: usize, room: &mut [u8], told: &mut usize)
@@ -32,27 +32,4 @@ pub fn hand_over(sink: &CountingSink, room: &mut [u8], told: &mut usize)
     ensures { Holds room.old room.new told.new sink.now.written }
 {
     hand(sink.kept(), sink.count(), room, told);
-}
-
-/// Hands over what came to the two sinks of a call, or reports that there was no memory to keep it. Returns the status.
-pub fn hand_both(
-    status: u8,
-    shown: &CountingSink,
-    told: &CountingSink,
-    output: &mut [u8],
-    output_length: &mut usize,
-    line: &mut [u8],
-    line_length: &mut usize,
-) -> u8
-    ensures { HandsOver status shown.now.written told.now.written result
-        output.old output.new output_length.new line.old line.new line_length.new }
-{
-    if !shown.has_kept(output.len()) || !told.has_kept(line.len()) {
-        hand_all(&[], output, output_length);
-        hand_all(NO_MEMORY, line, line_length);
-        return 4;
-    }
-    hand_over(shown, output, output_length);
-    hand_over(told, line, line_length);
-    status
 }

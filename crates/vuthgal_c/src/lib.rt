@@ -10,6 +10,7 @@
 pub mod came;
 pub mod counting_sink;
 pub mod handing;
+pub mod reply;
 
 // The program in a file.
 pub mod files;

@@ -5,9 +5,8 @@ ghost use Rattle.vuthgal_c.specs.Shows.{Shows};
 ghost use Rattle.commands.specs.declared.unplanned.Unplanned.{Unplanned};
 ghost use Rattle.workbench.specs.declared.fault.Fault.{Fault};
 
-use crate::counting_sink::CountingSink;
 use crate::files::{is_within, whole_program};
-use crate::handing::hand_both;
+use crate::reply::Reply;
 use byte_ports::Sink;
 use commands::plan::plan;
 use commands::unplanned::Unplanned;
@@ -64,17 +63,8 @@ pub extern "C" fn vuthgal_plan(
 ) -> u8
     ensures { Shows (Plans program.now plan.now) result output.old output.new output_length.new line.old line.new line_length.new }
 {
-    let mut shown = CountingSink::new(alloc, output.len());
-    let mut told = CountingSink::new(alloc, line.len());
-    let answer = planned(alloc, program, plan, &mut shown);
-    let status = settled(answer, &mut told);
-    hand_both(
-        status,
-        &shown,
-        &told,
-        output,
-        output_length,
-        line,
-        line_length,
-    )
+    let mut reply = Reply::new(alloc, output.len(), line.len());
+    let answer = planned(alloc, program, plan, &mut reply.shown);
+    let status = settled(answer, &mut reply.told);
+    reply.hand(status, output, output_length, line, line_length)
 }

@@ -2,8 +2,7 @@
 ghost use Rattle.vuthgal_c.specs.Calls.{Runs, RunsText};
 ghost use Rattle.vuthgal_c.specs.Shows.{Shows};
 
-use crate::counting_sink::CountingSink;
-use crate::handing::hand_both;
+use crate::reply::Reply;
 use std::alloc::Global;
 use workbench::slice_source::SliceSource;
 use workbench::{both_cmd, run_cmd};
@@ -23,18 +22,10 @@ pub extern "C" fn vuthgal_run(
 {
     let mut program = SliceSource::new(program);
     let mut schedule = SliceSource::new(schedule);
-    let mut shown = CountingSink::new(alloc, output.len());
-    let mut told = CountingSink::new(alloc, line.len());
-    let status = run_cmd(alloc, &mut program, &mut schedule, &mut shown, &mut told);
-    hand_both(
-        status,
-        &shown,
-        &told,
-        output,
-        output_length,
-        line,
-        line_length,
-    )
+    let mut reply = Reply::new(alloc, output.len(), line.len());
+    let Reply { shown, told } = &mut reply;
+    let status = run_cmd(alloc, &mut program, &mut schedule, shown, told);
+    reply.hand(status, output, output_length, line, line_length)
 }
 
 /// Plays a text under the schedule after its line `.run`. The output is the trace.
@@ -50,16 +41,7 @@ pub extern "C" fn vuthgal_both(
     ensures { Shows (RunsText text.now) result output.old output.new output_length.new line.old line.new line_length.new }
 {
     let mut text = SliceSource::new(text);
-    let mut shown = CountingSink::new(alloc, output.len());
-    let mut told = CountingSink::new(alloc, line.len());
-    let status = both_cmd(alloc, &mut text, &mut shown, &mut told);
-    hand_both(
-        status,
-        &shown,
-        &told,
-        output,
-        output_length,
-        line,
-        line_length,
-    )
+    let mut reply = Reply::new(alloc, output.len(), line.len());
+    let status = both_cmd(alloc, &mut text, &mut reply.shown, &mut reply.told);
+    reply.hand(status, output, output_length, line, line_length)
 }

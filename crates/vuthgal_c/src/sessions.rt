@@ -7,7 +7,7 @@ ghost use Rattle.vuthgal_c.specs.Sessions.{Answers, HasNone, IsFirstOf, Opens, R
 
 use crate::counting_sink::CountingSink;
 use crate::files::is_within;
-use crate::handing::{hand_all, hand_over};
+use crate::handing::{NO_MEMORY, hand_all, hand_over};
 use crate::handle::Handle;
 use crate::held::{Held, Unanswered};
 use crate::keeping::{put, take};
@@ -89,7 +89,7 @@ pub extern "C" fn vuthgal_session_open(
     let status = fault.status();
     tell(fault, &mut told);
     if !told.has_kept(line.len()) {
-        hand_all(b"memory\n", line, line_length);
+        hand_all(NO_MEMORY, line, line_length);
         return 4;
     }
     hand_over(&told, line, line_length);

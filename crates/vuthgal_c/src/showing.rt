@@ -9,9 +9,8 @@ ghost use Rattle.workbench.specs.declared.fault.Fault.{Fault};
 ghost use Rattle.workbench.specs.Input.{most_bytes};
 ghost use Rattle.workbench.specs.declared.fault.PictureKind.TheVariants as picture;
 
-use crate::counting_sink::CountingSink;
 use crate::files::{is_within, whole_program};
-use crate::handing::hand_both;
+use crate::reply::Reply;
 use byte_ports::Sink;
 use commands::drawing::Drawing;
 use commands::page::Page;
@@ -63,22 +62,13 @@ pub extern "C" fn vuthgal_show(
     ensures { Shows (Makes (λ program schedule page. IsPageIn others.Told program.image program.bytes.now schedule page) picture.Page program.now schedule.now)
         result output.old output.new output_length.new line.old line.new line_length.new }
 {
-    let mut shown = CountingSink::new(alloc, output.len());
-    let mut told = CountingSink::new(alloc, line.len());
+    let mut reply = Reply::new(alloc, output.len(), line.len());
     let page = Page {
         others: OtherRuns::Told,
     };
-    let answer = made(alloc, &page, program, schedule, &mut shown);
-    let status = settled_as_asked(answer, &mut told);
-    hand_both(
-        status,
-        &shown,
-        &told,
-        output,
-        output_length,
-        line,
-        line_length,
-    )
+    let answer = made(alloc, &page, program, schedule, &mut reply.shown);
+    let status = settled_as_asked(answer, &mut reply.told);
+    reply.hand(status, output, output_length, line, line_length)
 }
 
 /// Draws the run of a program under a schedule, in lines of at most `width` columns. The output is the drawing.
@@ -96,18 +86,9 @@ pub extern "C" fn vuthgal_draw(
     ensures { Shows (Makes (λ program schedule text. IsDrawingIn width program.image program.names schedule text) picture.Drawing program.now schedule.now)
         result output.old output.new output_length.new line.old line.new line_length.new }
 {
-    let mut shown = CountingSink::new(alloc, output.len());
-    let mut told = CountingSink::new(alloc, line.len());
+    let mut reply = Reply::new(alloc, output.len(), line.len());
     let drawing = Drawing { width };
-    let answer = made(alloc, &drawing, program, schedule, &mut shown);
-    let status = settled_as_asked(answer, &mut told);
-    hand_both(
-        status,
-        &shown,
-        &told,
-        output,
-        output_length,
-        line,
-        line_length,
-    )
+    let answer = made(alloc, &drawing, program, schedule, &mut reply.shown);
+    let status = settled_as_asked(answer, &mut reply.told);
+    reply.hand(status, output, output_length, line, line_length)
 }

@@ -2,8 +2,7 @@
 ghost use Rattle.vuthgal_c.specs.Calls.{AssemblesText, ListsProgram};
 ghost use Rattle.vuthgal_c.specs.Shows.{Shows};
 
-use crate::counting_sink::CountingSink;
-use crate::handing::hand_both;
+use crate::reply::Reply;
 use std::alloc::Global;
 use workbench::slice_source::SliceSource;
 use workbench::{asm_cmd, list_cmd};
@@ -21,18 +20,9 @@ pub extern "C" fn vuthgal_asm(
     ensures { Shows (AssemblesText text.now) result output.old output.new output_length.new line.old line.new line_length.new }
 {
     let mut text = SliceSource::new(text);
-    let mut shown = CountingSink::new(alloc, output.len());
-    let mut told = CountingSink::new(alloc, line.len());
-    let status = asm_cmd(alloc, &mut text, &mut shown, &mut told);
-    hand_both(
-        status,
-        &shown,
-        &told,
-        output,
-        output_length,
-        line,
-        line_length,
-    )
+    let mut reply = Reply::new(alloc, output.len(), line.len());
+    let status = asm_cmd(alloc, &mut text, &mut reply.shown, &mut reply.told);
+    reply.hand(status, output, output_length, line, line_length)
 }
 
 /// Lists a program, an image or a text. The output is its canonical text.
@@ -48,16 +38,7 @@ pub extern "C" fn vuthgal_list(
     ensures { Shows (ListsProgram program.now) result output.old output.new output_length.new line.old line.new line_length.new }
 {
     let mut program = SliceSource::new(program);
-    let mut shown = CountingSink::new(alloc, output.len());
-    let mut told = CountingSink::new(alloc, line.len());
-    let status = list_cmd(alloc, &mut program, &mut shown, &mut told);
-    hand_both(
-        status,
-        &shown,
-        &told,
-        output,
-        output_length,
-        line,
-        line_length,
-    )
+    let mut reply = Reply::new(alloc, output.len(), line.len());
+    let status = list_cmd(alloc, &mut program, &mut reply.shown, &mut reply.told);
+    reply.hand(status, output, output_length, line, line_length)
 }

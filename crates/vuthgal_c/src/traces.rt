@@ -2,8 +2,7 @@
 ghost use Rattle.vuthgal_c.specs.Calls.{Compares};
 ghost use Rattle.vuthgal_c.specs.Shows.{Shows};
 
-use crate::counting_sink::CountingSink;
-use crate::handing::hand_both;
+use crate::reply::Reply;
 use std::alloc::Global;
 use workbench::compare_cmd;
 use workbench::slice_source::SliceSource;
@@ -23,16 +22,8 @@ pub extern "C" fn vuthgal_compare(
 {
     let mut program = SliceSource::new(program);
     let mut trace = SliceSource::new(trace);
-    let mut shown = CountingSink::new(alloc, output.len());
-    let mut told = CountingSink::new(alloc, line.len());
-    let status = compare_cmd(alloc, &mut program, &mut trace, &mut shown, &mut told);
-    hand_both(
-        status,
-        &shown,
-        &told,
-        output,
-        output_length,
-        line,
-        line_length,
-    )
+    let mut reply = Reply::new(alloc, output.len(), line.len());
+    let Reply { shown, told } = &mut reply;
+    let status = compare_cmd(alloc, &mut program, &mut trace, shown, told);
+    reply.hand(status, output, output_length, line, line_length)
 }

@@ -3,4 +3,4 @@ use Rattle.vuthgal_c.proofs.choices.vuthgal_choices.Goals as goal
 
 -- what came to the two sinks
 pub returns : goal.returns
-returns c = (c.settled-status.result, (c.choices-answer.new.output.written, (c.settled-status.new.line.written, ((c.choices-answer.result, (Some c.choices-answer.new.trace, (search rules, search rules))), c.hand_both.ensures))))
+returns c = (c.settled-status.result, (c.choices-answer.new.output.written, (c.settled-status.new.line.written, ((c.choices-answer.result, (Some c.choices-answer.new.trace, (search rules, search rules))), c.hand.ensures))))
