@@ -5,4 +5,5 @@ pub mod Calls
 pub mod Beyond
 pub mod Explaining
 pub mod Keep
+pub mod Room
 pub mod Sessions

@@ -1,12 +1,12 @@
 //! A sink in memory that counts all bytes, and keeps only the first ones.
-ghost use Rattle.std.specs.Prelude.{◌≡◌, ◌≤◌, ◌↔◌, ◌+◌, ◌++◌, [], ℕ, List, Some, IfOk, IfSome, IsTrue, false, length, min};
+ghost use Rattle.std.specs.Prelude.{◌≡◌, ◌≤◌, ◌↔◌, ◌++◌, [], ℕ, List, Some, IsTrue, false, length, min};
 ghost use Rattle.std.specs.Io.KnownBytes.{Appends};
 ghost use Rattle.byte_ports.specs.Port.{FailsForGood};
 ghost use Rattle.vuthgal_c.specs.Counting.{AreFirst, Tally, most_counted};
 
 use crate::came::Came;
 use byte_ports::{Failed, Sink};
-use std::alloc::{AllocError, Global};
+use std::alloc::Global;
 use std::marker::Model;
 
 /// Keeps the first bytes, as many as there may be and there is memory for, counts all, and never fails.
@@ -37,30 +37,6 @@ impl CountingSink {
             most,
             count: 0,
             came: Came::none(),
-        }
-    }
-
-    /// Makes a sink that keeps at most `most` bytes, and has memory for the first `room` of them. Fails if it is out of memory.
-    pub fn with_room(alloc: Global, most: usize, room: usize) -> Result<CountingSink, AllocError>
-        ensures { IfOk result (λ sink. sink ≡ record { written = []; kept = [] }) }
-    {
-        Ok(CountingSink {
-            kept: Vec::with_capacity(alloc, room)?,
-            most,
-            count: 0,
-            came: Came::none(),
-        })
-    }
-
-    /// Returns all that came, if everything was kept.
-    pub fn into_all(self) -> Option<Vec<u8>>
-        ensures { IfSome result (λ all. all.items ≡ self.written) }
-    {
-        let CountingSink { kept, count, .. } = self;
-        if count < usize::MAX && kept.len() == count {
-            Some(kept)
-        } else {
-            None
         }
     }
 

@@ -3,14 +3,12 @@ ghost use Rattle.std.specs.Prelude.{◌≡◌, ◌++◌, List, ℕ, [], Some, Er
 ghost use Rattle.std.specs.Io.KnownBytes.{Appends};
 ghost use Rattle.debugger.specs.Command.{line_order};
 ghost use Rattle.debugger.specs.Reply.{Replies};
+ghost use Rattle.vuthgal_c.specs.Sessions.{HasLongReply};
 
-use crate::counting_sink::CountingSink;
+use crate::session_sink::SessionSink;
 use debugger::Debugger;
 use std::alloc::Global;
 use std::marker::Model;
-
-/// Room for the reply to each command but `p`. It is allocated before the command is carried out.
-const ROOM: usize = 192;
 
 /// A debugger and the reply to its last command.
 #[derive(Drop)]
@@ -36,9 +34,9 @@ pub enum Unanswered {
 }
 
 /// Carries out a command. Returns whether there was memory for it.
-fn is_answered(debugger: &mut Debugger, command: &[u8], shown: &mut CountingSink) -> bool
+fn is_answered(debugger: &mut Debugger, command: &[u8], shown: &mut SessionSink) -> bool
     ensures done { result ≡ true → (text : List ℕ) × (Replies debugger.old (line_order command.now) debugger.new text
-        × Appends (Some shown.old.written) (Some shown.new.written) text) }
+        × Appends (Some shown.old) (Some shown.new) text) }
     ensures none { result ≡ false → debugger.new ≡ debugger.old }
 {
     match debugger.command(command, shown) {
@@ -69,8 +67,9 @@ impl Held {
     pub fn command(&mut self, alloc: Global, line: &[u8]) -> Result<(), Unanswered>
         ensures done { OnOk result (Replies self.old.debugger (line_order line.now) self.new.debugger self.new.reply) }
         ensures none { result ≡ Err Unanswered.NotCarriedOut → self.new ≡ self.old }
+        ensures lost { result ≡ Err Unanswered.ReplyLost → HasLongReply self.old.debugger line.now }
     {
-        let Ok(mut shown) = CountingSink::with_room(alloc, usize::MAX, ROOM) else {
+        let Ok(mut shown) = SessionSink::new(alloc) else {
             return Err(Unanswered::NotCarriedOut);
         };
         if !is_answered(&mut self.debugger, line, &mut shown) {

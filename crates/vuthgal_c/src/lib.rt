@@ -20,6 +20,7 @@ mod handle;
 mod held;
 mod keeping;
 mod loose;
+mod session_sink;
 
 // The calls.
 pub mod choices;
