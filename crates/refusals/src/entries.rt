@@ -1,6 +1,44 @@
 //! The entries for lines on standard error, exit statuses, exceptions, what a trace says, what the program reads and writes, and
 //! what Java has, a file for each group.
 
+/// What a place is called in a pattern.
+macro_rules! counted {
+    (LINE) => {
+        " line"
+    };
+    (BYTE) => {
+        " byte"
+    };
+    (ROW) => {
+        " row"
+    };
+    (BARRIER) => {
+        " barrier"
+    };
+}
+
+/// Entries of one kind of words, each with its number, and with a place before or after it if it has one: what is wrong, what is
+/// allowed there, and a command that makes it.
+macro_rules! numbered {
+    ($before:literal, $kind:literal, $more:literal; $(
+        $($first:ident)? $number:literal $($last:ident)? $(| $name:literal)?: $means:literal, $helps:literal, $example:literal;
+    )+) => {
+        [$(Entry {
+            asked: &[
+                &[$kind, stringify!($number)],
+                $(&[$kind, counted!($first), stringify!($number)],)?
+                $(&[$kind, stringify!($number), counted!($last)],)?
+                $(&[$name],)?
+            ],
+            told: concat!($before, $kind, " ", $(stringify!($first), " ",)? $number $(, " ", stringify!($last))?),
+            means: $means,
+            helps: $helps,
+            example: $example,
+            more: $more,
+        }),+]
+    };
+}
+
 pub mod asm;
 pub mod declare;
 pub mod ending;
@@ -23,7 +61,7 @@ use crate::entries::exception::{EXCEPTION, OTHER_EXCEPTION};
 use crate::entries::finding::{FINDING_OF_COMMAND, FINDING_OF_DEBUG, FINDING_OF_RUN};
 use crate::entries::image::{IMAGE_FIELD, IMAGE_HEAD};
 use crate::entries::java::{JAVA_TOOLS, JAVA_WAITS};
-use crate::entries::load::{LOAD_DECLARED, LOAD_PLACE};
+use crate::entries::load::{LOAD_DECLARED, LOAD_PLACE, LOAD_ROW};
 use crate::entries::plan::{PLAN_PARENTHESES, PLAN_WORD};
 use crate::entries::schedule::SCHEDULE;
 use crate::entries::status::STATUS;
@@ -31,7 +69,7 @@ use crate::entries::term::{TERM_OF_PROGRAM, TERM_OF_RUN};
 use crate::entry::Entry;
 
 /// The tables. Of several entries that words ask for it is the first.
-pub fn tables() -> [&'static [Entry]; 27] {
+pub fn tables() -> [&'static [Entry]; 28] {
     [
         &ASM_LINE,
         &ASM_OPERAND,
@@ -39,6 +77,7 @@ pub fn tables() -> [&'static [Entry]; 27] {
         &IMAGE_HEAD,
         &IMAGE_FIELD,
         &LOAD_PLACE,
+        &LOAD_ROW,
         &LOAD_DECLARED,
         &DECLARE_COUNT,
         &DECLARE_OTHER,

@@ -82,14 +82,6 @@ fn push_place<W: Sink>(output: &mut W, place: Option<Place>) -> Result<(), Faile
 }
 
 impl Entry {
-    /// Returns the entry with something else that helps.
-    pub fn with_help(self, helps: Option<&'static str>) -> Entry {
-        match helps {
-            Some(helps) => Entry { helps, ..self },
-            None => self,
-        }
-    }
-
     /// Writes what the line means, with its place.
     pub fn push_words<W: Sink>(self, output: &mut W, place: Option<Place>) -> Result<(), Failed>
         ensures bytes { OnOk result (Appends (W.written output.old) (W.written output.new) (words_of (self) place)) }

@@ -1,7 +1,7 @@
 use crate::entry::Entry;
 
-/// A program that names a row, a phaser or a barrier that there isn't.
-pub static LOAD_PLACE: [Entry; 4] = [
+/// A program that names a row that there isn't, or declares a phaser that can't be.
+pub static LOAD_PLACE: [Entry; 2] = [
     Entry {
         asked: &[
             &["load", "1"],
@@ -17,50 +17,6 @@ pub static LOAD_PLACE: [Entry; 4] = [
         more: "docs/FORMATS.md, \"Load faults\"",
     },
     Entry {
-        asked: &[&["load", "2"]],
-        told: "refused load 2",
-        means: "FallsOff: a thread could run past the last row",
-        helps: "halt, jmp, ret or throw as the last row",
-        example: "printf '.thread t #0\\nldi r0 5\\n' | vuthgal",
-        more: "docs/FORMATS.md, \"Load faults\"",
-    },
-    Entry {
-        asked: &[&["load", "3"], &["load", "3", " row"]],
-        told: "refused load 3 ROW",
-        means: "NoSuchPhaser: this row names a phaser that isn't declared",
-        helps: "a .phaser line for it; the first is #0",
-        example: "printf '.thread t #0\\npphase r0 #0\\nhalt\\n' | vuthgal",
-        more: "docs/FORMATS.md, \"Load faults\"",
-    },
-    Entry {
-        asked: &[&["load", "4"], &["load", "4", " row"]],
-        told: "refused load 4 ROW",
-        means: "NoSuchBarrier: this row names a barrier that isn't declared",
-        helps: "a .barrier line for it; the first is #0",
-        example: "printf '.thread t #0\\ncreset #0\\nhalt\\n' | vuthgal",
-        more: "docs/FORMATS.md, \"Load faults\"",
-    },
-];
-
-/// A program that names a thread or a cell that there isn't, or declares what can't be.
-pub static LOAD_DECLARED: [Entry; 5] = [
-    Entry {
-        asked: &[&["load", "5"], &["load", "5", " row"]],
-        told: "refused load 5 ROW",
-        means: "NoSuchThread: this row names a thread that isn't declared",
-        helps: "a .thread line for it; the first is #0",
-        example: "printf '.thread t #0\\nintr #1\\nhalt\\n' | vuthgal",
-        more: "docs/FORMATS.md, \"Load faults\"",
-    },
-    Entry {
-        asked: &[&["load", "6"], &["load", "6", " row"]],
-        told: "refused load 6 ROW",
-        means: "NoSuchCell: this row names a cell that doesn't exist",
-        helps: "the cells #0 to #31",
-        example: "printf '.thread t #0\\nlds r0 #32\\nhalt\\n' | vuthgal",
-        more: "docs/FORMATS.md, \"Load faults\"",
-    },
-    Entry {
         asked: &[&["load", "7"], &["load", "7", " phaser"]],
         told: "refused load 7 PHASER FAULT",
         means: "Declare: this phaser can't be declared",
@@ -68,20 +24,35 @@ pub static LOAD_DECLARED: [Entry; 5] = [
         example: "printf '.phaser p 1 parent #0\\n.thread t #0\\nhalt\\n' | vuthgal",
         more: "docs/FORMATS.md, \"Load faults\"",
     },
-    Entry {
-        asked: &[&["load", "8"], &["load", "8", " barrier"]],
-        told: "refused load 8 BARRIER",
-        means: "BarrierParties: this barrier has no parties",
-        helps: "1 to 65535 parties",
-        example: "printf '.barrier b 0\\n.thread t #0\\nhalt\\n' | vuthgal",
-        more: "docs/FORMATS.md, \"Load faults\"",
-    },
-    Entry {
-        asked: &[&["load", "9"]],
-        told: "refused load 9",
-        means: "NoThread: the program has no thread",
-        helps: "a .thread line",
-        example: "printf 'halt\\n' | vuthgal",
-        more: "docs/FORMATS.md, \"Load faults\"",
-    },
 ];
+
+/// A program whose row names what there isn't, or that could run past its last one.
+pub static LOAD_ROW: [Entry; 5] =
+    numbered! { "refused ", "load", "docs/FORMATS.md, \"Load faults\"";
+    2: "FallsOff: a thread could run past the last row",
+        "halt, jmp, ret or throw as the last row",
+        "printf '.thread t #0\\nldi r0 5\\n' | vuthgal";
+    3 ROW: "NoSuchPhaser: this row names a phaser that isn't declared",
+        "a .phaser line for it; the first is #0",
+        "printf '.thread t #0\\npphase r0 #0\\nhalt\\n' | vuthgal";
+    4 ROW: "NoSuchBarrier: this row names a barrier that isn't declared",
+        "a .barrier line for it; the first is #0",
+        "printf '.thread t #0\\ncreset #0\\nhalt\\n' | vuthgal";
+    5 ROW: "NoSuchThread: this row names a thread that isn't declared",
+        "a .thread line for it; the first is #0",
+        "printf '.thread t #0\\nintr #1\\nhalt\\n' | vuthgal";
+    6 ROW: "NoSuchCell: this row names a cell that doesn't exist",
+        "the cells #0 to #31",
+        "printf '.thread t #0\\nlds r0 #32\\nhalt\\n' | vuthgal";
+};
+
+/// A program whose barrier has no parties, or that has no thread.
+pub static LOAD_DECLARED: [Entry; 2] =
+    numbered! { "refused ", "load", "docs/FORMATS.md, \"Load faults\"";
+    8 BARRIER: "BarrierParties: this barrier has no parties",
+        "1 to 65535 parties",
+        "printf '.barrier b 0\\n.thread t #0\\nhalt\\n' | vuthgal";
+    9: "NoThread: the program has no thread",
+        "a .thread line",
+        "printf 'halt\\n' | vuthgal";
+};
