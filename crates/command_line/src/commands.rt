@@ -19,7 +19,7 @@ pub enum Kind {
     /// `--NAME VALUE`.
     Value(&'static str, Rule),
     /// `--NAME N`, a number from the first to the second.
-    Number(&'static str, u64, u64, Rule),
+    Number(&'static str, i64, i64, Rule),
 }
 
 /// How often a value is given, and with what.
@@ -291,7 +291,8 @@ impl Word {
             Kind::Number(value, least, most, rule) => (
                 arg.long(name)
                     .value_name(value)
-                    .value_parser(ValueParser::unsigned(least, most)),
+                    .allow_negative_numbers(true)
+                    .value_parser(ValueParser::signed(least, most)),
                 rule,
             ),
         };

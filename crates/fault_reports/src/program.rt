@@ -47,9 +47,9 @@ impl<'a> ProgramFile<'a> {
     }
 }
 
-/// What helps at a name that nothing has, or nothing of the kind that is needed.
-fn hint_at_name(alloc: Global, text: &[u8], wanted: Option<OperandKind>, word: &[u8]) -> Hint {
-    let names = names_in(alloc, text, wanted)?;
+/// What helps at a name that nothing of the kind that is needed has.
+fn hint_at_name(alloc: Global, text: &[u8], wanted: OperandKind, word: &[u8]) -> Hint {
+    let names = names_in(alloc, text, Some(wanted))?;
     match nearest_of(alloc, names.as_slice(), word)?.meant {
         Some(name) if name == word => help(
             alloc,
@@ -60,13 +60,11 @@ fn hint_at_name(alloc: Global, text: &[u8], wanted: Option<OperandKind>, word: &
     }
 }
 
-/// What helps at a name that nothing of its kind has.
-fn hint_at_unknown(alloc: Global, text: &[u8], unknown: Option<UnknownName>, word: &[u8]) -> Hint {
-    let Some(UnknownName { wanted, given }) = unknown else {
-        return hint_at_name(alloc, text, None, word);
-    };
+/// What helps at a name that isn't known.
+fn hint_at_unknown(alloc: Global, text: &[u8], unknown: UnknownName, word: &[u8]) -> Hint {
+    let UnknownName { wanted, given } = unknown;
     let Some(given) = given else {
-        return hint_at_name(alloc, text, Some(wanted), word);
+        return hint_at_name(alloc, text, wanted, word);
     };
     let (given, wanted) = (called(given), called(wanted));
     let helps = format!(in alloc; "this is {given}, and {wanted} is needed")?;
@@ -108,9 +106,11 @@ fn hint_at_option(alloc: Global, directive: &[u8], word: &[u8]) -> Hint {
 
 /// What helps at the word that makes a fault of a text, if nothing more specific does.
 fn hint_at(alloc: Global, text: &[u8], placed: PlacedFault, line: &[u8], word: &[u8]) -> Hint {
+    if let Some(unknown) = placed.unknown {
+        return hint_at_unknown(alloc, text, unknown, word);
+    }
     let first = first_word(line);
     match placed.fault.kind {
-        AsmFaultKind::UnknownName => hint_at_unknown(alloc, text, placed.unknown, word),
         AsmFaultKind::UnknownWord => hint_at_word(alloc, line, word),
         AsmFaultKind::NameTwice => hint_at_second(alloc, text, word),
         AsmFaultKind::BadOption => hint_at_option(alloc, first, word),

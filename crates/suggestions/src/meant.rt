@@ -206,7 +206,7 @@ fn helps_at_no_name(words: &[&[u8]], word: &[u8]) -> Option<&'static str> {
     };
     if word == b"{".as_slice() {
         Some("no braces: `try failed` names the label of the handler, and `endtry` ends it")
-    } else if word.ends_with(b":") && words.first().copied() != Some(word) {
+    } else if word.ends_with(b":") && words.iter().skip(1).any(|operand| *operand == word) {
         Some("a label has a colon only in its own line: `.thread ann main`, `main: halt`")
     } else if is_number(word) && is_in_place_of_name {
         Some("a declaration begins with its name, as in `.phaser p 2`")
@@ -229,8 +229,8 @@ fn helps_at_kind(
     match kind {
         AsmFaultKind::OperandCount => helps_at_count(first, words),
         AsmFaultKind::BadRegister => helps_at_register(text, words, word),
-        AsmFaultKind::BadNumber if word.starts_with(b"0x") || word.starts_with(b"#") => Some(
-            "a decimal number, without a sign before it: `ldi r0 16`",
+        AsmFaultKind::BadNumber if matches!(word, [b'0'..=b'9' | b'#' | b'+', ..]) => Some(
+            "decimal digits alone, with a `-` before them if the number is below 0: `ldi r0 -16`",
         ),
         AsmFaultKind::BadOption if has_comment_sign(word) => Some(AT_COMMENT),
         AsmFaultKind::BadNumber | AsmFaultKind::BadOption => helps_at_equals(words),

@@ -66,7 +66,7 @@ fn name_given(line: &[u8]) -> Option<Given<'_>> {
     })
 }
 
-/// Returns the names that a text gives to things of a kind, or to all.
+/// Returns the names that a text gives to things of a kind, or to all that have a line in the state.
 pub fn names_in(
     alloc: Global,
     text: &[u8],
@@ -75,7 +75,7 @@ pub fn names_in(
     let mut names = Vec::new(alloc);
     for line in text.split(|byte| *byte == b'\n') {
         if let Some(given) = name_given(line) {
-            if kind.is_none() || kind == Some(given.kind) {
+            if kind.map_or(letter_of(given.kind).is_some(), |kind| kind == given.kind) {
                 names.push(given.name)?;
             }
         }

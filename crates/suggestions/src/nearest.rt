@@ -33,11 +33,11 @@ pub struct Nearest<'a> {
 }
 
 impl<'a> Nearest<'a> {
-    /// None so far: to be near a word at all, more than half of its letters have to be right.
+    /// None so far: to be near a word at all, more than half of its letters have to be right, or one of two.
     pub fn to(word: &[u8]) -> Nearest<'a> {
         Nearest {
             meant: None,
-            far: word.len().div_ceil(2).min(3),
+            far: word.len().div_ceil(2).min(3).max(word.len().min(2)),
         }
     }
 
@@ -65,6 +65,9 @@ impl<'a> Nearest<'a> {
     }
 }
 
+/// How many letters a word has at most that is near only to a name that no other is as near as.
+const SHORT: usize = 3;
+
 /// Returns the nearest of these names.
 pub fn nearest_of<'a>(
     alloc: Global,
@@ -78,6 +81,8 @@ pub fn nearest_of<'a>(
         if far < least {
             meant = Some(*name);
             least = far;
+        } else if far == least && word.len() <= SHORT {
+            meant = None;
         }
     }
     Ok(Nearest { meant, far: least })

@@ -11,6 +11,8 @@ pub const AT_COMMENT: &str = "a comment begins with `;`";
 
 const AT_COMMA: &str = "no commas: put blanks between the words of a plan";
 
+const AT_SEED: &str = "`?7`, without a blank, plays any thread that can continue, by the seed 7";
+
 const AT_COUNTED_DOT: &str = "a dot has no count: `ann*3`, or `( ann. )*3`";
 
 /// The bytes of the sign that is three dots.
@@ -37,8 +39,8 @@ fn helps_at_count(word: &[u8], before: Option<u8>) -> Option<&'static str> {
         Some("no blank before a count, as in `ann*3` and `( ann. )*3`")
     } else if are_digits(count) && count.len() < word.len() {
         Some("the count is last, as in `ann*3`")
-    } else if are_digits(word) && before == Some(b')') {
-        Some("a count follows a star, as in `( ann bob )*3`")
+    } else if matches!(word, [b'[' | b'{', ..]) || are_digits(word) && before == Some(b')') {
+        Some("what is repeated is in parentheses, and its count follows a star: `( ann bob )*3`")
     } else if are_digits(word) {
         Some("`t0` is thread 0; a count follows a name and a star, as in `ann*3`")
     } else {
@@ -81,7 +83,7 @@ fn helps_at_star(word: &[u8]) -> Option<&'static str> {
 }
 
 /// Words that people write in plans, and what helps there.
-static NO_NAMES: [(&str, &str); 4] = [
+static NO_NAMES: [(&str, &str); 5] = [
     (
         "x",
         "no blank behind x: `xann` is the expiry of ann's timed wait",
@@ -91,6 +93,7 @@ static NO_NAMES: [(&str, &str); 4] = [
         "`ann.` plays ann until it waits, has ended or has died",
     ),
     ("then and", "put only blanks between the words of a plan"),
+    ("seed random", AT_SEED),
     ("all each every", "`..` plays all threads in turn"),
 ];
 
@@ -102,12 +105,10 @@ pub fn helps_at(kind: PlanFaultKind, word: &[u8], before: Option<u8>) -> Option<
         ),
         PlanFaultKind::BadWord => helps_at_count(word, before).or(helps_at_dots(word)),
         PlanFaultKind::BadCount => helps_at_star(word),
-        PlanFaultKind::BadSeed if word == b"?".as_slice() => Some(
-            "a number follows the question mark without a blank, as in `?7`",
-        ),
+        PlanFaultKind::BadSeed if word == b"?".as_slice() => Some(AT_SEED),
         PlanFaultKind::NotNamed => match word {
-            [b'T' | b'X', digits @ ..] if are_digits(digits) => Some(
-                "threads are `t0`, `t1` and so on, in small letters",
+            [b'T' | b'X', digits @ ..] | [b'x', b't', digits @ ..] if are_digits(digits) => Some(
+                "a turn of thread 0 is `t0`, and the expiry of its timed wait `x0`",
             ),
             _ => found_in(&NO_NAMES, word),
         },

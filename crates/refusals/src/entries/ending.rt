@@ -34,7 +34,7 @@ pub static ENDING: [Entry; 4] = [
         asked: &[&["spawn"]],
         told: "spawn",
         means: "the system couldn't start a thread",
-        helps: "fewer threads, or a higher `ulimit -u`",
+        helps: "fewer threads, or higher limits: `ulimit -u`, `ulimit -v`",
         example: "none: it depends on the machine",
         more: "docs/COMMANDS.md, \"Exit statuses\"",
     },

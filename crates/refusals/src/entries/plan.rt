@@ -6,7 +6,7 @@ pub static PLAN_WORD: [Entry; 5] = numbered! { "refused ", "plan", "docs/TRACES.
         "ann t0 ann*3 ann. xann .. ..*5 ?7 ( ann. )*3, with blanks, not commas",
         "printf '.thread t #0\\nhalt\\n' > a.txt; echo 't+2' | vuthgal plan a.txt";
     LINE 2: "BadCount: no number from 1 to 1000000 follows the star",
-        "only digits, and the first isn't 0",
+        "one to seven digits, the first not 0, at most 1000000",
         "printf '.thread t #0\\nhalt\\n' > a.txt; echo 't*0' | vuthgal plan a.txt";
     LINE 3: "BadSeed: no number below 2 to the 64th follows the question mark",
         "one to twenty digits, at most 18446744073709551615",
