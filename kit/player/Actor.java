@@ -37,6 +37,9 @@ final class Actor extends RealThread {
         }
     }
 
+    /** Its state is seen by looks alone. */
+    private static final long LOOK = 50_000;
+
     private final Maker maker;
     private final Semaphore go = new Semaphore(0);
     private final Body body = new Body(this);
@@ -110,6 +113,11 @@ final class Actor extends RealThread {
     @Override
     protected boolean staysAtRest() {
         return mayBeBlocked();
+    }
+
+    @Override
+    protected long look() {
+        return LOOK;
     }
 
     /** An order that isn't taken yet leaves it parked, and that is no wait of its call. */

@@ -1,5 +1,7 @@
 package kit.player;
 
+import java.util.concurrent.locks.LockSupport;
+
 /** A call that a real thread was told to make. The real side writes into it, the player reads. */
 final class Call {
     final Request request;
@@ -9,6 +11,8 @@ final class Call {
     private volatile boolean inside;
     /** What its routine or action was told to throw; null where it was told nothing, or to return. */
     private volatile Integer thrown;
+    /** Who sleeps until it comes to something; null where nobody does. */
+    private volatile Thread sleeper;
 
     Call(Request request, CallWatcher watcher) {
         this.request = request;
@@ -27,6 +31,7 @@ final class Call {
     void finish(Answer answer) {
         this.answer = answer;
         watcher.done(this);
+        LockSupport.unpark(sleeper);
     }
 
     /** The real thread stands at the beginning of a routine or an action. */
@@ -34,6 +39,16 @@ final class Call {
         inside = true;
         entered = where;
         watcher.entered(this, where);
+        LockSupport.unpark(sleeper);
+    }
+
+    /** Sleeps for so long, or until it is done, or, where {@code orEnters}, enters something. */
+    void sleep(long nanoseconds, boolean orEnters) {
+        sleeper = Thread.currentThread();
+        if (!done() && !(orEnters && hasEntered())) {
+            LockSupport.parkNanos(this, nanoseconds);
+        }
+        sleeper = null;
     }
 
     boolean hasEntered() {

@@ -453,7 +453,7 @@ final class CommandChecks {
 
     private Process start(Path told, List<String> ofJava, String... words) throws IOException {
         String java = Path.of(System.getProperty("java.home"), "bin", "java").toString();
-        List<String> command = new ArrayList<>(List.of(java, "-XX:+UseSerialGC", "--add-opens",
+        List<String> command = new ArrayList<>(List.of(java, "-XX:+UseSerialGC", "-XX:TieredStopAtLevel=1", "--add-opens",
             "java.base/java.util.concurrent=ALL-UNNAMED", "-cp", System.getProperty("java.class.path")));
         command.addAll(ofJava);
         command.addAll(List.of(Player.class.getName(), "--vuthgal", vuthgal.toString()));

@@ -1,7 +1,10 @@
 package kit.player;
 
+import java.io.BufferedReader;
 import java.io.IOException;
+import java.io.InputStreamReader;
 import java.io.UncheckedIOException;
+import java.nio.charset.StandardCharsets;
 import java.nio.file.Files;
 import java.nio.file.Path;
 import java.util.ArrayList;
@@ -11,6 +14,7 @@ import java.util.List;
 import java.util.Map;
 import java.util.concurrent.CompletableFuture;
 import java.util.concurrent.ConcurrentHashMap;
+import java.util.stream.Stream;
 
 /**
  * What {@code kit/run} runs: the player's own words, the cases, the differences, the wrong adapters, ports, random scenarios,
@@ -26,8 +30,12 @@ public final class Kit {
     private static final int PLAYS = 5;
     /** Few adapters need a case with more choices. */
     private static final int LONG_SCHEDULE = 50;
-    /** So many processes of a port, or judges of the JDK's classes, play at once. */
-    private static final int JOBS = 2;
+    /** So many processes of each port, or judges of the JDK's classes, play at once. */
+    private static final int JOBS = 4;
+    /** Random scenarios wait most of their time. */
+    private static final int JOBS_THAT_WAIT = 8;
+    /** What is said on standard input once the ports are made. */
+    private static final String BUILT = "built";
     private static final long SECOND = 1_000_000_000L;
 
     /** A case that the JDK plays as Vuthgal does, with what its first play has taught. */
@@ -58,6 +66,7 @@ public final class Kit {
     private final WrongAdapters adapters;
     /** What the cases have taught, once they are played. */
     private final CompletableFuture<List<Learned>> learned = new CompletableFuture<>();
+    private final CompletableFuture<Void> built = CompletableFuture.runAsync(Kit::awaitPorts);
     private final long begun = System.nanoTime();
     private int passed;
     private int failed;
@@ -80,6 +89,17 @@ public final class Kit {
         System.exit(kit.check(words[2], words[3], Port.of(List.of(words).subList(4, words.length))) ? 0 : 1);
     }
 
+    /** Until all ports are made. */
+    private static void awaitPorts() {
+        try {
+            if (!BUILT.equals(new BufferedReader(new InputStreamReader(System.in, StandardCharsets.UTF_8)).readLine())) {
+                throw new IllegalStateException("a port can't be made");
+            }
+        } catch (IOException failed) {
+            throw new UncheckedIOException(failed);
+        }
+    }
+
     /** All that mostly waits is played at once, and the bursts, which need the processors, behind it. */
     private boolean check(String python, String lockFree, List<Port> all) {
         List<Port> ports = all.stream().filter(port -> port.bursts() > 0).toList();
@@ -92,7 +112,10 @@ public final class Kit {
             atOnce.put("commands on ports", part -> commands(part).checkPorts(python));
             atOnce.put("ends of commands", part -> commands(part).checkEnds(python));
             atOnce.put("faults of ports", part -> new FaultTable(kit.resolve("faults")).check(vuthgal, python, part));
-            atOnce.put("transcripts and soaks", part -> new ReplayChecks(kit, python, part).check(ports, lockFree));
+            atOnce.put("transcripts and soaks", part -> {
+                built.join();
+                new ReplayChecks(kit, python, part).check(ports, lockFree);
+            });
         }
         atOnce.put("cases", this::checkCases);
         atOnce.put("differences", this::checkDifferences);
@@ -172,23 +195,31 @@ public final class Kit {
         Sums sums = new Sums();
         Transcripts transcripts = new Transcripts();
         Map<String, String> kept = Transcripts.made(kit.resolve(KEPT));
-        Judge judge = new Judge(new JvmStage(new JdkFactory()), KnownDifferences.COUNTS).warm();
-        for (Path file : Player.casesBelow(kit.resolve("cases"))) {
-            String name = kit.relativize(file).toString();
-            Case each = Case.of(vuthgal, name, file);
-            Verdict verdict = judge.judge(each);
-            part.take(name, verdict.isSame() && isWholeJudged(verdict.notes()) && isTrace(each), whatFails(each, verdict));
-            tellAgain(part, name, verdict);
+        Map<Case, Verdict> sure = new ConcurrentHashMap<>();
+        new Jobs<>(Player.casesBelow(kit.resolve("cases")), (judge, file) -> {
+            Played played = Played.of(judge, Case.of(vuthgal, kit.relativize(file).toString(), file));
+            sure.put(played.each(), sureTranscript(judge, kept, played.each(), played.verdict()));
+            return played;
+        }).run(judgesOfTheJdk(JOBS, KnownDifferences.COUNTS, Patience.OF_JVM), played -> {
+            Case each = played.each();
+            Verdict verdict = played.verdict();
+            part.take(each.name(), verdict.isSame() && isWholeJudged(verdict.notes()) && isTrace(each), whatFails(each, verdict));
+            tellAgain(part, each.name(), verdict);
             sums.add(verdict.notes());
-            transcripts.add(each, sureTranscript(judge, kept, each, verdict));
+            transcripts.add(each, sure.get(each));
             if (verdict.isSame()) {
                 same.add(new Learned(each, verdict.plan()));
             }
-        }
+            return true;
+        });
         learned.complete(same);
         transcripts.compare(kept, (file, difference) -> part.take("transcripts/" + file, difference.isEmpty(),
             "it isn't what was played (kit/play --known --transcripts kit/transcripts/cases.zip kit/cases):" + difference));
         part.to.println("cases on the JDK: " + same.size() + " the same, " + sums.line());
+    }
+
+    private static List<Judge> judgesOfTheJdk(int count, KnownDifferences known, Patience... patience) {
+        return Stream.generate(() -> new Judge(new JvmStage(new JdkFactory()), known, patience)).limit(count).toList();
     }
 
     /** Where the machine is busy somebody may go on a little late, and another play has the transcript that is kept. */
@@ -205,11 +236,15 @@ public final class Kit {
         return notes.count(Notes.Kind.LEFT_OUT) + notes.count(Notes.Kind.TOLD_AGAIN) + notes.count(Notes.Kind.UNSEEN) == 0;
     }
 
-    private static boolean isTrace(Case each) throws IOException {
-        return each.wanted().equals(Case.keptTrace(each.file()));
+    private static boolean isTrace(Case each) {
+        try {
+            return each.wanted().equals(Case.keptTrace(each.file()));
+        } catch (IOException failed) {
+            throw new UncheckedIOException(failed);
+        }
     }
 
-    private static String whatFails(Case each, Verdict verdict) throws IOException {
+    private static String whatFails(Case each, Verdict verdict) {
         String trace = isTrace(each) ? "" : "its trace isn't Vuthgal's, as kit/traces shows; ";
         return trace + verdict.words() + "; " + String.join("; ", verdict.notes().lines());
     }
@@ -315,10 +350,8 @@ public final class Kit {
     // ---- a port behind a pipe, and random scenarios
 
     private void checkPort(Part part, String command) {
-        List<Judge> judges = new ArrayList<>();
-        for (int job = 0; job < JOBS; job++) {
-            judges.add(new Judge(new PortStage(command), KnownDifferences.COUNTS));
-        }
+        List<Judge> judges = Stream.generate(() -> new Judge(new PortStage(command), KnownDifferences.COUNTS)).limit(JOBS).toList();
+        built.join();
         Sums sums = new Sums();
         int[] leftOut = {0};
         new Jobs<>(learned.join(), (judge, at) -> Played.of(judge, at.each(), at.plan())).run(judges, played -> {
@@ -338,10 +371,7 @@ public final class Kit {
     private void checkRandom(Part part) throws IOException {
         part.to.println("random scenarios on the JDK, seeds 1 to " + SCENARIOS + ":");
         Tally tally = new Tally(SCENARIOS, true, part.to);
-        List<Judge> judges = new ArrayList<>();
-        for (int job = 0; job < JOBS; job++) {
-            judges.add(new Judge(new JvmStage(new JdkFactory()), KnownDifferences.ALL, PATIENCE_BESIDE_ALL));
-        }
+        List<Judge> judges = judgesOfTheJdk(JOBS_THAT_WAIT, KnownDifferences.ALL, PATIENCE_BESIDE_ALL);
         new RandomCases(vuthgal, tally, null, part.to).play(judges, 1, SCENARIOS);
         part.take(tally.same(), tally.failing());
     }

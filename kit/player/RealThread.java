@@ -2,7 +2,6 @@ package kit.player;
 
 import java.util.Deque;
 import java.util.concurrent.ConcurrentLinkedDeque;
-import java.util.concurrent.locks.LockSupport;
 
 /**
  * A thread of the real side as the player drives it: it makes a call when it is told to, and can be told to make more from
@@ -33,6 +32,11 @@ abstract class RealThread {
 
     /** What a routine or an action throws that is still open at a case's end. */
     private static final int LEAVES = -99;
+
+    private static final int SPINS = 100;
+    private static final int YIELDS = 200;
+    /** Whoever sleeps until a call is done looks so often whether the real side has broken down, in nanoseconds. */
+    private static final long LOOK = 1_000_000;
 
     private final Deque<Call> open = new ConcurrentLinkedDeque<>();
 
@@ -67,6 +71,11 @@ abstract class RealThread {
 
     /** Whether it may be blocked now, as far as can be seen. */
     protected abstract boolean mayBeBlocked();
+
+    /** How often one has to look at that, in nanoseconds. */
+    protected long look() {
+        return LOOK;
+    }
 
     /** From now on {@code rest} asks who has had a processor. */
     protected void markRest() {
@@ -133,7 +142,9 @@ abstract class RealThread {
             if (now > limit) {
                 return;
             }
-            pause(round);
+            if (isLong(round)) {
+                call.sleep(Math.min(look(), since == 0 ? nanoseconds : since + nanoseconds - now), true);
+            }
         }
     }
 
@@ -145,19 +156,21 @@ abstract class RealThread {
             if (System.nanoTime() > limit) {
                 return false;
             }
-            pause(round);
+            if (isLong(round)) {
+                call.sleep(LOOK, false);
+            }
         }
         return true;
     }
 
-    private static void pause(int round) {
-        if (round < 100) {
+    /** Whether it is time to sleep. Most calls are done sooner, so it spins first, and lets others run. */
+    private static boolean isLong(int round) {
+        if (round < SPINS) {
             Thread.onSpinWait();
-        } else if (round < 2_000) {
+        } else if (round < SPINS + YIELDS) {
             Thread.yield();
-        } else {
-            LockSupport.parkNanos(50_000);
         }
+        return round >= SPINS + YIELDS;
     }
 
     /** At a case's end: whether it is out of all calls; if it stands in a routine, it is told to leave that. */

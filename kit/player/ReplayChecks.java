@@ -58,12 +58,11 @@ final class ReplayChecks {
         checks.add(() -> check(1, "/reset: a-broken-one-is-whole-again fails\n0 passed, 2 failed\n", Map.of("VUTHGAL", "false"),
             "cd '" + kit + "' && ./traces cases/action cases/reset"));
         ports.forEach(port -> checks.add(() -> checkPoints(port.command())));
-        for (Kit.Port port : ports) {
-            for (String folder : folders()) {
-                Check right = right(port.command(), folder);
-                checks.add(() -> check(right));
-            }
+        List<Check> everything = new ArrayList<>();
+        for (String folder : folders()) {
+            everything.add(right("", folder));
         }
+        ports.forEach(port -> checks.add(() -> checkAll(port.command(), everything)));
         String java = Path.of(System.getProperty("java.home"), "bin", "java") + " --add-opens"
             + " java.base/java.util.concurrent=ALL-UNNAMED -cp " + System.getProperty("java.class.path") + " kit.player.JdkPort";
         for (String folder : List.of("children", "constructors", "phase-numbers")) {
@@ -124,6 +123,16 @@ final class ReplayChecks {
         return new Check(0, transcripts.lines().filter(line -> line.startsWith("# ")).count() + RIGHT, command, folder);
     }
 
+    /** All transcripts by one replay; folder by folder, and with more patience, where something differs. */
+    private void checkAll(String command, List<Check> folders) {
+        int all = folders.stream().mapToInt(each -> Integer.parseInt(each.says().split(" ")[0])).sum();
+        if (replay(command, "", PATIENCE.get(0)).is(0, all + RIGHT)) {
+            part.take(folders.size(), 0);
+        } else {
+            folders.forEach(each -> replay(each.status(), each.says(), command, files(each)));
+        }
+    }
+
     /** The examples of the port protocol are played as they stand in its page, without their remarks, and a line that is long. */
     private void checkExamples(List<Kit.Port> ports) throws IOException {
         String page = Files.readString(kit.resolve("PROTOCOL.md"));
@@ -145,27 +154,35 @@ final class ReplayChecks {
     }
 
     private void check(Check check) {
+        replay(check.status(), check.says(), check.command(), check.folders().isEmpty() ? "" : files(check));
+    }
+
+    private static String files(Check check) {
         StringBuilder files = new StringBuilder();
         for (String name : check.folders().split(" ")) {
             files.append(" transcripts/").append(name).append(".txt");
         }
-        replay(check.status(), check.says(), check.command(), check.folders().isEmpty() ? "" : files.toString());
+        return files.toString();
     }
 
     private void replay(int status, String says, String command, String files) {
-        String quoted = "'" + command.replace("'", "'\\''") + "'";
-        String words = "cd '" + kit + "' && " + python + " ./replay " + quoted + files;
+        String words = "kit/replay '" + command + "'" + files;
         Told told = null;
         for (String patience : PATIENCE) {
             if (told != null) {
                 part.to.println(words + " is played again: " + told.text());
             }
-            told = shell(words.replace("./replay ", "./replay --patience " + patience + " "), Map.of());
+            told = replay(command, files, patience);
             if (told.is(status, says)) {
                 break;
             }
         }
         part.take(words, told.is(status, says), told.toString());
+    }
+
+    private Told replay(String command, String files, String patience) {
+        String quoted = "'" + command.replace("'", "'\\''") + "'";
+        return shell("cd '" + kit + "' && " + python + " ./replay --patience " + patience + " " + quoted + files, Map.of());
     }
 
     /** The factor of patience has its bounds, and a port that differs is dead before another is started in its place. */

@@ -11,5 +11,6 @@ import port  # noqa: E402
 
 PAUSE = float((sys.argv[1:] + ["0.001"])[0])
 right_wait = threading.Condition.wait
+sys.setswitchinterval(0.0002)    # who answers needn't wait long for the interpreter
 threading.Condition.wait = lambda condition, seconds=None: right_wait(condition, PAUSE)
 port.main()
