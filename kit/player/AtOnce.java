@@ -12,10 +12,12 @@ import java.util.function.Consumer;
 
 /** Checks that mostly wait, and so are made several for each processor at a time, whatever part they belong to. */
 final class AtOnce {
-    private static final int FOR_EACH_PROCESSOR = 3;
+    private static final int FOR_EACH_PROCESSOR = 6;
     private static final long LONGEST_SECONDS = 900;
     private static final ExecutorService THREADS =
         Executors.newFixedThreadPool(FOR_EACH_PROCESSOR * Runtime.getRuntime().availableProcessors(), AtOnce::thread);
+    /** For what sleeps nearly all of its time. */
+    private static final ExecutorService SLEEPERS = Executors.newCachedThreadPool(AtOnce::thread);
 
     private AtOnce() {
     }
@@ -28,8 +30,17 @@ final class AtOnce {
 
     /** Hands each of these to the check, and waits for all. No check may come here again. */
     static <T> void each(Iterable<T> all, Consumer<T> check) {
+        each(THREADS, all, check);
+    }
+
+    /** The same, of checks that sleep nearly all of their time: none waits for its turn. */
+    static void sleepers(Iterable<Runnable> checks) {
+        each(SLEEPERS, checks, Runnable::run);
+    }
+
+    private static <T> void each(ExecutorService threads, Iterable<T> all, Consumer<T> check) {
         List<Future<?>> checks = new ArrayList<>();
-        all.forEach(one -> checks.add(THREADS.submit(() -> check.accept(one))));
+        all.forEach(one -> checks.add(threads.submit(() -> check.accept(one))));
         try {
             for (Future<?> each : checks) {
                 each.get(LONGEST_SECONDS, TimeUnit.SECONDS);

@@ -19,8 +19,8 @@ final class BurstKit {
     private static final int LONG_ONE = 6_000;
     /** A race is a matter of chance, and of free processors: what the bursts of one seed don't find, those of another may. */
     private static final int SEEDS_TO_FIND = 8;
-    /** What is wrong may be taken to wait for ever sooner. */
-    private static final long IMPATIENT = 500_000_000L;
+    /** What is wrong may be taken to wait for ever sooner, if it is at rest then. */
+    private static final long IMPATIENT = 200_000_000L;
     private static final Pattern FOUND_BY = Pattern.compile("<p>Found by ([\\w-]+)");
     private static final String RIGHT = "UnderOneLock";
 

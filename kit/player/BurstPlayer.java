@@ -15,7 +15,7 @@ final class BurstPlayer {
     /** Closing lets a thread go on by one call, so it mustn't become rare where many are left. */
     private static final long LONGEST_PAUSE = 8 * MILLISECOND;
 
-    /** A port that isn't at rest gets so many times the bound more. */
+    /** A real side that isn't at rest gets so many times the bound more. */
     private static final int TIMES_FOR_THE_BUSY = 3;
 
     /** What the player is told by the threads. */
@@ -114,7 +114,7 @@ final class BurstPlayer {
             });
         }
         start(runners);
-        if (!follow(burst, history, events, runners.size()) || !look(burst, history, runners)) {
+        if (!follow(burst, history, events, threads) || !look(burst, history, runners)) {
             stage.abandon();
         }
         return history;
@@ -154,9 +154,10 @@ final class BurstPlayer {
     }
 
     /** Until all threads are through: ends actions, and closes and pokes where the burst wants it. */
-    private boolean follow(Burst burst, BurstHistory history, BlockingQueue<Event> events, int count) {
-        int running = count;
+    private boolean follow(Burst burst, BurstHistory history, BlockingQueue<Event> events, List<RealThread> threads) {
+        int running = threads.size();
         long limit = System.nanoTime() + bound;
+        int more = TIMES_FOR_THE_BUSY;
         long nextClosing = System.nanoTime() + MILLISECOND;
         long pause = MILLISECOND;
         while (running > 0) {
@@ -169,7 +170,10 @@ final class BurstPlayer {
                 BurstGate.pauseUntil(System.nanoTime() + event.at().lasts());
                 BurstRunner.endAction(event.standing(), event.at());
             } else if (System.nanoTime() > limit) {
-                return false;
+                if (more-- == 0 || threads.stream().allMatch(RealThread::mayBeBlocked)) {
+                    return false;
+                }
+                limit = System.nanoTime() + bound;
             } else if (pokes) {
                 poke(burst);
             } else if (burst.closer() != null && System.nanoTime() > nextClosing) {

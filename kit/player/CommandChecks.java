@@ -227,7 +227,7 @@ final class CommandChecks {
             new Check(0, "12 bursts of 12 kinds, ", "--burst", "12", "--points", "3", "--port", right(python)),
             new Check(0, "12 kinds in which points matter, 1 to 1 bursts each; too few, at a load of ",
                 "--burst", "12", "--points", "3", "--port", right(python)),
-            new Check(0, "threads spin while all should wait, in 1 case: ", "--port", wrong + "polls.py 0",
+            new Check(0, "threads spin while all should wait, in 1 case: ", "--first-try", "--port", wrong + "polls.py 0",
                 folder("waiting") + "/for-the-present-phase.txt"),
             new Check(1, "with POINTS=7\nagain: --burst 20000 --seed 1 --round 0 --points 7..7\n",
                 "--burst", "1", "--points", "7..9", "--port", port + "'0 did' 'exit 3'"),

@@ -112,9 +112,13 @@ public final class Kit {
             atOnce.put("commands on ports", part -> commands(part).checkPorts(python));
             atOnce.put("ends of commands", part -> commands(part).checkEnds(python));
             atOnce.put("faults of ports", part -> new FaultTable(kit.resolve("faults")).check(vuthgal, python, part));
-            atOnce.put("transcripts and soaks", part -> {
+            atOnce.put("transcripts", part -> {
                 built.join();
-                new ReplayChecks(kit, python, part).check(ports, lockFree);
+                new ReplayChecks(kit, python, part).check(ports);
+            });
+            atOnce.put("soaks", part -> {
+                built.join();
+                new ReplayChecks(kit, python, part).checkSoaks(ports, lockFree);
             });
         }
         atOnce.put("cases", this::checkCases);

@@ -36,25 +36,9 @@ final class ReplayChecks {
         this.part = part;
     }
 
-    /**
-     * All transcripts are right on each of the ports, those that no program makes also on the JDK, and wrong ports are found,
-     * among them one of the phaser without a lock, unless there is none.
-     */
-    void check(List<Kit.Port> ports, String lockFree) throws IOException {
+    /** All transcripts are right on each of the ports, those that no program makes also on the JDK, and wrong ports are found. */
+    void check(List<Kit.Port> ports) throws IOException {
         List<Runnable> checks = new ArrayList<>();
-        for (Kit.Port port : ports) {
-            checks.add(() -> soak(0, "while 60 threads wait: ", port.command()));
-        }
-        checks.add(() -> soak(0, "left out: it makes no barrier\n", python + " " + kit.resolve("faults/port.py") + " without barrier"));
-        checks.add(() -> soak(1, " 0.0 bytes a wait are left, resident\n", wrong + "polls.py"));
-        checks.add(() -> soak(1, "while 60 threads wait: 0.", wrong + "keeps_waits.py"));
-        if (!lockFree.isEmpty()) {
-            checks.add(() -> soak(1, "\n  waits after a release alone: ", "FAULT=permit-is-kept " + lockFree));
-            checks.add(() -> soak(1, "behind waits that are late, ", "FAULT=freed-while-queued " + lockFree));
-        }
-        checks.add(() -> soak(2, "case has to have the answers ok, and has okay\n",
-            python + " " + kit.resolve("faults/port.py") + " ok 'say okay\\n'"));
-        checks.add(() -> check(2, "kit/soak COMMAND [WAITS]", Map.of(), python + " '" + kit.resolve("soak") + "'"));
         checks.add(() -> check(1, "/reset: a-broken-one-is-whole-again fails\n0 passed, 2 failed\n", Map.of("VUTHGAL", "false"),
             "cd '" + kit + "' && ./traces cases/action cases/reset"));
         ports.forEach(port -> checks.add(() -> checkPoints(port.command())));
@@ -74,6 +58,25 @@ final class ReplayChecks {
         checkExamples(ports);
         checkAgain();
         checkWithoutJdk();
+    }
+
+    /** What a port costs that waits: the right ones nothing, and wrong ones are found, among them the phaser without a lock. */
+    void checkSoaks(List<Kit.Port> ports, String lockFree) {
+        List<Runnable> checks = new ArrayList<>();
+        for (Kit.Port port : ports) {
+            checks.add(() -> soak(0, "while 60 threads wait: ", port.command()));
+        }
+        checks.add(() -> soak(0, "left out: it makes no barrier\n", python + " " + kit.resolve("faults/port.py") + " without barrier"));
+        checks.add(() -> soak(1, " 0.0 bytes a wait are left, resident\n", wrong + "polls.py"));
+        checks.add(() -> soak(1, "while 60 threads wait: 0.", wrong + "keeps_waits.py"));
+        if (!lockFree.isEmpty()) {
+            checks.add(() -> soak(1, "\n  waits after a release alone: ", "FAULT=permit-is-kept " + lockFree));
+            checks.add(() -> soak(1, "behind waits that are late, ", "FAULT=freed-while-queued " + lockFree));
+        }
+        checks.add(() -> soak(2, "case has to have the answers ok, and has okay\n",
+            python + " " + kit.resolve("faults/port.py") + " ok 'say okay\\n'"));
+        checks.add(() -> check(2, "kit/soak COMMAND [WAITS]", Map.of(), python + " '" + kit.resolve("soak") + "'"));
+        AtOnce.sleepers(checks);
     }
 
     private List<Check> wrongPorts() {
