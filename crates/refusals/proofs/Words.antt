@@ -1,12 +1,36 @@
 -- The entries of words, beside the instruction table.
-use Rattle.std.proofs.Common.{◌≡◌, ◌≤◌, ◌<◌, ◌∙◌, ℕ, List, Option, Some, None, IfSome, slice_index_or, ap, sym, subst, arith, zero-add, inl, inr}
-use Rattle.std.specs.Prelude.{MatchOption, ◌≢◌, true}
+use Rattle.std.proofs.Common.{◌≡◌, ◌≤◌, ◌<◌, ◌-◌, ◌∙◌, ◌++◌, ℕ, zero, suc, List, [], ◌∷◌, length, Option, Some, None, IfSome, slice_index_or, ap, sym, subst, arith, zero-add, inl, inr}
+use Rattle.std.specs.Prelude.{MatchOption, ◌≢◌, true, slice_get}
+use Rattle.std.proofs.lemmas.Grind.{common_steps}
 use Rattle.instruction_table.specs.declared.shape.Shape.{Shape}
-use Rattle.instruction_table.specs.Table.{entry_named, entry_of, no_entry, table}
+use Rattle.instruction_table.specs.Table.{Entry, entry_named, entry_of, no_entry, table}
 use Rattle.instruction_table.proofs.TableLemmas.{found_is_entry, opcode-at, table_placed}
 use Rattle.line_reader.specs.Reading.{is_directive}
 use Rattle.refusals.specs.declared.word.WordEntry.{WordEntry}
-use Rattle.refusals.specs.Word.{IsItsWord, IsNoWord, IsRowEntry, form_of}
+use Rattle.refusals.specs.Word.{IsItsWord, IsNoWord, IsRowEntry, form_of, row_spellings, spellings}
+
+-- what stands at a place of a list before another one, and behind it
+pub get_there : {X : Type 0} (xs ys : List X) (k : ℕ) (x : X) → slice_get xs k ≡ Some x → slice_get (xs ++ ys) k ≡ Some x
+get_there [] ys k x is = absurd (cc is)
+get_there (y ∷ xs) ys zero x is = is
+get_there (y ∷ xs) ys (suc k) x is = get_there xs ys k x is
+
+pub get_behind : {X : Type 0} (xs ys : List X) (k : ℕ) → length xs ≤ k → slice_get (xs ++ ys) k ≡ slice_get ys (k - length xs)
+get_behind [] ys k within = grind arith
+get_behind (y ∷ xs) ys zero within = absurd (omega (arith, within))
+get_behind (y ∷ xs) ys (suc k) within = grind (arith, get_behind xs ys k (omega (arith, within)))
+
+-- entries that are spelled as rows are those of the rows
+pub entry_of_row : (entries : List WordEntry) (rows : List Entry) (k : ℕ) → spellings entries ≡ row_spellings rows
+    → MatchOption (slice_get entries k) (length rows ≤ k)
+    (λ e. (e.word.now ≡ (slice_index_or rows k no_entry).word) × (e.form.now ≡ form_of (slice_index_or rows k no_entry)))
+entry_of_row [] [] k same = omega arith
+entry_of_row [] (row ∷ rows) k same = absurd (cc same)
+entry_of_row (e ∷ entries) [] k same = absurd (cc same)
+entry_of_row (e ∷ entries) (row ∷ rows) zero same =
+    let first : (e.word.now, e.form.now) ≡ (row.word, form_of row) = cc same in
+    (ap (λ (s : List ℕ × List ℕ). s.0) first, ap (λ (s : List ℕ × List ℕ). s.1) first)
+entry_of_row (e ∷ entries) (row ∷ rows) (suc k) same = grind (arith, common_steps, entry_of_row entries rows k (cc same))
 
 -- an entry of the table that a look-up finds has an opcode of the table
 small_found : (word : List ℕ) → IfSome (entry_named table word) (λ e. e.opcode < 42)

@@ -1,5 +1,5 @@
 -- What is said about a word of the language.
-use Rattle.std.specs.Prelude.{◌≡◌, ◌≢◌, ◌⊎◌, ◌≤◌, ◌<◌, ⊤, ℕ, List, [], ◌∷◌, ◌++◌, None, Some, if◌then◌else◌, bytes_eq, codes, slice_index_or, true}
+use Rattle.std.specs.Prelude.{◌≡◌, ◌≢◌, ◌⊎◌, ◌≤◌, ◌<◌, ⊤, ℕ, List, [], ◌∷◌, ◌++◌, None, Some, if◌then◌else◌, bytes_eq, codes, map, slice_index_or, true}
 use Rattle.std.specs.List.{flat_map}
 use Rattle.instruction_table.specs.declared.shape.OperandKind.{OperandKind}
 use Rattle.instruction_table.specs.declared.shape.OperandKind.TheVariants.{Register, Number, Target, Phaser, Barrier, Thread, Cell}
@@ -29,15 +29,18 @@ lettered (kind ∷ kinds) names = codes " " ++ (letter kind ++ lettered kinds na
 abbrev pub form_of : Entry → List ℕ
 form_of row = row.word ++ lettered row.operands (codes "abc")
 
+-- the words and the forms of entries, and those of rows
+abbrev pub spellings : List WordEntry → List (List ℕ × List ℕ)
+spellings entries = map (λ (e : WordEntry). (e.word.now, e.form.now)) entries
+
+abbrev pub row_spellings : List Entry → List (List ℕ × List ℕ)
+row_spellings rows = map (λ (row : Entry). (row.word, form_of row)) rows
+
 -- the row of this opcode has this entry: its word and its form are those of the instruction table
 abbrev pub IsRowEntry : ℕ → WordEntry → Type 0
 IsRowEntry opcode e =
     (e.word.now ≡ (slice_index_or table opcode no_entry).word)
     × (e.form.now ≡ form_of (slice_index_or table opcode no_entry))
-
--- not one of the opcodes from the first on, before the second
-abbrev pub IsOutside : ℕ → ℕ → ℕ → Type 0
-IsOutside from end opcode = from ≤ opcode → opcode < end → ⊥
 
 -- the entry is that of this word: of the row that it begins, by the instruction table, or its own if it begins none
 abbrev pub IsItsRow : WordEntry → List ℕ → Type 0

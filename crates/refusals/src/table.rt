@@ -1,11 +1,11 @@
 //! The entries of the words of the language: of the rows by their groups, and of what begins with a dot.
 
-pub mod barrier_row;
-pub mod control_row;
+mod barrier_rows;
+mod control_rows;
 pub mod directive;
-pub mod phaser_row;
-pub mod plain_row;
+mod phaser_rows;
+mod plain_rows;
 pub mod row;
-pub mod shared_row;
-pub mod timed_row;
-pub mod view_row;
+mod shared_rows;
+mod timed_rows;
+mod view_rows;

@@ -2,7 +2,7 @@
 //! run records. The same meeting in a tree, and on a shared phaser.
 ghost use Rattle.std.specs.Prelude.{◌≤◌, length};
 
-use crate::programs::{MEETING as MEETING_TEXT, TRACE, program_of, shows};
+use crate::programs::{LISTED, MEETING, MEETING_RUN, TRACE, image_of, program_of, shows};
 use byte_ports::{MemorySink, MemorySource};
 use debugger::{Debugger, Stop};
 use headline::back::{step, step_and_back, steps_and_backs, take_back};
@@ -17,7 +17,7 @@ use headline::{play, session};
 use loader::LoadFault;
 use packed_phaser::Policy;
 use phase_number::Phase;
-use row_code::{Image, read_image};
+use row_code::Image;
 use schedule_reader::Run;
 use shared_phaser::{Call, Reply};
 use std::alloc::{AllocError, Global};
@@ -28,17 +28,6 @@ use tier_tree::{Arrived, Forest, PhaserId, Registered};
 use trace_compare::Verdict;
 use trace_text::start::StartFault;
 use trace_text::state::state_text;
-
-/// Rows `paaa r0 p0`, `out r0` and `halt`, two threads that begin at the first, and a phaser of two parties.
-const MEETING: &[u8] = b"PBW1\x01\0\0\0\x02\0\x03\0\
-\xff\0\x02\0\0\0\0\0\0\0\0\0\
-\0\0\0\0\0\0\0\0\
-\x18\0\0\0\0\0\0\0\x0e\0\0\0\0\0\0\0\0\0\0\0\0\0\0\0";
-
-/// The image that these bytes are, if they are one.
-fn image(alloc: Global, bytes: &[u8]) -> Option<Image> {
-    read_image(alloc, bytes).ok()
-}
 
 /// A thread's turn.
 fn turn(thread: u8) -> Choice {
@@ -59,7 +48,7 @@ fn turns(alloc: Global, threads: &[u8]) -> Result<Vec<Choice>, AllocError> {
 
 /// The machine of the meeting after these choices, if its program is played.
 fn played(alloc: Global, choices: &[Choice]) -> Option<Machine> {
-    match image(alloc, MEETING) {
+    match image_of(alloc, MEETING) {
         Some(image) => play(alloc, image, choices).ok(),
         None => None,
     }
@@ -96,7 +85,7 @@ fn a_refused_choice_is_the_last(rt: HostRuntime) {
 /// No thread is declared.
 #[test]
 fn a_program_with_a_fault_is_not_played(rt: HostRuntime) {
-    match image(rt.alloc(), b"PBW1\0\0\0\0\0\0\x01\0\0\0\0\0\0\0\0\0") {
+    match image_of(rt.alloc(), "halt\n") {
         Some(image) => {
             let refused = play(rt.alloc(), image, &[]).err();
             assert!(rt; refused == Some(StartFault::Load(LoadFault::NoThread)));
@@ -269,23 +258,16 @@ fn calls_are_made_in_a_tree(rt: HostRuntime) -> Result<(), Fail> {
     Ok(())
 }
 
-/// The text and its schedule in one.
-const BOTH: &[u8] =
-    b".phaser p 2\n.thread a main\n.thread b main\nmain: paaa r0 p\nout r0\nhalt\n.run\nt0 t1 t0*3 t1*2\n";
-
 #[test]
 fn a_text_shows_its_run(rt: HostRuntime) -> Result<(), Fail> {
     let alloc = rt.alloc();
-    let mut input = MemorySource::new(BOTH, None);
+    let mut input = MemorySource::new(MEETING_RUN.as_bytes(), None);
     let mut output = MemorySink::new(alloc, 1000, None)?;
     let mut errors = MemorySink::new(alloc, 100, None)?;
     assert!(rt; both_cmd(alloc, &mut input, &mut output, &mut errors) == 0);
     assert!(rt; output.bytes() == TRACE);
     Ok(())
 }
-
-/// The meeting's canonical text.
-const LISTED: &[u8] = b".phaser p0 2\n.thread t0 #0\n.thread t1 #0\npaaa r0 #0\nout r0\nhalt\n";
 
 /// Returns whether an image is listed as the meeting's canonical text.
 fn is_listed(alloc: Global, image: &Image) -> bool {
@@ -305,7 +287,7 @@ fn is_disassembled(alloc: Global, image: &Image) -> bool {
 
 #[test]
 fn its_program_is_listed(rt: HostRuntime) {
-    match image(rt.alloc(), MEETING) {
+    match image_of(rt.alloc(), MEETING) {
         Some(image) => assert!(rt; is_listed(rt.alloc(), &image)),
         None => assert!(rt; false),
     }
@@ -332,7 +314,7 @@ fn is_found_the_same(alloc: Global, image: Image) -> bool {
 
 #[test]
 fn its_trace_is_found_the_same(rt: HostRuntime) {
-    match image(rt.alloc(), MEETING) {
+    match image_of(rt.alloc(), MEETING) {
         Some(image) => assert!(rt; is_found_the_same(rt.alloc(), image)),
         None => assert!(rt; false),
     }
@@ -348,7 +330,7 @@ fn takes_one_turn(journaled: &mut Journaled) -> bool {
 
 /// The record of the meeting before the first step.
 fn record_of_meeting(alloc: Global) -> Option<Journaled> {
-    match program_of(alloc, MEETING_TEXT) {
+    match program_of(alloc, MEETING) {
         Some(program) => begin(alloc, program, 10).ok(),
         None => None,
     }

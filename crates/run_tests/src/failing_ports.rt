@@ -1,6 +1,6 @@
 //! Commands over ports in memory, of which one fails at one of its calls. What was written before is a beginning of the whole,
 //! and the exit status and the line say whether a read or a write failed.
-use crate::programs::{MEETING, TRACE, image_of};
+use crate::programs::{LISTED, MEETING, MEETING_RUN, TRACE, image_of};
 use byte_ports::{MemorySink, MemorySource};
 use row_code::{Image, write_image};
 use std::alloc::{AllocError, Global};
@@ -40,7 +40,7 @@ struct Case {
 static CASES: [Case; 6] = [
     Case {
         call: Call::Both,
-        file: ".phaser p 2\n.thread a main\n.thread b main\nmain: paaa r0 p\nout r0\nhalt\n.run\nt0 t1 t0*3 t1*2\n",
+        file: MEETING_RUN,
         other: b"",
         whole: TRACE,
     },
@@ -54,7 +54,7 @@ static CASES: [Case; 6] = [
         call: Call::List,
         file: MEETING,
         other: b"",
-        whole: b".phaser p0 2\n.thread t0 #0\n.thread t1 #0\npaaa r0 #0\nout r0\nhalt\n",
+        whole: LISTED,
     },
     Case {
         call: Call::Run,
@@ -234,20 +234,4 @@ fn is_raced<R: Threads + Wait + Sync>(rt: &R, alloc: Global) -> Result<bool, All
 fn the_commands_of_threads_are_played(rt: HostRuntime) {
     assert!(rt; is_played_live(&rt, rt.alloc()) == Ok(true), "live");
     assert!(rt; is_raced(&rt, rt.alloc()) == Ok(true), "race");
-}
-
-/// Returns whether bytes are the lines of an arrival that throws, and its phaser as it was.
-fn is_thrown(bytes: &[u8]) -> bool {
-    bytes.starts_with(b"1 t0 0 throw 1\nstate 1 1 live\n") && bytes.ends_with(b"\np0 0 0 0 0\n")
-}
-
-#[test]
-fn an_arrival_at_a_phaser_without_parties_throws(rt: HostRuntime) -> Result<(), AllocError> {
-    let text = b".phaser p 0\n.thread a main\nmain: parr r0 p\nhalt\n.run\nt0\n";
-    let mut input = MemorySource::new(text, None);
-    let mut output = MemorySink::new(rt.alloc(), 1000, None)?;
-    let mut errors = MemorySink::new(rt.alloc(), 100, None)?;
-    let status = both_cmd(rt.alloc(), &mut input, &mut output, &mut errors);
-    assert!(rt; status == 0 && is_thrown(output.bytes()));
-    Ok(())
 }

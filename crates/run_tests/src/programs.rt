@@ -10,6 +10,13 @@ use trace_text::state::state_text;
 pub const MEETING: &str =
     ".phaser p 2\n.thread a main\n.thread b main\nmain: paaa r0 p\nout r0\nhalt\n";
 
+/// The meeting and its schedule in one.
+pub const MEETING_RUN: &str =
+    ".phaser p 2\n.thread a main\n.thread b main\nmain: paaa r0 p\nout r0\nhalt\n.run\nt0 t1 t0*3 t1*2\n";
+
+/// The meeting's canonical text.
+pub const LISTED: &[u8] = b".phaser p0 2\n.thread t0 #0\n.thread t1 #0\npaaa r0 #0\nout r0\nhalt\n";
+
 /// The trace of the meeting under `t0 t1 t0*3 t1*2`.
 pub const TRACE: &[u8] =
     b"1 t0 0 wait\n2 t1 0 = 1 +p0 1\n3 t0 0 = 1\n4 t0 1 out 1\n5 t0 2 end\n6 t1 1 out 1\n7 t1 2 end\n\

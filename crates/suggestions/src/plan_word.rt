@@ -2,6 +2,7 @@
 
 use crate::java::found_in;
 use crate::nearest::nearest_of;
+use line_reader::number::are_digits;
 use line_reader::words::length_before;
 use plans::fault::PlanFaultKind;
 use std::alloc::{AllocError, Global};
@@ -21,11 +22,6 @@ const ELLIPSIS: [u8; 3] = [0xe2, 0x80, 0xa6];
 /// Returns whether a word begins with the sign of a comment in other languages.
 pub fn has_comment_sign(word: &[u8]) -> bool {
     word.starts_with(b"#") || word.starts_with(b"//") || word.starts_with(b"/*")
-}
-
-/// Whether these bytes are digits alone, at least one.
-fn are_digits(bytes: &[u8]) -> bool {
-    !bytes.is_empty() && bytes.iter().all(|byte| byte.is_ascii_digit())
 }
 
 /// What helps if a count, a comma or a comment is wrong, by the byte before the word.

@@ -1,27 +1,50 @@
-//! The rows of a program, by their opcodes.
-ghost use Rattle.std.specs.Prelude.{◌≡◌, ◌≤◌, MatchOption};
-ghost use Rattle.refusals.specs.Word.{IsRowEntry};
+//! The entries of the rows, in the order of their opcodes.
+ghost use Rattle.std.specs.Prelude.{◌≡◌, ◌≤◌, MatchOption, slice_get};
+ghost use Rattle.std.specs.List.{flat_map};
+ghost use Rattle.instruction_table.specs.Table.{table};
+ghost use Rattle.refusals.specs.Word.{IsRowEntry, row_spellings, spellings};
 
-use crate::table::barrier_row::barrier_row;
-use crate::table::control_row::control_row;
-use crate::table::phaser_row::phaser_row;
-use crate::table::plain_row::plain_row;
-use crate::table::shared_row::shared_row;
-use crate::table::timed_row::timed_row;
-use crate::table::view_row::view_row;
+use crate::table::barrier_rows::BARRIER_ROWS;
+use crate::table::control_rows::CONTROL_ROWS;
+use crate::table::phaser_rows::PHASER_ROWS;
+use crate::table::plain_rows::PLAIN_ROWS;
+use crate::table::shared_rows::SHARED_ROWS;
+use crate::table::timed_rows::TIMED_ROWS;
+use crate::table::view_rows::VIEW_ROWS;
 use crate::word::WordEntry;
+
+/// Returns the tables of the rows, which have an entry for each opcode.
+fn row_tables() -> [&'static [WordEntry]; 7]
+    ensures { spellings (flat_map (λ rows. rows.now) result) ≡ row_spellings table }
+{
+    [
+        &PLAIN_ROWS,
+        &CONTROL_ROWS,
+        &SHARED_ROWS,
+        &PHASER_ROWS,
+        &VIEW_ROWS,
+        &BARRIER_ROWS,
+        &TIMED_ROWS,
+    ]
+}
+
+/// Returns the entry at a place in tables that follow one another.
+#[tactic(auto, using(crate::proofs::Words::get_there, crate::proofs::Words::get_behind))]
+fn entry_at(tables: &[&'static [WordEntry]], place: usize) -> Option<WordEntry>
+    ensures { result ≡ slice_get (flat_map (λ rows. rows.now) tables.now) place }
+{
+    match tables {
+        [] => None,
+        [rows, tables @ ..] => match rows.get(place) {
+            Some(entry) => Some(*entry),
+            None => entry_at(tables, place - rows.len()),
+        },
+    }
+}
 
 /// Returns the entry for the row of this opcode.
 pub fn row_entry(opcode: u8) -> Option<WordEntry>
     ensures { MatchOption result (42 ≤ opcode) (IsRowEntry opcode) }
 {
-    match opcode {
-        0..=8 => plain_row(opcode),
-        9..=14 => control_row(opcode),
-        15..=19 => shared_row(opcode),
-        20..=27 => phaser_row(opcode),
-        28..=34 => view_row(opcode),
-        35..=39 => barrier_row(opcode),
-        _ => timed_row(opcode),
-    }
+    entry_at(&row_tables(), usize::from(opcode))
 }
