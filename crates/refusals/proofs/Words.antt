@@ -1,7 +1,12 @@
 -- The entries of words, beside the instruction table.
-use Rattle.std.proofs.Common.{◌≡◌, ◌≤◌, ◌<◌, ◌-◌, ◌∙◌, ◌++◌, ℕ, zero, suc, List, [], ◌∷◌, length, Option, Some, None, IfSome, slice_index_or, ap, sym, subst, arith, zero-add, inl, inr}
-use Rattle.std.specs.Prelude.{MatchOption, ◌≢◌, true, slice_get}
+use Rattle.std.proofs.Common.{◌≡◌, ◌≤◌, ◌<◌, ◌-◌, ◌∙◌, ◌++◌, ℕ, zero, suc, List, [], ◌∷◌, length, take, drop, Option, Some, None, IfSome, slice_index_or, ap, sym, subst, arith, zero-add, inl, inr}
+use Rattle.std.specs.Prelude.{MatchOption, ◌≢◌, true, false, nat_lt, slice_get}
+use Rattle.std.specs.Borrow.{Bor}
+use Rattle.std.specs.List.{flat_map}
 use Rattle.std.proofs.lemmas.Grind.{common_steps}
+use Rattle.std.proofs.lemmas.Bool.Decides.{nat_tests}
+use Rattle.std.proofs.lemmas.List.{take_all}
+use Rattle.std.proofs.lemmas.Option.{slice_get-get_or}
 use Rattle.instruction_table.specs.declared.shape.Shape.{Shape}
 use Rattle.instruction_table.specs.Table.{Entry, entry_named, entry_of, no_entry, table}
 use Rattle.instruction_table.proofs.TableLemmas.{found_is_entry, opcode-at, table_placed}
@@ -19,6 +24,28 @@ pub get_behind : {X : Type 0} (xs ys : List X) (k : ℕ) → length xs ≤ k →
 get_behind [] ys k within = grind arith
 get_behind (y ∷ xs) ys zero within = absurd (omega (arith, within))
 get_behind (y ∷ xs) ys (suc k) within = grind (arith, get_behind xs ys k (omega (arith, within)))
+
+-- the same of tables that follow one another
+abbrev pub entries_of : List (Bor (List WordEntry)) → List WordEntry
+entries_of tables = flat_map (λ rows. rows.now) tables
+
+pub in_first : (tables : List (Bor (List WordEntry))) (d : Bor (List WordEntry)) (k : ℕ) (e : WordEntry) → 1 ≤ length tables
+    → true ≡ nat_lt k (length (slice_index_or tables 0 d).now) → e ≡ slice_index_or (slice_index_or tables 0 d).now k e
+    → Some e ≡ slice_get (entries_of tables) k
+in_first [] d k e some there is = absurd (omega (arith, some))
+in_first (rows ∷ tables) d k e some there is =
+    sym (get_there rows.now (entries_of tables) k e
+    (slice_get-get_or rows.now k e (grind (arith, nat_tests, there)) ∙ ap (λ x. Some x) (sym is)))
+
+pub in_others : (tables : List (Bor (List WordEntry))) (d : Bor (List WordEntry)) (k : ℕ) (found : Option WordEntry) → 1 ≤ length tables
+    → false ≡ nat_lt k (length (slice_index_or tables 0 d).now)
+    → found ≡ slice_get (entries_of (take (length tables - 1) (drop 1 tables))) (k - length (slice_index_or tables 0 d).now)
+    → found ≡ slice_get (entries_of tables) k
+in_others [] d k found some none is = absurd (omega (arith, some))
+in_others (rows ∷ tables) d k found some none is =
+    is
+    ∙ ap (λ others. slice_get (entries_of others) (k - length rows.now)) (take_all (length (rows ∷ tables) - 1) tables (omega arith))
+    ∙ sym (get_behind rows.now (entries_of tables) k (grind (arith, nat_tests, none)))
 
 -- entries that are spelled as rows are those of the rows
 pub entry_of_row : (entries : List WordEntry) (rows : List Entry) (k : ℕ) → spellings entries ≡ row_spellings rows

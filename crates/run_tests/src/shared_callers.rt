@@ -78,30 +78,17 @@ fn called<R: Wait>(rt: &R, phaser: &SharedPhaser, party: &mut Party, call: Call)
     }
 }
 
-/// Returns the result of the call that takes `Wait`, or that of one try.
-fn answered<R: Wait>(
-    rt: &R,
-    phaser: &SharedPhaser,
-    party: &mut Party,
-    call: Call,
-    waits: bool,
-) -> Option<Reply>
-    requires { phaser_of party.old ≡ phaser.now }
-    ensures { phaser_of party.new ≡ phaser.now }
-{
-    if waits {
-        called(rt, phaser, party, call)
-    } else {
-        tried(phaser, party, call)
-    }
-}
-
+/// Returns whether a row holds of the call that takes `Wait`, or of one try.
 fn holds<R: Wait>(rt: &R, alloc: Global, row: &Row, waits: bool) -> bool {
     let (parties, phase, policy, call, reply, word) = *row;
     match SharedPhaser::new(alloc, parties, policy, Phase::prevailing(phase)) {
         Ok((phaser, mut party)) => {
-            answered(rt, &phaser, &mut party, call, waits) == Some(reply)
-                && phaser.look(&mut party).raw() == word
+            let answer = if waits {
+                called(rt, &phaser, &mut party, call)
+            } else {
+                tried(&phaser, &mut party, call)
+            };
+            answer == Some(reply) && phaser.look(&mut party).raw() == word
         }
         Err(_) => false,
     }

@@ -28,9 +28,6 @@ enum Step {
     Asks(u8, u32, Registered),
     Arrives(u8, Arrived),
     Leaves(u8, Arrived),
-    /// The arrival is the last in the tree of phaser 0: the phase, and the root's parties.
-    ArrivesLast(u8, i32, u16),
-    LeavesLast(u8, i32, u16),
     Finishes(u8, bool),
     /// As many arrivals at a root as these parties end each phase from the first up to the other.
     EndsEach(u8, u16, i32, i32),
@@ -46,7 +43,6 @@ impl Step {
         match self {
             Step::Registers(id, _, _) | Step::Asks(id, _, _) => id,
             Step::Arrives(id, _) | Step::Leaves(id, _) => id,
-            Step::ArrivesLast(id, _, _) | Step::LeavesLast(id, _, _) => id,
             Step::Finishes(id, _) | Step::EndsEach(id, _, _, _) | Step::Forces(id) => id,
             Step::Shows(id, _, _, _) | Step::Is(id, _, _, _, _) => id,
         }
@@ -90,8 +86,8 @@ fn planted(alloc: Global, plans: &[Plan]) -> Option<Forest>
     Some(forest)
 }
 
-/// Returns the result of the last arrival in the tree of phaser 0.
-fn turns(phase: i32, parties: u16) -> Arrived {
+/// Returns the result of the last arrival in the tree of phaser 0, whose root has so many parties.
+const fn turns(phase: i32, parties: u16) -> Arrived {
     Arrived::Turning {
         root: PhaserId(0),
         phase,
@@ -171,46 +167,23 @@ fn is(
         && forest.phase_number(id).number() == phase
 }
 
-/// Returns whether a look at the phaser shows what it should.
-fn is_seen(forest: &Forest, id: PhaserId, step: Step) -> bool
-    requires { id.0 < length forest.now }
-{
-    match step {
-        Step::Asks(_, count, answer) => forest.registration(id, count) == answer,
-        Step::Shows(_, view, parties, arrived) => shows(forest, id, view, parties, arrived),
-        Step::Is(_, parent, root, policy, phase) => is(forest, id, parent, root, policy, phase),
-        _ => false,
-    }
-}
-
-/// Returns whether an arrival has the result that it should have.
-fn is_answered(forest: &mut Forest, id: PhaserId, step: Step) -> bool
-    requires { id.0 < length forest.old }
-{
-    match step {
-        Step::Arrives(_, answer) => forest.arrive(id, false) == answer,
-        Step::Leaves(_, answer) => forest.arrive(id, true) == answer,
-        Step::ArrivesLast(_, phase, parties) => forest.arrive(id, false) == turns(phase, parties),
-        Step::LeavesLast(_, phase, parties) => forest.arrive(id, true) == turns(phase, parties),
-        _ => false,
-    }
-}
-
 /// Makes the call, and returns whether it has its expected effect.
 fn comes_true_at(forest: &mut Forest, id: PhaserId, step: Step) -> bool
     requires { id.0 < length forest.old }
 {
     match step {
-        Step::Arrives(_, _) | Step::ArrivesLast(_, _, _) => is_answered(forest, id, step),
-        Step::Leaves(_, _) | Step::LeavesLast(_, _, _) => is_answered(forest, id, step),
+        Step::Arrives(_, answer) => forest.arrive(id, false) == answer,
+        Step::Leaves(_, answer) => forest.arrive(id, true) == answer,
         Step::Registers(_, count, answer) => forest.register(id, count) == answer,
+        Step::Asks(_, count, answer) => forest.registration(id, count) == answer,
         Step::Finishes(_, ends) => end_turned_phase(forest, id, ends),
         Step::EndsEach(_, parties, from, to) => ends_each(forest, id.0, parties, from, to),
         Step::Forces(_) => {
             forest.force(id);
             true
         }
-        _ => is_seen(forest, id, step),
+        Step::Shows(_, view, parties, arrived) => shows(forest, id, view, parties, arrived),
+        Step::Is(_, parent, root, policy, phase) => is(forest, id, parent, root, policy, phase),
     }
 }
 
@@ -243,7 +216,7 @@ static ROWS: [Row; 13] = [
             Step::Arrives(1, Arrived::At(0)),
             Step::Registers(1, 1, Registered::Held),
             Step::Shows(1, 0, 1, 1),
-            Step::LeavesLast(2, 0, 1),
+            Step::Leaves(2, turns(0, 1)),
             Step::Finishes(0, false),
             Step::Shows(0, 1, 1, 0),
             Step::Shows(1, 1, 1, 0),
@@ -270,7 +243,7 @@ static ROWS: [Row; 13] = [
             Step::EndsEach(0, 3, 0, 5),
             Step::Arrives(1, Arrived::At(5)),
             Step::Arrives(0, Arrived::At(5)),
-            Step::ArrivesLast(0, 5, 3),
+            Step::Arrives(0, turns(5, 3)),
             Step::Finishes(0, false),
             Step::EndsEach(0, 3, 6, 15),
             Step::Shows(1, 15, 1, 0),
@@ -286,7 +259,7 @@ static ROWS: [Row; 13] = [
             Step::Arrives(1, Arrived::At(0)),
             Step::Arrives(0, Arrived::At(0)),
             Step::Arrives(0, Arrived::At(0)),
-            Step::ArrivesLast(0, 0, 3),
+            Step::Arrives(0, turns(0, 3)),
             Step::Finishes(0, false),
             Step::Shows(0, 1, 3, 0),
             Step::Shows(1, 1, 2, 0),
@@ -307,7 +280,7 @@ static ROWS: [Row; 13] = [
         ],
         &[
             Step::Shows(1, 2147483647, 0, 0),
-            Step::ArrivesLast(0, 2147483647, 1),
+            Step::Arrives(0, turns(2147483647, 1)),
             Step::Finishes(0, false),
             Step::Shows(0, 0, 1, 0),
             Step::Shows(1, 0, 0, 0),
@@ -325,7 +298,7 @@ static ROWS: [Row; 13] = [
         &[
             Step::Arrives(0, Arrived::At(0)),
             Step::Arrives(0, Arrived::At(0)),
-            Step::ArrivesLast(0, 0, 3),
+            Step::Arrives(0, turns(0, 3)),
             Step::Asks(0, 1, Registered::Held),
             Step::Arrives(1, Arrived::NotThere),
             Step::Shows(1, 0, 1, 0),
@@ -338,7 +311,7 @@ static ROWS: [Row; 13] = [
         &[Plan::RootWith(1, Policy::Never, 0), Plan::Child(0, 1)],
         &[
             Step::Leaves(0, Arrived::At(0)),
-            Step::LeavesLast(0, 0, 0),
+            Step::Leaves(0, turns(0, 0)),
             Step::Finishes(0, false),
             Step::Arrives(1, Arrived::NotThere),
             Step::Shows(1, 1, 1, 0),
@@ -351,7 +324,7 @@ static ROWS: [Row; 13] = [
         &[Plan::Root(0), Plan::Child(0, 2)],
         &[
             Step::Leaves(1, Arrived::At(0)),
-            Step::LeavesLast(1, 0, 0),
+            Step::Leaves(1, turns(0, 0)),
             Step::Finishes(0, true),
             Step::Shows(0, -2147483647, 0, 0),
             Step::Leaves(1, Arrived::Dead(-2147483647)),
@@ -361,7 +334,7 @@ static ROWS: [Row; 13] = [
         "a refused climb changes nothing",
         &[Plan::Root(0), Plan::Child(0, 0), Plan::Child(1, 1)],
         &[
-            Step::ArrivesLast(0, 0, 1),
+            Step::Arrives(0, turns(0, 1)),
             Step::Arrives(2, Arrived::NotThere),
             Step::Leaves(2, Arrived::NotThere),
             Step::Shows(2, 0, 1, 0),
@@ -382,7 +355,7 @@ static ROWS: [Row; 13] = [
             Step::Leaves(0, Arrived::At(0)),
             Step::Leaves(1, Arrived::At(0)),
             Step::Leaves(1, Arrived::At(0)),
-            Step::LeavesLast(1, 0, 0),
+            Step::Leaves(1, turns(0, 0)),
         ],
     ),
     (
@@ -390,7 +363,7 @@ static ROWS: [Row; 13] = [
         &[Plan::Root(1)],
         &[
             Step::Asks(0, 1, Registered::At(0)),
-            Step::LeavesLast(0, 0, 0),
+            Step::Leaves(0, turns(0, 0)),
             Step::Asks(0, 0, Registered::At(0)),
             Step::Asks(0, 1, Registered::Held),
             Step::Asks(0, 65536, Registered::TooMany),
@@ -416,7 +389,7 @@ static ROWS: [Row; 13] = [
         "a party arrives through an empty parent",
         &[Plan::Root(0), Plan::Child(0, 0), Plan::Child(1, 1)],
         &[
-            Step::ArrivesLast(2, 0, 1),
+            Step::Arrives(2, turns(0, 1)),
             Step::Shows(2, 0, 1, 1),
             Step::Shows(1, 0, 1, 1),
             Step::Finishes(0, false),
@@ -458,7 +431,7 @@ fn eight_arrive(forest: &mut Forest) -> bool {
 
 static THE_NINTH: [Step; 5] = [
     Step::Shows(7, 0, 1, 1),
-    Step::ArrivesLast(63, 0, 9),
+    Step::Arrives(63, turns(0, 9)),
     Step::Finishes(0, false),
     Step::Shows(63, 1, 1, 0),
     Step::Shows(0, 1, 9, 0),

@@ -29,7 +29,6 @@ fn row_tables() -> [&'static [WordEntry]; 7]
 }
 
 /// Returns the entry at a place in tables that follow one another.
-#[tactic(auto, using(crate::proofs::Words::get_there, crate::proofs::Words::get_behind))]
 fn entry_at(tables: &[&'static [WordEntry]], place: usize) -> Option<WordEntry>
     ensures { result ≡ slice_get (flat_map (λ rows. rows.now) tables.now) place }
 {
