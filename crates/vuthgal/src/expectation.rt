@@ -130,10 +130,12 @@ fn push_all_unmet<E: Sink>(
     Ok(())
 }
 
-/// What helps if a run ended so, and something else was expected of it.
-fn helps_at_end(standing: Standing, has_seed: bool) -> &'static str {
+/// What helps if a run ended so, and this was expected of it.
+fn helps_at_end(text: &[u8], standing: Standing, has_seed: bool) -> &'static str {
     match standing {
         _ if has_seed => "`vuthgal draw FILE --plan '?SEED'` draws the run of this seed",
+        _ if end_words(text).is_none() =>
+            "another schedule, or words of the line in a row; after `regs`, `stack` or `out` all its numbers",
         Standing::Live => "more choices, as `..` at the end of a plan, or `--expect live`",
         Standing::Stuck =>
             "`vuthgal draw` shows which thread waits, and where, or `--expect stuck`",
@@ -145,11 +147,11 @@ fn helps_at_end(standing: Standing, has_seed: bool) -> &'static str {
 /// Shows a person what helps if a run's end isn't as a text expects.
 fn note_unmet(report: &Report<'_>, program: &[u8], text: &[u8], end: &RunEnd, has_seed: bool) {
     if line_against(end.state.as_slice(), text).is_some() {
-        return report.help(helps_at_end(end.standing, has_seed));
+        return report.help(helps_at_end(text, end.standing, has_seed));
     }
     report.hint(
         hint_at_subject(report.alloc(), program, subject_of(text)),
-        "the first word of a STATE is a thread, a phaser, a barrier or a cell",
+        "a STATE is all, ended, stuck or live, or begins with a thread, a phaser, a barrier or a cell",
     );
 }
 

@@ -24,6 +24,10 @@ pub fn push_odd_plan(report: &Report<'_>, plan: &str) {
         report.help("the plan is empty: `..` plays all threads in turn");
     } else if plan.find(';').is_some() {
         report.help("`;` begins a comment in a plan: the rest isn't played");
+    } else if plan.find("()").is_some() {
+        report.help(
+            "empty parentheses play nothing: a count follows choices, as in `( ann. bob. )*3`",
+        );
     }
 }
 
