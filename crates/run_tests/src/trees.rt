@@ -28,6 +28,9 @@ enum Step {
     Asks(u8, u32, Registered),
     Arrives(u8, Arrived),
     Leaves(u8, Arrived),
+    /// The arrival is the last in the tree of phaser 0: the phase, and the root's parties.
+    ArrivesLast(u8, i32, u16),
+    LeavesLast(u8, i32, u16),
     Finishes(u8, bool),
     /// As many arrivals at a root as these parties end each phase from the first up to the other.
     EndsEach(u8, u16, i32, i32),
@@ -43,6 +46,7 @@ impl Step {
         match self {
             Step::Registers(id, _, _) | Step::Asks(id, _, _) => id,
             Step::Arrives(id, _) | Step::Leaves(id, _) => id,
+            Step::ArrivesLast(id, _, _) | Step::LeavesLast(id, _, _) => id,
             Step::Finishes(id, _) | Step::EndsEach(id, _, _, _) | Step::Forces(id) => id,
             Step::Shows(id, _, _, _) | Step::Is(id, _, _, _, _) => id,
         }
@@ -86,8 +90,8 @@ fn planted(alloc: Global, plans: &[Plan]) -> Option<Forest>
     Some(forest)
 }
 
-/// Returns the result of the last arrival in the tree of phaser 0, whose root has so many parties.
-const fn turns(phase: i32, parties: u16) -> Arrived {
+/// Returns the result of the last arrival in the tree of phaser 0.
+fn turns(phase: i32, parties: u16) -> Arrived {
     Arrived::Turning {
         root: PhaserId(0),
         phase,
@@ -174,6 +178,8 @@ fn comes_true_at(forest: &mut Forest, id: PhaserId, step: Step) -> bool
     match step {
         Step::Arrives(_, answer) => forest.arrive(id, false) == answer,
         Step::Leaves(_, answer) => forest.arrive(id, true) == answer,
+        Step::ArrivesLast(_, phase, parties) => forest.arrive(id, false) == turns(phase, parties),
+        Step::LeavesLast(_, phase, parties) => forest.arrive(id, true) == turns(phase, parties),
         Step::Registers(_, count, answer) => forest.register(id, count) == answer,
         Step::Asks(_, count, answer) => forest.registration(id, count) == answer,
         Step::Finishes(_, ends) => end_turned_phase(forest, id, ends),
@@ -216,7 +222,7 @@ static ROWS: [Row; 13] = [
             Step::Arrives(1, Arrived::At(0)),
             Step::Registers(1, 1, Registered::Held),
             Step::Shows(1, 0, 1, 1),
-            Step::Leaves(2, turns(0, 1)),
+            Step::LeavesLast(2, 0, 1),
             Step::Finishes(0, false),
             Step::Shows(0, 1, 1, 0),
             Step::Shows(1, 1, 1, 0),
@@ -243,7 +249,7 @@ static ROWS: [Row; 13] = [
             Step::EndsEach(0, 3, 0, 5),
             Step::Arrives(1, Arrived::At(5)),
             Step::Arrives(0, Arrived::At(5)),
-            Step::Arrives(0, turns(5, 3)),
+            Step::ArrivesLast(0, 5, 3),
             Step::Finishes(0, false),
             Step::EndsEach(0, 3, 6, 15),
             Step::Shows(1, 15, 1, 0),
@@ -259,7 +265,7 @@ static ROWS: [Row; 13] = [
             Step::Arrives(1, Arrived::At(0)),
             Step::Arrives(0, Arrived::At(0)),
             Step::Arrives(0, Arrived::At(0)),
-            Step::Arrives(0, turns(0, 3)),
+            Step::ArrivesLast(0, 0, 3),
             Step::Finishes(0, false),
             Step::Shows(0, 1, 3, 0),
             Step::Shows(1, 1, 2, 0),
@@ -280,7 +286,7 @@ static ROWS: [Row; 13] = [
         ],
         &[
             Step::Shows(1, 2147483647, 0, 0),
-            Step::Arrives(0, turns(2147483647, 1)),
+            Step::ArrivesLast(0, 2147483647, 1),
             Step::Finishes(0, false),
             Step::Shows(0, 0, 1, 0),
             Step::Shows(1, 0, 0, 0),
@@ -298,7 +304,7 @@ static ROWS: [Row; 13] = [
         &[
             Step::Arrives(0, Arrived::At(0)),
             Step::Arrives(0, Arrived::At(0)),
-            Step::Arrives(0, turns(0, 3)),
+            Step::ArrivesLast(0, 0, 3),
             Step::Asks(0, 1, Registered::Held),
             Step::Arrives(1, Arrived::NotThere),
             Step::Shows(1, 0, 1, 0),
@@ -311,7 +317,7 @@ static ROWS: [Row; 13] = [
         &[Plan::RootWith(1, Policy::Never, 0), Plan::Child(0, 1)],
         &[
             Step::Leaves(0, Arrived::At(0)),
-            Step::Leaves(0, turns(0, 0)),
+            Step::LeavesLast(0, 0, 0),
             Step::Finishes(0, false),
             Step::Arrives(1, Arrived::NotThere),
             Step::Shows(1, 1, 1, 0),
@@ -324,7 +330,7 @@ static ROWS: [Row; 13] = [
         &[Plan::Root(0), Plan::Child(0, 2)],
         &[
             Step::Leaves(1, Arrived::At(0)),
-            Step::Leaves(1, turns(0, 0)),
+            Step::LeavesLast(1, 0, 0),
             Step::Finishes(0, true),
             Step::Shows(0, -2147483647, 0, 0),
             Step::Leaves(1, Arrived::Dead(-2147483647)),
@@ -334,7 +340,7 @@ static ROWS: [Row; 13] = [
         "a refused climb changes nothing",
         &[Plan::Root(0), Plan::Child(0, 0), Plan::Child(1, 1)],
         &[
-            Step::Arrives(0, turns(0, 1)),
+            Step::ArrivesLast(0, 0, 1),
             Step::Arrives(2, Arrived::NotThere),
             Step::Leaves(2, Arrived::NotThere),
             Step::Shows(2, 0, 1, 0),
@@ -355,7 +361,7 @@ static ROWS: [Row; 13] = [
             Step::Leaves(0, Arrived::At(0)),
             Step::Leaves(1, Arrived::At(0)),
             Step::Leaves(1, Arrived::At(0)),
-            Step::Leaves(1, turns(0, 0)),
+            Step::LeavesLast(1, 0, 0),
         ],
     ),
     (
@@ -363,7 +369,7 @@ static ROWS: [Row; 13] = [
         &[Plan::Root(1)],
         &[
             Step::Asks(0, 1, Registered::At(0)),
-            Step::Leaves(0, turns(0, 0)),
+            Step::LeavesLast(0, 0, 0),
             Step::Asks(0, 0, Registered::At(0)),
             Step::Asks(0, 1, Registered::Held),
             Step::Asks(0, 65536, Registered::TooMany),
@@ -389,7 +395,7 @@ static ROWS: [Row; 13] = [
         "a party arrives through an empty parent",
         &[Plan::Root(0), Plan::Child(0, 0), Plan::Child(1, 1)],
         &[
-            Step::Arrives(2, turns(0, 1)),
+            Step::ArrivesLast(2, 0, 1),
             Step::Shows(2, 0, 1, 1),
             Step::Shows(1, 0, 1, 1),
             Step::Finishes(0, false),
@@ -399,21 +405,14 @@ static ROWS: [Row; 13] = [
     ),
 ];
 
-/// Returns how many steps of a row have their expected effects before the first that does not, if its phasers can be declared.
-fn right_steps_of(alloc: Global, row: &Row) -> Option<usize> {
-    let (_, plans, steps) = *row;
-    match planted(alloc, plans) {
-        Some(mut forest) => Some(right_steps(&mut forest, steps)),
-        None => None,
-    }
-}
-
 #[test]
 fn what_is_to_come_comes_true(rt: HostRuntime) {
-    for row in &ROWS {
-        let (name, _, steps) = row;
-        match right_steps_of(rt.alloc(), row) {
-            Some(right) => assert!(rt; right == steps.len(), "{name}: {right}"),
+    for (name, plans, steps) in &ROWS {
+        match planted(rt.alloc(), plans) {
+            Some(mut forest) => {
+                let right = right_steps(&mut forest, steps);
+                assert!(rt; right == steps.len(), "{name}: {right}");
+            }
             None => assert!(rt; false, "{name}"),
         }
     }
@@ -431,7 +430,7 @@ fn eight_arrive(forest: &mut Forest) -> bool {
 
 static THE_NINTH: [Step; 5] = [
     Step::Shows(7, 0, 1, 1),
-    Step::Arrives(63, turns(0, 9)),
+    Step::ArrivesLast(63, 0, 9),
     Step::Finishes(0, false),
     Step::Shows(63, 1, 1, 0),
     Step::Shows(0, 1, 9, 0),
