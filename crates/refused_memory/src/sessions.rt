@@ -97,7 +97,8 @@ fn stepped(trial: Trial, debugger: &mut Debugger) -> Answer {
     answer.provided(goes_on(trial.alloc, debugger, count))
 }
 
-/// `Debugger::go` after the second choice: it stops before an `out`, out of memory, and the choices before it stay.
+/// `Debugger::go` with the meeting's last five choices, after the first two. If memory is refused, it stops before one of the two
+/// that put a value out, after 1 or 3 of the five, and these stay.
 fn gone(trial: Trial, debugger: &mut Debugger) -> Answer {
     let (_, rest) = TURNS.split_at(2);
     trial.begin();

@@ -48,18 +48,13 @@ fn turns(alloc: Global, threads: &[u8]) -> Result<Vec<Choice>, AllocError> {
 
 /// The machine of the meeting after these choices, if its program is played.
 fn played(alloc: Global, choices: &[Choice]) -> Option<Machine> {
-    match image_of(alloc, MEETING) {
-        Some(image) => play(alloc, image, choices).ok(),
-        None => None,
-    }
+    play(alloc, image_of(alloc, MEETING)?, choices).ok()
 }
 
 /// The machine of the meeting after a turn of each of these threads, if its program is played.
 fn met(alloc: Global, threads: &[u8]) -> Option<Machine> {
-    match turns(alloc, threads) {
-        Ok(choices) => played(alloc, choices.as_slice()),
-        Err(_) => None,
-    }
+    let choices = turns(alloc, threads).ok()?;
+    played(alloc, choices.as_slice())
 }
 
 /// They meet, and both go on with phase 1.
@@ -194,10 +189,7 @@ fn goes_on_and_back(debugger: &mut Debugger) -> bool {
 
 /// The session of the meeting that keeps one choice.
 fn begun(alloc: Global) -> Option<Debugger> {
-    match met(alloc, &[]) {
-        Some(machine) => session::begin(alloc, machine, 1).ok(),
-        None => None,
-    }
+    session::begin(alloc, met(alloc, &[])?, 1).ok()
 }
 
 #[test]
@@ -330,10 +322,7 @@ fn takes_one_turn(journaled: &mut Journaled) -> bool {
 
 /// The record of the meeting before the first step.
 fn record_of_meeting(alloc: Global) -> Option<Journaled> {
-    match program_of(alloc, MEETING) {
-        Some(program) => begin(alloc, program, 10).ok(),
-        None => None,
-    }
+    begin(alloc, program_of(alloc, MEETING)?, 10).ok()
 }
 
 #[test]

@@ -1,8 +1,9 @@
 //! Commands over ports in memory, of which one fails at one of its calls. What was written before is a beginning of the whole,
-//! and the exit status and the line say whether a read or a write failed.
+//! and the exit status and the line say whether a read or a write failed. Besides, `live` and `race` are played over ports that
+//! don't fail.
 use crate::programs::{LISTED, MEETING, MEETING_RUN, TRACE, image_of};
 use byte_ports::{MemorySink, MemorySource};
-use row_code::{Image, write_image};
+use row_code::write_image;
 use std::alloc::{AllocError, Global};
 use std::sync::Wait;
 use std::thread::Threads;
@@ -92,7 +93,7 @@ struct Came {
     errors: MemorySink,
 }
 
-/// The number of the call that fails, of the port that does.
+/// Returns which call of this port fails: the one of this number if the port is the failing one, otherwise none.
 fn fails(port: Port, failing: Port, call: u32) -> Option<u32> {
     if port == failing { Some(call) } else { None }
 }
@@ -183,21 +184,15 @@ fn is_right_verdict(alloc: Global, call: u32) -> bool {
 
 /// Returns whether the image of `halt` reports that its port failed at this call, after a beginning of the whole, or else
 /// everything is there.
-fn is_written(alloc: Global, image: &Image, call: u32) -> bool {
-    match MemorySink::new(alloc, 1000, Some(call)) {
-        Ok(mut output) => {
-            let is_made = write_image(image, &mut output).is_ok();
-            HALT.starts_with(output.bytes()) && is_made == (output.bytes() == HALT)
-        }
-        Err(_) => false,
-    }
-}
-
 fn is_right_image(alloc: Global, call: u32) -> bool {
-    match image_of(alloc, ".thread a main\nmain: halt\n") {
-        Some(image) => is_written(alloc, &image, call),
-        None => false,
-    }
+    let Some(image) = image_of(alloc, ".thread a main\nmain: halt\n") else {
+        return false;
+    };
+    let Ok(mut output) = MemorySink::new(alloc, 1000, Some(call)) else {
+        return false;
+    };
+    let is_made = write_image(&image, &mut output).is_ok();
+    HALT.starts_with(output.bytes()) && is_made == (output.bytes() == HALT)
 }
 
 #[test]

@@ -36,10 +36,7 @@ fn ends_at_the_most(machine: &mut Machine) -> bool {
 fn machine_of(alloc: Global, text: &str, limit: u32) -> Option<Machine>
     requires { limit ≤ 1000000000 }
 {
-    match program_of(alloc, text) {
-        Some(program) => Machine::new(alloc, program, limit).ok(),
-        None => None,
-    }
+    Machine::new(alloc, program_of(alloc, text)?, limit).ok()
 }
 
 #[test]

@@ -69,7 +69,7 @@ impl Script {
         }
     }
 
-    /// Waits until so many passes of a thread have begun.
+    /// Waits until so many passes of a thread have begun. After too many looks the script has failed.
     fn hold(&self, thread: u8, passes: u32) {
         for _ in 0..MOST_LOOKS {
             if self.begun(thread) >= passes {

@@ -29,10 +29,7 @@ pub fn image_of(alloc: Global, text: &str) -> Option<Image> {
 
 /// The program of a text, if it is loaded.
 pub fn program_of(alloc: Global, text: &str) -> Option<Loaded> {
-    match image_of(alloc, text) {
-        Some(image) => load(alloc, image).ok(),
-        None => None,
-    }
+    load(alloc, image_of(alloc, text)?).ok()
 }
 
 /// Returns whether a machine shows this state.

@@ -24,11 +24,8 @@ const CALLS: u32 = 20;
 
 /// A debugger that has carried out no command.
 fn begun(alloc: Global) -> Option<Debugger> {
-    let image = image_of(alloc, MEETING)?;
-    match first_machine(alloc, image) {
-        Ok(machine) => Debugger::new(alloc, machine, 100).ok(),
-        Err(_) => None,
-    }
+    let machine = first_machine(alloc, image_of(alloc, MEETING)?).ok()?;
+    Debugger::new(alloc, machine, 100).ok()
 }
 
 /// Carries out a command, and returns the reply, if there is no fault.
@@ -68,25 +65,13 @@ fn is_like(alloc: Global, debugger: &mut Debugger, other: &mut Debugger) -> bool
     are_alike(alloc, debugger.machine(), other.machine()) && stop_alike(alloc, debugger, other)
 }
 
-/// Returns the reply to a command after so many others.
-fn reply_behind(
-    alloc: Global,
-    debugger: &mut Debugger,
-    count: usize,
-    line: &str,
-) -> Option<MemorySink> {
-    if carries_out(alloc, debugger, count) {
-        answered(alloc, debugger, line)
-    } else {
-        None
-    }
-}
-
 /// Returns the reply of a new debugger to a command after so many others.
 fn reply(alloc: Global, count: usize, line: &str) -> Option<MemorySink> {
-    match begun(alloc) {
-        Some(mut debugger) => reply_behind(alloc, &mut debugger, count, line),
-        None => None,
+    let mut debugger = begun(alloc)?;
+    if carries_out(alloc, &mut debugger, count) {
+        answered(alloc, &mut debugger, line)
+    } else {
+        None
     }
 }
 

@@ -115,10 +115,7 @@ fn records(journaled: &mut Journaled, row: &Row) -> bool {
 
 /// The record of a text's run before the first step.
 fn record_of(alloc: Global, text: &str, limit: u32) -> Option<Journaled> {
-    match program_of(alloc, text) {
-        Some(program) => Journaled::new(alloc, program, limit.min(1_000_000_000)).ok(),
-        None => None,
-    }
+    Journaled::new(alloc, program_of(alloc, text)?, limit.min(1_000_000_000)).ok()
 }
 
 fn holds(alloc: Global, row: &Row) -> bool {

@@ -73,7 +73,8 @@ fn played_often<R: Threads + Wait + Sync>(
     }
 }
 
-/// Plays the program in a file on real threads, once, or as often as is asked for.
+/// Plays the program in a file on real threads: once, and writes the trace, or `runs` times, and writes how the runs ended. By a
+/// `seed` the threads pause a little before some of their turns.
 pub fn live<R: Threads + Wait + Sync>(
     threads: &R,
     report: &Report<'_>,
