@@ -6,6 +6,7 @@ import java.nio.file.DirectoryIteratorException;
 import java.nio.file.DirectoryStream;
 import java.nio.file.Files;
 import java.nio.file.Path;
+import java.util.ArrayList;
 import java.util.HashMap;
 import java.util.List;
 import java.util.Map;
@@ -18,6 +19,7 @@ final class Tasks {
     private static final long BETWEEN_LOOKS = 10_000_000;
     /** Whoever has had a processor for so long has begun what it was told, in nanoseconds. */
     private static final long LONG_ENOUGH = 1_000_000;
+    private static final boolean HAS_CHILDREN = Files.exists(Path.of("/proc/thread-self/children"));
     private static final boolean HAS_TIMES = Files.exists(Path.of("/proc/self/schedstat"));
 
     /** What is seen of a task: whether it sleeps, how long it has run, in nanoseconds, and how often it was given a processor. */
@@ -30,13 +32,47 @@ final class Tasks {
     private long marked;
 
     Tasks(Process process) {
-        this(Stream.concat(Stream.of(process.toHandle()), process.descendants())
-            .map(each -> Path.of("/proc/" + each.pid() + "/task")).toList());
+        this(folders(process));
     }
 
     /** {@code folders} have a folder for each task. */
     Tasks(List<Path> folders) {
         this.folders = folders;
+    }
+
+    private static List<Path> folders(Process process) {
+        if (!HAS_CHILDREN) {
+            return Stream.concat(Stream.of(process.toHandle()), process.descendants()).map(each -> folder(each.pid())).toList();
+        }
+        List<Path> found = new ArrayList<>(List.of(folder(process.pid())));
+        for (int at = 0; at < found.size(); at++) {
+            addChildren(found.get(at), found);
+        }
+        return found;
+    }
+
+    private static Path folder(long process) {
+        return Path.of("/proc/" + process + "/task");
+    }
+
+    /** Without a look at each process of the system. */
+    private static void addChildren(Path folder, List<Path> to) {
+        try (DirectoryStream<Path> tasks = Files.newDirectoryStream(folder)) {
+            for (Path task : tasks) {
+                children(task).filter(word -> !word.isEmpty()).forEach(word -> to.add(folder(Long.parseLong(word))));
+            }
+        } catch (IOException | DirectoryIteratorException gone) {
+            return;
+        }
+    }
+
+    /** None of a task that ends meanwhile. */
+    private static Stream<String> children(Path task) {
+        try {
+            return Stream.of(text(task.resolve("children")).split(" "));
+        } catch (IOException gone) {
+            return Stream.empty();
+        }
     }
 
     /** Whether they are at rest whenever one looks, for a while. */
