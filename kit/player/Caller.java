@@ -193,11 +193,15 @@ final class Caller {
         return WaitTime.runsOut(real, transcribed, until);
     }
 
-    /** How long the choices and the expiries after the one step take, up to the other, on a machine that is as busy as now. */
+    /**
+     * How long the choices and the expiries after the one step take, up to the other, on a machine that is as busy as now. How long a
+     * question takes there has been measured.
+     */
     private long realTime(int step, int until) {
         long settle = scene.patience.settle();
-        return (long) (Load.factor() * (scene.plan.expiriesBetween(step, until) * (scene.patience.expiry() + 4 * settle)
-            + (until - step) * (2 * settle + TRIPS_OF_A_CHOICE * scene.roundTrip())));
+        long expiries = scene.plan.expiriesBetween(step, until) * (scene.patience.expiry() + 4 * settle);
+        long choices = until - step;
+        return (long) (Load.factor() * (expiries + 2 * choices * settle)) + choices * TRIPS_OF_A_CHOICE * scene.roundTrip();
     }
 
     private long transcribedTime(int step, int until) {

@@ -63,6 +63,7 @@ final class CommandChecks {
         String reset = folder("reset");
         String one = reset + "/a-timed-wait.txt";
         List<Check> checks = List.of(
+            new Check(0, "kit/play [OPTION].. CASE [--trace FILE]\n", "--help"),
             new Check(2, "there is no case in", reset, room.toString()),
             new Check(2, "--random" + NO_NUMBER, "--random", "-5"),
             new Check(2, "--random" + NO_NUMBER, "--random", "0"),

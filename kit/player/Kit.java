@@ -100,7 +100,7 @@ public final class Kit {
         }
     }
 
-    /** All that mostly waits is played at once, and the bursts, which need the processors, behind it. */
+    /** All that mostly waits is played at once, and the bursts, which need the processors, behind it: first those on what is right. */
     private boolean check(String python, String lockFree, List<Port> all) {
         List<Port> ports = all.stream().filter(port -> port.bursts() > 0).toList();
         Map<String, Body> atOnce = new LinkedHashMap<>();
@@ -129,15 +129,17 @@ public final class Kit {
         atOnce.put("the model", this::checkModel);
         play(atOnce);
         play("bursts on the JDK", part -> bursts(part).checkJdk());
-        play("wrong adapters for bursts", part -> bursts(part).checkAdapters(
-            new WrongAdapters(kit.resolve("wrong").resolve("burst"), "kit.wrong.burst")));
         ports.forEach(port -> play("bursts on `" + port.command() + "`", part -> bursts(part).checkPort(port)));
-        play("ports that lose interrupts",
+        Map<String, Body> wrong = new LinkedHashMap<>();    // many are found when they wait for ever
+        wrong.put("wrong adapters for bursts", part -> bursts(part).checkAdapters(
+            new WrongAdapters(kit.resolve("wrong").resolve("burst"), "kit.wrong.burst")));
+        wrong.put("ports that lose interrupts",
             part -> all.stream().filter(port -> port.bursts() == 0).forEach(port -> bursts(part).checkLosesInterrupts(port)));
         if (!lockFree.isEmpty()) {
-            play("a phaser without a lock",
+            wrong.put("a phaser without a lock",
                 part -> bursts(part).checkLockFree(kit.resolve("wrong/lockfree/table.txt"), lockFree));
         }
+        play(wrong);
         System.out.println(passed + " passed, " + failed + " failed");
         return failed == 0;
     }

@@ -30,6 +30,10 @@ public final class Player {
 
     /** Answers the exit status. */
     static int run(String[] words, PrintStream to, PrintStream errors) throws IOException {
+        if (List.of(words).contains("--help")) {
+            to.println(Options.USAGE);
+            return 0;
+        }
         try {
             return new Player(new Options(words), to).run();
         } catch (Options.Wrong | Vuthgal.Refused wrong) {

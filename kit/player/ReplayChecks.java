@@ -66,6 +66,7 @@ final class ReplayChecks {
         for (Kit.Port port : ports) {
             checks.add(() -> soak(0, "while 60 threads wait: ", port.command()));
         }
+        checks.add(() -> soak(0, "What a port costs that waits: ", "--help"));
         checks.add(() -> soak(0, "left out: it makes no barrier\n", python + " " + kit.resolve("faults/port.py") + " without barrier"));
         checks.add(() -> soak(1, " 0.0 bytes a wait are left, resident\n", wrong + "polls.py"));
         checks.add(() -> soak(1, "while 60 threads wait: 0.", wrong + "keeps_waits.py"));
