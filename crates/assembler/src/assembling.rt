@@ -19,8 +19,8 @@ use std::alloc::Global;
 ///
 /// It reads the text line by line and stops at the first line with a fault. Then it looks up every name. The first line that
 /// refers to an unknown one has the fault `UnknownName`. The expected time is linear in the length of the text, whatever its
-/// names are. It doesn't check whether a row or an object that the text names by its number exists. `Memory` has the line that
-/// was being read, or the last line if names were being looked up.
+/// names are. An object that the text names by its number need not exist. `Memory` has the line that was being read, or the
+/// last line if names were being looked up.
 pub fn assemble(alloc: Global, text: &[u8]) -> Result<Image, AsmFault>
     // The returned image is the one that the text stands for.
     ensures found { IfOk result (λ image. StandsFor text.now image) }
@@ -45,17 +45,10 @@ pub fn assemble(alloc: Global, text: &[u8]) -> Result<Image, AsmFault>
 /// Returns the image of a program's text, as `assemble` does, or its fault with the place in its line.
 #[tactic(auto, unfolding(crate::specs::Passes::assembled))]
 pub fn assemble_placed(alloc: Global, text: &[u8]) -> Result<Image, PlacedFault>
-    // The returned image is the one that the text stands for.
     ensures found { IfOk result (λ image. StandsFor text.now image) }
-
-    // The image that a text stands for is returned, unless memory runs out.
     ensures only { (image : Image) → StandsFor text.now image →
         AnswersPlaced (λ answered. answered) result (Ok image) }
-
-    // Which fault it is, and at which line.
     ensures exact { AnswersPlaced (λ image. image) result (assembled text.now) }
-
-    // Out of memory is also reported with a line of the text, or with the first if the text has none.
     ensures memory { IfErr result (λ e. e.fault.kind ≡ fault.Memory
         → (1 ≤ e.fault.line) × (e.fault.line ≤ max (length (lines_of text.now)) 1)) }
 {
@@ -66,19 +59,12 @@ pub fn assemble_placed(alloc: Global, text: &[u8]) -> Result<Image, PlacedFault>
     image_of(alloc, &draft, text, lines.max(1))
 }
 
-/// The image of a text, and the text's names: what they name, and the line of each row.
+/// Returns the image of a text, as `assemble_placed` does, and its names: what each one names, and the line of each row.
 #[tactic(auto, unfolding(crate::specs::Passes::assembled, crate::specs::Symbols::symbols_in))]
 pub fn assemble_named(alloc: Global, text: &[u8]) -> Result<(Image, Symbols<'_>), PlacedFault>
-    // The image is the one that the text stands for.
     ensures found { IfOk result (λ both. StandsFor text.now both.0) }
-
-    // The names are those of the text.
     ensures symbols { IfOk result (λ both. symbols_in text.now ≡ Ok both.1) }
-
-    // Which fault it is, and at which line.
     ensures exact { AnswersPlaced (λ both. both.0) result (assembled text.now) }
-
-    // As above.
     ensures memory { IfErr result (λ e. e.fault.kind ≡ fault.Memory
         → (1 ≤ e.fault.line) × (e.fault.line ≤ max (length (lines_of text.now)) 1)) }
 {

@@ -56,7 +56,7 @@ impl<'a> Model for Draft<'a> {
         (places d.names) (map symbol_there d.names.entries) d.counts d.has_code };
 }
 
-/// Returns the name that a statement gives.
+/// Returns the name that a statement declares. A row without a label declares none.
 pub fn name_in<'a>(statement: &Statement<&'a [u8]>) -> Option<&'a [u8]>
     ensures { option_map name_seen result ≡ name_in (statement_seen statement.now) }
 {
@@ -69,7 +69,7 @@ pub fn name_in<'a>(statement: &Statement<&'a [u8]>) -> Option<&'a [u8]>
     }
 }
 
-/// Returns the kind of what that name refers to.
+/// Returns the kind of what the statement's name refers to. A label refers to a row (`Target`).
 pub fn kind_named(statement: &Statement<&[u8]>) -> OperandKind
     ensures { result ≡ kind_named (statement_seen statement.now) }
 {
@@ -82,7 +82,7 @@ pub fn kind_named(statement: &Statement<&[u8]>) -> OperandKind
     }
 }
 
-/// Returns the most objects of a kind that a program may have.
+/// Returns how many rows, or objects of a kind, a program may have.
 fn most(kind: OperandKind) -> u16
     ensures { result ≡ most kind }
 {
@@ -93,6 +93,7 @@ fn most(kind: OperandKind) -> u16
     }
 }
 
+/// Returns how many rows or objects of a kind there are. A register or a number is neither.
 fn counted(counts: &Counts, kind: OperandKind) -> u16
     ensures { result ≡ counted counts.now kind }
 {
@@ -106,7 +107,7 @@ fn counted(counts: &Counts, kind: OperandKind) -> u16
     }
 }
 
-/// Counts what a line adds.
+/// Returns the counts after one more line. A label alone adds nothing.
 fn counted_with(counts: Counts, line: &KeptLine<'_>) -> Counts
     requires { let said = statement_kept line.now in
         counted counts (kind_named said) + adds (kind_named said) said < 65536 }
@@ -138,14 +139,14 @@ fn counted_with(counts: Counts, line: &KeptLine<'_>) -> Counts
     }
 }
 
-/// Returns whether there is code after one more line.
+/// Returns whether a label or a row was read, after one more line.
 fn code_with(has_code: bool, line: &KeptLine<'_>) -> bool
     ensures { result ≡ (has_code || is_code (statement_kept line.now)) }
 {
     has_code || line.is_code()
 }
 
-/// Returns what the name of a line refers to, after objects with these counts.
+/// Returns what the name of a line refers to: the next row or object of its kind, after so many.
 fn place_behind(counts: &Counts, line: &KeptLine<'_>) -> Place
     ensures { let kind = kind_named (statement_kept line.now) in
         result ≡ record { kind = kind; number = counted counts.now kind } }
@@ -157,7 +158,7 @@ fn place_behind(counts: &Counts, line: &KeptLine<'_>) -> Place
     }
 }
 
-/// Adds a name, if there is one, to those that are there. Returns `None` if it is out of memory.
+/// Adds a name, if there is one, to those that are there. Fails if it is out of memory, and then adds nothing.
 #[inline(always)]
 fn add_name<'a>(
     names: &mut IndexMap<NameKey<'a>, Place, NameHash>,
@@ -195,7 +196,7 @@ pub fn number_there(kind: OperandKind, place: Option<Place>) -> Option<u16>
 }
 
 impl<'a> Draft<'a> {
-    /// Before the first line of the text that this hashes the names of.
+    /// Makes a draft without lines. `hash` is the hash of the names of its text.
     pub fn new(alloc: Global, hash: NameHash) -> Draft<'a>
         ensures { result ≡ [] }
     {
@@ -214,35 +215,35 @@ impl<'a> Draft<'a> {
         }
     }
 
-    /// The lines that say something.
+    /// Returns the lines so far that say something.
     pub fn lines(&self) -> &[KeptLine<'a>]
         ensures { map line_kept result.now ≡ self.now }
     {
         &self.lines
     }
 
-    /// The names in order of declaration, each with what it names.
+    /// Returns the names in order of declaration, each with what it names.
     pub fn into_names(self) -> IndexMap<NameKey<'a>, Place, NameHash>
         ensures { map symbol_there result.entries ≡ (symbols_of self.entry).names }
     {
         self.names
     }
 
-    /// Returns whether a label or a row was read.
+    /// Returns whether a label or a row was read. No directive may follow one.
     pub fn has_code(&self) -> bool
         ensures { result ≡ has_code self.now }
     {
         self.has_code
     }
 
-    /// Returns whether a line gives this name.
+    /// Returns whether a line so far gives this name.
     pub fn is_given(&self, name: &[u8]) -> bool
         ensures { result ≡ is_given name.now self.now }
     {
         self.names.get(&NameKey { bytes: name }).is_some()
     }
 
-    /// Returns what a name refers to, if it is given.
+    /// Returns what a name refers to, or `None` if no line so far gives it.
     pub fn place_named(&self, name: &[u8]) -> Option<Place>
         ensures given { is_some result ≡ is_given name.now self.now }
         ensures number { (kind : OperandKind) →
@@ -251,7 +252,7 @@ impl<'a> Draft<'a> {
         self.names.get(&NameKey { bytes: name }).copied()
     }
 
-    /// Returns whether there is room for what a statement adds.
+    /// Returns whether there is room for the row or the object that a statement adds. A label adds none.
     pub fn has_room(&self, statement: &Statement<&'a [u8]>) -> bool
         ensures { result ≡ has_room self.now (statement_seen statement.now) }
     {
@@ -279,7 +280,7 @@ impl<'a> Draft<'a> {
         number_there(kind, self.place_named(name))
     }
 
-    /// Returns the number of the row or the object of this kind that is referred to, if there is one.
+    /// Returns the number that a reference has, or that its name has, if something of this kind has this name.
     pub fn referent(&self, kind: OperandKind, reference: &Reference<&'a [u8]>) -> Option<u16>
         ensures { result ≡ referent self.now kind (reference_seen reference.now) }
     {
@@ -289,7 +290,7 @@ impl<'a> Draft<'a> {
         }
     }
 
-    /// Appends a directive that may follow the lines so far. Returns `None` if it is out of memory.
+    /// Appends a directive that may follow the lines so far. Fails if it is out of memory.
     pub fn push_directive(
         &mut self,
         number: u64,
@@ -304,7 +305,7 @@ impl<'a> Draft<'a> {
         self.push(line)
     }
 
-    /// Appends a line that may follow the lines so far. Returns `None` if it is out of memory.
+    /// Appends a line that may follow the lines so far. Fails if it is out of memory, and then appends nothing.
     #[inline(always)]
     pub fn push(&mut self, line: KeptLine<'a>) -> Result<(), AllocError>
         requires { Follows self.old (statement_kept line) }

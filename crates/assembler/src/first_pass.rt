@@ -1,3 +1,4 @@
+//! From a text to its draft: each line is read after the lines before it, and added.
 ghost use Rattle.std.specs.Prelude.{◌≡◌, ◌<◌, ◌≤◌, [], ◌∷◌, IfErr, IfOk, IsErr, Ok, OnOk, false, length, map, true};
 ghost use Rattle.line_reader.specs.Reading.{is_directive, is_label};
 ghost use Rattle.assembler.specs.Answers.{AnswersAt, AnswersPlaced, at_line};
@@ -19,7 +20,7 @@ use line_reader::first_line::put_line;
 use line_reader::label::is_label;
 use std::alloc::{AllocError, Global};
 
-/// Returns whether a line was added: it is read already, so only memory can be missing.
+/// Returns whether a line was added. It was read without a fault, so only memory can be missing.
 #[inline(always)]
 fn pushed(added: Result<(), AllocError>) -> Result<(), WordFault>
     ensures ok { OnOk result (added ≡ Ok tt) }
@@ -31,7 +32,7 @@ fn pushed(added: Result<(), AllocError>) -> Result<(), WordFault>
     }
 }
 
-/// Adds what a label in the line of this number says, and what follows it.
+/// Adds the line of this number, which begins with the label `word` and may have a row after it.
 #[inline(never)]
 #[tactic(auto, unfolding(crate::specs::Reading::words_behind))]
 fn add_labelled<'a>(
@@ -48,7 +49,7 @@ fn add_labelled<'a>(
     pushed(draft.push(line))
 }
 
-/// Adds what a directive in the line of this number says.
+/// Adds the line of this number, a directive that `word` begins.
 #[inline(never)]
 #[tactic(auto, unfolding(crate::specs::Reading::words_behind, crate::specs::Reading::statement_behind))]
 fn add_directive<'a>(
@@ -66,7 +67,7 @@ fn add_directive<'a>(
     pushed(draft.push_directive(number, said))
 }
 
-/// Adds what a row in the line of this number says.
+/// Adds the line of this number, a row without a label that `word` begins.
 #[inline(always)]
 #[tactic(auto, unfolding(crate::specs::Reading::words_behind, crate::specs::Reading::statement_behind))]
 fn add_row<'a>(
@@ -84,7 +85,7 @@ fn add_row<'a>(
     pushed(draft.push(KeptLine::Row(number, row)))
 }
 
-/// Adds what the words of the line of this number say.
+/// Adds the line of this number, which has these words. A line without words adds nothing.
 #[inline(always)]
 #[tactic(auto, unfolding(crate::specs::Reading::words_behind))]
 fn add_words<'a>(draft: &mut Draft<'a>, number: u64, words: &[&'a [u8]]) -> Result<(), WordFault>
@@ -105,8 +106,7 @@ fn add_words<'a>(draft: &mut Draft<'a>, number: u64, words: &[&'a [u8]]) -> Resu
     }
 }
 
-/// Adds what the first line of a text says, which has this number, and returns what follows it. The list is only a buffer for
-/// its words.
+/// Adds the first line of a text, which has this number. Returns the text after it. The list is only a buffer for words.
 #[inline(always)]
 #[tactic(auto, unfolding(crate::specs::Reading::line_behind))]
 fn read_line<'a>(
@@ -126,7 +126,7 @@ fn read_line<'a>(
     Ok(after)
 }
 
-/// Reads all lines of a text: what they say, and how many lines there are.
+/// Returns what the lines of a text say, and how many lines there are, or the first fault with its place.
 pub fn lines_read(alloc: Global, text: &[u8]) -> Result<(Draft<'_>, u64), PlacedFault>
     ensures read { AnswersPlaced (λ x. x.0) result (lines_read 1 [] (lines_of text.now)) }
     ensures lines { IfOk result (λ x. x.1 ≡ length (lines_of text.now)) }

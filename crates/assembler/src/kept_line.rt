@@ -11,10 +11,8 @@ use line_reader::symbolic_phaser::SymbolicPhaser;
 use line_reader::symbolic_thread::SymbolicThread;
 use std::alloc::{AllocError, Global};
 
-/// A line that says something, with its number from 1, as it is stored until its names are looked up.
-///
-/// It takes 64 bytes, because a text may have 65,535 rows. The parts of phasers and barriers, which are few, are stored
-/// elsewhere.
+/// A line that says something, with its number from 1, as it is stored until its names are looked up. It takes 64 bytes,
+/// because a text may have 65,535 rows. The parts of phasers and barriers, which are few, are stored elsewhere.
 #[derive(Drop)]
 pub enum KeptLine<'a> {
     Phaser(u64, Box<SymbolicPhaser<&'a [u8]>>),
@@ -27,7 +25,7 @@ pub enum KeptLine<'a> {
 }
 
 impl<'a> KeptLine<'a> {
-    /// Makes the line of a directive. Returns `None` if it is out of memory.
+    /// Makes the line of a directive: it declares a phaser, a barrier, a thread or a cell. Fails if it is out of memory.
     pub fn of_directive(
         alloc: Global,
         number: u64,
@@ -60,7 +58,7 @@ impl<'a> KeptLine<'a> {
         }
     }
 
-    /// Returns the name that the line gives.
+    /// Returns the name that the line declares, if it declares one.
     pub fn name(&self) -> Option<&'a [u8]>
         ensures { option_map name_seen result ≡ name_in (statement_kept self.now) }
     {
@@ -74,7 +72,7 @@ impl<'a> KeptLine<'a> {
         }
     }
 
-    /// Returns the kind of what that name refers to.
+    /// Returns the kind of what the line's name refers to. A label refers to a row (`Target`).
     pub fn kind_named(&self) -> OperandKind
         ensures { result ≡ kind_named (statement_kept self.now) }
     {

@@ -5,17 +5,16 @@ ghost use Rattle.std.specs.Hash.DefaultHasher.{initial, write};
 
 use std::hash::{BuildHasher, DefaultHasher, Hash, Hasher};
 
-/// Hashes each name together with the whole text that it is in.
-///
-/// A map of names with a fixed hash is slow for a text whose labels were chosen to collide in it. Here a changed label changes
-/// the text, and so the hash of each name. Nobody can tell which names collide before the text is written.
+/// Hashes each name together with the whole text that it is in. A map of names with a fixed hash is slow for a text whose
+/// labels were chosen to collide in it. Here a changed label changes the text, and so the hash of each name. Nobody can tell
+/// which names collide before the text is written.
 #[derive(Clone, Copy)]
 pub struct NameHash {
     behind_text: DefaultHasher,
 }
 
 impl NameHash {
-    /// The hash of the names of this text.
+    /// Returns the hash for the names of this text.
     pub fn new(text: &[u8]) -> NameHash
         ensures { result.behind_text ≡ write initial text.now }
     {
@@ -30,6 +29,7 @@ impl BuildHasher for NameHash {
 
     ghost build_hasher = { λ hash. hash.behind_text };
 
+    /// Returns a hasher that has read the text, and is to read a name.
     fn build_hasher(&self) -> DefaultHasher {
         self.behind_text
     }

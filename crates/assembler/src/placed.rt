@@ -30,7 +30,7 @@ pub struct PlacedFault {
 }
 
 impl PlacedFault {
-    /// Out of memory at this line.
+    /// Returns the fault of being out of memory at this line.
     pub fn memory(line: u64) -> PlacedFault
         ensures { result.fault ≡ record { line = line; kind = kinds.Memory } }
     {
@@ -45,7 +45,7 @@ impl PlacedFault {
     }
 }
 
-/// The place in a line of so many words of this fault.
+/// Returns the place of a fault in its line, which has so many words: of the forbidden byte, or of the faulty word.
 fn place_in(line: &[u8], fault: WordFault, words: usize) -> Option<WordPlace> {
     if fault.kind == AsmFaultKind::BadByte {
         let at = place_of_forbidden(line)?;
@@ -60,7 +60,7 @@ fn place_in(line: &[u8], fault: WordFault, words: usize) -> Option<WordPlace> {
     )
 }
 
-/// The fault of the line of this number of a text, which has so many words.
+/// Returns the fault of a line, which has this number and so many words, with its place in the line.
 pub fn placed(number: u64, fault: WordFault, text: &[u8], words: usize) -> PlacedFault
     ensures { result.fault ≡ record { line = number; kind = fault.kind } }
 {
@@ -77,7 +77,7 @@ pub fn placed(number: u64, fault: WordFault, text: &[u8], words: usize) -> Place
     }
 }
 
-/// The name that a reference is, and what it should name, unless something of this kind has it.
+/// Returns the name in a reference, and the kind that it should name, if nothing of this kind has the name.
 fn unknown_in<'a>(
     draft: &Draft<'_>,
     wanted: OperandKind,
@@ -91,7 +91,7 @@ fn unknown_in<'a>(
     }
 }
 
-/// The name of a line that isn't known, and what it should name.
+/// Returns the first unknown name in a line, and the kind that it should name. A row's name is taken for unknown.
 fn unknown_name<'a>(draft: &Draft<'_>, line: &KeptLine<'a>) -> Option<(&'a [u8], OperandKind)> {
     match line {
         KeptLine::Phaser(_, phaser) => {
@@ -118,7 +118,7 @@ fn unknown_name<'a>(draft: &Draft<'_>, line: &KeptLine<'a>) -> Option<(&'a [u8],
     }
 }
 
-/// The fault of a line of this text that has a name that isn't known.
+/// Returns the fault `UnknownName` of a line that refers to an unknown name, with the name's place in the line.
 pub fn unknown(draft: &Draft<'_>, line: &KeptLine<'_>, text: &[u8]) -> PlacedFault
     ensures { result.fault ≡ record { line = number_kept line.now; kind = kinds.UnknownName } }
 {

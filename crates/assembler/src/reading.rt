@@ -1,3 +1,4 @@
+//! How a line is read after the lines before it: which names are new, what has room, and where a directive may be.
 ghost use Rattle.std.specs.Prelude.{◌≡◌, IfOk, Option, false, map, option_map, true};
 ghost use Rattle.line_reader.specs.Seen.{seen_in};
 ghost use Rattle.line_reader.specs.Reading.{before_last, is_label};
@@ -18,7 +19,7 @@ use line_reader::label::before_last;
 use line_reader::name::name_at;
 use line_reader::statement::Statement;
 
-/// Returns whether the name that a statement gives is new, if it gives one.
+/// Returns whether no line so far gives this name. It is true if there is no name.
 fn is_new(draft: &Draft, name: Option<&[u8]>) -> bool
     ensures { result ≡ is_new draft.now (option_map name_seen name.entry) }
 {
@@ -28,7 +29,7 @@ fn is_new(draft: &Draft, name: Option<&[u8]>) -> bool
     }
 }
 
-/// Reads a directive after the lines so far.
+/// Reads a directive after the lines so far. None of them may be code; its name has to be new, and there has to be room.
 #[tactic(auto, unfolding(crate::specs::Reading::directive_behind))]
 pub fn directive_behind<'a>(
     draft: &Draft<'a>,
@@ -55,7 +56,7 @@ pub fn directive_behind<'a>(
     Ok(said)
 }
 
-/// Reads a row after the lines so far. Its label was checked before.
+/// Reads a row after the lines so far. There has to be room for it. Its label was checked before.
 #[inline(always)]
 #[tactic(auto, unfolding(crate::specs::Reading::row_behind))]
 pub fn row_behind<'a>(
@@ -97,7 +98,7 @@ fn labelled_behind<'a>(
     }
 }
 
-/// Reads a label in the line of this number, and what follows it, after the lines so far.
+/// Reads the label `word` in the line of this number, and what follows it. The label has to be a new name.
 #[tactic(auto, unfolding(crate::specs::Reading::statement_behind))]
 pub fn label_behind<'a>(
     draft: &Draft<'a>,

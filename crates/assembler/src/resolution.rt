@@ -16,7 +16,7 @@ use std::alloc::Global;
 mod lookups;
 mod parts;
 
-/// Makes the lists of an image, line by line.
+/// Makes the lists of an image, line by line, or returns the fault of the first line that refers to an unknown name.
 fn parts_of<'a>(
     alloc: Global,
     draft: &Draft<'a>,
@@ -45,8 +45,7 @@ fn parts_of<'a>(
     Ok(parts)
 }
 
-/// Looks up every name, and returns the image of all lines. `last` is the number of the text's last line, which is reported if
-/// it is out of memory.
+/// Looks up every name, and returns the image of all lines. `last` is the line that is reported if it is out of memory.
 pub fn image_of(alloc: Global, draft: &Draft, text: &[u8], last: u64) -> Result<Image, PlacedFault>
     requires fits { IsImage (image_of draft.now) }
     ensures found { AnswersPlaced (λ image. image) result

@@ -37,7 +37,7 @@ impl<'a> Model for Symbols<'a> {
     } };
 }
 
-/// The line of each row among these.
+/// Returns for each row among these lines the number of its line.
 fn row_lines(alloc: Global, lines: &[KeptLine<'_>]) -> Result<Vec<u64>, AllocError>
     ensures { IfOk result (λ rows. rows.items ≡ flat_map row_line (map line_kept lines.now)) }
 {
@@ -59,7 +59,7 @@ pub(crate) fn symbols_of<'a>(alloc: Global, draft: Draft<'a>) -> Result<Symbols<
     Ok(Symbols { names, rows })
 }
 
-/// Returns whether a symbol is the name of this object.
+/// Returns whether a symbol is a name of the row or the object of this kind and number.
 fn is_symbol_of(kind: OperandKind, number: u32, symbol: &Symbol<&[u8]>) -> bool
     ensures { result ≡ is_symbol_of kind number (symbol_seen symbol.now) }
 {
@@ -67,7 +67,7 @@ fn is_symbol_of(kind: OperandKind, number: u32, symbol: &Symbol<&[u8]>) -> bool
 }
 
 impl<'a> Symbols<'a> {
-    /// No names at all, as of an image.
+    /// Returns no names and no lines, for a program that is given as an image.
     pub fn none(alloc: Global) -> Symbols<'a>
         ensures { result ≡ record { names = []; rows = [] } }
     {
@@ -96,7 +96,7 @@ impl<'a> Symbols<'a> {
         })
     }
 
-    /// Returns the line of each row, from 1.
+    /// Returns for each row the number of its line, from 1.
     pub fn rows(&self) -> &[u64]
         ensures { result.now ≡ self.now.rows }
     {

@@ -15,7 +15,7 @@ pub struct WordPlace {
     pub length: usize,
 }
 
-/// Returns the line of this number, from 1.
+/// Returns the line of this number, from 1, if there is one.
 pub fn line_at(text: &[u8], number: u64) -> Option<&[u8]>
     ensures { IfSome result (λ line. slice_get (lines_of text.now) (number - 1) ≡ Some line.now) }
 {
@@ -32,14 +32,14 @@ pub fn line_at(text: &[u8], number: u64) -> Option<&[u8]>
     None
 }
 
-/// Where the first blank stands.
+/// Returns the place of the first blank, if there is one.
 fn place_of_blank(bytes: &[u8]) -> Option<usize>
     ensures { result ≡ position is_blank bytes.now }
 {
     bytes.iter().position(|byte| is_blank(*byte))
 }
 
-/// Returns what precedes the first blank, and what follows it.
+/// Returns what precedes the first blank, and what follows it. Without a blank these are the text and nothing.
 fn first_piece(text: &[u8]) -> (&[u8], &[u8])
     requires { 0 < length text.now }
     ensures words { words_in text.now ≡ word_alone result.0.now ++ words_in result.1.now }
@@ -54,7 +54,7 @@ fn first_piece(text: &[u8]) -> (&[u8], &[u8])
     }
 }
 
-/// The place of the word of this number, from 0, in a line without its comment.
+/// Returns the place of the word of this number, from 0, in a line without its comment, if there are so many.
 pub fn place_of_word(text: &[u8], number: usize) -> Option<WordPlace>
     ensures { IfSome result (IsWordAt text.now number) }
 {
@@ -76,7 +76,7 @@ pub fn place_of_word(text: &[u8], number: usize) -> Option<WordPlace>
     None
 }
 
-/// The place of the last word that is this one, in a line without its comment.
+/// Returns the place of the last word equal to `word` in a line without its comment, if there is one.
 pub fn last_place_of(text: &[u8], word: &[u8]) -> Option<WordPlace> {
     for number in (0..text.len()).rev() {
         if let Some(place) = place_of_word(text, number) {

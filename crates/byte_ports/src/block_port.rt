@@ -13,9 +13,8 @@ use std::marker::Model;
 /// How many bytes a block has.
 const BLOCK: usize = 65_536;
 
-/// A sink that collects bytes in a block, and passes whole blocks on to another sink. Use it for long output in short pieces:
-/// most calls only copy their bytes. Only `finish` passes on what is left in the block. If you drop the port instead, those bytes
-/// are lost.
+/// A sink that collects bytes in a block, and passes whole blocks on to another sink, so that most calls only copy their bytes.
+/// Only `finish` passes on what is left in the block. If you drop the port instead, those bytes are lost.
 #[derive(Drop)]
 pub struct BlockPort<K> {
     port: K,
@@ -52,7 +51,7 @@ impl<K: Sink + Drop> BlockPort<K> {
         })
     }
 
-    /// Hands on what is held.
+    /// Passes the bytes in the block on to the sink, and empties the block. If the sink fails, the port has failed.
     fn hand_on(&mut self) -> Result<(), Failed>
         requires { self.old.failed ≡ false }
         ensures bytes { OnOk result
@@ -69,8 +68,7 @@ impl<K: Sink + Drop> BlockPort<K> {
         Ok(())
     }
 
-    /// The slow path of `push`: a block is full, or a call has failed. It is separate, so that `push` is short when it is
-    /// inlined.
+    /// `push` if the block has no room for `bytes`, or the port has failed. It isn't inlined, so that `push` is short.
     #[inline(never)]
     fn push_far(&mut self, bytes: &[u8]) -> Result<(), Failed>
         ensures failed { FailsForGood self.old.failed self.new.failed result }
@@ -94,7 +92,7 @@ impl<K: Sink + Drop> BlockPort<K> {
         Ok(())
     }
 
-    /// Copies bytes into the block. There is room for them.
+    /// Appends `bytes` to the block, which has room for them.
     #[inline(always)]
     fn hold(&mut self, bytes: &[u8])
         requires { length self.old.held + length bytes.now ≤ 65536 }
@@ -132,16 +130,13 @@ impl<K: Sink + Drop> Sink for BlockPort<K> {
 
     ghost has_failed = { λ p. p.failed };
 
+    /// Copies `bytes` into the block. If they don't fit, it passes the block on first. Once failed, it uses the sink no more.
     #[inline(always)]
     fn push(&mut self, bytes: &[u8]) -> Result<(), Failed>
         ensures failed { FailsForGood self.old.failed self.new.failed result }
         ensures bytes { OnOk result (Appends (append_known (K.written self.old.inner) self.old.held)
             (append_known (K.written self.new.inner) self.new.held) bytes.now) }
-
-        // Once it has failed, it doesn't use the sink any more.
         ensures idle { IsTrue self.old.failed → self.new ≡ self.old }
-
-        // It fails only where it had failed before, or the sink has.
         ensures cause { OnErr result (IsTrue self.old.failed ⊎ IsTrue (K.has_failed self.new.inner)) }
     {
         if self.failed || BLOCK - self.held < bytes.len() {

@@ -50,7 +50,7 @@ impl<S: Source + Drop> BlockSource<S> {
         })
     }
 
-    /// Reads what is there, if no bytes are left.
+    /// Reads the source once into the empty block. At the end of the source the block stays empty.
     #[inline(never)]
     fn refill(&mut self) -> Result<(), Failed>
         requires held { self.old.held ≡ [] }
@@ -77,7 +77,7 @@ impl<S: Source + Drop> BlockSource<S> {
         }
     }
 
-    /// Gives of what is held as much as there is room for.
+    /// Copies the next bytes of the block to `buffer`, as many as are left and fit. Returns how many.
     #[inline(always)]
     fn give(&mut self, buffer: &mut [u8]) -> usize
         ensures count { result ≡ min (length buffer.old) (length self.old.held) }
@@ -99,7 +99,7 @@ impl<S: Source + Drop> BlockSource<S> {
         count
     }
 
-    /// Returns the bytes that are left.
+    /// Returns the bytes of the block that no call has returned yet.
     #[inline(always)]
     fn held(&self) -> &[u8]
         ensures { result.now ≡ self.now.held }
@@ -115,6 +115,7 @@ impl<S: Source + Drop> Source for BlockSource<S> {
 
     ghost reads = { λ s. S.reads s.inner };
 
+    /// Returns bytes of the block. Only if none is left, it reads the source before, once.
     #[inline(always)]
     fn pull(&mut self, buffer: &mut [u8]) -> Result<usize, Failed>
         ensures failed { FailsForGood self.old.failed self.new.failed result }
@@ -123,8 +124,6 @@ impl<S: Source + Drop> Source for BlockSource<S> {
             (prepend_known self.new.held (S.left self.new.inner)) result buffer.new }
         ensures reads { S.reads self.new.inner ≤ S.reads self.old.inner + 1 }
         ensures waits { self.old.held ≢ [] → (self.new.inner ≡ self.old.inner) }
-
-        // It fails only where it had failed before, or the source has.
         ensures cause { OnErr result (IsTrue self.old.failed ⊎ IsTrue (S.has_failed self.new.inner)) }
     {
         if self.failed {

@@ -3,9 +3,8 @@ ghost use Rattle.std.specs.Prelude.{Some, codes};
 use std::error::Error;
 use std::fmt;
 
-/// The only error of a port. Once a call has returned it, every later call on that port returns it, too.
-///
-/// It has no cause: a program that gets it prints which side failed, and nothing else.
+/// The only error of a port. Once a call has returned it, every later call on that port returns it, too. It has no cause: a
+/// program that gets it prints which side failed, and nothing else.
 #[derive(Clone, Copy, Debug, PartialEq, Eq)]
 pub struct Failed;
 

@@ -1,3 +1,4 @@
+//! Which errors of a reader or a writer only say that a signal came, and how often such a call is made again.
 ghost use Rattle.std.specs.Prelude.{◌≡◌, ◌↔◌, IsTrue};
 ghost use Rattle.std.specs.IoError.{error_kind};
 

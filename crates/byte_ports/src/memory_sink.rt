@@ -34,8 +34,7 @@ impl Model for MemorySink {
 }
 
 impl MemorySink {
-    /// Allocates `room` bytes, so that no later call allocates. `fail_at` is the number of the call that fails, from 0. With
-    /// `None` a call fails only if the bytes don't fit.
+    /// Makes a sink for `room` bytes, all allocated now. `fail_at` is the number of the call that fails, from 0, if any does.
     pub fn new(alloc: Global, room: usize, fail_at: Option<u32>) -> Result<MemorySink, AllocError>
         ensures { IfOk result (λ sink. sink ≡
             record { written = []; room = room; fail_at = fail_at; failed = false }) }
@@ -61,12 +60,11 @@ impl Sink for MemorySink {
 
     ghost has_failed = { λ s. s.failed };
 
+    /// Fails if the bytes don't fit, at the chosen call, and after a failure. A call that fails writes nothing.
     fn push(&mut self, bytes: &[u8]) -> Result<(), Failed>
         ensures failed { FailsForGood self.old.failed self.new.failed result }
         ensures bytes { OnOk result
             (Appends (Some self.old.written) (Some self.new.written) bytes.now) }
-
-        // When it fails, and what else a call changes.
         ensures due { self.new.failed ≡ push_fails self.old bytes.now }
         ensures nearer { OnOk result (self.new.fail_at ≡ one_nearer self.old.fail_at) }
         ensures room { OnOk result (self.new.room ≡ self.old.room) }

@@ -29,7 +29,7 @@ impl<'a> Model for MemorySource<'a> {
 }
 
 impl<'a> MemorySource<'a> {
-    /// `fail_at` is the number of the call that fails, from 0. `None`: no call fails.
+    /// Makes a source of `bytes`. `fail_at` is the number of the call that fails, from 0. `None`: no call fails.
     pub fn new(bytes: &'a [u8], fail_at: Option<u32>) -> MemorySource<'a>
         ensures { result ≡ record { left = bytes.now; fail_at = fail_at; failed = false } }
     {
@@ -48,13 +48,12 @@ impl<'a> Source for MemorySource<'a> {
 
     ghost reads = { λ _. 0 };
 
+    /// Returns as many bytes as are left and fit. Fails at the chosen call, and after a failure.
     fn pull(&mut self, buffer: &mut [u8]) -> Result<usize, Failed>
         ensures failed { FailsForGood self.old.failed self.new.failed result }
         ensures bound { IfOk result (λ n. n ≤ length buffer.new) }
         ensures bytes { ReadConsumes (Some self.old.left) (Some self.new.left) result buffer.new }
         ensures reads { 0 ≤ 0 + 1 }
-
-        // When it fails, how many bytes it returns, and what else a call changes.
         ensures due { self.new.failed ≡ pull_fails self.old }
         ensures count { IfOk result (λ n. n ≡ min (length buffer.old) (length self.old.left)) }
         ensures buffer { IfOk result (λ n. drop n buffer.new ≡ drop n buffer.old) }

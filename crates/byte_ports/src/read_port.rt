@@ -41,16 +41,13 @@ impl<R: Read> Source for ReadPort<R> {
 
     ghost reads = { λ _. 0 };
 
-    /// One read of the reader. Where a signal interrupts it, it is tried again, up to `MOST_TRIES`
-    /// times in all. Any other error is a failure.
+    /// Reads the reader once, or again if a signal interrupts it. Any other error is a failure, as are `MOST_TRIES` signals.
     fn pull(&mut self, buffer: &mut [u8]) -> Result<usize, Failed>
         ensures failed { FailsForGood self.old.failed self.new.failed result }
         ensures bound { IfOk result (λ n. n ≤ length buffer.new) }
         ensures bytes { ReadConsumes (R.remaining self.old.inner) (R.remaining self.new.inner)
             result buffer.new }
         ensures reads { 0 ≤ 0 + 1 }
-
-        // Once it has failed, it doesn't use the reader any more.
         ensures idle { IsTrue self.old.failed → self.new ≡ self.old }
     {
         if self.failed {
@@ -62,7 +59,7 @@ impl<R: Read> Source for ReadPort<R> {
     }
 }
 
-/// Reads once, and tries again if a signal interrupts it.
+/// Reads once, or again if a signal interrupts it. Fails by another error, or after `MOST_TRIES` tries.
 fn read_through_interruptions<R: Read>(reader: &mut R, buffer: &mut [u8]) -> Result<usize, Failed>
     ensures bound { IfOk result (λ n. n ≤ length buffer.new) }
     ensures bytes { ReadConsumes (R.remaining reader.old) (R.remaining reader.new)

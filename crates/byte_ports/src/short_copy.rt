@@ -1,6 +1,7 @@
+//! Copies short pieces of bytes without a call.
 ghost use Rattle.std.specs.Prelude.{◌≡◌, ◌+◌, ◌≤◌, length};
 
-/// Copies N to 2 N bytes with two moves, of the first N and of the last N, which may overlap.
+/// Copies N to 2 N bytes by two moves of N bytes: the first ones and the last ones. The two may overlap.
 #[inline(always)]
 #[tactic(auto, using(crate::proofs::ShortCopies::both_ends))]
 fn copy_ends<const N: usize>(from: &[u8], to: &mut [u8])
@@ -22,7 +23,7 @@ fn copy_ends<const N: usize>(from: &[u8], to: &mut [u8])
     to[behind..].copy_from_slice(&last);
 }
 
-/// Copies bytes over as many others. No function is called for 8 to 32, as most lines of a trace have.
+/// Copies `from` over `to`, which has the same length. For 8 to 32 bytes, as in most lines of a trace, it calls nothing.
 #[inline(always)]
 pub(super) fn copy_short(from: &[u8], to: &mut [u8])
     requires { length to.old ≡ length from.now }

@@ -60,8 +60,7 @@ impl Model for SourceLines {
         × (lines.stop ≤ lines.at) × (lines.at ≤ lines.end) × (lines.end ≤ 81920) × (lines.reads ≤ 1000000000) };
 }
 
-/// Returns the place of the first LF after bytes that aren't one, or the end if there is none. It looks at four bytes with one
-/// test for the end.
+/// Returns the place of the first LF, or the length if there is none. The first `seen` bytes are known to have none.
 fn place_of_lf(bytes: &[u8], seen: usize) -> usize
     requires seen { seen ≤ length bytes.now }
     requires one { IsOneLine (take seen bytes.now) }
@@ -92,7 +91,7 @@ fn place_of_lf(bytes: &[u8], seen: usize) -> usize
     at
 }
 
-/// Moves the bytes between two places to the front.
+/// Moves the bytes from `at` up to `end` to the front of the block.
 fn move_front(block: &mut [u8], at: usize, end: usize)
     requires order { at ≤ end }
     requires within { end ≤ length block.old }
@@ -102,7 +101,7 @@ fn move_front(block: &mut [u8], at: usize, end: usize)
     block.copy_within(at..end, 0);
 }
 
-/// Reads the next piece after the first `held` bytes. Returns how many bytes it has.
+/// Reads a piece of at most 16,384 bytes to the place after the first `held` bytes. Returns its length, 0 at the end.
 fn pull_behind<S: Source>(source: &mut S, block: &mut [u8], held: usize) -> Result<usize, Failed>
     requires { held + 16384 ≤ length block.old }
     ensures length { length block.new ≡ length block.old }
@@ -141,7 +140,7 @@ impl SourceLines {
         &self.block.as_slice()[..self.stop][self.start..]
     }
 
-    /// Returns what is already read of the following lines.
+    /// Returns the bytes that are read but not yet returned in a line.
     #[inline(always)]
     pub fn held(&self) -> &[u8]
         ensures value { result.now ≡ self.now.held }
@@ -151,7 +150,7 @@ impl SourceLines {
         &self.block.as_slice()[..self.end][self.at..]
     }
 
-    /// Takes a line of so many bytes, and goes on after it and its end.
+    /// Makes the next `size` bytes the line that was read last, and goes on after `count` bytes: the line and its end.
     #[inline(always)]
     fn take_line(&mut self, size: usize, count: usize)
         requires size { size ≤ count }
@@ -165,7 +164,7 @@ impl SourceLines {
         self.at += count;
     }
 
-    /// Skips so many bytes of what is already read: lines that the caller has looked at there.
+    /// Skips the next `count` bytes of what is already read: lines that the caller has looked at there.
     #[inline(always)]
     pub fn skip(&mut self, count: usize)
         requires { count ≤ length self.old.held }
@@ -175,7 +174,7 @@ impl SourceLines {
         self.take_line(count, count);
     }
 
-    /// Reads the next piece after what is held, and returns how many bytes it has.
+    /// Moves what is held to the front, reads a piece after it, and returns the piece's length. Fails after `MOST_READS` reads.
     #[inline(never)]
     fn fill<S: Source>(&mut self, source: &mut S) -> Result<usize, Failed>
         requires { length self.old.held ≤ 65536 }

@@ -9,10 +9,8 @@ use std::io::Write;
 use std::marker::Model;
 
 /// A sink over any writer of std, such as a file or standard output. It tells its contract the bytes written if the writer
-/// does. A file and standard output don't.
-///
-/// It keeps no bytes, and flushes only in `finish`. So the program chooses the buffering with the writer: for example a
-/// `BufWriter` for long output, or a `LineWriter` for a dialogue.
+/// does. A file and standard output don't. It keeps no bytes, and flushes only in `finish`. So the program chooses the buffering
+/// with the writer: for example a `BufWriter` for long output, or a `LineWriter` for a dialogue.
 #[derive(Drop)]
 pub struct WritePort<W> {
     writer: W,
@@ -36,14 +34,12 @@ impl<W: Write> WritePort<W> {
         }
     }
 
-    /// Flushes the writer, like `OutputStream.flush`, and tries again if a signal interrupts it, up to `MOST_TRIES` times in
-    /// all. A program calls it once, after its last `push`. If it fails, bytes that an earlier `push` took may not be written.
-    /// It is only tested that it flushes: the standard library's contracts can't tell a flush from nothing.
+    /// Flushes the writer, like `OutputStream.flush`, or again if a signal interrupts it, up to `MOST_TRIES` times in all.
+    /// A program calls it once, after its last `push`. If it fails, bytes of an earlier `push` may not be written. It is only
+    /// tested that it flushes: the standard library's contracts can't tell a flush from nothing.
     pub fn finish(&mut self) -> Result<(), Failed>
         ensures failed { FailsForGood self.old.failed self.new.failed result }
         ensures bytes { Keeps (W.contents self.old.inner) (W.contents self.new.inner) }
-
-        // Once it has failed, it doesn't use the writer any more.
         ensures idle { IsTrue self.old.failed → self.new ≡ self.old }
     {
         if self.failed {
@@ -60,12 +56,11 @@ impl<W: Write> Sink for WritePort<W> {
 
     ghost has_failed = { λ p. p.failed };
 
+    /// Writes all bytes to the writer, and doesn't flush. Once it has failed, it doesn't use the writer any more.
     fn push(&mut self, bytes: &[u8]) -> Result<(), Failed>
         ensures failed { FailsForGood self.old.failed self.new.failed result }
         ensures bytes { OnOk result
             (Appends (W.contents self.old.inner) (W.contents self.new.inner) bytes.now) }
-
-        // Once it has failed, it doesn't use the writer any more.
         ensures idle { IsTrue self.old.failed → self.new ≡ self.old }
     {
         if self.failed || self.writer.write_all(bytes).is_err() {
@@ -76,7 +71,7 @@ impl<W: Write> Sink for WritePort<W> {
     }
 }
 
-/// Flushes once, and tries again if a signal interrupts it.
+/// Flushes once, or again if a signal interrupts it. Fails by another error, or after `MOST_TRIES` tries.
 fn flush_through_interruptions<W: Write>(writer: &mut W) -> Result<(), Failed>
     ensures { Keeps (W.contents writer.old) (W.contents writer.new) }
 {

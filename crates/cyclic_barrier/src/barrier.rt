@@ -10,8 +10,7 @@ mod release;
 mod tests;
 mod wait;
 
-/// A cyclic barrier with the threads that wait at it. Threads are numbers below 64. A barrier has a fixed size, and a copy of
-/// it is a barrier in the same state.
+/// A cyclic barrier with the threads that wait at it, which are numbers below 64. A copy is a barrier in the same state.
 #[derive(Clone, Copy)]
 pub struct Barrier {
     parties: u16,
@@ -90,7 +89,7 @@ impl Barrier {
         self.runner
     }
 
-    /// `getNumberWaiting`: returns how many threads wait, without those that are released and without the runner.
+    /// `getNumberWaiting`: returns how many threads wait, without those released and without the runner.
     pub fn number_waiting(&self) -> u16
         ensures { result ≡ number_waiting self.now }
     {

@@ -19,7 +19,7 @@ impl ThreadSet {
         (self.bits >> thread) & 1 == 1
     }
 
-    /// The set with this thread, whether it was in it or not.
+    /// Returns the set with this thread, whether it was in it or not.
     pub fn with(self, thread: u8) -> ThreadSet
         requires { thread < 64 }
         ensures { IsWith thread self.bits result.bits }
@@ -29,7 +29,7 @@ impl ThreadSet {
         }
     }
 
-    /// The set without this thread, whether it was in it or not.
+    /// Returns the set without this thread, whether it was in it or not.
     pub fn without(self, thread: u8) -> ThreadSet
         requires { thread < 64 }
         ensures { IsWithout thread self.bits result.bits }
@@ -39,7 +39,7 @@ impl ThreadSet {
         }
     }
 
-    /// The threads of both sets.
+    /// Returns the threads that are in one of the two sets, or in both.
     pub fn union(self, other: ThreadSet) -> ThreadSet
         ensures { IsUnion self.bits other.bits result.bits }
     {

@@ -45,7 +45,7 @@ impl Model for Waits {
 
 #[tactic(auto, using(crate::proofs::WaitsLemmas::shown_waits))]
 impl Waits {
-    /// No thread has a wait.
+    /// Returns the waits of a new barrier: no thread has one.
     pub fn none() -> Waits
         ensures waits { result ≡ replicate 64 None }
         ensures none { count_by is_waiting result ≡ 0 }
@@ -80,7 +80,7 @@ impl Waits {
         self.waiting.count()
     }
 
-    /// Begins a wait of the thread.
+    /// Begins a wait of the thread, which has none.
     pub fn begin(&mut self, thread: u8)
         requires thread { thread < 64 }
         requires none { wait_at self.old thread ≡ None }
@@ -89,7 +89,7 @@ impl Waits {
         self.waiting = self.waiting.with(thread);
     }
 
-    /// Ends the thread's wait, whatever its state is.
+    /// Removes the thread's wait, whatever its state is.
     pub fn end(&mut self, thread: u8)
         requires { thread < 64 }
         ensures waits { self.new ≡ slice_set self.old thread None }
@@ -101,7 +101,7 @@ impl Waits {
         self.broken = self.broken.without(thread);
     }
 
-    /// All who wait are released by a trip.
+    /// Releases all who wait, as a trip does: their state becomes `Tripped`.
     pub fn trip(&mut self)
         ensures waits { self.new ≡ release Tripped self.old }
         ensures none { count_by is_waiting self.new ≡ 0 }
@@ -111,7 +111,7 @@ impl Waits {
         self.waiting = ThreadSet::EMPTY;
     }
 
-    /// All who wait are released by a breakage or a reset.
+    /// Releases all who wait, as a breakage or a reset does: their state becomes `Broken`.
     pub fn break_all(&mut self)
         ensures waits { self.new ≡ release Broken self.old }
         ensures none { count_by is_waiting self.new ≡ 0 }

@@ -6,7 +6,7 @@ use crate::register::Reg;
 use crate::registers::{Local, Regs};
 use crate::row::Row;
 
-/// Returns whether the row uses only its own thread's registers and place: the rows of opcodes 1 to 8.
+/// Returns whether the row uses only its thread's registers and place: the rows of opcodes 1 to 8.
 pub fn is_local(row: Row) -> bool
     ensures { result ≡ is_local_row row }
 {
@@ -23,6 +23,7 @@ pub fn is_local(row: Row) -> bool
     }
 }
 
+/// Returns the sum of two registers. It wraps, as Java's `int` does.
 #[tactic(auto, using(crate::proofs::Wrapping::sum_is_wrapped))]
 fn sum(registers: &Regs, left: Reg, right: Reg) -> i32
     ensures { result ≡ wrapped (value_in registers.now left +ℤ value_in registers.now right) }
@@ -30,6 +31,7 @@ fn sum(registers: &Regs, left: Reg, right: Reg) -> i32
     registers.get(left).wrapping_add(registers.get(right))
 }
 
+/// Returns the left register less the right one. It wraps, as Java's `int` does.
 #[tactic(auto, using(crate::proofs::Wrapping::difference_is_wrapped))]
 fn difference(registers: &Regs, left: Reg, right: Reg) -> i32
     ensures { result ≡ wrapped (value_in registers.now left -ℤ value_in registers.now right) }
@@ -37,7 +39,7 @@ fn difference(registers: &Regs, left: Reg, right: Reg) -> i32
     registers.get(left).wrapping_sub(registers.get(right))
 }
 
-/// Puts a number into a register, and goes to the next row.
+/// Puts a number into a register, and goes to the next row. Returns the number.
 fn load(registers: &mut Regs, pc: &mut u16, into: Reg, value: i32) -> Option<i32>
     requires { pc.old < 65535 }
     ensures { record { registers = registers.new; pc = pc.new; written = result }
@@ -48,7 +50,7 @@ fn load(registers: &mut Regs, pc: &mut u16, into: Reg, value: i32) -> Option<i32
     Some(value)
 }
 
-/// Goes to the row with this number.
+/// Goes to the row `place`. Returns `None`: no register gets a number.
 fn go_to(pc: &mut u16, place: u16) -> Option<i32>
     ensures place { pc.new ≡ place }
     ensures written { result ≡ None }
@@ -57,7 +59,7 @@ fn go_to(pc: &mut u16, place: u16) -> Option<i32>
     None
 }
 
-/// Jumps, or goes to the next row.
+/// Goes to the row `target` if `taken` is true, and otherwise to the next row. Returns `None`, as `go_to` does.
 fn branch(pc: &mut u16, taken: bool, target: u16) -> Option<i32>
     requires { pc.old < 65535 }
     ensures place { pc.new ≡ (if taken then target else pc.old + 1) }
@@ -67,8 +69,7 @@ fn branch(pc: &mut u16, taken: bool, target: u16) -> Option<i32>
     go_to(pc, if taken { target } else { next })
 }
 
-/// Returns what the row at `pc` makes of these registers and of `pc`. Sums and differences wrap like Java's `int`. The numbers
-/// of rows end at 65535: no row follows it.
+/// Returns the registers and the place after the local row at `pc`. A place above 65535 is given as 65535.
 pub fn local(row: Row, registers: &Regs, pc: u16) -> Local
     requires { IsTrue (is_local_row row) }
     ensures registers { result.registers ≡ (local_of row registers.now pc).registers }
@@ -82,8 +83,7 @@ pub fn local(row: Row, registers: &Regs, pc: u16) -> Local
     left
 }
 
-/// Does what `local` says, in place. Returns the number that it put into a register, if it did: the row's event shows this
-/// number. The number of a program's row is always below 65535.
+/// Plays a local row on these registers and `pc`. Returns the number that it put into a register, for the row's event.
 #[inline(always)]
 pub fn play_local(row: Row, registers: &mut Regs, pc: &mut u16) -> Option<i32>
     requires local { IsTrue (is_local_row row) }

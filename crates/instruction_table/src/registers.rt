@@ -21,7 +21,7 @@ impl Model for Regs {
 }
 
 impl Regs {
-    /// The registers as a thread begins.
+    /// Returns eight registers, each with 0.
     pub fn new() -> Regs
         ensures { result ≡ all_zero }
     {

@@ -4,11 +4,10 @@ ghost use Rattle.instruction_table.specs.Table.{table};
 
 use crate::register::Reg;
 
-/// One row of a program. Its fields are in the order of the operands in a program's text.
-///
-/// `into` is the register for the row's result. A target or a handler is the number of a row. Rows, phasers, barriers, threads
-/// and cells are numbered from 0, in the order of the program's declarations. A field holds any number up to 65535, whether
-/// there is such a thing or not. For the rows of phasers and barriers, the comment names the Java method that they mirror.
+/// One row of a program. Its fields are in the order of the operands in a program's text. `into` is the register for the row's
+/// result. A target or a handler is the number of a row. Rows, phasers, barriers, threads and cells are numbered from 0, in the
+/// order of the program's declarations. A field holds any number up to 65535, whether there is such a thing or not. For the
+/// rows of phasers and barriers, the comment names the Java method that they mirror.
 #[derive(Clone, Copy)]
 pub enum Row {
     /// Ends the thread.
@@ -215,7 +214,7 @@ pub enum Row {
     },
 }
 
-/// Returns the number of the row's kind, which programs are encoded with.
+/// Returns the row's opcode, 0 to 41: the number of its kind, which its encoding begins with.
 pub fn opcode(row: Row) -> u8
     ensures code { result ≡ opcode_of row }
     ensures listed { result < length table }

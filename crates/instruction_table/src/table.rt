@@ -55,6 +55,7 @@ const TABLE: [Listed; 42] = [
     (41, "cawaitt", &[Register, Barrier, Register]),
 ];
 
+/// Returns an entry of the table as a shape.
 fn shape_listed(listed: Listed) -> Shape
     ensures { entry_of result ≡ entry_listed listed.entry }
 {
@@ -77,8 +78,7 @@ const PLACES: [u8; 128] = [
     255, 255, 255, 29,
 ];
 
-/// Returns the place of the entry with this word, if there is one. The slot of a word is made of its length and three of its
-/// letters.
+/// Returns the place of the entry with this word, by the slot of its length and three letters. Other bytes get any place.
 #[inline(always)]
 fn place_of(word: &[u8]) -> u8
     ensures { (e : Entry) → entry_named table word.now ≡ Some e → result ≡ e.opcode }
@@ -92,7 +92,7 @@ fn place_of(word: &[u8]) -> u8
     }
 }
 
-/// Returns the opcode of the entry at this place, if it has this word.
+/// Returns the opcode of the entry at this place, or `None` if the entry has another word or there is none.
 #[inline(always)]
 fn opcode_there(entries: &[Listed], place: u8, word: &[u8]) -> Option<u8>
     ensures { result ≡ option_map (λ e. e.opcode)
@@ -110,7 +110,7 @@ fn opcode_there(entries: &[Listed], place: u8, word: &[u8]) -> Option<u8>
     }
 }
 
-/// Returns the opcode of the rows that begin with this word in a program's text. The word counts as in `shape_of`.
+/// Returns the opcode of the rows that begin with this word, which is whole and in small letters, if there are any.
 #[inline(always)]
 pub fn opcode_named(word: &[u8]) -> Option<u8>
     ensures opcode { result ≡ option_map (λ e. e.opcode) (entry_named table word.now) }
@@ -121,6 +121,7 @@ pub fn opcode_named(word: &[u8]) -> Option<u8>
     opcode_there(&TABLE, place_of(word), word)
 }
 
+/// Returns the kinds of the operands of the entry at this place.
 #[inline(always)]
 fn operands_at(entries: &[Listed], place: u8) -> &'static [OperandKind]
     requires { place < length entries.now }
@@ -129,7 +130,7 @@ fn operands_at(entries: &[Listed], place: u8) -> &'static [OperandKind]
     entries[usize::from(place)].2
 }
 
-/// The kinds of the operands of the rows of this opcode, in the order of the text: at most four.
+/// Returns the kinds of the operands of the rows of this opcode, in the order of the text: at most four.
 #[inline(always)]
 pub fn operands_of(opcode: u8) -> &'static [OperandKind]
     requires { opcode < 42 }
@@ -138,6 +139,7 @@ pub fn operands_of(opcode: u8) -> &'static [OperandKind]
     operands_at(&TABLE, opcode)
 }
 
+/// Returns the shape of the entry at this place.
 fn shape_at(entries: &[Listed], place: u8) -> Shape
     requires { place < length entries.now }
     ensures { entry_of result ≡ slice_index_or (map entry_listed entries.now) place no_entry }
@@ -145,8 +147,7 @@ fn shape_at(entries: &[Listed], place: u8) -> Shape
     shape_listed(entries[usize::from(place)])
 }
 
-/// Returns the shape of the rows that begin with this word in a program's text. The word has to be whole and in small letters.
-/// Any other bytes have no shape.
+/// Returns the shape of the rows that begin with this word, which is whole and in small letters, if there are any.
 pub fn shape_of(word: &[u8]) -> Option<Shape>
     ensures entry { option_map entry_of result ≡ entry_named table word.now }
 
@@ -161,7 +162,7 @@ pub fn shape_of(word: &[u8]) -> Option<Shape>
     }
 }
 
-/// Returns the row's shape: what `shape_of` returns for its word.
+/// Returns how the row is written: its opcode, its word, and the kinds of its operands.
 pub fn row_shape(row: Row) -> Shape
     ensures entry { entry_of result ≡ entry_for row }
     ensures code { result.opcode ≡ opcode_of row }
@@ -169,11 +170,9 @@ pub fn row_shape(row: Row) -> Shape
     shape_at(&TABLE, opcode(row))
 }
 
-/// Returns the word that begins the row in a program's text.
+/// Returns the word that begins the row in a program's text. No other kind of row has it.
 pub fn mnemonic(row: Row) -> &'static str
     ensures word { result.now ≡ (entry_for row).word }
-
-    // No other kind of row has the word.
     ensures found { entry_named table result.now ≡ Some (entry_for row) }
 {
     row_shape(row).word

@@ -1,3 +1,4 @@
+//! The options of a directive. Each function takes the words of the line that are left, and returns those left after it.
 ghost use Rattle.std.specs.Prelude.{◌≡◌, map, option_map, pos};
 ghost use Rattle.line_reader.specs.Seen.{seen_in, seen_word};
 ghost use Rattle.line_reader.specs.Reading.{argument_at, end_at, number_at, reference_at, reference_option_at};
@@ -12,7 +13,7 @@ use crate::words::is_word;
 /// How many words are left at an option without its argument: the option, which is the last word.
 const OPTION_ALONE: usize = 1;
 
-/// Reads the argument of an option, a row or an object. Returns it and the words after it.
+/// Reads an option's argument: the name of a row or an object, or its number, at most `high`.
 pub fn reference_argument<'a, 'w>(
     high: u16,
     words: &'w [&'a [u8]],
@@ -26,7 +27,7 @@ pub fn reference_argument<'a, 'w>(
     }
 }
 
-/// Reads an option whose argument is a row or an object, if it comes next. Returns it and the words after it.
+/// Reads this option and its argument, a row or an object, if the option comes next. Otherwise the result has `None`.
 #[tactic(auto, unfolding(crate::specs::Reading::reference_option_at))]
 pub fn reference_option_at<'a, 'w>(
     option: &str,
@@ -48,7 +49,7 @@ pub fn reference_option_at<'a, 'w>(
     }
 }
 
-/// Reads the argument of an option, a phase. Returns it and the words after it.
+/// Reads an option's argument: a phase, 0 to 2147483647.
 pub fn phase_argument<'a, 'w>(words: &'w [&'a [u8]]) -> Result<(i32, &'w [&'a [u8]]), WordFault>
     ensures { seen_in (λ x. (x.0, map name_seen x.1.now)) result
         ≡ argument_at (number_at (pos 0) greatest_int) (map name_seen words.now) }
@@ -59,7 +60,7 @@ pub fn phase_argument<'a, 'w>(words: &'w [&'a [u8]]) -> Result<(i32, &'w [&'a [u
     }
 }
 
-/// That no word is left.
+/// Checks that no word is left. Any word that is left is `BadOption`.
 pub fn end_at(words: &[&[u8]]) -> Result<(), WordFault>
     ensures { seen_word result ≡ end_at (map name_seen words.now) }
 {

@@ -77,7 +77,7 @@ pub struct WordFault {
 }
 
 impl WordFault {
-    /// Returns the fault of a word from which on so many words are left, at most 128 in a line.
+    /// Returns the fault of a word. `left` counts the words of the line from this one on, at most 128.
     #[inline(always)]
     pub fn at(left: usize, kind: AsmFaultKind) -> WordFault
         ensures kind { result.kind ≡ kind }
@@ -90,7 +90,7 @@ impl WordFault {
     }
 }
 
-/// Returns the result of a word from which on so many words are left.
+/// Returns what was read of a word, or the word's fault with its place: `left` counts the words from this one on.
 #[inline(always)]
 pub fn read_at<T>(left: usize, read: Result<T, AsmFaultKind>) -> Result<T, WordFault>
     ensures word { seen_word result ≡ read }

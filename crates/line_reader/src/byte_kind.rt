@@ -17,14 +17,14 @@ const KINDS: [u8; 256] = [
     0, 0, 0, 0, 0, 0, 0, 0, 0, 0, 0, 0, 0, 0, 0, 0, 0, 0, 0, 0, 0, 0, 0, 0, 0, 0, 0, 0, 0, 0, 0, 0,
 ];
 
-/// Returns whether a line may have a byte.
+/// Returns whether a line may have this byte: tab, CR, the space, or printable ASCII.
 pub fn is_allowed(byte: u8) -> bool
     ensures { result ≡ is_allowed byte }
 {
     KINDS[usize::from(byte)] > 0
 }
 
-/// Returns whether a byte is part of a word, wherever it is before a comment.
+/// Returns whether this byte is part of a word: printable ASCII except the space and `;`.
 pub fn is_letter(byte: u8) -> bool
     ensures { result ≡ is_letter byte }
 {

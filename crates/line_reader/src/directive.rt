@@ -11,7 +11,7 @@ use crate::symbolic_phaser::phaser_at;
 use crate::symbolic_thread::thread_at;
 use crate::words::is_word;
 
-/// Returns whether a word begins a directive. Few words begin with a dot.
+/// Returns whether a word is `.phaser`, `.barrier`, `.thread` or `.cell`. Few words begin with a dot.
 #[inline(always)]
 pub fn is_directive(word: &[u8]) -> bool
     ensures { result ≡ is_directive word.now }
@@ -27,7 +27,7 @@ pub fn is_directive(word: &[u8]) -> bool
     }
 }
 
-/// Reads the operand of `.cell`.
+/// Reads the words after `.cell`: one name.
 #[tactic(auto, unfolding(crate::specs::Reading::cell_at))]
 fn cell_at<'a>(words: &[&'a [u8]]) -> Result<&'a [u8], WordFault>
     ensures { seen_in name_seen result ≡ cell_at (map name_seen words.now) }
@@ -38,7 +38,7 @@ fn cell_at<'a>(words: &[&'a [u8]]) -> Result<&'a [u8], WordFault>
     }
 }
 
-/// Reads a directive: the word that begins it, and its operands.
+/// Reads the directive that `word` begins, with the words after it. A word that is none of the first three is `.cell`.
 #[tactic(auto, unfolding(crate::specs::Reading::directive_at))]
 pub fn directive_at<'a>(word: &[u8], words: &[&'a [u8]]) -> Result<Statement<&'a [u8]>, WordFault>
     ensures { seen_in statement_seen result ≡ directive_at word.now (map name_seen words.now) }

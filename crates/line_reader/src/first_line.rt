@@ -15,14 +15,14 @@ use std::alloc::AllocError;
 /// The most bytes that a line holds.
 const LONGEST_LINE: usize = 256;
 
-/// Where a byte first stands that is of no word.
+/// Returns the place of the first byte that is part of no word.
 fn place_of_end(bytes: &[u8]) -> Option<usize>
     ensures { result ≡ position (λ byte. not (is_letter byte)) bytes.now }
 {
     bytes.iter().position(|byte| !is_letter(*byte))
 }
 
-/// Returns how many bytes of a word a text begins with.
+/// Returns the length of the word that the text begins with, or 0 if it begins with no word.
 #[inline(always)]
 #[tactic(auto, using(crate::proofs::Places::position_some, crate::proofs::Places::position_none))]
 fn length_of_word(text: &[u8]) -> usize
@@ -47,7 +47,7 @@ fn push_piece<'a>(words: &mut Vec<&'a [u8]>, piece: &'a [u8]) -> Result<(), Allo
     Ok(())
 }
 
-/// Returns whether a blank comes next.
+/// Returns whether the text begins with a space, a tab or CR.
 #[inline(always)]
 fn begins_blank(text: &[u8]) -> bool
     ensures { result ≡ is_blank (slice_index_or text.now 0 10) }
@@ -103,7 +103,7 @@ fn ends_line(text: &[u8], place: usize) -> bool
     }
 }
 
-/// Returns what follows the byte that ends a line at this place, if one does.
+/// Returns what follows the LF at the place `end`, or nothing if the text ends there.
 #[inline(always)]
 fn behind_end(text: &[u8], end: usize) -> &[u8]
     requires { end ≤ length text.now }
@@ -115,7 +115,7 @@ fn behind_end(text: &[u8], end: usize) -> &[u8]
     }
 }
 
-/// Returns the first line of a text, whatever it has, and what follows its end.
+/// Returns the first line of a text, unchecked and without its LF, and the text after it.
 #[tactic(auto, using(crate::proofs::FirstLines::lines_first, crate::proofs::FirstLines::shorter_after))]
 pub fn first_line(text: &[u8]) -> (&[u8], &[u8])
     requires { 0 < length text.now }
@@ -126,8 +126,8 @@ pub fn first_line(text: &[u8]) -> (&[u8], &[u8])
     (&text[..length], behind_end(text, length))
 }
 
-/// Replaces the list by the words of a text's first line. Returns what follows the line's end. It looks at the bytes up to the
-/// line's end, or to the first one that isn't allowed.
+/// Replaces the list by the words of the text's first line, and returns the text after it. A byte that no line may have is
+/// `BadByte`, and a line of more than 256 bytes is `LongLine`. It looks at no byte after such a one.
 #[inline(always)]
 #[tactic(auto, unfolding(crate::specs::Reading::line_words), using(crate::proofs::FirstLines::end_of, crate::proofs::FirstLines::end_at, crate::proofs::FirstLines::first_long, crate::proofs::FirstLines::lines_first, crate::proofs::FirstLines::shorter_after))]
 pub fn put_line<'a>(words: &mut Vec<&'a [u8]>, text: &'a [u8]) -> Result<&'a [u8], AsmFaultKind>

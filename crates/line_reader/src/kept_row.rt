@@ -40,7 +40,7 @@ pub struct KeptRow<'a> {
     pub fourth: KeptOperand,
 }
 
-/// The register of a digit.
+/// Returns the register of the digit that follows `r`.
 #[inline(always)]
 #[tactic(auto, unfolding(crate::specs::Reading::register_at))]
 fn register_of(digit: u8) -> Result<Reg, AsmFaultKind>
@@ -71,7 +71,7 @@ fn register_at(word: &[u8]) -> Result<Reg, AsmFaultKind>
     }
 }
 
-/// Reads an operand of this kind, which isn't a register, and keeps its value.
+/// Reads an operand of this kind, not a register. Its number or name goes into `held`, and the result says which it is.
 #[inline(always)]
 #[tactic(auto, unfolding(crate::specs::Reading::operand_at))]
 fn other_at<'a>(
@@ -101,7 +101,7 @@ fn other_at<'a>(
     }
 }
 
-/// Reads an operand of this kind. If it isn't a register, its value is kept.
+/// Reads an operand of this kind. If it isn't a register, its number or name goes into `held`.
 #[inline(always)]
 #[tactic(auto, unfolding(crate::specs::Reading::operand_at))]
 fn operand_at<'a>(
@@ -120,7 +120,7 @@ fn operand_at<'a>(
     }
 }
 
-/// Reads the operand at this place, if there is one.
+/// Reads the operand at this place, from 0. It is `Absent` if the row has fewer operands.
 #[inline(always)]
 #[tactic(auto, using(crate::proofs::ByPlace::seen_there))]
 fn operand_there<'a>(
@@ -177,7 +177,7 @@ fn row_of_kinds<'a>(
     })
 }
 
-/// Reads a row: the word that begins it, and its operands.
+/// Reads a row: the word that begins it, and the words after it, as many as the row has operands.
 #[inline(always)]
 #[tactic(auto, unfolding(crate::specs::Reading::row_at))]
 pub fn row_at<'a>(word: &[u8], words: &[&'a [u8]]) -> Result<KeptRow<'a>, WordFault>
@@ -194,7 +194,7 @@ pub fn row_at<'a>(word: &[u8], words: &[&'a [u8]]) -> Result<KeptRow<'a>, WordFa
 }
 
 impl<'a> KeptRow<'a> {
-    /// The place, from 0, of the operand that is a name, and what it should name.
+    /// Returns the place, from 0, of the operand that is a name, and the kind of what it names, if there is one.
     pub fn named(&self) -> Option<(usize, OperandKind)>
         ensures { IfSome result (λ named. named.0 < 4) }
     {

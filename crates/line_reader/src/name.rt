@@ -8,18 +8,21 @@ ghost use Rattle.line_reader.specs.Seen.{name_seen};
 use crate::asm_fault::AsmFaultKind;
 use crate::byte_kind::goes_on_name;
 
+/// Returns whether a byte may begin a name: a letter or `_`.
 fn begins_name(byte: u8) -> bool
     ensures { result ≡ begins_name byte }
 {
     byte.is_ascii_alphabetic() || byte == b'_'
 }
 
+/// Returns whether each byte may continue a name.
 fn all_go_on_name(word: &[u8]) -> bool
     ensures { result ≡ list_all goes_on_name word.now }
 {
     word.iter().all(|byte| goes_on_name(*byte))
 }
 
+/// Returns whether a word is spelled as a name.
 fn is_name(word: &[u8]) -> bool
     ensures { result ≡ is_name word.now }
 {

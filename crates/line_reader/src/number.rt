@@ -7,12 +7,14 @@ ghost use Rattle.line_reader.specs.Reading.{count_at, number_at};
 
 use crate::asm_fault::AsmFaultKind;
 
+/// Returns whether a word begins with a minus sign.
 fn is_negative(word: &[u8]) -> bool
     ensures { result ≡ is_negative word.now }
 {
     matches!(word, [b'-', ..])
 }
 
+/// Returns the word without its minus sign, if it has one.
 fn digits_in(word: &[u8]) -> &[u8]
     ensures { result.now ≡ digits_in word.now }
 {
@@ -29,6 +31,7 @@ pub fn are_digits(bytes: &[u8]) -> bool
     bytes.iter().all(|byte| byte.is_ascii_digit())
 }
 
+/// Returns whether a word is one digit or more, perhaps after a minus sign.
 fn is_number(word: &[u8]) -> bool
     ensures { result ≡ is_number word.now }
 {
@@ -50,6 +53,7 @@ pub fn digits_value(digits: &[u8]) -> u64
     value
 }
 
+/// Returns the number that a word spells: at most ten digits, perhaps after a minus sign.
 fn value_in(word: &[u8]) -> i64
     requires number { is_number word.now ≡ true }
     requires short { length (digits_in word.now) ≤ 10 }

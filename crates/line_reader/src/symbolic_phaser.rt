@@ -32,7 +32,7 @@ pub struct SymbolicPhaser<N> {
 /// The greatest number of a phaser.
 pub(crate) const LAST_PHASER: u16 = 63;
 
-/// Reads the option `phase`, if it comes next. Returns the phase and the words after it.
+/// Reads the option `phase`, if it comes next. Returns the phase, 0 without the option, and the words after it.
 #[tactic(auto, unfolding(crate::specs::Reading::first_phase_at))]
 pub(crate) fn first_phase_at<'a, 'w>(
     words: &'w [&'a [u8]],
@@ -51,7 +51,7 @@ pub(crate) fn first_phase_at<'a, 'w>(
     }
 }
 
-/// Reads the policy, if it comes next. Returns it and the words after it.
+/// Reads a policy, if one comes next. Returns it, `Default` if none comes, and the words after it.
 #[tactic(auto, unfolding(crate::specs::Reading::policy_at))]
 pub(crate) fn policy_at<'a, 'w>(
     words: &'w [&'a [u8]],
@@ -78,7 +78,7 @@ pub(crate) fn policy_at<'a, 'w>(
     }
 }
 
-/// Reads the options of a phaser with this name and so many parties.
+/// Reads the options of a phaser, in this order: parent, phase, policy. No word may be left.
 fn phaser_with<'a>(
     name: &'a [u8],
     parties: u16,
@@ -100,7 +100,7 @@ fn phaser_with<'a>(
     })
 }
 
-/// Reads the operands of `.phaser`.
+/// Reads the words after `.phaser`: a name, the parties, and perhaps options.
 #[tactic(auto, unfolding(crate::specs::Reading::phaser_at))]
 pub fn phaser_at<'a>(words: &[&'a [u8]]) -> Result<SymbolicPhaser<&'a [u8]>, WordFault>
     ensures { seen_in phaser_seen result ≡ phaser_at (map name_seen words.now) }

@@ -14,6 +14,7 @@ pub struct SymbolicThread<N> {
     pub first_row: Reference<N>,
 }
 
+/// Reads the name and the first row of a thread.
 #[tactic(auto, unfolding(crate::specs::Reading::thread_at))]
 fn thread_of<'a>(name: &'a [u8], row: &'a [u8]) -> Result<SymbolicThread<&'a [u8]>, WordFault>
     ensures { seen_in thread_seen result ≡ thread_at (name.now ∷ row.now ∷ []) }
@@ -24,7 +25,7 @@ fn thread_of<'a>(name: &'a [u8], row: &'a [u8]) -> Result<SymbolicThread<&'a [u8
     })
 }
 
-/// Reads the operands of `.thread`.
+/// Reads the words after `.thread`: a name and the first row.
 #[tactic(auto, unfolding(crate::specs::Reading::thread_at))]
 pub fn thread_at<'a>(words: &[&'a [u8]]) -> Result<SymbolicThread<&'a [u8]>, WordFault>
     ensures { seen_in thread_seen result ≡ thread_at (map name_seen words.now) }

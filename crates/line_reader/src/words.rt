@@ -1,17 +1,18 @@
+//! What separates the words of a line, and where a byte or a comment begins.
 ghost use Rattle.std.specs.Prelude.{◌≡◌, ◌==◌, ◌<◌, ◌≤◌, IfSome, bytes_eq, false, length, not, slice_index};
 ghost use Rattle.std.specs.List.{before_first, position, position_or_len};
 ghost use Rattle.line_reader.specs.Words.{begins_comment, is_allowed, is_blank, is_line_end};
 
 use crate::byte_kind::is_allowed;
 
-/// Space, tab and CR.
+/// Returns whether a byte is a blank in a line: a space, a tab or CR.
 pub fn is_blank(byte: u8) -> bool
     ensures { result ≡ is_blank byte }
 {
     matches!(byte, b' ' | b'\t' | b'\r')
 }
 
-/// LF.
+/// Returns whether a byte ends a line: LF.
 pub fn is_line_end(byte: u8) -> bool
     ensures { result ≡ is_line_end byte }
 {
@@ -45,14 +46,14 @@ pub fn length_before(byte: u8, bytes: &[u8]) -> usize
     }
 }
 
-/// Returns the line up to its comment.
+/// Returns the line up to its first `;`, which begins its comment.
 pub fn before_comment(line: &[u8]) -> &[u8]
     ensures { result.now ≡ before_first begins_comment line.now }
 {
     &line[..length_before(b';', line)]
 }
 
-/// Returns whether the two words are equal.
+/// Returns whether the word of a line is this text, byte for byte.
 pub fn is_word(word: &[u8], text: &str) -> bool
     ensures { result ≡ bytes_eq word.now text.now }
 {

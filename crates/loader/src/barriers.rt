@@ -8,6 +8,7 @@ use cyclic_barrier::Barrier;
 use row_code::DeclaredBarrier;
 use std::alloc::{AllocError, Global};
 
+/// Returns the first row of the barrier's action, or 0 if it has none.
 fn action_row(barrier: &DeclaredBarrier) -> u16
     ensures { result ≡ action_row barrier.now }
 {
@@ -27,7 +28,7 @@ pub fn action_rows(alloc: Global, barriers: &[DeclaredBarrier]) -> Result<Vec<u1
         .collect(alloc)
 }
 
-/// Checks whether the first row of barrier `n`'s action exists.
+/// Returns the fault of barrier `n` if it has an action whose first row doesn't exist.
 fn action_fault(rows: usize, n: u8, action: Option<u16>) -> Option<LoadFault>
     ensures { result ≡ action_fault rows n action }
 {
@@ -37,7 +38,7 @@ fn action_fault(rows: usize, n: u8, action: Option<u16>) -> Option<LoadFault>
     }
 }
 
-/// A new barrier of parties, whose action's row is there.
+/// Makes barrier `n`, or returns its fault: it has no parties, or its action's first row doesn't exist.
 fn make(rows: usize, n: u8, barrier: DeclaredBarrier) -> Result<Barrier, LoadFault>
     ensures fault { IfErr result (λ fault. barrier_fault rows n barrier ≡ Some fault) }
     ensures none { OnOk result (barrier_fault rows n barrier ≡ None) }
@@ -52,7 +53,7 @@ fn make(rows: usize, n: u8, barrier: DeclaredBarrier) -> Result<Barrier, LoadFau
     }
 }
 
-/// Makes the barriers one after the other.
+/// Makes the barriers in order, or returns the first fault. `rows` is the number of the program's rows.
 pub fn make_all(
     alloc: Global,
     rows: usize,

@@ -37,21 +37,21 @@ impl Model for Loaded {
 }
 
 impl Loaded {
-    /// The rows, by number.
+    /// Returns the rows, by number.
     pub fn rows(&self) -> &[Row]
         ensures { result.now ≡ self.now.rows }
     {
         self.rows.as_slice()
     }
 
-    /// The threads, by number, each with the row that it begins at.
+    /// Returns the threads, by number, each with the row that it begins at.
     pub fn threads(&self) -> &[DeclaredThread]
         ensures { result.now ≡ self.now.threads }
     {
         self.threads.as_slice()
     }
 
-    /// The phasers, before anybody has arrived.
+    /// Returns the phasers as they are before anybody has arrived.
     pub fn phasers(&self) -> &Forest
         ensures { result.now ≡ self.now.phasers }
     {
@@ -79,7 +79,7 @@ impl Loaded {
         self.actions.as_slice()
     }
 
-    /// The phasers again, and the row that each one's routine begins at.
+    /// Returns a copy of the phasers, and of the row that each one's routine begins at.
     fn copied_phasers(&self, alloc: Global) -> Result<(Forest, Vec<u16>), AllocError>
         ensures phasers { IfOk result (λ both. both.0 ≡ self.now.phasers) }
         ensures routines { IfOk result (λ both. both.1.items ≡ self.now.routines) }
@@ -88,7 +88,7 @@ impl Loaded {
         Ok((phasers, Vec::from_slice(alloc, self.routines.as_slice())?))
     }
 
-    /// The barriers again, and the row that each one's action begins at.
+    /// Returns a copy of the barriers, and of the row that each one's action begins at.
     fn copied_barriers(&self, alloc: Global) -> Result<(Vec<Barrier>, Vec<u16>), AllocError>
         ensures barriers { IfOk result (λ both. both.0.items ≡ self.now.barriers) }
         ensures actions { IfOk result (λ both. both.1.items ≡ self.now.actions) }

@@ -15,7 +15,7 @@ pub enum Named {
     Barrier(u16),
 }
 
-/// Returns what the row names.
+/// Returns what the row names besides registers and numbers.
 pub fn named_by(row: Row) -> Named
     ensures { result ≡ named_by row }
 {
@@ -65,7 +65,7 @@ pub fn named_by(row: Row) -> Named
     }
 }
 
-/// Returns whether no thread goes from the row to the next one.
+/// Returns whether no thread goes from the row to the next one: at `halt`, `jmp`, `ret` and `throw`.
 pub fn stops(row: Row) -> bool
     ensures { result ≡ stops row }
 {

@@ -16,6 +16,7 @@ use row_code::{DeclaredPhaser, DeclaredPolicy};
 use std::alloc::{AllocError, Global};
 use tier_tree::{DeclareFault, Forest, PhaserId};
 
+/// Returns the policy as a forest has it: without the row of a routine.
 fn policy_of(policy: DeclaredPolicy) -> Policy
     ensures { result ≡ policy_of policy }
 {
@@ -27,7 +28,7 @@ fn policy_of(policy: DeclaredPolicy) -> Policy
     }
 }
 
-/// Checks whether the first row of phaser `n`'s routine exists.
+/// Returns the fault of phaser `n` if it has a routine whose first row doesn't exist.
 fn routine_fault(rows: usize, n: u8, policy: DeclaredPolicy) -> Option<LoadFault>
     ensures { result ≡ routine_fault rows n policy }
 {
@@ -37,6 +38,7 @@ fn routine_fault(rows: usize, n: u8, policy: DeclaredPolicy) -> Option<LoadFault
     }
 }
 
+/// Returns the first row of the phaser's routine, or 0 if it has none.
 fn routine_row(phaser: &DeclaredPhaser) -> u16
     ensures { result ≡ routine_row phaser.now }
 {
@@ -56,6 +58,7 @@ pub fn routine_rows(alloc: Global, phasers: &[DeclaredPhaser]) -> Result<Vec<u16
         .collect(alloc)
 }
 
+/// Returns the number of the phaser's parent, if it has one.
 fn parent_of(phaser: DeclaredPhaser) -> Option<PhaserId>
     ensures { result ≡ parent_of phaser }
 {
@@ -65,7 +68,7 @@ fn parent_of(phaser: DeclaredPhaser) -> Option<PhaserId>
     }
 }
 
-/// Declares a phaser after those before it.
+/// Declares a phaser after those before it, or returns why it is refused.
 fn declare(forest: &mut Forest, phaser: DeclaredPhaser) -> Result<(), DeclareFault>
     requires fits { IsPhaser phaser }
     requires fresh { AreAllFresh (phasers_of forest.old) }
@@ -119,7 +122,7 @@ fn declare_checked(
     }
 }
 
-/// Declares the phasers one after the other.
+/// Declares the phasers in order, or returns the first fault. `rows` is the number of the program's rows.
 pub fn declare_all(
     alloc: Global,
     rows: usize,

@@ -1,3 +1,4 @@
+//! The checks of what threads and rows name. Each function returns the fault that it finds, or `None`.
 ghost use Rattle.std.specs.Prelude.{◌≡◌, ◌<◌, ◌≤◌, length};
 ghost use Rattle.loader.specs.Fault.{target_fault, thread_fault, named_fault, row_fault};
 ghost use Rattle.loader.specs.Fault.{last_fault, earliest_in};
@@ -11,7 +12,7 @@ use row_code::DeclaredThread;
 /// How many cells there are.
 const CELLS: u16 = 32;
 
-/// Checks whether the row exists.
+/// Checks whether this row exists, which `place` names. There are `rows` rows.
 pub fn target_fault(rows: usize, place: Place, row: u16) -> Option<LoadFault>
     ensures { result ≡ target_fault rows place row }
 {
@@ -43,7 +44,7 @@ fn named_fault(counts: Counts, n: u16, named: Named) -> Option<LoadFault>
     }
 }
 
-/// Returns the first fault of the threads.
+/// Checks in order whether each thread's first row exists.
 pub fn thread_fault(rows: usize, threads: &[DeclaredThread]) -> Option<LoadFault>
     requires { length threads.now ≤ 64 }
     ensures { result ≡ earliest_in (thread_fault rows) 0 threads.now }
@@ -57,7 +58,7 @@ pub fn thread_fault(rows: usize, threads: &[DeclaredThread]) -> Option<LoadFault
     None
 }
 
-/// Returns the first fault of the rows, except that of the last one.
+/// Checks in order whether what each row names exists.
 pub fn row_fault(counts: Counts, rows: &[Row]) -> Option<LoadFault>
     requires { length rows.now < 65536 }
     ensures { result ≡ earliest_in (row_fault counts) 0 rows.now }
@@ -71,7 +72,7 @@ pub fn row_fault(counts: Counts, rows: &[Row]) -> Option<LoadFault>
     None
 }
 
-/// Checks whether a thread could go on after the last row.
+/// Checks whether a thread could go on after the last row. Without rows there is no fault.
 pub fn last_fault(rows: &[Row]) -> Option<LoadFault>
     ensures { result ≡ last_fault rows.now }
 {

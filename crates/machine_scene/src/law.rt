@@ -1,3 +1,4 @@
+//! What is true of every scene. Each law is the contract of a function that does nothing.
 ghost use Rattle.std.specs.Prelude.{◌≡◌, ℕ, ◌&&◌, not, is_some};
 ghost use Rattle.loader.specs.Program.{Program, row_at};
 ghost use Rattle.machine_scene.specs.Scene.{Scene, thread_at, first_scene};
@@ -7,8 +8,8 @@ ghost use Rattle.machine_scene.specs.Sound.{IsSound};
 
 use loader::Loaded;
 
-/// A thread's turn is ready exactly if `is_listed` is true for the thread's status and row. A thread's wait can expire
-/// exactly if its turn isn't ready, and `can_run_out` is true for the thread's status and row.
+/// A thread's turn is ready exactly if `is_listed`, a table by status and row, is true. A thread's wait can expire exactly if
+/// its turn isn't ready, and `can_run_out`, another such table, is true.
 #[tactic(auto, using(crate::proofs::ReadyThreads::ready_as_listed, crate::proofs::ReadyThreads::expiry_as_listed))]
 pub fn who_is_ready()
     ensures turns { (t : ℕ) (program : Program) (scene : Scene) → is_ready t program scene
@@ -18,7 +19,7 @@ pub fn who_is_ready()
         && can_run_out (thread_at scene t).status (row_at program.rows (thread_at scene t).pc) scene) }
 {}
 
-/// The first scene of a loaded program is sound, for any limit of steps.
+/// The first scene of a loaded program is sound (`IsSound`), for any limit of steps: each turn can rely on it.
 #[tactic(auto, using(crate::proofs::Start::first_scene_is_sound))]
 pub fn a_first_scene_is_sound(program: &Loaded)
     ensures { (steps : ℕ) → IsSound program.now steps (first_scene program.now) }

@@ -18,8 +18,7 @@ pub enum Touched {
 }
 
 impl Touched {
-    /// Saves nothing. Most turns change nothing else, and are noted over another such note: only a different note is
-    /// overwritten.
+    /// Makes it say that nothing else may change. Most notes say so already, and then nothing is written.
     #[inline(always)]
     pub(crate) fn clear(&mut self)
         ensures { self.new ≡ Nothing }
@@ -53,7 +52,7 @@ impl Model for SceneNote {
 }
 
 impl SceneNote {
-    /// Of no thread, with nothing in it: to be written over by `Stage::note`.
+    /// Makes a note that says nothing, for `Stage::note` to overwrite.
     pub fn new() -> SceneNote
         ensures top { result.before.top ≡ None }
         ensures touched { result.touched ≡ Nothing }

@@ -1,3 +1,4 @@
+//! What a turn may change besides its own thread, so that it can be saved before the turn.
 ghost use Rattle.std.specs.Prelude.{◌≡◌};
 ghost use Rattle.machine_scene.specs.Undo.{reach_of_entry, reach_of_ret, reach_of_row, reach_of_wait, reach_in};
 
@@ -16,7 +17,7 @@ pub enum Reach {
     Barrier(u16),
 }
 
-/// A pop, by the entry that it pops.
+/// Returns the reach of a turn that throws and pops this entry. That of an action breaks its barrier.
 fn reach_of_entry(top: &Option<Frame>) -> Reach
     ensures { result ≡ reach_of_entry top.now }
 {
@@ -26,7 +27,7 @@ fn reach_of_entry(top: &Option<Frame>) -> Reach
     }
 }
 
-/// `ret`, by the top entry.
+/// Returns the reach of `ret` with this entry on top. It may end a routine or an action.
 fn reach_of_ret(top: &Option<Frame>) -> Reach
     ensures { result ≡ reach_of_ret top.now }
 {
@@ -37,7 +38,7 @@ fn reach_of_ret(top: &Option<Frame>) -> Reach
     }
 }
 
-/// A row of a running thread.
+/// Returns the reach of a running thread's row, with this entry on top of its stack.
 fn reach_of_row(row: Row, top: &Option<Frame>) -> Reach
     ensures { result ≡ reach_of_row row top.now }
 {
@@ -57,7 +58,7 @@ fn reach_of_row(row: Row, top: &Option<Frame>) -> Reach
     }
 }
 
-/// The end of a wait at a barrier.
+/// Returns the reach of the end of a wait at a barrier, at this row.
 fn reach_of_wait(row: Row) -> Reach
     ensures { result ≡ reach_of_wait row }
 {
@@ -67,7 +68,7 @@ fn reach_of_wait(row: Row) -> Reach
     }
 }
 
-/// By the thread's status.
+/// Returns the reach of the turn of a thread with this status, at this row, with this entry on top of its stack.
 pub fn reach_in(status: Status, row: Row, top: &Option<Frame>) -> Reach
     ensures { result ≡ reach_in status row top.now }
 {

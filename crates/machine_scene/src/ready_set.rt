@@ -9,7 +9,7 @@ pub struct ReadySet {
     pub registering: u64,
 }
 
-/// Returns the set with this thread, or without it: bit n is thread n.
+/// Returns the set with this thread if `within` is true, and otherwise without it.
 #[inline(always)]
 #[tactic(auto, using(crate::proofs::ThreadSets::set_at))]
 pub fn set_at(set: u64, thread: usize, within: bool) -> u64

@@ -67,7 +67,7 @@ impl Model for Stage {
         (length stage.threads.items ≤ 64) × (length stage.barriers.items ≤ 64) };
 }
 
-/// The event of a turn that is its own thread's alone.
+/// Returns the event of a turn that changes nothing else that a trace shows.
 fn alone(what: What) -> Event
     ensures { result ≡ record { what = what; mark = Mark.Nothing } }
 {
@@ -77,7 +77,7 @@ fn alone(what: What) -> Event
     }
 }
 
-/// The threads once more, word for word.
+/// Returns copies of the threads, word for word.
 fn copies(alloc: Global, threads: &[Thread]) -> Result<Vec<Thread>, AllocError>
     ensures { IfOk result (λ copies. copies.items ≡ threads.now) }
 {
@@ -89,7 +89,7 @@ fn copies(alloc: Global, threads: &[Thread]) -> Result<Vec<Thread>, AllocError>
 }
 
 impl Stage {
-    /// These threads, phasers and barriers, and cells of 0, for a program that fits them.
+    /// Makes a stage with these threads, phasers and barriers, which fit the program, and with 0 in each cell.
     pub fn new(
         program: &Loaded,
         threads: Vec<Thread>,
@@ -156,14 +156,14 @@ impl Stage {
         &self.threads[t]
     }
 
-    /// The phasers.
+    /// Returns the phasers.
     pub fn forest(&self) -> &Forest
         ensures { result.now ≡ self.now.phasers }
     {
         &self.phasers
     }
 
-    /// The phaser of this number.
+    /// Returns this phaser's number as the forest's functions take it. There is such a phaser.
     fn phaser_id(&self, phaser: u16) -> PhaserId
         requires { phaser < length self.now.phasers }
         ensures { result.0 ≡ phaser }
@@ -188,7 +188,7 @@ impl Stage {
         &self.barriers[b]
     }
 
-    /// The numbers in the cells.
+    /// Returns the numbers in the 32 cells.
     pub fn cells(&self) -> &[i32; 32]
         ensures { result.now ≡ self.now.cells }
     {
@@ -223,7 +223,7 @@ impl Stage {
         self.cells[number]
     }
 
-    /// Returns whether a thread can take a step.
+    /// Returns whether a thread can take a step. The stored set of ready threads says so.
     #[inline(always)]
     pub fn is_ready(&self, program: &Loaded, t: usize) -> bool
         requires ready { KnowsReady program.now self.now }
@@ -247,8 +247,7 @@ impl Stage {
         self.has_time(row, t)
     }
 
-    /// Plays the turn of a thread that can take a step. An `Err` means that it is out of memory for a value to put out. Then
-    /// nothing has changed.
+    /// Plays the turn of a thread that can take a step. `Err`: no memory for a value to put out, and nothing has changed.
     #[inline(always)]
     pub fn turn(&mut self, program: &Loaded, t: usize) -> Result<Event, AllocError>
         requires sound { IsSound program.now most_before (scene_of self.old) }
@@ -274,8 +273,7 @@ impl Stage {
         }
     }
 
-    /// Plays the turn of a thread that is at this row, without the sets of ready threads: the turn may have changed them, which
-    /// the caller finds out. Its contract shows that the scene stays sound and can be restored.
+    /// Plays the turn of a thread that is at this row, and leaves the sets of ready threads for the caller to bring up to date.
     #[inline(always)]
     fn play(&mut self, program: &Loaded, row: Row, t: usize) -> Result<Event, AllocError>
         requires sound { IsSound program.now most_before (scene_of self.old) }
@@ -298,7 +296,7 @@ impl Stage {
         }
     }
 
-    /// Decides by what the thread is doing: it plays its row, pops a stack entry, or ends its wait.
+    /// Plays a turn by what the thread is doing: it plays its row, pops a stack entry, or ends its wait.
     #[inline(always)]
     #[tactic(auto, using(crate::proofs::Reaches::within_same))]
     fn play_by_status(&mut self, program: &Loaded, row: Row, t: usize) -> Result<Event, AllocError>
@@ -324,7 +322,7 @@ impl Stage {
         }
     }
 
-    /// The row of a running thread, by its group.
+    /// Plays the row of a running thread, by the function of the row's group.
     #[tactic(auto, using(crate::proofs::Reaches::within_same))]
     fn play_row(&mut self, program: &Loaded, row: Row, t: usize) -> Result<Event, AllocError>
         requires sound { IsSound program.now most_before (scene_of self.old) }
@@ -349,7 +347,7 @@ impl Stage {
         }
     }
 
-    /// The time of a thread's wait runs out.
+    /// Ends a thread's timed wait, which can expire: the thread throws `TimeoutException`.
     pub fn expire(&mut self, program: &Loaded, t: usize) -> Event
         requires sound { IsSound program.now most_before (scene_of self.old) }
         requires known { KnowsReady program.now self.old }
@@ -365,7 +363,7 @@ impl Stage {
         event
     }
 
-    /// Like `expire`, without the sets of ready threads.
+    /// Like `expire`, but it leaves the sets of ready threads for the caller to bring up to date.
     fn run_out(&mut self, program: &Loaded, row: Row, t: usize) -> Event
         requires sound { IsSound program.now most_before (scene_of self.old) }
         requires thread { t < length self.old.threads }
@@ -380,7 +378,7 @@ impl Stage {
         self.run_out_by_status(program, row, t)
     }
 
-    /// Decides by what the thread waits for: a phase, or a barrier, which breaks.
+    /// Ends a timed wait by what the thread waits for: a phase, or a barrier, which breaks.
     fn run_out_by_status(&mut self, program: &Loaded, row: Row, t: usize) -> Event
         requires thread { t < length self.old.threads }
         requires at { StandsAt program.now row t self.old }

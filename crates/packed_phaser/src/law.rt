@@ -1,3 +1,4 @@
+//! Laws about words and the states that they represent. Each law is the contract of a function that does nothing.
 ghost use Rattle.std.specs.Prelude.{◌≡◌, ℕ, false};
 ghost use Rattle.packed_phaser.specs.Flat.{Flat, IsFlat};
 ghost use Rattle.packed_phaser.specs.Word.{IsWord, record_of};

@@ -17,8 +17,7 @@ pub enum Policy {
 }
 
 impl Policy {
-    /// Returns whether the end of `phase` with this many registered parties terminates the phaser: what `onAdvance(phase,
-    /// registeredParties)` returns. Only `Routine` returns `None`.
+    /// Returns what `onAdvance(phase, registeredParties)` returns, or `None` for `Routine`, which only the program can say.
     pub fn ends(self, phase: Phase, parties: u16) -> Option<bool>
         ensures { result ≡ ends self phase parties }
     {

@@ -62,6 +62,7 @@ pub enum Arrived {
     NotThere,
 }
 
+/// Splits 64 bits into the four fields.
 #[tactic(auto, using(std::proofs::lemmas::Nat::and_mask), unfolding(crate::specs::Word::fields_of))]
 fn unpacked(bits: u64) -> Fields
     ensures fields { result ≡ fields_of bits }
@@ -75,6 +76,7 @@ fn unpacked(bits: u64) -> Fields
     }
 }
 
+/// Joins four fields to a word. `unarrived` is at most `parties`, or at most 1 if that is 0.
 #[tactic(auto, unfolding(crate::specs::Word::fields_of))]
 fn packed(fields: Fields) -> Word
     requires phase { fields.phase < 2 ^ 31 }
@@ -89,14 +91,14 @@ fn packed(fields: Fields) -> Word
     Word { bits }
 }
 
-/// Returns the lowest field of a phaser at which nobody has arrived.
+/// Returns `unarrived` at the start of a phase: the parties, or 1 if there are none.
 fn all_of(parties: u16) -> u16
     ensures { result ≡ max parties 1 }
 {
     parties.max(1)
 }
 
-/// Returns the parties after an arrival: one fewer if the party leaves.
+/// Returns how many parties stay registered after an arrival: one fewer if the party leaves.
 #[inline(always)]
 fn remaining(parties: u16, leave: bool) -> u16
     requires { 0 < parties }
@@ -118,8 +120,7 @@ impl Word {
         })
     }
 
-    /// Returns the word with these bits, or `None` if they stand for no phaser, since more parties are still to arrive than
-    /// there are.
+    /// Returns the word with these bits, or `None` if `unarrived` is above `parties` (above 1 if that is 0).
     pub fn from_raw(bits: u64) -> Option<Word>
         ensures { SomeIff result (IsWord bits) bits }
     {
@@ -131,22 +132,21 @@ impl Word {
         }
     }
 
-    /// The bits of the word.
+    /// Returns the word's 64 bits.
     pub fn raw(self) -> u64
         ensures { result ≡ self }
     {
         self.bits
     }
 
-    /// The phase that the phaser is in, or was terminated in.
+    /// Returns the phase that the phaser is in, or in which it was terminated.
     fn phase(self) -> Phase
         ensures { result ≡ (record_of self).phase }
     {
         Phase::prevailing(unpacked(self.bits).phase as i32)
     }
 
-    /// `getPhase`: the number of the phase, less 2147483648 once the phaser is terminated. The upper half of the word is this
-    /// number's bits.
+    /// `getPhase`: the number of the phase, less 2147483648 once the phaser is terminated. It is the word's upper half.
     #[tactic(auto, unfolding(crate::specs::Word::fields_of))]
     pub fn phase_view(self) -> i32
         ensures { result ≡ view_of (record_of self) }
@@ -154,14 +154,14 @@ impl Word {
         ((self.bits >> 32) as u32).cast_signed()
     }
 
-    /// `getRegisteredParties`.
+    /// `getRegisteredParties`: how many parties are registered, also once the phaser is terminated.
     pub fn parties(self) -> u16
         ensures { result ≡ (record_of self).parties }
     {
         unpacked(self.bits).parties
     }
 
-    /// `getArrivedParties`; all of them once the phaser is terminated.
+    /// `getArrivedParties`: how many parties have arrived in this phase; all of them once the phaser is terminated.
     pub fn arrived(self) -> u16
         ensures { result ≡ (record_of self).arrived }
     {
@@ -173,21 +173,21 @@ impl Word {
         }
     }
 
-    /// `getUnarrivedParties`; 0 once the phaser is terminated.
+    /// `getUnarrivedParties`: how many parties are still to arrive; 0 once the phaser is terminated.
     pub fn unarrived(self) -> u16
         ensures { result ≡ unarrived_of (record_of self) }
     {
         self.parties() - self.arrived()
     }
 
-    /// `isTerminated`.
+    /// `isTerminated`: whether the field `ended` is 1.
     pub fn is_terminated(self) -> bool
         ensures { result ≡ (record_of self).ended }
     {
         unpacked(self.bits).ended
     }
 
-    /// Nobody is registered, and no phase end is pending; false once the phaser is terminated.
+    /// Returns whether no party is registered, no phase end is pending, and it isn't terminated. `unarrived` is 1, no party.
     pub fn is_empty(self) -> bool
         ensures { result ≡ is_empty (record_of self) }
     {
@@ -195,7 +195,7 @@ impl Word {
         !fields.ended && fields.parties == 0 && fields.unarrived == 1
     }
 
-    /// Nobody is waited for any more, and the phase hasn't ended yet.
+    /// Returns whether nobody is still to arrive, and the phase hasn't ended yet. False once terminated.
     pub fn is_turned(self) -> bool
         ensures { result ≡ (record_of self).turned }
     {
@@ -203,7 +203,7 @@ impl Word {
         !fields.ended && fields.unarrived == 0
     }
 
-    /// `register` if `count` is 1, and otherwise `bulkRegister(count)`.
+    /// `register` if `count` is 1, and otherwise `bulkRegister(count)`. 0 parties change nothing.
     pub fn register(self, count: u32) -> Registered
         ensures { registration_of result ≡ register count (record_of self) }
     {
@@ -234,7 +234,7 @@ impl Word {
         Registered::At(packed(after), self.phase_view())
     }
 
-    /// Returns the word with one party fewer to arrive, and one fewer registered if it leaves.
+    /// Subtracts an arrival: returns the word with one party fewer to arrive, and one fewer registered if it leaves.
     #[inline(always)]
     fn without_one(self, leave: bool) -> Word
         requires awaited { 0 < (fields_of self).unarrived }
@@ -272,8 +272,7 @@ impl Word {
         Arrived::Turned(self.without_one(leave))
     }
 
-    /// `arrive` in the phase of another word, and not in that of this one: all parties are to arrive
-    /// again before.
+    /// `arrive` in the phase of `other`, for a word of an earlier phase: first, all its parties are to arrive again.
     #[inline(always)]
     pub fn arrive_anew(self, other: Word, leave: bool) -> Arrived
         ensures { arrival_of result
@@ -297,8 +296,7 @@ impl Word {
         }
     }
 
-    /// Ends the phase of a turned phaser, and terminates the phaser if `ends` is true. In a word that this terminates, nobody
-    /// counts as still to arrive.
+    /// Moves a turned phaser to its next phase. If `ends` is true, it is terminated there, and `unarrived` is 0.
     pub fn advance(self, ends: bool) -> Word
         requires { (record_of self).turned ≡ true }
         ensures record { record_of result ≡ advance ends (record_of self) }
@@ -325,14 +323,14 @@ impl Word {
         })
     }
 
-    /// Its parties at the start of this phase, whatever the word was.
+    /// Returns a phaser with this word's parties at the start of `phase`, when none has arrived, and not terminated.
     pub fn renew(self, phase: Phase) -> Word
         ensures { record_of result ≡ renew phase (record_of self) }
     {
         Word::fresh(phase, self.parties())
     }
 
-    /// `forceTermination`. The lowest field stays as it is.
+    /// `forceTermination`: sets the field `ended`, and leaves the three others.
     pub fn force(self) -> Word
         ensures record { record_of result ≡ force (record_of self) }
         ensures fields { fields_of result ≡ record (fields_of self) { ended = true } }

@@ -32,7 +32,7 @@ impl Phase {
         Some(Phase { number })
     }
 
-    /// The phase that follows this one.
+    /// Returns the phase that follows this one. After 2147483647 comes 0.
     pub fn next(self) -> Phase
         ensures { result ≡ next_phase self }
     {
@@ -45,7 +45,7 @@ impl Phase {
         }
     }
 
-    /// Returns what `getPhase` returns in this phase, as long as the phaser isn't terminated.
+    /// Returns the phase's number: what `getPhase` returns in it, unless the phaser is terminated.
     pub fn number(self) -> i32
         ensures { result ≡ pos self }
     {
@@ -59,7 +59,7 @@ impl Phase {
         self.number() + i32::MIN
     }
 
-    /// Returns the phase of a view, negative or not. For a terminated phaser that is Java's `getPhase() + Integer.MIN_VALUE`.
+    /// Returns the phase in which `getPhase` returns `view`. If `view` is negative, its number is `view` + 2147483648.
     pub fn prevailing(view: i32) -> Phase
         ensures { phase_view result (is_ended_view view) ≡ view }
     {

@@ -1,3 +1,5 @@
+//! The 8 bytes of a barrier: parties (2), 1 if it has an action (2), the action's first row or 0 (4). `read` reads entry `n`
+//! of a list that begins at the place `start` of the file. `push` writes an entry.
 ghost use Rattle.std.specs.Prelude.{◌≡◌, ◌+◌, ◌^◌, ◌<◌, length, IfOk, IfSome};
 ghost use Rattle.row_code.specs.Barriers.{IsBarrier, barrier_bytes};
 ghost use Rattle.row_code.specs.Reading.{action_at, barrier_at};
@@ -9,6 +11,7 @@ use crate::read_fields::{i32_at, target_at, u16_at, zero_at};
 use crate::write_fault::WriteFault;
 use byte_ports::Sink;
 
+/// Returns the first row of the action, by a flag at the place `at` and the number after it: none for 0, and `value` for 1.
 #[tactic(auto, unfolding(crate::specs::Reading::action_at))]
 fn action_at(at: usize, flag: u16, value: i32) -> Result<Option<u16>, ImageFault>
     requires { at + 2 < 2 ^ 64 }
@@ -25,6 +28,7 @@ fn action_at(at: usize, flag: u16, value: i32) -> Result<Option<u16>, ImageFault
     }
 }
 
+/// Reads a barrier from the 8 bytes at the place `at` of the file, or returns the first field that is wrong.
 #[tactic(auto, unfolding(crate::specs::Reading::barrier_at))]
 fn barrier_at(at: usize, bytes: &[u8]) -> Result<DeclaredBarrier, ImageFault>
     requires size { length bytes.now ≡ 8 }
@@ -37,6 +41,7 @@ fn barrier_at(at: usize, bytes: &[u8]) -> Result<DeclaredBarrier, ImageFault>
     Ok(DeclaredBarrier { parties, action })
 }
 
+/// Returns the 8 bytes of a barrier.
 fn barrier_bytes(barrier: DeclaredBarrier) -> [u8; 8]
     ensures { result ≡ barrier_bytes barrier }
 {

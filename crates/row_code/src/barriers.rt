@@ -39,7 +39,7 @@ impl Barriers {
         Ok(Barriers { entries: barriers })
     }
 
-    /// The barriers, by number.
+    /// Returns the barriers, by number.
     pub fn as_slice(&self) -> &[DeclaredBarrier]
         ensures barriers { result.now ≡ self.now }
         ensures fits { length self.now ≤ 64 }
@@ -56,7 +56,7 @@ impl Barriers {
         })
     }
 
-    /// The barriers in the memory that was taken for them.
+    /// Returns the barriers in the memory that was taken for them.
     pub fn into_vec(self) -> Vec<DeclaredBarrier>
         ensures barriers { result.items ≡ self }
         ensures fits { length self ≤ 64 }

@@ -26,19 +26,21 @@ pub(crate) trait Entry: Copy {
 
     const SIZE: usize;
 
+    /// Reads the entry of number `n`. The list begins at the place `start` of the file. `timed` allows rows with a timeout.
     fn read(timed: bool, start: usize, n: u16, bytes: &[u8]) -> Result<Self, ImageFault>
         requires size { length bytes.now ≡ SIZE }
         requires place { start + 12 * n + 12 < 2 ^ 64 }
         ensures read { result ≡ reading timed start n bytes.now }
         ensures fits { IfOk result fits };
 
+    /// Writes the entry's bytes.
     fn push<W: Sink>(self, sink: &mut W) -> Result<(), WriteFault>
         requires { W.has_failed sink.old ≡ false }
         ensures bytes { OnOk result (Appends (W.written sink.old) (W.written sink.new) (spelling self)) }
         ensures failed { IsErr result ↔ IsTrue (W.has_failed sink.new) };
 }
 
-/// Reads so many entries from bytes that begin at this place of the file.
+/// Reads `count` entries from `bytes`, which begin at the place `start` of the file. Returns the first fault.
 pub(crate) fn read_entries<E: Entry>(
     alloc: Global,
     timed: bool,
@@ -63,7 +65,7 @@ pub(crate) fn read_entries<E: Entry>(
     Ok(list)
 }
 
-/// Writes one entry after the other.
+/// Writes the bytes of one entry after the other.
 pub(crate) fn write_entries<E: Entry, W: Sink>(sink: &mut W, list: &[E]) -> Result<(), WriteFault>
     requires { W.has_failed sink.old ≡ false }
     ensures bytes { OnOk result

@@ -15,8 +15,7 @@ pub enum ImageFault {
     Count,
     /// A field has a value that it can't have. This is the place of its first byte in the file, from 0.
     Field(usize),
-    /// The bytes of a row encode no row, or one with a timeout although the first four bytes say that there is none. This is
-    /// the number of the row.
+    /// The bytes of the row of this number encode no row, or one with a timeout that the first four bytes exclude.
     Row(u16),
     /// Bytes follow after the last row.
     Extra,

@@ -1,3 +1,5 @@
+//! The 12 bytes of a phaser: parent or 255 (1), kind of policy (1), parties (2), first phase (4), the policy's number or 0 (4).
+//! `read` reads entry `n` of a list that begins at the place `start` of the file. `push` writes an entry.
 ghost use Rattle.std.specs.Prelude.{◌≡◌, ◌+◌, ◌^◌, ◌<◌, length, IfOk, IfSome};
 ghost use Rattle.row_code.specs.Phasers.{IsPolicy, IsPhaser, kind_byte, argument, phaser_bytes};
 ghost use Rattle.row_code.specs.Reading.{parent_at, kind_at, policy_at, phaser_at};
@@ -9,6 +11,7 @@ use crate::read_fields::{i32_at, phase_at, target_at, u16_at, zero_at};
 use crate::write_fault::WriteFault;
 use byte_ports::Sink;
 
+/// Returns the parent that a byte says: a number up to 63, or none for 255. Others are a fault of the field at `at`.
 fn parent_at(at: usize, byte: u8) -> Result<Option<u8>, ImageFault>
     ensures parent { result ≡ parent_at at byte }
     ensures fits { IfOk result (λ parent. IfSome parent (λ n. n < 64)) }
@@ -20,6 +23,7 @@ fn parent_at(at: usize, byte: u8) -> Result<Option<u8>, ImageFault>
     }
 }
 
+/// Returns the kind of policy, 0 to 3, in the field at `at`. Any other byte is the fault of this field.
 fn kind_at(at: usize, byte: u8) -> Result<u8, ImageFault>
     ensures { result ≡ kind_at at byte }
 {
@@ -30,6 +34,7 @@ fn kind_at(at: usize, byte: u8) -> Result<u8, ImageFault>
     }
 }
 
+/// Returns the policy of this kind. `value`, in the field at `at`, is its phase or its row, and otherwise 0.
 #[tactic(auto, unfolding(crate::specs::Reading::policy_at))]
 fn policy_at(at: usize, kind: u8, value: i32) -> Result<DeclaredPolicy, ImageFault>
     ensures policy { result ≡ policy_at at kind value }
@@ -49,6 +54,7 @@ fn policy_at(at: usize, kind: u8, value: i32) -> Result<DeclaredPolicy, ImageFau
     }
 }
 
+/// Reads a phaser from the 12 bytes at the place `at` of the file, or returns the first field that is wrong.
 #[tactic(auto, unfolding(crate::specs::Reading::phaser_at))]
 fn phaser_at(at: usize, bytes: &[u8]) -> Result<DeclaredPhaser, ImageFault>
     requires size { length bytes.now ≡ 12 }
@@ -68,6 +74,7 @@ fn phaser_at(at: usize, bytes: &[u8]) -> Result<DeclaredPhaser, ImageFault>
     })
 }
 
+/// Returns the number of the policy's kind.
 fn kind_byte(policy: DeclaredPolicy) -> u8
     ensures { result ≡ kind_byte policy }
 {
@@ -79,6 +86,7 @@ fn kind_byte(policy: DeclaredPolicy) -> u8
     }
 }
 
+/// Returns the number that belongs to the policy: its phase or its row, and otherwise 0.
 fn argument(policy: DeclaredPolicy) -> i32
     ensures { result ≡ argument policy }
 {
@@ -89,6 +97,7 @@ fn argument(policy: DeclaredPolicy) -> i32
     }
 }
 
+/// Returns the 12 bytes of a phaser.
 fn phaser_bytes(phaser: DeclaredPhaser) -> [u8; 12]
     ensures { result ≡ phaser_bytes phaser }
 {

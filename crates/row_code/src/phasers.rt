@@ -43,6 +43,7 @@ impl Model for Phasers {
     ghost invariant = { λ p. ArePhasers p.entries.items };
 }
 
+/// Returns whether the phase of the policy, if it has one, isn't negative.
 fn is_policy(policy: DeclaredPolicy) -> bool
     ensures { IsTrue result ↔ IsPolicy policy }
 {
@@ -52,6 +53,7 @@ fn is_policy(policy: DeclaredPolicy) -> bool
     }
 }
 
+/// Returns whether each field is in its range: parent below 64, no negative phase.
 fn is_phaser(phaser: DeclaredPhaser) -> bool
     ensures { IsTrue result ↔ IsPhaser phaser }
 {
@@ -63,6 +65,7 @@ fn is_phaser(phaser: DeclaredPhaser) -> bool
     has_parent && 0 <= phaser.first_phase && is_policy(phaser.policy)
 }
 
+/// Returns whether the fields of each phaser are in their ranges.
 fn are_all_phasers(phasers: &[DeclaredPhaser]) -> bool
     ensures { IsTrue result ↔ All IsPhaser phasers.now }
 {
@@ -88,7 +91,7 @@ impl Phasers {
         }
     }
 
-    /// The phasers, by number.
+    /// Returns the phasers, by number.
     pub fn as_slice(&self) -> &[DeclaredPhaser]
         ensures phasers { result.now ≡ self.now }
         ensures fits { ArePhasers self.now }
@@ -105,7 +108,7 @@ impl Phasers {
         })
     }
 
-    /// The phasers in the memory that was taken for them.
+    /// Returns the phasers in the memory that was taken for them.
     pub fn into_vec(self) -> Vec<DeclaredPhaser>
         ensures phasers { result.items ≡ self }
         ensures fits { ArePhasers self }

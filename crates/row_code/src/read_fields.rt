@@ -1,10 +1,11 @@
+//! The numbers in the fields of an image, the lowest byte first. `at` is the place of a field in the file, for its fault.
 ghost use Rattle.std.specs.Prelude.{◌≡◌, ◌+◌, ◌<◌, length, IfOk};
 ghost use Rattle.row_code.specs.Phasers.{IsCount};
 ghost use Rattle.row_code.specs.Reading.{u16_at, i32_at, target_at, phase_at, zero_at};
 
 use crate::image_fault::ImageFault;
 
-/// Returns the number in the two bytes at this place.
+/// Returns the number in the two bytes from the place `i` on.
 pub fn u16_at(bytes: &[u8], i: usize) -> u16
     requires { i + 1 < length bytes.now }
     ensures { result ≡ u16_at bytes.now i }
@@ -12,7 +13,7 @@ pub fn u16_at(bytes: &[u8], i: usize) -> u16
     u16::from_le_bytes([bytes[i], bytes[i + 1]])
 }
 
-/// The `int` in the four bytes from a place on.
+/// Returns the `int` in the four bytes from the place `i` on.
 pub fn i32_at(bytes: &[u8], i: usize) -> i32
     requires { i + 3 < length bytes.now }
     ensures { result ≡ i32_at bytes.now i }
@@ -20,7 +21,7 @@ pub fn i32_at(bytes: &[u8], i: usize) -> i32
     i32::from_le_bytes([bytes[i], bytes[i + 1], bytes[i + 2], bytes[i + 3]])
 }
 
-/// Returns the number of a row, from a field that begins at this place of the file.
+/// Returns the row's number, 0 to 65535, in the field at `at`. Any other number is the fault of this field.
 pub fn target_at(at: usize, value: i32) -> Result<u16, ImageFault>
     ensures { result ≡ target_at at value }
 {
@@ -30,7 +31,7 @@ pub fn target_at(at: usize, value: i32) -> Result<u16, ImageFault>
     }
 }
 
-/// Returns the number of a phase, from such a field.
+/// Returns the phase in the field at `at`. A negative number is the fault of this field.
 pub fn phase_at(at: usize, value: i32) -> Result<i32, ImageFault>
     ensures phase { result ≡ phase_at at value }
     ensures fits { IfOk result (λ phase. IsCount phase) }
@@ -42,7 +43,7 @@ pub fn phase_at(at: usize, value: i32) -> Result<i32, ImageFault>
     }
 }
 
-/// Checks that a field is 0, since it isn't used.
+/// Checks that the unused field at `at` is 0. Any other number is the fault of this field.
 pub fn zero_at(at: usize, value: i32) -> Result<i32, ImageFault>
     ensures { result ≡ zero_at at value }
 {

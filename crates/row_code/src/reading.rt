@@ -1,3 +1,4 @@
+//! From bytes to an image: 4 bytes of magic, four counts of 2 bytes, then the phasers, barriers, threads and rows.
 ghost use Rattle.std.specs.Prelude.{◌≡◌, ◌≤◌, ◌*◌, length, drop, Ok, IfOk, take};
 ghost use Rattle.row_code.specs.declared.image.Image.{Image};
 ghost use Rattle.row_code.specs.Image.{IsImage, image_bytes};
@@ -15,6 +16,7 @@ use crate::rows::Rows;
 use crate::threads::Threads;
 use std::alloc::Global;
 
+/// Reads the four counts, without a check.
 fn counts_in(bytes: &[u8]) -> Counts
     requires { 12 ≤ length bytes.now }
     ensures { result ≡ counts_in bytes.now }
@@ -27,37 +29,42 @@ fn counts_in(bytes: &[u8]) -> Counts
     }
 }
 
+/// Returns whether there are more than 64 phasers, barriers or threads.
 fn is_too_many(counts: Counts) -> bool
     ensures { result ≡ is_too_many counts }
 {
     64 < counts.phasers || 64 < counts.barriers || 64 < counts.threads
 }
 
+/// Returns the place of the first barrier in the file, after 12 bytes a phaser.
 fn barriers_start(counts: Counts) -> usize
     ensures { result ≡ barriers_start counts }
 {
     12 + 12 * usize::from(counts.phasers)
 }
 
+/// Returns the place of the first thread in the file, after 8 bytes a barrier.
 fn threads_start(counts: Counts) -> usize
     ensures { result ≡ threads_start counts }
 {
     barriers_start(counts) + 8 * usize::from(counts.barriers)
 }
 
+/// Returns the place of the first row in the file, after 4 bytes a thread.
 fn rows_start(counts: Counts) -> usize
     ensures { result ≡ rows_start counts }
 {
     threads_start(counts) + 4 * usize::from(counts.threads)
 }
 
-/// Returns how many bytes an image with these counts has.
+/// Returns how many bytes an image with these counts has. A row has 8.
 fn file_end(counts: Counts) -> usize
     ensures { result ≡ file_end counts }
 {
     rows_start(counts) + 8 * usize::from(counts.rows)
 }
 
+/// Returns whether these are the first four bytes of an image, with or without timed rows.
 fn is_magic(four: &[u8]) -> bool
     ensures { result ≡ is_magic four.now }
 {
@@ -71,6 +78,7 @@ pub fn is_image_file(file: &[u8]) -> bool
     is_magic(&file[..file.len().min(4)])
 }
 
+/// Returns whether the magic says that a row has a timeout.
 fn says_timed(bytes: &[u8]) -> bool
     requires { 4 ≤ length bytes.now }
     ensures { result ≡ says_timed bytes.now }
@@ -78,6 +86,7 @@ fn says_timed(bytes: &[u8]) -> bool
     &bytes[..4] == TIMED_MAGIC.as_slice()
 }
 
+/// Checks the magic, the counts and the length of an image, and returns the counts.
 #[tactic(auto, unfolding(crate::specs::Reading::counts_at))]
 fn counts_at(bytes: &[u8]) -> Result<Counts, ImageFault>
     ensures counts { result ≡ counts_at bytes.now }
@@ -105,6 +114,7 @@ fn counts_at(bytes: &[u8]) -> Result<Counts, ImageFault>
     Ok(counts)
 }
 
+/// Returns the bytes from the place `start` on.
 fn bytes_from(bytes: &[u8], start: usize) -> &[u8]
     requires { start ≤ length bytes.now }
     ensures { result.now ≡ drop start bytes.now }
@@ -112,7 +122,7 @@ fn bytes_from(bytes: &[u8], start: usize) -> &[u8]
     &bytes[start..]
 }
 
-/// The rows in the bytes, of an image whose magic says whether one of them has a timeout.
+/// Reads `count` rows. If the magic says `timed`, one of them has to have a timeout; otherwise none may.
 #[tactic(auto, unfolding(crate::specs::Reading::rows_at))]
 fn read_rows(alloc: Global, timed: bool, count: u16, bytes: &[u8]) -> Result<Rows, ImageFault>
     requires { 8 * count ≤ length bytes.now }
@@ -126,6 +136,7 @@ fn read_rows(alloc: Global, timed: bool, count: u16, bytes: &[u8]) -> Result<Row
     Ok(rows)
 }
 
+/// Reads the four lists of an image whose counts are checked.
 #[tactic(auto, unfolding(crate::specs::Reading::lists_at))]
 fn lists_at(alloc: Global, counts: Counts, bytes: &[u8]) -> Result<Image, ImageFault>
     requires size { length bytes.now ≡ file_end counts }

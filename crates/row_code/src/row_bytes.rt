@@ -8,7 +8,7 @@ use crate::fields::{Fields, fields_of};
 use crate::operands::{operands_at, row_with};
 use instruction_table::{Row, opcode};
 
-/// The eight bytes of a row.
+/// Returns the eight bytes of a row: its opcode, three register fields, and a number with the lowest byte first.
 #[inline(always)]
 pub fn encode(row: Row) -> [u8; 8]
     ensures bytes { result ≡ bytes_of row }
@@ -30,6 +30,7 @@ pub fn encode(row: Row) -> [u8; 8]
     ]
 }
 
+/// Returns the fields of a row's bytes: all but the opcode.
 fn fields_at(bytes: [u8; 8]) -> Fields
     ensures { result ≡ fields_at bytes }
 {
@@ -38,8 +39,7 @@ fn fields_at(bytes: [u8; 8]) -> Fields
     Fields { a, b, c, imm }
 }
 
-/// Returns the row that the bytes encode. Returns `None` if a field that the row doesn't use isn't 0, or if an operand isn't of
-/// its kind.
+/// Returns the row with this encoding, or `None`: a field that the row doesn't use has to be 0, each operand of its kind.
 pub fn decode(bytes: [u8; 8]) -> Option<Row>
     // The row is the one with these bytes, and it is found if there is one.
     ensures found { IfSome result (λ row. IsRow row × (bytes_of row ≡ bytes)) }

@@ -1,3 +1,4 @@
+//! The 8 bytes of a row. `read` reads row `n` of an image, and `push` writes a row.
 ghost use Rattle.std.specs.Prelude.{◌≡◌, length, IfOk, IfSome};
 ghost use Rattle.row_code.specs.RowFields.{IsRow};
 ghost use Rattle.row_code.specs.Reading.{row_or, row_at};
@@ -9,6 +10,7 @@ use crate::write_fault::WriteFault;
 use byte_ports::Sink;
 use instruction_table::{Row, is_timed};
 
+/// Returns row `n` as it was found, or its fault: there is none, or it has a timeout and the image may have no such row.
 fn row_or(timed: bool, n: u16, found: Option<Row>) -> Result<Row, ImageFault>
     requires { IfSome found (λ row. IsRow row) }
     ensures read { result ≡ row_or timed n found }
@@ -20,6 +22,7 @@ fn row_or(timed: bool, n: u16, found: Option<Row>) -> Result<Row, ImageFault>
     }
 }
 
+/// Reads row `n` from its 8 bytes. `timed` says whether it may have a timeout.
 fn row_at(timed: bool, n: u16, bytes: &[u8]) -> Result<Row, ImageFault>
     requires { length bytes.now ≡ 8 }
     ensures read { result ≡ row_at timed n bytes.now }

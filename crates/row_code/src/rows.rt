@@ -43,7 +43,7 @@ impl Rows {
         self.entries.iter().any(|row| is_timed(*row))
     }
 
-    /// The rows, by number.
+    /// Returns the rows, by number.
     pub fn as_slice(&self) -> &[Row]
         ensures rows { result.now ≡ self.now }
         ensures fits { length self.now ≤ 65535 }
@@ -60,7 +60,7 @@ impl Rows {
         })
     }
 
-    /// The rows in the memory that was taken for them.
+    /// Returns the rows in the memory that was taken for them.
     pub fn into_vec(self) -> Vec<Row>
         ensures rows { result.items ≡ self }
         ensures fits { length self ≤ 65535 }

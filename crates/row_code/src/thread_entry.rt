@@ -1,3 +1,5 @@
+//! The 4 bytes of a thread: its first row. `read` reads entry `n` of a list that begins at the place `start` of the file, and
+//! `push` writes an entry.
 ghost use Rattle.std.specs.Prelude.{◌≡◌, length, IfOk};
 ghost use Rattle.row_code.specs.Threads.{IsThread, thread_bytes};
 ghost use Rattle.row_code.specs.Reading.{thread_at};
@@ -9,6 +11,7 @@ use crate::threads::DeclaredThread;
 use crate::write_fault::WriteFault;
 use byte_ports::Sink;
 
+/// Reads a thread from the 4 bytes at the place `at` of the file.
 #[tactic(auto, unfolding(crate::specs::Reading::thread_at))]
 fn thread_at(at: usize, bytes: &[u8]) -> Result<DeclaredThread, ImageFault>
     requires { length bytes.now ≡ 4 }
@@ -19,6 +22,7 @@ fn thread_at(at: usize, bytes: &[u8]) -> Result<DeclaredThread, ImageFault>
     Ok(DeclaredThread { first_row })
 }
 
+/// Returns the 4 bytes of a thread.
 fn thread_bytes(thread: DeclaredThread) -> [u8; 4]
     ensures { result ≡ thread_bytes thread }
 {

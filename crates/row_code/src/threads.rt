@@ -38,7 +38,7 @@ impl Threads {
         Ok(Threads { entries: threads })
     }
 
-    /// The threads, by number.
+    /// Returns the threads, by number.
     pub fn as_slice(&self) -> &[DeclaredThread]
         ensures threads { result.now ≡ self.now }
         ensures fits { length self.now ≤ 64 }
@@ -55,7 +55,7 @@ impl Threads {
         })
     }
 
-    /// The threads in the memory that was taken for them.
+    /// Returns the threads in the memory that was taken for them.
     pub fn into_vec(self) -> Vec<DeclaredThread>
         ensures threads { result.items ≡ self }
         ensures fits { length self ≤ 64 }

@@ -8,7 +8,7 @@ use crate::image::{Counts, Image, MAGIC, TIMED_MAGIC};
 use crate::write_fault::WriteFault;
 use byte_ports::Sink;
 
-/// Returns how many of each the image has, within the limits.
+/// Returns how many phasers, barriers, threads and rows the image has, all within their limits.
 fn counts_of(image: &Image) -> Counts
     ensures { result ≡ counts_of image.now }
 {
@@ -20,6 +20,7 @@ fn counts_of(image: &Image) -> Counts
     }
 }
 
+/// Returns the first 12 bytes of an image: its magic and its four counts.
 fn head_bytes(timed: bool, counts: Counts) -> [u8; 12]
     ensures { result ≡ magic timed ++ count_bytes counts }
 {
@@ -31,6 +32,7 @@ fn head_bytes(timed: bool, counts: Counts) -> [u8; 12]
     [m0, m1, m2, m3, p0, p1, b0, b1, t0, t1, r0, r1]
 }
 
+/// Writes the entries of the four lists, without the head.
 fn write_lists<W: Sink>(sink: &mut W, image: &Image) -> Result<(), WriteFault>
     requires { W.has_failed sink.old ≡ false }
     ensures bytes { OnOk result
@@ -43,8 +45,7 @@ fn write_lists<W: Sink>(sink: &mut W, image: &Image) -> Result<(), WriteFault>
     write_entries(sink, image.rows.as_slice())
 }
 
-/// Writes the image's bytes: first the counts, then one entry after another. If the sink fails, an unknown part of them is
-/// written.
+/// Writes the image's bytes: magic, counts, then the lists. If the sink fails, an unknown part of them is written.
 pub fn write_image<W: Sink>(image: &Image, sink: &mut W) -> Result<(), WriteFault>
     ensures bytes { OnOk result
         (Appends (W.written sink.old) (W.written sink.new) (image_bytes image.now)) }

@@ -33,7 +33,7 @@ pub enum Place {
     },
 }
 
-/// Space, tab, CR and LF.
+/// Returns whether a byte separates tokens: a space, a tab, CR or LF.
 pub fn is_blank(byte: u8) -> bool
     ensures { result ≡ is_blank byte }
 {
@@ -41,7 +41,7 @@ pub fn is_blank(byte: u8) -> bool
 }
 
 impl Place {
-    /// Returns the place after a byte that isn't a blank, at this offset.
+    /// Returns the place after the byte at this offset, which isn't a blank, or the fault of the byte.
     pub fn with_byte(self, at: u64, byte: u8) -> Result<Place, ScheduleFault>
         requires place { IsPlace at self }
         ensures reading { (part : List ℕ) → piece_from self at (byte ∷ part)
@@ -78,7 +78,7 @@ impl Place {
         }
     }
 
-    /// The token that ends before this offset, none between tokens.
+    /// Returns the token that ends before this offset, or `None` between tokens. An incomplete token is a fault.
     pub fn end(self, at: u64) -> Result<Option<Run>, ScheduleFault>
         requires place { IsPlace at self }
         ensures piece { (more : Schedule) → piece_with self at [] more ≡ ended_with result more }
@@ -102,7 +102,7 @@ impl Place {
     }
 }
 
-/// A token's first byte.
+/// Returns the place after a token's first byte: `t` for a turn, `x` for an expiry. Any other byte is a fault.
 fn first_byte(at: u64, byte: u8) -> Result<Place, ScheduleFault>
     ensures reading { (part : List ℕ) → reading_of at (byte ∷ part)
         ≡ reading_left result (at + 1) part }
@@ -123,7 +123,7 @@ fn first_byte(at: u64, byte: u8) -> Result<Place, ScheduleFault>
     })
 }
 
-/// One digit more of the thread's number.
+/// Returns the place after one more digit of the thread's number. A third digit, or a number above 63, is a fault.
 fn thread_digit(
     at: u64,
     expiry: bool,
@@ -153,7 +153,7 @@ fn thread_digit(
     })
 }
 
-/// A byte after the thread's number that is neither a digit nor a blank.
+/// Returns the place after `*`, which may follow the thread's number. Any other byte here is a fault.
 fn after_thread(
     at: u64,
     expiry: bool,
@@ -185,7 +185,7 @@ fn after_thread(
     })
 }
 
-/// One digit more of how often.
+/// Returns the place after one more digit of the count. An eleventh digit, or a count above 1,000,000,000, is a fault.
 fn times_digit(
     at: u64,
     choice: Choice,
@@ -216,7 +216,7 @@ fn times_digit(
     })
 }
 
-/// A token that ends with its thread's number.
+/// Returns the token that ends with its thread's number: one choice. A number without a digit is a fault.
 fn end_thread(at: u64, expiry: bool, digits: u8, number: u8) -> Result<Option<Run>, ScheduleFault>
     requires digits { digits ≤ 2 }
     requires number { number ≤ 63 }
@@ -238,7 +238,7 @@ fn end_thread(at: u64, expiry: bool, digits: u8, number: u8) -> Result<Option<Ru
     }))
 }
 
-/// A token that ends with how often.
+/// Returns the token that ends with its count. A count without a digit, or 0, is a fault.
 fn end_times(at: u64, choice: Choice, digits: u8, number: u32) -> Result<Option<Run>, ScheduleFault>
     requires digits { digits ≤ 10 }
     requires number { number ≤ 1000000000 }

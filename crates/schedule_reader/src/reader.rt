@@ -59,8 +59,8 @@ impl Reader {
         self.read
     }
 
-    /// Takes the stream's next bytes, and appends the runs of the tokens that are complete with them. It doesn't allocate if
-    /// the list has room for one run for every three bytes, and for two bytes more.
+    /// Takes the stream's next bytes, and appends the runs of the tokens that they complete. It doesn't allocate if the list
+    /// has room for one run for every three bytes, and for two bytes more.
     pub fn feed(&mut self, piece: &[u8], runs: &mut Vec<Run>) -> Result<(), ScheduleFault>
         requires { self.old.read + length piece.now < 9223372036854775807 }
         ensures runs { (bytes : List ℕ) → HasRead self.old bytes
@@ -98,8 +98,7 @@ impl Reader {
         }
     }
 
-    /// Ends the stream, and appends the run of its last token, if that wasn't complete before. It doesn't allocate if the list
-    /// has room for one run.
+    /// Ends the stream, and appends the run of its last token, unless a blank has ended it. It needs room for one run at most.
     pub fn finish(self, runs: &mut Vec<Run>) -> Result<(), ScheduleFault>
         ensures runs { (bytes : List ℕ) → HasRead self bytes
             → Adds result (open_schedule bytes) (finished_schedule bytes)
@@ -120,7 +119,7 @@ impl Reader {
     }
 }
 
-/// Goes on from a place over bytes that begin at this offset.
+/// Reads bytes that begin at this offset, from a place on. Appends the runs that they complete, and returns the next place.
 fn read_bytes(
     place: Place,
     at: u64,
@@ -153,7 +152,7 @@ fn read_bytes(
     Ok(next)
 }
 
-/// The bytes from this one on.
+/// Returns the bytes from the place `done` on.
 #[inline(always)]
 fn bytes_from(piece: &[u8], done: usize) -> &[u8]
     requires { done ≤ length piece.now }
@@ -163,8 +162,8 @@ fn bytes_from(piece: &[u8], done: usize) -> &[u8]
     &piece[done..]
 }
 
-/// Goes on from a place over the first of the bytes that begin at this offset: over all single turns, each with the space after
-/// it, if the bytes begin so, and otherwise over one byte. Returns over how many.
+/// Reads the first of the bytes that begin at this offset, from a place on: all single turns, each with the space after it, if
+/// the bytes begin so, and otherwise one byte. Returns the next place, and how many bytes were read.
 #[inline(always)]
 fn read_some(
     place: Place,
@@ -203,9 +202,8 @@ fn read_some(
     }
 }
 
-/// Goes on over the single turns, each with the space after it, that the bytes begin with. Returns how many bytes those are:
-/// none if the bytes don't begin so, or if the list is full. It is a function of its own and doesn't allocate, so that its loop
-/// is short.
+/// Reads the single turns, each with the space after it, that the bytes begin with. Returns how many bytes those are: 0 if the
+/// bytes don't begin so, or if the list is full. It is apart and doesn't allocate, so that its loop is short.
 #[inline(never)]
 fn read_turns(rest: &[u8], runs: &mut Vec<Run>) -> usize
     ensures takes { (at : ℕ) → Takes (Ok result) runs.old.items runs.new.items
@@ -230,7 +228,7 @@ fn read_turns(rest: &[u8], runs: &mut Vec<Run>) -> usize
     rest.len() - left.len()
 }
 
-/// One turn of a thread.
+/// Returns the run of one turn of a thread.
 fn turn_of(thread: u8) -> Run
     ensures { result ≡ run_of (choice_of false thread) 1 }
 {
@@ -243,7 +241,7 @@ fn turn_of(thread: u8) -> Run
     }
 }
 
-/// Returns the thread, and how many bytes the token and the space take, if the bytes begin with a single turn and a space.
+/// Returns the thread and the number of bytes, if the bytes begin with a single turn of a thread up to 63 and a space.
 #[inline(always)]
 fn turn_before_space(bytes: &[u8]) -> Option<(u8, usize)>
     ensures turn { IfSome result (λ turn. BeginsWithTurn bytes.now turn.0 turn.1) }
@@ -265,7 +263,7 @@ fn turn_before_space(bytes: &[u8]) -> Option<(u8, usize)>
     Some((thread, 4))
 }
 
-/// Goes on from a place over the byte at this offset.
+/// Reads the byte at this offset, from a place on, and returns the next place. A blank ends a token, whose run is appended.
 fn read_byte(place: Place, at: u64, byte: u8, runs: &mut Vec<Run>) -> Result<Place, ScheduleFault>
     requires place { IsPlace at place }
     ensures takes { Takes result runs.old.items runs.new.items
@@ -291,7 +289,7 @@ fn read_byte(place: Place, at: u64, byte: u8, runs: &mut Vec<Run>) -> Result<Pla
     }
 }
 
-/// Adds the run of the token that ends before this offset.
+/// Appends the run of the token that ends before this offset, if one does.
 fn end_token(place: Place, at: u64, runs: &mut Vec<Run>) -> Result<(), ScheduleFault>
     requires place { IsPlace at place }
     ensures takes { Takes result runs.old.items runs.new.items

@@ -23,7 +23,7 @@ pub fn push_choice(text: &mut Vec<u8>, choice: Choice)
     push_once(text, choice);
 }
 
-/// A choice as a token, with no space before it.
+/// Appends a choice as a token, with no space before it. There is room for it.
 fn push_once(text: &mut Vec<u8>, choice: Choice)
     requires room { vec_len text.old + 3 ≤ vec_capacity text.old }
     requires thread { choice.thread ≤ 63 }

@@ -18,7 +18,7 @@ pub struct Run {
 }
 
 impl Run {
-    /// One choice.
+    /// Returns the run of one choice.
     pub fn once(choice: Choice) -> Run
         ensures { result ≡ run_of choice 1 }
     {
@@ -78,7 +78,7 @@ pub fn joined(alloc: Global, runs: &[Run]) -> Result<Vec<Run>, AllocError>
     Ok(all)
 }
 
-/// Appends one choice as often as a run says to runs that are joined.
+/// Appends a run's choice, as often as it is made, to runs in which equal neighbours are joined, and keeps them so.
 fn push_run(runs: &mut Vec<Run>, run: Run) -> Result<(), AllocError>
     requires run { IsRun run }
     requires runs { All IsRun runs.old.items }

@@ -6,7 +6,7 @@ use crate::reader::Reader;
 use crate::run::Run;
 use std::alloc::Global;
 
-/// Returns the runs of a whole schedule that has no fault.
+/// Returns the runs of a whole schedule, or its first fault.
 pub fn read_schedule(alloc: Global, schedule: &[u8]) -> Result<Vec<Run>, ScheduleFault>
     requires { length schedule.now < 9223372036854775807 }
     ensures runs { IfOk result (λ runs.

@@ -19,7 +19,7 @@ pub fn write_schedule(alloc: Global, runs: &[Run]) -> Result<String, AllocError>
     Ok(text)
 }
 
-/// The tokens, one space between them.
+/// Returns the tokens of these runs, with one space between them.
 fn written(alloc: Global, runs: &[Run]) -> Result<String, AllocError>
     ensures { IfOk result (λ text. string_bytes text ≡ schedule_text runs.now) }
 {
@@ -29,7 +29,7 @@ fn written(alloc: Global, runs: &[Run]) -> Result<String, AllocError>
     }
 }
 
-/// A token, and a space and a token for each further run.
+/// Returns the token of the first run, and a space and a token for each further one.
 fn tokens(alloc: Global, first: Run, rest: &[Run]) -> Result<String, AllocError>
     ensures { IfOk result (λ text. string_bytes text ≡ token_of first ++ spaced_tokens rest.now) }
 {
@@ -42,7 +42,7 @@ fn tokens(alloc: Global, first: Run, rest: &[Run]) -> Result<String, AllocError>
     Ok(text)
 }
 
-/// A run as a token.
+/// Appends a run as a token.
 fn push_token(text: &mut String, run: Run) -> Result<(), AllocError>
     ensures { OnOk result (string_bytes text.new ≡ string_bytes text.old ++ token_of run) }
 {
@@ -51,7 +51,7 @@ fn push_token(text: &mut String, run: Run) -> Result<(), AllocError>
     push_times(text, run.times)
 }
 
-/// Appends the count, if it is above 1.
+/// Appends `*` and the count, if it is above 1.
 fn push_times(text: &mut String, times: u32) -> Result<(), AllocError>
     ensures { OnOk result (string_bytes text.new ≡ string_bytes text.old ++ times_text times) }
 {
@@ -62,7 +62,7 @@ fn push_times(text: &mut String, times: u32) -> Result<(), AllocError>
     push_number(text, u64::from(times))
 }
 
-/// A number in decimal digits.
+/// Appends a number in decimal digits.
 fn push_number(text: &mut String, number: u64) -> Result<(), AllocError>
     ensures { OnOk result (string_bytes text.new ≡ string_bytes text.old ++ decimal number) }
 {

@@ -22,7 +22,7 @@ pub struct Raced {
     pub word: Word,
 }
 
-/// The reply of a call that waits for nobody.
+/// Returns the reply in the result of a call that never waits.
 #[tactic(auto, using(crate::proofs::Tries::prompt_replies))]
 pub fn reply_of(call: Call, answer: Answer) -> Reply
     requires prompt { IsPrompt call }
@@ -50,7 +50,7 @@ impl SharedPhaser {
         }
     }
 
-    /// So many tries of a call.
+    /// Tries a call that never waits, at most so many times. `Raced`: another call was faster each time.
     fn within<C: Asked>(&self, party: &mut Party, call: Call, tries: u32) -> Result<Reply, Raced>
         requires call { C.call ≡ call }
         requires prompt { IsPrompt call }
@@ -93,8 +93,7 @@ impl SharedPhaser {
         self.within::<Brand>(party, Call::Register(parties), tries)
     }
 
-    /// `arrive`, or `arriveAndDeregister` if the party leaves. It tries at most so many times. The last arrival of a phase ends
-    /// the phase in the same step.
+    /// `arrive`, or `arriveAndDeregister` if the party leaves. It tries at most so many times. The last arrival ends the phase.
     pub fn arrive_within(&self, party: &mut Party, leave: bool, tries: u32) -> Result<Reply, Raced>
         requires tries { 0 < tries }
         requires phaser { phaser_of party.old ≡ self.now }

@@ -21,7 +21,7 @@ pub enum Outcome {
     Wait,
 }
 
-/// The phase of a turned phaser ends, as the policy says.
+/// Returns a turned phaser after the end of its phase. The policy says whether it is terminated.
 fn phase_ended(turned: Word, policy: Policy) -> Word
     requires { (record_of turned).turned ≡ true }
     ensures { record_of result
@@ -34,6 +34,7 @@ fn phase_ended(turned: Word, policy: Policy) -> Word
     turned.advance(ends)
 }
 
+/// Returns what `register` or `bulkRegister` does to a word. 0 parties change nothing.
 fn registration(word: Word, count: u32) -> Outcome
     requires { (record_of word).turned ≡ false }
     ensures effect { effect_of result ≡ registering count (register count (record_of word)) }
@@ -54,6 +55,7 @@ fn registration(word: Word, count: u32) -> Outcome
     }
 }
 
+/// Returns what `arrive` or `arriveAndDeregister` does to a word. The last arrival also ends the phase.
 #[inline(always)]
 fn arrival(word: Word, leave: bool, policy: Policy) -> Outcome
     requires { (record_of word).turned ≡ false }
@@ -69,6 +71,7 @@ fn arrival(word: Word, leave: bool, policy: Policy) -> Outcome
     }
 }
 
+/// Returns what `forceTermination` does to a word: nothing if it is terminated.
 fn termination(word: Word) -> Outcome
     ensures effect { effect_of result ≡ forcing (record_of word) }
     ensures suits { SuitsOutcome Force result }
@@ -80,6 +83,7 @@ fn termination(word: Word) -> Outcome
     Outcome::Change(after, Answer::Replied(Reply::Dead(after.phase_view())))
 }
 
+/// Returns what `awaitAdvance` does: it waits while the phaser is in this phase, and otherwise returns the view.
 #[inline(always)]
 fn wait(word: Word, phase: i32) -> Outcome
     ensures effect { effect_of result ≡ awaiting phase (record_of word) }
@@ -93,7 +97,7 @@ fn wait(word: Word, phase: i32) -> Outcome
     }
 }
 
-/// Returns what the call does to the word.
+/// Returns what the call does to the word. A look isn't such a call.
 #[inline(always)]
 pub fn outcome_at(word: Word, call: Call, policy: Policy) -> Outcome
     requires unturned { (record_of word).turned ≡ false }

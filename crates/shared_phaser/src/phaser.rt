@@ -103,7 +103,7 @@ impl SharedPhaser {
         ))
     }
 
-    /// Another caller, for another thread. It has seen what the first caller has.
+    /// Makes another caller, for another thread. It has seen what the first caller has.
     pub fn split(&self, first: &mut Party) -> Party
         requires first { first.old.known.number ≡ 0 }
         requires phaser { phaser_of first.old ≡ self.now }

@@ -33,7 +33,7 @@ const LOOKS_AMONG_MANY: u32 = 16;
 /// that is about to end the phase.
 const PAUSES: u32 = 12;
 
-/// Returns how often a wait looks at the phase.
+/// Returns how often a wait looks at the phase before it sleeps, among few parties or many.
 #[inline(always)]
 fn looks_among(few: bool) -> u32 {
     if few {
@@ -57,8 +57,7 @@ fn rest_among(few: bool) {
 }
 
 impl SharedPhaser {
-    /// Announces a wait that will sleep, before the try that decides on it: an end of a phase
-    /// between that try and the sleep wakes it, so none is missed.
+    /// Announces a wait that will sleep, before the try that decides on it. So no end of a phase after that try is missed.
     #[inline(always)]
     fn announced(&self, sleeps: bool) -> Option<Key<'_>> {
         if sleeps {
@@ -68,8 +67,7 @@ impl SharedPhaser {
         }
     }
 
-    /// Looks at the phase in the word alone until it isn't this one, or for the last time; whether
-    /// it still is.
+    /// Looks at the phase in the word until it isn't this one, or for the last time. Returns whether it still is.
     #[inline(always)]
     fn lingers(&self, phase: i32) -> bool {
         let phase = u64::from(phase.unsigned_abs());
@@ -122,7 +120,7 @@ impl SharedPhaser {
         unreachable!()
     }
 
-    /// Tries a call that never waits, until it has a result.
+    /// Tries a call that never waits, until it has a reply.
     #[inline(always)]
     fn insist_promptly<C: Asked, R: Wait>(&self, rt: &R, party: &mut Party, call: Call) -> Reply
         requires call { C.call ≡ call }
@@ -173,7 +171,7 @@ impl SharedPhaser {
         self.insist_promptly::<Brand, R>(rt, party, Call::Force)
     }
 
-    /// A wait until the phaser isn't in this phase, or is terminated; its view then.
+    /// Waits until the phaser isn't in this phase, or is terminated. Returns its view then.
     #[inline(always)]
     fn pass<R: Wait>(&self, rt: &R, party: &mut Party, phase: i32) -> i32
         requires { phaser_of party.old ≡ self.now }
@@ -186,8 +184,7 @@ impl SharedPhaser {
         }
     }
 
-    /// `awaitAdvance(phase)`: waits until the phaser isn't in this phase, or is terminated, and returns its view. With a
-    /// negative `phase` it returns at once.
+    /// `awaitAdvance(phase)`: waits until the phaser isn't in this phase. Returns its view, or `phase` if that is negative.
     pub fn await_advance<R: Wait>(&self, rt: &R, party: &mut Party, phase: i32) -> i32
         requires { phaser_of party.old ≡ self.now }
         ensures phaser { phaser_of party.new ≡ self.now }
@@ -201,7 +198,7 @@ impl SharedPhaser {
         self.pass(rt, party, phase)
     }
 
-    /// `arriveAndAwaitAdvance`: arrives, and waits for the end of the phase if the arrival was counted.
+    /// `arriveAndAwaitAdvance`: arrives, and waits for the end of the phase if the arrival was counted. Returns the view.
     pub fn arrive_and_await_advance<R: Wait>(
         &self,
         rt: &R,

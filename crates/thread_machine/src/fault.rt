@@ -3,8 +3,7 @@
 pub enum StepFault {
     /// There is no thread of this number.
     NoSuchThread,
-    /// All 1,000,000,000,000 choices are used, or the machine's limit of effective steps is reached and the thread is
-    /// ready.
+    /// All 1,000,000,000,000 choices are used, or the limit of effective steps is reached and the choice isn't idle.
     StepLimit,
     /// No memory for a value put out.
     Memory,

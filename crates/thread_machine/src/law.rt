@@ -1,3 +1,4 @@
+//! What is true of every execution. Each law is the contract of a function that does nothing.
 ghost use Rattle.std.specs.Prelude.{◌≡◌, ◌≤◌, ℕ, List, [], ◌∷◌, ◌++◌, None};
 ghost use Rattle.tier_tree.specs.Origin.{Origin, AreTallied};
 ghost use Rattle.tier_tree.specs.Stored.{phasers_of};
@@ -31,8 +32,7 @@ pub fn a_higher_limit_changes_nothing_that_was_accepted()
 
 /// No phase of a loaded program ends early, whichever choices were made before. If an accepted choice ends a phase, every
 /// party that registered directly with a phaser of the tree has arrived or left. The only exception is a tree in which a
-/// party arrived earlier when no directly registered party was left to arrive. A termination by force ends no phase, so it
-/// needs no exception.
+/// party arrived earlier when no directly registered party was left to arrive. A termination by force ends no phase.
 pub fn no_phase_ends_early(program: &Loaded)
     ensures declared { (image : Image) → IsProgramOf image program.now
         → NoPhaseEndsEarly program.now (declared_origin image.phasers) }

@@ -72,7 +72,7 @@ impl Model for Machine {
     }) };
 }
 
-/// The threads at their first rows.
+/// Makes the threads, each at its first row.
 fn new_threads(alloc: Global, declared: &[DeclaredThread]) -> Result<Vec<Thread>, AllocError>
     ensures { IfOk result (λ threads. threads.items ≡ map starting declared.now) }
 {
@@ -83,7 +83,7 @@ fn new_threads(alloc: Global, declared: &[DeclaredThread]) -> Result<Vec<Thread>
     Ok(threads)
 }
 
-/// The scene before the first choice.
+/// Makes the stage of the program before the first choice.
 fn first_stage(alloc: Global, program: &Loaded) -> Result<Stage, AllocError>
     ensures stored { IfOk result (λ stage. stage.phasers ≡ program.now.phasers) }
     ensures scene { IfOk result (λ stage. scene_of stage ≡ first_scene program.now) }
@@ -98,8 +98,7 @@ fn first_stage(alloc: Global, program: &Loaded) -> Result<Stage, AllocError>
 }
 
 impl Machine {
-    /// Makes the machine of a program, which takes at most `limit` effective steps. Only this call allocates, and a value that
-    /// is put out.
+    /// Makes the machine of a program, for at most `limit` effective steps. Later only a value that is put out needs memory.
     pub fn new(alloc: Global, program: Loaded, limit: u32) -> Result<Machine, AllocError>
         requires { limit ≤ 1000000000 }
         ensures { IfOk result (λ machine. world_of machine ≡ first_world program limit) }
@@ -139,7 +138,7 @@ impl Machine {
         self.play(choice)
     }
 
-    /// Plays `step`, without the sets of ready threads.
+    /// Plays one choice, as `step` does: idle choices and common turns itself, and others by `seldom`.
     #[inline(always)]
     fn play(&mut self, choice: Choice) -> Result<Event, StepFault>
         ensures { HasPlayed self.old choice result self.new }
@@ -185,7 +184,7 @@ impl Machine {
         told
     }
 
-    /// Plays a turn that isn't a common one, or an expiry. It writes its result where the caller has put an idle choice.
+    /// Plays a turn that isn't a common one, or an expiry. `told`, in which the caller has put an idle event, gets the result.
     #[inline(never)]
     fn seldom_step(&mut self, choice: Choice, told: &mut Result<Event, StepFault>)
         requires there { choice.thread < length self.old.scene.threads }
@@ -206,7 +205,7 @@ impl Machine {
         }
     }
 
-    /// A turn.
+    /// Plays the turn of a ready thread, and counts it. `told` gets the result. Out of memory it changes nothing else.
     fn turn(&mut self, choice: Choice, told: &mut Result<Event, StepFault>)
         requires there { choice.thread < length self.old.scene.threads }
         requires choices { self.old.choices < 1000000000000 }
@@ -225,7 +224,7 @@ impl Machine {
         }
     }
 
-    /// The time of a thread's wait runs out.
+    /// Ends a timed wait that can expire, and counts the choice. `told` gets the event.
     fn expire(&mut self, choice: Choice, told: &mut Result<Event, StepFault>)
         requires there { choice.thread < length self.old.scene.threads }
         requires choices { self.old.choices < 1000000000000 }
@@ -240,8 +239,7 @@ impl Machine {
         *told = Ok(event);
     }
 
-    /// `step`, with what `take_back` needs to undo it written over `undo`. After `Err` the machine is as before, and `undo`
-    /// is of no choice.
+    /// `step`, and `undo` gets what `take_back` needs. After `Err` the machine is as before, and `undo` is of no choice.
     #[inline(always)]
     pub fn step_into(&mut self, choice: Choice, undo: &mut Undo) -> Result<Event, StepFault>
         ensures { IsStep self.old choice result undo.new self.new }
@@ -251,7 +249,7 @@ impl Machine {
         self.play(choice)
     }
 
-    /// Saves what a choice may change of the machine, if there is such a thread.
+    /// Saves in `undo` what a choice may change of the machine, if there is such a thread.
     #[inline(always)]
     fn keep(&self, choice: Choice, undo: &mut Undo)
         ensures { choice.thread < length self.now.scene.threads → undo.new ≡ kept_of choice self.now }
@@ -263,7 +261,7 @@ impl Machine {
         }
     }
 
-    /// `step_into` a new undo.
+    /// `step`, which also returns what `back` needs to undo it.
     pub fn step_noting(&mut self, choice: Choice) -> Result<(Event, Undo), StepFault>
         ensures step { IfOk result (λ both. IsStep self.old choice (Ok both.0) both.1 self.new) }
         ensures refused { IfErr result (λ fault. IsStep self.old choice (Err fault) None self.new) }
@@ -295,7 +293,7 @@ impl Machine {
         }
     }
 
-    /// An idle choice.
+    /// Plays an idle choice: it only counts it.
     #[tactic(auto, using(crate::proofs::Readiness::idle_choice))]
     fn stay(&mut self, choice: Choice)
         requires choices { self.old.choices < 1000000000000 }
@@ -306,7 +304,7 @@ impl Machine {
         self.choices += 1;
     }
 
-    /// Returns whether a choice would not be idle.
+    /// Returns whether a choice would be a step: the turn of a ready thread, or the expiry of a wait that can expire.
     fn is_choice_ready(&self, choice: Choice) -> bool
         requires { choice.thread < length self.now.scene.threads }
         ensures { result ≡ is_choice_ready self.now.program choice (scene_of self.now.scene) }
@@ -318,7 +316,7 @@ impl Machine {
         }
     }
 
-    /// A law: every machine fulfils this. Nothing runs.
+    /// A law: every machine fulfils `IsMachine`. The function itself does nothing.
     fn is_sound(&self)
         ensures { IsMachine self.now }
     {
@@ -333,8 +331,7 @@ impl Machine {
         self.stage.is_ready(&self.program, thread as usize)
     }
 
-    /// Returns whether a thread's timed wait can expire: it waits at a timed row, its turn isn't ready, and no thread runs the
-    /// action of its barrier.
+    /// Returns whether a thread's timed wait can expire: its turn isn't ready, and no thread runs the action of its barrier.
     pub fn can_expire(&self, thread: u8) -> bool
         requires { thread < length self.now.scene.threads }
         ensures { result ≡ can_expire thread self.now.program (scene_of self.now.scene) }
@@ -384,7 +381,7 @@ impl Machine {
         false
     }
 
-    /// The program.
+    /// Returns the program.
     pub fn loaded(&self) -> &Loaded
         ensures { result.now ≡ self.now.program }
     {
@@ -399,7 +396,7 @@ impl Machine {
         self.stage.thread_count()
     }
 
-    /// The phasers.
+    /// Returns the phasers.
     pub fn forest(&self) -> &Forest
         ensures { result.now ≡ self.now.scene.phasers }
     {
@@ -483,7 +480,7 @@ impl Machine {
         self.stage.thread(thread as usize).output()
     }
 
-    /// The numbers in the 32 cells that all threads share.
+    /// Returns the numbers in the 32 cells that all threads share.
     pub fn cells(&self) -> &[i32; 32]
         ensures { result.now ≡ self.now.scene.cells }
     {

@@ -24,7 +24,7 @@ impl Standing {
         }
     }
 
-    /// The one that has this word.
+    /// Returns the standing with this word, if there is one.
     pub fn named(name: &str) -> Option<Standing>
         ensures { MatchOption result (All (λ other. name.now ≢ other) names) (λ word. name.now ≡ name_of word) }
     {

@@ -22,7 +22,7 @@ impl Model for Undo {
 impl Undo {
     ghost use Rattle.std.specs.Prelude.{◌≡◌, None};
 
-    /// Of an idle choice: to be written over by `Machine::step_into`.
+    /// Makes an undo of an idle choice, for `Machine::step_into` to overwrite.
     pub fn new() -> Undo
         ensures { result ≡ None }
     {

@@ -15,7 +15,7 @@ pub enum Ending {
 }
 
 impl Ending {
-    /// Returns the word for a program whose run ended so.
+    /// Returns how a program stands whose run ended so. At the limit of steps it can still go on.
     pub fn standing(self) -> Standing
         ensures { result ≡ standing_at self }
     {

@@ -1,7 +1,6 @@
 /// What a worker passes each time before it takes the lock. A gate that waits decides which worker goes first.
 pub trait Gate {
-    /// `thread` is the worker's thread, `step` how often the worker has passed before: it counts to 4294967295 and stays
-    /// there.
+    /// Returns when the worker of this thread may go on. `step` is how often it has passed before, at most 4294967295.
     fn pass(&self, thread: u8, step: u32);
 }
 

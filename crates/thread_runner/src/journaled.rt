@@ -52,7 +52,7 @@ impl Journaled {
         })
     }
 
-    /// Takes a thread's turn, and records it.
+    /// Takes a thread's turn, and records it. It fails if the thread isn't ready, or at the limit of steps.
     pub fn take_step(&mut self, thread: u8) -> Result<Event, TakeFault>
         requires { thread < length self.old.first.scene.threads }
         ensures played { IfOk result (λ event. record { world = recorded_world self.new; event = event }
@@ -73,8 +73,7 @@ impl Journaled {
         })
     }
 
-    /// Lets a thread's timed wait expire, and records it. This is only possible if no thread is ready, and for the lowest such
-    /// thread first.
+    /// Lets a thread's timed wait expire, and records it, if it is the next to expire (`is_due`).
     pub fn take_expiry(&mut self, thread: u8) -> Result<Event, TakeFault>
         requires { thread < length self.old.first.scene.threads }
         ensures played { IfOk result (λ event. record { world = recorded_world self.new; event = event }
@@ -96,7 +95,7 @@ impl Journaled {
         })
     }
 
-    /// Plays a choice that is ready, and records it. There is room in the record before anything is played.
+    /// Plays a choice that is ready, and records it. It makes room in the record first. After a failure nothing has changed.
     fn take(&mut self, choice: Choice) -> Result<Event, TakeFault>
         requires thread { choice.thread < length self.old.first.scene.threads }
         requires ready { is_choice_ready (recorded_world self.old).program choice (recorded_world self.old).scene ≡ true }
@@ -134,7 +133,7 @@ impl Journaled {
         self.machine.thread_count()
     }
 
-    /// A law: there are at most 64 threads, and as many as at first. Nothing of it is used.
+    /// A law: there are at most 64 threads, and as many as at first. The function itself changes nothing.
     pub(crate) fn has_few_threads(&self)
         ensures few { length self.now.first.scene.threads ≤ 64 }
         ensures now { length (recorded_world self.now).scene.threads ≡ length self.now.first.scene.threads }
@@ -150,7 +149,7 @@ impl Journaled {
         self.machine.is_ready(thread)
     }
 
-    /// Returns whether a thread's wait is the next to expire.
+    /// Returns whether a thread's timed wait is the next to expire: no thread is ready, and no lower thread's wait can expire.
     pub fn is_due(&self, thread: u8) -> bool
         requires { thread < length self.now.first.scene.threads }
         ensures { result ≡ is_due (recorded_world self.now) thread }
@@ -182,7 +181,7 @@ impl Journaled {
         matches!(self.machine.status(thread), Status::Ended | Status::Died(_))
     }
 
-    /// Makes the choice that a thread has to make: its turn, or the expiry of its wait.
+    /// Makes the choice that a thread has to make, and records it: its turn, or the expiry of its wait.
     pub fn take_choice(&mut self, thread: u8) -> Result<Event, TakeFault>
         requires { thread < length self.old.first.scene.threads }
         ensures recorded { OnOk result
@@ -202,7 +201,7 @@ impl Journaled {
         self.take_expiry(thread)
     }
 
-    /// Makes the choice of the lowest thread that has one to make.
+    /// Makes the choice of the lowest thread that has one to make, and records it. Only memory can be missing.
     #[tactic(auto, using(crate::proofs::Choosing::step_left))]
     pub fn take_next(&mut self) -> Result<Event, TakeFault>
         requires { ending_of (recorded_world self.old) ≡ None }
@@ -221,8 +220,7 @@ impl Journaled {
         unreachable!()
     }
 
-    /// A law: every record is a replay: its machine is the one to which the recorded choices lead. The function itself does
-    /// nothing.
+    /// A law: the machine of every record is the one to which the recorded choices lead. The function does nothing.
     pub fn each_record_is_a_replay(&self)
         ensures { IsReplay self.now (recorded_world self.now) }
     {
@@ -254,7 +252,7 @@ impl Journaled {
         false
     }
 
-    /// The machine that the recorded choices lead to.
+    /// Returns the machine to which the recorded choices lead.
     pub fn machine(&self) -> &Machine
         ensures world { world_of result.now ≡ recorded_world self.now }
         ensures threads { length result.now.scene.threads ≡ length self.now.first.scene.threads }
@@ -262,7 +260,7 @@ impl Journaled {
         &self.machine
     }
 
-    /// The recorded choices as a schedule: a token for each, one space between them.
+    /// Returns the recorded choices as a schedule: a token for each, one space between them.
     pub fn schedule(&self) -> &[u8]
         ensures text { result.now ≡ record_text self.now.choices }
         ensures few { length result.now ≤ 4 * length self.now.choices }
@@ -272,7 +270,7 @@ impl Journaled {
         self.schedule.as_slice()
     }
 
-    /// The record as a schedule, and the machine that it leads to.
+    /// Returns the record as a schedule, and the machine to which it leads.
     pub fn into_parts(self) -> (Vec<u8>, Machine)
         ensures first { self.first ≡ first_world result.1.program result.1.limit }
         ensures choices { self ≡ recording_of self.first result.0.items }

@@ -1,3 +1,4 @@
+//! What is true of every live run. Each law is the contract of a function that does nothing.
 ghost use Rattle.std.specs.Prelude.{◌≡◌, ◌<◌, ◌++◌, ◌∷◌, ℕ, List, true, false, Option, None, length};
 ghost use Rattle.thread_machine.specs.World.{World};
 ghost use Rattle.thread_machine.specs.Execution.{execution};

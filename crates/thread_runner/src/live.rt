@@ -56,7 +56,7 @@ impl<O: Origin> Live<O> {
         }
     }
 
-    /// Returns whether the worker of a thread stops.
+    /// Returns whether the worker of a thread stops: the run is over or broken off, or the thread has ended or died.
     pub fn leaves(&self, thread: u8) -> bool
         requires { thread < length O.first.scene.threads }
         ensures { result ≡ leaves self.now.broken (recorded_world self.now.journaled) thread }
@@ -66,7 +66,7 @@ impl<O: Origin> Live<O> {
             || self.journaled.ending().is_some()
     }
 
-    /// Returns whether the worker of a thread waits.
+    /// Returns whether the worker of a thread waits: it doesn't stop, and its thread has no choice to make.
     pub fn waits(&self, thread: u8) -> bool
         requires { thread < length O.first.scene.threads }
         ensures { result ≡ waits self.now.broken (recorded_world self.now.journaled) thread }
@@ -74,7 +74,7 @@ impl<O: Origin> Live<O> {
         !self.journaled.may_choose(thread) && !self.leaves(thread)
     }
 
-    /// Returns whether the worker of a thread waits, and notes it.
+    /// Returns whether the worker of a thread waits, and notes this in `sleepers`.
     pub fn falls_asleep(&mut self, thread: u8) -> bool
         requires { thread < length O.first.scene.threads }
         ensures waits { result ≡ waits self.old.broken (recorded_world self.old.journaled) thread }
@@ -109,7 +109,7 @@ impl<O: Origin> Live<O> {
         false
     }
 
-    /// The turn of a worker that needn't wait: it makes its thread's choice and goes on, or it stops.
+    /// Plays the turn of a worker that needn't wait: it makes its thread's choice and returns true, or stops and returns false.
     pub fn turn(&mut self, thread: u8) -> bool
         requires there { thread < length O.first.scene.threads }
         requires waits { waits self.old.broken (recorded_world self.old.journaled) thread ≡ false }

@@ -24,21 +24,17 @@ use thread_machine::Machine;
 /// A live run that has ended.
 #[derive(Drop)]
 pub struct LiveRun {
-    /// The choices that were made, in the order in which the workers had the lock: a token for each, with one space between
-    /// them.
+    /// The choices in the order in which the workers had the lock: a token for each, with one space between them.
     pub schedule: Vec<u8>,
     /// The machine that they led to.
     pub machine: Machine,
     pub ending: Ending,
 }
 
-/// The worker of a thread. It passes the gate, takes the lock, waits until it has something to do, makes its thread's
-/// choice, and wakes the others before it lets go, where one of them that waits needn't any more.
-///
-/// No wake-up is lost: whether a worker waits is read from what lies under the lock alone, which only `turn` and `refuse`
-/// change. A worker that is about to wait is noted among the sleepers, and has its place among those to be notified, before
-/// it lets the lock go; it is noted until it has found, under the lock, that it needn't wait. After each turn every sleeper
-/// is asked anew, and all are notified where one needn't wait; after a refusal all are.
+/// The worker of a thread. It passes the gate, takes the lock, waits until it has something to do, makes its thread's choice,
+/// and wakes the others if one that waits needn't any more. No wake-up is lost: what is under the lock says whether a worker
+/// waits, and only `turn` and `refuse` change it. Before it sleeps, a worker is noted among the sleepers, until it finds that
+/// it needn't wait. After each turn every sleeper is asked again, and all are notified if one needn't wait.
 fn work<O: Origin, R: Wait, G: Gate>(
     rt: &R,
     lock: &Mutex<Live<O>>,
@@ -73,7 +69,7 @@ fn work<O: Origin, R: Wait, G: Gate>(
     }
 }
 
-/// Wakes all workers of a run that is broken off, so that they stop.
+/// Wakes all workers of a run that is broken off, so that they stop. `live` only shows that it is.
 fn stop_all<O: Origin>(live: &Live<O>, changed: &Condvar)
     requires broken { is_some live.now.broken ≡ true }
 {
@@ -81,7 +77,7 @@ fn stop_all<O: Origin>(live: &Live<O>, changed: &Condvar)
     changed.notify_all();
 }
 
-/// Notes under the lock that a thread could not be started, so that all workers stop.
+/// Breaks the run off because a thread couldn't be started: all workers stop.
 fn refuse<O: Origin, R: Wait>(rt: &R, lock: &Mutex<Live<O>>, changed: &Condvar) {
     let mut live = lock.lock(rt);
     live.refuse();
@@ -120,7 +116,7 @@ fn start<O: Origin + Send + Sync, R: Threads + Wait + Sync, G: Gate + Sync>(
     );
 }
 
-/// Plays a run that isn't over to its end, choice by choice. The workers have left none to play.
+/// Plays a run to its end, choice by choice. If the workers weren't broken off, they have left nothing to play.
 fn play_on(mut journaled: Journaled) -> Result<(Journaled, Ending), LiveFault>
     ensures first { IfOk result (λ both. both.0.first ≡ journaled.first) }
     ensures ending { IfOk result (λ both. ending_of (recorded_world both.0) ≡ Some both.1) }
@@ -140,7 +136,7 @@ fn play_on(mut journaled: Journaled) -> Result<(Journaled, Ending), LiveFault>
     }
 }
 
-/// Returns the fault of a run that ran out of memory.
+/// Returns the fault of a run that ran out of memory, with what was played until then.
 fn out_of_memory(journaled: Journaled) -> LiveFault
     ensures left { HasLeft journaled.first result }
     ensures kept { HasKept journaled result }
@@ -150,7 +146,7 @@ fn out_of_memory(journaled: Journaled) -> LiveFault
     LiveFault::Memory(schedule)
 }
 
-/// Returns what the workers left, when all have ended.
+/// Returns the record of a run whose workers have all ended, and how it ended, or why it was broken off.
 fn end<O: Origin>(live: Live<O>) -> Result<(Journaled, Ending), LiveFault>
     ensures first { IfOk result (λ both. both.0.first ≡ O.first) }
     ensures ending { IfOk result (λ both. ending_of (recorded_world both.0) ≡ Some both.1) }
@@ -165,7 +161,7 @@ fn end<O: Origin>(live: Live<O>) -> Result<(Journaled, Ending), LiveFault>
     }
 }
 
-/// A run by as many workers as there are threads.
+/// Plays a run by as many workers as there are threads.
 fn run_of<O: Origin + Send + Sync, R: Threads + Wait + Sync, G: Gate + Sync>(
     rt: &R,
     journaled: Journaled,
@@ -183,7 +179,7 @@ fn run_of<O: Origin + Send + Sync, R: Threads + Wait + Sync, G: Gate + Sync>(
     end(lock.into_inner())
 }
 
-/// The record of a machine before its first choice.
+/// Makes the record of a machine before its first choice.
 fn first_record(alloc: Global, program: Loaded, limit: u32) -> Result<Journaled, LiveFault>
     requires { limit ≤ 1000000000 }
     ensures first { IfOk result (λ journaled. journaled.first ≡ first_world program limit) }
@@ -195,7 +191,7 @@ fn first_record(alloc: Global, program: Loaded, limit: u32) -> Result<Journaled,
     }
 }
 
-/// The run of a machine that is there.
+/// Plays the run of this record from its beginning, under an origin of its own.
 fn recorded<R: Threads + Wait + Sync, G: Gate + Sync>(
     rt: &R,
     journaled: Journaled,
@@ -208,7 +204,7 @@ fn recorded<R: Threads + Wait + Sync, G: Gate + Sync>(
     run_of::<Brand, R, G>(rt, journaled, gate)
 }
 
-/// A record whose run has ended.
+/// Returns what a run leaves that has ended so.
 fn ended(journaled: Journaled, ending: Ending) -> LiveRun
     requires { ending_of (recorded_world journaled) ≡ Some ending }
     ensures record { IsRecordOf journaled.first result.schedule.items (world_of result.machine) }

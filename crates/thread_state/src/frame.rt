@@ -30,7 +30,7 @@ pub enum Frame {
 }
 
 impl Frame {
-    /// The entry without what it saved.
+    /// Returns the entry as the machine shows it: without the registers and the row that it saved.
     pub fn entry(&self) -> Entry
         ensures { result ≡ entry_of self.now }
     {

@@ -1,3 +1,4 @@
+//! One thread and its turns. It throws 3 (InterruptedException), 6 (stack full), 7 (bad return) and 8 (output full).
 ghost use Rattle.std.specs.Prelude.{◌≡◌, ◌<◌, ◌≤◌, length, pos, false, IsTrue, IsErr, OnErr, IfOk};
 ghost use Rattle.instruction_table.specs.LocalRows.{is_local_row};
 ghost use Rattle.instruction_table.specs.Registers.{value_in};
@@ -114,7 +115,7 @@ impl Thread {
         self.interrupted
     }
 
-    /// Its stack from the bottom.
+    /// Returns its stack, the lowest entry first.
     pub fn stack(&self) -> &[Frame]
         ensures stack { result.now ≡ self.now.stack }
         ensures few { length result.now ≤ 64 }
@@ -122,7 +123,7 @@ impl Thread {
         self.stack.as_slice()
     }
 
-    /// The top entry of its stack.
+    /// Returns the top entry of its stack, if there is one.
     pub fn top(&self) -> Option<Frame>
         ensures { result ≡ top_of self.now.stack }
     {
@@ -158,7 +159,7 @@ impl Thread {
         matches!(self.status, Status::Ended | Status::Died(_))
     }
 
-    /// Meets an exception at its row.
+    /// Throws an exception at its row. From the next turn on, the thread looks for a handler.
     pub fn throw(&mut self, code: i32) -> What
         ensures { record { thread = self.new; what = result } ≡ turn_of_throw code self.old }
     {
@@ -185,7 +186,7 @@ impl Thread {
         What::Value(value)
     }
 
-    /// Goes on after a row without a result.
+    /// Goes to the next row after one without a result.
     pub fn done(&mut self) -> What
         requires { self.old.pc < 65535 }
         ensures { record { thread = self.new; what = result } ≡ turn_of_done self.old }
@@ -202,7 +203,7 @@ impl Thread {
         What::Waits
     }
 
-    /// Begins to wait at a barrier; the index of its arrival.
+    /// Begins to wait at a barrier. `index` is its arrival index, which `await` returns later.
     pub fn wait_at_barrier(&mut self, index: u16) -> What
         ensures { record { thread = self.new; what = result } ≡ turn_of_barrier_wait index self.old }
     {
@@ -210,7 +211,7 @@ impl Thread {
         What::Waits
     }
 
-    /// `halt`.
+    /// `halt`: ends the thread. In a routine or an action it throws 7.
     pub fn halt(&mut self) -> What
         ensures { record { thread = self.new; what = result } ≡ turn_of_halt self.old }
     {
@@ -228,7 +229,7 @@ impl Thread {
         self.stack.iter().any(|frame| frame.is_routine())
     }
 
-    /// Plays a row that uses only registers.
+    /// Plays a row that uses only the thread's registers and place.
     #[inline(always)]
     pub fn local_row(&mut self, row: Row) -> What
         requires row { IsTrue (is_local_row row) }
@@ -241,7 +242,7 @@ impl Thread {
         }
     }
 
-    /// `out`.
+    /// `out`: appends a register's number to the output, or throws 8 if that is full. `Err`: no memory, and nothing changes.
     pub fn out(&mut self, from: Reg) -> Result<What, AllocError>
         requires { self.old.pc < 65535 }
         ensures ok { IfOk result (λ what.
@@ -258,7 +259,7 @@ impl Thread {
         Ok(What::Out(value))
     }
 
-    /// `call`.
+    /// `call`: pushes the number of the next row, and goes to `target`. It throws 6 if the stack is full.
     pub fn call(&mut self, target: u16) -> What
         requires { self.old.pc < 65535 }
         ensures { record { thread = self.new; what = result } ≡ turn_of_call target self.old }
@@ -269,7 +270,7 @@ impl Thread {
         self.enter(Frame::Call(self.pc + 1), target)
     }
 
-    /// `try`.
+    /// `try`: pushes a handler, and goes to the next row. It throws 6 if the stack is full.
     pub fn begin_try(&mut self, handler: u16) -> What
         requires { self.old.pc < 65535 }
         ensures { record { thread = self.new; what = result } ≡ turn_of_try handler self.old }
@@ -280,7 +281,7 @@ impl Thread {
         self.enter(Frame::Handler(handler), self.pc + 1)
     }
 
-    /// Takes one entry more, and stands at this row.
+    /// Pushes an entry, and goes to this row. The stack isn't full.
     fn enter(&mut self, entry: Frame, row: u16) -> What
         requires { is_full self.old ≡ false }
         ensures thread { self.new ≡ with_entry entry row self.old }
@@ -293,7 +294,7 @@ impl Thread {
         What::Done
     }
 
-    /// `endtry`.
+    /// `endtry`: pops the handler on top of the stack. It throws 7 if another entry is on top, or none.
     pub fn end_try(&mut self) -> What
         requires { self.old.pc < 65535 }
         ensures { record { thread = self.new; what = result }
@@ -308,7 +309,7 @@ impl Thread {
         }
     }
 
-    /// Plays `ret` after a call, whose entry is on top of the stack.
+    /// Plays `ret` after a call: pops the call's entry, which is on top of the stack, and goes to its row.
     pub fn return_to(&mut self, row: u16) -> What
         ensures { record { thread = self.new; what = result } ≡ turn_of_return row self.old }
     {
@@ -317,8 +318,7 @@ impl Thread {
         What::Done
     }
 
-    /// Enters the routine of a root, which begins at the row `first`. It gets the phase that ends, and the parties that are
-    /// registered then.
+    /// Enters a root's routine at the row `first`. R0 gets the phase that ends, and R1 the registered parties.
     pub fn enter_advance(&mut self, root: u8, phase: i32, parties: u16, first: u16) -> What
         requires { is_full self.old ≡ false }
         ensures { record { thread = self.new; what = result }
@@ -341,8 +341,7 @@ impl Thread {
         What::Enters
     }
 
-    /// Leaves the routine or action whose entry is on top: the thread is back at the row where it began, with the registers of
-    /// that moment.
+    /// Leaves the routine or action on top of the stack: the thread is back at `row`, where it began, with these registers.
     pub fn leave_routine(&mut self, registers: &Regs, row: u16)
         ensures { self.new ≡ left_routine registers.now row self.old }
     {
@@ -360,7 +359,7 @@ impl Thread {
         }
     }
 
-    /// `intrd`: `Thread.interrupted`.
+    /// `intrd`: puts the interrupted status, 1 or 0, into a register, and clears it (`Thread.interrupted`).
     pub fn take_interrupt(&mut self, into: Reg) -> What
         requires { self.old.pc < 65535 }
         ensures { record { thread = self.new; what = result } ≡ turn_of_intrd into self.old }
@@ -370,7 +369,7 @@ impl Thread {
         self.answer(into, status)
     }
 
-    /// Pops one entry while an exception looks for its handler.
+    /// Pops one entry while an exception looks for its handler. A handler catches it. With an empty stack the thread dies.
     pub fn pop(&mut self, code: i32) -> What
         ensures { record { thread = self.new; what = result } ≡ turn_of_pop code self.old }
     {
@@ -392,7 +391,7 @@ impl Thread {
         }
     }
 
-    /// Stands at the row of its routine or action, whose entry is popped, with the registers of then.
+    /// Goes back to the row of the arrival that began the popped routine or action, with the registers of then.
     fn restore(&mut self, registers: &Regs, row: u16) -> What
         ensures thread { self.new ≡ record self.old { registers = registers.now; pc = row } }
         ensures what { result ≡ What.Unwinds }

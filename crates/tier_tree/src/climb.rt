@@ -1,3 +1,4 @@
+//! How an arrival climbs: a child whose parties have all arrived arrives at its parent, and so on up to the root.
 ghost use Rattle.std.specs.Prelude.{◌≡◌, ◌<◌, ◌≤◌, length, take, All, true, false};
 ghost use Rattle.packed_phaser.specs.Answer.{arrival_of};
 ghost use Rattle.packed_phaser.specs.Flat.{arrive};
@@ -33,7 +34,7 @@ struct Ascent {
     levels: usize,
 }
 
-/// Returns the result of an arrival at one phaser, given the word of its root.
+/// Returns the result of an arrival at phaser `i` alone. `top` is its root's word; its own may be of an earlier phase.
 #[inline(always)]
 fn arrival_at(nodes: &[Node], i: usize, top: Word, leave: bool) -> packed_phaser::Arrived
     requires stored { IsStored nodes.now }
@@ -102,7 +103,7 @@ fn look(nodes: &[Node], line: &[u8], top: Word, leave: bool, words: &mut [Word])
     }
 }
 
-/// Writes the words of a line, from the highest one down.
+/// Gives the phasers of a line these words, from the highest phaser down.
 #[inline(always)]
 fn write(nodes: &mut [Node], line: &[u8], words: &[Word])
     requires stored { IsStored nodes.old }
@@ -121,8 +122,7 @@ fn write(nodes: &mut [Node], line: &[u8], words: &[Word])
     }
 }
 
-/// `arrive`, by one look from the phaser up to its root and one write. It is compiled twice, for parties that leave and for
-/// those that stay, who are most.
+/// `arrive` by one look from phaser `i` up to its root, and one write. It is compiled apart for parties that leave and stay.
 #[inline(never)]
 fn ascend<const LEAVE: bool>(nodes: &mut [Node], i: usize) -> Arrived
     requires stored { IsStored nodes.old }
@@ -155,7 +155,7 @@ fn ascend<const LEAVE: bool>(nodes: &mut [Node], i: usize) -> Arrived
     }
 }
 
-/// Calls `ascend`, with the buffer for its result. An arrival that ends at its phaser doesn't pay for that buffer.
+/// `arrive` if phasers above may change. It is apart, so that an arrival that ends at its phaser has no buffer for `ascend`.
 #[inline(always)]
 fn arrive_above(nodes: &mut [Node], i: usize, leave: bool) -> Arrived
     requires stored { IsStored nodes.old }
@@ -174,7 +174,7 @@ fn arrive_above(nodes: &mut [Node], i: usize, leave: bool) -> Arrived
     }
 }
 
-/// Arrives at one phaser, and changes those above. An arrival that ends at the phaser itself returns without a call.
+/// `arrive` at phaser `i`, or `arriveAndDeregister` if the party leaves. If a child turns, phasers above change, too.
 #[inline(always)]
 pub fn arrive(nodes: &mut [Node], i: usize, leave: bool) -> Arrived
     requires stored { IsStored nodes.old }

@@ -25,6 +25,7 @@ use std::marker::Model;
 mod declaration;
 mod getters;
 
+/// Returns a copy of the phasers, equal word for word.
 fn copy_of(alloc: Global, nodes: &[Node]) -> Result<Vec<Node>, AllocError>
     ensures { IfOk result (λ copy. copy.items ≡ nodes.now) }
 {
@@ -35,11 +36,9 @@ fn copy_of(alloc: Global, nodes: &[Node]) -> Result<Vec<Node>, AllocError>
     Ok(copy)
 }
 
-/// Phasers in trees.
-///
-/// A forest stores one word for each phaser, and contracts see these words. The end of a phase writes only the root's word, so
-/// the word of a child may be that of an earlier phase. `phasers_of` in `specs/Stored.antt` says what the words mean at
-/// present. All results, counts and changes are promised of that. `IsCall` says which words may differ after a call.
+/// Phasers in trees. A forest stores one word for each phaser, and contracts see these words. The end of a phase writes only
+/// the root's word, so the word of a child may be that of an earlier phase. `phasers_of` in `specs/Stored.antt` says what the
+/// words mean at present. All results, counts and changes are promised of that. `IsCall` says which words a call may change.
 #[derive(Drop)]
 pub struct Forest {
     nodes: Vec<Node>,
@@ -78,7 +77,7 @@ impl Forest {
         Ok(Forest { nodes })
     }
 
-    /// Returns what `register` would return.
+    /// Returns what `register` would return, and changes nothing.
     pub fn registration(&self, id: PhaserId, count: u32) -> Registered
         requires { id.0 < length self.now }
         ensures { result ≡ registration id.0 count (phasers_of self.now) }
@@ -86,8 +85,7 @@ impl Forest {
         join::registration(self.nodes.as_slice(), id.0 as usize, count)
     }
 
-    /// `register` if `count` is 1, and otherwise `bulkRegister(count)`. `Held` means that Java's call would wait for the end of
-    /// the phase; then nothing changes.
+    /// `register` if `count` is 1, and otherwise `bulkRegister(count)`. `Held`: Java's call would wait, and nothing changes.
     pub fn register(&mut self, id: PhaserId, count: u32) -> Registered
         requires { id.0 < length self.old }
         ensures answer { result ≡ registration id.0 count (phasers_of self.old) }
@@ -120,8 +118,7 @@ impl Forest {
 
     /// Ends the phase of a turned root after `onAdvance` has returned `ends`. If the tree had no stray arrival, everybody who
     /// registered directly with a phaser of it has arrived (`safe`). Fewer than 2147483647 phases of the tree may have ended
-    /// before, so that no word that lags is ever all 2147483648 phase numbers behind. A limit of steps ensures this. `root`,
-    /// `is_turned`, `is_terminated` and `ended_phases` tell what is required.
+    /// before, as a limit of steps ensures: no word that lags is ever all 2147483648 phase numbers behind.
     pub fn finish_turn(&mut self, root: PhaserId, ends: bool)
         requires there { root.0 < length self.old }
         requires root { root_at (phasers_of self.old) root.0 ≡ root.0 }
@@ -137,7 +134,7 @@ impl Forest {
         phase_end::end_phase(self.nodes.as_mut_slice(), root.0 as usize, ends);
     }
 
-    /// `forceTermination`: the phase and the registered parties stay. A second call changes nothing.
+    /// `forceTermination`: terminates the phaser's tree. The phase and the registered parties stay. A second call does nothing.
     pub fn force(&mut self, id: PhaserId)
         requires { id.0 < length self.old }
         ensures forest { phasers_of self.new ≡ after_force id.0 (phasers_of self.old) }
@@ -156,8 +153,7 @@ impl Forest {
         saved::keep(self.nodes.as_slice(), id.0 as usize)
     }
 
-    /// Undoes the call since the forest was saved, or the call and the end of a phase that followed: every word is as it was
-    /// then (`undone`).
+    /// Undoes the call since the forest was saved, and the end of a phase that may have followed: every word is as before.
     pub fn restore(&mut self, saved: Saved)
         requires { IsSavedOf saved self.old }
         ensures forest { self.new ≡ restored saved self.old }

@@ -1,3 +1,4 @@
+//! How parties register with a phaser. If it was empty, it registers one party with its parent, and so on up.
 ghost use Rattle.std.specs.Prelude.{◌≡◌, ◌+◌, ◌<◌, [], ◌∷◌, length, All, nat_lt};
 ghost use Rattle.std.specs.List.{list_any};
 ghost use Rattle.packed_phaser.specs.Flat.{register};
@@ -13,14 +14,14 @@ use crate::present::{line_at, set_word, word_at};
 use crate::registered::Registered;
 use packed_phaser::Word;
 
-/// Returns whether so many more parties would be too many.
+/// Returns whether a phaser with this word would have more than 65535 parties after so many more.
 fn is_full_for(word: Word, count: u32) -> bool
     ensures { result ≡ nat_lt 65535 ((record_of word).parties + count) }
 {
     count > 65535 - word.parties() as u32
 }
 
-/// Returns whether a phaser that the registration would change would have too many parties.
+/// Returns whether a registration with the line's first phaser would give one that it changes more than 65535 parties.
 pub fn is_overfull_along(nodes: &[Node], line: &[u8], count: u32) -> bool
     requires stored { IsStored nodes.now }
     requires there { All (λ id. id < length nodes.now) line.now }
@@ -41,7 +42,7 @@ pub fn is_overfull_along(nodes: &[Node], line: &[u8], count: u32) -> bool
     }
 }
 
-/// Returns whether the phase of a phaser that the registration would change is about to end.
+/// Returns whether a registration with the line's first phaser would change one whose phase is about to end.
 pub fn is_turned_along(nodes: &[Node], line: &[u8], count: u32) -> bool
     requires stored { IsStored nodes.now }
     requires there { All (λ id. id < length nodes.now) line.now }
@@ -62,7 +63,7 @@ pub fn is_turned_along(nodes: &[Node], line: &[u8], count: u32) -> bool
     }
 }
 
-/// Parties register with one phaser as with one without tiers.
+/// Registers parties with phaser `i` alone.
 fn join_at(nodes: &mut [Node], i: usize, count: u32)
     requires stored { IsStored nodes.old }
     requires there { i < length nodes.old }
@@ -77,7 +78,7 @@ fn join_at(nodes: &mut [Node], i: usize, count: u32)
     }
 }
 
-/// Registers the parties, and one party above as long as the phaser is empty.
+/// Registers parties with the line's first phaser, and one party above each phaser that was empty.
 pub fn join_along(nodes: &mut [Node], line: &[u8], count: u32)
     requires stored { IsStored nodes.old }
     requires there { All (λ id. id < length nodes.old) line.now }
@@ -96,7 +97,7 @@ pub fn join_along(nodes: &mut [Node], line: &[u8], count: u32)
     join_at(nodes, i, count);
 }
 
-/// Returns what a registration with one phaser would return.
+/// Returns what a registration with phaser `i` would return, and changes nothing.
 pub fn registration(nodes: &[Node], i: usize, count: u32) -> Registered
     requires stored { IsStored nodes.now }
     requires there { i < length nodes.now }
@@ -119,7 +120,7 @@ pub fn registration(nodes: &[Node], i: usize, count: u32) -> Registered
     }
 }
 
-/// Registers with one phaser, and changes those above.
+/// Registers `count` parties with phaser `i`, unless the result says why not.
 pub fn register(nodes: &mut [Node], i: usize, count: u32) -> Registered
     requires stored { IsStored nodes.old }
     requires there { i < length nodes.old }

@@ -43,7 +43,7 @@ impl Line {
         }
     }
 
-    /// The numbers of the phasers, from this one up to its root.
+    /// Returns the numbers of the phasers, from this one up to its root.
     pub fn as_slice(&self) -> &[u8]
         ensures { result.now ≡ self.now }
     {
@@ -64,7 +64,7 @@ impl Line {
         self.ids[self.len as usize - 1]
     }
 
-    /// Returns the line of a child of this line's phaser.
+    /// Returns the line of a child of this line's phaser. `id` is the child's number.
     pub fn of_child(&self, id: u8) -> Line
         requires { length self.now < 8 }
         ensures { result ≡ id ∷ self.now }

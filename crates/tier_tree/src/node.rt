@@ -54,7 +54,7 @@ impl Node {
         }
     }
 
-    /// The way from the phaser up to its root.
+    /// Returns the way from the phaser up to its root.
     pub fn line(&self) -> Line
         ensures { result ≡ self.now.line }
     {
@@ -68,14 +68,14 @@ impl Node {
         self.line.root()
     }
 
-    /// Returns the policy of `onAdvance`, if the phaser is a root.
+    /// Returns the policy of `onAdvance`. That of a child is never used.
     pub fn policy(&self) -> Policy
         ensures { result ≡ self.now.policy }
     {
         self.policy
     }
 
-    /// Returns the word as it is stored, which may lag behind the root's.
+    /// Returns the word as it is stored, which may be of an earlier phase than the root's.
     pub fn word(&self) -> Word
         ensures { result ≡ self.now.word }
     {
@@ -105,7 +105,7 @@ impl Node {
         self.ended_phases += 1;
     }
 
-    /// Restores what was saved.
+    /// Restores the saved word and the saved count of ended phases.
     pub fn put_back(&mut self, kept: &KeptWord)
         ensures { self.new ≡ record self.old {
           word = (kept_by kept.now).word;

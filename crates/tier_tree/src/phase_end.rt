@@ -6,8 +6,7 @@ ghost use Rattle.tier_tree.specs.Stored.{IsStored, ChangedOnly, ChangedAt, phase
 use crate::node::Node;
 use crate::present::{root_of, root_word_at};
 
-/// Ends the phase of a turned root, and terminates the tree if `ends` is true. It writes only the root's word. From then on the
-/// other words of its tree lag behind.
+/// Ends the phase of a turned root, and terminates the tree if `ends`. Only the root's word changes, and others lag then.
 pub fn end_phase(nodes: &mut [Node], root: usize, ends: bool)
     requires stored { IsStored nodes.old }
     requires there { root < length nodes.old }
@@ -23,7 +22,7 @@ pub fn end_phase(nodes: &mut [Node], root: usize, ends: bool)
     nodes[root].end_phase(word);
 }
 
-/// Terminates the tree of a root, by the root's word alone.
+/// Terminates the tree of a root. Only the root's word changes, and the others lag then.
 fn force_root(nodes: &mut [Node], root: usize)
     requires stored { IsStored nodes.old }
     requires there { root < length nodes.old }
@@ -36,7 +35,7 @@ fn force_root(nodes: &mut [Node], root: usize)
     nodes[root].set_word(word);
 }
 
-/// Terminates the tree of one phaser.
+/// Terminates the tree of phaser `i`.
 pub fn force_tree(nodes: &mut [Node], i: usize)
     requires stored { IsStored nodes.old }
     requires there { i < length nodes.old }

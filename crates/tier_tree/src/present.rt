@@ -1,3 +1,4 @@
+//! What the stored words say at present. A child's word lags after the phase has ended, or its root was terminated.
 ghost use Rattle.std.specs.Prelude.{◌≡◌, ◌<◌, [], ◌∷◌, length, false, All, slice_index_or};
 ghost use Rattle.packed_phaser.specs.Flat.{view_of};
 ghost use Rattle.packed_phaser.specs.Word.{record_of};
@@ -9,7 +10,7 @@ use crate::node::Node;
 use packed_phaser::Word;
 use phase_number::Phase;
 
-/// The phase of a word, terminated or not.
+/// Returns the phase of a word, terminated or not.
 #[tactic(auto, using(crate::proofs::View::view_number), unfolding(packed_phaser::specs::Word::fields_of))]
 pub fn phase_of(word: Word) -> Phase
     ensures { result ≡ (record_of word).phase }
@@ -17,7 +18,7 @@ pub fn phase_of(word: Word) -> Phase
     Phase::prevailing(word.phase_view())
 }
 
-/// `brought_up` of a word that may lag.
+/// `brought_up` of a word that may lag: in the root's phase all its parties are to arrive again, or it is terminated.
 #[inline(never)]
 fn renewed(root: Word, own: Word) -> Word
     ensures { record_of result ≡ present (record_of root) (record_of own) }
@@ -32,7 +33,7 @@ fn renewed(root: Word, own: Word) -> Word
     }
 }
 
-/// Returns what a word says at present, given that of its root.
+/// Returns what a word says at present, given that of its root. Most words don't lag: their upper half is the root's.
 #[inline(always)]
 #[tactic(auto, using(crate::proofs::View::stands_as_it_is))]
 fn brought_up(root: Word, own: Word) -> Word
@@ -45,7 +46,7 @@ fn brought_up(root: Word, own: Word) -> Word
     }
 }
 
-/// Returns the line of one phaser.
+/// Returns the line of phaser `i`, which begins with its own number.
 #[tactic(auto, using(crate::proofs::Changed::line_read, crate::proofs::Ascent::tree_read, crate::proofs::Ascent::own_read))]
 pub fn line_at(nodes: &[Node], i: usize) -> Line
     requires stored { IsStored nodes.now }
@@ -60,7 +61,7 @@ pub fn line_at(nodes: &[Node], i: usize) -> Line
     nodes[i].line()
 }
 
-/// The root of one phaser.
+/// Returns the number of phaser `i`'s root.
 pub fn root_of(nodes: &[Node], i: usize) -> u8
     requires stored { IsStored nodes.now }
     requires there { i < length nodes.now }
@@ -71,7 +72,7 @@ pub fn root_of(nodes: &[Node], i: usize) -> u8
     nodes[i].root()
 }
 
-/// Returns the word of one phaser's root.
+/// Returns the word of phaser `i`'s root.
 #[inline(always)]
 #[tactic(auto, using(crate::proofs::Shown::top_read, crate::proofs::Shown::top_word_read))]
 pub fn top_at(nodes: &[Node], i: usize) -> Word
@@ -83,7 +84,7 @@ pub fn top_at(nodes: &[Node], i: usize) -> Word
     nodes[root as usize].word()
 }
 
-/// The present word of one phaser.
+/// Returns the word that phaser `i` has at present, even if the stored one lags.
 pub fn word_at(nodes: &[Node], i: usize) -> Word
     requires stored { IsStored nodes.now }
     requires there { i < length nodes.now }
@@ -93,7 +94,7 @@ pub fn word_at(nodes: &[Node], i: usize) -> Word
     brought_up(top, nodes[i].word())
 }
 
-/// Returns the word of a root.
+/// Returns the word of a root, which never lags.
 #[inline(always)]
 pub fn root_word_at(nodes: &[Node], root: usize) -> Word
     requires stored { IsStored nodes.now }
@@ -104,7 +105,7 @@ pub fn root_word_at(nodes: &[Node], root: usize) -> Word
     nodes[root].word()
 }
 
-/// Returns what one phaser shows as its phase at present: that of its root, whatever its own word says.
+/// Returns what `getPhase` of phaser `i` returns: the phase of its root, whatever its own word says.
 #[inline(always)]
 #[tactic(auto, using(crate::proofs::Shown::view_read))]
 pub fn view_at(nodes: &[Node], i: usize) -> i32
@@ -115,7 +116,7 @@ pub fn view_at(nodes: &[Node], i: usize) -> i32
     top_at(nodes, i).phase_view()
 }
 
-/// Another word of the present phase for one phaser.
+/// Stores another word of the present phase for phaser `i`, which isn't terminated.
 pub fn set_word(nodes: &mut [Node], i: usize, word: Word)
     requires stored { IsStored nodes.old }
     requires there { i < length nodes.old }

@@ -35,6 +35,7 @@ impl Model for Saved {
     ghost invariant = { λ saved. saved.len ≤ 8 };
 }
 
+/// Saves the word of phaser `id`, and how many phases of its tree have ended.
 fn keep_at(nodes: &[Node], id: u8) -> KeptWord
     requires { id < length nodes.now }
     ensures { kept_by result ≡ kept_at nodes.now id }
@@ -47,6 +48,7 @@ fn keep_at(nodes: &[Node], id: u8) -> KeptWord
     }
 }
 
+/// Saves the words of the phasers of a line.
 fn keep_line(nodes: &[Node], line: &[u8]) -> Saved
     requires few { length line.now ≤ 8 }
     requires there { All (λ id. id < length nodes.now) line.now }
@@ -67,7 +69,7 @@ fn keep_line(nodes: &[Node], line: &[u8]) -> Saved
     }
 }
 
-/// Saves what a call at this phaser can change.
+/// Saves what a call at phaser `i` can change: the words from it up to its root.
 pub fn keep(nodes: &[Node], i: usize) -> Saved
     requires stored { IsStored nodes.now }
     requires there { i < length nodes.now }
@@ -88,6 +90,7 @@ fn put_back_at(nodes: &mut [Node], kept: &KeptWord)
     }
 }
 
+/// Restores what was saved of each phaser.
 fn put_back_each(nodes: &mut [Node], kept: &[KeptWord])
     ensures { nodes.new ≡ restored (map kept_by kept.now) nodes.old }
 {

@@ -1,3 +1,4 @@
+//! What a line declares, with numbers in place of names. Each function returns `None` if a name isn't known.
 ghost use Rattle.std.specs.Prelude.{◌≡◌, ◌<◌, [], ◌∷◌, if◌then◌else◌, option_map, IfSome, Some, None};
 ghost use Rattle.std.specs.List.{list_all};
 ghost use Rattle.instruction_table.specs.declared.shape.OperandKind.TheVariants as kind;
@@ -19,7 +20,7 @@ use row_code::{
     DeclaredBarrier, DeclaredPhaser, DeclaredPolicy, DeclaredThread, Operands, row_with,
 };
 
-/// Returns the parent of a phaser, if it has one, or nothing if its name isn't known.
+/// Returns the number of a phaser's parent: `Some(None)` for a root.
 fn parent_of<'a>(draft: &Draft<'a>, parent: &Option<Reference<&'a [u8]>>) -> Option<Option<u8>>
     requires { let parent = option_map reference_seen parent.now in
         IfSome (option_map (referent_or_0 draft.now kind.Phaser) parent) (λ n. n < 64) }
@@ -36,7 +37,7 @@ fn parent_of<'a>(draft: &Draft<'a>, parent: &Option<Reference<&'a [u8]>>) -> Opt
     }
 }
 
-/// Returns the policy of a phaser, or nothing if the name of its routine isn't known.
+/// Returns the policy of a phaser, with the number of its routine's row.
 fn policy_of<'a>(draft: &Draft<'a>, policy: &SymbolicPolicy<&'a [u8]>) -> Option<DeclaredPolicy>
     ensures { result ≡ (if is_policy_known draft.now (policy_seen policy.now)
         then Some (policy_of draft.now (policy_seen policy.now)) else None) }
@@ -52,7 +53,7 @@ fn policy_of<'a>(draft: &Draft<'a>, policy: &SymbolicPolicy<&'a [u8]>) -> Option
     }
 }
 
-/// Returns a phaser, or `None` if a name isn't known.
+/// Returns the phaser that a line declares.
 pub fn phaser_of<'a>(draft: &Draft<'a>, phaser: &SymbolicPhaser<&'a [u8]>) -> Option<DeclaredPhaser>
     requires { IsPhaser (phaser_of draft.now (phaser_seen phaser.now)) }
     ensures { result ≡ (if are_known draft.now (statement.Phaser (phaser_seen phaser.now))
@@ -68,7 +69,7 @@ pub fn phaser_of<'a>(draft: &Draft<'a>, phaser: &SymbolicPhaser<&'a [u8]>) -> Op
     })
 }
 
-/// Returns a barrier, or `None` if the name of its action isn't known.
+/// Returns the barrier that a line declares.
 pub fn barrier_of<'a>(
     draft: &Draft<'a>,
     barrier: &SymbolicBarrier<&'a [u8]>,
@@ -86,7 +87,7 @@ pub fn barrier_of<'a>(
     })
 }
 
-/// Returns a thread, or `None` if the name of its first row isn't known.
+/// Returns the thread that a line declares.
 pub fn thread_of<'a>(draft: &Draft<'a>, thread: &SymbolicThread<&'a [u8]>) -> Option<DeclaredThread>
     ensures { result ≡ (if are_known draft.now (statement.Thread (thread_seen thread.now))
         then Some (thread_of draft.now (thread_seen thread.now)) else None) }
@@ -95,7 +96,7 @@ pub fn thread_of<'a>(draft: &Draft<'a>, thread: &SymbolicThread<&'a [u8]>) -> Op
     Some(DeclaredThread { first_row })
 }
 
-/// Puts one more operand of a row before these, or returns nothing if its name isn't known.
+/// Puts one more operand of a row before these. It is a register, `number` or `object`.
 #[inline(always)]
 fn with_operand<'a>(
     draft: &Draft<'a>,
@@ -129,7 +130,7 @@ fn with_operand<'a>(
     }
 }
 
-/// Returns the operands of a row's last two places, which most rows leave empty, or nothing if a name isn't known.
+/// Returns the operands of a row's last two places, which most rows leave empty.
 #[inline(always)]
 fn last_operands<'a>(draft: &Draft<'a>, row: &KeptRow<'a>) -> Option<Operands>
     ensures { let last = operand_kept row.now.held row.now.third
@@ -151,7 +152,7 @@ fn last_operands<'a>(draft: &Draft<'a>, row: &KeptRow<'a>) -> Option<Operands>
     with_operand(draft, &row.held, row.third, operands)
 }
 
-/// Returns a row, or `None` if a name isn't known.
+/// Returns the row of a line.
 #[inline(always)]
 pub fn row_of<'a>(draft: &Draft<'a>, row: &KeptRow<'a>) -> Option<Row>
     ensures { result

@@ -36,7 +36,7 @@ impl Model for Parts {
     } };
 }
 
-/// Adds what was found, and tells whether anything was.
+/// Appends what was found, if anything, and returns whether it was found.
 fn push_found<T: Drop>(list: &mut Vec<T>, found: Option<T>) -> Result<bool, AllocError>
     ensures found { IfOk result (λ known. known ≡ is_some found) }
     ensures list { IfOk result (λ _. list.new.items ≡ list.old.items ++ cons_option found []) }
@@ -51,7 +51,7 @@ fn push_found<T: Drop>(list: &mut Vec<T>, found: Option<T>) -> Result<bool, Allo
 }
 
 impl Parts {
-    /// Without any line.
+    /// Makes four empty lists.
     pub fn new(alloc: Global) -> Parts
         ensures { result ≡ image_of [] }
     {
@@ -90,7 +90,7 @@ impl Parts {
         }
     }
 
-    /// The image, once it is within its limits.
+    /// Returns the lists as an image, whose limits they fulfil.
     pub fn into_image(self) -> Image
         requires { IsImage self }
         ensures { result ≡ self }

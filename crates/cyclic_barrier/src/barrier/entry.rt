@@ -9,7 +9,7 @@ use crate::answer::Entered;
 /// A thread comes to the barrier, and runs its action if it is the last.
 impl Barrier {
     /// `await`, up to where it would wait. The thread arrives, or the result says why not. `interrupted` is its interrupted
-    /// status, which the caller clears if the result is `Interrupted`.
+    /// status, which the caller clears if the result is `Interrupted`. `Busy` and `Own` change nothing.
     pub fn enter(&mut self, thread: u8, interrupted: bool) -> Entered
         requires thread { thread < 64 }
         requires no_wait { wait_at self.old.waits thread ≡ None }
@@ -34,7 +34,7 @@ impl Barrier {
         }
     }
 
-    /// The runner's action is over: it returned, or it threw.
+    /// Ends the runner's action. If the action returned, the barrier trips. If it threw, the barrier breaks.
     pub fn end_action(&mut self, returned: bool)
         requires { IsSome self.old.runner }
         ensures { self.new ≡ end_action returned self.old }
@@ -47,7 +47,7 @@ impl Barrier {
         }
     }
 
-    /// A thread arrives while no thread runs the action.
+    /// `await` while no thread runs the action. It checks in this order: broken, interrupted, the last to arrive, no time.
     fn arrive(&mut self, thread: u8, interrupted: bool, no_wait: bool) -> Entered
         requires thread { thread < 64 }
         requires no_wait { wait_at self.old.waits thread ≡ None }
@@ -70,7 +70,7 @@ impl Barrier {
         }
     }
 
-    /// All the others wait.
+    /// The last thread arrives. It becomes the runner of the action, or the barrier trips if it has no action.
     fn arrive_last(&mut self, thread: u8) -> Entered
         requires no_runner { self.old.runner ≡ None }
         requires whole { self.old.broken ≡ false }
@@ -87,7 +87,7 @@ impl Barrier {
         }
     }
 
-    /// More threads are to come.
+    /// A thread that isn't the last begins to wait. Returns its arrival index: how many others are still to arrive.
     fn add_wait(&mut self, thread: u8) -> Entered
         requires thread { thread < 64 }
         requires no_wait { wait_at self.old.waits thread ≡ None }

@@ -1,3 +1,4 @@
+//! What is true of every barrier. Each law is the contract of a function that does nothing.
 ghost use Rattle.std.specs.Prelude.{◌≡◌, ℕ, Bool};
 ghost use Rattle.cyclic_barrier.specs.Barrier.{BarrierState, IsBarrier, fresh};
 ghost use Rattle.cyclic_barrier.specs.PlainBarrier as plain;
@@ -6,7 +7,8 @@ ghost use Rattle.cyclic_barrier.specs.WhoWaits.{TellsWhoWaits};
 
 use super::Barrier;
 
-/// Every barrier fulfils `IsBarrier`, so no caller has to ensure it.
+/// Every barrier fulfils `IsBarrier`: fewer threads wait than it has parties, none if it is broken, and all parties but
+/// the runner while the action runs.
 pub fn each_barrier_is_sound(barrier: &Barrier)
     ensures { IsBarrier barrier.now }
 {
@@ -22,15 +24,14 @@ pub fn each_barrier_has_a_past()
     ensures each { (b : BarrierState) → HasPast b }
 {}
 
-/// Each call returns the same result for a barrier and for each past of this barrier, and changes both in the same way. So a
-/// waiting thread learns how its own generation ended, and arrival indices count down from one less than the number of
-/// parties.
+/// Each call returns the same result for a barrier and for each past of it, and changes both in the same way. So a waiting
+/// thread learns how its own generation ended, and arrival indices count down from the number of parties less one.
 pub fn calls_agree_with_the_past()
     ensures { (b : BarrierState) → IsBarrier b → FollowsPast b }
 {}
 
-/// `TellsWhoWaits` says for each call which threads have a wait after it. For a call of `enter` or `enter_timed` it also says
-/// which thread then runs the action.
+/// `TellsWhoWaits` says for each call which threads have a wait after it, and after `enter` or `enter_timed` also which
+/// thread runs the action.
 pub fn calls_tell_who_waits()
     ensures { (b : BarrierState) → IsBarrier b → TellsWhoWaits b }
 {}

@@ -5,7 +5,7 @@ use super::Barrier;
 
 /// The generation under way ends, and all who wait are released.
 impl Barrier {
-    /// `reset`: the waiting threads are released as if the barrier broke, and it is no longer broken.
+    /// `reset`: releases the waiting threads as if the barrier broke. Then it isn't broken.
     pub fn reset(&mut self)
         requires { self.old.runner ≡ None }
         ensures { self.new ≡ reset self.old }
@@ -14,7 +14,7 @@ impl Barrier {
         self.broken = false;
     }
 
-    /// The generation ends without a breakage.
+    /// Ends the generation without a breakage: the waiting threads are released, and their `await` returns.
     pub(super) fn trip(&mut self)
         requires { self.old.runner ≡ None }
         ensures { self.new ≡ trip self.old }
@@ -22,7 +22,7 @@ impl Barrier {
         self.waits.trip();
     }
 
-    /// The generation ends as broken, and the barrier stays broken.
+    /// Ends the generation as broken: the waiting threads are released with an exception, and the barrier stays broken.
     pub(super) fn break_barrier(&mut self)
         requires { self.old.runner ≡ None }
         ensures { self.new ≡ break self.old }

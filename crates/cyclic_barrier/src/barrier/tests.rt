@@ -1,3 +1,4 @@
+//! Tests: tables of calls at one barrier, each with its result and what the barrier shows after it.
 ghost use Rattle.std.specs.Prelude.{◌≡◌, ◌≢◌, ◌<◌, true, Some, None};
 ghost use Rattle.cyclic_barrier.specs.declared.answer.WaitState.TheVariants.{Waiting};
 ghost use Rattle.cyclic_barrier.specs.Waits.{wait_at};
@@ -6,7 +7,7 @@ use super::Barrier;
 use crate::answer::{Entered, WaitState};
 use std::process::Abort;
 
-/// A call with the thread that makes it and what it answers.
+/// A call, with the thread that makes it and its result. `EnterLate` has no time; `EndAction` says whether it returned.
 #[derive(Clone, Copy)]
 enum Call {
     Enter(u8, Entered),
@@ -25,18 +26,21 @@ enum Call {
 type Row = (Call, bool, u16);
 
 impl Barrier {
+    /// Whether `enter` may be called for the thread: there is such a thread, and it has no wait.
     fn has_no_wait(&self, thread: u8) -> bool
         ensures { result ≡ true → (thread < 64) × (wait_at self.now.waits thread ≡ None) }
     {
         thread < 64 && self.waits.get(thread).is_none()
     }
 
+    /// Whether `look` may be called for the thread: it waits or was released.
     fn has_a_wait(&self, thread: u8) -> bool
         ensures { result ≡ true → (thread < 64) × (wait_at self.now.waits thread ≢ None) }
     {
         thread < 64 && self.waits.get(thread).is_some()
     }
 
+    /// Whether the thread has a wait that a trip, a breakage or a reset released, so that it may `leave`.
     fn was_released(&self, thread: u8) -> bool
         ensures { result ≡ true → (thread < 64) × (wait_at self.now.waits thread ≢ Some Waiting) }
     {
@@ -47,6 +51,7 @@ impl Barrier {
             }
     }
 
+    /// Whether the thread waits while no thread runs the action, so that `interrupt` and `expire` may be called.
     fn may_break(&self, thread: u8) -> bool
         ensures { result ≡ true → (thread < 64)
             × ((wait_at self.now.waits thread ≡ Some Waiting) × (self.now.runner ≡ None)) }
@@ -59,6 +64,7 @@ impl Barrier {
     }
 }
 
+/// Calls `enter_timed` if it may be called, and says whether it returned this result.
 fn enters(
     barrier: &mut Barrier,
     thread: u8,
@@ -69,10 +75,12 @@ fn enters(
     barrier.has_no_wait(thread) && barrier.enter_timed(thread, interrupted, no_wait) == answer
 }
 
+/// Says whether the thread has a wait in this state.
 fn finds(barrier: &Barrier, thread: u8, state: WaitState) -> bool {
     barrier.has_a_wait(thread) && barrier.look(thread) == state
 }
 
+/// Calls `end_action` if a thread runs the action, and says whether it did.
 fn ends_action(barrier: &mut Barrier, returned: bool) -> bool {
     if barrier.runner().is_none() {
         return false;
@@ -81,6 +89,7 @@ fn ends_action(barrier: &mut Barrier, returned: bool) -> bool {
     true
 }
 
+/// Calls `leave` if the thread was released, and says whether it did.
 fn leaves(barrier: &mut Barrier, thread: u8) -> bool {
     if !barrier.was_released(thread) {
         return false;
@@ -89,6 +98,7 @@ fn leaves(barrier: &mut Barrier, thread: u8) -> bool {
     true
 }
 
+/// Calls `interrupt` if the thread waits and no thread runs the action, and says whether it did.
 fn is_interrupted(barrier: &mut Barrier, thread: u8) -> bool {
     if !barrier.may_break(thread) {
         return false;
@@ -97,6 +107,7 @@ fn is_interrupted(barrier: &mut Barrier, thread: u8) -> bool {
     true
 }
 
+/// Calls `expire` if the thread waits and no thread runs the action, and says whether it did.
 fn expires(barrier: &mut Barrier, thread: u8) -> bool {
     if !barrier.may_break(thread) {
         return false;
@@ -105,6 +116,7 @@ fn expires(barrier: &mut Barrier, thread: u8) -> bool {
     true
 }
 
+/// Calls `reset` unless a thread runs the action, and says whether it did.
 fn is_reset(barrier: &mut Barrier) -> bool {
     if barrier.runner().is_some() {
         return false;
@@ -113,7 +125,7 @@ fn is_reset(barrier: &mut Barrier) -> bool {
     true
 }
 
-/// Makes the call, where it may be made, and says whether it answers so.
+/// Makes the call, if it may be made, and says whether it was made and returned the result in `call`.
 fn agrees(barrier: &mut Barrier, call: &Call) -> bool {
     match *call {
         Call::Enter(thread, answer) => {
@@ -133,7 +145,7 @@ fn agrees(barrier: &mut Barrier, call: &Call) -> bool {
     }
 }
 
-/// Makes the call, says whether it answers so, and undoes it: a copy from before it is put back.
+/// Like `agrees`, but the barrier is as before: a copy is put back.
 fn agrees_and_goes_back(barrier: &mut Barrier, call: &Call) -> bool
     ensures { barrier.new ≡ barrier.old }
 {
@@ -143,10 +155,12 @@ fn agrees_and_goes_back(barrier: &mut Barrier, call: &Call) -> bool
     answered
 }
 
+/// Says whether the barrier is broken, and how many threads wait, as expected.
 fn is_at(barrier: &Barrier, broken: bool, waiting: u16) -> bool {
     barrier.is_broken() == broken && barrier.number_waiting() == waiting
 }
 
+/// Makes a barrier, and panics if `parties` is 0.
 fn made(rt: &impl Abort, parties: u16, action: bool) -> Barrier {
     match Barrier::new(parties, action) {
         Some(barrier) => barrier,
@@ -154,7 +168,7 @@ fn made(rt: &impl Abort, parties: u16, action: bool) -> Barrier {
     }
 }
 
-/// Makes the calls in order at a new barrier, each twice, once undone.
+/// Makes the calls in order at a new barrier, each twice: first undone, then kept. Panics at a row that doesn't agree.
 fn check(rt: &impl Abort, parties: u16, action: bool, rows: &[Row]) {
     let mut barrier = made(rt, parties, action);
     for (row, (call, broken, waiting)) in rows.iter().enumerate() {
@@ -167,6 +181,7 @@ fn check(rt: &impl Abort, parties: u16, action: bool, rows: &[Row]) {
     }
 }
 
+/// No barrier has 0 parties. Others have the parties and the action that they were made with.
 #[test]
 fn parties_and_action(rt: HostRuntime) {
     assert!(rt; Barrier::new(0, false).is_none() && Barrier::new(0, true).is_none());
@@ -174,6 +189,7 @@ fn parties_and_action(rt: HostRuntime) {
     assert!(rt; barrier.parties() == 65535 && barrier.has_action());
 }
 
+/// The last thread runs the action while the others wait, and a thread that comes meanwhile finds the barrier busy.
 #[test]
 fn action_runs_before_the_others_go_on(rt: HostRuntime) {
     let rows = [
@@ -193,6 +209,7 @@ fn action_runs_before_the_others_go_on(rt: HostRuntime) {
     check(&rt, 3, true, &rows);
 }
 
+/// If the action throws, the barrier breaks.
 #[test]
 fn action_that_throws_breaks_the_barrier(rt: HostRuntime) {
     let rows = [
@@ -205,6 +222,7 @@ fn action_that_throws_breaks_the_barrier(rt: HostRuntime) {
     check(&rt, 2, true, &rows);
 }
 
+/// An interrupt breaks the barrier for all, until a reset.
 #[test]
 fn interrupt_of_a_waiter_breaks_the_barrier(rt: HostRuntime) {
     let rows = [
@@ -223,6 +241,7 @@ fn interrupt_of_a_waiter_breaks_the_barrier(rt: HostRuntime) {
     check(&rt, 3, false, &rows);
 }
 
+/// A thread without time breaks the barrier, unless it is the last, or the barrier is broken, or it is interrupted.
 #[test]
 fn wait_without_time_breaks_the_barrier(rt: HostRuntime) {
     let rows = [
@@ -249,6 +268,7 @@ fn wait_without_time_breaks_the_barrier(rt: HostRuntime) {
     check(&rt, 3, false, &rows);
 }
 
+/// A thread that looks late finds how its own generation ended, whatever has happened since.
 #[test]
 fn each_waiter_finds_its_own_generation(rt: HostRuntime) {
     let rows = [
@@ -275,6 +295,7 @@ fn each_waiter_finds_its_own_generation(rt: HostRuntime) {
     check(&rt, 2, false, &rows);
 }
 
+/// A barrier of 64 parties trips at the last of 64 threads.
 #[test]
 fn sixty_four_threads(rt: HostRuntime) {
     let mut barrier = made(&rt, 64, false);
@@ -288,6 +309,7 @@ fn sixty_four_threads(rt: HostRuntime) {
     }
 }
 
+/// A barrier of 65535 parties never trips by 64 threads, and a reset releases them.
 #[test]
 fn more_parties_than_threads(rt: HostRuntime) {
     let mut barrier = made(&rt, 65535, true);

@@ -8,7 +8,7 @@ use crate::answer::WaitState;
 
 /// A waiting thread asks for the state of its wait, and ends the wait.
 impl Barrier {
-    /// Returns the state of the thread's wait.
+    /// Returns whether the thread still waits, or how it was released. It has a wait.
     pub fn look(&self, thread: u8) -> WaitState
         requires thread { thread < 64 }
         requires wait { wait_at self.now.waits thread ≢ None }
@@ -20,7 +20,7 @@ impl Barrier {
         }
     }
 
-    /// A released thread ends its wait. Without a wait nothing changes.
+    /// Forgets the wait of a released thread, whose `await` returns. Without a wait nothing changes.
     pub fn leave(&mut self, thread: u8)
         requires thread { thread < 64 }
         requires released { wait_at self.old.waits thread ≢ Some Waiting }
@@ -29,7 +29,7 @@ impl Barrier {
         self.waits.end(thread);
     }
 
-    /// A thread is interrupted while it waits: the barrier breaks, and the thread's wait ends, as after `leave`.
+    /// Interrupts a waiting thread: the barrier breaks, and the thread's wait is forgotten (`InterruptedException`).
     pub fn interrupt(&mut self, thread: u8)
         requires thread { thread < 64 }
         requires waiting { wait_at self.old.waits thread ≡ Some Waiting }
@@ -40,8 +40,7 @@ impl Barrier {
         self.leave(thread);
     }
 
-    /// A thread's time is over while it waits (`TimeoutException`): the barrier breaks and the wait ends, as after an
-    /// interrupt.
+    /// Ends the time of a waiting thread (`TimeoutException`). The barrier changes as by `interrupt`.
     pub fn expire(&mut self, thread: u8)
         requires thread { thread < 64 }
         requires waiting { wait_at self.old.waits thread ≡ Some Waiting }

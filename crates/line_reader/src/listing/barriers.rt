@@ -8,6 +8,7 @@ use crate::listing::pieces::{push_count, push_number};
 use row_code::DeclaredBarrier;
 use std::alloc::AllocError;
 
+/// Appends the option `action` and the action's first row, if there is one.
 fn push_action(text: &mut Vec<u8>, action: Option<u16>) -> Result<(), AllocError>
     ensures text { OnOk result (text.new.items ≡ text.old.items ++ spaced (action_words action)) }
     ensures fits { OnOk result (IfSome action (λ row. row < 65536)) }
@@ -18,6 +19,7 @@ fn push_action(text: &mut Vec<u8>, action: Option<u16>) -> Result<(), AllocError
     }
 }
 
+/// Appends the line of barrier `n`.
 #[tactic(auto, using(crate::proofs::ListedTexts::option_steps))]
 fn push_barrier(text: &mut Vec<u8>, n: u64, barrier: DeclaredBarrier) -> Result<(), AllocError>
     ensures text { OnOk result (text.new.items

@@ -7,6 +7,7 @@ use crate::listing::pieces::{push_count, push_number, push_value};
 use row_code::{DeclaredPhaser, DeclaredPolicy};
 use std::alloc::AllocError;
 
+/// Appends the option `parent`, if the phaser has one.
 fn push_parent(text: &mut Vec<u8>, parent: Option<u8>) -> Result<(), AllocError>
     ensures { OnOk result (text.new.items ≡ text.old.items ++ spaced (parent_words parent)) }
 {
@@ -16,6 +17,7 @@ fn push_parent(text: &mut Vec<u8>, parent: Option<u8>) -> Result<(), AllocError>
     }
 }
 
+/// Appends the option `phase`, unless the phaser begins in phase 0.
 #[tactic(auto, using(crate::proofs::ListedTexts::word_steps, crate::proofs::ListedTexts::phase_there))]
 fn push_phase(text: &mut Vec<u8>, phase: i32) -> Result<(), AllocError>
     ensures { OnOk result (text.new.items ≡ text.old.items ++ spaced (phase_words phase)) }
@@ -26,6 +28,7 @@ fn push_phase(text: &mut Vec<u8>, phase: i32) -> Result<(), AllocError>
     push_value(text, b" phase ", phase)
 }
 
+/// Appends the policy's option. `Default` has none.
 #[tactic(auto, using(crate::proofs::ListedTexts::word_steps))]
 fn push_policy(text: &mut Vec<u8>, policy: DeclaredPolicy) -> Result<(), AllocError>
     ensures { OnOk result (text.new.items ≡ text.old.items ++ spaced (policy_words policy)) }
@@ -38,6 +41,7 @@ fn push_policy(text: &mut Vec<u8>, policy: DeclaredPolicy) -> Result<(), AllocEr
     }
 }
 
+/// Appends the line of phaser `n`.
 #[tactic(auto, using(crate::proofs::ListedTexts::option_steps))]
 fn push_phaser(text: &mut Vec<u8>, n: u64, phaser: DeclaredPhaser) -> Result<(), AllocError>
     ensures { OnOk result (text.new.items ≡ text.old.items ++ line_text (phaser_words n phaser)) }

@@ -55,7 +55,7 @@ impl RowLine {
         self.len = end;
     }
 
-    /// Appends a word and a number. Most numbers have one digit.
+    /// Appends `word`, and after it a number. Most numbers have one digit, which needs no buffer.
     #[inline(always)]
     #[tactic(auto, using(crate::proofs::OneDigit::digit_steps))]
     pub fn put_value(&mut self, word: &[u8], value: i32)

@@ -9,7 +9,7 @@ use instruction_table::{OperandKind, Row, row_shape};
 use row_code::fields_of;
 use std::alloc::AllocError;
 
-/// The operands of these kinds; a register that is missing ends them.
+/// Appends operands of these kinds: a register each time from the list, otherwise `imm`. A missing register ends them.
 #[inline(always)]
 #[tactic(auto, using(crate::proofs::ListedTexts::operand_steps))]
 fn put_operands(line: &mut RowLine, kinds: &[OperandKind], registers: &[u8], imm: i32)
@@ -37,7 +37,7 @@ fn put_operands(line: &mut RowLine, kinds: &[OperandKind], registers: &[u8], imm
     }
 }
 
-/// Appends the line of a row, as the canonical text of every image with this row has it.
+/// Appends the line that a row has in a canonical text.
 #[inline(always)]
 #[tactic(auto, using(crate::proofs::ListedTexts::option_steps))]
 pub fn push_row(text: &mut Vec<u8>, row: Row) -> Result<(), AllocError>

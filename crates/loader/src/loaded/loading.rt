@@ -1,3 +1,4 @@
+//! How an image is checked and loaded. The fault that comes first in the order of the checks is returned.
 ghost use Rattle.std.specs.Prelude.{◌≡◌, ◌≢◌, ◌∷◌, [], None, Some, IfOk, IfErr, OnOk, length, map, ◌≤◌};
 ghost use Rattle.loader.specs.Declarations.{new_barrier, routine_row, action_row, AreDeclared};
 ghost use Rattle.loader.specs.Program.{IsProgramOf};
@@ -26,7 +27,7 @@ fn counts_in(image: &Image) -> Counts
     }
 }
 
-/// The first fault of the threads and the rows.
+/// Returns the first fault of the threads, else of the rows, else of the end of the rows.
 fn code_fault(image: &Image) -> Option<LoadFault>
     ensures { result ≡ earliest (earliest_in (thread_fault (length image.now.rows)) 0 image.now.threads
         ∷ earliest_in (row_fault (counts_in image.now)) 0 image.now.rows
@@ -44,7 +45,7 @@ fn code_fault(image: &Image) -> Option<LoadFault>
     last_fault(rows)
 }
 
-/// Makes all checks in their order, and on the way the phasers and the barriers.
+/// Makes all checks in their order. Returns the phasers and the barriers, which are made on the way.
 fn checked(alloc: Global, image: &Image) -> Result<(Forest, Vec<Barrier>), LoadFault>
     ensures fault { IfErr result (λ fault. fault ≢ LoadFault.Memory
         → first_fault image.now ≡ Some fault) }
@@ -67,7 +68,7 @@ fn checked(alloc: Global, image: &Image) -> Result<(Forest, Vec<Barrier>), LoadF
     }
 }
 
-/// The rows that the phasers' routines and the barriers' actions begin at.
+/// Returns the rows at which the phasers' routines and the barriers' actions begin.
 fn entry_rows(alloc: Global, image: &Image) -> Result<(Vec<u16>, Vec<u16>), AllocError>
     ensures routines { IfOk result (λ both. both.0.items ≡ map routine_row image.now.phasers) }
     ensures actions { IfOk result (λ both. both.1.items ≡ map action_row image.now.barriers) }

@@ -1,3 +1,5 @@
+//! The rows that call a barrier. Inside the barrier's own action, `cawait`, `cawaitt`, `creset` and `cwaiting` throw 1
+//! (IllegalStateException). Entering also throws 3 to 5, as Java's `await` does, and 6 (stack full).
 ghost use Rattle.std.specs.Prelude.{◌≡◌, ℕ, pos, ◌<◌, ◌&&◌, length, true, false, Some, None, is_some};
 ghost use Rattle.cyclic_barrier.specs.Waits.{wait_at};
 ghost use Rattle.cyclic_barrier.specs.Barrier.{number_waiting};
@@ -16,7 +18,7 @@ use loader::Loaded;
 use thread_state::{Event, Mark};
 
 impl Stage {
-    /// The rows at barriers.
+    /// Plays a row that calls a barrier. `cawaitt` with a time of 0 or less may not wait.
     pub(super) fn barrier_row(&mut self, program: &Loaded, row: Row, t: usize) -> Event
         requires ready { is_some (outcome_of_barrier_row row t program.now (scene_of self.old)) ≡ true }
         requires named { IsNamed (counts_in self.old) row }
@@ -62,7 +64,7 @@ impl Stage {
         }
     }
 
-    /// `cawait` and `cawaitt`.
+    /// `cawait` and `cawaitt`: throws 1 inside the barrier's action, 6 if an action would find the stack full, or enters.
     #[inline(always)]
     fn come(&mut self, program: &Loaded, no_wait: bool, into: Reg, barrier: u16, t: usize) -> Event
         requires ready { is_some (unless_busy barrier t (scene_of self.old) (unless_runner barrier t (scene_of self.old)
@@ -85,7 +87,7 @@ impl Stage {
         self.enter(program, no_wait, into, barrier, t)
     }
 
-    /// The entry itself.
+    /// Enters the barrier. The thread waits, begins the action, gets index 0 as the last, or throws what Java's `await` throws.
     #[inline(always)]
     fn enter(&mut self, program: &Loaded, no_wait: bool, into: Reg, barrier: u16, t: usize) -> Event
         requires ready { is_some (outcome_of_entry no_wait into barrier t program.now (scene_of self.old)) ≡ true }
@@ -126,7 +128,7 @@ impl Stage {
         }
     }
 
-    /// `creset`.
+    /// `creset`. The event has a mark if threads were waiting.
     fn reset(&mut self, barrier: u16, t: usize) -> Event
         requires ready { is_some (unless_busy barrier t (scene_of self.old) (unless_runner barrier t (scene_of self.old)
             (Some (outcome_of_reset barrier t (scene_of self.old))))) ≡ true }
@@ -152,7 +154,7 @@ impl Stage {
         }
     }
 
-    /// `cwaiting`.
+    /// `cwaiting`: puts into a register how many threads wait.
     fn number_waiting(&mut self, into: Reg, barrier: u16, t: usize) -> Event
         requires ready { is_some (unless_busy barrier t (scene_of self.old) (unless_runner barrier t (scene_of self.old)
             (Some (outcome_of_turn (turn_of_answer into (pos (number_waiting (barrier_at (scene_of self.old) barrier)))

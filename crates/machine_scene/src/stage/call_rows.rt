@@ -1,3 +1,4 @@
+//! Calls, handlers, thrown exceptions, and the way back from calls, routines and actions.
 ghost use Rattle.std.specs.Prelude.{◌≡◌, ◌+◌, ◌<◌, ◌≤◌, length, true, Some, is_some};
 ghost use Rattle.tier_tree.specs.Forest.{phaser_at, flat_at, root_at};
 ghost use Rattle.tier_tree.specs.Stored.{phasers_of, ChangedAt};
@@ -19,7 +20,7 @@ use thread_state::{Event, Frame, Mark};
 use tier_tree::PhaserId;
 
 impl Stage {
-    /// Calls, handlers, thrown exceptions, and the way back.
+    /// Plays `call`, `ret`, `try`, `endtry` or `throw`.
     pub(super) fn call_row(&mut self, program: &Loaded, row: Row, t: usize) -> Event
         requires ready { is_some (outcome_of_call_row row t program.now (scene_of self.old)) ≡ true }
         requires sound { IsSound program.now most_before (scene_of self.old) }
@@ -42,7 +43,7 @@ impl Stage {
         }
     }
 
-    /// `ret`, by the top entry.
+    /// `ret`: returns from the call, the routine or the action on top of the stack. Throws 7 (bad return) if none is on top.
     fn ret(&mut self, program: &Loaded, t: usize) -> Event
         requires sound { IsSound program.now most_before (scene_of self.old) }
         requires thread { t < length self.old.threads }
@@ -70,7 +71,7 @@ impl Stage {
         }
     }
 
-    /// A routine has returned: its thread goes back to its arrival, with the registers of that moment.
+    /// Ends a routine, whose result is in R0. Its thread goes back to its arrival, with the registers of then.
     fn end_routine(
         &mut self,
         program: &Loaded,
@@ -99,7 +100,7 @@ impl Stage {
         self.take_answer(manner, root, terminates, t)
     }
 
-    /// The phase ends, or the tree was terminated while the routine ran; the thread is back at its arrival.
+    /// Ends the phase as the routine says. If the tree was terminated meanwhile, the arrival only gets its result.
     #[tactic(auto, using(tier_tree::proofs::Changed::changed_nothing))]
     fn take_answer(&mut self, manner: Manner, root: PhaserId, terminates: bool, t: usize) -> Event
         requires there { root.0 < length self.old.phasers }
@@ -124,7 +125,7 @@ impl Stage {
         self.end_phase(manner, root, phase, terminates, t)
     }
 
-    /// An action has returned: its thread is back at its arrival, and the barrier trips.
+    /// Ends an action that has returned: its thread goes back to its arrival, which returns 0, and the barrier trips.
     fn end_action(
         &mut self,
         program: &Loaded,

@@ -18,8 +18,7 @@ use thread_state::{Event, Status};
 /// The turns that are most frequent in most programs: rows that use only registers, arrivals of parties that stay, and the ends
 /// of waits for phases.
 impl Stage {
-    /// Plays `turn` if it is one of these turns. Returns `None` if it isn't; then nothing has changed, and the caller plays
-    /// `turn`.
+    /// Plays `turn` if it is one of these turns. Otherwise it changes nothing and returns `None`, and the caller plays `turn`.
     #[inline(always)]
     pub fn common_turn(&mut self, program: &Loaded, t: usize) -> Option<Event>
         requires sound { IsSound program.now most_before (scene_of self.old) }
@@ -42,7 +41,7 @@ impl Stage {
         }
     }
 
-    /// Decides by what the thread is doing.
+    /// Plays such a turn by what the thread is doing, and leaves the sets of ready threads. `None`: nothing has changed.
     #[inline(always)]
     fn common_by_status(&mut self, program: &Loaded, row: Row, t: usize) -> Option<Event>
         requires at { StandsAt program.now row t self.old }
@@ -70,7 +69,7 @@ impl Stage {
         }
     }
 
-    /// An arrival by a party that stays, while nobody is about to register.
+    /// Plays `parr` or `paaa`, while no thread is about to register. Otherwise it changes nothing and returns `None`.
     #[inline(always)]
     fn common_arrival(&mut self, program: &Loaded, row: Row, t: usize) -> Option<Event>
         requires at { StandsAt program.now row t self.old }

@@ -11,7 +11,7 @@ use instruction_table::Row;
 use thread_state::Event;
 
 impl Stage {
-    /// The rows that read a phaser.
+    /// Plays a row that reads a phaser: puts what Java's getter returns into a register, booleans as 1 or 0.
     pub(super) fn getter_row(&mut self, row: Row, t: usize) -> Event
         requires ready { is_some (outcome_of_getter_row row t (scene_of self.old)) ≡ true }
         requires named { IsNamed (counts_in self.old) row }
@@ -48,7 +48,7 @@ impl Stage {
         alone(self.threads[t].answer(into, answer))
     }
 
-    /// The number of a phaser's parent, or -1.
+    /// Returns the number of a phaser's parent, or -1 if it has none.
     fn parent(&self, phaser: u16) -> i32
         requires phaser { phaser < length self.now.phasers }
         ensures { result ≡ number_or_none (slice_get (phaser_at (phasers_of self.now.phasers) phaser).line 1) }

@@ -9,7 +9,7 @@ use instruction_table::{Row, is_local};
 use thread_state::Event;
 
 impl Stage {
-    /// The rows on registers alone.
+    /// Plays a row that uses only the thread's registers and place.
     #[inline(always)]
     #[tactic(auto, using(crate::proofs::LocalTurns::own_outcome))]
     pub(super) fn local_row(&mut self, row: Row, t: usize) -> Event
@@ -23,7 +23,7 @@ impl Stage {
         alone(self.threads[t].local_row(row))
     }
 
-    /// The rows of this group. The only other row of it is `halt`.
+    /// Plays a row of this group: a local one, or `halt`.
     pub(super) fn own_row(&mut self, row: Row, t: usize) -> Event
         requires ready { is_some (outcome_of_own_row row t (scene_of self.old)) ≡ true }
         requires plays { CanPlay t self.old }
@@ -38,7 +38,7 @@ impl Stage {
         }
     }
 
-    /// `halt`.
+    /// `halt`, the only row of this group that isn't local.
     fn halt_row(&mut self, row: Row, t: usize) -> Event
         requires ready { is_some (outcome_of_own_row row t (scene_of self.old)) ≡ true }
         requires apart { is_local_row row ≡ false }

@@ -1,3 +1,5 @@
+//! The rows that register at a phaser, arrive, wait or terminate. They throw 1 (IllegalStateException), 2
+//! (IllegalArgumentException), 3 (InterruptedException), 5 (TimeoutException) and 6 (stack full).
 ghost use Rattle.std.specs.Prelude.{◌≡◌, ℕ, ◌<◌, ◌≤◌, ◌&&◌, length, true, false, Some, None, is_some};
 ghost use Rattle.tier_tree.specs.Forest.{phaser_at, flat_at, root_at};
 ghost use Rattle.tier_tree.specs.Stored.{phasers_of, ChangedAt};
@@ -22,7 +24,7 @@ use packed_phaser::Policy;
 use thread_state::{Event, Mark, Thread, What};
 use tier_tree::{Arrived, PhaserId, Registered};
 
-/// A thread whose phase hasn't ended waits, as long as it has the patience.
+/// Begins to wait for the end of this phase. With less patience an interrupt throws 3 instead, and no time throws 5.
 fn wait_with(thread: &mut Thread, patience: Patience, phase: i32) -> What
     ensures { record { thread = thread.new; what = result } ≡ turn_of_patience patience phase thread.old }
 {
@@ -47,7 +49,7 @@ fn wait_with(thread: &mut Thread, patience: Patience, phase: i32) -> What
     }
 }
 
-/// A thread asks to wait for the end of a phase, and gets the view.
+/// `awaitAdvance`: a negative phase is returned, and so is the view of a phaser in another phase. Otherwise it waits.
 fn await_phase(thread: &mut Thread, patience: Patience, into: Reg, phase: i32, view: i32) -> What
     requires { thread.old.pc < 65535 }
     ensures { record { thread = thread.new; what = result }
@@ -62,7 +64,7 @@ fn await_phase(thread: &mut Thread, patience: Patience, into: Reg, phase: i32, v
     wait_with(thread, patience, phase)
 }
 
-/// A counted arrival waits for the end of the phase, or returns its phase.
+/// After an arrival that isn't the last: `paaa` waits for the end of the phase, and other rows return the phase.
 fn wait_or_answer(thread: &mut Thread, manner: Manner, phase: i32) -> What
     requires { thread.old.pc < 65535 }
     ensures { record { thread = thread.new; what = result } ≡ turn_of_arrival manner phase thread.old }
@@ -75,7 +77,7 @@ fn wait_or_answer(thread: &mut Thread, manner: Manner, phase: i32) -> What
 }
 
 impl Stage {
-    /// The rows that register at a phaser, arrive, wait or terminate.
+    /// Plays a row that registers at a phaser, arrives, waits or terminates.
     pub(super) fn phaser_row(&mut self, program: &Loaded, row: Row, t: usize) -> Event
         requires ready { is_some (outcome_of_phaser_row row t program.now (scene_of self.old)) ≡ true }
         requires named { IsNamed (counts_in self.old) row }
@@ -121,7 +123,7 @@ impl Stage {
         }
     }
 
-    /// Returns whether the thread runs the routine of this phaser's tree.
+    /// Returns whether the thread runs the routine of this phaser's tree. Then most calls throw 1.
     pub(super) fn is_own_tree(&self, phaser: u16, t: usize) -> bool
         requires phaser { phaser < length self.now.phasers }
         requires thread { t < length self.now.threads }
@@ -131,7 +133,7 @@ impl Stage {
         self.threads[t].advances(root.0)
     }
 
-    /// `preg`.
+    /// `preg`: registers one party, or throws 1 inside the tree's own routine.
     #[tactic(auto, using(tier_tree::proofs::Changed::changed_nothing))]
     fn register(&mut self, into: Reg, phaser: u16, t: usize) -> Event
         requires ready { is_some (unless_own phaser t (scene_of self.old)
@@ -149,7 +151,7 @@ impl Stage {
         self.registration(into, phaser, 1, t)
     }
 
-    /// `pbulk`.
+    /// `pbulk`: registers parties. Throws 1 inside the tree's own routine, and 2 for a negative count.
     #[tactic(auto, using(tier_tree::proofs::Changed::changed_nothing))]
     fn register_many(&mut self, into: Reg, phaser: u16, count: Reg, t: usize) -> Event
         requires ready { is_some (unless_own phaser t (scene_of self.old)
@@ -172,7 +174,7 @@ impl Stage {
         self.registration(into, phaser, count as u32, t)
     }
 
-    /// Registers parties.
+    /// Registers parties, and puts the phase, or the view if terminated, into a register. Throws 1 if they are too many.
     fn registration(&mut self, into: Reg, phaser: u16, count: u32, t: usize) -> Event
         requires ready { is_some (outcome_of_registration into phaser count t (scene_of self.old)) ≡ true }
         requires phaser { phaser < length self.old.phasers }
@@ -190,7 +192,7 @@ impl Stage {
         }
     }
 
-    /// `parr`, `pdereg` and `paaa`.
+    /// `parr`, `pdereg` and `paaa`: arrives, unless `refusal` has an exception.
     #[inline(always)]
     #[tactic(auto, using(tier_tree::proofs::Changed::changed_nothing, crate::proofs::Arrivals::refused, crate::proofs::Arrivals::comes))]
     pub(super) fn arrival(
@@ -216,8 +218,7 @@ impl Stage {
         }
     }
 
-    /// Returns the exception of an arrival that doesn't reach the phaser. With an empty stack a thread runs no routine, and has
-    /// room for one.
+    /// Returns the exception of an arrival that doesn't reach the phaser. A thread with an empty stack has none.
     #[inline(always)]
     #[tactic(auto, using(crate::proofs::Arrivals::free))]
     fn refusal(&self, phaser: u16, t: usize) -> Option<i32>
@@ -232,7 +233,7 @@ impl Stage {
         }
     }
 
-    /// The exception by a look at the thread's stack.
+    /// Returns 1 inside the tree's own routine, 6 if a routine would find the stack full, and otherwise no exception.
     #[inline(never)]
     fn refusal_by_stack(&self, phaser: u16, t: usize) -> Option<i32>
         requires phaser { phaser < length self.now.phasers }
@@ -248,7 +249,7 @@ impl Stage {
         }
     }
 
-    /// Returns whether the phaser's tree has a routine.
+    /// Returns whether the end of a phase in the phaser's tree calls a routine.
     fn has_routine(&self, phaser: u16) -> bool
         requires phaser { phaser < length self.now.phasers }
         ensures { result ≡ has_routine phaser (scene_of self.now) }
@@ -257,7 +258,7 @@ impl Stage {
         matches!(self.phasers.policy(root), Policy::Routine)
     }
 
-    /// The arrival itself.
+    /// Arrives, and plays what follows: a wait, a result, the end of the phase, or an exception if no party is left to arrive.
     #[inline(always)]
     fn arrive(&mut self, program: &Loaded, manner: Manner, phaser: u16, t: usize) -> Event
         requires phaser { phaser < length self.old.phasers }
@@ -282,7 +283,7 @@ impl Stage {
         }
     }
 
-    /// The end of a root's phase is pending: its policy returns a result, or its routine is entered.
+    /// After the last arrival: ends the phase if the root's policy says how, and otherwise enters the root's routine.
     #[inline(always)]
     #[tactic(auto, using(tier_tree::proofs::Changed::changed_nothing))]
     fn pending_end(
@@ -322,7 +323,7 @@ impl Stage {
         }
     }
 
-    /// Ends the pending phase of a root. The last arrival gets its result.
+    /// Ends the pending phase of a root, or terminates its tree. The last arrival gets its result.
     #[inline(always)]
     pub(super) fn end_phase(
         &mut self,
@@ -347,7 +348,7 @@ impl Stage {
         self.answer_last(manner, root, phase, t)
     }
 
-    /// Gives the last arrival its result after the end of the phase, and the step its mark.
+    /// Gives the last arrival its result: the view after the end for `paaa`, and otherwise the phase. Marks the end.
     #[inline(always)]
     fn answer_last(&mut self, manner: Manner, root: PhaserId, phase: i32, t: usize) -> Event
         requires there { root.0 < length self.old.phasers }
@@ -365,7 +366,7 @@ impl Stage {
         }
     }
 
-    /// `pawait`, `pawaiti` and `pawaitt`.
+    /// `pawait`, `pawaiti` and `pawaitt`: throws 1 inside the tree's own routine, and otherwise plays `await_phase`.
     fn await_unless_own(
         &mut self,
         patience: Patience,
@@ -390,7 +391,7 @@ impl Stage {
         alone(await_phase(&mut self.threads[t], patience, into, phase, view))
     }
 
-    /// `pforce`.
+    /// `pforce`: terminates the phaser's tree. The event has a mark unless it was terminated before.
     fn force(&mut self, phaser: u16, t: usize) -> Event
         requires phaser { phaser < length self.old.phasers }
         requires plays { CanPlay t self.old }

@@ -15,7 +15,7 @@ use instruction_table::Row;
 use thread_state::Status;
 use tier_tree::Registered;
 
-/// Returns whether some threads have to wait before they play the row.
+/// Returns whether some threads have to wait before they play the row: a registration, or a call of a busy barrier.
 #[inline(always)]
 pub(super) fn may_be_blocked(row: Row) -> bool
     ensures { result ≡ may_be_blocked row }
@@ -34,7 +34,7 @@ pub(super) fn may_be_blocked(row: Row) -> bool
 
 /// Which rows can be played, and which waits can end.
 impl Stage {
-    /// Returns whether a running thread has to wait before it plays the row.
+    /// Returns whether a running thread has to wait before it plays the row: its registration is held, or its barrier is busy.
     #[inline(always)]
     pub(super) fn is_blocked(&self, row: Row, t: usize) -> bool
         requires named { IsNamed (counts_in self.now) row }
@@ -57,7 +57,7 @@ impl Stage {
         }
     }
 
-    /// Returns whether a registration would wait for the end of the phase.
+    /// Returns whether a registration would have to wait for the end of the phase. One that throws doesn't.
     #[inline(never)]
     fn is_held(&self, phaser: u16, count: i32, t: usize) -> bool
         requires phaser { phaser < length self.now.phasers }
@@ -84,7 +84,7 @@ impl Stage {
         }
     }
 
-    /// Returns whether a wait for a phase can end.
+    /// Returns whether a wait for a phase can end: the phase is over, or an interrupt ends a wait that is interruptible.
     #[inline(always)]
     pub(super) fn is_phase_wait_over(&self, row: Row, phase: i32, t: usize) -> bool
         requires named { IsNamed (counts_in self.now) row }
@@ -99,7 +99,7 @@ impl Stage {
         }
     }
 
-    /// Returns whether a wait at a barrier can end.
+    /// Returns whether a wait at this row's barrier can end.
     #[inline(always)]
     pub(super) fn is_barrier_wait_over(&self, row: Row, t: usize) -> bool
         requires named { IsNamed (counts_in self.now) row }
@@ -115,7 +115,7 @@ impl Stage {
         }
     }
 
-    /// Returns whether the thread's wait at the barrier was released, or an interrupt ends it.
+    /// Returns whether the thread's wait at the barrier was released, or an interrupt ends it. None does while an action runs.
     #[inline(always)]
     fn is_released(&self, barrier: u16, t: usize) -> bool
         requires there { barrier < length self.now.barriers }
@@ -132,7 +132,7 @@ impl Stage {
         }
     }
 
-    /// Returns whether the thread's timed wait can expire, if its turn isn't ready.
+    /// Returns whether the thread's timed wait can expire, if its turn isn't ready. None at a busy barrier can.
     pub(super) fn has_time(&self, row: Row, t: usize) -> bool
         requires named { IsNamed (counts_in self.now) row }
         requires thread { t < length self.now.threads }

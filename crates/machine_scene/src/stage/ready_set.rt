@@ -1,3 +1,4 @@
+//! The sets of ready threads, exact after each step. To look at a thread is to compute its bits again from the scene.
 ghost use Rattle.std.specs.Prelude.{◌≡◌, ℕ, ◌<◌, length, true, false, None, IfSome};
 ghost use Rattle.instruction_table.specs.LocalRows.{is_local_row};
 ghost use Rattle.cyclic_barrier.specs.ThreadSet.{has};
@@ -23,7 +24,7 @@ pub(super) fn is_in(set: u64, thread: usize) -> bool
     (set >> thread) & 1 == 1
 }
 
-/// The first thread in the set.
+/// Returns the lowest thread in the set, if there is one.
 #[inline(always)]
 #[tactic(auto, using(crate::proofs::ThreadSets::lowest))]
 fn first_in(set: u64) -> Option<usize>
@@ -37,7 +38,7 @@ fn first_in(set: u64) -> Option<usize>
     }
 }
 
-/// Returns whether the row is a registration.
+/// Returns whether the row is `preg` or `pbulk`.
 #[inline(always)]
 fn is_registration(row: Row) -> bool
     ensures { result ≡ is_registration row }
@@ -45,7 +46,7 @@ fn is_registration(row: Row) -> bool
     matches!(row, Row::Preg { .. } | Row::Pbulk { .. })
 }
 
-/// Returns whether the row may change a tree.
+/// Returns whether the row may change the counts of a tree. `ret` does if it ends a routine.
 #[inline(always)]
 fn changes_tree(row: Row) -> bool
     ensures { result ≡ changes_tree row }
@@ -62,7 +63,7 @@ fn changes_tree(row: Row) -> bool
     }
 }
 
-/// Returns whether the event shows more than a turn of its own thread, or that a routine or an action begins.
+/// Returns whether the event has a mark, or a routine or an action begins. Other threads' turns may then be ready or not.
 #[inline(always)]
 fn is_loud(event: Event) -> bool
     ensures { result ≡ is_loud event }
@@ -70,7 +71,7 @@ fn is_loud(event: Event) -> bool
     !matches!(event.mark, Mark::Nothing) || matches!(event.what, What::Enters)
 }
 
-/// Returns whether a step at this row, with this event, may have changed for any thread whether its turn is ready.
+/// Whether a step may change which other threads are ready, so that all are looked at. `pforce` and `creset` always count.
 #[inline(always)]
 fn changes_all(row: Row, event: Event) -> bool
     ensures { result ≡ changes_all row event }
@@ -92,7 +93,7 @@ impl Stage {
         is_local(row) && matches!(self.threads[t].status(), Status::Runs)
     }
 
-    /// Returns the row that a thread is at, after a step as before one.
+    /// Returns the row that a thread is at. Other than `row_of` it may be called after a step, too.
     #[inline(always)]
     fn place(&self, program: &Loaded, t: usize) -> Row
         requires sound { IsSound program.now most_after (scene_of self.now) }
@@ -105,7 +106,7 @@ impl Stage {
         row
     }
 
-    /// Returns whether a thread can take a step, by looking at what it does.
+    /// Returns whether a thread can take a step, computed from the scene and not from the sets.
     #[inline(always)]
     #[tactic(auto, using(crate::proofs::Readiness::row_is_ready))]
     fn goes_on(&self, program: &Loaded, t: usize) -> bool
@@ -123,7 +124,7 @@ impl Stage {
         }
     }
 
-    /// Returns whether a thread is about to register.
+    /// Returns whether a thread runs and is at a registration.
     #[inline(always)]
     fn is_registering(&self, program: &Loaded, t: usize) -> bool
         requires sound { IsSound program.now most_after (scene_of self.now) }
@@ -137,7 +138,7 @@ impl Stage {
         }
     }
 
-    /// The sets with a thread looked at anew, by all that it may wait for.
+    /// Returns the sets with thread t looked at.
     #[inline(always)]
     fn looked_closely(&self, program: &Loaded, before: ReadySet, t: usize) -> ReadySet
         requires sound { IsSound program.now most_after (scene_of self.now) }
@@ -150,7 +151,7 @@ impl Stage {
         }
     }
 
-    /// The sets with a thread looked at anew. Most run on.
+    /// Returns the sets with thread t looked at. Most run and are at a row where none waits, which is quick to see.
     #[inline(always)]
     #[tactic(auto, using(crate::proofs::ReadySets::looked_on))]
     fn looked(&self, program: &Loaded, before: ReadySet, t: usize) -> ReadySet
@@ -168,7 +169,7 @@ impl Stage {
         }
     }
 
-    /// A thread is looked at anew.
+    /// Looks at thread t, and stores its bits.
     #[inline(never)]
     fn refresh(&mut self, program: &Loaded, t: usize)
         requires sound { IsSound program.now most_after (scene_of self.old) }
@@ -179,7 +180,7 @@ impl Stage {
         self.ready = self.looked_closely(program, self.ready, t);
     }
 
-    /// Returns whether a thread runs, and its row is none that it may have to wait at.
+    /// Returns whether a thread runs and is at a row where no thread has to wait.
     #[inline(always)]
     fn runs_on(&self, program: &Loaded, t: usize) -> bool
         requires sound { IsSound program.now most_after (scene_of self.now) }
@@ -193,8 +194,7 @@ impl Stage {
         }
     }
 
-    /// Keeps the sets after a turn of a common kind at this row, with this event, of a thread whose turn was ready and that
-    /// wasn't about to register. Most such turns change nobody's readiness.
+    /// Brings the sets up to date after a common turn of thread t at this row, with this event. Most change nobody's readiness.
     #[inline(always)]
     pub(super) fn settle(&mut self, program: &Loaded, row: Row, event: Event, t: usize)
         requires sound { IsSound program.now most_after (scene_of self.old) }
@@ -219,7 +219,7 @@ impl Stage {
         }
     }
 
-    /// A thread's turn isn't ready any more.
+    /// Removes thread t from the ready threads: it has begun to wait.
     #[inline(never)]
     fn leave_out(&mut self, t: usize)
         requires { t < length self.old.threads }
@@ -230,7 +230,7 @@ impl Stage {
         self.ready.turns = set_at(self.ready.turns, t, false);
     }
 
-    /// A thread is looked at anew unless it runs, and its row is none that it may have to wait at.
+    /// Looks at thread t, unless it runs and is at a row where no thread has to wait: then its bits are right.
     #[inline(always)]
     fn look_ahead(&mut self, program: &Loaded, t: usize)
         requires sound { IsSound program.now most_after (scene_of self.old) }
@@ -246,7 +246,7 @@ impl Stage {
         }
     }
 
-    /// The sets with all threads looked at.
+    /// Returns the sets with all threads looked at.
     #[inline(never)]
     pub(super) fn all_looked(&self, program: &Loaded) -> ReadySet
         requires sound { IsSound program.now most_after (scene_of self.now) }
@@ -262,7 +262,7 @@ impl Stage {
         set
     }
 
-    /// The sets with the thread looked at anew that the row interrupts.
+    /// Returns the sets, with the thread looked at that the row `intr` interrupts.
     #[inline(always)]
     fn interrupted_looked(&self, program: &Loaded, before: ReadySet, row: Row) -> ReadySet
         requires sound { IsSound program.now most_after (scene_of self.now) }
@@ -275,7 +275,7 @@ impl Stage {
         }
     }
 
-    /// Returns the sets after a step of thread t at this row that has changed few other threads. These were the sets before it.
+    /// Returns the sets after a step of thread t, with it looked at, and the thread that it may have interrupted.
     #[inline(always)]
     fn few_looked(&self, program: &Loaded, before: ReadySet, row: Row, t: usize) -> ReadySet
         requires sound { IsSound program.now most_after (scene_of self.now) }
@@ -289,7 +289,7 @@ impl Stage {
         self.looked(program, rest, t)
     }
 
-    /// The sets after a step of thread t at this row, with this event; these were so before it.
+    /// Returns the sets after a step of thread t at this row, with this event. `before` are the sets before the step.
     #[inline(always)]
     pub(super) fn ready_after(
         &self,
@@ -313,7 +313,7 @@ impl Stage {
         }
     }
 
-    /// Returns the first thread that can take a step.
+    /// Returns the lowest thread that can take a step, if there is one.
     pub fn ready_thread(&self, program: &Loaded) -> Option<usize>
         requires known { KnowsReady program.now self.now }
         ensures there { IfSome result (λ t. t < length self.now.threads) }

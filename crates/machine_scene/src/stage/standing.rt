@@ -1,3 +1,4 @@
+//! What is known of a sound stage. Each function is called for its contract, which a proof cites. It does nothing.
 ghost use Rattle.std.specs.Prelude.{◌≡◌, ◌<◌, length};
 ghost use Rattle.tier_tree.specs.Stored.{IsStored};
 ghost use Rattle.loader.specs.Program.{row_at};
@@ -10,16 +11,15 @@ use instruction_table::Row;
 use loader::Loaded;
 use thread_state::Frame;
 
-/// What is known of a sound stage. Nothing runs.
 impl Stage {
-    /// The phasers stand as a forest keeps them: of what `is_forest` says the one fact that a turn's proof goes by.
+    /// The stored phasers fulfil the invariant of a forest.
     pub(super) fn phasers_are_stored(&self)
         ensures { IsStored self.now.phasers }
     {
         self.phasers.is_forest();
     }
 
-    /// What a turn at the thread's row can rely on.
+    /// A turn at the thread's row can rely on `StandsAt`: what the row names exists, and one more phase may end.
     pub(super) fn turn_is_placed(&self, program: &Loaded, row: Row, t: usize)
         requires sound { IsSound program.now most_before (scene_of self.now) }
         requires thread { t < length self.now.threads }
@@ -29,7 +29,7 @@ impl Stage {
         let _ = &self.threads;
     }
 
-    /// What a look at the thread's wait can rely on.
+    /// A look at a wait can rely on `SeesWait`: what the row names exists, and the barrier of a waiting thread knows its wait.
     pub(super) fn wait_is_placed(&self, program: &Loaded, row: Row, t: usize)
         requires sound { IsSound program.now most_after (scene_of self.now) }
         requires thread { t < length self.now.threads }
@@ -39,7 +39,7 @@ impl Stage {
         let _ = &self.threads;
     }
 
-    /// What is known of the top entry of the thread's stack.
+    /// A routine on top of the stack has a pending or terminated root, and an action on top has a barrier whose action runs.
     #[tactic(auto, using(crate::proofs::Placed::top_placed))]
     pub(super) fn top_is_placed(&self, program: &Loaded, top: &Option<Frame>, t: usize)
         requires sound { IsSound program.now most_before (scene_of self.now) }

@@ -45,7 +45,7 @@ impl Stage {
         self.touched(reach_in(self.threads[t].status(), row, &top), touched);
     }
 
-    /// Saves what a turn of this reach may change besides its own thread.
+    /// Saves what this reach names: nothing, a cell, a thread, the words from a phaser up to its root, or a barrier.
     fn touched(&self, reach: Reach, touched: &mut Touched)
         requires { IsThere reach self.now }
         ensures { touched.new ≡ touched_by reach self.now }

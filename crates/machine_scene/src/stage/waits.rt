@@ -1,3 +1,4 @@
+//! The ends of waits. They throw 3 (InterruptedException), 4 (BrokenBarrierException) and 5 (TimeoutException).
 ghost use Rattle.std.specs.Prelude.{◌≡◌, ◌≢◌, ◌<◌, ◌≤◌, ℕ, length, pos, true, false, Some, None, is_some};
 ghost use Rattle.cyclic_barrier.specs.Waits.{wait_at};
 ghost use Rattle.cyclic_barrier.specs.Barrier.{expire};
@@ -15,7 +16,7 @@ use instruction_table::{Reg, Row};
 use thread_state::{Event, Mark};
 
 impl Stage {
-    /// Returns whether a phase of this number is not the phaser's phase.
+    /// Returns whether the phaser isn't in this phase any more: another one is under way, or it is terminated.
     #[inline(always)]
     pub(super) fn is_past(&self, phaser: u16, phase: i32) -> bool
         requires phaser { phaser < length self.now.phasers }
@@ -24,7 +25,7 @@ impl Stage {
         self.phasers.phase(self.phaser_id(phaser)) != phase
     }
 
-    /// Finishes a thread's wait for a phase.
+    /// Ends a thread's wait for a phase, at this row.
     #[inline(always)]
     pub(super) fn finish_phase_wait(&mut self, row: Row, phase: i32, t: usize) -> Event
         requires ready { is_some (outcome_of_phase_wait row phase t (scene_of self.old)) ≡ true }
@@ -44,7 +45,7 @@ impl Stage {
         }
     }
 
-    /// By the phase's end first, or by an interruption.
+    /// Ends a wait for a phase: returns the view if the phase is over, and otherwise throws 3 for an interrupt.
     #[inline(always)]
     fn finish_awaited(&mut self, looks: bool, into: Reg, phaser: u16, phase: i32, t: usize) -> Event
         requires ready { is_some (outcome_of_awaited looks into phaser phase t (scene_of self.old)) ≡ true }
@@ -62,7 +63,7 @@ impl Stage {
         alone(self.threads[t].take_interruption())
     }
 
-    /// Returns the state of the thread's wait at the barrier.
+    /// Returns the state of the thread's wait at the barrier. It has one.
     pub(super) fn wait_state(&self, barrier: u16, t: usize) -> WaitState
         requires there { barrier < length self.now.barriers }
         requires waits { wait_at (barrier_at (scene_of self.now) barrier).waits t ≢ None }
@@ -72,7 +73,7 @@ impl Stage {
         self.barriers[barrier as usize].look(t as u8)
     }
 
-    /// Finishes a thread's wait at a barrier.
+    /// Ends a thread's wait at this row's barrier.
     #[inline(always)]
     pub(super) fn finish_barrier_wait(&mut self, row: Row, index: i32, t: usize) -> Event
         requires ready { is_some (outcome_of_barrier_wait row index t (scene_of self.old)) ≡ true }
@@ -89,7 +90,7 @@ impl Stage {
         }
     }
 
-    /// Decides by the state of the wait.
+    /// Ends a wait at a barrier: returns the arrival index after a trip, throws 4 after a breakage, and 3 for an interrupt.
     #[inline(always)]
     fn finish_release(&mut self, into: Reg, index: i32, barrier: u16, t: usize) -> Event
         requires ready { is_some (outcome_of_release (wait_at (barrier_at (scene_of self.old) barrier).waits t)
@@ -119,7 +120,7 @@ impl Stage {
         }
     }
 
-    /// The time of a thread's wait for a phase runs out.
+    /// Ends a timed wait for a phase: the thread throws 5.
     pub(super) fn expire_phase_wait(&mut self, row: Row, t: usize) -> Event
         requires ready { is_some (outcome_of_phase_timeout row t (scene_of self.old)) ≡ true }
         requires thread { t < length self.old.threads }
@@ -133,7 +134,7 @@ impl Stage {
         }
     }
 
-    /// The time of a thread's wait at a barrier runs out: the barrier breaks.
+    /// Ends a timed wait at this row's barrier: the barrier breaks, and the thread throws 5.
     #[tactic(auto, using(crate::proofs::Readiness::unreleased))]
     pub(super) fn expire_barrier_wait(&mut self, row: Row, index: i32, t: usize) -> Event
         requires ready { is_some (outcome_of_barrier_timeout row t (scene_of self.old)) ≡ true }
@@ -152,7 +153,7 @@ impl Stage {
         }
     }
 
-    /// The expiry at the row's barrier, where the thread waits and isn't released.
+    /// Breaks the barrier at which the thread waits and isn't released. The thread throws 5.
     fn expire_at_barrier(&mut self, barrier: u16, t: usize) -> Event
         requires unreleased { wait_at (barrier_at (scene_of self.old) barrier).waits t ≡ Some WaitState.Waiting }
         requires no_runner { (barrier_at (scene_of self.old) barrier).runner ≡ None }

@@ -8,8 +8,7 @@ use super::{MOST_CHOICES, Machine};
 use crate::choice::Choice;
 
 impl Machine {
-    /// Plays a choice again and again as long as it is idle, at most so many times. Returns how often. The time that this takes
-    /// doesn't depend on how often.
+    /// Plays a choice again and again while it is idle, at most `most` times, and returns how often. It takes constant time.
     pub fn idle(&mut self, choice: Choice, most: u64) -> u64
         requires { choice.thread < length self.old.scene.threads }
         ensures times { result ≡ idle_times (world_of self.old) choice most }

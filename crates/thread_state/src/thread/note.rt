@@ -40,7 +40,7 @@ impl Model for ThreadNote {
 }
 
 impl ThreadNote {
-    /// With no entry in it: to be written over by `Thread::note`.
+    /// Makes a note that says nothing, for `Thread::note` to overwrite.
     pub fn new() -> ThreadNote
         ensures { result.top ≡ None }
     {

@@ -62,7 +62,7 @@ impl Forest {
         }
     }
 
-    /// Why a declaration is refused, want of memory aside.
+    /// Returns why a declaration is refused, or `None`. Memory isn't checked.
     fn fault(&self, parent: Option<PhaserId>, parties: i32, phase: Phase) -> Option<DeclareFault>
         ensures { result ≡ fault_of parent parties phase (phasers_of self.now) }
     {
@@ -83,7 +83,7 @@ impl Forest {
         }
     }
 
-    /// Returns whether there is such a parent, or none is named.
+    /// Returns whether the parent exists. It is true for a root, which has none.
     fn has_parent(&self, parent: Option<PhaserId>) -> bool
         ensures { result ≡ has_parent parent (phasers_of self.now) }
     {
@@ -93,7 +93,7 @@ impl Forest {
         }
     }
 
-    /// Returns how many phasers there are from the parent up to its root.
+    /// Returns how many phasers there are from the parent up to its root: 0 without a parent.
     fn height(&self, parent: Option<PhaserId>) -> usize
         requires { has_parent parent (phasers_of self.now) ≡ true }
         ensures { result ≡ length (line_above parent (phasers_of self.now)) }
@@ -122,7 +122,7 @@ impl Forest {
         }
     }
 
-    /// A new phaser, registered above.
+    /// Adds a phaser that may be declared, and registers it with its parent.
     fn add(
         &mut self,
         parent: Option<PhaserId>,
@@ -153,7 +153,7 @@ impl Forest {
         Ok(())
     }
 
-    /// A new phaser at the end.
+    /// Appends a phaser that isn't yet registered with its parent.
     fn push(
         &mut self,
         parent: Option<PhaserId>,
@@ -175,7 +175,7 @@ impl Forest {
         Ok(())
     }
 
-    /// A new phaser.
+    /// Makes a phaser. A child begins in the phase of its parent, and a root in `phase`.
     fn new_node(&self, parent: Option<PhaserId>, parties: u16, policy: Policy, phase: Phase) -> Node
         requires few { length self.now < 64 }
         requires parent { has_parent parent (phasers_of self.now) ≡ true }
@@ -199,7 +199,7 @@ impl Forest {
         }
     }
 
-    /// Registers the party of a child that has parties.
+    /// Registers a party for a child with its parent, if the child has parties.
     fn join_above(&mut self, parent: Option<PhaserId>, parties: u16)
         requires { has_parent parent (phasers_of self.old) ≡ true }
         ensures joined { phasers_of self.new
