@@ -14,7 +14,7 @@ pub struct NameHash {
 }
 
 impl NameHash {
-    /// Returns the hash for the names of this text.
+    /// Returns the hash for the names of this text, which it reads to the end.
     pub fn new(text: &[u8]) -> NameHash
         ensures { result.behind_text ≡ write initial text.now }
     {

@@ -45,7 +45,7 @@ impl PlacedFault {
     }
 }
 
-/// Returns the place of a fault in its line, which has so many words: of the forbidden byte, or of the faulty word.
+/// Returns the place of a fault in its line, which has so many words: the byte for `BadByte`, otherwise the word, if any.
 fn place_in(line: &[u8], fault: WordFault, words: usize) -> Option<WordPlace> {
     if fault.kind == AsmFaultKind::BadByte {
         let at = place_of_forbidden(line)?;

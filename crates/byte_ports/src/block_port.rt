@@ -68,7 +68,7 @@ impl<K: Sink + Drop> BlockPort<K> {
         Ok(())
     }
 
-    /// `push` if the block has no room for `bytes`, or the port has failed. It isn't inlined, so that `push` is short.
+    /// The rest of `push`, not inlined: fails if the port has, or passes the block on, and then holds or passes on `bytes`.
     #[inline(never)]
     fn push_far(&mut self, bytes: &[u8]) -> Result<(), Failed>
         ensures failed { FailsForGood self.old.failed self.new.failed result }

@@ -115,7 +115,7 @@ impl<S: Source + Drop> Source for BlockSource<S> {
 
     ghost reads = { λ s. S.reads s.inner };
 
-    /// Returns bytes of the block. Only if none is left, it reads the source before, once.
+    /// Copies the next bytes of the block to `buffer`, and returns how many. If none is left, it first reads the source, once.
     #[inline(always)]
     fn pull(&mut self, buffer: &mut [u8]) -> Result<usize, Failed>
         ensures failed { FailsForGood self.old.failed self.new.failed result }

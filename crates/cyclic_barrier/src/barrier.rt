@@ -61,7 +61,7 @@ impl Barrier {
         }
     }
 
-    /// `getParties`.
+    /// `getParties`: how many threads have to arrive for the barrier to trip.
     pub fn parties(&self) -> u16
         ensures { result ≡ self.now.parties }
     {

@@ -19,7 +19,7 @@ pub fn is_line_end(byte: u8) -> bool
     byte == b'\n'
 }
 
-/// Returns the place of the first byte that no line may have.
+/// Returns the place of the first byte that no line may have, if there is one.
 pub fn place_of_forbidden(line: &[u8]) -> Option<usize>
     ensures first { result ≡ position (λ byte. not (is_allowed byte)) line.now }
     ensures there { IfSome result (λ place. (place < length line.now) × (is_allowed (slice_index line.now place) ≡ false)) }
@@ -27,7 +27,7 @@ pub fn place_of_forbidden(line: &[u8]) -> Option<usize>
     line.iter().position(|byte| !is_allowed(*byte))
 }
 
-/// Returns the place of the first byte of this value.
+/// Returns the place of the first byte of this value, if there is one.
 pub fn place_of(byte: u8, bytes: &[u8]) -> Option<usize>
     ensures { result ≡ position (λ one. one == byte) bytes.now }
 {

@@ -67,7 +67,7 @@ impl Model for Stage {
         (length stage.threads.items ≤ 64) × (length stage.barriers.items ≤ 64) };
 }
 
-/// Returns the event of a turn that changes nothing else that a trace shows.
+/// Returns the event of a turn that changes only its own thread, as far as a trace shows: it has no mark.
 fn alone(what: What) -> Event
     ensures { result ≡ record { what = what; mark = Mark.Nothing } }
 {
@@ -233,7 +233,7 @@ impl Stage {
         ready_set::is_in(self.ready.turns, t)
     }
 
-    /// Returns whether a thread's timed wait can expire now.
+    /// Returns whether a thread's timed wait can expire now. Its turn isn't ready then, and no action runs at its barrier.
     pub fn can_expire(&self, program: &Loaded, t: usize) -> bool
         requires sound { IsSound program.now most_before (scene_of self.now) }
         requires known { KnowsReady program.now self.now }

@@ -187,7 +187,7 @@ impl Word {
         unpacked(self.bits).ended
     }
 
-    /// Returns whether no party is registered, no phase end is pending, and it isn't terminated. `unarrived` is 1, no party.
+    /// Returns whether no party is registered, no phase end is pending, and it isn't terminated. 1 in `unarrived` is no party.
     pub fn is_empty(self) -> bool
         ensures { result ≡ is_empty (record_of self) }
     {
@@ -311,7 +311,7 @@ impl Word {
         })
     }
 
-    /// Makes a turned phaser empty after its last party has left: nobody is registered, and no end of a phase is pending.
+    /// Makes a turned phaser empty, without an end of its phase: nobody is registered. A child does so after its last party.
     pub fn vacate(self) -> Word
         requires turned { (record_of self).turned ≡ true }
         requires no_parties { (record_of self).parties ≡ 0 }

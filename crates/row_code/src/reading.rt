@@ -86,7 +86,7 @@ fn says_timed(bytes: &[u8]) -> bool
     &bytes[..4] == TIMED_MAGIC.as_slice()
 }
 
-/// Checks the magic, the counts and the length of an image, and returns the counts.
+/// Returns the counts of an image, or the first fault of its magic, its counts and its length.
 #[tactic(auto, unfolding(crate::specs::Reading::counts_at))]
 fn counts_at(bytes: &[u8]) -> Result<Counts, ImageFault>
     ensures counts { result ≡ counts_at bytes.now }
@@ -136,7 +136,7 @@ fn read_rows(alloc: Global, timed: bool, count: u16, bytes: &[u8]) -> Result<Row
     Ok(rows)
 }
 
-/// Reads the four lists of an image whose counts are checked.
+/// Reads the four lists of an image whose counts are checked, or returns their first fault.
 #[tactic(auto, unfolding(crate::specs::Reading::lists_at))]
 fn lists_at(alloc: Global, counts: Counts, bytes: &[u8]) -> Result<Image, ImageFault>
     requires size { length bytes.now ≡ file_end counts }

@@ -170,7 +170,7 @@ impl Machine {
         }
     }
 
-    /// Calls `seldom_step`, with the buffer for its result. A common turn doesn't pay for that buffer.
+    /// Plays a turn that isn't common, or an expiry. It has the buffer of `seldom_step`, for which a common turn needn't pay.
     #[inline(always)]
     fn seldom(&mut self, choice: Choice) -> Result<Event, StepFault>
         requires there { choice.thread < length self.old.scene.threads }

@@ -85,7 +85,7 @@ fn refuse<O: Origin, R: Wait>(rt: &R, lock: &Mutex<Live<O>>, changed: &Condvar) 
     drop(live);
 }
 
-/// Starts a worker for each thread, and waits until all that were started have ended.
+/// Starts a worker for each thread, or stops all if one can't be started. Returns when all that were started have ended.
 fn start<O: Origin + Send + Sync, R: Threads + Wait + Sync, G: Gate + Sync>(
     rt: &R,
     lock: &Mutex<Live<O>>,
@@ -191,7 +191,7 @@ fn first_record(alloc: Global, program: Loaded, limit: u32) -> Result<Journaled,
     }
 }
 
-/// Plays the run of this record from its beginning, under an origin of its own.
+/// Plays the run of this record by `run_of`, and names its origin, which only contracts use.
 fn recorded<R: Threads + Wait + Sync, G: Gate + Sync>(
     rt: &R,
     journaled: Journaled,
@@ -204,7 +204,7 @@ fn recorded<R: Threads + Wait + Sync, G: Gate + Sync>(
     run_of::<Brand, R, G>(rt, journaled, gate)
 }
 
-/// Returns what a run leaves that has ended so.
+/// Returns the schedule, the machine and the ending of a record whose run has ended so.
 fn ended(journaled: Journaled, ending: Ending) -> LiveRun
     requires { ending_of (recorded_world journaled) ≡ Some ending }
     ensures record { IsRecordOf journaled.first result.schedule.items (world_of result.machine) }

@@ -167,7 +167,7 @@ impl Thread {
         What::Throws(code)
     }
 
-    /// Throws the exception of an interrupted wait, which clears the interrupted status.
+    /// Throws 3 because of an interrupt, and clears the interrupted status.
     pub fn take_interruption(&mut self) -> What
         ensures { record { thread = self.new; what = result } ≡ turn_of_interruption self.old }
     {
@@ -175,7 +175,7 @@ impl Thread {
         self.throw(3)
     }
 
-    /// Puts a row's result into a register, and goes on.
+    /// Puts the result of a row or a wait into a register, and runs on at the next row.
     pub fn answer(&mut self, into: Reg, value: i32) -> What
         requires { self.old.pc < 65535 }
         ensures { record { thread = self.new; what = result } ≡ turn_of_answer into value self.old }

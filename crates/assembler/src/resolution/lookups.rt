@@ -96,7 +96,7 @@ pub fn thread_of<'a>(draft: &Draft<'a>, thread: &SymbolicThread<&'a [u8]>) -> Op
     Some(DeclaredThread { first_row })
 }
 
-/// Puts one more operand of a row before these. It is a register, `number` or `object`.
+/// Puts one more operand of a row before these: a register before the registers, and others into their fields.
 #[inline(always)]
 fn with_operand<'a>(
     draft: &Draft<'a>,

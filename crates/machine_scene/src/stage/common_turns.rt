@@ -41,7 +41,7 @@ impl Stage {
         }
     }
 
-    /// Plays such a turn by what the thread is doing, and leaves the sets of ready threads. `None`: nothing has changed.
+    /// Plays a common turn by what the thread is doing, and leaves the sets of ready threads. `None`: it is none.
     #[inline(always)]
     fn common_by_status(&mut self, program: &Loaded, row: Row, t: usize) -> Option<Event>
         requires at { StandsAt program.now row t self.old }

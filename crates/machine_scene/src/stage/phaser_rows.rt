@@ -24,7 +24,7 @@ use packed_phaser::Policy;
 use thread_state::{Event, Mark, Thread, What};
 use tier_tree::{Arrived, PhaserId, Registered};
 
-/// Begins to wait for the end of this phase. With less patience an interrupt throws 3 instead, and no time throws 5.
+/// Begins to wait for the end of this phase. If the wait isn't endless, an interrupt throws 3, and a time of 0 or less 5.
 fn wait_with(thread: &mut Thread, patience: Patience, phase: i32) -> What
     ensures { record { thread = thread.new; what = result } ≡ turn_of_patience patience phase thread.old }
 {
@@ -323,7 +323,7 @@ impl Stage {
         }
     }
 
-    /// Ends the pending phase of a root, or terminates its tree. The last arrival gets its result.
+    /// Ends the pending phase of a root, and terminates its tree if `terminates`. The last arrival gets its result.
     #[inline(always)]
     pub(super) fn end_phase(
         &mut self,
@@ -348,7 +348,7 @@ impl Stage {
         self.answer_last(manner, root, phase, t)
     }
 
-    /// Gives the last arrival its result: the view after the end for `paaa`, and otherwise the phase. Marks the end.
+    /// Gives the last arrival its result: the view after the end for `paaa`, and otherwise the phase. The event shows the end.
     #[inline(always)]
     fn answer_last(&mut self, manner: Manner, root: PhaserId, phase: i32, t: usize) -> Event
         requires there { root.0 < length self.old.phasers }

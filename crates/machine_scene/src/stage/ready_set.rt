@@ -138,7 +138,7 @@ impl Stage {
         }
     }
 
-    /// Returns the sets with thread t looked at.
+    /// Returns the sets with thread t looked at, whatever row and status it has.
     #[inline(always)]
     fn looked_closely(&self, program: &Loaded, before: ReadySet, t: usize) -> ReadySet
         requires sound { IsSound program.now most_after (scene_of self.now) }
@@ -151,7 +151,7 @@ impl Stage {
         }
     }
 
-    /// Returns the sets with thread t looked at. Most run and are at a row where none waits, which is quick to see.
+    /// Returns the sets with thread t looked at: in a short way if it runs and is at a row where none waits, as most do.
     #[inline(always)]
     #[tactic(auto, using(crate::proofs::ReadySets::looked_on))]
     fn looked(&self, program: &Loaded, before: ReadySet, t: usize) -> ReadySet
@@ -262,7 +262,7 @@ impl Stage {
         set
     }
 
-    /// Returns the sets, with the thread looked at that the row `intr` interrupts.
+    /// Returns the sets with the thread looked at that the row interrupts, if the row is `intr`.
     #[inline(always)]
     fn interrupted_looked(&self, program: &Loaded, before: ReadySet, row: Row) -> ReadySet
         requires sound { IsSound program.now most_after (scene_of self.now) }

@@ -36,7 +36,7 @@ impl Forest {
         phase_of(word_at(self.nodes.as_slice(), id.0 as usize))
     }
 
-    /// `getRegisteredParties`.
+    /// `getRegisteredParties`: its direct parties, and one for each child that joined.
     #[inline(always)]
     pub fn parties(&self, id: PhaserId) -> u16
         requires { id.0 < length self.now }
@@ -61,7 +61,7 @@ impl Forest {
         word_at(self.nodes.as_slice(), id.0 as usize).unarrived()
     }
 
-    /// `isTerminated`.
+    /// `isTerminated`: whether the tree is terminated.
     pub fn is_terminated(&self, id: PhaserId) -> bool
         requires { id.0 < length self.now }
         ensures { result ≡ (flat_at (phasers_of self.now) id.0).ended }
@@ -85,7 +85,7 @@ impl Forest {
         self.nodes[id.0 as usize].ended_phases()
     }
 
-    /// `getParent`.
+    /// `getParent`: the parent's id, or `None` for a root.
     pub fn parent(&self, id: PhaserId) -> Option<PhaserId>
         requires { id.0 < length self.now }
         ensures parent { result ≡ option_map (λ n. record { 0 = n })
@@ -99,7 +99,7 @@ impl Forest {
         }
     }
 
-    /// `getRoot`.
+    /// `getRoot`: the root's id, the phaser's own if it is a root.
     pub fn root(&self, id: PhaserId) -> PhaserId
         requires { id.0 < length self.now }
         ensures root { result.0 ≡ root_at (phasers_of self.now) id.0 }
