@@ -1,3 +1,4 @@
+//! The local rows: they use only the registers and the place of their thread.
 ghost use Rattle.std.specs.Prelude.{◌≡◌, ◌<◌, ◌+◌, ◌+ℤ◌, ◌-ℤ◌, IsTrue, None, min, if◌then◌else◌};
 ghost use Rattle.instruction_table.specs.LocalRows.{is_local_row, loads, local_of, wrapped};
 ghost use Rattle.instruction_table.specs.Registers.{value_in};

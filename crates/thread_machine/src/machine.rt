@@ -1,3 +1,4 @@
+//! The machine: it plays choices, counts them, and takes them back. A `Stage` plays the rows.
 ghost use Rattle.std.specs.Prelude.{◌≡◌, ◌+◌, ◌<◌, ◌≤◌, length, map, IfOk, IfErr, Ok, Err, true, false, Some, None, slice_get};
 ghost use Rattle.std.specs.Option.{option_map};
 ghost use Rattle.instruction_table.specs.Registers.{value_in};

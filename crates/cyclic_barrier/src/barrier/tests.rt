@@ -181,7 +181,7 @@ fn check(rt: &impl Abort, parties: u16, action: bool, rows: &[Row]) {
     }
 }
 
-/// No barrier has 0 parties. Others have the parties and the action that they were made with.
+// No barrier has 0 parties. Others have the parties and the action that they were made with.
 #[test]
 fn parties_and_action(rt: HostRuntime) {
     assert!(rt; Barrier::new(0, false).is_none() && Barrier::new(0, true).is_none());
@@ -189,7 +189,7 @@ fn parties_and_action(rt: HostRuntime) {
     assert!(rt; barrier.parties() == 65535 && barrier.has_action());
 }
 
-/// The last thread runs the action while the others wait, and a thread that comes meanwhile finds the barrier busy.
+// The last thread runs the action while the others wait, and a thread that comes meanwhile finds the barrier busy.
 #[test]
 fn action_runs_before_the_others_go_on(rt: HostRuntime) {
     let rows = [
@@ -209,7 +209,7 @@ fn action_runs_before_the_others_go_on(rt: HostRuntime) {
     check(&rt, 3, true, &rows);
 }
 
-/// If the action throws, the barrier breaks.
+// If the action throws, the barrier breaks.
 #[test]
 fn action_that_throws_breaks_the_barrier(rt: HostRuntime) {
     let rows = [
@@ -222,7 +222,7 @@ fn action_that_throws_breaks_the_barrier(rt: HostRuntime) {
     check(&rt, 2, true, &rows);
 }
 
-/// An interrupt breaks the barrier for all, until a reset.
+// An interrupt breaks the barrier for all, until a reset.
 #[test]
 fn interrupt_of_a_waiter_breaks_the_barrier(rt: HostRuntime) {
     let rows = [
@@ -241,7 +241,7 @@ fn interrupt_of_a_waiter_breaks_the_barrier(rt: HostRuntime) {
     check(&rt, 3, false, &rows);
 }
 
-/// A thread without time breaks the barrier, unless it is the last, or the barrier is broken, or it is interrupted.
+// A thread without time breaks the barrier, unless it is the last, or the barrier is broken, or it is interrupted.
 #[test]
 fn wait_without_time_breaks_the_barrier(rt: HostRuntime) {
     let rows = [
@@ -268,7 +268,7 @@ fn wait_without_time_breaks_the_barrier(rt: HostRuntime) {
     check(&rt, 3, false, &rows);
 }
 
-/// A thread that looks late finds how its own generation ended, whatever has happened since.
+// A thread that looks late finds how its own generation ended, whatever has happened since.
 #[test]
 fn each_waiter_finds_its_own_generation(rt: HostRuntime) {
     let rows = [
@@ -295,7 +295,7 @@ fn each_waiter_finds_its_own_generation(rt: HostRuntime) {
     check(&rt, 2, false, &rows);
 }
 
-/// A barrier of 64 parties trips at the last of 64 threads.
+// A barrier of 64 parties trips at the last of 64 threads.
 #[test]
 fn sixty_four_threads(rt: HostRuntime) {
     let mut barrier = made(&rt, 64, false);
@@ -309,7 +309,7 @@ fn sixty_four_threads(rt: HostRuntime) {
     }
 }
 
-/// A barrier of 65535 parties never trips by 64 threads, and a reset releases them.
+// A barrier of 65535 parties never trips by 64 threads, and a reset releases them.
 #[test]
 fn more_parties_than_threads(rt: HostRuntime) {
     let mut barrier = made(&rt, 65535, true);
