@@ -1,6 +1,6 @@
 //! How a line is read after the lines before it: which names are new, what has room, and where a directive may be.
 ghost use Rattle.std.specs.Prelude.{◌≡◌, IfOk, Option, false, map, option_map, true};
-ghost use Rattle.line_reader.specs.Seen.{seen_in};
+ghost use Rattle.line_reader.specs.Seen.{seen_in, name_seen, statement_seen};
 ghost use Rattle.line_reader.specs.Reading.{before_last, is_label};
 ghost use Rattle.line_reader.specs.Symbols.{Name};
 ghost use Rattle.line_reader.specs.declared.statement.Statement.TheVariants as statement;
@@ -8,7 +8,6 @@ ghost use Rattle.assembler.specs.KeptLine.{number_kept, statement_kept};
 ghost use Rattle.line_reader.specs.KeptRow.{row_kept};
 ghost use Rattle.assembler.specs.Reading.{directive_behind, labelled_behind, row_behind, statement_behind};
 ghost use Rattle.assembler.specs.Statements.{is_code, is_new};
-ghost use Rattle.line_reader.specs.Seen.{name_seen, statement_seen};
 
 use crate::draft::{Draft, name_in};
 use crate::kept_line::KeptLine;

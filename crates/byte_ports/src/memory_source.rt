@@ -1,5 +1,4 @@
-ghost use Rattle.std.specs.Prelude.{◌≡◌, ◌≤◌, ◌+◌, Some, true, false, IfOk, OnOk, OnErr};
-ghost use Rattle.std.specs.Prelude.{length, min, drop};
+ghost use Rattle.std.specs.Prelude.{◌≡◌, ◌≤◌, ◌+◌, Some, true, false, IfOk, OnOk, OnErr, length, min, drop};
 ghost use Rattle.std.specs.Io.KnownBytes.{ReadConsumes};
 ghost use Rattle.byte_ports.specs.Port.{FailsForGood};
 ghost use Rattle.byte_ports.specs.FailAt.{one_nearer};

@@ -14,13 +14,12 @@ use Rattle.commands.specs.Unplanned.{unplanned_status}
 use Rattle.commands.specs.declared.seeds.Seeds.{Seeds}
 use Rattle.commands.specs.declared.unplanned.Unplanned.{Unplanned}
 use Rattle.commands.specs.declared.unplanned.Unplanned.TheVariants as why
-use Rattle.loader.specs.Program.{IsProgramOf}
+use Rattle.loader.specs.Program.{IsProgramOf, Program as Loaded}
 use Rattle.row_code.specs.declared.image.Image.{Image}
 use Rattle.workbench.specs.declared.fault.Fault.{Fault}
 use Rattle.workbench.specs.declared.fault.Fault.TheVariants as fault
 use Rattle.workbench.specs.declared.program.Program.{Program}
 use Rattle.line_reader.specs.Seen.{name_seen}
-use Rattle.loader.specs.Program.{Program as Loaded}
 use Rattle.plans.specs.Plan.{words_in_plan}
 use Rattle.plans.specs.Tree.{IsPlan}
 use Rattle.plans.specs.declared.word.Word.{Word}

@@ -5,8 +5,7 @@ use Rattle.std.specs.List.{range_with_len}
 use Rattle.assembler.specs.Symbols.{SymbolTable, name_of}
 use Rattle.instruction_table.specs.declared.shape.OperandKind.TheVariants.{Thread}
 use Rattle.loader.specs.Fault.{first_fault}
-use Rattle.loader.specs.Program.{IsProgramOf}
-use Rattle.loader.specs.Program.{Program as Loaded}
+use Rattle.loader.specs.Program.{IsProgramOf, Program as Loaded}
 use Rattle.row_code.specs.declared.image.Image.{Image}
 use Rattle.plans.specs.Plan.{words_in_plan}
 use Rattle.plans.specs.Tree.{Plan, words_of_plan}

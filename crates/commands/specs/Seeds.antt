@@ -18,8 +18,7 @@ use Rattle.commands.specs.Ends.{end_text}
 use Rattle.commands.specs.Outcomes.{AreOutcomes, Ended, IsMostFrequentFirst, report}
 use Rattle.commands.specs.Planning.{HasThreads, IsUnloadedFor, Plays}
 use Rattle.workbench.specs.declared.program.Program.{Program}
-use Rattle.loader.specs.Program.{IsProgramOf}
-use Rattle.loader.specs.Program.{Program as Loaded}
+use Rattle.loader.specs.Program.{IsProgramOf, Program as Loaded}
 use Rattle.commands.specs.declared.end_state.EndState.{EndState}
 use Rattle.commands.specs.declared.outcomes.Outcome.{Outcome}
 use Rattle.commands.specs.declared.seeds.Seeds.{Seeds}

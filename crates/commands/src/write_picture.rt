@@ -1,8 +1,7 @@
 //! The commands.
 ghost use Rattle.std.specs.Prelude.{◌≡◌, ◌≢◌, ◌⊎◌, ◌≤◌, Err, IfErr, IfOk, IsTrue, OnOk, false, length};
-ghost use Rattle.commands.specs.Pictures.{HasMade, HasMissing, HasWritten, HaveNone};
+ghost use Rattle.commands.specs.Pictures.{HasMade, HasMissing, HasWritten, HaveNone, program_of, schedule_behind};
 ghost use Rattle.pictures.specs.Missing.{IsMissingIn};
-ghost use Rattle.commands.specs.Pictures.{program_of, schedule_behind};
 ghost use Rattle.commands.specs.Picture.{HaveNoPicture};
 ghost use Rattle.workbench.specs.Fault.{status_of};
 ghost use Rattle.workbench.specs.Input.{GivesTooMuch, most_bytes};

@@ -1,7 +1,5 @@
-ghost use Rattle.std.specs.Prelude.{◌≡◌, ◌<◌, ◌≤◌, length, count_by, replicate, slice_set};
-ghost use Rattle.std.specs.Prelude.{Some, None};
-ghost use Rattle.cyclic_barrier.specs.declared.answer.WaitState.TheVariants.{Waiting, Tripped};
-ghost use Rattle.cyclic_barrier.specs.declared.answer.WaitState.TheVariants.{Broken};
+ghost use Rattle.std.specs.Prelude.{◌≡◌, ◌<◌, ◌≤◌, length, count_by, replicate, slice_set, Some, None};
+ghost use Rattle.cyclic_barrier.specs.declared.answer.WaitState.TheVariants.{Waiting, Tripped, Broken};
 ghost use Rattle.cyclic_barrier.specs.Waits.{wait_at, is_waiting, release};
 
 use crate::answer::WaitState;

@@ -82,10 +82,10 @@ named_is_placed word =
     ∙ get_or_default table k no_entry d within)
 
 -- an entry that a look-up finds stands within the table
-pub named_is_within : (word : List ℕ) → IfSome (entry_named table word) (λ e. e.opcode < 42)
+pub named_is_within : (word : List ℕ) → IfSome (entry_named table word) (λ e. e.opcode < length table)
 named_is_within word =
-    found_is_entry (λ e. e.opcode < 42) table word
-    (λ k d within. subst (λ n. n < 42) (sym (opcode-at table 0 k d table_placed within ∙ zero-add k)) within)
+    found_is_entry (λ e. e.opcode < length table) table word
+    (λ k d within. subst (λ n. n < length table) (sym (opcode-at table 0 k d table_placed within ∙ zero-add k)) within)
 
 -- an entry that a look-up finds is the only one with its word
 pub named_is_only : (word : List ℕ) (a : Entry) → entry_named table word ≡ Some a → All (λ e. e.word ≡ word → e ≡ a) table

@@ -2,4 +2,5 @@ pub mod Register
 pub mod Registers
 pub mod Row
 pub mod Table
+pub mod Group
 pub mod LocalRows

@@ -12,12 +12,16 @@ pub mod row;
 pub mod shape;
 pub mod table;
 
+// What each row acts on.
+pub mod group;
+
 // The registers of a thread.
 pub mod registers;
 
 // The rows that use only registers.
 pub mod local_rows;
 
+pub use group::{Group, group_of};
 pub use local_rows::{is_local, local, play_local};
 pub use register::Reg;
 pub use registers::{Local, Regs};

@@ -116,7 +116,7 @@ pub fn opcode_named(word: &[u8]) -> Option<u8>
     ensures opcode { result ≡ option_map (λ e. e.opcode) (entry_named table word.now) }
     ensures entry { MatchOption result (entry_named table word.now ≡ None)
         (λ opcode. entry_named table word.now ≡ Some (slice_index_or table opcode no_entry)) }
-    ensures there { IfSome result (λ opcode. opcode < 42) }
+    ensures there { IfSome result (λ opcode. opcode < length table) }
 {
     opcode_there(&TABLE, place_of(word), word)
 }
@@ -133,7 +133,7 @@ fn operands_at(entries: &[Listed], place: u8) -> &'static [OperandKind]
 /// Returns the kinds of the operands of the rows of this opcode, in the order of the text: at most four.
 #[inline(always)]
 pub fn operands_of(opcode: u8) -> &'static [OperandKind]
-    requires { opcode < 42 }
+    requires { opcode < length table }
     ensures { result.now ≡ (slice_index_or table opcode no_entry).operands }
 {
     operands_at(&TABLE, opcode)

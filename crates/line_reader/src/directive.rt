@@ -1,7 +1,6 @@
 ghost use Rattle.std.specs.Prelude.{◌≡◌, map};
-ghost use Rattle.line_reader.specs.Seen.{seen_in};
+ghost use Rattle.line_reader.specs.Seen.{seen_in, name_seen, statement_seen};
 ghost use Rattle.line_reader.specs.Reading.{cell_at, directive_at, is_directive};
-ghost use Rattle.line_reader.specs.Seen.{name_seen, statement_seen};
 
 use crate::asm_fault::{AsmFaultKind, WordFault, read_at};
 use crate::name::name_at;

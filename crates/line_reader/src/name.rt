@@ -1,9 +1,8 @@
 ghost use Rattle.std.specs.Prelude.{◌≡◌};
 ghost use Rattle.std.specs.List.{list_all};
-ghost use Rattle.line_reader.specs.Seen.{seen};
+ghost use Rattle.line_reader.specs.Seen.{seen, name_seen};
 ghost use Rattle.line_reader.specs.Names.{begins_name, goes_on_name, is_name};
 ghost use Rattle.line_reader.specs.Reading.{name_at};
-ghost use Rattle.line_reader.specs.Seen.{name_seen};
 
 use crate::asm_fault::AsmFaultKind;
 use crate::byte_kind::goes_on_name;

@@ -1,7 +1,6 @@
 ghost use Rattle.std.specs.Prelude.{◌≡◌};
-ghost use Rattle.line_reader.specs.Seen.{seen};
+ghost use Rattle.line_reader.specs.Seen.{seen, reference_seen};
 ghost use Rattle.line_reader.specs.Reading.{reference_at};
-ghost use Rattle.line_reader.specs.Seen.{reference_seen};
 
 use crate::asm_fault::AsmFaultKind;
 use crate::name::name_at;

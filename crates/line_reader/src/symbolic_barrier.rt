@@ -1,7 +1,6 @@
 ghost use Rattle.std.specs.Prelude.{◌≡◌, map};
-ghost use Rattle.line_reader.specs.Seen.{seen_in};
+ghost use Rattle.line_reader.specs.Seen.{seen_in, barrier_seen, name_seen};
 ghost use Rattle.line_reader.specs.Reading.{barrier_at};
-ghost use Rattle.line_reader.specs.Seen.{barrier_seen, name_seen};
 
 use crate::argument::{end_at, reference_option_at};
 use crate::asm_fault::{AsmFaultKind, WordFault, read_at};

@@ -1,7 +1,6 @@
 ghost use Rattle.std.specs.Prelude.{◌≡◌, map};
-ghost use Rattle.line_reader.specs.Seen.{seen_in};
+ghost use Rattle.line_reader.specs.Seen.{seen_in, name_seen, phaser_seen, policy_seen};
 ghost use Rattle.line_reader.specs.Reading.{first_phase_at, phaser_at, phaser_with, policy_at};
-ghost use Rattle.line_reader.specs.Seen.{name_seen, phaser_seen, policy_seen};
 
 use crate::argument::{end_at, phase_argument, reference_argument, reference_option_at};
 use crate::asm_fault::{AsmFaultKind, WordFault, read_at};

@@ -1,7 +1,6 @@
 ghost use Rattle.std.specs.Prelude.{◌≡◌, [], ◌∷◌, map};
-ghost use Rattle.line_reader.specs.Seen.{seen_in};
+ghost use Rattle.line_reader.specs.Seen.{seen_in, name_seen, thread_seen};
 ghost use Rattle.line_reader.specs.Reading.{thread_at};
-ghost use Rattle.line_reader.specs.Seen.{name_seen, thread_seen};
 
 use crate::asm_fault::{AsmFaultKind, WordFault, read_at};
 use crate::name::name_at;

@@ -1,7 +1,6 @@
 //! The checks of what threads and rows name. Each function returns the fault that it finds, or `None`.
 ghost use Rattle.std.specs.Prelude.{◌≡◌, ◌<◌, ◌≤◌, length};
-ghost use Rattle.loader.specs.Fault.{target_fault, thread_fault, named_fault, row_fault};
-ghost use Rattle.loader.specs.Fault.{last_fault, earliest_in};
+ghost use Rattle.loader.specs.Fault.{target_fault, thread_fault, named_fault, row_fault, last_fault, earliest_in};
 
 use crate::counts::Counts;
 use crate::load_fault::{LoadFault, Place};

@@ -5,10 +5,10 @@ use Rattle.instruction_table.specs.declared.row.Row.{Row}
 use Rattle.loader.specs.Program.{Program, row_at}
 use Rattle.thread_state.specs.declared.status.Status.{Status}
 use Rattle.thread_state.specs.declared.status.Status.TheVariants as status
-use Rattle.machine_scene.specs.declared.group.Group.{Group}
-use Rattle.machine_scene.specs.declared.group.Group.TheVariants.{Own}
+use Rattle.instruction_table.specs.declared.group.Group.{Group}
+use Rattle.instruction_table.specs.declared.group.Group.TheVariants.{Own}
 use Rattle.machine_scene.specs.Scene.{Scene, Outcome, thread_at}
-use Rattle.machine_scene.specs.Group.{group_of}
+use Rattle.instruction_table.specs.Group.{group_of}
 use Rattle.machine_scene.specs.Outcomes.{outcome_in_group, outcome_in, outcome_of, is_ready, timeout_in, outcome_of_expiry}
 use Rattle.machine_scene.specs.Sound.{IsSound}
 use Rattle.machine_scene.proofs.Facts.{next_within, named_at, placed_at}

@@ -14,8 +14,7 @@ use Rattle.tier_tree.specs.declared.id.PhaserId.{PhaserId}
 use Rattle.tier_tree.specs.Forest.{PhaserState, flat_at}
 use Rattle.tier_tree.specs.Arrival.{arrival}
 use Rattle.tier_tree.specs.PhaseEnd.{after_phase_end, after_force}
-use Rattle.tier_tree.proofs.Trees.{KeepsTrees}
-use Rattle.tier_tree.proofs.Trees.{trees_registered, trees_arrived, trees_forced, trees_turned_at_once, more_trees}
+use Rattle.tier_tree.proofs.Trees.{KeepsTrees, trees_registered, trees_arrived, trees_forced, trees_turned_at_once, more_trees}
 use Rattle.loader.specs.Named.{stops}
 use Rattle.loader.specs.Program.{Program}
 use Rattle.thread_state.specs.declared.status.Status.TheVariants as status

@@ -5,8 +5,7 @@ use Rattle.std.proofs.lemmas.List.Elements.{All-take, All-push}
 use Rattle.instruction_table.specs.declared.row.Row.{Row}
 use Rattle.tier_tree.specs.Forest.{PhaserState}
 use Rattle.tier_tree.specs.Trees.{AreTrees}
-use Rattle.tier_tree.proofs.Trees.{KeepsTrees}
-use Rattle.tier_tree.proofs.Trees.{trees_same, more_trees}
+use Rattle.tier_tree.proofs.Trees.{KeepsTrees, trees_same, more_trees}
 use Rattle.loader.specs.Named.{stops}
 use Rattle.loader.specs.Program.{Program, IsNamed, row_at}
 use Rattle.thread_state.specs.declared.frame.Frame.{Frame}

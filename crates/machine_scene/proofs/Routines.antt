@@ -9,8 +9,7 @@ use Rattle.tier_tree.specs.Forest.{PhaserState, flat_at, root_at}
 use Rattle.tier_tree.specs.Arrival.{Arrives, arrival}
 use Rattle.tier_tree.specs.PhaseEnd.{after_phase_end}
 use Rattle.tier_tree.specs.Trees.{AreTrees, is_pending}
-use Rattle.tier_tree.proofs.Trees.{CanEnd}
-use Rattle.tier_tree.proofs.Trees.{trees_arrived, trees_turned, arrived_can_turn, if_turning, more_trees}
+use Rattle.tier_tree.proofs.Trees.{CanEnd, trees_arrived, trees_turned, arrived_can_turn, if_turning, more_trees}
 use Rattle.tier_tree.proofs.Stands.{same-is, other-is}
 use Rattle.loader.specs.Program.{Program}
 use Rattle.thread_state.specs.declared.frame.Frame.{Frame}

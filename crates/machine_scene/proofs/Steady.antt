@@ -20,12 +20,11 @@ use Rattle.thread_state.specs.declared.event.Event.{Event}
 use Rattle.thread_state.specs.declared.frame.Frame.{Frame}
 use Rattle.thread_state.specs.declared.status.Status.{Status}
 use Rattle.thread_state.specs.Thread.{ThreadState, top_of, is_full, interrupted}
-use Rattle.machine_scene.specs.declared.group.Group.{Group}
+use Rattle.instruction_table.specs.declared.group.Group.{Group}
 use Rattle.machine_scene.specs.declared.manner.Manner.{Manner}
 use Rattle.machine_scene.specs.Manner.{manner_of}
 use Rattle.machine_scene.specs.Scene.{Scene, StoredScene, Outcome, scene_of, thread_at, barrier_at, with_thread, with_phasers, with_barrier}
-use Rattle.machine_scene.specs.PhaserRows.{is_own_tree, is_past, unless_own, outcome_of_registered, outcome_of_bulk, outcome_of_phaser_row}
-use Rattle.machine_scene.specs.PhaserRows.{outcome_of_arrival}
+use Rattle.machine_scene.specs.PhaserRows.{is_own_tree, is_past, unless_own, outcome_of_registered, outcome_of_bulk, outcome_of_phaser_row, outcome_of_arrival}
 use Rattle.machine_scene.specs.BarrierRows.{is_run_by, unless_busy, unless_runner, outcome_of_entered, outcome_of_await_at, outcome_of_barrier_row}
 use Rattle.machine_scene.specs.Waits.{outcome_of_awaited, outcome_of_phase_wait, outcome_of_release, outcome_of_barrier_wait}
 use Rattle.machine_scene.specs.Outcomes.{outcome_in_group, outcome_in, is_ready, timeout_in}

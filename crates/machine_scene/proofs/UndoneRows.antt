@@ -19,8 +19,8 @@ use Rattle.thread_state.specs.declared.frame.Frame.{Frame}
 use Rattle.thread_state.specs.declared.frame.Frame.TheVariants as frame
 use Rattle.thread_state.specs.declared.status.Status.{Status}
 use Rattle.thread_state.specs.Thread.{ThreadState, Turn, turn_of_throw, turn_of_interruption, turn_of_answer, turn_of_done, turn_of_halt, turn_of_call, turn_of_try, turn_of_endtry, turn_of_return, turn_of_advance, top_of, with_entry, popped, left_routine, is_full}
-use Rattle.machine_scene.specs.declared.group.Group.{Group}
-use Rattle.machine_scene.specs.declared.group.Group.TheVariants.{Own}
+use Rattle.instruction_table.specs.declared.group.Group.{Group}
+use Rattle.instruction_table.specs.declared.group.Group.TheVariants.{Own}
 use Rattle.machine_scene.specs.declared.manner.Manner.{Manner}
 use Rattle.machine_scene.specs.declared.reach.Reach.{Reach}
 use Rattle.machine_scene.specs.declared.reach.Reach.TheVariants as reach

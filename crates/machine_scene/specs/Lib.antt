@@ -1,5 +1,4 @@
 pub mod Scene
-pub mod Group
 pub mod OwnRows
 pub mod Manner
 pub mod PhaserRows

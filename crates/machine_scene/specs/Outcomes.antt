@@ -4,10 +4,10 @@ use Rattle.instruction_table.specs.declared.row.Row.{Row}
 use Rattle.loader.specs.Program.{Program, row_at}
 use Rattle.thread_state.specs.declared.status.Status.{Status}
 use Rattle.thread_state.specs.declared.status.Status.TheVariants as status
-use Rattle.machine_scene.specs.declared.group.Group.{Group}
-use Rattle.machine_scene.specs.declared.group.Group.TheVariants.{Own, Calls, Data, Phasers, Getters, Barriers}
+use Rattle.instruction_table.specs.declared.group.Group.{Group}
+use Rattle.instruction_table.specs.declared.group.Group.TheVariants.{Own, Calls, Data, Phasers, Getters, Barriers}
 use Rattle.machine_scene.specs.Scene.{Scene, Outcome, thread_at}
-use Rattle.machine_scene.specs.Group.{group_of}
+use Rattle.instruction_table.specs.Group.{group_of}
 use Rattle.machine_scene.specs.OwnRows.{outcome_of_own_row}
 use Rattle.machine_scene.specs.CallRows.{outcome_of_call_row}
 use Rattle.machine_scene.specs.DataRows.{outcome_of_data_row}

@@ -9,7 +9,6 @@
 //! function of the row's group. The most frequent turns are in `common_turns`.
 #![tactic(auto)]
 
-mod group;
 mod law;
 mod manner;
 mod note;

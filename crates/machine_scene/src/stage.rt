@@ -1,24 +1,22 @@
 ghost use Rattle.std.specs.Prelude.{◌≡◌, ◌<◌, ◌≤◌, length, replicate, pos, true, false, Ok, Some, None, is_some, IfSome, IsErr, IfOk, OnErr, OnOk};
 ghost use Rattle.std.specs.Option.{OnSome};
 ghost use Rattle.std.specs.List.{list_all};
+ghost use Rattle.instruction_table.specs.Group.{group_of};
 ghost use Rattle.instruction_table.specs.LocalRows.{is_local_row};
 ghost use Rattle.tier_tree.specs.Stored.{phasers_of};
 ghost use Rattle.loader.specs.Program.{row_at};
 ghost use Rattle.thread_state.specs.Thread.{ThreadState, is_finished, top_of};
 ghost use Rattle.machine_scene.specs.Scene.{scene_of, thread_at, cell_at, barrier_at};
 ghost use Rattle.machine_scene.specs.DataRows.{runs, may_grow};
-ghost use Rattle.machine_scene.specs.Group.{group_of};
-ghost use Rattle.machine_scene.specs.Outcomes.{outcome_in, outcome_of, outcome_of_row, outcome_of_expiry, is_ready};
-ghost use Rattle.machine_scene.specs.Outcomes.{timeout_in};
+ghost use Rattle.machine_scene.specs.Outcomes.{outcome_in, outcome_of, outcome_of_row, outcome_of_expiry, is_ready, timeout_in};
 ghost use Rattle.machine_scene.specs.Sound.{IsSound, StandsAt, most_before, most_after};
 ghost use Rattle.machine_scene.specs.ReadySet.{KnowsReady, AreOthersReady, changes_all};
 ghost use Rattle.machine_scene.specs.Played.{IsPlayed};
 ghost use Rattle.machine_scene.specs.Undo.{PhasersWithin, reach_of_row, reach_in};
 
-use crate::group::{Group, group_of};
 use crate::ready_set::ReadySet;
 use cyclic_barrier::Barrier;
-use instruction_table::Row;
+use instruction_table::{Group, Row, group_of};
 use loader::Loaded;
 use std::alloc::{AllocError, Global};
 use std::marker::Model;

@@ -3,8 +3,7 @@ use Rattle.packed_phaser.specs.declared.word.Registered.{Registered}
 use Rattle.packed_phaser.specs.declared.word.Registered.TheVariants as registered
 use Rattle.packed_phaser.specs.declared.word.Arrived.{Arrived}
 use Rattle.packed_phaser.specs.declared.word.Arrived.TheVariants as arrived
-use Rattle.packed_phaser.specs.Flat.{Registration, Joins, JoinsLate, MustWait, Overfull}
-use Rattle.packed_phaser.specs.Flat.{Arrival, Counts, Turns, ComesLate, IsUnregistered}
+use Rattle.packed_phaser.specs.Flat.{Registration, Joins, JoinsLate, MustWait, Overfull, Arrival, Counts, Turns, ComesLate, IsUnregistered}
 use Rattle.packed_phaser.specs.Word.{record_of}
 
 -- what the result of a registration says

@@ -1,6 +1,5 @@
 -- The state of a phaser that has no parent and no children, as plain values, and what each call does to it.
-use Rattle.std.specs.Prelude.{◌≡◌, ℕ, ℤ, pos, ◌+◌, ◌-◌, ◌^◌, ◌<◌, ◌≤◌, ◌==◌, nat_lt}
-use Rattle.std.specs.Prelude.{if◌then◌else◌, Bool, true, false}
+use Rattle.std.specs.Prelude.{◌≡◌, ℕ, ℤ, pos, ◌+◌, ◌-◌, ◌^◌, ◌<◌, ◌≤◌, ◌==◌, nat_lt, if◌then◌else◌, Bool, true, false}
 use Rattle.phase_number.specs.Phase.{next_phase, phase_view}
 
 -- the number of the phase, whether the phaser is terminated, its registered parties, how many of

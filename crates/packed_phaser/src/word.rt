@@ -1,7 +1,6 @@
 ghost use Rattle.std.specs.Prelude.{◌≡◌, ℕ, ℤ, pos, ◌-◌, ◌<◌, ◌≤◌, ◌^◌, max, true, false, if◌then◌else◌, IsTrue, ◌↔◌};
 ghost use Rattle.std.specs.Option.{SomeIff};
-ghost use Rattle.packed_phaser.specs.Flat.{Flat, fresh, view_of, unarrived_of, is_empty, register};
-ghost use Rattle.packed_phaser.specs.Flat.{arrive, advance, vacate, renew, force};
+ghost use Rattle.packed_phaser.specs.Flat.{Flat, fresh, view_of, unarrived_of, is_empty, register, arrive, advance, vacate, renew, force};
 ghost use Rattle.packed_phaser.specs.Word.{IsWord, fields_of, record_of};
 ghost use Rattle.packed_phaser.specs.Answer.{registration_of, arrival_of};
 

@@ -5,9 +5,8 @@ use Rattle.thread_machine.specs.World.{World, world_of}
 use Rattle.schedule_reader.specs.Joined.{AreJoined}
 use Rattle.schedule_reader.specs.Schedule.{IsRun, choices_of}
 use Rattle.schedule_reader.specs.declared.run.Run.{Run}
-use Rattle.plans.specs.Tree.{Plan}
+use Rattle.plans.specs.Tree.{Plan, words_of_plan}
 use Rattle.plans.specs.declared.word.Word.{Word}
-use Rattle.plans.specs.Tree.{words_of_plan}
 use Rattle.plans.specs.declared.planned.Planned.{Planned}
 use Rattle.plans.specs.Progress.{Progress, begun, begun_at}
 use Rattle.plans.specs.Play.{plays}

@@ -9,7 +9,7 @@ use Rattle.std.proofs.lemmas.List.{take_all}
 use Rattle.std.proofs.lemmas.Option.{slice_get-get_or}
 use Rattle.instruction_table.specs.declared.shape.Shape.{Shape}
 use Rattle.instruction_table.specs.Table.{Entry, entry_named, entry_of, no_entry, table}
-use Rattle.instruction_table.proofs.TableLemmas.{found_is_entry, opcode-at, table_placed}
+use Rattle.instruction_table.proofs.TableLemmas.{named_is_within}
 use Rattle.line_reader.specs.Reading.{is_directive}
 use Rattle.refusals.specs.declared.word.WordEntry.{WordEntry}
 use Rattle.refusals.specs.Word.{IsItsWord, IsNoWord, IsRowEntry, form_of, row_spellings, spellings}
@@ -59,18 +59,12 @@ entry_of_row (e ∷ entries) (row ∷ rows) zero same =
     (ap (λ (s : List ℕ × List ℕ). s.0) first, ap (λ (s : List ℕ × List ℕ). s.1) first)
 entry_of_row (e ∷ entries) (row ∷ rows) (suc k) same = grind (arith, common_steps, entry_of_row entries rows k (cc same))
 
--- an entry of the table that a look-up finds has an opcode of the table
-small_found : (word : List ℕ) → IfSome (entry_named table word) (λ e. e.opcode < 42)
-small_found word =
-    found_is_entry (λ e. e.opcode < 42) table word
-    (λ k d within. subst (λ n. n < 42) (sym (opcode-at table 0 k d table_placed within ∙ zero-add k)) within)
-
 -- what is told of the row that a word begins
 pub row_told : (word : List ℕ) (s : Shape) (told : Option WordEntry) → Some (entry_of s) ≡ entry_named table word
-    → slice_index_or table s.opcode no_entry ≡ entry_of s → MatchOption told (42 ≤ s.opcode) (IsRowEntry s.opcode)
+    → slice_index_or table s.opcode no_entry ≡ entry_of s → MatchOption told (length table ≤ s.opcode) (IsRowEntry s.opcode)
     → MatchOption told (IsNoWord word) (λ e. IsItsWord e word)
 row_told word s None named placed none =
-    let small : s.opcode < 42 = subst (λ found. IfSome found (λ e. e.opcode < 42)) (sym named) (small_found word) in
+    let small : s.opcode < length table = subst (λ found. IfSome found (λ e. e.opcode < length table)) (sym named) (named_is_within word) in
     absurd (omega (arith, small, none))
 row_told word s (Some e) named placed (is, form) =
     inl (entry_of s, sym named, is ∙ ap (λ row. row.word) placed, form ∙ ap form_of placed)

@@ -1,9 +1,8 @@
-ghost use Rattle.std.specs.Prelude.{◌≡◌, ◌<◌, ◌≤◌};
-ghost use Rattle.instruction_table.specs.Row.{opcode_of};
+ghost use Rattle.std.specs.Prelude.{◌≡◌};
 ghost use Rattle.instruction_table.specs.Register.{number_of};
 ghost use Rattle.row_code.specs.RowFields.{fields_of, IsRow};
 
-use instruction_table::{Reg, Row, opcode};
+use instruction_table::{Reg, Row};
 
 /// The fields after the opcode in a row's bytes.
 #[derive(Clone, Copy)]
@@ -62,128 +61,6 @@ fn three_registers(a: Reg, b: Reg, c: Reg, imm: i32) -> Fields
     }
 }
 
-/// The fields of a row that touches registers alone, or jumps.
-fn local_fields(row: Row) -> Fields
-    requires { opcode_of row < 9 }
-    ensures fields { result ≡ fields_of row }
-    ensures fits { IsRow row }
-{
-    match row {
-        Row::Halt => no_register(0),
-        Row::Ldi { into, value } => one_register(into, value),
-        Row::Mov { into, from } => two_registers(into, from, 0),
-        Row::Add { into, left, right } | Row::Sub { into, left, right } => {
-            three_registers(into, left, right, 0)
-        }
-        Row::Jmp { target } => no_register(i32::from(target)),
-        Row::Beq {
-            left,
-            right,
-            target,
-        }
-        | Row::Bne {
-            left,
-            right,
-            target,
-        }
-        | Row::Blt {
-            left,
-            right,
-            target,
-        } => two_registers(left, right, i32::from(target)),
-        _ => unreachable!(),
-    }
-}
-
-/// The fields of a row that calls, throws, writes, shares a cell or interrupts.
-fn thread_fields(row: Row) -> Fields
-    requires low { 9 ≤ opcode_of row }
-    requires high { opcode_of row < 20 }
-    ensures fields { result ≡ fields_of row }
-    ensures fits { IsRow row }
-{
-    match row {
-        Row::Ret | Row::Endtry => no_register(0),
-        Row::Call { target: object }
-        | Row::Try { handler: object }
-        | Row::Intr { thread: object } => { no_register(i32::from(object)) }
-        Row::Throw { code: a }
-        | Row::Out { value: a }
-        | Row::SelfNumber { into: a }
-        | Row::Intrd { into: a } => one_register(a, 0),
-        Row::Lds { into: a, cell } | Row::Sts { from: a, cell } => {
-            one_register(a, i32::from(cell))
-        }
-        _ => unreachable!(),
-    }
-}
-
-/// The fields of a row of a phaser, without a timeout.
-fn phaser_fields(row: Row) -> Fields
-    requires low { 20 ≤ opcode_of row }
-    requires high { opcode_of row < 35 }
-    ensures fields { result ≡ fields_of row }
-    ensures fits { IsRow row }
-{
-    match row {
-        Row::Pforce { phaser } => no_register(i32::from(phaser)),
-        Row::Preg { into, phaser }
-        | Row::Parr { into, phaser }
-        | Row::Pdereg { into, phaser }
-        | Row::Paaa { into, phaser }
-        | Row::Pphase { into, phaser }
-        | Row::Pparties { into, phaser }
-        | Row::Parrived { into, phaser }
-        | Row::Punarr { into, phaser }
-        | Row::Pterm { into, phaser }
-        | Row::Pparent { into, phaser }
-        | Row::Proot { into, phaser } => one_register(into, i32::from(phaser)),
-        Row::Pbulk {
-            into,
-            phaser,
-            count: b,
-        }
-        | Row::Pawait {
-            into,
-            phaser,
-            phase: b,
-        }
-        | Row::Pawaiti {
-            into,
-            phaser,
-            phase: b,
-        } => two_registers(into, b, i32::from(phaser)),
-        _ => unreachable!(),
-    }
-}
-
-/// The fields of a row of a barrier, or with a timeout.
-fn other_fields(row: Row) -> Fields
-    requires { 35 ≤ opcode_of row }
-    ensures fields { result ≡ fields_of row }
-    ensures fits { IsRow row }
-{
-    match row {
-        Row::Creset { barrier } => no_register(i32::from(barrier)),
-        Row::Cawait { into, barrier }
-        | Row::Cbroken { into, barrier }
-        | Row::Cwaiting { into, barrier }
-        | Row::Cparties { into, barrier } => one_register(into, i32::from(barrier)),
-        Row::Pawaitt {
-            into,
-            phaser,
-            phase,
-            timeout,
-        } => three_registers(into, phase, timeout, i32::from(phaser)),
-        Row::Cawaitt {
-            into,
-            barrier,
-            timeout,
-        } => two_registers(into, timeout, i32::from(barrier)),
-        _ => unreachable!(),
-    }
-}
-
 /// Puts a row's operands into their fields.
 #[inline(always)]
 pub fn fields_of(row: Row) -> Fields
@@ -192,10 +69,131 @@ pub fn fields_of(row: Row) -> Fields
     // Every row in memory fits its fields.
     ensures fits { IsRow row }
 {
-    match opcode(row) {
-        0..=8 => local_fields(row),
-        9..=19 => thread_fields(row),
-        20..=34 => phaser_fields(row),
-        _ => other_fields(row),
+    match row {
+        Row::Halt | Row::Ret | Row::Endtry => no_register(0),
+        Row::Jmp { target: object }
+        | Row::Call { target: object }
+        | Row::Try { handler: object }
+        | Row::Intr { thread: object }
+        | Row::Pforce { phaser: object }
+        | Row::Creset { barrier: object } => no_register(i32::from(object)),
+        Row::Ldi { into, value } => one_register(into, value),
+        Row::Throw { code: a }
+        | Row::Out { value: a }
+        | Row::SelfNumber { into: a }
+        | Row::Intrd { into: a } => one_register(a, 0),
+        Row::Lds {
+            into: a,
+            cell: object,
+        }
+        | Row::Sts {
+            from: a,
+            cell: object,
+        }
+        | Row::Preg {
+            into: a,
+            phaser: object,
+        }
+        | Row::Parr {
+            into: a,
+            phaser: object,
+        }
+        | Row::Pdereg {
+            into: a,
+            phaser: object,
+        }
+        | Row::Paaa {
+            into: a,
+            phaser: object,
+        }
+        | Row::Pphase {
+            into: a,
+            phaser: object,
+        }
+        | Row::Pparties {
+            into: a,
+            phaser: object,
+        }
+        | Row::Parrived {
+            into: a,
+            phaser: object,
+        }
+        | Row::Punarr {
+            into: a,
+            phaser: object,
+        }
+        | Row::Pterm {
+            into: a,
+            phaser: object,
+        }
+        | Row::Pparent {
+            into: a,
+            phaser: object,
+        }
+        | Row::Proot {
+            into: a,
+            phaser: object,
+        }
+        | Row::Cawait {
+            into: a,
+            barrier: object,
+        }
+        | Row::Cbroken {
+            into: a,
+            barrier: object,
+        }
+        | Row::Cwaiting {
+            into: a,
+            barrier: object,
+        }
+        | Row::Cparties {
+            into: a,
+            barrier: object,
+        } => one_register(a, i32::from(object)),
+        Row::Mov { into, from } => two_registers(into, from, 0),
+        Row::Beq {
+            left: a,
+            right: b,
+            target: object,
+        }
+        | Row::Bne {
+            left: a,
+            right: b,
+            target: object,
+        }
+        | Row::Blt {
+            left: a,
+            right: b,
+            target: object,
+        }
+        | Row::Pbulk {
+            into: a,
+            phaser: object,
+            count: b,
+        }
+        | Row::Pawait {
+            into: a,
+            phaser: object,
+            phase: b,
+        }
+        | Row::Pawaiti {
+            into: a,
+            phaser: object,
+            phase: b,
+        }
+        | Row::Cawaitt {
+            into: a,
+            barrier: object,
+            timeout: b,
+        } => { two_registers(a, b, i32::from(object)) }
+        Row::Add { into, left, right } | Row::Sub { into, left, right } => {
+            three_registers(into, left, right, 0)
+        }
+        Row::Pawaitt {
+            into,
+            phaser,
+            phase,
+            timeout,
+        } => { three_registers(into, phase, timeout, i32::from(phaser)) }
     }
 }

@@ -49,8 +49,9 @@ pub fn operands_at(fields: Fields) -> Operands
     }
 }
 
-fn local_row(opcode: u8, operands: Operands) -> Row
-    requires { opcode < 9 }
+/// Returns the row with this opcode and these operands, or `halt` if there is no such opcode.
+#[inline(always)]
+pub fn row_with(opcode: u8, operands: Operands) -> Row
     ensures row { result ≡ row_with opcode operands }
     ensures fits { IsRow result }
 {
@@ -62,6 +63,7 @@ fn local_row(opcode: u8, operands: Operands) -> Row
         object,
     } = operands;
     match opcode {
+        0 => Row::Halt,
         1 => Row::Ldi {
             into: a,
             value: number,
@@ -93,18 +95,6 @@ fn local_row(opcode: u8, operands: Operands) -> Row
             right: b,
             target: object,
         },
-        _ => Row::Halt,
-    }
-}
-
-fn thread_row(opcode: u8, operands: Operands) -> Row
-    requires low { 9 ≤ opcode }
-    requires high { opcode < 20 }
-    ensures row { result ≡ row_with opcode operands }
-    ensures fits { IsRow result }
-{
-    let Operands { a, object, .. } = operands;
-    match opcode {
         9 => Row::Call { target: object },
         10 => Row::Ret,
         11 => Row::Try { handler: object },
@@ -121,113 +111,95 @@ fn thread_row(opcode: u8, operands: Operands) -> Row
         },
         17 => Row::SelfNumber { into: a },
         18 => Row::Intr { thread: object },
-        _ => Row::Intrd { into: a },
-    }
-}
-
-fn phaser_row(opcode: u8, operands: Operands) -> Row
-    requires low { 20 ≤ opcode }
-    requires high { opcode < 35 }
-    ensures row { result ≡ row_with opcode operands }
-    ensures fits { IsRow result }
-{
-    let Operands {
-        a: into,
-        b,
-        object: phaser,
-        ..
-    } = operands;
-    match opcode {
-        20 => Row::Preg { into, phaser },
+        19 => Row::Intrd { into: a },
+        20 => Row::Preg {
+            into: a,
+            phaser: object,
+        },
         21 => Row::Pbulk {
-            into,
-            phaser,
+            into: a,
+            phaser: object,
             count: b,
         },
-        22 => Row::Parr { into, phaser },
-        23 => Row::Pdereg { into, phaser },
-        24 => Row::Paaa { into, phaser },
+        22 => Row::Parr {
+            into: a,
+            phaser: object,
+        },
+        23 => Row::Pdereg {
+            into: a,
+            phaser: object,
+        },
+        24 => Row::Paaa {
+            into: a,
+            phaser: object,
+        },
         25 => Row::Pawait {
-            into,
-            phaser,
+            into: a,
+            phaser: object,
             phase: b,
         },
         26 => Row::Pawaiti {
-            into,
-            phaser,
+            into: a,
+            phaser: object,
             phase: b,
         },
-        27 => Row::Pforce { phaser },
-        28 => Row::Pphase { into, phaser },
-        29 => Row::Pparties { into, phaser },
-        30 => Row::Parrived { into, phaser },
-        31 => Row::Punarr { into, phaser },
-        32 => Row::Pterm { into, phaser },
-        33 => Row::Pparent { into, phaser },
-        _ => Row::Proot { into, phaser },
-    }
-}
-
-fn barrier_row(opcode: u8, operands: Operands) -> Row
-    requires low { 35 ≤ opcode }
-    requires high { opcode < 40 }
-    ensures row { result ≡ row_with opcode operands }
-    ensures fits { IsRow result }
-{
-    let Operands {
-        a: into,
-        object: barrier,
-        ..
-    } = operands;
-    match opcode {
-        35 => Row::Cawait { into, barrier },
-        36 => Row::Creset { barrier },
-        37 => Row::Cbroken { into, barrier },
-        38 => Row::Cwaiting { into, barrier },
-        _ => Row::Cparties { into, barrier },
-    }
-}
-
-fn timed_row(opcode: u8, operands: Operands) -> Row
-    requires low { 40 ≤ opcode }
-    requires high { opcode < 42 }
-    ensures row { result ≡ row_with opcode operands }
-    ensures fits { IsRow result }
-{
-    let Operands {
-        a: into,
-        b,
-        c,
-        object,
-        ..
-    } = operands;
-    match opcode {
+        27 => Row::Pforce { phaser: object },
+        28 => Row::Pphase {
+            into: a,
+            phaser: object,
+        },
+        29 => Row::Pparties {
+            into: a,
+            phaser: object,
+        },
+        30 => Row::Parrived {
+            into: a,
+            phaser: object,
+        },
+        31 => Row::Punarr {
+            into: a,
+            phaser: object,
+        },
+        32 => Row::Pterm {
+            into: a,
+            phaser: object,
+        },
+        33 => Row::Pparent {
+            into: a,
+            phaser: object,
+        },
+        34 => Row::Proot {
+            into: a,
+            phaser: object,
+        },
+        35 => Row::Cawait {
+            into: a,
+            barrier: object,
+        },
+        36 => Row::Creset { barrier: object },
+        37 => Row::Cbroken {
+            into: a,
+            barrier: object,
+        },
+        38 => Row::Cwaiting {
+            into: a,
+            barrier: object,
+        },
+        39 => Row::Cparties {
+            into: a,
+            barrier: object,
+        },
         40 => Row::Pawaitt {
-            into,
+            into: a,
             phaser: object,
             phase: b,
             timeout: c,
         },
-        _ => Row::Cawaitt {
-            into,
+        41 => Row::Cawaitt {
+            into: a,
             barrier: object,
             timeout: b,
         },
-    }
-}
-
-/// Returns the row with this opcode and these operands, or `halt` if there is no such opcode.
-#[inline(always)]
-pub fn row_with(opcode: u8, operands: Operands) -> Row
-    ensures row { result ≡ row_with opcode operands }
-    ensures fits { IsRow result }
-{
-    match opcode {
-        0..=8 => local_row(opcode, operands),
-        9..=19 => thread_row(opcode, operands),
-        20..=34 => phaser_row(opcode, operands),
-        35..=39 => barrier_row(opcode, operands),
-        40..=41 => timed_row(opcode, operands),
         _ => Row::Halt,
     }
 }

@@ -1,6 +1,5 @@
 -- The runs that a reader makes of a whole schedule.
-use Rattle.std.proofs.Common.{◌≡◌, List, [], Some, None, Result, Ok, Err, ℕ, Bool, true, false, ◌↔◌, arith, rules}
-use Rattle.std.proofs.Common.{◌⊎◌, inl, inr}
+use Rattle.std.proofs.Common.{◌≡◌, List, [], Some, None, Result, Ok, Err, ℕ, Bool, true, false, ◌↔◌, arith, rules, ◌⊎◌, inl, inr}
 use Rattle.schedule_reader.specs.declared.run.Run.{Run}
 use Rattle.schedule_reader.specs.declared.fault.ScheduleFault.{ScheduleFault}
 use Rattle.schedule_reader.specs.declared.fault.ScheduleFault.TheVariants as fault

@@ -4,11 +4,10 @@ use Rattle.std.proofs.lemmas.List.{length-map, length_push, get_or_append_left, 
 use Rattle.std.proofs.lemmas.List.Elements.{All-weaker, All-cons, All-nil}
 use Rattle.std.proofs.lemmas.Bool.Decides.{nat_tests}
 use Rattle.std.proofs.lemmas.Bool.{cases_lt}
-use Rattle.std.specs.Prelude.{Option, ◌⊎◌}
+use Rattle.std.specs.Prelude.{Option, ◌⊎◌, slice_set, All}
 use Rattle.packed_phaser.specs.declared.policy.Policy.{Policy}
 use Rattle.tier_tree.specs.declared.id.PhaserId.{PhaserId}
 use Rattle.tier_tree.specs.Declaration.{has_parent, declared}
-use Rattle.std.specs.Prelude.{slice_set, All}
 use Rattle.packed_phaser.specs.Flat.{Flat, Arrival, arrive}
 use Rattle.tier_tree.specs.declared.climb.Climb.{Climb}
 use Rattle.tier_tree.specs.Forest.{PhaserState, no_phaser, phaser_at, flat_at, root_at, with_flat}

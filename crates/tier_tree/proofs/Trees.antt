@@ -12,8 +12,7 @@ use Rattle.tier_tree.specs.Registration.{Join, joined, flat_by, registration, af
 use Rattle.tier_tree.specs.Arrival.{Arrives, Climbed, is_top, climbed_by, climbed, arrival}
 use Rattle.tier_tree.specs.PhaseEnd.{most_ends, after_phase_end, after_force, in_step}
 use Rattle.tier_tree.specs.Sound.{places_of}
-use Rattle.tier_tree.specs.Answer.{IfTurning, KeepsPlaces}
-use Rattle.tier_tree.specs.Answer.{MakesPending}
+use Rattle.tier_tree.specs.Answer.{IfTurning, KeepsPlaces, MakesPending}
 use Rattle.tier_tree.specs.Origin.{Origin, AreTallied, origin_after_registration, origin_after_arrival, origin_after_phase_end}
 use Rattle.tier_tree.specs.Trees.{is_pending, AreTrees}
 use Rattle.tier_tree.proofs.Lines.{root_within, registration-places, arrival-places, turn-places, force-places, forest_kept, length-places, place_at-places}

@@ -5,8 +5,7 @@ use Rattle.packed_phaser.specs.Flat.{Flat, Arrival, arrive, view_of}
 use Rattle.tier_tree.specs.declared.climb.Climb.{Climb}
 use Rattle.tier_tree.specs.declared.climb.Climb.TheVariants as climb
 use Rattle.tier_tree.specs.Forest.{PhaserState, phaser_at, flat_at, root_at}
-use Rattle.tier_tree.specs.Answer.{IfTurning}
-use Rattle.tier_tree.specs.Answer.{MakesPending}
+use Rattle.tier_tree.specs.Answer.{IfTurning, MakesPending}
 use Rattle.tier_tree.specs.declared.arrived.Arrived.{Arrived}
 use Rattle.tier_tree.specs.declared.arrived.Arrived.TheVariants as arrived
 use Rattle.tier_tree.specs.Arrival.{Arrives, arrival, arrival_by, Climbed, climbed_by, climbed}

@@ -1,13 +1,11 @@
 ghost use Rattle.std.specs.Prelude.{◌≡◌, ℕ, ◌<◌, List, [], length, true, false, IfOk};
-ghost use Rattle.tier_tree.specs.Answer.{DoesntJoin, DoesntArrive, IfTurning, MakesPending};
-ghost use Rattle.tier_tree.specs.Answer.{KeepsPlaces, KeepsEnds, HaveOnePhase};
+ghost use Rattle.tier_tree.specs.Answer.{DoesntJoin, DoesntArrive, IfTurning, MakesPending, KeepsPlaces, KeepsEnds, HaveOnePhase};
 ghost use Rattle.tier_tree.specs.Arrival.{arrival};
 ghost use Rattle.tier_tree.specs.Call.{IsCall};
 ghost use Rattle.tier_tree.specs.Declaration.{AreAllFresh};
 ghost use Rattle.tier_tree.specs.Forest.{phaser_at, flat_at, root_at};
 ghost use Rattle.tier_tree.specs.Law.{NobodyComesBetween};
-ghost use Rattle.tier_tree.specs.Origin.{Origin, AreTallied, HaveAllArrived};
-ghost use Rattle.tier_tree.specs.Origin.{origin_after_registration, origin_after_arrival, origin_after_phase_end};
+ghost use Rattle.tier_tree.specs.Origin.{Origin, AreTallied, HaveAllArrived, origin_after_registration, origin_after_arrival, origin_after_phase_end};
 ghost use Rattle.tier_tree.specs.PhaseEnd.{most_ends, after_phase_end, after_force};
 ghost use Rattle.tier_tree.specs.Registration.{registration, after_registration};
 ghost use Rattle.tier_tree.specs.Stored.{Stored, IsStored, ChangedAt, phasers_of};

@@ -1,6 +1,5 @@
 -- Lines that are put together from their ends, and numbers that are counted up.
-use Rattle.std.proofs.Common.{◌≡◌, ◌∙◌, ◌+◌, ◌-◌, ◌<◌, ◌≤◌, ◌/◌, ◌%◌, ◌^◌, ℕ, List, [], ◌∷◌, ◌++◌, length, append-nil, get_or, set, drop, refl, ap, sym, arith, length-append, append_assoc, ℤ, pos, int_le, false, unsigned_abs}
-use Rattle.std.proofs.Common.{inl, inr, take}
+use Rattle.std.proofs.Common.{◌≡◌, ◌∙◌, ◌+◌, ◌-◌, ◌<◌, ◌≤◌, ◌/◌, ◌%◌, ◌^◌, ℕ, List, [], ◌∷◌, ◌++◌, length, append-nil, get_or, set, drop, refl, ap, sym, arith, length-append, append_assoc, ℤ, pos, int_le, false, unsigned_abs, inl, inr, take}
 use borrow.Rule.Slice.PartMut.{put_mid}
 use Rattle.std.proofs.lemmas.Bool.{cases_lt}
 use Rattle.std.proofs.lemmas.List.{length-drop, drop_at, set_at, get_or_at, get_or-drop, drop-set-add, drop-set, drop-append-le, drop-drop, length-take-le}

@@ -1,7 +1,6 @@
 ghost use Rattle.std.specs.Prelude.{◌≡◌, ◌+◌, ◌<◌, false, IsSome, None};
 ghost use Rattle.cyclic_barrier.specs.Waits.{wait_at};
-ghost use Rattle.cyclic_barrier.specs.Barrier.{number_waiting, enter, enter_timed, end_action};
-ghost use Rattle.cyclic_barrier.specs.Barrier.{arrive, arrive_last, add_wait};
+ghost use Rattle.cyclic_barrier.specs.Barrier.{number_waiting, enter, enter_timed, end_action, arrive, arrive_last, add_wait};
 
 use super::Barrier;
 use crate::answer::Entered;

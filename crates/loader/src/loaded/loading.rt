@@ -2,8 +2,7 @@
 ghost use Rattle.std.specs.Prelude.{◌≡◌, ◌≢◌, ◌∷◌, [], None, Some, IfOk, IfErr, OnOk, length, map, ◌≤◌};
 ghost use Rattle.loader.specs.Declarations.{new_barrier, routine_row, action_row, AreDeclared};
 ghost use Rattle.loader.specs.Program.{IsProgramOf};
-ghost use Rattle.loader.specs.Fault.{first_fault, counts_in, earliest, earliest_in};
-ghost use Rattle.loader.specs.Fault.{thread_fault, row_fault, last_fault};
+ghost use Rattle.loader.specs.Fault.{first_fault, counts_in, earliest, earliest_in, thread_fault, row_fault, last_fault};
 
 use super::Loaded;
 use crate::counts::Counts;

@@ -7,9 +7,7 @@ ghost use Rattle.loader.specs.Program.{IsNamed};
 ghost use Rattle.thread_state.specs.Thread.{is_full, turn_of_answer};
 ghost use Rattle.machine_scene.specs.Scene.{scene_of, counts_in, thread_at, barrier_at, outcome_of_turn};
 ghost use Rattle.machine_scene.specs.Sound.{CanPlay};
-ghost use Rattle.machine_scene.specs.BarrierRows.{is_run_by, unless_busy, unless_runner};
-ghost use Rattle.machine_scene.specs.BarrierRows.{outcome_of_entry, outcome_of_await_at, outcome_of_reset};
-ghost use Rattle.machine_scene.specs.BarrierRows.{outcome_of_barrier_row};
+ghost use Rattle.machine_scene.specs.BarrierRows.{is_run_by, unless_busy, unless_runner, outcome_of_entry, outcome_of_await_at, outcome_of_reset, outcome_of_barrier_row};
 
 use super::{Stage, alone};
 use cyclic_barrier::Entered;

@@ -7,8 +7,7 @@ ghost use Rattle.loader.specs.Program.{row_at};
 ghost use Rattle.thread_state.specs.declared.frame.Frame.TheVariants as frame;
 ghost use Rattle.thread_state.specs.Thread.{top_of};
 ghost use Rattle.machine_scene.specs.Scene.{scene_of, thread_at, barrier_at};
-ghost use Rattle.machine_scene.specs.CallRows.{outcome_of_routine_end};
-ghost use Rattle.machine_scene.specs.CallRows.{outcome_of_ret, outcome_of_call_row};
+ghost use Rattle.machine_scene.specs.CallRows.{outcome_of_routine_end, outcome_of_ret, outcome_of_call_row};
 ghost use Rattle.machine_scene.specs.Sound.{CanPlay, IsSound, most_after, most_before};
 ghost use Rattle.machine_scene.specs.Undo.{PhasersWithin, reach_of_ret, reach_of_row};
 

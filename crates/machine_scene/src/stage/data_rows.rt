@@ -2,8 +2,7 @@ ghost use Rattle.std.specs.Prelude.{◌≡◌, ◌<◌, length, pos, true, Some,
 ghost use Rattle.thread_state.specs.Thread.{turn_of_out, turn_of_answer, turn_of_intrd};
 ghost use Rattle.machine_scene.specs.Scene.{scene_of, counts_in, thread_at, cell_at, outcome_of_turn};
 ghost use Rattle.machine_scene.specs.Sound.{CanPlay};
-ghost use Rattle.machine_scene.specs.DataRows.{outcome_of_store, outcome_of_interrupt, outcome_of_data_row};
-ghost use Rattle.machine_scene.specs.DataRows.{runs, may_grow};
+ghost use Rattle.machine_scene.specs.DataRows.{outcome_of_store, outcome_of_interrupt, outcome_of_data_row, runs, may_grow};
 ghost use Rattle.loader.specs.Program.{IsNamed};
 
 use super::{Stage, alone};

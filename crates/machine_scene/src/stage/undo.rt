@@ -2,8 +2,7 @@ ghost use Rattle.std.specs.Prelude.{◌≡◌, ◌<◌, length};
 ghost use Rattle.thread_state.specs.Thread.{top_of};
 ghost use Rattle.machine_scene.specs.Scene.{scene_of, thread_at};
 ghost use Rattle.machine_scene.specs.Sound.{IsSound, most_before};
-ghost use Rattle.machine_scene.specs.Undo.{IsThere, CanPutBack, CanUndo, reach_of};
-ghost use Rattle.machine_scene.specs.Undo.{touched_by, with_touched, note_of, undone};
+ghost use Rattle.machine_scene.specs.Undo.{IsThere, CanPutBack, CanUndo, reach_of, touched_by, with_touched, note_of, undone};
 
 use super::Stage;
 use crate::note::{SceneNote, Touched};

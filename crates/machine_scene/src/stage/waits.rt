@@ -6,8 +6,7 @@ ghost use Rattle.thread_state.specs.Thread.{turn_of_throw};
 ghost use Rattle.loader.specs.Program.{IsNamed};
 ghost use Rattle.machine_scene.specs.Scene.{scene_of, counts_in, thread_at, barrier_at, with_barrier, outcome_marked};
 ghost use Rattle.machine_scene.specs.PhaserRows.{is_past};
-ghost use Rattle.machine_scene.specs.Waits.{outcome_of_awaited, outcome_of_phase_wait, outcome_of_release};
-ghost use Rattle.machine_scene.specs.Waits.{outcome_of_barrier_wait, outcome_of_phase_timeout, outcome_of_barrier_timeout};
+ghost use Rattle.machine_scene.specs.Waits.{outcome_of_awaited, outcome_of_phase_wait, outcome_of_release, outcome_of_barrier_wait, outcome_of_phase_timeout, outcome_of_barrier_timeout};
 ghost use Rattle.machine_scene.specs.Sound.{CanPlay, is_wait_row};
 
 use super::{Stage, alone};

@@ -1,5 +1,5 @@
 //! The entries of the rows, in the order of their opcodes.
-ghost use Rattle.std.specs.Prelude.{◌≡◌, ◌≤◌, MatchOption, slice_get};
+ghost use Rattle.std.specs.Prelude.{◌≡◌, ◌≤◌, MatchOption, length, slice_get};
 ghost use Rattle.std.specs.List.{flat_map};
 ghost use Rattle.instruction_table.specs.Table.{table};
 ghost use Rattle.refusals.specs.Word.{IsRowEntry, row_spellings, spellings};
@@ -43,7 +43,7 @@ fn entry_at(tables: &[&'static [WordEntry]], place: usize) -> Option<WordEntry>
 
 /// Returns the entry for the row of this opcode.
 pub fn row_entry(opcode: u8) -> Option<WordEntry>
-    ensures { MatchOption result (42 ≤ opcode) (IsRowEntry opcode) }
+    ensures { MatchOption result (length table ≤ opcode) (IsRowEntry opcode) }
 {
     entry_at(&row_tables(), usize::from(opcode))
 }

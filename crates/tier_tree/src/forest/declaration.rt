@@ -2,9 +2,7 @@ ghost use Rattle.std.specs.Prelude.{◌≡◌, ◌+◌, ◌<◌, ◌∷◌, [], 
 ghost use Rattle.std.specs.List.{list_any};
 ghost use Rattle.packed_phaser.specs.Word.{record_of};
 ghost use Rattle.tier_tree.specs.Answer.{AddsPlace, KeepsEnds};
-ghost use Rattle.tier_tree.specs.Declaration.{has_parent, is_root, line_above, joins_above};
-ghost use Rattle.tier_tree.specs.Declaration.{declared, fault_of, after_declaration};
-ghost use Rattle.tier_tree.specs.Declaration.{IsFreshAbove, AreAllFresh};
+ghost use Rattle.tier_tree.specs.Declaration.{has_parent, is_root, line_above, joins_above, declared, fault_of, after_declaration, IsFreshAbove, AreAllFresh};
 ghost use Rattle.tier_tree.specs.Origin.{Carries, declared_at};
 ghost use Rattle.tier_tree.specs.Registration.{is_overfull, joined};
 ghost use Rattle.tier_tree.specs.Stored.{phasers_of};

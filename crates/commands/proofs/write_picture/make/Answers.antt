@@ -1,6 +1,5 @@
-use Rattle.std.proofs.Common.{rules, ◌≡◌}
+use Rattle.std.proofs.Common.{rules, ◌≡◌, subst}
 use Rattle.std.proofs.lemmas.Result.{IfOk-weaker}
-use Rattle.std.proofs.Common.{subst}
 use Rattle.pictures.specs.Missing.{IsMissingIn}
 use Rattle.commands.proofs.Written.{schedule_read}
 use Rattle.commands.proofs.write_picture.make.Goals as goal

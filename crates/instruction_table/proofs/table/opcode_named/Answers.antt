@@ -1,4 +1,4 @@
-use Rattle.std.proofs.Common.{◌≡◌, ◌∙◌, ◌<◌, IfSome, MatchOption, option_map, Option, Some, None, List, ℕ, ap, slice_index_or, arith}
+use Rattle.std.proofs.Common.{◌≡◌, ◌∙◌, ◌<◌, length, IfSome, MatchOption, option_map, Option, Some, None, List, ℕ, ap, slice_index_or, arith}
 use Rattle.instruction_table.specs.Table.{Entry, no_entry, entry_named, table}
 use Rattle.instruction_table.proofs.TableLemmas.{named_is_placed, named_is_within}
 use Rattle.instruction_table.proofs.WordSlots.{found_there}
@@ -10,7 +10,7 @@ placed : (word : List ℕ) (there : Option Entry) (found : Option ℕ) → found
 placed word there found is same = grind (arith, named_is_placed)
 
 within : (word : List ℕ) (there : Option Entry) (found : Option ℕ) → found ≡ option_map (λ e. e.opcode) there → there ≡ entry_named table word →
-    IfSome found (λ opcode. opcode < 42)
+    IfSome found (λ opcode. opcode < length table)
 within word there found is same = grind (arith, named_is_within)
 
 pub returns-clause-opcode : goal.returns-clause-opcode

@@ -1,5 +1,5 @@
 use Rattle.std.proofs.Common.{ap, subst, sym, ◌∙◌, ◌≤◌}
-use Rattle.std.specs.Prelude.{MatchOption, slice_get}
+use Rattle.std.specs.Prelude.{MatchOption, length, slice_get}
 use Rattle.std.specs.List.{flat_map}
 use Rattle.instruction_table.specs.Table.{table}
 use Rattle.refusals.specs.Word.{IsRowEntry}
@@ -9,6 +9,6 @@ use Rattle.refusals.proofs.table.row.row_entry.Goals as goal
 pub returns : goal.returns
 returns c =
     let entries = flat_map (λ rows. rows.now) c.row_tables.result in
-    subst (λ told. MatchOption told (42 ≤ c.args.opcode) (IsRowEntry c.args.opcode))
+    subst (λ told. MatchOption told (length table ≤ c.args.opcode) (IsRowEntry c.args.opcode))
     (sym (c.entry_at.ensures ∙ ap (λ k. slice_get entries k) c.from.ensures))
     (entry_of_row entries table c.args.opcode c.row_tables.ensures)

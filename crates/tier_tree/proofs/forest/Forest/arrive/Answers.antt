@@ -1,6 +1,5 @@
-use Rattle.std.proofs.Common.{◌≡◌, List}
+use Rattle.std.proofs.Common.{◌≡◌, List, ◌<◌, length}
 use Rattle.tier_tree.specs.Stored.{Stored, phasers_of}
-use Rattle.std.proofs.Common.{◌<◌, length}
 use Rattle.tier_tree.specs.Forest.{root_at}
 use Rattle.tier_tree.specs.Answer.{DoesntArrive, IfTurning, MakesPending, KeepsEnds}
 use Rattle.tier_tree.specs.Call.{IsCall}

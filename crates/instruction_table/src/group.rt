@@ -1,7 +1,7 @@
 ghost use Rattle.std.specs.Prelude.{◌≡◌};
-ghost use Rattle.machine_scene.specs.Group.{group_of};
+ghost use Rattle.instruction_table.specs.Group.{group_of};
 
-use instruction_table::Row;
+use crate::row::Row;
 
 /// What a row acts on.
 #[derive(Clone, Copy)]
