@@ -1,3 +1,4 @@
+// Plays the words of a plan, with its groups.
 ghost use Rattle.std.specs.Prelude.{◌≤◌, IfOk, OnOk, length};
 ghost use Rattle.plans.specs.Groups.{HasPlayed, HasPlayedGroup, HasPlayedAgain};
 
@@ -44,7 +45,7 @@ impl Player {
         Ok(())
     }
 
-    /// Plays words that were played once again, until they were played so many times, or until a pass makes no choice.
+    /// Plays words once more until they were played `times` times, or a pass makes no choice.
     #[cycle(words)]
     fn play_again(
         &mut self,

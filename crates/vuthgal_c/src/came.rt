@@ -15,14 +15,14 @@ impl Model for Came {
 }
 
 impl Came {
-    /// None so far.
+    /// Returns the value for no bytes.
     pub fn none() -> Came
         ensures { result.bytes ≡ [] }
     {
         Came {}
     }
 
-    /// And these.
+    /// Returns the value for the bytes so far and these.
     pub fn and(&self, bytes: &[u8]) -> Came
         ensures { result.bytes ≡ self.now.bytes ++ bytes.now }
     {

@@ -38,7 +38,7 @@ fn held_of(alloc: Global, file: &[u8]) -> Result<Held, Fault>
     }
 }
 
-/// The same in a block of its own.
+/// Does what `held_of` does, and puts the session into a block of its own.
 fn boxed(alloc: Global, file: &[u8]) -> Result<Box<Held>, Fault>
     ensures first { IfOk result (λ held. IsFirstOf file.now held.value) }
     ensures limit { OnOk result (length file.now ≤ most_bytes) }
@@ -54,7 +54,7 @@ fn boxed(alloc: Global, file: &[u8]) -> Result<Box<Held>, Fault>
     }
 }
 
-/// Tells why there is no session.
+/// Writes the line that says why there is no session.
 fn tell(fault: Fault, told: &mut CountingSink)
     ensures { told.new.written ≡ told.old.written ++ line_of fault }
 {
@@ -64,7 +64,7 @@ fn tell(fault: Fault, told: &mut CountingSink)
     }
 }
 
-/// Opens a session of a program, an image or a text. One that was open is closed.
+/// Opens a session of a program, and closes the one that was open. A fault's line goes to `line`.
 #[unsafe(no_mangle)]
 pub extern "C" fn vuthgal_session_open(
     alloc: Global,
@@ -96,7 +96,7 @@ pub extern "C" fn vuthgal_session_open(
     status
 }
 
-/// Carries out a command, a line without its LF. The output is the reply.
+/// Carries out a command, a line without its LF, and writes its reply. The status is 0, 4 or 6.
 #[unsafe(no_mangle)]
 pub extern "C" fn vuthgal_session_command(
     alloc: Global,
@@ -130,7 +130,7 @@ pub extern "C" fn vuthgal_session_command(
     }
 }
 
-/// Tells the reply to the last command again, for a caller that had no room for it.
+/// Writes the reply to the last command again, for a caller whose buffer was too small.
 #[unsafe(no_mangle)]
 pub extern "C" fn vuthgal_session_reply(
     alloc: Global,
