@@ -58,7 +58,7 @@ pub fn report_runs<R: Threads + Wait + Sync, G: Pausing + Sync, K: Sink>(
     push_outcomes(alloc, asked.expected, &outcomes, output)
 }
 
-/// Returns the outcomes of a program's runs, the most frequent first.
+/// Plays all runs. Returns each state that some ended in, with how many, the most frequent first.
 fn outcomes_of<R: Threads + Wait + Sync, G: Pausing + Sync>(
     rt: &R,
     alloc: Global,

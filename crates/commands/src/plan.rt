@@ -126,7 +126,7 @@ pub(crate) fn planned_on(
     }
 }
 
-/// Plays a plan on a copy of a program, and returns the result.
+/// Plays a plan on a copy of a program. Returns its runs of choices, and the machine after them.
 pub fn planned_in(alloc: Global, program: &Program<'_>, plan: &[u8]) -> Result<Planned, Unplanned>
     ensures planned { IfOk result (λ planned. (progress : Progress) × (ComesOfPlan program.now plan.now progress
         × Shows planned progress)) }

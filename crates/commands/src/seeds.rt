@@ -96,7 +96,7 @@ fn ending_of(machine: &Machine) -> Ending
     }
 }
 
-/// Returns the run of this seed if it ended differently than expected.
+/// Returns the run of this seed if it ended unlike expected, or else `None`.
 #[tactic(auto, using(crate::proofs::Seeded::judged))]
 fn judged(
     alloc: Global,
@@ -204,7 +204,7 @@ struct Tally {
     unlike: Option<Unlike>,
 }
 
-/// Plays the run of each seed. Returns how many ended in each state, and the first unlike one.
+/// Plays each seed's run. Returns how many ended in each state, and the first unlike expected.
 fn counted(
     alloc: Global,
     program: &Loaded,

@@ -10,7 +10,7 @@ use itoa::Buffer;
 use line_reader::words::is_line_end;
 use std::alloc::{AllocError, Global};
 
-/// Returns the lines of a text without their LF, also the one after the last LF, if only empty.
+/// Returns the lines of a text without their LF. What follows the last LF is one, even if empty.
 fn split_lines(alloc: Global, text: &[u8]) -> Result<Vec<&[u8]>, AllocError>
     ensures { IfOk result (λ lines. map name_seen lines.items ≡ slice_split is_line_end text.now) }
 {
@@ -36,7 +36,7 @@ fn trimmed(line: &[u8]) -> &[u8]
     line.trim_ascii()
 }
 
-/// Appends a line of the listing: the row's number, the number of the text's line, and that line.
+/// Appends a line of the listing: the row's number, the number of its line in the text, the line.
 #[tactic(auto, using(line_reader::proofs::ListedTexts::word_steps))]
 fn push_text_row(
     listing: &mut Vec<u8>,

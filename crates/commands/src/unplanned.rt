@@ -43,7 +43,7 @@ fn push_plan_line<E: Sink>(errors: &mut E, line: u64, number: Option<u8>) -> Res
 }
 
 impl Unplanned {
-    /// Returns the exit status: 3 for a plan's fault, 4 if memory lacks, or the other fault's own.
+    /// Returns the exit status: 3 for a plan's fault, 4 if out of memory, or the other fault's own.
     pub fn status(self) -> u8
         ensures { result ≡ unplanned_status self }
     {

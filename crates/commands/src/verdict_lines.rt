@@ -17,7 +17,7 @@ fn push_line(text: &mut Vec<u8>, word: &[u8], line: Option<&[u8]>) -> Result<(),
     text.extend_from_slice(b"\n")
 }
 
-/// Returns the lines `trace ..` and `run ..`, for a verdict that they differ.
+/// Returns the lines `trace ..` and `run ..`, each with only the word if there is no such line.
 fn differing(alloc: Global, trace: Option<&[u8]>, run: Option<&[u8]>) -> Result<Vec<u8>, AllocError>
     ensures { IfOk result (λ text. text.items ≡ line_behind (codes "trace") (option_map (λ l. l.now) trace.entry)
         ++ line_behind (codes "run") (option_map (λ l. l.now) run.entry)) }

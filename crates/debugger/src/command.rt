@@ -225,7 +225,7 @@ fn thread_of(digits: &[u8]) -> Option<u8>
     }
 }
 
-/// Returns the turn of a line as `g t2`, which is frequent, without memory. Else it is `None`.
+/// Returns the turn of a line such as `g t2`, or `None`. It is frequent, and needs no memory.
 pub fn lone_turn(line: &[u8]) -> Option<Run>
     ensures turn { IfSome result (λ run. line_order line.now ≡ Go (run ∷ [])) }
 {
@@ -241,7 +241,7 @@ pub fn lone_turn(line: &[u8]) -> Option<Run>
     }
 }
 
-/// Returns the command that a line stands for. Fails if memory for the runs of `s` or `g` lacks.
+/// Returns the command that a line stands for. Fails if it is out of memory for runs of `s` or `g`.
 pub fn command_of(alloc: Global, line: &[u8]) -> Result<Command, AllocError>
     ensures order { IfOk result (λ command. order_of command ≡ line_order line.now) }
     ensures choices { OnErr result (has_choices line.now ≡ true) }

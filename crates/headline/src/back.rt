@@ -72,7 +72,7 @@ fn steps(
     Ok(events)
 }
 
-/// Takes back so many of the last choices.
+/// Takes back so many of the last choices, as far as they are kept.
 fn backs(debugger: &mut Debugger, count: usize)
     ensures { debugger.new ≡ backs count debugger.old }
 {

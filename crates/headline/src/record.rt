@@ -91,7 +91,7 @@ pub fn into_machine(journaled: Journaled) -> Machine
     machine
 }
 
-/// Plays a program on real threads, with at most `limit` steps. The schedule is the machine's record.
+/// Plays a program on real threads, at most `limit` steps. The schedule is the machine's record.
 pub fn run_live<R: Threads + Wait + Sync, G: Gate + Sync>(
     threads: &R,
     alloc: Global,

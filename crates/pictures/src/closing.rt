@@ -90,7 +90,7 @@ fn push_arrived_at(
     push_arrived_above(back, forest.arrived(at), forest.parties(at))
 }
 
-/// Appends a phaser's name to `front`. `push_arrived_at` appends how many have arrived.
+/// Appends a phaser's name, and how many have arrived there or further up.
 fn push_phaser(
     pen: &Pen<'_, '_>,
     front: &mut Vec<u8>,
@@ -110,7 +110,7 @@ fn push_phaser(
     push_arrived_at(pen, front, back, forest, PhaserId(number as u8))
 }
 
-/// Appends how many parties have arrived at a barrier, and how many there are.
+/// Appends how many parties have arrived at a barrier, and how many there are, if it exists.
 fn push_barrier_arrived(
     text: &mut Vec<u8>,
     machine: &Machine,

@@ -86,7 +86,7 @@ fn is_other(machine: &Machine, own: &[Choice], choice: Choice) -> bool
     is_ready(machine, choice) && !is_next(own, choice)
 }
 
-/// Returns the most choices of another run: 100 more than `own`, and 2,000 with those before it.
+/// Returns how many choices another run may have: 100 more than `own`, up to 2,000 from the start.
 fn room_for(machine: &Machine, own: &[Choice]) -> u32
     requires { length own.now ≤ most_choices }
     ensures { result ≡ room_for (world_of machine.now) own.now }
@@ -112,7 +112,7 @@ fn fork(
     choices_of(alloc, planned.runs.as_slice())
 }
 
-/// Returns how many choices may still be played: none after a text of more than 6,000 bytes.
+/// Returns how many choices may still be played: none after a moment of more than 6,000 bytes.
 fn left_behind(moment: &Moment, left: u32) -> u32
     ensures { result ≡ left_behind moment.now.text.items left }
 {

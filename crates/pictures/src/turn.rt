@@ -72,7 +72,7 @@ pub fn turn_text(
     kept_behind(alloc, room, front, answer.as_slice())
 }
 
-/// Returns the sign of a thread that didn't have the turn: `:` waits and is ready, `#` waits.
+/// Returns the sign of another thread: `|` runs, `!` throws, `:` waits and is ready, `#` waits.
 pub fn standing(ready: bool, status: Status) -> &'static [u8]
     ensures { result.now ≡ standing ready status }
 {

@@ -29,7 +29,7 @@ impl Player {
         }
     }
 
-    /// Plays a group from after its first parenthesis, only once if that makes no choice.
+    /// Plays a group after its `(`, as often as its `)` says, or once if that makes no choice.
     #[cycle(words)]
     fn play_group(&mut self, alloc: Global, words: &mut WordsFrom<'_>) -> Result<(), AllocError>
         ensures played { OnOk result (HasPlayedGroup words.old words.new self.old self.new) }

@@ -177,7 +177,7 @@ fn expiry_named(names: &[&[u8]], name: &[u8]) -> Result<Chosen, PlanFaultKind>
     }
 }
 
-/// Returns a turn by the thread's name, or its expiry by an `x` and the name.
+/// Returns the turn of the thread with this name, or its expiry if an `x` precedes the name.
 fn named(names: &[&[u8]], name: &[u8]) -> Result<Chosen, PlanFaultKind>
     requires { length names.now ≤ 64 }
     ensures { result ≡ named_by (map name_seen names.now) name.now

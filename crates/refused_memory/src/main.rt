@@ -28,7 +28,7 @@ use std::alloc::AllocError;
 use std::io;
 use sweep::Trials;
 
-/// Writes whether a run, and a comparison, makes as many requests with both of these schedules.
+/// Writes whether runs, and comparisons, make as many requests with either of these schedules.
 fn tell_counts(trials: &mut Trials, short: &[u8], long: &[u8]) {
     trials.tell_counts(
         "run_text of 10,000 and of 100,000 tokens",

@@ -18,7 +18,7 @@ const COUNT: usize = 7_200_001;
 /// This request is refused if there are more or fewer blocks than at `COUNT`.
 const COMPARE: usize = 7_200_002;
 
-/// Requests a block of this size, which is how the library is called, and says if it is refused.
+/// Requests a block of this size, by which the library is called. Returns whether it is refused.
 fn is_refused(alloc: Global, size: usize) -> bool {
     Vec::<u8>::with_capacity(alloc, size).is_err()
 }

@@ -41,7 +41,7 @@ fn begins(alloc: Global, program: Loaded) -> bool {
     }
 }
 
-/// Tries `assemble`: the fault of memory that is refused names a line of the text.
+/// Tries `assemble`: if memory is refused, the fault names a line of the text.
 pub fn assembling(trial: Trial) -> Answer {
     match trial.end(assemble(trial.begin(), TEXT)) {
         Ok(image) => Answer::Right.provided(lists(trial.alloc, &image, LISTING)),

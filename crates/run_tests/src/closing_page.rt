@@ -29,7 +29,7 @@ use trace_compare::Verdict;
 use trace_text::start::StartFault;
 use trace_text::state::state_text;
 
-/// A thread's turn.
+/// Returns a thread's turn.
 fn turn(thread: u8) -> Choice {
     Choice {
         thread,

@@ -119,7 +119,7 @@ fn made(alloc: Global, case: &Case, failing: Port, call: u32) -> Result<Came, Al
     })
 }
 
-/// Returns whether a call wrote everything.
+/// Returns whether a call wrote everything, and has no fault.
 fn is_whole(case: &Case, came: &Came) -> bool {
     came.status == 0 && came.output.bytes() == case.whole && came.errors.bytes().is_empty()
 }

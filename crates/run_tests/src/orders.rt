@@ -114,7 +114,7 @@ enum Came<'a> {
     Steps(u32),
 }
 
-/// Returns whether the threads of a run have all ended, and it came to this.
+/// Returns whether the threads of a run have all ended, with this schedule or so many steps.
 fn comes_to(run: &LiveRun, came: Came) -> bool {
     let is_it = match came {
         Came::Schedule(order) => run.schedule.as_slice() == order.as_bytes(),
@@ -123,7 +123,7 @@ fn comes_to(run: &LiveRun, came: Came) -> bool {
     is_it && run.ending == Ending::AllEnded
 }
 
-/// Returns whether a live run of a text's program is not broken off, its threads all end, and it comes to this.
+/// Plays a program live. Returns whether all threads end, with this schedule or so many steps.
 fn runs<R: Threads + Wait + Sync, G: Gate + Sync>(
     rt: &R,
     alloc: Global,

@@ -51,7 +51,7 @@ fn made(alloc: Global, parties: u16, policy: Policy) -> Result<(SharedPhaser, Pa
     SharedPhaser::new(alloc, parties, policy, Phase::prevailing(0))
 }
 
-/// Returns the result of one try of a call, or `None` if the call isn't one that never waits.
+/// Returns the result of one try of a call, or `None` if it loses a race or is a look or a wait.
 fn tried(phaser: &SharedPhaser, party: &mut Party, call: Call) -> Option<Reply>
     requires { phaser_of party.old ≡ phaser.now }
     ensures { phaser_of party.new ≡ phaser.now }
@@ -65,7 +65,7 @@ fn tried(phaser: &SharedPhaser, party: &mut Party, call: Call) -> Option<Reply>
     made.ok()
 }
 
-/// Does the same by the call that takes `Wait`, which tries until it succeeds.
+/// Returns the result of a call that takes `Wait` and tries on, or `None` for a look or a wait.
 fn called<R: Wait>(rt: &R, phaser: &SharedPhaser, party: &mut Party, call: Call) -> Option<Reply>
     requires { phaser_of party.old ≡ phaser.now }
     ensures { phaser_of party.new ≡ phaser.now }
@@ -79,7 +79,7 @@ fn called<R: Wait>(rt: &R, phaser: &SharedPhaser, party: &mut Party, call: Call)
     }
 }
 
-/// Returns whether a row holds of the call that takes `Wait`, or of one try.
+/// Returns whether a call has its row's result: with `waits` the call that tries on, or one try.
 fn holds<R: Wait>(rt: &R, alloc: Global, row: &Row, waits: bool) -> bool {
     let (parties, phase, policy, call, reply, word) = *row;
     match SharedPhaser::new(alloc, parties, policy, Phase::prevailing(phase)) {

@@ -426,7 +426,7 @@ fn what_is_to_come_comes_true(rt: HostRuntime) {
     }
 }
 
-/// The lowest phasers of 8 of the lines arrive.
+/// Makes the parties of the first 8 lines arrive. Returns whether each is counted in phase 0.
 fn eight_arrive(forest: &mut Forest) -> bool {
     for line in 1..9u8 {
         if !comes_true(forest, Step::Arrives(line * 7, Arrived::At(0))) {
@@ -444,7 +444,7 @@ static THE_NINTH: [Step; 5] = [
     Step::Shows(0, 1, 9, 0),
 ];
 
-/// 64 phasers in one tree of 8 levels: 9 lines of 7 below the root, a party in the last of each.
+/// Returns 64 phasers of a tree: 9 lines of 7 below the root, with a party in the last of each.
 fn nine_lines() -> [Plan; 64] {
     let mut plans = [Plan::Root(0); 64];
     for id in 1..64u8 {
@@ -475,7 +475,7 @@ fn a_full_forest(rt: HostRuntime) {
     }
 }
 
-/// Returns the fault of a declaration after those of the plans.
+/// Returns the fault of a declaration after those of the plans, or `None` if it has none.
 fn fault_of(
     alloc: Global,
     plans: &[Plan],

@@ -24,7 +24,7 @@ pub enum PlayFault {
     Write,
 }
 
-/// Writes a line.
+/// Writes a line that is already made.
 fn push_line<W: Sink>(line: &[u8], output: &mut W) -> Result<(), PlayFault>
     ensures line { OnOk result (Appends (W.written output.old) (W.written output.new) line.now) }
     ensures write { result ≡ Err PlayFault.Write → IsTrue (W.has_failed output.new) }

@@ -48,7 +48,7 @@ impl CountingSink {
         self.kept.as_slice()
     }
 
-    /// Returns how many bytes came.
+    /// Returns how many bytes came, or the largest number if there were more.
     pub fn count(&self) -> usize
         ensures { result ≡ min (length self.now.written) most_counted }
     {

@@ -19,7 +19,7 @@ pub fn is_within(bytes: &[u8]) -> bool
     bytes.len() <= MOST_BYTES
 }
 
-/// Does what `program_in` does, with all that is promised of the program in one clause.
+/// Returns the program in a file like `program_in`, but its contract has one clause about it.
 pub fn whole_program(alloc: Global, file: &[u8]) -> Result<Program<'_>, Fault>
     ensures program { IfOk result (λ program. IsProgramIn file.now program) }
     ensures none { IfErr result (λ fault. IsNoProgramFor fault file.now) }

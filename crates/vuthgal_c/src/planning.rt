@@ -14,7 +14,7 @@ use commands::write_picture::parts_of;
 use std::alloc::Global;
 use workbench::fault::Fault;
 
-/// Writes the schedule of a plan. Returns whether the plan needed more than 1,000,000 choices.
+/// Writes a plan's schedule on a file's program. Returns whether it needs over 1,000,000 choices.
 fn planned<K: Sink>(
     alloc: Global,
     file: &[u8],

@@ -28,7 +28,7 @@ pub extern "C" fn vuthgal_run(
     reply.hand(status, output, output_length, line, line_length)
 }
 
-/// Writes the trace of a text with its schedule to `output`. Returns the status.
+/// Writes a text's trace under its schedule to `output`, a fault to `line`. Returns the status.
 #[unsafe(no_mangle)]
 pub extern "C" fn vuthgal_both(
     alloc: Global,

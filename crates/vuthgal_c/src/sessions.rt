@@ -64,7 +64,7 @@ fn tell(fault: Fault, told: &mut CountingSink)
     }
 }
 
-/// Opens a session of a program, and closes the one that was open. A fault's line goes to `line`.
+/// Opens a session and closes the one before. Returns the status, with a fault in `line`.
 #[unsafe(no_mangle)]
 pub extern "C" fn vuthgal_session_open(
     alloc: Global,
@@ -96,7 +96,7 @@ pub extern "C" fn vuthgal_session_open(
     status
 }
 
-/// Carries out a command, a line without its LF, and writes its reply. The status is 0, 4 or 6.
+/// Carries out a command, a line without its LF. Returns 0, 4 if out of memory, or 6 if closed.
 #[unsafe(no_mangle)]
 pub extern "C" fn vuthgal_session_command(
     alloc: Global,
@@ -130,7 +130,7 @@ pub extern "C" fn vuthgal_session_command(
     }
 }
 
-/// Writes the reply to the last command again, for a caller whose buffer was too small.
+/// Writes the last reply again, if a buffer was too small. Returns 0, or 6 if it is closed.
 #[unsafe(no_mangle)]
 pub extern "C" fn vuthgal_session_reply(
     alloc: Global,

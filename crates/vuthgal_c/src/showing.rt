@@ -71,7 +71,7 @@ pub extern "C" fn vuthgal_show(
     reply.hand(status, output, output_length, line, line_length)
 }
 
-/// Writes the drawing of a run, at most `width` columns wide, to `output`. Returns the status.
+/// Writes a drawing of `width` columns to `output`. Returns the status, with a fault in `line`.
 #[unsafe(no_mangle)]
 pub extern "C" fn vuthgal_draw(
     alloc: Global,

@@ -198,7 +198,7 @@ impl Fault {
         }
     }
 
-    /// Returns the exit status: 3 for a refusal, 4 if memory or a thread lacks, 5 if a port failed.
+    /// Returns the exit status: 3 for a refusal, 4 if out of memory or threads, 5 if a port failed.
     pub fn status(self) -> u8
         ensures { result ≡ status_of self }
     {

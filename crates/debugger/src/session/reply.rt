@@ -1,3 +1,4 @@
+// The commands of a session, and the replies that they write.
 ghost use Rattle.std.specs.Prelude.{◌≡◌, ◌+◌, ◌≤◌, ◌∷◌, [], ◌++◌, length, codes, if◌then◌else◌, true, IsTrue, IfErr, IfOk, Ok, Err, OnOk, OnErr};
 ghost use Rattle.std.specs.Fmt.{decimal};
 ghost use Rattle.std.specs.Io.KnownBytes.{Appends};

@@ -176,7 +176,7 @@ fn ended(phaser: SharedPhaser, first: Party, is_whole: bool) -> Result<Word, Rac
     Ok(phaser.close(first))
 }
 
-/// Returns the fault of a phaser that isn't made: only memory can lack.
+/// Returns the fault of a phaser that isn't made: it can only be out of memory.
 fn fault_of_new(fault: NewFault) -> RaceFault
     requires { fault ≢ NewFault.RoutinePolicy }
     ensures { result ≡ RaceFault.Memory }
