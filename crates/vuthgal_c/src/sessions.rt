@@ -64,7 +64,7 @@ fn tell(fault: Fault, told: &mut CountingSink)
     }
 }
 
-/// Opens a session and closes the one before. Returns the status, with a fault in `line`.
+/// Closes the session, if one is open, and opens one. Returns the status, with a fault in `line`.
 #[unsafe(no_mangle)]
 pub extern "C" fn vuthgal_session_open(
     alloc: Global,
@@ -96,7 +96,8 @@ pub extern "C" fn vuthgal_session_open(
     status
 }
 
-/// Carries out a command, a line without its LF. Returns 0, 4 if out of memory, or 6 if closed.
+/// Carries out a command, a line without its LF. Returns 0, or 6 if no session is open, or 4 if it is out of memory. Then the
+/// session is as before, or, if only the reply is lost, it is closed.
 #[unsafe(no_mangle)]
 pub extern "C" fn vuthgal_session_command(
     alloc: Global,
