@@ -1,4 +1,4 @@
-//! The command.
+//! Writes the verdict of a trace, and the lines that differ after it.
 ghost use Rattle.std.specs.Prelude.{◌≡◌, ◌⊎◌, ◌++◌, ℕ, Err, IsTrue, IfErr, List, OnOk};
 ghost use Rattle.std.specs.Io.KnownBytes.{Appends};
 ghost use Rattle.workbench.specs.declared.fault.Fault.{Fault};
@@ -13,9 +13,8 @@ use trace_compare::{CompareFault, Judged, Verdict, judge};
 use workbench::compare::push_verdict;
 use workbench::fault::Fault;
 
-/// Compares like `compare_cmd`, and shows the lines after a verdict other than `same`. After `differs LINE` these are `trace
-/// ..` and `run ..`, with only the word if there is no such line. After `not a trace LINE` it is `trace ..`, and what a line
-/// has to be. Faults and the first line are those of `compare_cmd`. Nothing is written before the lines are known.
+/// Does what `compare_cmd` does. After `differs LINE` it also writes the lines `trace ..` and `run ..`, with only the word if
+/// there is no such line, and after `not a trace LINE` the line `trace ..`, and what a line has to be.
 pub fn show_comparison<S: Source, K: Sink>(
     alloc: Global,
     image: Image,
@@ -36,7 +35,7 @@ pub fn show_comparison<S: Source, K: Sink>(
     }
 }
 
-/// Writes the verdict, and what follows it, once that is known.
+/// Makes the lines that follow the verdict, and then writes them after it.
 fn push_judged<K: Sink>(alloc: Global, judged: &Judged, output: &mut K) -> Result<(), Fault>
     ensures bytes { OnOk result ((shown : List ℕ) × (StandsBehind judged.now.told.verdict judged.now.trace judged.now.told.line shown
         × Appends (K.written output.old) (K.written output.new) (verdict_line judged.now.told.verdict ++ shown))) }
@@ -50,7 +49,7 @@ fn push_judged<K: Sink>(alloc: Global, judged: &Judged, output: &mut K) -> Resul
     }
 }
 
-/// The line of a verdict, and what follows it.
+/// Writes the line of a verdict, and `shown` after it.
 fn push_shown<K: Sink>(output: &mut K, verdict: Verdict, shown: &[u8]) -> Result<(), Fault>
     ensures bytes { OnOk result (Appends (K.written output.old) (K.written output.new)
         (verdict_line verdict ++ shown.now)) }

@@ -27,7 +27,7 @@ pub struct Drawing {
     pub width: u16,
 }
 
-/// The drawing of a program and a schedule.
+/// Returns the drawing of a program's run under a schedule, or why there is none.
 fn drawing_of(
     alloc: Global,
     width: u16,
@@ -51,7 +51,7 @@ fn drawing_of(
     }
 }
 
-/// The drawing of these choices, from a machine on.
+/// Returns the drawing of these choices from a machine's present state on.
 fn drawn(
     alloc: Global,
     width: u16,

@@ -42,14 +42,14 @@ impl Hash for EndState {
     }
 }
 
-/// Returns the word for the state of a run that ended so.
+/// Returns `all`, `stuck` or `live`, the word for a run that ended so.
 pub fn word_of(ending: Ending) -> &'static [u8]
     ensures { result.now ≡ ending_word ending }
 {
     ending.standing().name()
 }
 
-/// Returns what follows the first line of a text.
+/// Returns what follows the first line of a text, or nothing if it has only one.
 fn behind_first_line(text: &[u8]) -> &[u8]
     ensures { result.now ≡ behind_first_line text.now }
 {
@@ -57,7 +57,7 @@ fn behind_first_line(text: &[u8]) -> &[u8]
     &text[end..]
 }
 
-/// Returns the text by which end states differ: its word, and then the lines of the state.
+/// Returns the text by which end states are compared: `state`, the word, and the state's lines.
 fn text_with(alloc: Global, word: &[u8], state: &[u8]) -> Result<Vec<u8>, AllocError>
     ensures { IfOk result (λ text. text.items ≡ codes "state " ++ (word.now ++ (10 ∷ behind_first_line state.now))) }
 {
@@ -69,7 +69,7 @@ fn text_with(alloc: Global, word: &[u8], state: &[u8]) -> Result<Vec<u8>, AllocE
 }
 
 impl EndState {
-    /// Returns the state of a machine whose run ended so.
+    /// Returns the end state of a machine whose run ended so.
     pub fn of(alloc: Global, ending: Ending, machine: &Machine) -> Result<EndState, AllocError>
         ensures { IfOk result (λ end. end.text.items ≡ end_text ending (world_of machine.now)) }
     {

@@ -31,10 +31,9 @@ pub struct Asked<'a> {
     pub expected: &'a [Vec<u8>],
 }
 
-/// Plays an image's program on real threads as often as asked. Writes to `output` a line for each state that a run ended in,
-/// the most frequent first: how often one did, `all`, `stuck` or `live`, with `+died` if a thread died, and the schedule of the
-/// first run that did. Nothing is written before all runs are over. The threads of each run pass `gate` after their pauses, as
-/// in `workbench::live::live`.
+/// Plays an image's program on real threads as often as asked. Writes a line for each state that a run ended in, the most
+/// frequent first: how often one did, `all`, `stuck` or `live`, with `+died` if a thread died, and the schedule of the first
+/// that did. Nothing is written before all runs are over. The threads of each run pass `gate` after their pauses.
 pub fn report_runs<R: Threads + Wait + Sync, G: Pausing + Sync, K: Sink>(
     rt: &R,
     alloc: Global,
@@ -59,7 +58,7 @@ pub fn report_runs<R: Threads + Wait + Sync, G: Pausing + Sync, K: Sink>(
     push_outcomes(alloc, asked.expected, &outcomes, output)
 }
 
-/// Returns the outcomes of a program's runs, the most frequent first.
+/// Plays all runs. Returns each state that some ended in, with how many, the most frequent first.
 fn outcomes_of<R: Threads + Wait + Sync, G: Pausing + Sync>(
     rt: &R,
     alloc: Global,

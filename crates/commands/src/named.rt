@@ -15,7 +15,7 @@ use schedule_reader::{Run, write_schedule};
 use std::alloc::{AllocError, Global};
 use thread_machine::Choice;
 
-/// A choice by the thread's name.
+/// Returns a choice by its thread's name, with an `x` before it for an expiry.
 #[tactic(auto, using(crate::proofs::Naming::name_at))]
 fn name_word(alloc: Global, names: &[&[u8]], choice: Choice) -> Result<Vec<u8>, AllocError>
     ensures { IfOk result (λ word. word.items ≡ name_word (map name_seen names.now) choice) }
@@ -30,7 +30,7 @@ fn name_word(alloc: Global, names: &[&[u8]], choice: Choice) -> Result<Vec<u8>, 
     Ok(word)
 }
 
-/// A choice by the thread's number, as schedules have it.
+/// Returns a choice by its thread's number, as `t2` or `x2`.
 fn number_word(alloc: Global, choice: Choice) -> Result<Vec<u8>, AllocError>
     ensures { IfOk result (λ word. word.items ≡ number_word choice) }
 {
@@ -40,7 +40,7 @@ fn number_word(alloc: Global, choice: Choice) -> Result<Vec<u8>, AllocError>
     Ok(word)
 }
 
-/// Whether a word of a plan is this choice, once.
+/// Returns whether a word of a plan makes this choice once.
 fn is_once(choice: Choice, word: Word) -> bool
     ensures { result ≡ is_once choice word }
 {
@@ -52,7 +52,7 @@ fn is_once(choice: Choice, word: Word) -> bool
     }
 }
 
-/// Whether a plan reads a text as this choice and nothing else.
+/// Returns whether a plan of this text makes this choice once, and nothing else.
 fn is_only(alloc: Global, names: &[&[u8]], text: &[u8], choice: Choice) -> Result<bool, AllocError>
     requires { length names.now ≤ 64 }
     ensures { IfOk result (λ is. is ≡ is_only choice (words_in_plan (map name_seen names.now) text.now)) }
@@ -89,7 +89,7 @@ fn choice_word(alloc: Global, names: &[&[u8]], choice: Choice) -> Result<Vec<u8>
     number_word(alloc, choice)
 }
 
-/// Appends the count, if it is above 1.
+/// Appends `*` and the count, if it is above 1.
 fn push_times(text: &mut Vec<u8>, times: u32) -> Result<(), AllocError>
     ensures { OnOk result (text.new.items ≡ text.old.items ++ times_text times) }
 {
@@ -100,7 +100,7 @@ fn push_times(text: &mut Vec<u8>, times: u32) -> Result<(), AllocError>
     text.extend_from_slice(Buffer::new().format(times).as_bytes())
 }
 
-/// Adds a run as a token.
+/// Appends a run as a plan's word: a choice and its count.
 #[tactic(auto, using(crate::proofs::Reports::text_steps))]
 fn push_token(
     alloc: Global,
@@ -116,7 +116,7 @@ fn push_token(
     push_times(text, run.times)
 }
 
-/// A token, and a space and a token for each further run.
+/// Returns the words for these runs, with a space between them.
 #[tactic(auto, using(crate::proofs::Reports::text_steps))]
 fn tokens(alloc: Global, names: &[&[u8]], first: Run, rest: &[Run]) -> Result<Vec<u8>, AllocError>
     requires { length names.now ≤ 64 }
@@ -132,7 +132,7 @@ fn tokens(alloc: Global, names: &[&[u8]], first: Run, rest: &[Run]) -> Result<Ve
     Ok(text)
 }
 
-/// The text of these runs by the names of the threads: a token for each, one space between them.
+/// Returns a plan that makes the choices of these runs, with a word for each run.
 pub fn named_text(alloc: Global, names: &[&[u8]], runs: &[Run]) -> Result<Vec<u8>, AllocError>
     requires { length names.now ≤ 64 }
     ensures { IfOk result (λ text. text.items ≡ named_text (map name_seen names.now) runs.now) }
@@ -143,7 +143,7 @@ pub fn named_text(alloc: Global, names: &[&[u8]], runs: &[Run]) -> Result<Vec<u8
     }
 }
 
-/// The text of these runs, by the names of the threads if they are given.
+/// Returns these runs as a plan with these names, or as a schedule if there are no names.
 pub fn text_by(alloc: Global, names: Option<&[&[u8]]>, runs: &[Run]) -> Result<Vec<u8>, AllocError>
     requires runs { All IsRun runs.now }
     requires names { IfSome names (λ names. length names.now ≤ 64) }

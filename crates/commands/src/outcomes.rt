@@ -26,7 +26,7 @@ pub struct Outcome {
 /// The states that runs ended in, and what is reported about each.
 pub type Outcomes = IndexMap<EndState, Outcome>;
 
-/// One run more, which ended in this state; with a seed, if its order has one.
+/// Counts one more run that ended in this state. Of the first one, seed and schedule are kept.
 pub fn add(
     outcomes: &mut Outcomes,
     state: EndState,
@@ -55,7 +55,7 @@ pub fn add(
     Ok(())
 }
 
-/// Puts the most frequent first.
+/// Puts the state in which most runs ended first.
 pub fn sort(outcomes: &mut Outcomes) -> Result<(), AllocError>
     ensures sorted { OnOk result (IsMostFrequentFirst outcomes.new.entries) }
     ensures same { OnOk result ((runs : List Ended) → AreOutcomes runs outcomes.old.entries

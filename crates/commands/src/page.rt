@@ -22,14 +22,14 @@ pub struct Page {
     pub others: OtherRuns,
 }
 
-/// Returns the source of a program as it was written.
+/// Returns the text of a program as it was written, or nothing if it is an image.
 fn source_of(program: &[u8]) -> &[u8]
     ensures { result.now ≡ source_of program.now }
 {
     if is_image_file(program) { &[] } else { program }
 }
 
-/// The page of a program and a schedule.
+/// Returns the page of a program's run under a schedule, or why there is none.
 fn page_of(
     alloc: Global,
     others: OtherRuns,

@@ -44,6 +44,7 @@ impl Pauses {
 
 /// What a worker passes before each of its turns: a pause, and a gate behind it.
 pub trait Pausing {
+    /// Passes the gate after a pause, before turn `step` of a thread.
     fn pass_after(&self, pause: Pause, thread: u8, step: u32);
 }
 
@@ -56,6 +57,7 @@ impl<G: Gate> Pausing for G {
 }
 
 impl<'a, G: Pausing> Gate for RunGate<'a, G> {
+    /// Passes the other gate after the seed's pause for this turn, or after none without a seed.
     fn pass(&self, thread: u8, step: u32) {
         let pause = match self.stirred {
             Some(stirred) => stirred.pause(thread, step),

@@ -23,7 +23,7 @@ pub trait Picture {
     // Which picture it is.
     ghost kind: { PictureKind };
 
-    /// The picture of a program and a schedule. It is there as a whole or not at all.
+    /// Returns the picture of a program's run under a schedule as a whole, or why there is none.
     fn of(&self, alloc: Global, program: Program<'_>, schedule: &[u8]) -> Result<Shown, Fault>
         requires { length schedule.now ≤ most_bytes }
         ensures picture { IfOk result (λ shown. is_picture self.now program.entry schedule.now shown.bytes.items) }
@@ -32,7 +32,7 @@ pub trait Picture {
         ensures other { (result ≢ Err Fault.Read) × (result ≢ Err Fault.Write) × (result ≢ Err Fault.Spawn) };
 }
 
-/// Where a schedule has no picture of this kind.
+/// Returns a page's fault as a command's fault for a picture of this kind.
 pub fn fault_of(fault: PageFault, kind: PictureKind) -> Fault
     ensures { result ≡ fault_of fault kind }
 {
@@ -44,7 +44,7 @@ pub fn fault_of(fault: PageFault, kind: PictureKind) -> Fault
     }
 }
 
-/// Where a program isn't loaded.
+/// Returns the fault of a program that can't be loaded, as a command's fault.
 pub(crate) fn start_fault(fault: StartFault) -> Fault
     ensures { result ≡ start_fault fault }
 {

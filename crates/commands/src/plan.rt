@@ -41,7 +41,7 @@ fn thread_name<'a>(symbols: &Symbols<'a>, thread: u32) -> &'a [u8]
     }
 }
 
-/// Returns the names of so many threads.
+/// Returns the names of the first `count` threads, each empty if the thread has none.
 pub fn thread_names<'a>(
     alloc: Global,
     symbols: &Symbols<'a>,
@@ -80,7 +80,7 @@ pub fn loaded_program<'a>(
     }
 }
 
-/// The words of a plan.
+/// Returns the words of a plan for threads of these names, or what is wrong with them.
 fn plan_words(alloc: Global, plan: &[u8], names: &[&[u8]]) -> Result<Words, Unplanned>
     requires { length names.now ≤ 64 }
     ensures words { IfOk result (λ words. words_in_plan (map name_seen names.now) plan.now ≡ Ok words) }
@@ -126,7 +126,7 @@ pub(crate) fn planned_on(
     }
 }
 
-/// Plays a plan on a copy of a program, and returns the result.
+/// Plays a plan on a copy of a program. Returns its runs of choices, and the machine after them.
 pub fn planned_in(alloc: Global, program: &Program<'_>, plan: &[u8]) -> Result<Planned, Unplanned>
     ensures planned { IfOk result (λ planned. (progress : Progress) × (ComesOfPlan program.now plan.now progress
         × Shows planned progress)) }
@@ -142,8 +142,7 @@ pub fn planned_in(alloc: Global, program: &Program<'_>, plan: &[u8]) -> Result<P
     planned_on(alloc, loaded, names.as_slice(), plan)
 }
 
-/// Writes what a plan came to, by the names of the threads if they are given. Its answer is whether the plan wanted one more choice
-/// than there may be.
+/// Writes a plan's choices as a line, by names if given. Returns whether the plan was cut off.
 fn push_planned<K: Sink>(
     alloc: Global,
     planned: &Planned,
@@ -209,7 +208,7 @@ pub fn plan<K: Sink>(
     push_planned(alloc, &planned, None, output)
 }
 
-/// Writes it with the names of the threads in place of numbers, so that it is a plan; else as `plan` does.
+/// Does what `plan` does, but writes names in place of numbers, so that the line is a plan.
 pub fn plan_with_names<K: Sink>(
     alloc: Global,
     program: Program<'_>,

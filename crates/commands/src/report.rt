@@ -21,7 +21,7 @@ use workbench::fault::Fault;
 /// The most bytes that a text has of which there can be another one in memory.
 const LONGEST: usize = 9_223_372_036_854_775_806;
 
-/// Returns what follows the word of a state in which a thread has died.
+/// Returns `+died` if a thread of this state has died, or else nothing.
 fn died_mark(state: &EndState) -> &'static [u8]
     ensures { result.now ≡ died_mark state.now.text.items }
 {
@@ -32,7 +32,7 @@ fn died_mark(state: &EndState) -> &'static [u8]
     }
 }
 
-/// Adds the seed before a schedule, if there is one, as plans have it.
+/// Appends the seed as a plan has it, as `?7 `, if there is one.
 #[tactic(auto, using(crate::proofs::Reports::text_steps))]
 fn push_seed(text: &mut Vec<u8>, seed: Option<u64>) -> Result<(), AllocError>
     ensures { OnOk result (text.new.items ≡ text.old.items ++ seed_mark seed) }
@@ -45,7 +45,7 @@ fn push_seed(text: &mut Vec<u8>, seed: Option<u64>) -> Result<(), AllocError>
     Ok(())
 }
 
-/// Adds a schedule as it is, or by these names. The schedule of a run has no fault; one that has a fault stays as it is.
+/// Appends a schedule, by these names if there are some. One with a fault stays as it is.
 fn push_schedule(
     alloc: Global,
     text: &mut Vec<u8>,
@@ -68,7 +68,7 @@ fn push_schedule(
     }
 }
 
-/// Adds the seed and the schedule of an outcome, and ends its line.
+/// Appends the seed, the schedule and the line end of an outcome.
 #[tactic(auto, using(crate::proofs::Reports::text_steps))]
 fn push_order(
     alloc: Global,
@@ -85,7 +85,7 @@ fn push_order(
     text.extend_from_slice(b"\n")
 }
 
-/// Appends the line of an outcome. Its schedule has these names, if there are some.
+/// Appends an outcome's line: how many runs ended so, the state's word, and the first's schedule.
 #[tactic(auto, using(crate::proofs::Reports::text_steps))]
 fn push_line(
     alloc: Global,
@@ -147,14 +147,14 @@ pub fn push_report<K: Sink>(
     }
 }
 
-/// Whether runs that ended in a state ended as they were expected to.
+/// Returns whether a state is as all these texts expect.
 fn is_as_expected(expected: &[Vec<u8>], state: &EndState) -> bool
     ensures { result ≡ are_met state.now.text.items expected.now }
 {
     are_met(state.text.as_slice(), expected)
 }
 
-/// Whether all runs ended as they were expected to.
+/// Returns whether every state that a run ended in is as all these texts expect.
 fn are_as_expected(expected: &[Vec<u8>], outcomes: &Outcomes) -> bool
     ensures { result ≡ are_as_expected expected.now outcomes.now.entries }
 {
@@ -168,7 +168,7 @@ fn are_as_expected(expected: &[Vec<u8>], outcomes: &Outcomes) -> bool
     true
 }
 
-/// Returns the result for these outcomes: whether all runs ended as expected.
+/// Returns `AsAsked` if all runs ended as expected, or else `Unlike`.
 pub fn done_by(expected: &[Vec<u8>], outcomes: &Outcomes) -> Done
     ensures { result ≡ done_by expected.now outcomes.now.entries }
 {

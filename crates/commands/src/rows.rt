@@ -1,3 +1,4 @@
+// The listing of a program's rows.
 ghost use Rattle.std.specs.Prelude.{IfOk};
 ghost use Rattle.commands.specs.Rows.{IsRowListing, ListsRows};
 ghost use Rattle.workbench.specs.ProgramFile.{IsNamedProgram};
@@ -10,9 +11,8 @@ use std::alloc::{AllocError, Global};
 use workbench::Program;
 use workbench::fault::Fault;
 
-/// Writes the rows of a program to `output`, a line each: the row's number, of a text the
-/// number of its line and the line without the blanks round it, of an image the row's canonical text. Whether the program
-/// can be loaded is not looked at. The listing is written in one piece.
+/// Writes the rows of a program, a line each: the row's number, and then, for a text, its line's number and that line, or,
+/// for an image, its canonical text. It doesn't check whether the program can be loaded.
 pub fn list_rows<K: Sink>(alloc: Global, program: &Program<'_>, output: &mut K) -> Result<(), Fault>
     requires { IsNamedProgram program.now.bytes.now program.now.image program.now.names }
     ensures { ListsRows program.now.bytes.now result (K.written output.old) (K.written output.new) (K.has_failed output.new) }
@@ -26,7 +26,7 @@ pub fn list_rows<K: Sink>(alloc: Global, program: &Program<'_>, output: &mut K) 
     }
 }
 
-/// The rows of a program.
+/// Returns the listing of a program's rows, by its text or else by its image.
 fn listed(alloc: Global, program: &Program<'_>) -> Result<Vec<u8>, AllocError>
     requires { IsNamedProgram program.now.bytes.now program.now.image program.now.names }
     ensures { IfOk result (λ listing. IsRowListing program.now.bytes.now listing.items) }

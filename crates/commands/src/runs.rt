@@ -22,7 +22,7 @@ use thread_runner::{Gate, LiveRun, run_live};
 use workbench::fault::Fault;
 use workbench::live::fault_of_live;
 
-/// One run of a program.
+/// Plays a copy of a program on real threads, with at most `limit` steps.
 fn run_once<R: Threads + Wait + Sync, G: Gate + Sync>(
     rt: &R,
     alloc: Global,
@@ -46,7 +46,7 @@ fn run_once<R: Threads + Wait + Sync, G: Gate + Sync>(
     }
 }
 
-/// A schedule with a token for choices that repeat, as it is shown.
+/// Returns a schedule in which choices that repeat have one token, as it is shown.
 fn shown(alloc: Global, schedule: &[u8]) -> Result<String, Fault>
     requires { length schedule.now ≤ 4000000000 }
     ensures fault { OnOk result ((finished_schedule schedule.now).fault ≡ None) }
@@ -68,7 +68,7 @@ fn shown(alloc: Global, schedule: &[u8]) -> Result<String, Fault>
     }
 }
 
-/// Adds what a run came to.
+/// Counts the state in which a live run ended, with the run's schedule.
 fn add_run(alloc: Global, run: &LiveRun, outcomes: &mut Outcomes) -> Result<(), Fault>
     requires few { length run.now.schedule.items ≤ 4000000000 }
     requires outcomes { (other : EndState) → IfSome (get is_state outcomes.old other) (λ outcome. outcome.times < 4294967295) }
@@ -88,8 +88,8 @@ fn add_run(alloc: Global, run: &LiveRun, outcomes: &mut Outcomes) -> Result<(), 
     }
 }
 
-/// Plays a program so often, each run with the pauses of its number, and adds what the runs came to. Behind these pauses the threads
-/// pass `gate`.
+/// Plays a program `count` times, and counts the states in which the runs ended. The threads of each run pause as its number
+/// says, and then pass `gate`.
 pub fn add_runs<R: Threads + Wait + Sync, G: Pausing + Sync>(
     rt: &R,
     alloc: Global,

@@ -60,7 +60,7 @@ pub struct Unlike {
     pub state: Vec<u8>,
 }
 
-/// Appends the most choices of an order, if that is given.
+/// Appends `*` and the most choices of an order, if that is given.
 #[tactic(auto, using(crate::proofs::Reports::text_steps))]
 fn push_limit(text: &mut Vec<u8>, limit: Option<u32>) -> Result<(), AllocError>
     ensures { OnOk result (text.new.items ≡ text.old.items ++ limit_mark limit) }
@@ -72,7 +72,7 @@ fn push_limit(text: &mut Vec<u8>, limit: Option<u32>) -> Result<(), AllocError>
     Ok(())
 }
 
-/// The plan of a seed: this plan, and then anybody who can go on, in the order of the seed, up to the limit.
+/// Returns a plan that does what `plan` says and then makes choices by the seed, up to the limit.
 #[tactic(auto, using(crate::proofs::Reports::text_steps))]
 fn plan_by(alloc: Global, plan: &[u8], limit: Option<u32>, seed: u64) -> Result<Vec<u8>, AllocError>
     ensures { IfOk result (λ text. text.items ≡ plan_by plan.now limit seed) }
@@ -84,7 +84,7 @@ fn plan_by(alloc: Global, plan: &[u8], limit: Option<u32>, seed: u64) -> Result<
     Ok(text)
 }
 
-/// Returns how a machine's run ended if nothing more is played: what could go on is `live`.
+/// Returns how a machine's run ended if nothing more is played. `Limit` means it could go on.
 fn ending_of(machine: &Machine) -> Ending
     ensures { standing_at result ≡ standing_of (world_of machine.now) }
 {
@@ -95,7 +95,7 @@ fn ending_of(machine: &Machine) -> Ending
     }
 }
 
-/// Returns what is reported about the run of this seed that ended in this state, if another end was expected.
+/// Returns the run of this seed if it ended unlike expected, or else `None`.
 #[tactic(auto, using(crate::proofs::Seeded::judged))]
 fn judged(
     alloc: Global,
@@ -118,7 +118,7 @@ fn judged(
     }))
 }
 
-/// Plays the plan of a seed on a copy of a program.
+/// Plays a plan, and then choices by a seed, on a copy of a program.
 fn planned_by_seed(
     alloc: Global,
     program: &Loaded,
@@ -144,7 +144,7 @@ fn planned_by_seed(
     planned_on(alloc, program, names, text.as_slice())
 }
 
-/// Adds the outcome of an order, which was played so far. Returns the run if it ended differently than expected.
+/// Counts the state in which a seed's run ended. Returns the run if it ended unlike expected.
 fn add_planned(
     alloc: Global,
     planned: &Planned,
@@ -166,7 +166,7 @@ fn add_planned(
     Ok(unlike)
 }
 
-/// Adds the outcome of the order of a seed. Returns its run if that ended differently than expected.
+/// Plays a seed's run and counts its end. Returns the run if it ended unlike expected.
 fn add_order(
     alloc: Global,
     program: &Loaded,
@@ -203,7 +203,7 @@ struct Tally {
     unlike: Option<Unlike>,
 }
 
-/// Plays the orders of all seeds, and counts the states that they end in.
+/// Plays each seed's run. Returns how many ended in each state, and the first unlike expected.
 fn counted(
     alloc: Global,
     program: &Loaded,
@@ -232,7 +232,7 @@ fn counted(
     Ok(Tally { outcomes, unlike })
 }
 
-/// Plays the orders of all seeds, and returns their outcomes, sorted.
+/// Does what `counted` does, and puts the most frequent state first.
 fn tally_of(
     alloc: Global,
     program: Loaded,
@@ -260,7 +260,7 @@ fn tally_of(
     }
 }
 
-/// Plays the orders of all seeds on a program. Returns their outcomes, sorted, and the names of the threads.
+/// Loads a program and does what `tally_of` does. Also returns the names of the threads.
 fn tally_in<'a>(
     alloc: Global,
     program: Program<'a>,
@@ -284,10 +284,9 @@ fn tally_in<'a>(
     }
 }
 
-/// Plays, for each seed, a plan and then any thread that can go on, in the order of the seed, on a program. Writes to `output`
-/// a line for each state that a run ended in, the most frequent first, as `report_runs` does for live runs: how often one did,
-/// `all`, `stuck` or `live`, with `+died` if a thread died, and the seed and the schedule of the first that did. Returns the
-/// first run that ended differently than expected, if one did.
+/// Plays, for each seed, a plan and then choices by the seed on a program. Writes a line for each state that a run ended in,
+/// the most frequent first: how often one did, `all`, `stuck` or `live`, with `+died` if a thread died, and the seed and the
+/// schedule of the first that did. Returns the first run that ended differently than expected, if one did.
 pub fn report_seeds<K: Sink>(
     alloc: Global,
     program: Program<'_>,

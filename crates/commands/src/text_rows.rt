@@ -10,7 +10,7 @@ use itoa::Buffer;
 use line_reader::words::is_line_end;
 use std::alloc::{AllocError, Global};
 
-/// Returns what is between the line ends of a text. After the last one it may be empty.
+/// Returns the lines of a text without their LF. What follows the last LF is one, even if empty.
 fn split_lines(alloc: Global, text: &[u8]) -> Result<Vec<&[u8]>, AllocError>
     ensures { IfOk result (λ lines. map name_seen lines.items ≡ slice_split is_line_end text.now) }
 {
@@ -19,7 +19,7 @@ fn split_lines(alloc: Global, text: &[u8]) -> Result<Vec<&[u8]>, AllocError>
     Ok(lines)
 }
 
-/// The line of this number, from 1.
+/// Returns the line of this number, from 1, or an empty one if there is none.
 fn line_at<'a>(lines: &[&'a [u8]], number: u64) -> &'a [u8]
     ensures { result.now ≡ line_at (map name_seen lines.now) number }
 {
@@ -29,14 +29,14 @@ fn line_at<'a>(lines: &[&'a [u8]], number: u64) -> &'a [u8]
     }
 }
 
-/// A line without the blanks round it.
+/// Returns a line without the blanks at its ends.
 fn trimmed(line: &[u8]) -> &[u8]
     ensures { result.now ≡ trimmed line.now }
 {
     line.trim_ascii()
 }
 
-/// Appends a row's line after the two numbers.
+/// Appends a line of the listing: the row's number, the number of its line in the text, the line.
 #[tactic(auto, using(line_reader::proofs::ListedTexts::word_steps))]
 fn push_text_row(
     listing: &mut Vec<u8>,
@@ -55,7 +55,7 @@ fn push_text_row(
     listing.extend_from_slice(b"\n")
 }
 
-/// The rows that stand in the lines of these numbers.
+/// Appends a line for each row. Row 0 is in the line of the first number, and so on.
 #[tactic(auto, using(line_reader::proofs::ListedTexts::text_steps))]
 fn push_text_rows(listing: &mut Vec<u8>, lines: &[&[u8]], numbers: &[u64]) -> Result<(), AllocError>
     ensures { OnOk result (listing.new.items ≡ listing.old.items
@@ -67,7 +67,7 @@ fn push_text_rows(listing: &mut Vec<u8>, lines: &[&[u8]], numbers: &[u64]) -> Re
     Ok(())
 }
 
-/// Returns the rows of a text that are in the lines of these numbers.
+/// Returns the listing of a text whose rows are in the lines of these numbers, from 1.
 pub fn rows_in_text(alloc: Global, text: &[u8], numbers: &[u64]) -> Result<Vec<u8>, AllocError>
     ensures { IfOk result (λ listing. listing.items
         ≡ flat_map line_text (numbered (text_row_words (lines_of text.now)) 0 numbers.now)) }

@@ -26,7 +26,7 @@ impl From<Fault> for Unplanned {
     }
 }
 
-/// The line of a plan's fault in this line of the plan, by the kind's number.
+/// Writes `refused plan LINE NUMBER`, or `memory` for a fault without a number.
 fn push_plan_line<E: Sink>(errors: &mut E, line: u64, number: Option<u8>) -> Result<(), Failed>
     ensures bytes { OnOk result (Appends (E.written errors.old) (E.written errors.new)
         (plan_line line number)) }
@@ -43,7 +43,7 @@ fn push_plan_line<E: Sink>(errors: &mut E, line: u64, number: Option<u8>) -> Res
 }
 
 impl Unplanned {
-    /// The program's exit status.
+    /// Returns the exit status: 3 for a plan's fault, 4 if out of memory, or the other fault's own.
     pub fn status(self) -> u8
         ensures { result ≡ unplanned_status self }
     {
@@ -56,7 +56,7 @@ impl Unplanned {
         }
     }
 
-    /// Writes the line for standard error, piece by piece and without memory.
+    /// Writes the line of this fault for standard error, in pieces and without memory.
     pub fn tell<E: Sink>(self, errors: &mut E) -> Result<(), Failed>
         ensures bytes { OnOk result (Appends (E.written errors.old) (E.written errors.new)
             (unplanned_line self)) }

@@ -5,7 +5,7 @@ ghost use Rattle.commands.specs.Showing.{StandsBehind, line_behind, wanted};
 use std::alloc::{AllocError, Global};
 use trace_compare::{Judged, Verdict};
 
-/// Appends a line after a word, or only the word if there is no line.
+/// Appends a word, a blank, a line and an LF, or only the word and an LF if there is no line.
 fn push_line(text: &mut Vec<u8>, word: &[u8], line: Option<&[u8]>) -> Result<(), AllocError>
     ensures { OnOk result (text.new.items ≡ text.old.items ++ line_behind word.now (option_map (λ l. l.now) line.entry)) }
 {
@@ -17,7 +17,7 @@ fn push_line(text: &mut Vec<u8>, word: &[u8], line: Option<&[u8]>) -> Result<(),
     text.extend_from_slice(b"\n")
 }
 
-/// The trace's line and the run's.
+/// Returns the lines `trace ..` and `run ..`, each with only the word if there is no such line.
 fn differing(alloc: Global, trace: Option<&[u8]>, run: Option<&[u8]>) -> Result<Vec<u8>, AllocError>
     ensures { IfOk result (λ text. text.items ≡ line_behind (codes "trace") (option_map (λ l. l.now) trace.entry)
         ++ line_behind (codes "run") (option_map (λ l. l.now) run.entry)) }
@@ -28,7 +28,7 @@ fn differing(alloc: Global, trace: Option<&[u8]>, run: Option<&[u8]>) -> Result<
     Ok(text)
 }
 
-/// A line of what is no trace, and what it would have to be.
+/// Returns the line `trace ..`, and one that says what a trace's line may be.
 fn not_a_trace(alloc: Global, trace: Option<&[u8]>) -> Result<Vec<u8>, AllocError>
     ensures { IfOk result (λ text. text.items ≡ line_behind (codes "trace") (option_map (λ l. l.now) trace.entry) ++ wanted) }
 {
@@ -40,7 +40,7 @@ fn not_a_trace(alloc: Global, trace: Option<&[u8]>) -> Result<Vec<u8>, AllocErro
     Ok(text)
 }
 
-/// Returns what follows a verdict: nothing if the trace is the run's.
+/// Returns the lines that follow a verdict: none if the trace is the run's.
 pub fn shown(alloc: Global, judged: &Judged) -> Result<Vec<u8>, AllocError>
     ensures { IfOk result (λ text. StandsBehind judged.now.told.verdict judged.now.trace judged.now.told.line text.items) }
 {

@@ -1,4 +1,4 @@
-//! The commands.
+//! Writes a picture of a run, once it is whole.
 ghost use Rattle.std.specs.Prelude.{◌≡◌, ◌≢◌, ◌⊎◌, ◌≤◌, Err, IfErr, IfOk, IsTrue, OnOk, false, length};
 ghost use Rattle.commands.specs.Pictures.{HasMade, HasMissing, HasWritten, HaveNone, program_of, schedule_behind};
 ghost use Rattle.pictures.specs.Missing.{IsMissingIn};
@@ -16,9 +16,8 @@ use workbench::fault::Fault;
 use workbench::input::read_all;
 use workbench::run_line::split_at_run;
 
-/// Writes the picture of a program under the schedule in `schedule` to `output`. The schedule is read to its end and the picture is
-/// whole before anything is written, so only after `Write` a part of it may stand. Answers the choice of a thread that isn't there,
-/// with its place from 1, if one ended the run.
+/// Writes the picture of a program under the schedule in `schedule` to `output`, once it is whole. Returns the choice of a
+/// thread that doesn't exist, with its place from 1, if one ended the run.
 pub fn make<P: Picture, S: Source, K: Sink>(
     alloc: Global,
     picture: &P,
@@ -55,7 +54,7 @@ pub fn parts_of(file: &[u8]) -> (&[u8], &[u8])
     }
 }
 
-/// Writes the picture of a program and a schedule, once it is whole.
+/// Writes the picture of a program and a schedule, once it is whole. Returns what `make` returns.
 fn write<P: Picture, K: Sink>(
     alloc: Global,
     picture: &P,

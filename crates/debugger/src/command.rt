@@ -1,3 +1,4 @@
+// Reads a line of a session: its first word, which is one letter, and what follows it.
 ghost use Rattle.std.specs.Prelude.{◌≡◌, OnErr, true, false, ◌==◌, ◌+◌, ◌≤◌, ◌<◌, ◌∷◌, [], IfOk, IfSome, length};
 ghost use Rattle.std.specs.List.{list_all, list_any, position, position_or_len};
 ghost use Rattle.std.specs.Option.{option_map};
@@ -34,7 +35,7 @@ pub enum Command {
 }
 
 impl Command {
-    /// Returns whether the session goes on after it.
+    /// Returns whether the session goes on after this command: only `Quit` ends it.
     pub fn goes_on(&self) -> bool
         ensures { result ≡ goes_on (order_of self.now) }
     {
@@ -46,21 +47,21 @@ impl Command {
     }
 }
 
-/// Where the first word begins.
+/// Returns the place of the first byte that is no blank, or `None` if there is none.
 fn place_of_word(line: &[u8]) -> Option<usize>
     ensures { result ≡ position is_letter line.now }
 {
     line.iter().position(|byte| !is_blank(*byte))
 }
 
-/// Where the first blank stands.
+/// Returns the place of the first blank, or `None` if there is none.
 fn place_of_blank(line: &[u8]) -> Option<usize>
     ensures { result ≡ position is_blank line.now }
 {
     line.iter().position(|byte| is_blank(*byte))
 }
 
-/// How many bytes stand before the first word.
+/// Returns how many blanks a line begins with.
 #[tactic(auto, using(crate::proofs::Places::position_some, crate::proofs::Places::position_none))]
 fn length_before_word(line: &[u8]) -> usize
     ensures length { result ≡ position_or_len is_letter line.now }
@@ -72,7 +73,7 @@ fn length_before_word(line: &[u8]) -> usize
     }
 }
 
-/// How many bytes stand before the first blank.
+/// Returns how many bytes precede the first blank: all if there is none.
 #[tactic(auto, using(crate::proofs::Places::position_some, crate::proofs::Places::position_none))]
 fn length_before_blank(line: &[u8]) -> usize
     ensures length { result ≡ position_or_len is_blank line.now }
@@ -84,7 +85,7 @@ fn length_before_blank(line: &[u8]) -> usize
     }
 }
 
-/// The first word, and what stands after it.
+/// Returns the first word, without the blanks before it, and what follows it.
 fn split_word(line: &[u8]) -> (&[u8], &[u8])
     ensures word { result.0.now ≡ word_of line.now }
     ensures rest { result.1.now ≡ rest_of line.now }
@@ -95,7 +96,7 @@ fn split_word(line: &[u8]) -> (&[u8], &[u8])
     (&from[..end], &from[end..])
 }
 
-/// The letter of a word that is one, else 0.
+/// Returns the only byte of a word, or 0 if it has more or none.
 fn letter_of(word: &[u8]) -> u8
     ensures letter { result ≡ letter_of word.now }
     ensures some { 0 < result → 0 < length word.now }
@@ -106,21 +107,21 @@ fn letter_of(word: &[u8]) -> u8
     }
 }
 
-/// Whether these bytes are all blank.
+/// Returns whether all of these bytes are blanks.
 fn are_blank(rest: &[u8]) -> bool
     ensures { result ≡ list_all is_blank rest.now }
 {
     rest.iter().all(|byte| is_blank(*byte))
 }
 
-/// Whether a star is among these bytes.
+/// Returns whether `*` is among these bytes.
 fn has_star(rest: &[u8]) -> bool
     ensures { result ≡ list_any (λ byte. byte == 42) rest.now }
 {
     rest.iter().any(|byte| *byte == b'*')
 }
 
-/// The runs of some tokens, if they are all faultless.
+/// Returns the runs that these tokens name, or `None` if they have a fault.
 fn runs_in(alloc: Global, tokens: &[u8]) -> Result<Option<Vec<Run>>, AllocError>
     requires { length tokens.now < 9223372036854775807 }
     ensures { IfOk result (λ runs. option_map (λ r. r.items) runs ≡ runs_in tokens.now) }
@@ -132,7 +133,7 @@ fn runs_in(alloc: Global, tokens: &[u8]) -> Result<Option<Vec<Run>>, AllocError>
     }
 }
 
-/// The command `g` over these runs, if the tokens had no fault.
+/// Returns the command `g` with these runs, or `Unknown` if the tokens had a fault.
 fn go_of(runs: Option<Vec<Run>>) -> Command
     ensures { order_of result ≡ go_by (option_map (λ r. r.items) runs) }
 {
@@ -142,7 +143,7 @@ fn go_of(runs: Option<Vec<Run>>) -> Command
     }
 }
 
-/// The command `s` over these runs, if the tokens had no fault: one, and without a star.
+/// Returns the command `s` if there is one choice and no star, or else `Unknown`.
 fn step_of(runs: Option<Vec<Run>>, tokens: &[u8]) -> Command
     ensures { order_of result ≡ step_by (option_map (λ r. r.items) runs) tokens.now }
 {
@@ -155,7 +156,7 @@ fn step_of(runs: Option<Vec<Run>>, tokens: &[u8]) -> Command
     }
 }
 
-/// The command, where no word comes after it.
+/// Returns this command if only blanks follow its letter, or else `Unknown`.
 fn alone(command: Command, rest: &[u8]) -> Command
     ensures { order_of result ≡ alone (order_of command) rest.now }
 {
@@ -166,14 +167,14 @@ fn alone(command: Command, rest: &[u8]) -> Command
     }
 }
 
-/// Whether a word is a row's number: one to five digits.
+/// Returns whether a word may be a row's number: one to five digits.
 fn is_row(word: &[u8]) -> bool
     ensures { result ≡ is_row word.now }
 {
     !word.is_empty() && word.len() <= 5 && are_digits(word)
 }
 
-/// The number of a row, where there is one and no other word.
+/// Returns the row's number if it is the only word, or else `None`.
 fn row_in(rest: &[u8]) -> Option<usize>
     ensures { result ≡ row_in rest.now }
 {
@@ -185,7 +186,7 @@ fn row_in(rest: &[u8]) -> Option<usize>
     }
 }
 
-/// The command `k` at this row, if one was named.
+/// Returns the command `k` with this row, or `Unknown` if there is none.
 fn break_of(row: Option<usize>) -> Command
     ensures { order_of result ≡ by_row Break row }
 {
@@ -195,7 +196,7 @@ fn break_of(row: Option<usize>) -> Command
     }
 }
 
-/// The command `c` at this row, if one was named.
+/// Returns the command `c` with this row, or `Unknown` if there is none.
 fn clear_of(row: Option<usize>) -> Command
     ensures { order_of result ≡ by_row Clear row }
 {
@@ -205,7 +206,7 @@ fn clear_of(row: Option<usize>) -> Command
     }
 }
 
-/// The thread that the digits name which end a line of `g`, a space and a turn.
+/// Returns the thread, 0 to 63, that one or two digits name, or `None`.
 fn thread_of(digits: &[u8]) -> Option<u8>
     ensures { IfSome result (λ thread. line_order (103 ∷ 32 ∷ 116 ∷ digits.now)
         ≡ Go (run_of (choice_of false thread) 1 ∷ [])) }
@@ -224,7 +225,7 @@ fn thread_of(digits: &[u8]) -> Option<u8>
     }
 }
 
-/// The turn of a line that is read at one look: `g`, a space and a turn that is named once.
+/// Returns the turn of a line such as `g t2`, or `None`. It is frequent, and needs no memory.
 pub fn lone_turn(line: &[u8]) -> Option<Run>
     ensures turn { IfSome result (λ run. line_order line.now ≡ Go (run ∷ [])) }
 {
@@ -240,7 +241,7 @@ pub fn lone_turn(line: &[u8]) -> Option<Run>
     }
 }
 
-/// Reads what a line asks for. The runs of `s` and `g` are read into memory; it fails where that runs out.
+/// Returns the command that a line stands for. Fails if it is out of memory for runs of `s` or `g`.
 pub fn command_of(alloc: Global, line: &[u8]) -> Result<Command, AllocError>
     ensures order { IfOk result (λ command. order_of command ≡ line_order line.now) }
     ensures choices { OnErr result (has_choices line.now ≡ true) }

@@ -1,3 +1,4 @@
+// The breakpoints at the rows of a program.
 ghost use Rattle.std.specs.Prelude.{◌≡◌, IfOk, false, length, nat_lt, replicate, slice_index_or, slice_set};
 
 use std::alloc::{AllocError, Global};
@@ -50,7 +51,7 @@ impl Marks {
         }
     }
 
-    /// Returns whether there may be a breakpoint.
+    /// Returns whether a breakpoint was ever set. If not, no row has one.
     pub fn are_there(&self) -> bool
         ensures { result ≡ false → self.now ≡ replicate (length self.now) false }
     {

@@ -1,3 +1,4 @@
+// Builds a line with one number in a buffer of fixed size, from its end.
 ghost use Rattle.std.specs.Prelude.{◌≡◌, ◌+◌, ◌≤◌, ◌++◌, [], length, drop};
 ghost use Rattle.std.specs.Fmt.{decimal};
 
@@ -6,7 +7,7 @@ use itoa::write_digits;
 /// The most bytes of such a line.
 pub const ROOM: usize = 40;
 
-/// Puts a word before what stands from a place on, and answers where it begins.
+/// Puts a word before place `from` of a buffer, and returns the place of its first byte.
 #[inline(always)]
 fn put_before(bytes: &mut [u8; ROOM], from: usize, word: &[u8]) -> usize
     requires from { from ≤ 40 }
@@ -19,8 +20,7 @@ fn put_before(bytes: &mut [u8; ROOM], from: usize, word: &[u8]) -> usize
     start
 }
 
-/// Puts a word, a number and a line end at the end of a buffer, and returns where the word begins, so that the line is written
-/// in one piece. If the words are known at compile time, their bytes are stored without a call.
+/// Puts a word, a number and `end` at the end of a buffer, and returns the word's place.
 #[inline(always)]
 pub fn put_number_line(bytes: &mut [u8; ROOM], word: &[u8], number: u64, end: &[u8]) -> usize
     requires { length word.now + length end.now ≤ 20 }

@@ -1,3 +1,4 @@
+// The choices that a session has played and not taken back.
 ghost use Rattle.std.specs.Prelude.{◌≡◌, ◌≤◌, ◌<◌, ◌+◌, ◌-◌, ◌++◌, ◌∷◌, [], All, None, OnOk, Some, length, replicate, take};
 ghost use Rattle.schedule_reader.specs.Schedule.{IsRun, choices_of};
 
@@ -25,7 +26,7 @@ impl Model for Played {
     ghost invariant = { λ played. All (λ run. 0 < run.times) played.runs.items };
 }
 
-/// Both runs as one, where they are of one choice and a token can name it so often.
+/// Returns both runs as one if they have the same choice, at most 1,000,000,000 times, or `None`.
 fn joined(last: Run, run: Run) -> Option<Run>
     ensures one { (both : Run) → result ≡ Some both → (both.choice ≡ run.choice) × (last.choice ≡ run.choice)
         × (both.times ≡ last.times + run.times) × (both.times ≤ 1000000000) }
@@ -44,7 +45,7 @@ fn joined(last: Run, run: Run) -> Option<Run>
 }
 
 impl Played {
-    /// Makes the choices of a session that has played none.
+    /// Returns the choices of a session that has played none.
     pub fn new(alloc: Global) -> Played
         ensures { result ≡ [] }
     {
@@ -60,7 +61,7 @@ impl Played {
         self.runs.as_slice()
     }
 
-    /// The choices of one run more.
+    /// Appends the choices of a run. If they repeat the last choice, they are joined to its run.
     fn push(&mut self, run: Run) -> Result<(), AllocError>
         ensures choices { OnOk result (choices_of self.new ≡ choices_of self.old ++ replicate run.times run.choice) }
         ensures runs { run.choice.thread ≤ 63 → run.times ≤ 1000000000 → All IsRun self.old → All IsRun self.new }

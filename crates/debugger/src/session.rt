@@ -1,3 +1,4 @@
+// A session: a machine, what takes back its last choices, and its breakpoints.
 ghost use Rattle.std.specs.Prelude.{◌≡◌, ◌↔◌, ◌+◌, ◌-◌, ◌<◌, ◌≤◌, ◌++◌, ◌∷◌, [], List, length, take, replicate, slice_set, nat_lt, IfOk, OnOk, OnErr, IsErr, true, false, Some, None};
 ghost use Rattle.thread_machine.specs.World.{World, world_of};
 ghost use Rattle.thread_machine.specs.Step.{played, refusal_of, puts_out};
@@ -47,7 +48,7 @@ struct Room {
 }
 
 impl Room {
-    /// Allocates what undoes so many choices, and a mark for each row.
+    /// Allocates room to take back `kept` choices, and a mark for each row.
     fn new(alloc: Global, rows: usize, kept: u16) -> Result<Room, AllocError>
         requires { 0 < kept }
         ensures undos { IfOk result (λ room. room.undos ≡ record { notes = []; most = kept }) }
@@ -60,8 +61,7 @@ impl Room {
 }
 
 impl Debugger {
-    /// Makes a debugger that can take back so many of the last choices. It has no breakpoints yet. Only this call allocates,
-    /// and a value that is put out. Fails if it is out of memory.
+    /// Makes a debugger without breakpoints that can take back the last `kept` choices.
     pub fn new(alloc: Global, machine: Machine, kept: u16) -> Result<Debugger, AllocError>
         requires some { 0 < kept }
         requires few { kept ≤ 4096 }
@@ -83,15 +83,13 @@ impl Debugger {
         }
     }
 
-    /// Returns the machine as it is now.
     pub fn machine(&self) -> &Machine
         ensures { result.now ≡ self.now.machine }
     {
         &self.played
     }
 
-    /// Plays one choice, keeps what is needed to take it back, and returns its event. Fails if the machine refuses the choice.
-    /// Then the debugger is as before.
+    /// Plays one choice, and keeps what takes it back. If it fails, the debugger is as before.
     #[inline(always)]
     pub fn step(&mut self, choice: Choice) -> Result<Event, StepFault>
         ensures played { IfOk result (λ event. record { world = world_of (self.new).machine; event = event }
@@ -116,8 +114,7 @@ impl Debugger {
         Ok(event)
     }
 
-    /// Takes back the last choice: the machine is the one before it, word for word. The breakpoints stay. Fails if nothing is
-    /// kept to take back.
+    /// Takes back the last choice. The breakpoints stay. Fails if nothing is kept to take back.
     pub fn back(&mut self) -> Result<(), NoHistory>
         ensures session { self.new ≡ went_back self.old }
         ensures none { IsErr result ↔ (self.old.past ≡ []) }

@@ -1,3 +1,4 @@
+// What takes back the last choices, in a ring.
 ghost use Rattle.std.specs.Prelude.{◌≡◌, ◌<◌, [], length, slice_get, option_copied, IfOk};
 ghost use Rattle.debugger.specs.Undos.{with_note, without_newest};
 
@@ -24,8 +25,7 @@ impl Model for Undos {
 }
 
 impl Undos {
-    /// Makes a ring with room to undo so many choices. None was made yet. Only this call allocates. Fails if it is out of
-    /// memory.
+    /// Makes an empty ring with room to undo `most` choices.
     pub fn new(alloc: Global, most: u16) -> Result<Undos, AllocError>
         requires { 0 < most }
         ensures { IfOk result (λ undos. undos ≡ record { notes = []; most = most }) }
@@ -35,7 +35,7 @@ impl Undos {
         })
     }
 
-    /// Keeps what undoes one more choice.
+    /// Keeps what undoes one more choice. If the ring is full, what undoes the oldest is lost.
     #[inline(always)]
     pub fn push(&mut self, undo: Undo)
         ensures { self.new ≡ with_note undo self.old }

@@ -46,7 +46,7 @@ pub fn take_back(machine: &mut Machine, undo: Undo)
     machine.back(undo);
 }
 
-/// Plays these choices in order, and answers their events.
+/// Plays these choices in order and returns their events. It stops at a refused one.
 fn steps(
     alloc: Global,
     debugger: &mut Debugger,
@@ -72,7 +72,7 @@ fn steps(
     Ok(events)
 }
 
-/// Takes back so many of the last choices.
+/// Takes back so many of the last choices, as far as they are kept.
 fn backs(debugger: &mut Debugger, count: usize)
     ensures { debugger.new ≡ backs count debugger.old }
 {
@@ -81,8 +81,7 @@ fn backs(debugger: &mut Debugger, count: usize)
     }
 }
 
-/// Plays these choices in a session, at most as many as it can keep, and takes as many back. If one can't be played, those
-/// before it stay.
+/// Plays these choices and takes as many back. If one can't be played, those before it stay.
 pub fn steps_and_backs(
     alloc: Global,
     debugger: &mut Debugger,

@@ -12,7 +12,7 @@ use std::alloc::Global;
 use thread_machine::{Choice, Machine, StepFault};
 use trace_text::start::{StartFault, first_machine};
 
-/// Plays one choice. Whether it was accepted.
+/// Plays one choice. Returns whether it was accepted.
 #[tactic(auto, using(crate::proofs::Scenes::led_on, crate::proofs::Scenes::led_nowhere))]
 fn play_one(machine: &mut Machine, choice: Choice) -> Result<bool, StartFault>
     ensures led { IfOk result (λ accepted. Leaves (world_of machine.old) choice accepted (world_of machine.new)) }
@@ -38,8 +38,7 @@ fn play_all(machine: &mut Machine, choices: &[Choice]) -> Result<(), StartFault>
     Ok(())
 }
 
-/// Loads a program, plays these choices in order, up to the first that is refused, and returns the machine. For an accepted
-/// program the result is this machine or `Memory`.
+/// Loads a program, plays these choices up to the first that is refused, and returns the machine.
 #[tactic(auto, using(crate::proofs::Scenes::world_left))]
 pub fn play(alloc: Global, image: Image, choices: &[Choice]) -> Result<Machine, StartFault>
     ensures accepted { OnOk result (first_fault image ≡ None) }

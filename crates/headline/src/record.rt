@@ -18,8 +18,7 @@ use std::thread::Threads;
 use thread_machine::{Event, Machine};
 use thread_runner::{Gate, Journaled, LiveFault, LiveRun, TakeFault};
 
-/// Loads the program of an image. It begins in the image's first world, whatever the limit is, except for how its phasers are
-/// stored.
+/// Loads the program of an image. It begins in the image's first world, but for its phasers' words.
 #[tactic(auto, using(thread_machine::proofs::Firsts::is_first))]
 pub fn load(alloc: Global, image: Image) -> Result<Loaded, LoadFault>
     ensures fault { IfErr result (λ fault. fault ≢ LoadFault.Memory → first_fault image ≡ Some fault) }
@@ -37,7 +36,7 @@ pub fn begin(alloc: Global, program: Loaded, limit: u32) -> Result<Journaled, Al
     Journaled::new(alloc, program, limit)
 }
 
-/// What the lock of a live run protects: the machine, and the choices that led to it.
+/// Returns the machine of a record. The recorded choices have led to it.
 pub fn record(journaled: &Journaled) -> &Machine
     ensures replay { IsReplay journaled.now (recorded_world journaled.now) }
     ensures machine { world_of result.now ≡ recorded_world journaled.now }
@@ -46,7 +45,7 @@ pub fn record(journaled: &Journaled) -> &Machine
     journaled.machine()
 }
 
-/// The recorded choices, as the text of a schedule.
+/// Returns the recorded choices as the text of a schedule.
 pub fn schedule(journaled: &Journaled) -> &[u8]
     ensures text { result.now ≡ record_text journaled.now.choices }
     ensures sound { (finished_schedule result.now).fault ≡ None }
@@ -92,8 +91,7 @@ pub fn into_machine(journaled: Journaled) -> Machine
     machine
 }
 
-/// Plays a program on real threads, with at most `limit` steps. The schedule is the record of the machine. If memory is missing, the
-/// schedule is one that such a machine has played.
+/// Plays a program on real threads, at most `limit` steps. The schedule is the machine's record.
 pub fn run_live<R: Threads + Wait + Sync, G: Gate + Sync>(
     threads: &R,
     alloc: Global,

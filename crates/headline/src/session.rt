@@ -30,7 +30,7 @@ pub fn begin(alloc: Global, machine: Machine, kept: u16) -> Result<Debugger, All
     Debugger::new(alloc, machine, kept)
 }
 
-/// The machine of a session as it is now.
+/// Returns the machine of a session as it is now.
 pub fn present(debugger: &Debugger) -> &Machine
     ensures { result.now ≡ debugger.now.machine }
 {
@@ -66,7 +66,7 @@ pub fn go(debugger: &mut Debugger, runs: &[Run]) -> Stop
     debugger.go(runs)
 }
 
-/// Sets a breakpoint at a row, if there is such a row.
+/// Sets a breakpoint at a row. Returns false if there is no such row.
 pub fn set_break(debugger: &mut Debugger, row: u16) -> bool
     ensures row { result ≡ nat_lt row (length debugger.old.breaks) }
     ensures set { debugger.new ≡ record debugger.old { breaks = slice_set debugger.old.breaks row true } }
@@ -74,7 +74,7 @@ pub fn set_break(debugger: &mut Debugger, row: u16) -> bool
     debugger.set_break(row)
 }
 
-/// Clears the breakpoint at a row, if there is such a row.
+/// Clears the breakpoint at a row. Returns false if there is no such row.
 pub fn clear_break(debugger: &mut Debugger, row: u16) -> bool
     ensures row { result ≡ nat_lt row (length debugger.old.breaks) }
     ensures cleared { debugger.new ≡ record debugger.old { breaks = slice_set debugger.old.breaks row false } }

@@ -56,7 +56,7 @@ pub fn run<S: Source, K: Sink>(
     run_to_end(alloc, image, schedule, output)
 }
 
-/// Plays an image's program by commands, which may take steps back.
+/// Carries out the commands of a session on an image's program, and writes the replies.
 pub fn debug<C: Companion, K: Sink>(
     alloc: Global,
     image: Image,
@@ -72,7 +72,7 @@ pub fn debug<C: Companion, K: Sink>(
     workbench::debug::debug(alloc, image, commands, output)
 }
 
-/// `debug` after runs of choices.
+/// Plays runs of choices, and then does what `debug` does.
 pub fn debug_behind<C: Companion, K: Sink>(
     alloc: Global,
     image: Image,
@@ -90,7 +90,7 @@ pub fn debug_behind<C: Companion, K: Sink>(
     workbench::debug::debug_behind(alloc, image, runs, commands, output)
 }
 
-/// `debug` after the choices of a trace, which are played as they are read. If it isn't a trace, no command is read.
+/// Plays the choices of a trace, and then does what `debug` does, unless it is no trace.
 pub fn debug_at<T: Source, C: Companion, K: Sink>(
     alloc: Global,
     image: Image,
@@ -146,8 +146,7 @@ pub fn both_cmd<S: Source, K: Sink, E: Sink>(
     workbench::both_cmd(alloc, input, output, errors)
 }
 
-/// Compares a trace with the run of an image's program under the choices that the trace names, and writes the verdict. The trace
-/// is read piece by piece, up to the line that decides.
+/// Compares a trace with the run of an image's program, and writes the verdict.
 pub fn compare<S: Source, K: Sink>(
     alloc: Global,
     image: Image,

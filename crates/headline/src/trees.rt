@@ -68,7 +68,7 @@ pub fn declare(
     forest.declare(parent, parties, policy, phase)
 }
 
-/// A registration of so many parties with a phaser of a tree.
+/// Registers so many parties with a phaser of a tree, and returns what came of it.
 pub fn register(forest: &mut Forest, id: PhaserId, parties: u32) -> Registered
     requires { id.0 < length forest.old }
     ensures answer { result ≡ registration id.0 parties (phasers_of forest.old) }
@@ -78,7 +78,7 @@ pub fn register(forest: &mut Forest, id: PhaserId, parties: u32) -> Registered
     forest.register(id, parties)
 }
 
-/// An arrival at a phaser of a tree, or a departure.
+/// Makes one party arrive at a phaser of a tree, and deregisters it if `leave` is true.
 pub fn arrive(forest: &mut Forest, id: PhaserId, leave: bool) -> Arrived
     requires { id.0 < length forest.old }
     ensures arrival { record { phasers = phasers_of forest.new; answer = result } ≡ arrival id.0 leave (phasers_of forest.old) }
@@ -88,8 +88,8 @@ pub fn arrive(forest: &mut Forest, id: PhaserId, leave: bool) -> Arrived
     forest.arrive(id, leave)
 }
 
-/// The end of a tree's phase, after the arrival of the last party. By the counts, each party that registered with a phaser of
-/// the tree has then arrived or left, unless an unregistered party arrived in the tree.
+/// Ends the phase of a tree after its last arrival. If `ends` is true, the tree is terminated. By the counts, each party
+/// that registered has then arrived or left, unless an unregistered party arrived in the tree.
 pub fn end_phase(forest: &mut Forest, root: PhaserId, ends: bool)
     requires there { root.0 < length forest.old }
     requires root { root_at (phasers_of forest.old) root.0 ≡ root.0 }
@@ -104,7 +104,7 @@ pub fn end_phase(forest: &mut Forest, root: PhaserId, ends: bool)
     forest.finish_turn(root, ends)
 }
 
-/// The termination of a tree.
+/// Terminates the tree of a phaser.
 pub fn force(forest: &mut Forest, id: PhaserId)
     requires { id.0 < length forest.old }
     ensures phasers { phasers_of forest.new ≡ after_force id.0 (phasers_of forest.old) }

@@ -29,8 +29,8 @@ pub fn new(
     SharedPhaser::new(alloc, parties, policy, phase)
 }
 
-/// A call on the word that threads share: a registration, an arrival, a departure or a termination. It tries again until no
-/// other call has changed the word meanwhile. A look and a wait have functions of their own.
+/// Makes a registration, an arrival, a departure or a termination, and returns the reply. It tries again until no other call
+/// has changed the word meanwhile.
 pub fn make_call<R: Wait>(rt: &R, phaser: &SharedPhaser, party: &mut Party, call: Call) -> Reply
     requires prompt { (call ≢ Look) × ((phase : ℤ) → call ≢ Await phase) }
     requires phaser { phaser_of party.old ≡ phaser.now }
@@ -46,7 +46,7 @@ pub fn make_call<R: Wait>(rt: &R, phaser: &SharedPhaser, party: &mut Party, call
     }
 }
 
-/// The same with at most so many tries, for a caller that must not wait. If each was lost, no call was made.
+/// Does what `make_call` does, with at most so many tries. If each was lost, no call was made.
 pub fn make_call_within(
     phaser: &SharedPhaser,
     party: &mut Party,
@@ -69,7 +69,7 @@ pub fn make_call_within(
     }
 }
 
-/// A look at the phaser. It shows the phaser after all calls that the caller has then seen.
+/// Returns the phaser's word. It shows the phaser after all calls that the caller has then seen.
 pub fn look(phaser: &SharedPhaser, party: &mut Party) -> Word
     requires { phaser_of party.old ≡ phaser.now }
     ensures phaser { phaser_of party.new ≡ phaser.now }
@@ -78,7 +78,7 @@ pub fn look(phaser: &SharedPhaser, party: &mut Party) -> Word
     phaser.look(party)
 }
 
-/// A wait for the end of a phase. It returns when a legal history has this end. If the number is negative, it returns at once.
+/// Waits until a legal history has the end of this phase. A negative number isn't waited for.
 pub fn await_advance<R: Wait>(rt: &R, phaser: &SharedPhaser, party: &mut Party, phase: i32) -> i32
     requires { phaser_of party.old ≡ phaser.now }
     ensures phaser { phaser_of party.new ≡ phaser.now }
@@ -89,7 +89,7 @@ pub fn await_advance<R: Wait>(rt: &R, phaser: &SharedPhaser, party: &mut Party, 
     phaser.await_advance(rt, party, phase)
 }
 
-/// An arrival, and a wait for the end of its phase. It doesn't wait if the phaser is terminated, or if no party was left that
+/// Arrives, and waits for the end of that phase. It doesn't wait if the phaser is terminated, or if no party was left that
 /// could arrive.
 pub fn arrive_and_await_advance<R: Wait>(
     rt: &R,
@@ -105,7 +105,7 @@ pub fn arrive_and_await_advance<R: Wait>(
     phaser.arrive_and_await_advance(rt, party)
 }
 
-/// Another caller, for another thread. It has seen what the first caller has, and has made no call.
+/// Returns another caller, for another thread. It has seen what the first has, and made no call.
 pub fn split(phaser: &SharedPhaser, first: &mut Party) -> Party
     requires first { first.old.known.number ≡ 0 }
     requires phaser { phaser_of first.old ≡ phaser.now }
@@ -115,7 +115,7 @@ pub fn split(phaser: &SharedPhaser, first: &mut Party) -> Party
     phaser.split(first)
 }
 
-/// The first caller also stands for another one, and has seen one legal history that continues what either had seen.
+/// Joins a caller to the first, which then has seen one legal history of what either had seen.
 pub fn join(phaser: &SharedPhaser, first: &mut Party, other: Party)
     requires first { first.old.known.number ≡ 0 }
     requires phaser { phaser_of first.old ≡ phaser.now }

@@ -12,7 +12,7 @@ use std::alloc::{AllocError, Global};
 use thread_machine::{Choice, Machine, Undo};
 use trace_text::state::state_text;
 
-/// Returns what follows the first of these bytes, or nothing if there is none.
+/// Returns what follows the first such byte, or nothing if there is none.
 fn behind_first(byte: u8, text: &[u8]) -> &[u8]
     ensures { result.now ≡ behind_first byte text.now }
 {
@@ -20,7 +20,7 @@ fn behind_first(byte: u8, text: &[u8]) -> &[u8]
     &text[end..]
 }
 
-/// Returns the machine's state without its counts.
+/// Returns the text of a machine's state, without the counts of choices and steps.
 fn bare_state(alloc: Global, machine: &Machine) -> Result<Vec<u8>, AllocError>
     ensures { IfOk result (λ text. text.items ≡ bare_state (world_of machine.now)) }
 {
@@ -32,7 +32,7 @@ fn bare_state(alloc: Global, machine: &Machine) -> Result<Vec<u8>, AllocError>
     Ok(text)
 }
 
-/// Appends what a choice would do next, if it can take a step.
+/// Appends what a choice would do next, without its number, if it would be a step.
 fn add_bare_what_if(
     alloc: Global,
     text: &mut Vec<u8>,
@@ -53,7 +53,7 @@ fn add_bare_what_if(
     text.extend_from_slice(behind_first(b' ', line.as_slice()))
 }
 
-/// Appends what a turn of the thread would do, and what an expiry of its wait would do.
+/// Appends what a thread's turn and its expiry would do, if they would be steps.
 fn add_bare_what_if_of(
     alloc: Global,
     text: &mut Vec<u8>,
@@ -78,7 +78,7 @@ fn add_bare_what_if_of(
     add_bare_what_if(alloc, text, machine, expiry, undo)
 }
 
-/// Appends what the two choices of each thread would do.
+/// Appends what each thread's turn and expiry would do. The machine is as before.
 fn add_bare_what_ifs(
     alloc: Global,
     text: &mut Vec<u8>,
@@ -95,8 +95,7 @@ fn add_bare_what_ifs(
     Ok(())
 }
 
-/// Returns the text of a machine that doesn't depend on its place in a run. It plays choices and takes them back, so the
-/// machine is the same afterwards.
+/// Returns a machine's text that doesn't depend on its place in a run. The machine is as before.
 #[tactic(auto, unfolding(crate::specs::Others::bare))]
 pub fn bare(alloc: Global, machine: &mut Machine) -> Result<Moment, AllocError>
     ensures text { IfOk result (λ moment. moment.text.items ≡ bare (world_of machine.old)) }

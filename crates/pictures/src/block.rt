@@ -17,7 +17,7 @@ use instruction_table::Row;
 use std::alloc::{AllocError, Global};
 use thread_machine::{Choice, Event, Machine, StepFault};
 
-/// Returns what stands in a thread's column: the row, and what it did.
+/// Returns what a thread's column shows for its choice: its row, and what that did.
 fn did(pen: &Pen<'_, '_>, choice: Choice, row: Row, event: &Event) -> Result<Vec<u8>, AllocError>
     ensures { IfOk result (λ text. text.items ≡ turn_text (column_room pen.now.sheet) (row_caption pen.now.symbols.now row)
         choice.expiry event.now.what) }
@@ -33,7 +33,7 @@ fn did(pen: &Pen<'_, '_>, choice: Choice, row: Row, event: &Event) -> Result<Vec
     )
 }
 
-/// Returns the line of a choice that was played. The thread was at `row`, and `machine` is the machine after the choice.
+/// Returns a choice's line in the block from thread `first` on. `machine` is the one after it.
 fn played_line(
     pen: &Pen<'_, '_>,
     machine: &Machine,
@@ -61,7 +61,7 @@ fn played_line(
     )
 }
 
-/// Returns why a choice is refused, if the column doesn't show it: there is no such thread.
+/// Returns the words for a thread that doesn't exist. A column already shows the limit.
 fn refused_words(alloc: Global, why: StepFault, thread: u8) -> Result<Vec<u8>, AllocError>
     ensures { IfOk result (λ text. text.items ≡ refused_words why thread) }
 {
@@ -73,7 +73,7 @@ fn refused_words(alloc: Global, why: StepFault, thread: u8) -> Result<Vec<u8>, A
     Ok(words)
 }
 
-/// Returns the line of a choice that this machine refuses.
+/// Returns the line of a refused choice in the block from thread `first` on.
 fn refused_line(
     pen: &Pen<'_, '_>,
     machine: &Machine,
@@ -98,7 +98,7 @@ fn refused_line(
     )
 }
 
-/// Plays a choice of a thread of the program, and draws its line. Returns whether the choice was accepted.
+/// Plays a choice of an existing thread, and appends its line. Returns whether it was accepted.
 fn draw_turn(
     pen: &Pen<'_, '_>,
     text: &mut Vec<u8>,
@@ -128,7 +128,7 @@ fn draw_turn(
     }
 }
 
-/// Plays a choice, and draws its line. Returns whether the choice was accepted.
+/// Plays a choice, and appends its line. Returns whether the choice was accepted.
 fn draw_choice(
     pen: &Pen<'_, '_>,
     text: &mut Vec<u8>,
@@ -147,7 +147,7 @@ fn draw_choice(
     Ok(false)
 }
 
-/// Plays the choices in order, up to the first that is refused, and draws a line for each.
+/// Plays the choices up to the first that is refused, and appends a line for each.
 fn draw_choices(
     pen: &Pen<'_, '_>,
     text: &mut Vec<u8>,
@@ -166,7 +166,7 @@ fn draw_choices(
     Ok(())
 }
 
-/// Draws the block whose first thread is `first`.
+/// Plays the choices, and appends the block from thread `first` on: names, then the lines.
 pub fn draw_block(
     pen: &Pen<'_, '_>,
     text: &mut Vec<u8>,

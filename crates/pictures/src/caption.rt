@@ -23,7 +23,7 @@ fn letter(kind: OperandKind) -> &'static [u8]
     }
 }
 
-/// Appends the name of something, or its letter and number if it has no name.
+/// Appends the name of an object or a row, or its letter and number if it has no name.
 pub fn push_called(
     text: &mut Vec<u8>,
     symbols: &Symbols,
@@ -38,7 +38,7 @@ pub fn push_called(
     }
 }
 
-/// Appends a space and the name.
+/// Appends a blank, and an operand's name or else its letter and number.
 fn push_operand(
     text: &mut Vec<u8>,
     symbols: &Symbols,
@@ -51,7 +51,7 @@ fn push_operand(
     push_called(text, symbols, kind, number)
 }
 
-/// Appends the operands of these kinds. It stops at a register that isn't given.
+/// Appends the operands of these kinds, each after a blank. It stops if no register is left.
 #[tactic(auto, using(line_reader::proofs::ListedTexts::operand_steps))]
 fn push_operands(
     text: &mut Vec<u8>,

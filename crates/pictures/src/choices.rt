@@ -1,3 +1,4 @@
+// The choices of a schedule, of which a picture shows at most 2,000.
 ghost use Rattle.std.specs.Prelude.{◌≡◌, ◌≢◌, ◌≤◌, ◌<◌, ◌++◌, ◌⊎◌, length, replicate, Some, None, Err, IfErr, IfOk, OnOk};
 ghost use Rattle.pictures.specs.Page.{AreChoicesOf, most_choices};
 ghost use Rattle.pictures.specs.declared.page.PageFault.{PageFault};
@@ -29,7 +30,7 @@ fn runs_in(alloc: Global, schedule: &[u8]) -> Result<Vec<Run>, PageFault>
     }
 }
 
-/// Appends the choices of a run. Returns `Choices` if they are too many then.
+/// Appends the choices of a run. Fails with `Choices` if there would be more than 2,000.
 fn add_run(choices: &mut Vec<Choice>, run: Run) -> Result<(), PageFault>
     requires { length choices.old.items ≤ most_choices }
     ensures choices { OnOk result (choices.new.items ≡ choices.old.items ++ replicate run.times run.choice) }
@@ -45,7 +46,7 @@ fn add_run(choices: &mut Vec<Choice>, run: Run) -> Result<(), PageFault>
     Ok(())
 }
 
-/// Returns the choices of these runs, or `Choices` if they are too many.
+/// Returns the choices of these runs. Fails with `Choices` if there are more than 2,000.
 fn choices_of(alloc: Global, runs: &[Run]) -> Result<Vec<Choice>, PageFault>
     ensures choices { IfOk result (λ choices. choices.items ≡ choices_of runs.now) }
     ensures few { IfOk result (λ choices. length choices.items ≤ most_choices) }

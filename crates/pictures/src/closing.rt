@@ -17,7 +17,7 @@ use std::alloc::AllocError;
 use thread_machine::{Machine, Status};
 use tier_tree::{Forest, PhaserId};
 
-/// Appends how many parties have arrived, and how many there are.
+/// Appends how many parties have arrived, and how many there are, as ` (1 of 2 arrived)`.
 fn push_arrived(text: &mut Vec<u8>, arrived: u16, parties: u16) -> Result<(), AllocError>
     ensures { OnOk result (text.new.items ≡ text.old.items ++ arrived_text arrived parties) }
 {
@@ -26,7 +26,7 @@ fn push_arrived(text: &mut Vec<u8>, arrived: u16, parties: u16) -> Result<(), Al
     text.extend_from_slice(b" arrived)")
 }
 
-/// Appends the same after the name of a phaser above.
+/// Appends the same, as `: 1 of 2)`, after the name of a phaser above.
 fn push_arrived_above(text: &mut Vec<u8>, arrived: u16, parties: u16) -> Result<(), AllocError>
     ensures { OnOk result (text.new.items ≡ text.old.items ++ above_text arrived parties) }
 {
@@ -35,7 +35,7 @@ fn push_arrived_above(text: &mut Vec<u8>, arrived: u16, parties: u16) -> Result<
     text.extend_from_slice(b")")
 }
 
-/// Returns whether all parties of a phaser have arrived. If so, it has arrived at its parent.
+/// Returns whether a phaser that isn't terminated has parties, and all have arrived.
 fn have_all_arrived(forest: &Forest, id: PhaserId) -> bool
     requires { id.0 < length forest.now }
     ensures { result ≡ have_all_arrived (flat_at (phasers_of forest.now) id.0) }
@@ -110,7 +110,7 @@ fn push_phaser(
     push_arrived_at(pen, front, back, forest, PhaserId(number as u8))
 }
 
-/// Appends how many parties have arrived at a barrier, and how many there are.
+/// Appends how many parties have arrived at a barrier, and how many there are, if it exists.
 fn push_barrier_arrived(
     text: &mut Vec<u8>,
     machine: &Machine,
@@ -167,7 +167,7 @@ fn push_awaited(
     }
 }
 
-/// Returns whether a waiting thread can go on, whether its time can run out, or whether the program is stuck.
+/// Returns whether a waiting thread can go on or can expire, or the program is stuck, in words.
 fn hope(machine: &Machine, thread: u8) -> &'static [u8]
     requires { thread < length machine.now.scene.threads }
     ensures { result.now ≡ hope_text (world_of machine.now) thread }
@@ -183,7 +183,7 @@ fn hope(machine: &Machine, thread: u8) -> &'static [u8]
     }
 }
 
-/// Returns the line of a thread that waits.
+/// Returns the line of a waiting thread: at what it waits, who has arrived, and its hope.
 fn waiting_line(pen: &Pen<'_, '_>, machine: &Machine, thread: u8) -> Result<Vec<u8>, AllocError>
     requires { thread < length machine.now.scene.threads }
     ensures { IfOk result (λ line. line.items ≡ waiting_line pen.now.sheet pen.now.symbols.now (world_of machine.now) thread) }

@@ -34,7 +34,7 @@ pub fn push_value(text: &mut Vec<u8>, word: &[u8], value: i32) -> Result<(), All
     text.extend_from_slice(Buffer::new().format(value).as_bytes())
 }
 
-/// Appends the number of a choice, at the right of six columns.
+/// Appends the number of a choice, with blanks before it up to six bytes.
 pub fn push_number(text: &mut Vec<u8>, number: u64) -> Result<(), AllocError>
     ensures { OnOk result (text.new.items ≡ text.old.items ++ number_text number) }
 {
@@ -44,7 +44,7 @@ pub fn push_number(text: &mut Vec<u8>, number: u64) -> Result<(), AllocError>
     text.extend_from_slice(digits)
 }
 
-/// Returns the beginning of a text that is too long for `room`, with `~` as its last byte.
+/// Returns the first `room` bytes of a longer text, with `~` as the last of them.
 fn cut(alloc: Global, room: usize, bytes: &[u8]) -> Result<Vec<u8>, AllocError>
     requires { room < length bytes.now }
     ensures { IfOk result (λ text. text.items ≡ take room (take (room - 1) bytes.now ++ codes "~")) }

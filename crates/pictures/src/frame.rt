@@ -1,5 +1,4 @@
-/// The parts that every page has. The functions that make a page take them as an argument, so only the outermost proof looks at
-/// their bytes.
+/// The parts that every page has. They are an argument, so that only the outermost proof looks at their bytes.
 #[derive(Clone, Copy)]
 pub struct Frame<'a> {
     /// What stands before the listing.

@@ -57,7 +57,6 @@ impl Model for Known {
 }
 
 impl Known {
-    /// Returns an empty set.
     pub fn new(alloc: Global) -> Known
         ensures { result ≡ [] }
     {
@@ -73,7 +72,7 @@ impl Known {
         self.moments.len()
     }
 
-    /// Returns the number of a moment, or the next free number if it isn't known.
+    /// Returns the number of a moment, from 0, or the next free number if it isn't known.
     pub fn number_of(&self, moment: &Moment) -> usize
         ensures number { result ≡ number_of self.now moment.now.text.items }
         ensures within { result ≤ length self.now }

@@ -43,7 +43,7 @@ fn cell<'a>(machine: &Machine, turn: u8, did: &'a [u8], thread: u8) -> &'a [u8]
     }
 }
 
-/// Appends the columns of a block to a line.
+/// Appends the columns from thread `first` on. That of thread `turn` shows `did`.
 #[tactic(auto, using(crate::proofs::Cells::cell_steps))]
 fn put_cells(
     pen: &Pen<'_, '_>,
@@ -63,8 +63,8 @@ fn put_cells(
     Ok(())
 }
 
-/// Returns the line of a choice: its number, the columns, and what happened to phasers and barriers. `machine` is the machine
-/// after the choice.
+/// Returns a choice's line in the block from thread `first` on: its number, the columns, and `told`, what happened to phasers
+/// and barriers. `machine` is the machine after the choice.
 pub(crate) fn choice_line(
     pen: &Pen<'_, '_>,
     machine: &Machine,
@@ -84,7 +84,7 @@ pub(crate) fn choice_line(
     Ok(line)
 }
 
-/// Returns the name of a thread, shortened to its column.
+/// Returns the name of a thread, shortened to the width of its column.
 fn name_cell(pen: &Pen<'_, '_>, thread: u32) -> Result<Vec<u8>, AllocError>
     ensures { IfOk result (λ text. text.items ≡ name_cell pen.now.sheet pen.now.symbols.now thread) }
 {
@@ -93,7 +93,7 @@ fn name_cell(pen: &Pen<'_, '_>, thread: u32) -> Result<Vec<u8>, AllocError>
     shortened(pen.alloc, pen.sheet.column_room(), name.as_slice())
 }
 
-/// Returns the line with the names of a block's threads.
+/// Returns the head of the block from thread `first` on: `choice` and the threads' names.
 #[tactic(auto, using(crate::proofs::Cells::cell_steps))]
 pub(crate) fn names_line(
     pen: &Pen<'_, '_>,

@@ -12,8 +12,7 @@ pub struct Shown {
     pub missing: Option<(u64, Choice)>,
 }
 
-/// Returns the choice that the machine refused because there is no such thread, and its place from 1. The machine has played
-/// the choices before it.
+/// Returns the choice at which the run ended since it has no such thread, and its place from 1.
 pub fn missing(machine: &Machine, choices: &[Choice]) -> Option<(u64, Choice)>
     ensures { result ≡ missing_at (world_of machine.now) choices.now }
 {

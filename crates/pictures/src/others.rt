@@ -86,7 +86,7 @@ fn is_other(machine: &Machine, own: &[Choice], choice: Choice) -> bool
     is_ready(machine, choice) && !is_next(own, choice)
 }
 
-/// Returns how many choices another run may have from this machine on.
+/// Returns how many choices another run may have: 100 more than `own`, up to 2,000 from the start.
 fn room_for(machine: &Machine, own: &[Choice]) -> u32
     requires { length own.now ≤ most_choices }
     ensures { result ≡ room_for (world_of machine.now) own.now }
@@ -96,7 +96,7 @@ fn room_for(machine: &Machine, own: &[Choice]) -> u32
     longer.min(left as u32)
 }
 
-/// Returns the choices of the run that a choice leads to.
+/// Returns the choices of the run that begins here with this choice.
 fn fork(
     alloc: Global,
     machine: &Machine,
@@ -112,7 +112,7 @@ fn fork(
     choices_of(alloc, planned.runs.as_slice())
 }
 
-/// Returns how many choices may still be played after this moment.
+/// Returns how many choices may still be played: none after a moment of more than 6,000 bytes.
 fn left_behind(moment: &Moment, left: u32) -> u32
     ensures { result ≡ left_behind moment.now.text.items left }
 {
@@ -153,14 +153,13 @@ impl Teller {
         }
     }
 
-    /// Returns the text.
     fn into_text(self) -> Vec<u8>
         ensures { result.items ≡ self.text }
     {
         self.text
     }
 
-    /// Appends a word and a number.
+    /// Appends a word and a number to the text.
     fn add(&mut self, word: &[u8], number: u64) -> Result<(), AllocError>
         ensures { OnOk result (self.new ≡ record self.old { text = self.old.text ++ (word.now ++ decimal number) }) }
     {
@@ -187,7 +186,7 @@ impl Teller {
         self.add_last(b" ", number as u64)
     }
 
-    /// Appends a choice, and the moment that it leads to if that is new.
+    /// Appends a choice's line, and its moment if that is new. One choice less may be played then.
     fn add_step(&mut self, choice: Choice, moment: Moment) -> Result<(), AllocError>
         ensures { OnOk result (self.new ≡ with_step choice moment.text.items self.old) }
     {
@@ -201,7 +200,7 @@ impl Teller {
         Ok(())
     }
 
-    /// Adds the moment of a machine to the known ones.
+    /// Adds the moment of a machine to the known ones, but not to the text.
     fn know(&mut self, alloc: Global, machine: &mut Machine) -> Result<(), AllocError>
         ensures told { OnOk result (self.new ≡ with_moment (world_of machine.old) self.old) }
         ensures machine { machine.new ≡ machine.old }
@@ -211,7 +210,7 @@ impl Teller {
         self.known.add(moment)
     }
 
-    /// Adds the moments of a run to the known ones.
+    /// Plays choices up to a refused one, and adds the moment before and after each.
     fn know_all(
         &mut self,
         alloc: Global,
@@ -229,7 +228,7 @@ impl Teller {
         self.know(alloc, machine)
     }
 
-    /// Adds the moments of a run that begins at this machine to the known ones.
+    /// Adds the moments of a run that begins at this machine. It plays the run on a copy.
     fn know_run(
         &mut self,
         alloc: Global,
@@ -242,7 +241,7 @@ impl Teller {
         self.know_all(alloc, &mut copy, choices)
     }
 
-    /// Plays choices one after another, and appends them.
+    /// Plays choices up to a refused one, and appends each with the moment that it leads to.
     fn add_steps(
         &mut self,
         alloc: Global,
@@ -261,7 +260,7 @@ impl Teller {
         Ok(())
     }
 
-    /// Appends another run that begins at this machine.
+    /// Appends another run: the number of choices before it, and then its choices.
     fn add_other(
         &mut self,
         alloc: Global,
@@ -275,7 +274,7 @@ impl Teller {
         self.add_steps(alloc, &mut copy, choices)
     }
 
-    /// If the text is too long, cuts it to `end` bytes, and lets nothing follow.
+    /// If the text is longer than 1,000,000 bytes, cuts it to `end` bytes, and lets nothing follow.
     fn cut_at(&mut self, end: usize)
         ensures { self.new ≡ (if nat_le (length self.old.text) 1000000 then self.old
             else record self.old { text = take end self.old.text; left = 0 }) }
@@ -286,7 +285,7 @@ impl Teller {
         }
     }
 
-    /// Appends the run that a choice leads to, if there is room for it.
+    /// Appends the run that a choice leads to. If the text gets too long, it is taken away again.
     fn add_fork(
         &mut self,
         alloc: Global,
@@ -304,7 +303,7 @@ impl Teller {
         Ok(())
     }
 
-    /// Appends the run that a choice leads to, unless it is the next choice of the page's own run.
+    /// Appends the run of a choice that is ready and isn't `own`'s next, if there is room for it.
     #[tactic(auto, unfolding(crate::specs::Others::told_choice))]
     fn tell_choice(
         &mut self,
@@ -364,7 +363,7 @@ impl Teller {
         Ok(())
     }
 
-    /// Appends the other runs of each moment of a run, in order.
+    /// Plays a run, and appends the other runs at each of its moments, in order.
     fn tell_along(
         &mut self,
         alloc: Global,
@@ -383,7 +382,7 @@ impl Teller {
         self.tell_here(alloc, machine, &[])
     }
 
-    /// Appends the other runs of each moment of a run that begins at this machine.
+    /// Does what `tell_along` does on a copy of the machine.
     fn tell_run(
         &mut self,
         alloc: Global,

@@ -1,3 +1,4 @@
+// Puts a page together: its fixed parts, the listing, the source, the run and the other runs.
 ghost use Rattle.std.specs.Prelude.{◌≡◌, ◌≢◌, ◌++◌, ◌<◌, ◌⊎◌, false, length, List, IfOk, OnOk, Err, Some, None};
 ghost use Rattle.loader.specs.declared.load_fault.LoadFault.{LoadFault};
 ghost use Rattle.pictures.specs.Page.{AreChoicesOf, IsPageFrom, IsPageIn, IsPageOf, escaped, fixed_parts, moment, moments, most_choices, page_text, parts_of, run_shown};
@@ -111,7 +112,7 @@ fn add_run(
     add_choices(alloc, page, machine, choices)
 }
 
-/// Returns a page with these fixed parts and texts.
+/// Plays the choices, and returns a page of these fixed parts and texts with their run.
 fn page_in(
     alloc: Global,
     frame: Frame,
@@ -226,7 +227,7 @@ fn page_with(
     }
 }
 
-/// Returns the parts that every page has.
+/// Returns the fixed parts of a page, which are made from `page/`.
 fn frame() -> Frame<'static>
     ensures { parts_of result ≡ fixed_parts }
 {
@@ -239,8 +240,7 @@ fn frame() -> Frame<'static>
     }
 }
 
-/// Returns the page of a program, with its source, its run under a schedule, and its other runs. The source is shown as it is
-/// given. It may be empty, for example if the program was an image.
+/// Returns the page of a program: its source, which may be empty, its run and its other runs.
 pub fn page(
     alloc: Global,
     others: OtherRuns,

@@ -1,3 +1,4 @@
+// Puts a picture together: its blocks one below the other, and its last lines.
 ghost use Rattle.std.specs.Prelude.{◌≡◌, ◌++◌, ◌<◌, IfOk, OnOk};
 ghost use Rattle.pictures.specs.Picture.{each_from, lines_on, lines_text, other_block, picture};
 ghost use Rattle.thread_machine.specs.Execution.{execution};
@@ -12,7 +13,7 @@ use assembler::Symbols;
 use std::alloc::{AllocError, Global};
 use thread_machine::{Choice, Machine};
 
-/// Draws the block of this number, and an empty line. It plays the choices on this machine.
+/// Draws block `number`, from 0, and an empty line. It plays the choices on this machine.
 fn draw_spaced(
     pen: &Pen<'_, '_>,
     text: &mut Vec<u8>,
@@ -28,7 +29,7 @@ fn draw_spaced(
     push_line(text, pen.sheet.width, b"")
 }
 
-/// Draws the block of this number, and an empty line. The machine stays as it is.
+/// Draws block `number`, from 0, and an empty line. It plays the choices on a copy.
 fn draw_other(
     pen: &Pen<'_, '_>,
     text: &mut Vec<u8>,
@@ -60,7 +61,7 @@ fn draw_others(
     Ok(())
 }
 
-/// Draws all blocks, and the last lines.
+/// Draws all blocks, and the last lines. The last block plays the choices on this machine.
 fn draw_all(
     pen: &Pen<'_, '_>,
     text: &mut Vec<u8>,
@@ -79,8 +80,7 @@ fn draw_all(
     push_closings(pen, text, machine)
 }
 
-/// Returns the picture of a machine's run under these choices, with these names, at most `width` bytes wide. The time it takes
-/// is proportional to the number of choices times the number of blocks.
+/// Returns the picture of a machine's run, with these names, at most `width` bytes wide.
 pub fn picture(
     alloc: Global,
     machine: &mut Machine,

@@ -1,3 +1,4 @@
+// The layout of a picture: its columns and blocks, in bytes.
 ghost use Rattle.std.specs.Prelude.{◌≡◌, ◌<◌, ◌≤◌, ◌-◌, ◌*◌};
 ghost use Rattle.pictures.specs.Sheet.{beside_of, blocks_of, column_room, mark_column, mark_room, most_beside, other_blocks, sheet_of};
 ghost use Rattle.pictures.specs.Picture.{in_block, name_room};
@@ -13,7 +14,7 @@ pub struct Sheet {
     pub column: u16,
 }
 
-/// Returns how many threads fit side by side, at least one.
+/// Returns how many threads, of 19 bytes each, fit beside number and marks: at least one.
 fn most_beside(width: u16) -> u16
     ensures most { result ≡ most_beside width }
     ensures some { 0 < result }
@@ -22,7 +23,7 @@ fn most_beside(width: u16) -> u16
 }
 
 impl Sheet {
-    /// Returns the layout for a width and a number of threads.
+    /// Returns the layout for a width: blocks of about equally many threads, of at most 27 bytes.
     pub fn new(width: u16, threads: u16) -> Sheet
         ensures sheet { result ≡ sheet_of width threads }
         ensures some { 0 < result.beside }
@@ -38,7 +39,7 @@ impl Sheet {
         }
     }
 
-    /// Returns the number of blocks, without the last.
+    /// Returns the number of blocks without the last one.
     pub fn other_blocks(self, threads: u16) -> u16
         requires { 0 < self.beside }
         ensures { result ≡ other_blocks self threads }
@@ -53,14 +54,14 @@ impl Sheet {
         usize::from(self.beside).min(threads.saturating_sub(first))
     }
 
-    /// Returns the column at which the phasers and barriers are shown.
+    /// Returns the column at which the changes of phasers and barriers begin.
     pub fn mark_column(self) -> usize
         ensures { result ≡ mark_column self }
     {
         8 + usize::from(self.beside) * usize::from(self.column)
     }
 
-    /// Returns how many bytes they have there.
+    /// Returns how many bytes the changes of phasers and barriers may take.
     pub fn mark_room(self) -> usize
         ensures { result ≡ mark_room self }
     {

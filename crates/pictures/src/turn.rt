@@ -11,7 +11,7 @@ use instruction_table::OperandKind;
 use std::alloc::{AllocError, Global};
 use thread_machine::{Mark, Status, What};
 
-/// Appends what happened to the thread.
+/// Appends what happened to the thread, as `wait` or `= 1`.
 fn push_what(text: &mut Vec<u8>, what: What) -> Result<(), AllocError>
     ensures { OnOk result (text.new.items ≡ text.old.items ++ what_text what) }
 {
@@ -30,7 +30,7 @@ fn push_what(text: &mut Vec<u8>, what: What) -> Result<(), AllocError>
     }
 }
 
-/// Returns whether the row that the thread was at is shown.
+/// Returns whether a column shows the row before this result.
 fn shows_row(what: What) -> bool
     ensures { result ≡ shows_row what }
 {
@@ -40,7 +40,7 @@ fn shows_row(what: What) -> bool
     )
 }
 
-/// Returns what follows the row: its result, or nothing if it has none.
+/// Returns what follows the row: a blank and its result, or nothing for `Done`.
 fn answer(alloc: Global, what: What) -> Result<Vec<u8>, AllocError>
     ensures { IfOk result (λ text. text.items ≡ answer_text what) }
 {
@@ -52,7 +52,7 @@ fn answer(alloc: Global, what: What) -> Result<Vec<u8>, AllocError>
     Ok(text)
 }
 
-/// Returns what stands in the column of the thread that had the turn, or whose timed wait expired.
+/// Returns what the column of the choice's thread shows: the row or `expiry`, and the result.
 pub fn turn_text(
     alloc: Global,
     room: usize,
@@ -72,7 +72,7 @@ pub fn turn_text(
     kept_behind(alloc, room, front, answer.as_slice())
 }
 
-/// Returns the sign of a thread that didn't have the turn.
+/// Returns the sign of another thread: `|` runs, `!` throws, `:` waits and is ready, `#` waits.
 pub fn standing(ready: bool, status: Status) -> &'static [u8]
     ensures { result.now ≡ standing ready status }
 {
@@ -107,7 +107,7 @@ fn marked(pen: &Pen<'_, '_>, mark: Mark) -> Result<Vec<u8>, AllocError>
     Ok(text)
 }
 
-/// Appends the phase that a root has come into, or that it is terminated.
+/// Appends which phase a root has come into, or that it is terminated.
 fn push_view(text: &mut Vec<u8>, view: i32) -> Result<(), AllocError>
     ensures { OnOk result (text.new.items ≡ text.old.items ++ view_words view) }
 {
@@ -118,7 +118,7 @@ fn push_view(text: &mut Vec<u8>, view: i32) -> Result<(), AllocError>
     }
 }
 
-/// Returns what happened to the phaser or barrier.
+/// Returns what happened to the phaser or barrier, or nothing.
 fn mark_words(alloc: Global, mark: Mark) -> Result<Vec<u8>, AllocError>
     ensures { IfOk result (λ text. text.items ≡ mark_words mark) }
 {

@@ -1,3 +1,4 @@
+// What each choice would do next: it is played, and taken back.
 ghost use Rattle.std.specs.Prelude.{◌≡◌, ◌++◌, ◌∷◌, ◌<◌, [], length, OnOk};
 ghost use Rattle.machine_scene.specs.Scene.{scene_of, thread_at};
 ghost use Rattle.pictures.specs.Page.{what_if, what_if_of};
@@ -10,7 +11,7 @@ use std::alloc::AllocError;
 use thread_machine::{Choice, Machine, StepFault, Undo};
 use trace_text::line::{event_line, refusal_line};
 
-/// Returns whether a choice can take a step.
+/// Returns whether a choice of an existing thread would be a step.
 pub fn is_ready(machine: &Machine, choice: Choice) -> bool
     requires { choice.thread < length machine.now.scene.threads }
     ensures { result ≡ is_choice_ready machine.now.program choice (scene_of machine.now.scene) }
@@ -45,7 +46,7 @@ pub fn add_line(
     }
 }
 
-/// Appends what a choice would do next, if it can take a step.
+/// Appends what a choice would do next, if it would be a step.
 fn add_what_if(
     text: &mut Vec<u8>,
     machine: &mut Machine,
@@ -63,7 +64,7 @@ fn add_what_if(
     add_line(text, machine, choice, undo)
 }
 
-/// Appends what a turn of the thread would do, and what an expiry of its wait would do.
+/// Appends what a thread's turn and its expiry would do, if they would be steps.
 fn add_what_if_of(
     text: &mut Vec<u8>,
     machine: &mut Machine,

@@ -7,21 +7,21 @@ ghost use Rattle.plans.specs.Words.{begins_count, is_parenthesis, spread};
 
 use line_reader::words::is_blank;
 
-/// Returns whether a word ends before this byte.
+/// Returns whether this byte is a blank or a parenthesis: the word before it ends there.
 fn parts_words(byte: u8) -> bool
     ensures { result ≡ parts_words byte }
 {
     is_parenthesis(byte) || is_blank(byte)
 }
 
-/// Returns the place of the first byte that separates words.
+/// Returns the place of the first blank or parenthesis, or `None` if there is none.
 fn place_of_part(text: &[u8]) -> Option<usize>
     ensures { result ≡ position parts_words text.now }
 {
     text.iter().position(|byte| parts_words(*byte))
 }
 
-/// Returns the number of bytes before it.
+/// Returns how many bytes precede the first blank or parenthesis: all if there is none.
 #[tactic(auto, using(line_reader::proofs::Places::position_some, line_reader::proofs::Places::position_none))]
 fn length_to_part(text: &[u8]) -> usize
     ensures length { result ≡ position_or_len parts_words text.now }
@@ -33,6 +33,7 @@ fn length_to_part(text: &[u8]) -> usize
     }
 }
 
+/// Returns whether the bytes begin with `*`, as the count after a group's `)` does.
 fn begins_count(rest: &[u8]) -> bool
     ensures { result ≡ begins_count rest.now }
 {

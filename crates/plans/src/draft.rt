@@ -1,3 +1,4 @@
+// Reads the text of a plan word by word, and counts its open parentheses.
 ghost use Rattle.std.specs.Prelude.{◌≡◌, ◌≢◌, ◌≤◌, Err, IfErr, IfOk, length, map};
 ghost use Rattle.std.specs.List.{slice_split};
 ghost use Rattle.line_reader.specs.Seen.{name_seen};
@@ -27,7 +28,7 @@ struct Reading {
 }
 
 impl Reading {
-    /// Opens a parenthesis in this line.
+    /// Opens a parenthesis in this line. Fails if 16 are open. Of the outermost it notes the line.
     fn open(&mut self, line: u64) -> Result<(), PlanFaultKind>
         ensures opened { AnswersSaid (λ _. draft_of self.new) result (draft_opened line (draft_of self.old)) }
         ensures other { result ≢ Err PlanFaultKind.Memory }
@@ -42,7 +43,7 @@ impl Reading {
         Ok(())
     }
 
-    /// Closes one.
+    /// Closes the innermost open parenthesis. Fails if none is open.
     fn close(&mut self) -> Result<(), PlanFaultKind>
         ensures closed { AnswersSaid (λ _. draft_of self.new) result (draft_closed (draft_of self.old)) }
         ensures other { result ≢ Err PlanFaultKind.Memory }
@@ -54,7 +55,7 @@ impl Reading {
         Ok(())
     }
 
-    /// What a word in this line does to the parentheses.
+    /// Opens or closes a parenthesis if the word is one. Any other word changes nothing.
     fn nest(&mut self, line: u64, word: Word) -> Result<(), PlanFaultKind>
         ensures nested { AnswersSaid (λ _. draft_of self.new) result (draft_open line (draft_of self.old) word) }
         ensures other { result ≢ Err PlanFaultKind.Memory }
@@ -66,7 +67,7 @@ impl Reading {
         }
     }
 
-    /// Adds the word that these bytes of this line spell.
+    /// Appends the word that these bytes of this line spell, or returns what is wrong with it.
     fn add_said(&mut self, names: &[&[u8]], line: u64, bytes: &[u8]) -> Result<(), PlanFaultKind>
         requires { length names.now ≤ 64 }
         ensures { AnswersSaid (λ _. draft_of self.new) result
@@ -80,7 +81,7 @@ impl Reading {
         }
     }
 
-    /// Adds the word that the bytes say, or says what is wrong with it and on which line.
+    /// Does what `add_said` does. The fault also has the line's number.
     fn add_word(&mut self, names: &[&[u8]], line: u64, bytes: &[u8]) -> Result<(), PlanFault>
         requires { length names.now ≤ 64 }
         ensures { AnswersPlan (λ _. draft_of self.new) result
@@ -92,7 +93,7 @@ impl Reading {
         }
     }
 
-    /// Adds what a line says.
+    /// Appends the words of a line up to its comment. It stops at the first fault.
     fn add_line(&mut self, names: &[&[u8]], line: u64, bytes: &[u8]) -> Result<(), PlanFault>
         requires { length names.now ≤ 64 }
         ensures { AnswersPlan (λ _. draft_of self.new) result
@@ -113,7 +114,7 @@ impl Reading {
         Ok(())
     }
 
-    /// Adds what the lines of a text say.
+    /// Appends the words of a text's lines, counted from 1. It stops at the first fault.
     fn add_lines(&mut self, names: &[&[u8]], text: &[u8]) -> Result<(), PlanFault>
         requires { length names.now ≤ 64 }
         ensures { AnswersPlan (λ _. draft_of self.new) result
@@ -135,7 +136,7 @@ impl Reading {
         }
     }
 
-    /// The words, where no parenthesis is open.
+    /// Returns the words. Fails if a parenthesis is still open, with the outermost one's line.
     fn finished(self) -> Result<Words, PlanFault>
         ensures finished { AnswersPlan (λ words. words) result (finished (draft_of self)) }
         ensures other { IfErr result (λ fault. fault.kind ≢ PlanFaultKind.Memory) }

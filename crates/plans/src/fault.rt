@@ -25,7 +25,7 @@ pub enum PlanFaultKind {
 }
 
 impl PlanFaultKind {
-    /// The number that the fault is told with: missing memory has none.
+    /// Returns the number that a report has for this fault, or `None` if it is out of memory.
     pub fn number(self) -> Option<u8>
         ensures { result ≡ plan_number self }
     {
@@ -43,8 +43,7 @@ impl PlanFaultKind {
     }
 }
 
-/// What is wrong with a plan, and its line, from 1. A parenthesis that is never closed has its own line, the outermost if there
-/// are several.
+/// What is wrong with a plan, and its line, from 1. Of parentheses that are never closed it is the outermost one's.
 #[derive(Clone, Copy, Debug, PartialEq, Eq)]
 pub struct PlanFault {
     pub line: u64,

@@ -1,3 +1,4 @@
+// The counts and seeds in the words of a plan.
 ghost use Rattle.std.specs.Prelude.{◌≡◌, ◌≤◌, ◌<◌, length, IfSome};
 ghost use Rattle.std.specs.Char.{is_ascii_digit};
 ghost use Rattle.std.specs.List.{AllPass, list_all};
@@ -7,20 +8,21 @@ ghost use Rattle.plans.specs.Numbers.{are_digits, count_in, number_in, seed_in};
 /// The largest count that a word may ask for.
 const MOST_TIMES: u64 = 1_000_000;
 
+/// Returns whether every byte is a digit. This is so if there is no byte.
 fn all_digits(word: &[u8]) -> bool
     ensures { result ≡ list_all is_ascii_digit word.now }
 {
     word.iter().all(|byte| byte.is_ascii_digit())
 }
 
-/// Returns whether these are digits, from one to `most`.
+/// Returns whether a word has at least one byte and at most `most`, all of them digits.
 pub fn are_digits(most: usize, word: &[u8]) -> bool
     ensures { result ≡ are_digits most word.now }
 {
     !word.is_empty() && word.len() <= most && all_digits(word)
 }
 
-/// Returns the number that these digits spell. There are at most twenty.
+/// Returns the number that at most twenty digits spell.
 fn digits_value(digits: &[u8]) -> u128
     requires few { length digits.now ≤ 20 }
     requires digits { AllPass is_ascii_digit digits.now }
@@ -33,7 +35,7 @@ fn digits_value(digits: &[u8]) -> u128
     value
 }
 
-/// Returns the number that these digits spell, if there aren't too many and it isn't too large.
+/// Returns the number of a word of at most `most_digits` digits, if it is at most `most`.
 pub fn number_in(most_digits: usize, most: u64, word: &[u8]) -> Option<u64>
     requires { most_digits ≤ 20 }
     ensures { result ≡ number_in most_digits most word.now }
@@ -48,7 +50,7 @@ pub fn number_in(most_digits: usize, most: u64, word: &[u8]) -> Option<u64>
     Some(value as u64)
 }
 
-/// Returns a count: 1 to 1,000,000, without a leading zero.
+/// Returns the count that a word spells: 1 to 1,000,000, without a leading zero.
 pub fn count_in(word: &[u8]) -> Option<u32>
     ensures { result ≡ count_in word.now }
 {
@@ -61,7 +63,7 @@ pub fn count_in(word: &[u8]) -> Option<u32>
     }
 }
 
-/// Returns a seed.
+/// Returns the seed that a word of at most twenty digits spells, if it is below 2 to the 64th.
 pub fn seed_in(word: &[u8]) -> Option<u64>
     ensures { result ≡ seed_in word.now }
 {

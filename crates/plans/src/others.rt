@@ -1,3 +1,4 @@
+// What follows another choice than a run's own: its thread goes on, then the run, then all threads.
 ghost use Rattle.std.specs.Prelude.{◌≡◌, ◌<◌, ◌≤◌, IfOk, OnOk};
 ghost use Rattle.plans.specs.Others.{all_kept, gone_ahead, is_step_in, kept, other_choices, turned_about};
 ghost use Rattle.plans.specs.Planned.{AreRuns};
@@ -14,7 +15,7 @@ use thread_machine::{Choice, Machine};
 const MOST_TURNS: u32 = 99;
 
 impl Player {
-    /// Whether a choice would be a step.
+    /// Returns whether a choice would be a step. This is false if there is no such thread.
     #[tactic(auto, unfolding(crate::specs::Others::is_step_in))]
     fn is_step(&self, choice: Choice) -> bool
         ensures { result ≡ is_step_in self.now.world choice }
@@ -22,7 +23,7 @@ impl Player {
         (choice.thread as usize) < self.thread_count() && self.is_choice_ready(choice)
     }
 
-    /// Makes a choice, and then its thread's turns until it waits or ends.
+    /// Makes a choice, and then at most 99 turns of its thread, while that is ready.
     #[tactic(auto, unfolding(crate::specs::Others::gone_ahead))]
     fn go_ahead(&mut self, alloc: Global, choice: Choice) -> Result<(), AllocError>
         ensures { OnOk result (self.new ≡ gone_ahead choice self.old) }
@@ -31,7 +32,7 @@ impl Player {
         self.follow(alloc, Rule::Alone(choice.thread), MOST_TURNS)
     }
 
-    /// Makes a choice of the run, unless it would do nothing.
+    /// Makes a choice of the run's own, unless it wouldn't be a step now.
     #[tactic(auto, unfolding(crate::specs::Others::kept))]
     fn keep(&mut self, choice: Choice) -> Result<(), AllocError>
         ensures { OnOk result (self.new ≡ kept choice self.old) }
@@ -43,7 +44,7 @@ impl Player {
         }
     }
 
-    /// Makes those of the run's choices that do something.
+    /// Makes the choices of the run's own in order, and leaves out those that wouldn't be a step.
     fn keep_all(&mut self, choices: &[Choice]) -> Result<(), AllocError>
         ensures { OnOk result (self.new ≡ all_kept choices.now self.old) }
     {
@@ -53,7 +54,7 @@ impl Player {
         Ok(())
     }
 
-    /// Has the threads turn about, as long as choices are left.
+    /// Makes steps of all threads in turn, until none is possible or no choice is left.
     #[tactic(auto, unfolding(crate::specs::Others::turned_about))]
     fn turn_all_about(&mut self, alloc: Global) -> Result<(), AllocError>
         ensures { OnOk result (self.new ≡ turned_about self.old) }

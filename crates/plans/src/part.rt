@@ -32,7 +32,7 @@ pub struct Stored {
     pub seed: u64,
 }
 
-/// Returns whether a word has a number beside its part.
+/// Returns whether a part has a number beside it: a count other than 1, or a limit.
 pub fn takes_number(part: Part) -> bool
     ensures { result ≡ takes_number part }
 {
@@ -48,14 +48,14 @@ pub fn takes_number(part: Part) -> bool
     )
 }
 
-/// Returns whether it has a seed beside its part.
+/// Returns whether a part has a seed beside it: one of 256 or more.
 pub fn takes_seed(part: Part) -> bool
     ensures { result ≡ takes_seed part }
 {
     matches!(part, Part::BySeed | Part::BySeedMost)
 }
 
-/// Returns a part with nothing beside it.
+/// Returns a part as it is stored with no number and no seed.
 fn alone(part: Part) -> Stored
     ensures { result ≡ record { part = part; number = 0; seed = 0 } }
 {
@@ -66,7 +66,7 @@ fn alone(part: Part) -> Stored
     }
 }
 
-/// Returns a part with its number.
+/// Returns a part as it is stored with this number and no seed.
 fn numbered(part: Part, number: u32) -> Stored
     ensures { result ≡ record { part = part; number = number; seed = 0 } }
 {
@@ -77,6 +77,7 @@ fn numbered(part: Part, number: u32) -> Stored
     }
 }
 
+/// Returns how a choice that is made so many times is stored. Once needs no number.
 fn stored_choice(chosen: Chosen, times: u32) -> Stored
     ensures { Holds result (Word.Step (Step.Make chosen times)) }
 {
@@ -88,6 +89,7 @@ fn stored_choice(chosen: Chosen, times: u32) -> Stored
     }
 }
 
+/// Returns how choices by a seed are stored. A seed below 256 is in the part itself.
 fn stored_seed(seed: u64, most: Option<u32>) -> Stored
     ensures { Holds result (Word.Step (Step.Follow (Rule.BySeed seed) most)) }
 {
@@ -107,6 +109,7 @@ fn stored_seed(seed: u64, most: Option<u32>) -> Stored
     }
 }
 
+/// Returns how choices by a rule are stored, at most `most` of them if there is a limit.
 fn stored_rule(rule: Rule, most: Option<u32>) -> Stored
     ensures { Holds result (Word.Step (Step.Follow rule most)) }
 {
@@ -119,7 +122,7 @@ fn stored_rule(rule: Rule, most: Option<u32>) -> Stored
     }
 }
 
-/// Returns how a word is stored.
+/// Returns a word's part, and its number and seed, 0 where it has none.
 pub fn stored_word(word: Word) -> Stored
     ensures { Holds result word }
 {
@@ -132,6 +135,7 @@ pub fn stored_word(word: Word) -> Stored
     }
 }
 
+/// Returns the word for a thread's turn or expiry, made so many times.
 fn choice(thread: u8, expiry: bool, times: u32) -> Word
     ensures { result ≡ Word.Step (Step.Make (record { thread = thread; expiry = expiry }) times) }
 {
@@ -141,13 +145,14 @@ fn choice(thread: u8, expiry: bool, times: u32) -> Word
     })
 }
 
+/// Returns the word for choices by a rule, at most `most` of them if there is a limit.
 fn rule(rule: Rule, most: Option<u32>) -> Word
     ensures { result ≡ Word.Step (Step.Follow rule most) }
 {
     Word::Step(Step::Follow { rule, most })
 }
 
-/// Returns the word of a part with this number and this seed.
+/// Returns the word that is stored so. A part that has no number or seed ignores what is given.
 pub fn word_with(part: Part, number: u32, seed: u64) -> Word
     ensures { result ≡ word_with part number seed }
 {

@@ -1,3 +1,4 @@
+// Makes the choices of a plan on a machine, and keeps them as runs.
 ghost use Rattle.std.specs.Prelude.{◌≡◌, ◌<◌, ◌≤◌, ◌==◌, ◌&&◌, IfOk, OnOk, true};
 ghost use Rattle.thread_machine.specs.Ready.{is_choice_ready};
 ghost use Rattle.thread_machine.specs.World.{world_of};
@@ -50,7 +51,7 @@ impl Model for Player {
 }
 
 impl Player {
-    /// Returns a player before its first choice, from a machine's present state.
+    /// Returns a player that may make 1,000,000 choices from a machine's present state on.
     #[tactic(auto, unfolding(crate::specs::Progress::begun_at))]
     pub fn at(alloc: Global, machine: Machine) -> Player
         ensures { result ≡ begun_at (world_of machine) }
@@ -64,7 +65,7 @@ impl Player {
         }
     }
 
-    /// Returns a player before its first choice that makes at most so many.
+    /// Returns a player that may make `most` choices from a machine's present state on.
     #[tactic(auto, unfolding(crate::specs::Progress::begun_at))]
     pub fn with_room(alloc: Global, machine: Machine, most: u32) -> Player
         requires { most ≤ 1000000 }
@@ -79,7 +80,7 @@ impl Player {
         }
     }
 
-    /// Returns a player before the first choice of a program.
+    /// Returns a player that may make 1,000,000 choices from the beginning of a program on.
     #[tactic(auto, unfolding(crate::specs::Progress::begun))]
     pub fn new(alloc: Global, program: Loaded) -> Result<Player, AllocError>
         ensures { IfOk result (λ player. player ≡ begun program) }
@@ -87,7 +88,7 @@ impl Player {
         Ok(Player::at(alloc, Machine::new(alloc, program, MOST_STEPS)?))
     }
 
-    /// Returns what it has played.
+    /// Returns the machine, the choices made, and whether one more was asked for than allowed.
     pub fn into_planned(self) -> Planned
         ensures choices { choices_of result.runs.items ≡ self.choices }
         ensures world { world_of result.machine ≡ self.world }
@@ -116,7 +117,6 @@ impl Player {
         self.left == 0 && self.stopped
     }
 
-    /// Returns the number of threads.
     pub fn thread_count(&self) -> usize
         ensures count { result ≡ thread_count self.now.world }
         ensures few { result ≤ 64 }
@@ -142,7 +142,7 @@ impl Player {
         self.machine.can_expire(thread)
     }
 
-    /// Returns whether a choice of a thread may take a step.
+    /// Returns whether a choice of a thread, its turn or its time-out, would be a step.
     pub fn is_choice_ready(&self, choice: Choice) -> bool
         requires { choice.thread < thread_count self.now.world }
         ensures { result ≡ is_choice_ready self.now.world.program choice self.now.world.scene }
@@ -154,7 +154,7 @@ impl Player {
         }
     }
 
-    /// Returns the number after that of the thread that was chosen last.
+    /// Returns the number after that of the thread chosen last, 0 before the first choice.
     pub fn next(&self) -> u8
         ensures { result ≡ self.now.next }
     {
@@ -168,7 +168,7 @@ impl Player {
         self.stopped = true;
     }
 
-    /// Makes one of the choices that are left, unless the machine refuses it.
+    /// Makes a choice, which then counts. If the machine refuses it, nothing changes.
     fn make(&mut self, choice: Choice) -> Result<(), AllocError>
         requires thread { choice.thread < thread_count self.old.world }
         requires few { thread_count self.old.world ≤ 64 }
@@ -188,7 +188,7 @@ impl Player {
         }
     }
 
-    /// Makes one more choice, if one is left.
+    /// Makes a choice, or notes that none is left. One that the machine refuses changes nothing.
     #[tactic(auto, unfolding(crate::specs::Progress::chosen), using(crate::proofs::Choosing::none_refused))]
     pub fn choose(&mut self, choice: Choice) -> Result<(), AllocError>
         ensures { OnOk result (self.new ≡ chosen choice self.old) }

@@ -1,3 +1,4 @@
+// Plays the words of a plan, with its groups.
 ghost use Rattle.std.specs.Prelude.{◌≤◌, IfOk, OnOk, length};
 ghost use Rattle.plans.specs.Groups.{HasPlayed, HasPlayedGroup, HasPlayedAgain};
 
@@ -28,7 +29,7 @@ impl Player {
         }
     }
 
-    /// Plays a group from after its first parenthesis, only once if that makes no choice.
+    /// Plays a group after its `(`, as often as its `)` says, or once if that makes no choice.
     #[cycle(words)]
     fn play_group(&mut self, alloc: Global, words: &mut WordsFrom<'_>) -> Result<(), AllocError>
         ensures played { OnOk result (HasPlayedGroup words.old words.new self.old self.new) }
@@ -44,7 +45,7 @@ impl Player {
         Ok(())
     }
 
-    /// Plays words that were played once again, until they were played so many times, or until a pass makes no choice.
+    /// Plays words once more until they were played `times` times, or a pass makes no choice.
     #[cycle(words)]
     fn play_again(
         &mut self,

@@ -1,3 +1,4 @@
+// What a word of a plan means: its stem, which is what precedes its star, and its count.
 ghost use Rattle.std.specs.Prelude.{◌≡◌, ◌≤◌, ◌<◌, ◌==◌, IfOk, IfSome, bytes_eq, drop, false, length, map, true, Some};
 ghost use Rattle.std.specs.List.{after_first, before_first, position_or_len};
 ghost use Rattle.line_reader.specs.Names.{is_name};
@@ -11,7 +12,7 @@ use crate::word::{Chosen, Rule, Step, Word};
 use line_reader::name::name_at;
 use line_reader::words::{is_word, length_before};
 
-/// Returns what is before the star.
+/// Returns the part of a word before its first `*`, or the whole word if it has none.
 fn stem_of(word: &[u8]) -> &[u8]
     ensures { result.now ≡ stem_of word.now }
 {
@@ -24,7 +25,7 @@ fn has_star(word: &[u8]) -> bool
     length_before(b'*', word) < word.len()
 }
 
-/// Returns what is after the star.
+/// Returns the part of a word after its first `*`.
 fn behind_star(word: &[u8]) -> &[u8]
     requires { has_star word.now ≡ true }
     ensures { result.now ≡ after_first is_star word.now }
@@ -32,6 +33,7 @@ fn behind_star(word: &[u8]) -> &[u8]
     &word[length_before(b'*', word) + 1..]
 }
 
+/// Returns whether a word has the form that a program's names have.
 #[tactic(auto, unfolding(line_reader::specs::Reading::name_at))]
 fn is_name(word: &[u8]) -> bool
     ensures { result ≡ is_name word.now }
@@ -42,45 +44,49 @@ fn is_name(word: &[u8]) -> bool
     }
 }
 
+/// Returns whether a stem begins with `?`, and so stands for choices by a seed.
 fn is_seeded(stem: &[u8]) -> bool
     ensures { result ≡ is_seeded stem.now }
 {
     matches!(stem, [b'?', ..])
 }
 
+/// Returns whether a stem ends in `.`, as `ann.` and `..` do.
 fn has_dot(stem: &[u8]) -> bool
     ensures { result ≡ has_dot stem.now }
 {
     !stem.is_empty() && stem[stem.len() - 1] == b'.'
 }
 
-/// Returns a word without its last byte.
+/// Returns a stem without its last byte, the dot. An empty one stays empty.
 fn before_dot(stem: &[u8]) -> &[u8]
     ensures { result.now ≡ before_dot stem.now }
 {
     &stem[..stem.len().saturating_sub(1)]
 }
 
+/// Returns whether a stem is a name and a dot: turns of one thread alone.
 fn is_alone(stem: &[u8]) -> bool
     ensures { result ≡ is_alone stem.now }
 {
     has_dot(stem) && is_name(before_dot(stem))
 }
 
+/// Returns whether a count may follow a stem: `)`, `..`, a name, or a `?` and any bytes.
 fn may_repeat(stem: &[u8]) -> bool
     ensures { result ≡ may_repeat stem.now }
 {
     is_word(stem, ")") || is_word(stem, "..") || is_seeded(stem) || is_name(stem)
 }
 
-/// Returns whether a word of a plan is spelled so.
+/// Returns whether a word has the form of a plan's word. Its count or seed may be wrong.
 fn is_spelled(word: &[u8]) -> bool
     ensures { result ≡ is_spelled word.now }
 {
     may_repeat(stem_of(word)) || (!has_star(word) && (is_word(word, "(") || is_alone(word)))
 }
 
-/// Returns the count, if there is one.
+/// Returns the count after the star, or `None` without a star. Fails if it isn't a count.
 fn times_in(word: &[u8]) -> Result<Option<u32>, PlanFaultKind>
     ensures { result ≡ times_in word.now }
 {
@@ -102,14 +108,14 @@ fn or_once(times: Option<u32>) -> u32
     }
 }
 
-/// Returns whether a name is a letter and digits.
+/// Returns whether a name is this letter and at least one digit, and nothing else.
 fn is_numbered(letter: u8, name: &[u8]) -> bool
     ensures { result ≡ is_numbered letter name.now }
 {
     !name.is_empty() && name[0] == letter && are_digits(name.len(), behind_first(name))
 }
 
-/// Returns the choice of the thread with this number, among so many.
+/// Returns the choice of the thread with this number. Fails if it isn't below `count`.
 fn numbered(count: usize, expiry: bool, digits: &[u8]) -> Result<Chosen, PlanFaultKind>
     ensures { result ≡ numbered_by count expiry (number_in 2 63 digits.now) }
 {
@@ -128,7 +134,7 @@ fn numbered(count: usize, expiry: bool, digits: &[u8]) -> Result<Chosen, PlanFau
     }
 }
 
-/// Returns the thread of this name.
+/// Returns the number of the thread that has this name.
 fn thread_named(names: &[&[u8]], name: &[u8]) -> Option<u8>
     requires { length names.now ≤ 64 }
     ensures { result ≡ thread_named (map name_seen names.now) name.now }
@@ -147,13 +153,14 @@ fn behind_first(bytes: &[u8]) -> &[u8]
     &bytes[1..]
 }
 
+/// Returns whether a name begins with `x`, as `xann` does, the expiry of ann's wait.
 fn begins_expiry(name: &[u8]) -> bool
     ensures { result ≡ begins_expiry name.now }
 {
     matches!(name, [b'x', ..])
 }
 
-/// Returns the expiry of the thread whose name follows an `x`.
+/// Returns the expiry of the thread whose name follows an `x`. Fails if there is none.
 fn expiry_named(names: &[&[u8]], name: &[u8]) -> Result<Chosen, PlanFaultKind>
     requires { length names.now ≤ 64 }
     ensures { result ≡ expiry_named (map name_seen names.now) name.now }
@@ -170,7 +177,7 @@ fn expiry_named(names: &[&[u8]], name: &[u8]) -> Result<Chosen, PlanFaultKind>
     }
 }
 
-/// Returns the choice of the thread with this name, or with the name after an `x`.
+/// Returns the turn of the thread with this name, or its expiry if an `x` precedes the name.
 fn named(names: &[&[u8]], name: &[u8]) -> Result<Chosen, PlanFaultKind>
     requires { length names.now ≤ 64 }
     ensures { result ≡ named_by (map name_seen names.now) name.now
@@ -185,7 +192,7 @@ fn named(names: &[&[u8]], name: &[u8]) -> Result<Chosen, PlanFaultKind>
     }
 }
 
-/// Returns the choice that a number names, among so many threads, if no thread has the word as its name, for this reason.
+/// Returns the choice that `t` or `x` and a number name. Any other word has the fault `why`.
 fn or_numbered(why: PlanFaultKind, count: usize, name: &[u8]) -> Result<Chosen, PlanFaultKind>
     ensures { result ≡ or_numbered (Err why) count name.now }
 {
@@ -198,7 +205,7 @@ fn or_numbered(why: PlanFaultKind, count: usize, name: &[u8]) -> Result<Chosen, 
     Err(why)
 }
 
-/// Returns whose choice it is, by a name, or else by a number.
+/// Returns the choice that a word names: by a thread's name, or else as `t2` or `x2`.
 fn chosen_by(names: &[&[u8]], name: &[u8]) -> Result<Chosen, PlanFaultKind>
     requires { length names.now ≤ 64 }
     ensures { result ≡ chosen_by (map name_seen names.now) name.now }
@@ -209,7 +216,7 @@ fn chosen_by(names: &[&[u8]], name: &[u8]) -> Result<Chosen, PlanFaultKind>
     }
 }
 
-/// Returns this choice, so many times.
+/// Returns the word for this choice, made so many times, or once without a count.
 fn make(times: Option<u32>, chosen: Chosen) -> Result<Word, PlanFaultKind>
     ensures { result ≡ make times chosen }
 {
@@ -219,7 +226,7 @@ fn make(times: Option<u32>, chosen: Chosen) -> Result<Word, PlanFaultKind>
     }))
 }
 
-/// Returns turns of this thread alone.
+/// Returns the word for turns of this thread alone. Fails if the choice is an expiry.
 fn alone(chosen: Chosen) -> Result<Word, PlanFaultKind>
     ensures { result ≡ alone chosen }
 {
@@ -232,7 +239,7 @@ fn alone(chosen: Chosen) -> Result<Word, PlanFaultKind>
     }))
 }
 
-/// Returns an order by the seed that these digits spell.
+/// Returns the word for choices by the seed that these digits spell. Fails if they spell none.
 fn seeded(times: Option<u32>, digits: &[u8]) -> Result<Word, PlanFaultKind>
     ensures { result ≡ seeded_by times (seed_in digits.now) }
 {
@@ -245,7 +252,7 @@ fn seeded(times: Option<u32>, digits: &[u8]) -> Result<Word, PlanFaultKind>
     }
 }
 
-/// Returns what a stem means with a count.
+/// Returns the word of a stem with this count, or why they are no word.
 fn meaning(names: &[&[u8]], stem: &[u8], times: Option<u32>) -> Result<Word, PlanFaultKind>
     requires { length names.now ≤ 64 }
     ensures { result ≡ meaning (map name_seen names.now) stem.now times }
@@ -271,7 +278,7 @@ fn meaning(names: &[&[u8]], stem: &[u8], times: Option<u32>) -> Result<Word, Pla
     make(times, chosen_by(names, stem)?)
 }
 
-/// Returns what a word means.
+/// Returns what a word of the text means, or why it means nothing.
 pub fn word_of(names: &[&[u8]], word: &[u8]) -> Result<Word, PlanFaultKind>
     requires { length names.now ≤ 64 }
     ensures { result ≡ word_of (map name_seen names.now) word.now }

@@ -1,3 +1,4 @@
+// Which choice is next if a plan leaves it open.
 ghost use Rattle.std.specs.Prelude.{◌≡◌, ◌++◌, [], ◌<◌, IfOk, OnOk};
 ghost use Rattle.std.specs.List.{cons_option, find};
 ghost use Rattle.plans.specs.Rules.{able, alone, can_expire_in, choice_in, is_ready_in, next_choice, picked, thread_count, threads_from, turn_about, turn_of, word_at};
@@ -9,7 +10,7 @@ use rand_pcg::Pcg32;
 use std::alloc::{AllocError, Global};
 use thread_machine::Choice;
 
-/// Returns a word of a seed's numbers.
+/// Returns the number of 32 bits at place `k`, from 0, in the random sequence of a seed.
 #[tactic(auto, unfolding(crate::specs::Rules::word_at))]
 fn word_at(seed: u64, k: u32) -> u32
     ensures { result ≡ word_at seed k }
@@ -19,7 +20,7 @@ fn word_at(seed: u64, k: u32) -> u32
     words.next_word()
 }
 
-/// Returns one of these choices, by a word.
+/// Returns one of these choices, at `word` modulo their number, or `None` if there is none.
 fn picked(word: u32, choices: &[Choice]) -> Option<Choice>
     ensures { result ≡ picked word choices.now }
 {
@@ -49,7 +50,7 @@ fn push_made(choices: &mut Vec<Choice>, choice: Option<Choice>) -> Result<(), Al
 }
 
 impl Player {
-    /// The turn of a thread that is ready.
+    /// Returns the turn of a thread if there is such a thread and it is ready.
     fn alone(&self, thread: u8) -> Option<Choice>
         ensures { result ≡ alone thread self.now.world }
     {
@@ -60,7 +61,7 @@ impl Player {
         }
     }
 
-    /// The first thread from this one on that is ready.
+    /// Returns the first ready thread with at least this number.
     fn first_ready(&self, low: u8) -> Option<u8>
         ensures { result ≡ find (is_ready_in self.now.world) (threads_from low self.now.world) }
     {
@@ -72,7 +73,7 @@ impl Player {
         None
     }
 
-    /// The lowest thread whose wait may run out.
+    /// Returns the lowest thread whose wait may time out.
     fn first_expiring(&self) -> Option<u8>
         ensures { result ≡ find (can_expire_in self.now.world) (threads_from 0 self.now.world) }
     {
@@ -84,7 +85,7 @@ impl Player {
         None
     }
 
-    /// The next choice where the threads turn about.
+    /// Returns the turn of the next ready thread after the last one chosen, or else an expiry.
     #[tactic(auto, unfolding(crate::specs::Rules::turn_about))]
     fn turn_about(&self) -> Option<Choice>
         ensures { result ≡ turn_about self.now.next self.now.world }
@@ -104,7 +105,7 @@ impl Player {
         }
     }
 
-    /// The choice by which a thread can go on.
+    /// Returns a thread's turn if it is ready, or else its expiry if its wait may time out.
     fn choice_in(&self, thread: u8) -> Option<Choice>
         requires { thread < thread_count self.now.world }
         ensures { result ≡ choice_in self.now.world thread }
@@ -121,7 +122,7 @@ impl Player {
         None
     }
 
-    /// The choices by which threads can go on.
+    /// Returns for each thread in order the turn or the expiry by which it can go on, if any.
     fn able(&self, alloc: Global) -> Result<Vec<Choice>, AllocError>
         ensures { IfOk result (λ choices. choices.items ≡ able self.now.world) }
     {
@@ -132,7 +133,7 @@ impl Player {
         Ok(choices)
     }
 
-    /// Choice k by a rule.
+    /// Returns the rule's choice after `k` others, or `None` if it has none.
     #[tactic(auto, unfolding(crate::specs::Rules::next_choice))]
     pub fn next_choice(
         &self,

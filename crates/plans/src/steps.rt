@@ -1,3 +1,4 @@
+// Plays one step of a plan: a choice several times, or choices by a rule.
 ghost use Rattle.std.specs.Prelude.{◌≡◌, OnOk};
 ghost use Rattle.plans.specs.Play.{choice_of, followed, most_of, repeated, step_played};
 ghost use Rattle.plans.specs.Progress.{chosen};
@@ -17,7 +18,7 @@ fn choice_of(who: Chosen) -> Choice
 }
 
 impl Player {
-    /// Makes a choice so many times.
+    /// Makes a choice so many times, or until no choice is left.
     fn repeat(&mut self, choice: Choice, times: u32) -> Result<(), AllocError>
         ensures { OnOk result (self.new ≡ repeated times (chosen choice) self.old) }
     {
@@ -30,7 +31,7 @@ impl Player {
         Ok(())
     }
 
-    /// Makes the choices of a rule, at most so many.
+    /// Makes choices by a rule, at most `most`, until it has none or no choice is left.
     pub fn follow(&mut self, alloc: Global, rule: Rule, most: u32) -> Result<(), AllocError>
         ensures { OnOk result (self.new ≡ followed rule most 0 self.old) }
     {
@@ -46,7 +47,7 @@ impl Player {
         Ok(())
     }
 
-    /// Returns how many choices of a rule are allowed.
+    /// Returns a rule's limit: without one, all that are left and one more, so that this is noted.
     fn most_of(&self, most: Option<u32>) -> u32
         ensures { result ≡ most_of most self.now }
     {
@@ -56,7 +57,7 @@ impl Player {
         }
     }
 
-    /// Plays a step.
+    /// Makes the choices of one step: a choice several times, or choices by a rule.
     #[tactic(auto, unfolding(crate::specs::Play::step_played))]
     pub fn play_step(&mut self, alloc: Global, step: Step) -> Result<(), AllocError>
         ensures { OnOk result (self.new ≡ step_played step self.old) }

@@ -48,7 +48,7 @@ impl<'a> Model for WordsFrom<'a> {
     ghost view = { λ words. words_of_parts words.parts.now words.numbers.now words.seeds.now };
 }
 
-/// Appends a number, if the part has one and there is room.
+/// Appends a number if the part has one. Its place is already reserved.
 fn put_number(numbers: &mut Vec<u32>, takes: bool, number: u32)
     requires { vec_len numbers.old < vec_capacity numbers.old }
     ensures { numbers.new.items ≡ numbers.old.items ++ put_of takes number }
@@ -58,7 +58,7 @@ fn put_number(numbers: &mut Vec<u32>, takes: bool, number: u32)
     }
 }
 
-/// Appends a seed, if the part has one and there is room.
+/// Appends a seed if the part has one. Its place is already reserved.
 fn put_seed(seeds: &mut Vec<u64>, takes: bool, seed: u64)
     requires { vec_len seeds.old < vec_capacity seeds.old }
     ensures { seeds.new.items ≡ seeds.old.items ++ put_of takes seed }
@@ -69,7 +69,7 @@ fn put_seed(seeds: &mut Vec<u64>, takes: bool, seed: u64)
 }
 
 impl Words {
-    /// No words.
+    /// Returns an empty list of words.
     pub fn new(alloc: Global) -> Words
         ensures { result ≡ [] }
     {
@@ -80,7 +80,7 @@ impl Words {
         }
     }
 
-    /// Adds a word.
+    /// Appends a word. Fails if it is out of memory.
     pub fn push(&mut self, word: Word) -> Result<(), AllocError>
         ensures { OnOk result (self.new ≡ self.old ++ word ∷ []) }
     {
@@ -94,7 +94,7 @@ impl Words {
         Ok(())
     }
 
-    /// All of them.
+    /// Returns all words, to be read from the first on.
     pub fn all(&self) -> WordsFrom<'_>
         ensures { result ≡ self.now }
     {
@@ -106,7 +106,7 @@ impl Words {
     }
 }
 
-/// Returns the first of some numbers, if the part has one.
+/// Returns the first of some numbers if the part has one, or else 0.
 fn taken_number(takes: bool, numbers: &[u32]) -> u32
     ensures { result ≡ taken_of takes numbers.now }
 {
@@ -117,7 +117,7 @@ fn taken_number(takes: bool, numbers: &[u32]) -> u32
     }
 }
 
-/// Returns the first of some seeds, if the part has one.
+/// Returns the first of some seeds if the part has one, or else 0.
 fn taken_seed(takes: bool, seeds: &[u64]) -> u64
     ensures { result ≡ taken_of takes seeds.now }
 {
@@ -128,7 +128,7 @@ fn taken_seed(takes: bool, seeds: &[u64]) -> u64
     }
 }
 
-/// Returns the numbers after the first, if the part has one.
+/// Returns the numbers without the first if the part has one, or else all.
 fn numbers_left(takes: bool, numbers: &[u32]) -> &[u32]
     ensures { result.now ≡ left_of takes numbers.now }
 {
@@ -139,7 +139,7 @@ fn numbers_left(takes: bool, numbers: &[u32]) -> &[u32]
     }
 }
 
-/// Returns the seeds after the first, if the part has one.
+/// Returns the seeds without the first if the part has one, or else all.
 fn seeds_left(takes: bool, seeds: &[u64]) -> &[u64]
     ensures { result.now ≡ left_of takes seeds.now }
 {
@@ -159,7 +159,7 @@ fn parts_left(parts: &[Part]) -> &[Part]
 }
 
 impl<'a> WordsFrom<'a> {
-    /// These words from here on, once more.
+    /// Returns the words from here on, to be read a second time.
     pub fn again(&self) -> WordsFrom<'a>
         ensures { result ≡ self.now }
     {
@@ -170,7 +170,7 @@ impl<'a> WordsFrom<'a> {
         }
     }
 
-    /// Takes the first of them.
+    /// Returns the first word and leaves the others, or returns `None` at the end.
     pub fn next(&mut self) -> Option<Word>
         ensures some { IfSome result (λ word. self.old ≡ word ∷ self.new) }
         ensures none { result ≡ None → self.old ≡ [] }

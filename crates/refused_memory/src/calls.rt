@@ -39,7 +39,7 @@ pub enum Call<'a> {
 }
 
 impl Call<'_> {
-    /// Tries this call once.
+    /// Tries this call once: its own function makes what it needs, calls it and checks the result.
     pub fn tried(self, trial: Trial) -> Answer {
         match self {
             Call::Assemble => texts::assembling(trial),

@@ -7,7 +7,7 @@ use phase_number::Phase;
 use thread_machine::{Event, Machine, StepFault, Undo, What};
 use tier_tree::{DeclareFault, Forest, PhaserId};
 
-/// `Forest::new`.
+/// Tries `Forest::new`, which returns a forest without phasers.
 pub fn new_forest(trial: Trial) -> Answer {
     match trial.end(Forest::new(trial.begin())) {
         Ok(forest) => Answer::Right.provided(forest.len() == 0),
@@ -20,7 +20,7 @@ fn declare_root(forest: &mut Forest) -> Result<PhaserId, DeclareFault> {
     forest.declare(None, 2, Policy::Default, Phase::prevailing(7))
 }
 
-/// `Forest::declare`: after `Memory` the forest is as before, and takes the phaser.
+/// Tries `Forest::declare`: after `Memory` the forest is as before, and then takes the phaser.
 pub fn declaring(trial: Trial) -> Answer {
     match Forest::new(trial.alloc) {
         Ok(mut forest) => declared(trial, &mut forest),
@@ -28,7 +28,7 @@ pub fn declaring(trial: Trial) -> Answer {
     }
 }
 
-/// `Forest::declare` in an empty forest.
+/// Tries `Forest::declare` in this forest, which is empty.
 fn declared(trial: Trial, forest: &mut Forest) -> Answer {
     trial.begin();
     match trial.end(declare_root(forest)) {
@@ -40,7 +40,7 @@ fn declared(trial: Trial, forest: &mut Forest) -> Answer {
     }
 }
 
-/// `Forest::copy`: what was copied stands.
+/// Tries `Forest::copy`: the forest that was copied still has its phaser.
 pub fn copying_forest(trial: Trial) -> Answer {
     let Ok(mut forest) = Forest::new(trial.alloc) else {
         return Answer::Wrong;
@@ -49,7 +49,7 @@ pub fn copying_forest(trial: Trial) -> Answer {
     copied_forest(trial, &forest)
 }
 
-/// `Forest::copy` of a forest with one phaser.
+/// Tries `Forest::copy` of this forest, which has one phaser.
 fn copied_forest(trial: Trial, forest: &Forest) -> Answer {
     match trial.end(forest.copy(trial.begin())) {
         Ok(copy) => Answer::Right.provided(copy.len() == 1 && forest.len() == 1),
@@ -57,7 +57,7 @@ fn copied_forest(trial: Trial, forest: &Forest) -> Answer {
     }
 }
 
-/// `Machine::new`.
+/// Tries `Machine::new`, which returns the meeting's machine before its first choice.
 pub fn beginning(trial: Trial) -> Answer {
     let Ok(program) = program_of(trial.alloc, MEETING) else {
         return Answer::Wrong;
@@ -68,7 +68,7 @@ pub fn beginning(trial: Trial) -> Answer {
     }
 }
 
-/// `Machine::copy`. What was copied stands, and goes on.
+/// Tries `Machine::copy`: the machine that was copied is as before, and goes on.
 pub fn copying(trial: Trial) -> Answer {
     let Ok(mut machine) = meeting_after(trial.alloc, 4) else {
         return Answer::Wrong;
@@ -77,7 +77,7 @@ pub fn copying(trial: Trial) -> Answer {
     answer.provided(goes_on(trial.alloc, &mut machine, 4))
 }
 
-/// `Machine::copy` of this machine.
+/// Tries `Machine::copy` of this machine: the copy goes on.
 fn copied(trial: Trial, machine: &Machine) -> Answer {
     match trial.end(machine.copy(trial.begin())) {
         Ok(mut copy) => Answer::Right.provided(goes_on(trial.alloc, &mut copy, 4)),
@@ -85,8 +85,8 @@ fn copied(trial: Trial, machine: &Machine) -> Answer {
     }
 }
 
-/// Returns the result of the fourth choice of the meeting, `out`: no other step allocates. After `Memory` the machine is as
-/// before, and takes the choice.
+/// Judges the result of the meeting's fourth choice, `out`, the only step here that allocates. After `Memory` the machine is
+/// as before, and takes the choice.
 fn out_answer(trial: Trial, machine: &mut Machine, answered: Result<Event, StepFault>) -> Answer {
     match answered {
         Ok(event) => {
@@ -97,7 +97,7 @@ fn out_answer(trial: Trial, machine: &mut Machine, answered: Result<Event, StepF
     }
 }
 
-/// `Machine::step`.
+/// Tries `Machine::step` at the meeting's fourth choice.
 pub fn stepping(trial: Trial) -> Answer {
     let Ok(mut machine) = meeting_after(trial.alloc, 3) else {
         return Answer::Wrong;
@@ -107,7 +107,7 @@ pub fn stepping(trial: Trial) -> Answer {
     out_answer(trial, &mut machine, answered)
 }
 
-/// `Machine::step_noting`.
+/// Tries `Machine::step_noting` at the meeting's fourth choice.
 pub fn noting(trial: Trial) -> Answer {
     let Ok(mut machine) = meeting_after(trial.alloc, 3) else {
         return Answer::Wrong;
@@ -117,7 +117,7 @@ pub fn noting(trial: Trial) -> Answer {
     out_answer(trial, &mut machine, answered)
 }
 
-/// The event of a step, without what takes it back.
+/// Returns the event of a step, without what takes it back.
 fn noted(answered: Result<(Event, Undo), StepFault>) -> Result<Event, StepFault> {
     match answered {
         Ok((event, _)) => Ok(event),

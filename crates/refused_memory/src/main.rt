@@ -28,7 +28,7 @@ use std::alloc::AllocError;
 use std::io;
 use sweep::Trials;
 
-/// How many requests runs make with a short schedule and with a long one.
+/// Writes whether runs, and comparisons, make as many requests with either of these schedules.
 fn tell_counts(trials: &mut Trials, short: &[u8], long: &[u8]) {
     trials.tell_counts(
         "run_text of 10,000 and of 100,000 tokens",
@@ -42,7 +42,7 @@ fn tell_counts(trials: &mut Trials, short: &[u8], long: &[u8]) {
     );
 }
 
-/// How many requests long runs make.
+/// Writes whether runs of 10,000 and of 100,000 choices make as many requests.
 fn tell_long_runs(trials: &mut Trials) -> Result<(), AllocError> {
     let short = runs::rounds(trials.alloc, 10_000)?;
     let long = runs::rounds(trials.alloc, 100_000)?;
@@ -50,7 +50,7 @@ fn tell_long_runs(trials: &mut Trials) -> Result<(), AllocError> {
     Ok(())
 }
 
-/// The debugger and its commands.
+/// Tries the debugger and each of its commands, and writes the results.
 fn tell_debugger(trials: &mut Trials) {
     trials.tell_all(calls::DEBUGGER);
     for command in &sessions::COMMANDS {

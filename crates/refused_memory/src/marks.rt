@@ -18,27 +18,28 @@ const COUNT: usize = 7_200_001;
 /// This request is refused if there are more or fewer blocks than at `COUNT`.
 const COMPARE: usize = 7_200_002;
 
+/// Requests a block of this size, by which the library is called. Returns whether it is refused.
 fn is_refused(alloc: Global, size: usize) -> bool {
     Vec::<u8>::with_capacity(alloc, size).is_err()
 }
 
-/// From now on this request is refused, alone or with all that follow.
+/// From now on the request of this number, from 1, is refused: alone, or with all that follow.
 pub fn begin(alloc: Global, request: u16, all: bool) {
     let mark = if all { REFUSE_ALL } else { REFUSE_ONE };
     let _ = is_refused(alloc, mark + usize::from(request));
 }
 
-/// From now on none is refused; whether one was.
+/// From now on no request is refused. Returns whether one was.
 pub fn end(alloc: Global) -> bool {
     is_refused(alloc, END)
 }
 
-/// Counts the blocks that are in use.
+/// Makes the library note how many blocks are in use.
 pub fn count(alloc: Global) {
     let _ = is_refused(alloc, COUNT);
 }
 
-/// Returns whether more or fewer blocks are in use than then.
+/// Returns whether more or fewer blocks are in use than at the last `count`.
 pub fn is_left_over(alloc: Global) -> bool {
     is_refused(alloc, COMPARE)
 }

@@ -35,7 +35,7 @@ pub const SECOND: Run = Run {
 /// The turns until all have ended. The fourth and the sixth put a value out.
 pub const TURNS: [Run; 7] = [FIRST, SECOND, FIRST, FIRST, FIRST, SECOND, SECOND];
 
-/// The image of a text that has no fault.
+/// Returns the image of a text. Any fault counts as out of memory, since the text has none.
 pub fn image_of(alloc: Global, text: &[u8]) -> Result<Image, AllocError> {
     match assemble(alloc, text) {
         Ok(image) => Ok(image),
@@ -43,7 +43,7 @@ pub fn image_of(alloc: Global, text: &[u8]) -> Result<Image, AllocError> {
     }
 }
 
-/// The program of a text that is loaded.
+/// Returns the program of a text. Any fault counts as out of memory, since the text has none.
 pub fn program_of(alloc: Global, text: &[u8]) -> Result<Loaded, AllocError> {
     match load(alloc, image_of(alloc, text)?) {
         Ok(program) => Ok(program),
@@ -51,7 +51,7 @@ pub fn program_of(alloc: Global, text: &[u8]) -> Result<Loaded, AllocError> {
     }
 }
 
-/// The trace of a text and a schedule that is not refused.
+/// Returns the trace of a text under a schedule. Any fault counts as out of memory.
 pub fn trace_of(alloc: Global, text: &[u8], schedule: &[u8]) -> Result<MemorySink, AllocError> {
     let mut source = MemorySource::new(schedule, None);
     let mut trace = MemorySink::new(alloc, 2_000_000, None)?;
@@ -71,7 +71,7 @@ fn plays(machine: &mut Machine, turns: &[Run]) -> bool {
     true
 }
 
-/// The machine of the meeting before its first choice.
+/// Returns the machine of the meeting before its first choice.
 fn meeting(alloc: Global) -> Result<Machine, AllocError> {
     match program_of(alloc, MEETING) {
         Ok(program) => Machine::new(alloc, program, 1000),
@@ -79,7 +79,7 @@ fn meeting(alloc: Global) -> Result<Machine, AllocError> {
     }
 }
 
-/// The machine of the meeting after its first choices.
+/// Returns the machine of the meeting after its first `count` choices.
 pub fn meeting_after(alloc: Global, count: usize) -> Result<Machine, AllocError> {
     let (turns, _) = TURNS.split_at(count.min(7));
     let mut machine = meeting(alloc)?;

@@ -14,14 +14,14 @@ const EVENT: Event = Event {
     mark: Mark::Phase { root: 0, view: 1 },
 };
 
-/// A text of three bytes with room for no more.
+/// Returns a text of three bytes with room for no more, so that an append has to allocate.
 fn full_text(alloc: Global) -> Result<Vec<u8>, AllocError> {
     let mut text = Vec::with_capacity(alloc, 3)?;
     text.extend_from_slice(b"abc")?;
     Ok(text)
 }
 
-/// Returns the result of a call that appends a line to these three bytes: after a refusal the text is as before.
+/// Judges a call that appends a line to these three bytes: after a refusal they are as before.
 fn line_answer(answered: Result<(), AllocError>, text: &[u8], wanted: &[u8]) -> Answer {
     match answered {
         Ok(()) => Answer::Right.provided(text == wanted),
@@ -29,7 +29,7 @@ fn line_answer(answered: Result<(), AllocError>, text: &[u8], wanted: &[u8]) -> 
     }
 }
 
-/// `event_line`.
+/// Tries `event_line`: after a refusal the text is as before.
 pub fn event(trial: Trial) -> Answer {
     let Ok(mut text) = full_text(trial.alloc) else {
         return Answer::Wrong;
@@ -39,7 +39,7 @@ pub fn event(trial: Trial) -> Answer {
     line_answer(answered, text.as_slice(), b"abc7 t0 5 = -5 +p0 1\n")
 }
 
-/// `refusal_line`.
+/// Tries `refusal_line`: after a refusal the text is as before.
 pub fn refusal(trial: Trial) -> Answer {
     let Ok(mut text) = full_text(trial.alloc) else {
         return Answer::Wrong;
@@ -53,7 +53,7 @@ pub fn refusal(trial: Trial) -> Answer {
 const AT_FIRST: &[u8] = b"state 0 0 live\nt0 0 runs 0 regs 0 0 0 0 0 0 0 0 stack out\n\
 t1 0 runs 0 regs 0 0 0 0 0 0 0 0 stack out\np0 0 2 0 2\n";
 
-/// `state_text`. The machine stands.
+/// Tries `state_text`: the machine is as before.
 pub fn state(trial: Trial) -> Answer {
     match meeting_after(trial.alloc, 0) {
         Ok(machine) => stated(trial, &machine),
@@ -61,7 +61,7 @@ pub fn state(trial: Trial) -> Answer {
     }
 }
 
-/// `state_text` of this machine.
+/// Tries `state_text` of this machine.
 fn stated(trial: Trial, machine: &Machine) -> Answer {
     let answer = match trial.end(state_text(trial.begin(), machine)) {
         Ok(text) => Answer::Right.provided(text.as_slice() == AT_FIRST),
@@ -92,7 +92,7 @@ fn is_beginning(bytes: &[u8], trace: &[u8]) -> bool {
     trace.starts_with(bytes)
 }
 
-/// `run_text`: what was written before `Memory` is a beginning of the lines of the choices.
+/// Tries `run_text`: what is written before `Memory` is a beginning of the lines of the choices.
 pub fn playing(trial: Trial, text: &[u8], schedule: &[u8]) -> Answer {
     match trace_of(trial.alloc, text, schedule) {
         Ok(wanted) => played(trial, text, schedule, wanted.bytes()),
@@ -100,7 +100,7 @@ pub fn playing(trial: Trial, text: &[u8], schedule: &[u8]) -> Answer {
     }
 }
 
-/// `run_text`, which writes this trace if nothing is refused.
+/// Tries `run_text`, which writes the trace `wanted` if nothing is refused.
 fn played(trial: Trial, text: &[u8], schedule: &[u8], wanted: &[u8]) -> Answer {
     let Ok(mut trace) = MemorySink::new(trial.alloc, 2_000_000, None) else {
         return Answer::Wrong;
@@ -116,7 +116,7 @@ fn played(trial: Trial, text: &[u8], schedule: &[u8], wanted: &[u8]) -> Answer {
     }
 }
 
-/// `compare`.
+/// Tries `compare` with the trace that the text has under this schedule.
 pub fn comparing(trial: Trial, text: &[u8], schedule: &[u8]) -> Answer {
     match trace_of(trial.alloc, text, schedule) {
         Ok(trace) => compared(trial, text, trace.bytes()),
@@ -124,7 +124,7 @@ pub fn comparing(trial: Trial, text: &[u8], schedule: &[u8]) -> Answer {
     }
 }
 
-/// `compare` of this trace with its run.
+/// Tries `compare` of this trace with its run: the verdict is `Same`, unless memory is refused.
 fn compared(trial: Trial, text: &[u8], trace: &[u8]) -> Answer {
     let Ok(image) = image_of(trial.alloc, text) else {
         return Answer::Wrong;

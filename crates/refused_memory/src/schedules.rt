@@ -16,7 +16,7 @@ fn is_beginning(runs: &[Run]) -> bool {
     runs.len() <= 9
 }
 
-/// `Reader::feed`: after `Memory` the list has the runs of whole tokens, and the reader returns `Memory` for ever.
+/// Tries `Reader::feed`: after `Memory` there are runs of whole tokens, and `Memory` comes again.
 pub fn feeding(trial: Trial) -> Answer {
     let mut runs = Vec::new(trial.alloc);
     let mut reader = Reader::new();
@@ -33,7 +33,7 @@ pub fn feeding(trial: Trial) -> Answer {
     }
 }
 
-/// `Reader::finish`, which the last token needs: after `Memory` the list is as before.
+/// Tries `Reader::finish`, which appends the last token: after `Memory` the list is as before.
 pub fn finishing(trial: Trial) -> Answer {
     let mut runs = Vec::new(trial.alloc);
     let mut reader = Reader::new();
@@ -47,7 +47,7 @@ pub fn finishing(trial: Trial) -> Answer {
     }
 }
 
-/// `write_schedule`.
+/// Tries `write_schedule`, which returns a token for each of two runs.
 pub fn writing(trial: Trial) -> Answer {
     let choice = Choice {
         thread: 63,

@@ -7,7 +7,7 @@ use debugger::{CommandFault, Debugger, Stop};
 use std::alloc::{AllocError, Global};
 use thread_machine::{Machine, StepFault};
 
-/// A debugger of the meeting that has played its first choices.
+/// Returns a debugger of the meeting that has played its first `count` choices.
 fn debugger_after(alloc: Global, count: usize) -> Result<Debugger, AllocError> {
     let machine = meeting_after(alloc, 0)?;
     let mut debugger = Debugger::new(alloc, machine, 8)?;
@@ -36,7 +36,7 @@ fn begins(alloc: Global, mut debugger: Debugger) -> bool {
     goes_on(alloc, &mut debugger, 0)
 }
 
-/// `Debugger::new` with this machine.
+/// Tries `Debugger::new` with this machine: the debugger plays the meeting and takes it back.
 fn opened(trial: Trial, machine: Machine) -> Answer {
     match trial.end(Debugger::new(trial.begin(), machine, 8)) {
         Ok(debugger) => Answer::Right.provided(begins(trial.alloc, debugger)),
@@ -44,7 +44,7 @@ fn opened(trial: Trial, machine: Machine) -> Answer {
     }
 }
 
-/// `Debugger::new`.
+/// Tries `Debugger::new` with the machine of the meeting.
 pub fn opening(trial: Trial) -> Answer {
     match meeting_after(trial.alloc, 0) {
         Ok(machine) => opened(trial, machine),
@@ -72,12 +72,12 @@ pub fn asking(trial: Trial, asked: Asked) -> Answer {
     }
 }
 
-/// What the debugger is asked for. The debugger is dropped here.
+/// Does what `answer` does, and drops the debugger.
 fn answered(trial: Trial, mut debugger: Debugger, asked: Asked) -> Answer {
     answer(trial, &mut debugger, asked)
 }
 
-/// What the debugger is asked for.
+/// Tries what the debugger is asked for.
 fn answer(trial: Trial, debugger: &mut Debugger, asked: Asked) -> Answer {
     match asked {
         Asked::Step => stepped(trial, debugger),
@@ -86,7 +86,7 @@ fn answer(trial: Trial, debugger: &mut Debugger, asked: Asked) -> Answer {
     }
 }
 
-/// `Debugger::step` at the meeting's fourth choice, which puts a value out.
+/// Tries `Debugger::step` at the meeting's fourth choice, which puts a value out.
 fn stepped(trial: Trial, debugger: &mut Debugger) -> Answer {
     trial.begin();
     let (answer, count) = match trial.end(debugger.step(FIRST.choice)) {
@@ -97,8 +97,8 @@ fn stepped(trial: Trial, debugger: &mut Debugger) -> Answer {
     answer.provided(goes_on(trial.alloc, debugger, count))
 }
 
-/// `Debugger::go` with the meeting's last five choices, after the first two. If memory is refused, it stops before one of the two
-/// that put a value out, after 1 or 3 of the five, and these stay.
+/// Tries `Debugger::go` with the last five choices of the meeting. Two of them put a value out, the second and the fourth. If
+/// memory is refused there, `go` stops before that choice, and the 1 or 3 choices before it stay played.
 fn gone(trial: Trial, debugger: &mut Debugger) -> Answer {
     let (_, rest) = TURNS.split_at(2);
     trial.begin();
@@ -111,8 +111,7 @@ fn gone(trial: Trial, debugger: &mut Debugger) -> Answer {
     answer.provided(goes_on(trial.alloc, debugger, count))
 }
 
-/// A name, a line for `Debugger::command` after the meeting's third choice, its reply, and how many choices are played after
-/// it.
+/// A name, a line for `Debugger::command` after three choices, its reply, and how many choices are played after it.
 pub type Command = (&'static str, &'static [u8], &'static [u8], usize);
 
 /// The commands that are tried.
@@ -133,7 +132,7 @@ t1 1 runs 0 regs 1 0 0 0 0 0 0 0 stack out\np0 1 2 0 2\n",
     ("no command", b"g t0 t64", b"?\n", 3),
 ];
 
-/// `Debugger::command`. Where a step wanted memory the reply says so.
+/// Tries `Debugger::command`: if memory is refused, it fails or the reply of `g` says so.
 fn commanded(trial: Trial, debugger: &mut Debugger, command: &Command) -> Answer {
     let (_, line, wanted, behind) = *command;
     let Ok(mut output) = MemorySink::new(trial.alloc, 1000, None) else {
@@ -145,7 +144,7 @@ fn commanded(trial: Trial, debugger: &mut Debugger, command: &Command) -> Answer
     answer.provided(goes_on(trial.alloc, debugger, count))
 }
 
-/// Returns what a command and its reply come to, and how many choices are played then.
+/// Judges a command and its reply. Also returns how many choices have to be played after it.
 fn command_answer(
     answered: Result<bool, CommandFault>,
     reply: &[u8],

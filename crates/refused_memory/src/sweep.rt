@@ -19,7 +19,7 @@ enum Outcome {
 /// Requests of one call that are refused at most.
 const MOST: u16 = 60_000;
 
-/// Refuses each request in turn, alone or with all that follow, until the call makes no more.
+/// Tries a call with its first request refused, then its second, and so on, until it makes no more.
 fn swept(alloc: Global, all: bool, call: Call) -> Outcome {
     let mut memory = 0u16;
     for request in 1..=MOST {
@@ -46,7 +46,7 @@ fn swept(alloc: Global, all: bool, call: Call) -> Outcome {
     Outcome::Wrong(MOST)
 }
 
-/// Returns what two runs come to, of which the second is ten times as long.
+/// Returns in words whether two calls, of which the second has a longer run, make as many requests.
 fn compared(short: Outcome, long: Outcome) -> &'static str {
     match (short, long) {
         (Outcome::Refused { requests: few, .. }, Outcome::Refused { requests: many, .. }) => {
@@ -70,7 +70,7 @@ pub struct Trials<'a> {
 }
 
 impl<'a> Trials<'a> {
-    /// Tries a call, and writes the result: with each request refused alone, and with each request and all later ones refused.
+    /// Tries a call and writes the results: each request refused alone, or with all later ones.
     pub fn tell(&mut self, name: &str, call: Call) {
         self.try_once(name, false, call);
         self.try_once(name, true, call);
@@ -83,7 +83,7 @@ impl<'a> Trials<'a> {
         }
     }
 
-    /// Tries a call, and writes the result: with each request refused alone, or with each request and all later ones refused.
+    /// Tries a call with each request refused, alone or with all later ones, and writes the result.
     fn try_once(&mut self, name: &str, all: bool, call: Call) {
         if self.written.is_ok() {
             let outcome = swept(self.alloc, all, call);
@@ -96,7 +96,7 @@ impl<'a> Trials<'a> {
         }
     }
 
-    /// Writes the result of a call.
+    /// Writes the result of a call as one line.
     fn write(&self, name: &str, which: &str, outcome: Outcome) -> io::Result<()> {
         let came = match outcome {
             Outcome::Refused { requests: 0, .. } => {
@@ -111,7 +111,7 @@ impl<'a> Trials<'a> {
         println!(self.rt; "{name}, {which} refused: {came}")
     }
 
-    /// Writes whether a run makes as many requests as one of ten times its length, and each of both returns the right result.
+    /// Writes whether a run makes as many requests as a run of ten times its length.
     pub fn tell_counts(&mut self, name: &str, short: Call, long: Call) {
         if self.written.is_ok() {
             let short = swept(self.alloc, false, short);

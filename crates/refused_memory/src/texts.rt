@@ -33,7 +33,7 @@ fn lists(alloc: Global, image: &Image, listing: &[u8]) -> bool {
     }
 }
 
-/// Returns whether the machine of a program begins like that of the text.
+/// Returns whether the machine of a program is that of the text before its first choice.
 fn begins(alloc: Global, program: Loaded) -> bool {
     match Machine::new(alloc, program, 1000) {
         Ok(machine) => shows(alloc, &machine, AT_FIRST),
@@ -41,7 +41,7 @@ fn begins(alloc: Global, program: Loaded) -> bool {
     }
 }
 
-/// `assemble`. A fault for want of memory names a line of the text.
+/// Tries `assemble`: if memory is refused, the fault names a line of the text.
 pub fn assembling(trial: Trial) -> Answer {
     match trial.end(assemble(trial.begin(), TEXT)) {
         Ok(image) => Answer::Right.provided(lists(trial.alloc, &image, LISTING)),
@@ -52,7 +52,7 @@ pub fn assembling(trial: Trial) -> Answer {
     }
 }
 
-/// `disassemble`. The image stands.
+/// Tries `disassemble`: the image is as before.
 pub fn listing(trial: Trial) -> Answer {
     match image_of(trial.alloc, TEXT) {
         Ok(image) => listed(trial, &image),
@@ -60,7 +60,7 @@ pub fn listing(trial: Trial) -> Answer {
     }
 }
 
-/// `disassemble` of this image.
+/// Tries `disassemble` of this image.
 fn listed(trial: Trial, image: &Image) -> Answer {
     let answer = match trial.end(disassemble(trial.begin(), image)) {
         Ok(text) => Answer::Right.provided(text.as_slice() == LISTING),
@@ -69,7 +69,7 @@ fn listed(trial: Trial, image: &Image) -> Answer {
     answer.provided(lists(trial.alloc, image, LISTING))
 }
 
-/// `read_image`.
+/// Tries `read_image` on the bytes of an image.
 pub fn reading(trial: Trial) -> Answer {
     let listing = b".thread t0 #1\n.thread t1 #0\nout r0\nhalt\n";
     match trial.end(read_image(trial.begin(), IMAGE)) {
@@ -79,7 +79,7 @@ pub fn reading(trial: Trial) -> Answer {
     }
 }
 
-/// `load`.
+/// Tries `load` on the image of the text.
 pub fn loading(trial: Trial) -> Answer {
     let Ok(image) = image_of(trial.alloc, TEXT) else {
         return Answer::Wrong;
@@ -91,7 +91,7 @@ pub fn loading(trial: Trial) -> Answer {
     }
 }
 
-/// `Loaded::copy`. What was copied stands.
+/// Tries `Loaded::copy`: the program that was copied is as before.
 pub fn copying(trial: Trial) -> Answer {
     let Ok(program) = program_of(trial.alloc, TEXT) else {
         return Answer::Wrong;
@@ -100,7 +100,7 @@ pub fn copying(trial: Trial) -> Answer {
     answer.provided(begins(trial.alloc, program))
 }
 
-/// `Loaded::copy` of this program.
+/// Tries `Loaded::copy` of this program.
 fn copied(trial: Trial, program: &Loaded) -> Answer {
     match trial.end(program.copy(trial.begin())) {
         Ok(copy) => Answer::Right.provided(begins(trial.alloc, copy)),

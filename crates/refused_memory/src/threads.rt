@@ -15,7 +15,7 @@ use thread_machine::{Choice, Event, Machine};
 use thread_runner::{Journaled, LiveFault, LiveRun, NoGate, TakeFault, run_live};
 use trace_text::state::state_text;
 
-/// Returns whether each line of a trace's choices is a step, and the trace ends so.
+/// Returns whether a trace has neither an idle nor a refused choice, and ends with `end`.
 fn has_steps(trace: &[u8], end: &[u8]) -> bool {
     for line in trace.split(|byte| *byte == b'\n') {
         if line.ends_with(b" idle") || line.ends_with(b" none") || line.ends_with(b" limit") {
@@ -25,7 +25,7 @@ fn has_steps(trace: &[u8], end: &[u8]) -> bool {
     trace.ends_with(end)
 }
 
-/// Returns whether each choice of a schedule is taken and is a step, and the trace ends so.
+/// Returns whether each choice of a schedule is a step, and the run's trace ends with `end`.
 fn is_played(alloc: Global, text: &[u8], schedule: &[u8], end: &[u8]) -> bool {
     match trace_of(alloc, text, schedule) {
         Ok(trace) => has_steps(trace.bytes(), end),
@@ -33,7 +33,7 @@ fn is_played(alloc: Global, text: &[u8], schedule: &[u8], end: &[u8]) -> bool {
     }
 }
 
-/// Returns whether each choice of a schedule is taken and is a step, and leads to the state of a machine.
+/// Returns whether each choice of a schedule is a step, and they lead to a machine's state.
 fn leads_to(alloc: Global, text: &[u8], schedule: &[u8], machine: &Machine) -> bool {
     match state_text(alloc, machine) {
         Ok(state) => is_played(alloc, text, schedule, state.as_slice()),
@@ -46,7 +46,7 @@ fn begins(alloc: Global, record: Journaled) -> bool {
     is_at(alloc, record.machine(), 0)
 }
 
-/// `Journaled::new` of this program.
+/// Tries `Journaled::new` with this program.
 fn recorded(trial: Trial, program: Loaded) -> Answer {
     match trial.end(Journaled::new(trial.begin(), program, 1000)) {
         Ok(record) => Answer::Right.provided(begins(trial.alloc, record)),
@@ -54,7 +54,7 @@ fn recorded(trial: Trial, program: Loaded) -> Answer {
     }
 }
 
-/// `Journaled::new`.
+/// Tries `Journaled::new` with the meeting: the record is at its beginning.
 pub fn recording(trial: Trial) -> Answer {
     match program_of(trial.alloc, MEETING) {
         Ok(program) => recorded(trial, program),
@@ -62,7 +62,7 @@ pub fn recording(trial: Trial) -> Answer {
     }
 }
 
-/// Takes a thread's step, or lets its wait expire, if there is such a thread.
+/// Takes a thread's turn, or lets its wait expire. Without such a thread it is not ready.
 fn take(record: &mut Journaled, choice: Choice) -> Result<Event, TakeFault> {
     if usize::from(choice.thread) >= record.machine().thread_count() {
         Err(TakeFault::NotReady)
@@ -83,7 +83,7 @@ fn takes(record: &mut Journaled, turns: &[Run]) -> bool {
     true
 }
 
-/// The record of a text's run before the first turn.
+/// Returns the record of a text's run before its first turn.
 fn record_of(alloc: Global, text: &[u8]) -> Result<Journaled, AllocError> {
     match program_of(alloc, text) {
         Ok(program) => Journaled::new(alloc, program, 1000),
@@ -96,8 +96,8 @@ fn leads(alloc: Global, text: &[u8], schedule: &[u8], record: &Journaled) -> boo
     record.schedule() == schedule && leads_to(alloc, text, schedule, record.machine())
 }
 
-/// Takes a choice after these turns, with which the record is this schedule. After `Memory` the record is as before, and takes
-/// it.
+/// Tries to take a choice after these turns, which makes the record `schedule`. After `Memory` the record is as before, and
+/// then takes the choice.
 fn taking(trial: Trial, text: &[u8], turns: &[Run], choice: Choice, schedule: &[u8]) -> Answer {
     match record_of(trial.alloc, text) {
         Ok(record) => taken_behind(trial, text, record, turns, choice, schedule),
@@ -105,7 +105,7 @@ fn taking(trial: Trial, text: &[u8], turns: &[Run], choice: Choice, schedule: &[
     }
 }
 
-/// The same, from a record on that hasn't taken these turns yet. The record is dropped here.
+/// Does what `taking` does, on a record that hasn't taken these turns yet, which it drops.
 fn taken_behind(
     trial: Trial,
     text: &[u8],
@@ -118,7 +118,7 @@ fn taken_behind(
     taken(trial, text, &mut record, choice, schedule).provided(has_taken)
 }
 
-/// The same, after the turns.
+/// Does what `taking` does, on a record that has taken the turns.
 fn taken(
     trial: Trial,
     text: &[u8],
@@ -139,7 +139,7 @@ fn taken(
     answer.provided(leads(trial.alloc, text, schedule, record))
 }
 
-/// `Journaled::take_step` at `out` of a thread whose turn it was not last.
+/// Tries `Journaled::take_step` at an `out`, of a thread that didn't have the last turn.
 pub fn taking_step(trial: Trial) -> Answer {
     let turns = [FIRST, SECOND, FIRST];
     taking(trial, MEETING, &turns, SECOND.choice, b"t0 t1 t0 t1")
@@ -149,7 +149,7 @@ pub fn taking_step(trial: Trial) -> Answer {
 const TIMED: &[u8] = b".phaser p 2\n.thread a m\n.thread b n\n\
 m: ldi r2 1\npawaitt r0 p r1 r2\nhalt\nn: ldi r0 1\nldi r0 1\nhalt\n";
 
-/// `Journaled::take_expiry` at the end of a timed wait, for which the record has no room yet.
+/// Tries `Journaled::take_expiry` at the end of a timed wait. The record has no room for it yet.
 pub fn taking_expiry(trial: Trial) -> Answer {
     let turns = [FIRST, SECOND, FIRST, SECOND, SECOND];
     let expiry = Choice {
@@ -159,7 +159,7 @@ pub fn taking_expiry(trial: Trial) -> Answer {
     taking(trial, TIMED, &turns, expiry, b"t0 t1 t0 t1 t1 x0")
 }
 
-/// `SharedPhaser::new` of two parties in phase 0, of whom none has arrived.
+/// Tries `SharedPhaser::new` with two parties in phase 0, of whom none has arrived.
 pub fn sharing(trial: Trial) -> Answer {
     let made = SharedPhaser::new(trial.begin(), 2, Policy::Default, Phase::prevailing(0));
     trial.end(());
@@ -170,7 +170,7 @@ pub fn sharing(trial: Trial) -> Answer {
     }
 }
 
-/// `run_live`: its schedule leads to its machine; or what a run that was broken off left is a schedule that was played.
+/// Tries `run_live`: its schedule leads to its machine, or what a broken run left can be played.
 fn running<R: Threads + Wait + Sync>(rt: &R, trial: Trial) -> Answer {
     let Ok(program) = program_of(trial.alloc, MEETING) else {
         return Answer::Wrong;

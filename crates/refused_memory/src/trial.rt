@@ -17,7 +17,7 @@ pub enum Answer {
 }
 
 impl Answer {
-    /// This, provided that something holds.
+    /// Returns this answer if the condition holds, and `Wrong` if not.
     pub fn provided(self, holds: bool) -> Answer {
         if holds { self } else { Answer::Wrong }
     }
@@ -34,13 +34,13 @@ pub struct Trial {
 }
 
 impl Trial {
-    /// The call begins: this request of it is refused, alone or with all that follow. What it allocates by is given.
+    /// Begins the call: the trial's request of it is refused. Returns the allocator for the call.
     pub fn begin(&self) -> Global {
         marks::begin(self.alloc, self.request, self.all);
         self.alloc
     }
 
-    /// Ends the call, with this result.
+    /// Ends the call: no request is refused any more. Returns the call's result, which is given.
     pub fn end<T>(&self, answered: T) -> T
         ensures { result ≡ answered }
     {

@@ -16,7 +16,7 @@ static PUSHES: [(usize, usize); 7] = [
     (BLOCK + 1, 2),
 ];
 
-/// Returns whether a port takes a piece so often, and writes all of it by its end.
+/// Returns whether a port takes a piece so often, and has written all of it when it is finished.
 fn writes(alloc: Global, piece: &[u8], times: usize) -> Result<bool, AllocError> {
     let mut kept = Vec::new(alloc);
     let mut port = BlockPort::new(alloc, WritePort::new(&mut kept))?;
@@ -30,6 +30,7 @@ fn writes(alloc: Global, piece: &[u8], times: usize) -> Result<bool, AllocError>
     Ok(is_finished && kept.len() == piece.len().saturating_mul(times))
 }
 
+/// A block port writes all bytes, whether its pieces are shorter or longer than a block.
 #[test]
 fn blocks_are_handed_on(rt: HostRuntime) -> Result<(), AllocError> {
     for (length, times) in &PUSHES {

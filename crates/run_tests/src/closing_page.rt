@@ -29,7 +29,7 @@ use trace_compare::Verdict;
 use trace_text::start::StartFault;
 use trace_text::state::state_text;
 
-/// A thread's turn.
+/// Returns a thread's turn.
 fn turn(thread: u8) -> Choice {
     Choice {
         thread,
@@ -37,7 +37,7 @@ fn turn(thread: u8) -> Choice {
     }
 }
 
-/// A turn of each of these threads.
+/// Returns a turn of each of these threads, in order.
 fn turns(alloc: Global, threads: &[u8]) -> Result<Vec<Choice>, AllocError> {
     let mut choices = Vec::new(alloc);
     for thread in threads {
@@ -46,18 +46,18 @@ fn turns(alloc: Global, threads: &[u8]) -> Result<Vec<Choice>, AllocError> {
     Ok(choices)
 }
 
-/// The machine of the meeting after these choices, if its program is played.
+/// Returns the machine of the meeting after these choices, if its program is played.
 fn played(alloc: Global, choices: &[Choice]) -> Option<Machine> {
     play(alloc, image_of(alloc, MEETING)?, choices).ok()
 }
 
-/// The machine of the meeting after a turn of each of these threads, if its program is played.
+/// Returns the machine of the meeting after turns of these threads, if its program is played.
 fn met(alloc: Global, threads: &[u8]) -> Option<Machine> {
     let choices = turns(alloc, threads).ok()?;
     played(alloc, choices.as_slice())
 }
 
-/// They meet, and both go on with phase 1.
+/// The meeting's schedule ends both threads: each puts out 1, the phase that follows.
 #[test]
 fn both_threads_end(rt: HostRuntime) {
     let state = b"state 7 7 all\nt0 2 ended 0 regs 1 0 0 0 0 0 0 0 stack out 1\n\
@@ -77,7 +77,7 @@ fn a_refused_choice_is_the_last(rt: HostRuntime) {
     }
 }
 
-/// No thread is declared.
+/// A program without a thread is refused, so no machine plays it.
 #[test]
 fn a_program_with_a_fault_is_not_played(rt: HostRuntime) {
     match image_of(rt.alloc(), "halt\n") {
@@ -125,6 +125,7 @@ fn steps_and_comes_back(machine: &mut Machine) -> bool {
         && machine.steps() == 1
 }
 
+/// What a step returns takes it back. A refused step changes nothing.
 #[test]
 fn a_step_is_taken_back(rt: HostRuntime) {
     match met(rt.alloc(), &[0]) {
@@ -156,7 +157,7 @@ fn are_taken_back(alloc: Global, debugger: &mut Debugger, choices: &[Choice]) ->
     }
 }
 
-/// The whole meeting, and back to the moment at which the first thread waits.
+/// Returns whether the meeting, after its first turn, is played and taken back to there.
 fn is_meeting_taken_back(alloc: Global, machine: Machine) -> bool {
     let choices = [turn(1), turn(0), turn(0), turn(0), turn(1), turn(1)];
     match Debugger::new(alloc, machine, 6) {
@@ -165,6 +166,7 @@ fn is_meeting_taken_back(alloc: Global, machine: Machine) -> bool {
     }
 }
 
+/// A session that keeps six choices takes back as many.
 #[test]
 fn a_meeting_is_taken_back(rt: HostRuntime) {
     match met(rt.alloc(), &[0]) {
@@ -187,11 +189,12 @@ fn goes_on_and_back(debugger: &mut Debugger) -> bool {
         && session::present(debugger).steps() == 1
 }
 
-/// The session of the meeting that keeps one choice.
+/// Returns a session of the meeting that keeps one choice.
 fn begun(alloc: Global) -> Option<Debugger> {
     session::begin(alloc, met(alloc, &[])?, 1).ok()
 }
 
+/// A session that keeps one choice takes back one, and no second one.
 #[test]
 fn a_session_steps_on_and_back(rt: HostRuntime) {
     match begun(rt.alloc()) {
@@ -200,7 +203,7 @@ fn a_session_steps_on_and_back(rt: HostRuntime) {
     }
 }
 
-/// A call at the first phaser of a forest, if there is one.
+/// Makes one party arrive at the first phaser of a forest, or leave it, if there is a phaser.
 fn arrives(forest: &mut Forest, leave: bool) -> Option<Arrived> {
     if forest.len() == 0 {
         return None;
@@ -208,6 +211,7 @@ fn arrives(forest: &mut Forest, leave: bool) -> Option<Arrived> {
     Some(arrive(forest, PhaserId(0), leave))
 }
 
+/// Registers one party with the first phaser of a forest, if there is one.
 fn registers(forest: &mut Forest) -> Option<Registered> {
     if forest.len() == 0 {
         return None;
@@ -215,7 +219,7 @@ fn registers(forest: &mut Forest) -> Option<Registered> {
     Some(register(forest, PhaserId(0), 1))
 }
 
-/// Whether the phase of the first phaser could end, and has ended.
+/// Ends the phase of the first phaser if its contract allows it. Returns whether it has ended.
 fn ends_phase(forest: &mut Forest) -> bool {
     let id = PhaserId(0);
     if forest.len() == 0 || forest.root(id).0 != 0 || !forest.is_turned(id) {
@@ -250,6 +254,7 @@ fn calls_are_made_in_a_tree(rt: HostRuntime) -> Result<(), Fail> {
     Ok(())
 }
 
+/// The text that has the meeting and its schedule writes the meeting's trace.
 #[test]
 fn a_text_shows_its_run(rt: HostRuntime) -> Result<(), Fail> {
     let alloc = rt.alloc();
@@ -277,6 +282,7 @@ fn is_disassembled(alloc: Global, image: &Image) -> bool {
     }
 }
 
+/// The meeting's image is listed as the meeting's canonical text.
 #[test]
 fn its_program_is_listed(rt: HostRuntime) {
     match image_of(rt.alloc(), MEETING) {
@@ -285,7 +291,7 @@ fn its_program_is_listed(rt: HostRuntime) {
     }
 }
 
-/// Its program's canonical text is assembled to the same image.
+/// The canonical text is assembled to an image that has the same canonical text.
 #[test]
 fn its_canonical_text_is_assembled(rt: HostRuntime) {
     match assemble(rt.alloc(), LISTED) {
@@ -304,6 +310,7 @@ fn is_found_the_same(alloc: Global, image: Image) -> bool {
     verdict.ok() == Some(Verdict::Same) && line.bytes() == b"same\n".as_slice()
 }
 
+/// The meeting's trace has the verdict `Same`, since its run has that trace.
 #[test]
 fn its_trace_is_found_the_same(rt: HostRuntime) {
     match image_of(rt.alloc(), MEETING) {
@@ -320,11 +327,12 @@ fn takes_one_turn(journaled: &mut Journaled) -> bool {
         && schedule(journaled) == b"t0".as_slice()
 }
 
-/// The record of the meeting before the first step.
+/// Returns the record of the meeting before the first step.
 fn record_of_meeting(alloc: Global) -> Option<Journaled> {
     begin(alloc, program_of(alloc, MEETING)?, 10).ok()
 }
 
+/// A turn that is taken is in the record, and a turn that isn't ready is not.
 #[test]
 fn a_turn_is_recorded(rt: HostRuntime) {
     match record_of_meeting(rt.alloc()) {

@@ -93,12 +93,12 @@ struct Came {
     errors: MemorySink,
 }
 
-/// Returns which call of this port fails: the one of this number if the port is the failing one, otherwise none.
+/// Returns the call at which this port fails: `call` if it is the failing one, or else `None`.
 fn fails(port: Port, failing: Port, call: u32) -> Option<u32> {
     if port == failing { Some(call) } else { None }
 }
 
-/// Makes the call of a case. This port fails at its call of this number.
+/// Makes the call of a case. The port `failing` fails at its own call `call`, counted from 0.
 fn made(alloc: Global, case: &Case, failing: Port, call: u32) -> Result<Came, AllocError> {
     let mut file = MemorySource::new(case.file.as_bytes(), fails(Port::File, failing, call));
     let mut other = MemorySource::new(case.other, fails(Port::Other, failing, call));
@@ -119,7 +119,7 @@ fn made(alloc: Global, case: &Case, failing: Port, call: u32) -> Result<Came, Al
     })
 }
 
-/// Returns whether a call wrote everything.
+/// Returns whether a call wrote everything, and has no fault.
 fn is_whole(case: &Case, came: &Came) -> bool {
     came.status == 0 && came.output.bytes() == case.whole && came.errors.bytes().is_empty()
 }
@@ -134,7 +134,7 @@ fn is_cut(case: &Case, came: &Came, failing: Port) -> bool {
     came.status == 5 && case.whole.starts_with(came.output.bytes()) && came.errors.bytes() == line
 }
 
-/// Returns whether everything is right if this port fails at its call of this number: the first call fails if the port is used.
+/// Returns whether a case is cut or whole. If the first call of a port fails, it has to be cut.
 fn is_right(alloc: Global, case: &Case, failing: Port, call: u32) -> bool {
     let Ok(came) = made(alloc, case, failing, call) else {
         return false;
@@ -144,6 +144,7 @@ fn is_right(alloc: Global, case: &Case, failing: Port, call: u32) -> bool {
     is_cut(case, &came, failing) || (may_be_whole && is_whole(case, &came))
 }
 
+/// Whichever call of a port fails, the command reports it after a beginning of its output.
 #[test]
 fn a_port_that_fails_at_any_call_is_reported(rt: HostRuntime) {
     for case in &CASES {
@@ -155,7 +156,7 @@ fn a_port_that_fails_at_any_call_is_reported(rt: HostRuntime) {
     }
 }
 
-/// Returns whether a run reports that its trace failed at this call, after a beginning of the whole, or else everything is there.
+/// Returns whether a run reports that its trace failed at this call, or else writes all of it.
 fn is_right_run(alloc: Global, call: u32) -> bool {
     let Ok(mut trace) = MemorySink::new(alloc, 1000, Some(call)) else {
         return false;
@@ -182,8 +183,7 @@ fn is_right_verdict(alloc: Global, call: u32) -> bool {
     }
 }
 
-/// Returns whether the image of `halt` reports that its port failed at this call, after a beginning of the whole, or else
-/// everything is there.
+/// Returns whether writing an image reports that it failed at this call, or else writes all.
 fn is_right_image(alloc: Global, call: u32) -> bool {
     let Some(image) = image_of(alloc, ".thread a main\nmain: halt\n") else {
         return false;
@@ -195,6 +195,7 @@ fn is_right_image(alloc: Global, call: u32) -> bool {
     HALT.starts_with(output.bytes()) && is_made == (output.bytes() == HALT)
 }
 
+/// The functions that these commands call report a failing port, too.
 #[test]
 fn what_the_commands_stand_on_reports_it_too(rt: HostRuntime) {
     for call in 0..CALLS {
@@ -225,6 +226,7 @@ fn is_raced<R: Threads + Wait + Sync>(rt: &R, alloc: Global) -> Result<bool, All
     Ok(status == 0 && line.bytes() == b"phase 1000 parties 2 unarrived 2\n".as_slice())
 }
 
+/// `live` and `race` write the only result that real threads can have here.
 #[test]
 fn the_commands_of_threads_are_played(rt: HostRuntime) {
     assert!(rt; is_played_live(&rt, rt.alloc()) == Ok(true), "live");

@@ -15,7 +15,7 @@ const EXPIRY: Choice = Choice {
     expiry: true,
 };
 
-/// Returns whether as many idle turns of thread 0 are played as stated.
+/// Returns whether exactly `taken` idle turns are played if `most` are asked for.
 fn idles(machine: &mut Machine, most: u64, taken: u64) -> bool {
     machine.thread_count() == 2 && machine.idle(TURN, most) == taken
 }
@@ -32,13 +32,14 @@ fn ends_at_the_most(machine: &mut Machine) -> bool {
         && machine.step(EXPIRY) == Err(StepFault::StepLimit)
 }
 
-/// The machine of a text, with this limit of steps.
+/// Returns the machine of a text, with this limit of steps.
 fn machine_of(alloc: Global, text: &str, limit: u32) -> Option<Machine>
     requires { limit ≤ 1000000000 }
 {
     Machine::new(alloc, program_of(alloc, text)?, limit).ok()
 }
 
+/// No machine plays more than 1,000,000,000,000 choices, even if nearly all are idle.
 #[test]
 fn idle_choices_end_at_the_most(rt: HostRuntime) {
     match machine_of(rt.alloc(), MEETING, 9) {
@@ -58,7 +59,7 @@ static REFUSED: [(u8, bool, Result<What, StepFault>); 7] = [
     (2, true, Err(StepFault::NoSuchThread)),
 ];
 
-/// Returns whether each choice of the table has this result.
+/// Returns whether each choice of the table has its result, and only two idle ones are played.
 fn refuses(machine: &mut Machine) -> bool {
     for (thread, expiry, answer) in &REFUSED {
         let choice = Choice {
@@ -82,6 +83,7 @@ fn plays(machine: &mut Machine, turns: u32) -> bool {
     true
 }
 
+/// At the limit of steps a turn is refused, but an idle expiry is still played.
 #[test]
 fn steps_end_at_the_limit(rt: HostRuntime) {
     match machine_of(rt.alloc(), ".thread a m\n.thread b m\nm: jmp m\n", 3) {

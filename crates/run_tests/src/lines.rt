@@ -13,7 +13,7 @@ const EXPIRY: Choice = Choice {
     expiry: true,
 };
 
-/// Appends the line of an event and those of two refusals.
+/// Appends the line of an event and those of two refusals, with the largest numbers.
 fn append(text: &mut Vec<u8>) -> Result<(), AllocError> {
     let event = Event {
         what: What::Out(i32::MIN),
@@ -27,6 +27,7 @@ fn append(text: &mut Vec<u8>) -> Result<(), AllocError> {
     refusal_line(text, 1, EXPIRY, None)
 }
 
+/// Each line is appended whole to the one before it, whatever its numbers are.
 #[test]
 fn a_line_comes_after_what_is_there(rt: HostRuntime) {
     let expected = b"999999999999 t63 65534 out -2147483648 +p63 2147483647\n\

@@ -1,3 +1,4 @@
+//! Live runs in an order that a gate forces: each worker passes the gate before each of its steps.
 use crate::programs::program_of;
 use std::alloc::{AllocError, Global};
 use std::sync::Wait;
@@ -28,6 +29,7 @@ impl Meeting {
 }
 
 impl Gate for Meeting {
+    /// Holds a worker's first pass until all have begun theirs, or notes that they never did.
     fn pass(&self, _thread: u8, step: u32) {
         if step > 0 {
             return;
@@ -69,7 +71,7 @@ impl Script {
         }
     }
 
-    /// Waits until so many passes of a thread have begun. After too many looks the script has failed.
+    /// Waits until so many passes of a thread have begun. After too many looks it has failed.
     fn hold(&self, thread: u8, passes: u32) {
         for _ in 0..MOST_LOOKS {
             if self.begun(thread) >= passes {
@@ -82,6 +84,7 @@ impl Script {
 }
 
 impl Gate for Script {
+    /// Notes that this pass has begun, and waits until the steps before it in the script are done.
     fn pass(&self, thread: u8, step: u32) {
         if let Some(begun) = self.begun.get(usize::from(thread)) {
             begun.store(step.saturating_add(1), Ordering::SeqCst);
@@ -111,7 +114,7 @@ enum Came<'a> {
     Steps(u32),
 }
 
-/// Returns whether the threads of a run have all ended, and it came to this.
+/// Returns whether the threads of a run have all ended, with this schedule or so many steps.
 fn comes_to(run: &LiveRun, came: Came) -> bool {
     let is_it = match came {
         Came::Schedule(order) => run.schedule.as_slice() == order.as_bytes(),
@@ -120,7 +123,7 @@ fn comes_to(run: &LiveRun, came: Came) -> bool {
     is_it && run.ending == Ending::AllEnded
 }
 
-/// Returns whether a live run of a text's program is not broken off, its threads all end, and it comes to this.
+/// Plays a program live. Returns whether all threads end, with this schedule or so many steps.
 fn runs<R: Threads + Wait + Sync, G: Gate + Sync>(
     rt: &R,
     alloc: Global,
@@ -160,6 +163,7 @@ static ORDERS: [(&str, &str); 12] = [
     (MEETING, "t1 t2 t0 t2 t2 t1 t1 t0"),
 ];
 
+/// Workers step in the order of the gate's script, so their record is this script.
 #[test]
 fn workers_step_in_the_order_that_a_gate_forces(rt: HostRuntime) {
     for (text, schedule) in &ORDERS {
@@ -169,7 +173,7 @@ fn workers_step_in_the_order_that_a_gate_forces(rt: HostRuntime) {
     }
 }
 
-/// So many threads that meet at one phaser.
+/// Returns the text of a program in which so many threads meet at one phaser.
 fn crowd(alloc: Global, threads: u8) -> Result<String, AllocError> {
     let mut text = String::new(alloc);
     write!(text, ".phaser p {threads}\n")?;
@@ -180,6 +184,7 @@ fn crowd(alloc: Global, threads: u8) -> Result<String, AllocError> {
     Ok(text)
 }
 
+/// 64 workers begin before any goes on. Each but the last to arrive has one step more.
 #[test]
 fn sixty_four_workers_run_at_once(rt: HostRuntime) -> Result<(), AllocError> {
     let text = crowd(rt.alloc(), 64)?;

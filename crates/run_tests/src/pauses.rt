@@ -28,7 +28,7 @@ struct Notes {
     steps: [AtomicU32; 8],
 }
 
-/// A number for each pause.
+/// Returns a number for a pause: 0 for none, even for a yield, and odd for a spin.
 fn number_of(pause: Pause) -> u32 {
     match pause {
         Pause::NoPause => 0,
@@ -38,6 +38,7 @@ fn number_of(pause: Pause) -> u32 {
 }
 
 impl Pausing for Notes {
+    /// Notes the pause and the step of one of the first eight passes. It doesn't pause.
     fn pass_after(&self, pause: Pause, _thread: u8, step: u32) {
         let pass = self.passes.fetch_add(1, Ordering::SeqCst) as usize;
         if let (Some(noted), Some(told)) = (self.pauses.get(pass), self.steps.get(pass)) {
@@ -47,6 +48,7 @@ impl Pausing for Notes {
     }
 }
 
+/// The pause before each pass is the one that seed, run and step determine.
 #[test]
 fn each_run_has_pauses_of_its_own(rt: HostRuntime) -> Result<(), Fail> {
     let zeros = || [0; 8].map(AtomicU32::new);
@@ -81,6 +83,7 @@ fn each_run_has_pauses_of_its_own(rt: HostRuntime) -> Result<(), Fail> {
     Ok(())
 }
 
+/// A long pause takes time: who is at it doesn't pass at once.
 #[test]
 fn a_worker_waits_at_its_pause(rt: HostRuntime) -> Result<(), Fail> {
     let began = Instant::now(&rt)?;
@@ -101,6 +104,7 @@ impl Pace for Meetings {
     }
 }
 
+/// Three threads that meet five times report 15 meetings.
 #[test]
 fn each_meeting_is_reported(rt: HostRuntime) -> Result<(), Fail> {
     let meetings = Meetings {

@@ -6,7 +6,7 @@ use plans::word::{Chosen, Rule, Step, Word};
 use plans::words::Words;
 use std::alloc::Global;
 
-/// The line and the number of a plan's fault, for the threads ann, xavier and bob.
+/// Returns the line and number of a plan's fault, if any, for the threads ann, xavier and bob.
 fn told(alloc: Global, text: &[u8]) -> Option<(u64, Option<u8>)> {
     let names: [&[u8]; 3] = [b"ann", b"xavier", b"bob"];
     match read_plan(alloc, text, &names) {
@@ -31,6 +31,7 @@ static FAULTS: [(&[u8], u64, u8); 12] = [
     (b"(carl", 1, 4),
 ];
 
+/// Each of these plans is refused with its fault, in the line where it is.
 #[test]
 fn faults(rt: HostRuntime) {
     for (text, line, number) in &FAULTS {
@@ -74,6 +75,7 @@ fn is_read_as(alloc: Global, text: &[u8], wanted: &[Word]) -> bool {
     }
 }
 
+/// Returns whether these are exactly the words that are expected.
 fn has_words(words: &Words, wanted: &[Word]) -> bool {
     let mut left = words.all();
     for word in wanted {
@@ -84,6 +86,7 @@ fn has_words(words: &Words, wanted: &[Word]) -> bool {
     left.next().is_none()
 }
 
+/// A plan with each kind of word, with and without a count, is read as these words.
 #[test]
 fn words(rt: HostRuntime) {
     let text =

@@ -87,6 +87,7 @@ fn copies(
     met == fault && sink.bytes() == bytes
 }
 
+/// A copy moves what comes before the call that fails, and says which side has failed.
 #[test]
 fn copies_over_memory(rt: HostRuntime) {
     for (number, (read_fails, write_fails, fault, bytes)) in COPIES.iter().enumerate() {
@@ -95,11 +96,13 @@ fn copies_over_memory(rt: HostRuntime) {
     }
 }
 
+/// Copies two pieces of three bytes, writes `-end` after them, and returns whether all went well.
 fn copies_and_ends<S: Source, K: Sink>(source: &mut S, sink: &mut K) -> bool {
     let mut buffer = [0; 3];
     copy_two_pieces(source, sink, &mut buffer).is_ok() && write_both(sink, b"-", b"end").is_ok()
 }
 
+/// The same copy works over a reader and a writer of the standard library.
 #[test]
 fn copies_over_std(rt: HostRuntime) {
     let mut kept = Vec::new(rt.alloc());

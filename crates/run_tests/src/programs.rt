@@ -22,12 +22,12 @@ pub const TRACE: &[u8] =
     b"1 t0 0 wait\n2 t1 0 = 1 +p0 1\n3 t0 0 = 1\n4 t0 1 out 1\n5 t0 2 end\n6 t1 1 out 1\n7 t1 2 end\n\
     state 7 7 all\nt0 2 ended 0 regs 1 0 0 0 0 0 0 0 stack out 1\nt1 2 ended 0 regs 1 0 0 0 0 0 0 0 stack out 1\np0 1 2 0 2\n";
 
-/// The image of a program's text, if it has no fault.
+/// Returns the image of a program's text, if it has no fault.
 pub fn image_of(alloc: Global, text: &str) -> Option<Image> {
     assemble(alloc, text.as_bytes()).ok()
 }
 
-/// The program of a text, if it is loaded.
+/// Returns the program of a text, if it is loaded.
 pub fn program_of(alloc: Global, text: &str) -> Option<Loaded> {
     load(alloc, image_of(alloc, text)?).ok()
 }

@@ -22,7 +22,7 @@ static COMMANDS: [&str; 10] = [
 /// A reply is written by fewer calls than these.
 const CALLS: u32 = 20;
 
-/// A debugger that has carried out no command.
+/// Returns a debugger of the meeting that has carried out no command.
 fn begun(alloc: Global) -> Option<Debugger> {
     let machine = first_machine(alloc, image_of(alloc, MEETING)?).ok()?;
     Debugger::new(alloc, machine, 100).ok()
@@ -49,7 +49,7 @@ fn carries_out(alloc: Global, debugger: &mut Debugger, count: usize) -> bool {
     true
 }
 
-/// Returns whether a long `g` stops two debuggers at the same.
+/// Returns whether a long `g` has the same reply in both, so that both have the same breakpoints.
 fn stop_alike(alloc: Global, debugger: &mut Debugger, other: &mut Debugger) -> bool {
     let Some(output) = answered(alloc, debugger, "g t0*3 t1*3") else {
         return false;
@@ -60,12 +60,12 @@ fn stop_alike(alloc: Global, debugger: &mut Debugger, other: &mut Debugger) -> b
     }
 }
 
-/// Returns whether a debugger shows the same as another one, and stops at the same: its state, and where a long `g` stops.
+/// Returns whether two debuggers show the same state, and stop at the same breakpoints.
 fn is_like(alloc: Global, debugger: &mut Debugger, other: &mut Debugger) -> bool {
     are_alike(alloc, debugger.machine(), other.machine()) && stop_alike(alloc, debugger, other)
 }
 
-/// Returns the reply of a new debugger to a command after so many others.
+/// Returns the reply of a new debugger to a command after the first `count` of the table.
 fn reply(alloc: Global, count: usize, line: &str) -> Option<MemorySink> {
     let mut debugger = begun(alloc)?;
     if carries_out(alloc, &mut debugger, count) {
@@ -75,8 +75,7 @@ fn reply(alloc: Global, count: usize, line: &str) -> Option<MemorySink> {
     }
 }
 
-/// Returns whether a command returns `Write` if this call fails, and a beginning of its reply is written; or, if it makes fewer
-/// calls, the reply is as usual.
+/// Returns whether a command fails after a part of its reply, or writes all if no call fails.
 fn is_told(alloc: Global, debugger: &mut Debugger, line: &str, call: u32, whole: &[u8]) -> bool {
     let Ok(mut output) = MemorySink::new(alloc, 1000, Some(call)) else {
         return false;
@@ -87,7 +86,7 @@ fn is_told(alloc: Global, debugger: &mut Debugger, line: &str, call: u32, whole:
     }
 }
 
-/// Returns whether the command of this number returns that, or its usual reply.
+/// Returns whether `is_told` is true of the command of this number.
 fn is_answered(alloc: Global, debugger: &mut Debugger, number: usize, call: u32) -> bool {
     let Some(line) = COMMANDS.get(number) else {
         return false;
@@ -98,7 +97,7 @@ fn is_answered(alloc: Global, debugger: &mut Debugger, number: usize, call: u32)
     }
 }
 
-/// Returns whether a debugger is like one that has carried out so many commands.
+/// Returns whether a debugger is like one that has carried out the first `count` commands.
 fn is_behind(alloc: Global, debugger: &mut Debugger, count: usize) -> bool {
     match begun(alloc) {
         Some(mut other) => {
@@ -108,7 +107,7 @@ fn is_behind(alloc: Global, debugger: &mut Debugger, count: usize) -> bool {
     }
 }
 
-/// Returns whether the command of this number is carried out although it returned that.
+/// Returns whether a command is carried out although its reply fails at this call.
 fn is_carried_out(alloc: Global, number: usize, call: u32) -> bool {
     match begun(alloc) {
         Some(mut debugger) => {
@@ -120,6 +119,7 @@ fn is_carried_out(alloc: Global, number: usize, call: u32) -> bool {
     }
 }
 
+/// A command changes the debugger, whichever call of its reply fails.
 #[test]
 fn a_command_is_carried_out_where_its_reply_cannot_be_written(rt: HostRuntime) {
     for number in 0..COMMANDS.len() {

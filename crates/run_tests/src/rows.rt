@@ -11,6 +11,7 @@ static ROWS: [([u8; 8], &str, usize); 4] = [
     ([0x28, 0, 1, 2, 0, 0, 0, 0], "pawaitt", 4),
 ];
 
+/// Returns whether these bytes are a row with this word, and the word has so many operands.
 fn is_spelled(bytes: [u8; 8], word: &str, operands: usize) -> bool {
     let shape = shape_of(word.as_bytes());
     match decode(bytes) {
@@ -23,6 +24,7 @@ fn is_spelled(bytes: [u8; 8], word: &str, operands: usize) -> bool {
     }
 }
 
+/// A row has its word and its bytes. Bytes with a field that must be 0 are no row.
 #[test]
 fn rows_are_spelled_in_words_and_bytes(rt: HostRuntime) {
     for (bytes, word, operands) in &ROWS {
@@ -31,6 +33,7 @@ fn rows_are_spelled_in_words_and_bytes(rt: HostRuntime) {
     assert!(rt; decode([0, 1, 0, 0, 0, 0, 0, 0]).is_none());
 }
 
+/// A row that only computes with registers is played without a machine.
 #[test]
 fn rows_of_registers_are_played_alone(rt: HostRuntime) {
     let load = Row::Ldi {
@@ -46,6 +49,7 @@ fn rows_of_registers_are_played_alone(rt: HostRuntime) {
 /// A phase, the next, and the view of a phaser that was terminated in it.
 static PHASES: [(i32, i32, i32); 2] = [(4, 5, -2147483644), (2147483647, 0, -1)];
 
+/// Returns whether this phase comes before `next`, and has this view if it is terminated.
 fn leads_to(number: i32, next: i32, view: i32) -> bool {
     match Phase::new(number) {
         Some(phase) => phase.next().number() == next && phase.negative() == view,
@@ -53,6 +57,7 @@ fn leads_to(number: i32, next: i32, view: i32) -> bool {
     }
 }
 
+/// Phase 0 follows the last phase. A negative number is no phase.
 #[test]
 fn phases_are_followed_and_end(rt: HostRuntime) {
     for (number, next, view) in &PHASES {

@@ -42,6 +42,7 @@ static EXAMPLES: [Example; 26] = [
     ("T1", &[], Err(Byte(0))),
 ];
 
+/// Returns whether these runs are exactly these tokens.
 fn is_same(runs: &[Run], tokens: &[(bool, u8, u32)]) -> bool {
     runs.len() == tokens.len()
         && runs.iter().zip(tokens).all(|(run, (expiry, thread, times))| {
@@ -74,7 +75,7 @@ fn reads(
         && (first == second || first.is_ok())
 }
 
-/// Each cut of a stream into two and three pieces.
+/// Checks each cut of a stream into three pieces, some of them empty.
 fn check_cuts(rt: &impl Abort, alloc: Global, example: &Example) {
     let (text, tokens, answer) = *example;
     let text = text.as_bytes();
@@ -90,6 +91,7 @@ fn check_cuts(rt: &impl Abort, alloc: Global, example: &Example) {
     }
 }
 
+/// However a stream is cut, the reader returns the same runs and the same fault.
 #[test]
 fn each_cut_of_a_stream_is_read_alike(rt: HostRuntime) {
     for example in &EXAMPLES {

@@ -44,13 +44,14 @@ static ROWS: [Row; 12] = [
     (2, 3, Default, Force, Dead(-2147483645), 0x8000000300020002),
 ];
 
+/// Makes a phaser in phase 0, and its first caller.
 fn made(alloc: Global, parties: u16, policy: Policy) -> Result<(SharedPhaser, Party), NewFault>
     ensures { IfOk result (λ r. (phaser_of r.1 ≡ r.0) × (r.1.known.number ≡ 0)) }
 {
     SharedPhaser::new(alloc, parties, policy, Phase::prevailing(0))
 }
 
-/// Returns the result of one try of a call, or `None` if the call isn't one that never waits.
+/// Returns the result of one try of a call, or `None` if it loses a race or is a look or a wait.
 fn tried(phaser: &SharedPhaser, party: &mut Party, call: Call) -> Option<Reply>
     requires { phaser_of party.old ≡ phaser.now }
     ensures { phaser_of party.new ≡ phaser.now }
@@ -64,7 +65,7 @@ fn tried(phaser: &SharedPhaser, party: &mut Party, call: Call) -> Option<Reply>
     made.ok()
 }
 
-/// Returns the result of the call that takes `Wait`, which tries until it has one.
+/// Returns the result of a call that takes `Wait` and tries on, or `None` for a look or a wait.
 fn called<R: Wait>(rt: &R, phaser: &SharedPhaser, party: &mut Party, call: Call) -> Option<Reply>
     requires { phaser_of party.old ≡ phaser.now }
     ensures { phaser_of party.new ≡ phaser.now }
@@ -78,7 +79,7 @@ fn called<R: Wait>(rt: &R, phaser: &SharedPhaser, party: &mut Party, call: Call)
     }
 }
 
-/// Returns whether a row holds of the call that takes `Wait`, or of one try.
+/// Returns whether a call has its row's result: with `waits` the call that tries on, or one try.
 fn holds<R: Wait>(rt: &R, alloc: Global, row: &Row, waits: bool) -> bool {
     let (parties, phase, policy, call, reply, word) = *row;
     match SharedPhaser::new(alloc, parties, policy, Phase::prevailing(phase)) {
@@ -94,6 +95,7 @@ fn holds<R: Wait>(rt: &R, alloc: Global, row: &Row, waits: bool) -> bool {
     }
 }
 
+/// Each call has the result of its row and leaves its word, in one try or in several.
 #[test]
 fn single_calls(rt: HostRuntime) {
     for row in &ROWS {
@@ -101,6 +103,7 @@ fn single_calls(rt: HostRuntime) {
     }
 }
 
+/// A shared phaser can't have rows of a program as its `onAdvance`.
 #[test]
 fn a_routine_is_refused(rt: HostRuntime) {
     let refused = SharedPhaser::new(rt.alloc(), 1, Policy::Routine, Phase::prevailing(0));
@@ -133,7 +136,7 @@ static SESSIONS: [Session; 2] = [
     ),
 ];
 
-/// Returns whether each of these calls has this result, in one try.
+/// Returns whether each of these calls has its result and leaves its word, in one try.
 fn go_on(phaser: &SharedPhaser, party: &mut Party, calls: &[(Call, Reply, u64)]) -> bool
     requires { phaser_of party.old ≡ phaser.now }
 {
@@ -146,7 +149,7 @@ fn go_on(phaser: &SharedPhaser, party: &mut Party, calls: &[(Call, Reply, u64)])
         && go_on(phaser, party, rest)
 }
 
-/// Returns whether the calls of a session have their results.
+/// Returns whether the calls of a session have their results and leave their words.
 fn goes_so(alloc: Global, session: &Session) -> bool {
     let (parties, phase, policy, calls) = *session;
     match SharedPhaser::new(alloc, parties, policy, Phase::prevailing(phase)) {
@@ -155,6 +158,7 @@ fn goes_so(alloc: Global, session: &Session) -> bool {
     }
 }
 
+/// A termination stays, and an arrival where no party is registered is refused.
 #[test]
 fn calls_in_a_row(rt: HostRuntime) {
     for session in &SESSIONS {
@@ -171,6 +175,7 @@ fn stays_terminated<R: Wait>(rt: &R, phaser: &SharedPhaser, party: &mut Party) -
         && phaser.arrive_and_await_advance(rt, party) == Ok(-2147483648)
 }
 
+/// On a terminated phaser no call waits: each returns the view.
 #[test]
 fn a_terminated_phaser_stays_so(rt: HostRuntime) {
     match made(rt.alloc(), 2, Default) {
@@ -189,6 +194,7 @@ fn waits_for_nobody<R: Wait>(rt: &R, phaser: &SharedPhaser, party: &mut Party) -
         && phaser.arrive_and_deregister(rt, party) == Counted(1)
 }
 
+/// A wait doesn't block for another phase, or if nobody else has to arrive.
 #[test]
 fn waits_that_are_over(rt: HostRuntime) {
     match made(rt.alloc(), 1, Default) {
@@ -197,6 +203,7 @@ fn waits_that_are_over(rt: HostRuntime) {
     }
 }
 
+/// An arrival that no registered party can make is refused, so its caller doesn't wait.
 #[test]
 fn a_stray_cannot_wait(rt: HostRuntime) {
     match made(rt.alloc(), 0, Default) {
@@ -217,6 +224,7 @@ fn counts_three(phaser: &SharedPhaser, first: &mut Party) -> bool
     phaser.register_within(&mut second, 2, 1) == Ok(Counted(0)) && phaser.look(first).parties() == 3
 }
 
+/// The first caller sees what a second one has registered.
 #[test]
 fn two_callers_of_one_phaser(rt: HostRuntime) {
     match made(rt.alloc(), 1, Default) {
@@ -245,13 +253,14 @@ fn word_of_none(alloc: Global) -> Option<u64> {
     }
 }
 
+/// A phaser that is closed has the word that its calls have left.
 #[test]
 fn closed_words(rt: HostRuntime) {
     assert!(rt; word_of_two(rt.alloc()) == Some(0x100020002));
     assert!(rt; word_of_none(rt.alloc()) == Some(0x20002));
 }
 
-/// One thread waits for the end of phase 0, and another one makes the call.
+/// One thread waits for the end of phase 0, and another calls. Returns the results of both.
 fn released<R: Threads + Wait + Sync>(
     rt: &R,
     alloc: Global,
@@ -276,6 +285,7 @@ static RELEASING: [(Call, Reply, i32); 3] = [
     (Force, Dead(-2147483648), -2147483648),
 ];
 
+/// Whoever ends the phase or terminates the phaser releases a waiting thread.
 #[test]
 fn who_waits_is_released(rt: HostRuntime) {
     for (call, reply, told) in &RELEASING {

@@ -22,6 +22,7 @@ impl Calls {
         }
     }
 
+    /// Counts a call, and fails if it is one that is interrupted or the one that fails.
     fn next(&mut self) -> io::Result<()> {
         let call = self.made;
         self.made = call.saturating_add(1);
@@ -54,8 +55,7 @@ impl Read for FakeReader<'_> {
     }
 }
 
-/// The reader's call that fails, how many of six calls of the port come before it, what those returned, and how often the
-/// reader was called.
+/// The reader's call that fails, how many of the port's six calls succeed, their bytes, and how often the reader was called.
 static FAILING_READS: [(Option<u32>, usize, &[u8; 13], u32); 6] = [
     (Some(0), 0, b".............", 1),
     (Some(1), 1, b"a............", 2),
@@ -65,8 +65,7 @@ static FAILING_READS: [(Option<u32>, usize, &[u8; 13], u32); 6] = [
     (None, 6, b"abc..........", 6),
 ];
 
-/// Returns whether exactly so many of six calls with a buffer of 8 bytes succeed before the first that fails, and return these
-/// bytes, at most one each.
+/// Returns whether so many of six calls succeed before the first fails, and give these bytes.
 fn gives<R: Read>(port: &mut ReadPort<R>, succeeding: usize, bytes: &[u8; 13]) -> bool {
     let mut given = [b'.'; 13];
     let mut is_as_wanted = true;
@@ -77,6 +76,7 @@ fn gives<R: Read>(port: &mut ReadPort<R>, succeeding: usize, bytes: &[u8; 13]) -
     is_as_wanted && given == *bytes
 }
 
+/// A port whose reader has failed fails for good, and doesn't call the reader again.
 #[test]
 fn fails_with_its_reader(rt: HostRuntime) {
     for (fails_at, succeeding, bytes, calls) in &FAILING_READS {
@@ -90,8 +90,7 @@ fn fails_with_its_reader(rt: HostRuntime) {
     }
 }
 
-/// How many calls of the reader are interrupted, whether the port's first call returns a byte, and how often the reader is
-/// called.
+/// How many of the reader's calls are interrupted, whether the port's first call returns a byte, and the reader's calls.
 static INTERRUPTED_READS: [(u32, bool, u32); 5] = [
     (0, true, 1),
     (1, true, 2),
@@ -110,6 +109,7 @@ fn gives_one_or_fails<R: Read>(port: &mut ReadPort<R>, gives: bool) -> bool {
     }
 }
 
+/// A port tries an interrupted read again, at most 1,000 times in all.
 #[test]
 fn tries_an_interrupted_read_again(rt: HostRuntime) {
     for (interruptions, gives, calls) in &INTERRUPTED_READS {
@@ -140,6 +140,7 @@ impl FakeWriter {
         }
     }
 
+    /// Returns whether the writer has kept these bytes, and was called and flushed so often.
     fn has_met(&self, bytes: &[u8], calls: u32, flushes: u32) -> bool {
         self.kept.as_slice() == bytes && self.calls.made == calls && self.flushes == flushes
     }
@@ -172,8 +173,7 @@ static FAILING_WRITES: [(Option<u32>, usize, &[u8], u32, u32); 7] = [
     (None, 5, b"abcde", 5, 2),
 ];
 
-/// Pushes 3 bytes, 2, and none, and finishes twice. Returns whether exactly so many of these calls succeed before the first
-/// that fails.
+/// Pushes thrice and finishes twice. Returns whether exactly the first so many calls succeed.
 fn succeeds<W: Write>(port: &mut WritePort<W>, succeeding: usize) -> bool {
     let pushed = [
         port.push(b"abc").is_ok(),
@@ -185,6 +185,7 @@ fn succeeds<W: Write>(port: &mut WritePort<W>, succeeding: usize) -> bool {
         && finished == [3 < succeeding, 4 < succeeding]
 }
 
+/// A port whose writer has failed fails for good, and doesn't call the writer again.
 #[test]
 fn fails_with_its_writer(rt: HostRuntime) {
     for (fails_at, succeeding, bytes, calls, flushes) in &FAILING_WRITES {
@@ -205,6 +206,7 @@ static INTERRUPTED_FLUSHES: [(u32, bool, u32); 3] = [
     (1000, false, 1000),
 ];
 
+/// A port tries an interrupted flush again, at most 1,000 times in all.
 #[test]
 fn tries_an_interrupted_flush_again(rt: HostRuntime) {
     for (interruptions, succeeds, calls) in &INTERRUPTED_FLUSHES {
@@ -216,6 +218,7 @@ fn tries_an_interrupted_flush_again(rt: HostRuntime) {
     }
 }
 
+/// A port tries an interrupted write again, so that all bytes are written.
 #[test]
 fn tries_an_interrupted_write_again(rt: HostRuntime) {
     let mut writer = FakeWriter::new(rt.alloc(), 3, None);
@@ -235,6 +238,7 @@ fn fails_late<W: Write>(port: &mut WritePort<W>) -> bool {
     answers == [true, false, false, false]
 }
 
+/// A buffer takes bytes before its writer fails: only the flush reports this.
 #[test]
 fn fails_late_behind_a_buffer(rt: HostRuntime) -> Result<(), Fail> {
     let mut writer = FakeWriter::new(rt.alloc(), 0, Some(0));
@@ -243,6 +247,7 @@ fn fails_late_behind_a_buffer(rt: HostRuntime) -> Result<(), Fail> {
     Ok(())
 }
 
+/// Finishing a block writes its bytes, and flushes the writer once.
 #[test]
 fn flushes_behind_a_block(rt: HostRuntime) -> Result<(), Fail> {
     let mut writer = FakeWriter::new(rt.alloc(), 0, None);

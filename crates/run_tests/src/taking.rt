@@ -77,7 +77,7 @@ static ROWS: [Row; 9] = [
     ),
 ];
 
-/// Returns whether what a token says happens.
+/// Returns whether the choice of a token is taken, or refused as the sign after it says.
 fn takes(journaled: &mut Journaled, token: &str) -> bool {
     let [kind, digit, rest @ ..] = token.as_bytes() else {
         return false;
@@ -102,7 +102,7 @@ fn takes(journaled: &mut Journaled, token: &str) -> bool {
     }
 }
 
-/// Returns whether what each token of a row says happens, and then the record and the end are those of the row.
+/// Returns whether each token of a row comes true, and the record and the end are the row's.
 fn records(journaled: &mut Journaled, row: &Row) -> bool {
     let (_, _, tokens, schedule, ending) = *row;
     for token in tokens.split(' ') {
@@ -113,11 +113,12 @@ fn records(journaled: &mut Journaled, row: &Row) -> bool {
     journaled.schedule() == schedule.as_bytes() && journaled.ending() == ending
 }
 
-/// The record of a text's run before the first step.
+/// Returns the record of a text's run before the first step.
 fn record_of(alloc: Global, text: &str, limit: u32) -> Option<Journaled> {
     Journaled::new(alloc, program_of(alloc, text)?, limit.min(1_000_000_000)).ok()
 }
 
+/// Returns whether a row of the table comes true, from the beginning of its program.
 fn holds(alloc: Global, row: &Row) -> bool {
     let (text, limit, _, _, _) = *row;
     match record_of(alloc, text, limit) {
@@ -126,6 +127,7 @@ fn holds(alloc: Global, row: &Row) -> bool {
     }
 }
 
+/// A record has the choices that were taken, and none that was refused.
 #[test]
 fn what_is_taken_is_recorded(rt: HostRuntime) {
     for row in &ROWS {

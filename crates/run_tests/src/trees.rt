@@ -42,6 +42,7 @@ enum Step {
 }
 
 impl Step {
+    /// Returns the number of the phaser that the call names.
     fn id(self) -> u8 {
         match self {
             Step::Registers(id, _, _) | Step::Asks(id, _, _) => id,
@@ -53,6 +54,7 @@ impl Step {
     }
 }
 
+/// Returns the phaser of this number, if the forest has it.
 fn known(forest: &Forest, id: u8) -> Option<PhaserId>
     ensures { IfSome result (λ known. known.0 < length forest.now) }
 {
@@ -63,7 +65,7 @@ fn known(forest: &Forest, id: u8) -> Option<PhaserId>
     }
 }
 
-/// Declares one more phaser; whether it is there then.
+/// Declares one more phaser. Returns false if it is refused.
 fn is_planted(forest: &mut Forest, plan: Plan) -> bool
     requires { AreAllFresh (phasers_of forest.old) }
     ensures { AreAllFresh (phasers_of forest.new) }
@@ -77,7 +79,7 @@ fn is_planted(forest: &mut Forest, plan: Plan) -> bool
     forest.declare(parent, parties, policy, phase).is_ok()
 }
 
-/// The forest of these phasers, if none is refused.
+/// Returns the forest of these phasers, or `None` if one is refused.
 fn planted(alloc: Global, plans: &[Plan]) -> Option<Forest>
     ensures { IfSome result (λ forest. AreAllFresh (phasers_of forest)) }
 {
@@ -99,6 +101,7 @@ fn turns(phase: i32, parties: u16) -> Arrived {
     }
 }
 
+/// Makes one party arrive, and returns whether the result is this one.
 fn arrives(forest: &mut Forest, id: u8, answer: Arrived) -> bool {
     match known(forest, id) {
         Some(id) => forest.arrive(id, false) == answer,
@@ -106,7 +109,7 @@ fn arrives(forest: &mut Forest, id: u8, answer: Arrived) -> bool {
     }
 }
 
-/// Ends the phase of a root if it can end: getters tell whatever `finish_turn` requires.
+/// Ends the phase of a root if its contract allows it. Returns whether it has ended.
 fn end_turned_phase(forest: &mut Forest, root: PhaserId, ends: bool) -> bool
     requires { root.0 < length forest.old }
     ensures ended { result ≡ true
@@ -123,7 +126,7 @@ fn end_turned_phase(forest: &mut Forest, root: PhaserId, ends: bool) -> bool
     true
 }
 
-/// Returns whether as many arrivals as there are parties end the phase.
+/// Makes so many arrivals at a root. Returns whether the last one ends its phase.
 fn ends(forest: &mut Forest, root: u8, parties: u16, phase: i32) -> bool {
     for _ in 1..parties {
         if !arrives(forest, root, Arrived::At(phase)) {
@@ -137,6 +140,7 @@ fn ends(forest: &mut Forest, root: u8, parties: u16, phase: i32) -> bool {
     }
 }
 
+/// Returns whether such arrivals end each phase from `from` up to the one before `to`.
 fn ends_each(forest: &mut Forest, root: u8, parties: u16, from: i32, to: i32) -> bool {
     for phase in from..to {
         if !ends(forest, root, parties, phase) {
@@ -146,6 +150,7 @@ fn ends_each(forest: &mut Forest, root: u8, parties: u16, from: i32, to: i32) ->
     true
 }
 
+/// Returns whether a phaser shows this view, and so many parties, of which so many have arrived.
 fn shows(forest: &Forest, id: PhaserId, view: i32, parties: u16, arrived: u16) -> bool
     requires { id.0 < length forest.now }
 {
@@ -155,6 +160,7 @@ fn shows(forest: &Forest, id: PhaserId, view: i32, parties: u16, arrived: u16) -
         && forest.unarrived(id) == parties.saturating_sub(arrived)
 }
 
+/// Returns whether a phaser has this parent, root, policy and number of its phase.
 fn is(
     forest: &Forest,
     id: PhaserId,
@@ -193,6 +199,7 @@ fn comes_true_at(forest: &mut Forest, id: PhaserId, step: Step) -> bool
     }
 }
 
+/// Does what `comes_true_at` does. Returns false if there is no such phaser.
 fn comes_true(forest: &mut Forest, step: Step) -> bool {
     match known(forest, step.id()) {
         Some(id) => comes_true_at(forest, id, step),
@@ -405,6 +412,7 @@ static ROWS: [Row; 13] = [
     ),
 ];
 
+/// Each call of a row has its expected effect on the row's tree.
 #[test]
 fn what_is_to_come_comes_true(rt: HostRuntime) {
     for (name, plans, steps) in &ROWS {
@@ -418,7 +426,7 @@ fn what_is_to_come_comes_true(rt: HostRuntime) {
     }
 }
 
-/// The lowest phasers of 8 of the lines arrive.
+/// Makes the parties of the first 8 lines arrive. Returns whether each is counted in phase 0.
 fn eight_arrive(forest: &mut Forest) -> bool {
     for line in 1..9u8 {
         if !comes_true(forest, Step::Arrives(line * 7, Arrived::At(0))) {
@@ -436,7 +444,7 @@ static THE_NINTH: [Step; 5] = [
     Step::Shows(0, 1, 9, 0),
 ];
 
-/// 64 phasers in one tree of 8 levels: 9 lines of 7 below the root, a party in the last of each.
+/// Returns 64 phasers of a tree: 9 lines of 7 below the root, with a party in the last of each.
 fn nine_lines() -> [Plan; 64] {
     let mut plans = [Plan::Root(0); 64];
     for id in 1..64u8 {
@@ -446,7 +454,7 @@ fn nine_lines() -> [Plan; 64] {
     plans
 }
 
-/// A copy of the forest of these phasers, if none is refused.
+/// Returns a copy of the forest of these phasers, or `None` if one is refused.
 fn planted_copy(alloc: Global, plans: &[Plan]) -> Option<Forest> {
     match planted(alloc, plans) {
         Some(forest) => forest.copy(alloc).ok(),
@@ -454,6 +462,7 @@ fn planted_copy(alloc: Global, plans: &[Plan]) -> Option<Forest> {
     }
 }
 
+/// A copy of a tree of 64 phasers ends its phase when the party of its ninth line arrives.
 #[test]
 fn a_full_forest(rt: HostRuntime) {
     match planted_copy(rt.alloc(), &nine_lines()) {
@@ -466,7 +475,7 @@ fn a_full_forest(rt: HostRuntime) {
     }
 }
 
-/// Returns the fault of a declaration after those of the plans.
+/// Returns the fault of a declaration after those of the plans, or `None` if it has none.
 fn fault_of(
     alloc: Global,
     plans: &[Plan],
@@ -506,6 +515,7 @@ static REFUSED: [(u8, i32, i32, DeclareFault); 6] = [
     (6, 1, 0, DeclareFault::TooMany),
 ];
 
+/// If a declaration has several faults, the first of the table's order is reported.
 #[test]
 fn declarations_are_refused_in_order(rt: HostRuntime) {
     for (parent, parties, phase, fault) in &REFUSED {
@@ -515,6 +525,7 @@ fn declarations_are_refused_in_order(rt: HostRuntime) {
     }
 }
 
+/// A forest has at most 64 phasers.
 #[test]
 fn a_full_forest_takes_no_more(rt: HostRuntime) {
     let answer = fault_of(rt.alloc(), &[Plan::Root(0); 64], None, 0, 0);

@@ -45,6 +45,7 @@ static NO_WORDS: [u64; 6] = [
     0x80000000ffff,
 ];
 
+/// Returns whether these bits are a word that has these counts and flags.
 fn is_seen(bits: u64, counts: (i32, u16, u16, u16), flags: (bool, bool, bool)) -> bool {
     match Word::from_raw(bits) {
         Some(word) => {
@@ -62,6 +63,7 @@ fn is_seen(bits: u64, counts: (i32, u16, u16, u16), flags: (bool, bool, bool)) -
     }
 }
 
+/// Each word has its counts and flags. No word has more parties to arrive than there are.
 #[test]
 fn words_and_their_meanings(rt: HostRuntime) {
     for (bits, counts, flags) in &WORDS {
@@ -79,6 +81,7 @@ static FRESH: [(i32, u16, u64); 3] = [
     (2147483647, 65535, 0x7fffffffffffffff),
 ];
 
+/// At the beginning of a phase no party has arrived, and without parties the word is `empty`.
 #[test]
 fn phases_begin(rt: HostRuntime) {
     for (phase, parties, bits) in &FRESH {
@@ -166,6 +169,7 @@ static CALLS: [(u64, Call, Answer); 41] = [
     (0x8000000300020001, Register(65536), Dead(-2147483645)),
 ];
 
+/// Returns an arrival's result with the bits of its word.
 fn arrival(arrived: Arrived) -> Answer {
     match arrived {
         Arrived::Counted(word) => Counted(word.raw()),
@@ -175,6 +179,7 @@ fn arrival(arrived: Arrived) -> Answer {
     }
 }
 
+/// Returns a registration's result with the bits of its word.
 fn registration(registered: Registered) -> Answer {
     match registered {
         Registered::At(word, phase) => At(word.raw(), phase),
@@ -184,7 +189,7 @@ fn registration(registered: Registered) -> Answer {
     }
 }
 
-/// Returns what a call returns, if it may be made.
+/// Returns what a call returns if its contract allows it at this word, or else `None`.
 fn made(word: Word, call: Call) -> Option<Answer> {
     match call {
         Renew(phase) => Some(Is(word.renew(Phase::prevailing(phase)).raw())),
@@ -197,6 +202,7 @@ fn made(word: Word, call: Call) -> Option<Answer> {
     }
 }
 
+/// Each call returns the result of its row, with the bits of the word after it.
 #[test]
 fn calls_on_words(rt: HostRuntime) {
     for (number, (bits, call, wanted)) in CALLS.iter().enumerate() {

@@ -1,3 +1,4 @@
+// Compares the lines of a trace, one after another, with those of the run that they name.
 ghost use Rattle.std.specs.Prelude.{◌≡◌, ◌≢◌, ◌⊎◌, IsTrue, Err, false, true, ◌==◌, ◌&&◌, ◌<◌, ◌≤◌, ◌+◌, ◌-◌, ◌++◌, ◌∷◌, [], List, ℕ, Option, None, Ok, IfOk, OnOk, decimal, drop, length, option_map, take};
 ghost use Rattle.std.specs.Io.KnownBytes.{Consumes};
 ghost use Rattle.std.specs.Str.{bytes_eq};
@@ -97,7 +98,7 @@ impl Comparison {
         }
     }
 
-    /// Goes on over a line that names a choice, if it names one.
+    /// Plays the choice that a line names. Returns a verdict if the line isn't the run's.
     fn take_choice(&mut self, line: &[u8]) -> Result<Option<Verdict>, AllocError>
         requires number { self.old.number < 9223372036854775807 }
         requires few { length line.now ≤ 65536 }
@@ -130,7 +131,7 @@ impl Comparison {
         Ok(None)
     }
 
-    /// Goes on over a line of the state text that something else or an LF follows.
+    /// Compares a line with the next one of the state. Returns a verdict if they differ.
     fn take_state_line(&mut self, line: &[u8]) -> Option<Verdict>
         requires number { self.old.number < 9223372036854775807 }
         requires few { length line.now ≤ 65536 }
@@ -158,7 +159,7 @@ impl Comparison {
         None
     }
 
-    /// Goes on over a line.
+    /// Compares a line, without its LF, with the run's. Returns a verdict if they differ.
     fn take_line(&mut self, alloc: Global, line: &[u8]) -> Result<Option<Verdict>, AllocError>
         requires number { self.old.number < 9223372036854775807 }
         requires few { length line.now ≤ 65536 }
@@ -188,8 +189,8 @@ impl Comparison {
         Ok(self.take_state_line(line))
     }
 
-    /// Goes on over the run's line of the choice that was just played, if the bytes, which begin with its number, go on so.
-    /// Returns how many bytes it has. If they don't, no choice counts as accepted any more, and the result is 0.
+    /// Compares the bytes with the line of the choice just played. Returns the line's length, or 0 if they
+    /// differ. Then no choice counts as accepted any more.
     #[inline(always)]
     fn meet(&mut self, bytes: &[u8]) -> usize
         requires room { 120 ≤ length bytes.now }
@@ -214,10 +215,8 @@ impl Comparison {
         0
     }
 
-    /// Goes on over the line that the bytes begin with, if it is the run's own. Returns how many bytes it has, or 0 if it is
-    /// left to be read whole. First it plays the choice that is named where the next line names its own. Then it compares that
-    /// choice's line with the bytes. If they differ, no choice counts as accepted any more, since the bytes aren't the line of
-    /// any choice that could come next.
+    /// Plays the choice that the bytes name, and compares its line with them. Returns the line's length, or 0
+    /// if the line is to be read whole. If the lines differ, no choice counts as accepted any more.
     #[inline(always)]
     fn take_own_line(&mut self, bytes: &[u8]) -> Result<usize, AllocError>
         requires room { 120 ≤ length bytes.now }
@@ -240,7 +239,7 @@ impl Comparison {
         }
     }
 
-    /// Goes on over the run's own lines that the bytes begin with. It leaves the last bytes, which may not have a whole line.
+    /// Goes on over lines that are the run's, while 120 bytes are left. Returns their length.
     fn take_own_lines(&mut self, bytes: &[u8]) -> Result<usize, AllocError>
         requires number { self.old.number + length bytes.now < 9223372036854775807 }
         ensures { IfOk result (λ count. GoesOver self.old self.new bytes.now count) }
@@ -259,7 +258,7 @@ impl Comparison {
         Ok(done)
     }
 
-    /// Returns the verdict if no more lines follow this one. If only its LF is missing, the run's line should come again.
+    /// Returns the verdict of a trace that ends with this line of the run: it lacks lines or an LF.
     fn end_verdict(&mut self, line: &[u8]) -> Verdict
         requires at { self.old.at ≤ length self.old.text.items }
         requires behind { self.old.is_state ≡ true → StandsBehind self.old line.now }
@@ -294,7 +293,7 @@ impl Comparison {
         }
     }
 
-    /// Returns the verdict with what follows the last LF.
+    /// Returns the verdict of the whole trace. `line` is what follows its last LF.
     fn end(&mut self, alloc: Global, line: &[u8]) -> Result<Verdict, AllocError>
         requires number { self.old.number < 9223372036854775807 }
         requires few { length line.now ≤ 65536 }
@@ -314,7 +313,7 @@ impl Comparison {
         }
     }
 
-    /// Goes on over a line that was read, by how it ended.
+    /// Compares a line that has ended so with the run's. Returns `None` if the trace goes on.
     fn take_ended(
         &mut self,
         alloc: Global,
@@ -353,8 +352,7 @@ fn first_line(alloc: Global, bytes: &[u8]) -> Result<Option<Vec<u8>>, AllocError
 }
 
 impl Comparison {
-    /// Returns the run's line where the trace's line differs, if the run has one there. It plays no choice: the line is that of
-    /// the choice that was played last, or one of the state text.
+    /// Returns the run's line where the trace differs, if it has one there. It plays no choice.
     pub(crate) fn run_line(&self, alloc: Global) -> Result<Option<Vec<u8>>, AllocError>
         requires { self.now.at ≤ length self.now.text.items }
         ensures { IfOk result (λ line. option_map (λ l. l.items) line ≡ line_kept self.now) }
@@ -397,8 +395,7 @@ fn is_read(verdict: Verdict, number: u64, ended: LineEnded, line: &[u8]) -> bool
 }
 
 /// Compares a trace with the run from the comparison's world on. Returns the verdict, and whether the trace's line that it
-/// names is the one that was read last. Lines that are equal to the run's are compared in their block, and any other line is
-/// read.
+/// names is the one that was read last. Equal lines are compared in their block, and any other line is read.
 pub(crate) fn compare_lines<S: Source>(
     alloc: Global,
     now: &mut Comparison,

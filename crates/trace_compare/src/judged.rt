@@ -1,3 +1,4 @@
+// What a comparison has found: the verdict, and the lines of the trace and of the run.
 ghost use Rattle.std.specs.Prelude.{◌≡◌, ◌≢◌, ◌+◌, ◌≤◌, Err, IfOk, List, false, option_map, ℕ};
 ghost use Rattle.std.specs.Borrow.{Bor};
 ghost use Rattle.trace_compare.specs.Compare.{Compares, Judges};
@@ -35,15 +36,13 @@ impl Model for Judged {
 }
 
 impl Judged {
-    /// Returns the verdict.
     pub fn verdict(&self) -> Verdict
         ensures { result ≡ self.now.told.verdict }
     {
         self.verdict
     }
 
-    /// Returns the run's line, without its LF, if the verdict is that a line differs. Returns `None` if the run has no such
-    /// line, and with any other verdict. Only this call allocates, and it plays no choice.
+    /// Returns the run's line, without its LF, if the verdict is `Differs` and it has one there.
     pub fn run_line(&self, alloc: Global) -> Result<Option<Vec<u8>>, AllocError>
         ensures { IfOk result (λ line. option_map (λ l. l.items) line ≡ self.now.told.line) }
     {
@@ -53,8 +52,7 @@ impl Judged {
         }
     }
 
-    /// Returns the trace's line that the verdict names, without its LF, or its first 65,537 bytes if it is too long. Returns
-    /// `None` if the trace has no such line, or if it is the run's trace.
+    /// Returns the trace's line that the verdict names, or its first 65,537 bytes, if there is one.
     pub fn trace_line(&self) -> Option<&[u8]>
         ensures { option_map (λ (line : Bor (List ℕ)). line.now) result ≡ self.now.trace }
     {
@@ -66,10 +64,8 @@ impl Judged {
     }
 }
 
-/// Compares a trace, byte for byte, with the run of the image's program that the trace's lines name. The verdict names the
-/// first line that isn't a line of a trace, or isn't the run's. No later line is read whole, except those that came in one
-/// piece with its end. It holds one line of the trace, one line of the run, and at the end the state text. Fails if the image
-/// can't be loaded, if it is out of memory, or if the trace can't be read.
+/// Compares a trace, byte for byte, with the run of the image's program that its lines name. The verdict names the first line
+/// that isn't a line of a trace, or isn't the run's. It reads no further than the piece that has this line.
 pub fn judge<S: Source>(alloc: Global, image: Image, trace: &mut S) -> Result<Judged, CompareFault>
     ensures outcome { Judges image result (S.left trace.old) (S.left trace.new) (S.has_failed trace.new) }
     ensures reads { S.reads trace.new ≤ S.reads trace.old + 1000000000 }

@@ -47,7 +47,7 @@ pub enum NamingFault {
     Read,
 }
 
-/// Returns what comes next, by what a line names and how it ended.
+/// Returns what a line names. A choice in the last line is cut off, since no state follows.
 fn next_by(named: LineNames, ended: LineEnded) -> NextName
     ensures { result ≡ next_by named ended }
 {
@@ -80,7 +80,7 @@ pub fn next_name<S: Source>(lines: &mut SourceLines, trace: &mut S) -> Result<Ne
 }
 
 /// Returns the choices that a trace's lines name, up to the line of its state, or the number of the first line that isn't a
-/// line of a trace. It doesn't look at what follows that line. It holds the choices, and one line of the trace at a time.
+/// line of a trace. It doesn't look at what follows that line.
 pub fn choices_in<S: Source>(alloc: Global, trace: &mut S) -> Result<Named, NamingFault>
     ensures named { IfOk result (λ named. HasNamed (S.left trace.old) (S.left trace.new) (named_by named)) }
     ensures runs { IfOk result (λ named. AreRuns named) }

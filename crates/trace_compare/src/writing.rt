@@ -25,7 +25,7 @@ pub enum WritingFault {
     Write,
 }
 
-/// Puts the count, if it is above 1.
+/// Puts `*` and the count before the line, if the count is above 1.
 #[inline(always)]
 fn put_times(line: &mut LineEnd, times: u32)
     requires { length line.old ≤ 1 }
@@ -39,7 +39,7 @@ fn put_times(line: &mut LineEnd, times: u32)
     line.put_word(b"*");
 }
 
-/// Whose turn or expiry it is.
+/// Puts `x` before the line for an expiry, and `t` for a turn.
 fn put_letter(line: &mut LineEnd, expiry: bool)
     requires { length line.old ≤ 42 }
     ensures { line.new ≡ letter_of expiry ∷ line.old }
@@ -51,7 +51,7 @@ fn put_letter(line: &mut LineEnd, expiry: bool)
     }
 }
 
-/// Writes a run's token and a byte after it. It puts them together in this line, whatever is there.
+/// Writes a run's token, as `t2*3`, and the byte `behind`. `line` is their buffer.
 pub fn push_token<K: Sink>(
     output: &mut K,
     line: &mut LineEnd,
@@ -69,8 +69,7 @@ pub fn push_token<K: Sink>(
     output.push(line.as_slice())
 }
 
-/// Takes one choice more after the run that may get longer. Returns the run that may get longer now. If that is another one,
-/// the first is written.
+/// Returns the last run with this choice added. If it can't be, writes that run and begins one.
 fn take<K: Sink>(
     last: Option<Run>,
     choice: Choice,
@@ -94,7 +93,7 @@ fn take<K: Sink>(
     Ok(Run::once(choice))
 }
 
-/// Ends the line after the last run. If the trace isn't one, there may have been no choice before: then nothing is written.
+/// Writes the last run and an LF. Without a run it writes the LF, or nothing if it is no trace.
 fn end<K: Sink>(
     last: Option<Run>,
     is_trace: bool,
@@ -113,9 +112,7 @@ fn end<K: Sink>(
 }
 
 /// Writes the schedule of a trace as one line: the choices that its lines name, up to the line of its state, with repeated
-/// choices joined. Each run is written when the next one begins, so it holds only that run and one line of the trace. If a line
-/// isn't a line of a trace, it writes the choices before it, if there are some, and returns that line's number, counted from 1.
-/// It doesn't look at what follows the last line.
+/// choices joined. If a line isn't a line of a trace, it writes the choices before it, and returns that line's number, from 1.
 pub fn write_choices<S: Source, K: Sink>(
     alloc: Global,
     trace: &mut S,
@@ -161,7 +158,7 @@ pub fn write_choices<S: Source, K: Sink>(
     Err(WritingFault::Read)
 }
 
-/// Returns the result for a line end that was written, or not.
+/// Returns `no_line` if the end was written, or else the fault `Write`.
 fn ended(written: Result<(), Failed>, no_line: Option<u64>) -> Result<Option<u64>, WritingFault>
     ensures ok { OnOk result (written ≡ Ok tt) }
     ensures value { IfOk result (λ answer. answer ≡ no_line) }

@@ -7,8 +7,7 @@ use crate::line_end::LineEnd;
 use std::marker::Model;
 use thread_machine::{Choice, Event};
 
-/// The line of a choice. It is made in the buffer of the line before, and keeps the digits of its number, since those of the
-/// next line mostly differ only in the last.
+/// The line of a choice. It keeps its buffer and its number's digits, which mostly differ only in the last from the next one's.
 #[derive(Drop)]
 pub struct ChoiceLine {
     text: LineEnd,
@@ -41,7 +40,7 @@ impl ChoiceLine {
         self.text.as_slice()
     }
 
-    /// Makes it the line of a choice that was played by a thread at this row.
+    /// Makes this the line of choice number `step`, which a thread at row `pc` has played.
     #[inline(always)]
     pub fn put_event(&mut self, step: u64, choice: Choice, pc: u16, event: &Event)
         requires { step + 1 < 2 ^ 64 }
@@ -52,7 +51,7 @@ impl ChoiceLine {
         self.text.put_digits(&self.number);
     }
 
-    /// Makes this the line of a refused choice. `row` is the row of its thread, or `None` if there is no such thread.
+    /// Makes this the line of a refused choice. Without a `pc` there is no such thread.
     pub fn put_refusal(&mut self, step: u64, choice: Choice, pc: Option<u16>)
         requires { step + 1 < 2 ^ 64 }
         ensures { self.new ≡ refusal_text step choice pc }

@@ -30,7 +30,7 @@ impl Model for Digits {
 }
 
 impl Digits {
-    /// The digit of 0.
+    /// Returns the digits of 0.
     pub fn new() -> Digits
         ensures { result ≡ 0 }
     {
@@ -41,7 +41,7 @@ impl Digits {
         }
     }
 
-    /// Makes them those of this number. Where it is the next one and the last digit isn't a 9, that is all that changes.
+    /// Makes these the digits of `number`. If only the last digit grows, only that one is written.
     #[inline(always)]
     pub fn move_to(&mut self, number: u64)
         requires { number + 1 < 2 ^ 64 }
@@ -75,7 +75,6 @@ impl Digits {
         self.number = number;
     }
 
-    /// Returns how many digits there are.
     #[inline(always)]
     pub fn count(&self) -> usize
         ensures digits { result ≡ length (decimal self.now) }
@@ -84,7 +83,7 @@ impl Digits {
         self.count
     }
 
-    /// The digits, the first first.
+    /// Returns the digits, the most significant one first.
     #[inline(always)]
     pub fn as_slice(&self) -> &[u8]
         ensures { result.now ≡ decimal self.now }
@@ -92,7 +91,7 @@ impl Digits {
         &self.block[MOST_DIGITS - self.count..]
     }
 
-    /// The block that ends with the digits.
+    /// Returns the 20 bytes that end with the digits. What precedes the digits has no meaning.
     #[inline(always)]
     pub fn block(&self) -> [u8; MOST_DIGITS]
         ensures digits { drop (20 - length (decimal self.now)) result ≡ decimal self.now }

@@ -5,7 +5,7 @@ ghost use Rattle.trace_text.specs.Expectation.{end_words, is_expectation, subjec
 
 use line_reader::words::length_before;
 
-/// Returns what a word for how a run ends requires in the line `state`, with the blank before it.
+/// Returns what `all`, `ended`, `stuck` or `live` requires in the line `state`, or `None`.
 pub fn end_words(text: &[u8]) -> Option<&'static [u8]>
     ensures { option_map (λ (words : Bor (List ℕ)). words.now) result ≡ end_words text.now }
 {
@@ -22,14 +22,14 @@ pub fn end_words(text: &[u8]) -> Option<&'static [u8]>
     }
 }
 
-/// Returns the word that names the line that a text is about.
+/// Returns what precedes the first blank: the name of the line that the text is about.
 pub fn subject_of(text: &[u8]) -> &[u8]
     ensures { result.now ≡ subject_of text.now }
 {
     &text[..length_before(b' ', text)]
 }
 
-/// The words that are expected in that line, with the blank before them.
+/// Returns what that line has to contain: the first blank and all that follows it.
 pub fn words_of(text: &[u8]) -> &[u8]
     ensures { result.now ≡ words_of text.now }
 {

@@ -1,3 +1,4 @@
+// Puts the parts of a trace's line together from its end: each goes before what is there.
 ghost use Rattle.std.specs.Prelude.{◌≡◌, ◌++◌, ◌+◌, ◌<◌, ◌≤◌, ℕ, OnOk, OnErr, codes, length};
 ghost use Rattle.std.specs.Fmt.{signed_decimal, decimal};
 ghost use Rattle.trace_text.specs.Lines.{what_text, mark_text, choice_text, event_text, refusal_text};
@@ -7,7 +8,7 @@ use std::alloc::AllocError;
 use std::marker::Model;
 use thread_machine::{Choice, Event, Mark, What};
 
-/// Puts a word, and a number after it.
+/// Puts a word and a signed number before the line.
 #[inline(always)]
 fn put_with_value<const N: usize>(line: &mut LineEnd, word: &[u8; N], value: i32)
     requires { length line.old + length word.now + 11 ≤ 192 }
@@ -18,7 +19,7 @@ fn put_with_value<const N: usize>(line: &mut LineEnd, word: &[u8; N], value: i32
     line.put_word(word);
 }
 
-/// Puts a word, and an unsigned number after it.
+/// Puts a word and an unsigned number before the line.
 #[inline(always)]
 fn put_with_count<const N: usize>(line: &mut LineEnd, word: &[u8; N], count: u64)
     requires { length line.old + length word.now + 20 ≤ 192 }
@@ -29,7 +30,7 @@ fn put_with_count<const N: usize>(line: &mut LineEnd, word: &[u8; N], count: u64
     line.put_word(word);
 }
 
-/// Puts what a choice did.
+/// Puts what a choice did before the line, as `wait` or `= 1`.
 #[inline(always)]
 fn put_what(line: &mut LineEnd, what: What)
     requires { length line.old + 17 ≤ 192 }
@@ -51,7 +52,7 @@ fn put_what(line: &mut LineEnd, what: What)
     }
 }
 
-/// A root's view after a phase's end or a termination.
+/// Puts a root's number and view before the line, after a phase's end or a termination.
 #[inline(always)]
 fn put_phase(line: &mut LineEnd, root: u8, view: i32)
     requires { length line.old + 35 ≤ 192 }
@@ -62,7 +63,7 @@ fn put_phase(line: &mut LineEnd, root: u8, view: i32)
     put_with_count(line, b" +p", u64::from(root));
 }
 
-/// Puts what it changed besides its own thread.
+/// Puts before the line what a choice changed besides its own thread, or nothing.
 #[inline(always)]
 fn put_mark(line: &mut LineEnd, mark: Mark)
     requires { length line.old + 35 ≤ 192 }
@@ -77,7 +78,7 @@ fn put_mark(line: &mut LineEnd, mark: Mark)
     }
 }
 
-/// Makes this what a choice did, from the space before it to the end of the line. The most frequent results take fewer words.
+/// Makes this the end of a line: a blank, what a choice did and changed, and an LF.
 #[inline(always)]
 fn put_answer(line: &mut LineEnd, event: &Event)
     ensures text { line.new
@@ -112,7 +113,7 @@ fn put_answer(line: &mut LineEnd, event: &Event)
     }
 }
 
-/// A number and a space. One of one digit is a single word with it.
+/// Puts a number and a space before the line.
 #[inline(always)]
 fn put_spaced(line: &mut LineEnd, number: u8)
     requires { length line.old + 21 ≤ 192 }
@@ -127,7 +128,7 @@ fn put_spaced(line: &mut LineEnd, number: u8)
     line.put_count(u64::from(number));
 }
 
-/// Whose turn or expiry a choice is, between its spaces.
+/// Puts before the line whose turn (`t`) or expiry (`x`) a choice is, between blanks.
 #[inline(always)]
 fn put_thread(line: &mut LineEnd, choice: Choice)
     requires { length line.old + 23 ≤ 192 }
@@ -142,7 +143,7 @@ fn put_thread(line: &mut LineEnd, choice: Choice)
     }
 }
 
-/// Makes this the part after the number in the line of a choice that a thread at this row has played.
+/// Makes this the line of a choice that a thread at row `pc` has played, without its number.
 #[inline(always)]
 pub(super) fn put_played(line: &mut LineEnd, choice: Choice, pc: u16, event: &Event)
     ensures text { (step : ℕ) → decimal step ++ line.new ≡ event_text step choice pc event.now }
@@ -153,7 +154,7 @@ pub(super) fn put_played(line: &mut LineEnd, choice: Choice, pc: u16, event: &Ev
     put_thread(line, choice);
 }
 
-/// Makes it the line of a choice that was played by a thread at this row.
+/// Makes this the line of choice number `step`, which a thread at row `pc` has played.
 pub fn put_event(line: &mut LineEnd, step: u64, choice: Choice, pc: u16, event: &Event)
     ensures { line.new ≡ event_text step choice pc event.now }
 {
@@ -161,8 +162,7 @@ pub fn put_event(line: &mut LineEnd, step: u64, choice: Choice, pc: u16, event: 
     line.put_count(step);
 }
 
-/// Makes this the part after the number in the line of a refused choice. `row` is the row of its thread, or `None` if there is
-/// no such thread.
+/// Makes this a refused choice's line without its number. No `pc` means no such thread.
 pub(super) fn put_refused(line: &mut LineEnd, choice: Choice, pc: Option<u16>)
     ensures text { (step : ℕ) → decimal step ++ line.new ≡ refusal_text step choice pc }
     ensures length { length line.new ≤ 100 }
@@ -178,7 +178,7 @@ pub(super) fn put_refused(line: &mut LineEnd, choice: Choice, pc: Option<u16>)
     put_thread(line, choice);
 }
 
-/// Makes this the line of a refused choice. `row` is the row of its thread, or `None` if there is no such thread.
+/// Makes this the line of a refused choice. Without a `pc` there is no such thread.
 pub fn put_refusal(line: &mut LineEnd, step: u64, choice: Choice, pc: Option<u16>)
     ensures { line.new ≡ refusal_text step choice pc }
 {
@@ -202,8 +202,7 @@ pub fn event_line(
     text.extend_from_slice(line.as_slice())
 }
 
-/// Appends the line of a refused choice. `row` is the row of its thread, or `None` if there is no such thread. If it is out of
-/// memory, the text is as before.
+/// Appends the line of a refused choice. Without a `pc` there is no such thread.
 pub fn refusal_line(
     text: &mut Vec<u8>,
     step: u64,

@@ -28,7 +28,7 @@ impl Model for LineEnd {
 }
 
 impl LineEnd {
-    /// The end of a line, with nothing there yet.
+    /// Returns a line with nothing in it yet.
     #[tactic(auto, using(std::proofs::lemmas::List::drop_all))]
     pub fn new() -> LineEnd
         ensures { result ≡ [] }
@@ -39,14 +39,13 @@ impl LineEnd {
         }
     }
 
-    /// Empties it, for another line.
+    /// Empties the line, so that its buffer can be used for another one.
     pub fn clear(&mut self)
         ensures { self.new ≡ [] }
     {
         self.start = ROOM;
     }
 
-    /// Returns the bytes of the line.
     pub fn as_slice(&self) -> &[u8]
         ensures { result.now ≡ self.now }
     {
@@ -66,7 +65,7 @@ impl LineEnd {
         self.start = start;
     }
 
-    /// Puts a number that is never below 0 before it.
+    /// Puts an unsigned number before the line.
     #[inline(always)]
     pub fn put_count(&mut self, count: u64)
         requires { length self.old + 20 ≤ 192 }
@@ -76,8 +75,7 @@ impl LineEnd {
         self.start = write_digits(count, &mut self.bytes, self.start);
     }
 
-    /// Puts a number before the line. Its digits are already made: the whole block is copied, and what precedes the digits in
-    /// it is not part of the line.
+    /// Puts a number before the line whose digits are already made, by a copy of their block.
     #[inline(always)]
     pub fn put_digits(&mut self, digits: &Digits)
         requires { length self.old + 20 ≤ 192 }
@@ -89,7 +87,7 @@ impl LineEnd {
         self.start = end - digits.count();
     }
 
-    /// Puts a number before it.
+    /// Puts a signed number before the line.
     #[inline(always)]
     pub fn put_value(&mut self, value: i32)
         requires { length self.old + 11 ≤ 192 }

@@ -15,7 +15,7 @@ use schedule_reader::Run;
 use std::alloc::Global;
 use thread_machine::Machine;
 
-/// Plays runs of choices on a machine, and writes their trace.
+/// Plays runs of choices up to a refused one, and writes their lines and the state's.
 fn play_known<W: Sink>(
     alloc: Global,
     machine: &mut Machine,
@@ -34,8 +34,7 @@ fn play_known<W: Sink>(
     }
 }
 
-/// Plays runs of choices on a loaded program from its beginning, writes the trace, and returns how the run has ended. After
-/// `Memory` a part of the lines is written.
+/// Plays runs on a program from its beginning, writes the trace, and returns how the run has ended.
 pub fn run_loaded<W: Sink>(
     alloc: Global,
     program: Loaded,

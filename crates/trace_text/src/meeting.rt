@@ -7,7 +7,7 @@ use crate::run_end::RunEnd;
 use crate::state_line::{has_died, has_whole, line_of};
 use thread_machine::Standing;
 
-/// Returns whether the line of a state that begins with this word has these words in a row, and a list as a whole.
+/// Returns whether the state's line of this name has these words in a row, a list only whole.
 fn says(state: &[u8], subject: &[u8], words: &[u8]) -> bool
     ensures { result ≡ says state.now subject.now words.now }
 {
@@ -36,7 +36,7 @@ fn is_zero_cell(state: &[u8], subject: &[u8], words: &[u8]) -> bool
     words == b" 0".as_slice() && is_cell(subject) && line_of(state, subject).is_none()
 }
 
-/// Returns whether every thread has ended, and none has died.
+/// Returns whether every thread has ended, so that none has died.
 fn have_ended(state: &[u8]) -> bool
     ensures { result ≡ have_ended state.now }
 {
@@ -67,7 +67,7 @@ pub fn are_met(state: &[u8], texts: &[Vec<u8>]) -> bool
     texts.iter().all(|text| is_met(state, text.as_slice()))
 }
 
-/// Returns whether a text allows this end of a program: it isn't the word for another one.
+/// Returns whether a text is no word for how a run ends, or is one for this end.
 fn allows(text: &[u8], standing: Standing) -> bool
     ensures { result ≡ allows text.now standing }
 {

@@ -13,7 +13,6 @@ pub fn rest_of(text: &[u8], at: usize) -> &[u8]
     &text[at..]
 }
 
-/// Returns the first so many bytes.
 pub fn first_bytes(text: &[u8], count: usize) -> &[u8]
     requires { count ≤ length text.now }
     ensures { result.now ≡ take count text.now }
@@ -21,7 +20,7 @@ pub fn first_bytes(text: &[u8], count: usize) -> &[u8]
     &text[..count]
 }
 
-/// Returns whether so many bytes are equal. Their number is known, so inlined each side takes a word or two.
+/// Returns whether N bytes are equal. The compiler knows N, so no function is called.
 #[inline(always)]
 fn are_same<const N: usize>(one: &[u8; N], other: &[u8; N]) -> bool
     ensures same { result ≡ true → one.now ≡ other.now }
@@ -55,7 +54,7 @@ fn have_same_ends<const N: usize>(one: &[u8], other: &[u8]) -> bool
     are_same(first, other_first) && are_same(last, other_last)
 }
 
-/// Returns whether bytes begin with a text. For N to 2 N bytes it calls no function.
+/// Returns whether bytes begin with a text. It is fastest for a text of N to 2 N bytes.
 #[inline(always)]
 pub fn begins_with<const N: usize>(bytes: &[u8], text: &[u8]) -> bool
     requires { length text.now ≤ length bytes.now }
@@ -69,7 +68,7 @@ pub fn begins_with<const N: usize>(bytes: &[u8], text: &[u8]) -> bool
     first == text
 }
 
-/// The choice that is named at the beginning of these bytes, between two spaces.
+/// Returns the choice whose name, as ` t0 ` or ` x63 `, begins these bytes, or `None`.
 #[inline(always)]
 fn choice_between_spaces(bytes: &[u8]) -> Option<Choice>
     ensures { IfSome result (λ choice. BeginsWithName bytes.now choice) }
@@ -98,7 +97,7 @@ fn choice_between_spaces(bytes: &[u8]) -> Option<Choice>
     Some(Choice { thread, expiry })
 }
 
-/// Returns the choice that follows this number, if the bytes begin with the number. `None` says nothing about the line.
+/// Returns the choice named after this number at the start. `None` proves nothing of the line.
 #[inline(always)]
 pub fn choice_behind(bytes: &[u8], number: &[u8]) -> Option<Choice>
     requires { length number.now ≤ length bytes.now }

@@ -1,3 +1,4 @@
+// Plays choices on a machine, and writes the line of each.
 ghost use Rattle.std.specs.Prelude.{◌≡◌, ◌≢◌, ◌+◌, ◌++◌, ◌<◌, ◌≤◌, ◌∷◌, decimal, length, [], Some, Ok, false, replicate, IsTrue, true, IfOk, OnOk};
 ghost use Rattle.std.specs.Io.KnownBytes.{Appends};
 ghost use Rattle.thread_machine.specs.World.{world_of};
@@ -23,7 +24,7 @@ pub enum PlayFault {
     Write,
 }
 
-/// Writes a line.
+/// Writes a line that is already made.
 fn push_line<W: Sink>(line: &[u8], output: &mut W) -> Result<(), PlayFault>
     ensures line { OnOk result (Appends (W.written output.old) (W.written output.new) line.now) }
     ensures write { result ≡ Err PlayFault.Write → IsTrue (W.has_failed output.new) }
@@ -112,8 +113,7 @@ fn play_choice<W: Sink>(
     }
 }
 
-/// Plays one choice, and makes its line. Returns whether the choice was accepted. Fails if it is out of memory for a value that
-/// is put out.
+/// Plays one choice, and makes its line. Returns whether the choice was accepted.
 pub fn line_of_choice(
     machine: &mut Machine,
     choice: Choice,
@@ -141,8 +141,7 @@ pub fn line_of_choice(
     }
 }
 
-/// Plays one choice of a thread of the program, and makes the part of its line after the number if it was accepted. Returns
-/// whether it was accepted. Fails if it is out of memory for a value that is put out.
+/// Plays a thread's choice, and makes its line but for the number. Returns if it was accepted.
 #[inline(always)]
 pub fn own_line_of_choice(
     machine: &mut Machine,
@@ -192,8 +191,7 @@ fn play_run<W: Sink>(
     Ok(None)
 }
 
-/// Plays the runs in order and writes their lines, up to a choice that is refused. Returns that choice. Fails if it is out of
-/// memory for a value that is put out, or if the output has failed.
+/// Plays runs and writes their lines, up to a refused choice, which it returns.
 pub(crate) fn play_runs<W: Sink>(
     machine: &mut Machine,
     runs: &[Run],

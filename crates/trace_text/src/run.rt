@@ -1,3 +1,4 @@
+// A run under a schedule that is read piece by piece.
 ghost use Rattle.std.specs.Prelude.{◌≡◌, ◌+◌, ◌≤◌, [], Ok, Err, IfErr, IfOk, OnOk, false};
 ghost use Rattle.row_code.specs.declared.image.Image.{Image};
 ghost use Rattle.schedule_reader.specs.Schedule.{choices_of};
@@ -54,7 +55,7 @@ impl RunFault {
     }
 }
 
-/// Returns the result for a schedule whose reader returned this: the choice that was refused so far, if one was.
+/// Returns the reader's fault, if it returned one, or else the choice refused so far.
 fn told_of(
     told: Result<(), ScheduleFault>,
     refused: Option<Refused>,
@@ -98,7 +99,7 @@ fn play_told<W: Sink>(
     }
 }
 
-/// Plays a schedule to its end. Returns the choice that was refused, if one was.
+/// Reads a schedule to its end, and plays it up to a refused choice, which it returns.
 fn play_stream<S: Source, W: Sink>(
     machine: &mut Machine,
     schedule: &mut S,
@@ -136,8 +137,7 @@ fn play_stream<S: Source, W: Sink>(
     Err(RunFault::Read)
 }
 
-/// Plays a schedule on a machine and writes the trace, and returns how the run has ended. The contract says what this is for an
-/// image whose program begins at this machine.
+/// Plays a schedule on a machine, writes the trace, and returns how the run has ended.
 fn run_from<S: Source, W: Sink>(
     alloc: Global,
     machine: &mut Machine,
@@ -162,10 +162,8 @@ fn run_from<S: Source, W: Sink>(
     }
 }
 
-/// Plays an image's program under a schedule, writes the trace, and returns how the run has ended. The trace has a line for
-/// each choice, written when it is played, and then the state. The schedule is read piece by piece, always to its end, and its
-/// first fault is returned, even if a choice was refused before. The memory that this takes doesn't depend on the length of the
-/// schedule or of the trace.
+/// Plays an image's program under a schedule, writes a line for each choice and then the state, and returns how the run ended.
+/// The schedule is read piece by piece to its end. A fault in it is returned, even if a choice was refused before.
 pub fn run_to_end<S: Source, W: Sink>(
     alloc: Global,
     image: Image,
@@ -183,8 +181,7 @@ pub fn run_to_end<S: Source, W: Sink>(
     }
 }
 
-/// Plays an image's program under a schedule and writes the trace, like `run_to_end`, and fails if that does. It doesn't return
-/// how the run has ended.
+/// Does what `run_to_end` does, for a caller that needn't know how the run ended.
 pub fn run_text<S: Source, W: Sink>(
     alloc: Global,
     image: Image,

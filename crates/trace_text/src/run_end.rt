@@ -1,3 +1,4 @@
+// How a run has ended, and the choice that ended it if one was refused.
 ghost use Rattle.std.specs.Prelude.{◌≡◌, ◌+◌, IfOk, IsTrue, OnOk, Option, option_map};
 ghost use Rattle.std.specs.Io.KnownBytes.{Appends};
 ghost use Rattle.thread_machine.specs.World.{world_of};
@@ -47,7 +48,7 @@ fn row_of(machine: &Machine, choice: Choice) -> Option<u16>
     }
 }
 
-/// Returns what is reported of a choice that this machine has refused.
+/// Returns what is reported of a choice that this machine has refused: number, line and cause.
 fn told(machine: &Machine, refused: Refused) -> Refusal
     ensures { result ≡ told_as (world_of machine.now) refused }
 {
@@ -67,8 +68,7 @@ fn told(machine: &Machine, refused: Refused) -> Refusal
     }
 }
 
-/// Writes the text of a machine's state, and returns how its run has ended. If a choice was refused, it is in the result. Fails
-/// if it is out of memory or if the output has failed.
+/// Writes the text of a machine's state, and returns how its run ended, with a refused choice.
 pub fn push_end<W: Sink>(
     alloc: Global,
     machine: &Machine,

@@ -1,3 +1,4 @@
+// The text of a state: its counts, threads, phasers, barriers and cells.
 ghost use Rattle.std.specs.Prelude.{◌≡◌, ◌++◌, ◌*◌, ◌<◌, ◌≤◌, All, pos, length, flat_map, codes, IfOk, OnOk, if◌then◌else◌};
 ghost use Rattle.std.specs.Fmt.{decimal};
 ghost use Rattle.packed_phaser.specs.Flat.{unarrived_of};
@@ -28,7 +29,7 @@ const REGISTERS: [Reg; 8] = [
     Reg::R7,
 ];
 
-/// The first line.
+/// Appends the first line: how many choices and steps, and whether the run can go on.
 fn add_counts(text: &mut Vec<u8>, machine: &Machine) -> Result<(), AllocError>
     ensures { OnOk result (text.new.items ≡ text.old.items ++ (codes "state "
         ++ (decimal machine.now.choices ++ (codes " " ++ (decimal machine.now.steps
@@ -41,7 +42,7 @@ fn add_counts(text: &mut Vec<u8>, machine: &Machine) -> Result<(), AllocError>
     text.extend_from_slice(b"\n")
 }
 
-/// Appends the word of a status.
+/// Appends a thread's status, with the code of its exception if it has one.
 fn add_status(text: &mut Vec<u8>, status: Status) -> Result<(), AllocError>
     ensures { OnOk result (text.new.items ≡ text.old.items ++ status_text status) }
 {
@@ -79,7 +80,7 @@ fn add_stack(text: &mut Vec<u8>, machine: &Machine, thread: u8) -> Result<(), Al
     Ok(())
 }
 
-/// Appends the numbers in a thread's eight registers.
+/// Appends the values of these registers of a thread, each after a blank.
 #[tactic(auto, using(crate::proofs::Traces::text_steps))]
 fn add_registers(
     text: &mut Vec<u8>,
@@ -97,7 +98,7 @@ fn add_registers(
     Ok(())
 }
 
-/// Appends what a thread has put out.
+/// Appends the values that a thread has put out, each after a blank.
 fn add_values(text: &mut Vec<u8>, values: &[i32]) -> Result<(), AllocError>
     ensures text { OnOk result (text.new.items ≡ text.old.items ++ flat_map value_text values.now) }
     ensures few { OnOk result (length (flat_map value_text values.now) ≤ 12 * length values.now) }
@@ -108,7 +109,7 @@ fn add_values(text: &mut Vec<u8>, values: &[i32]) -> Result<(), AllocError>
     Ok(())
 }
 
-/// The beginning of a thread's line: its number, and the row that it stands at.
+/// Appends the beginning of a thread's line: its number and its row.
 fn add_thread_place(text: &mut Vec<u8>, machine: &Machine, thread: u8) -> Result<(), AllocError>
     requires { thread < length machine.now.scene.threads }
     ensures { let state = thread_at (scene_of machine.now.scene) thread in OnOk result
@@ -120,7 +121,7 @@ fn add_thread_place(text: &mut Vec<u8>, machine: &Machine, thread: u8) -> Result
     text.extend_from_slice(b" ")
 }
 
-/// Appends what follows, up to the registers: the thread's status, and whether it is interrupted.
+/// Appends a thread's status, 1 if it is interrupted and 0 if not, and the word `regs`.
 fn add_thread_status(text: &mut Vec<u8>, machine: &Machine, thread: u8) -> Result<(), AllocError>
     requires { thread < length machine.now.scene.threads }
     ensures { let state = thread_at (scene_of machine.now.scene) thread in OnOk result
@@ -135,7 +136,7 @@ fn add_thread_status(text: &mut Vec<u8>, machine: &Machine, thread: u8) -> Resul
     })
 }
 
-/// The end of a thread's line, after its registers.
+/// Appends the end of a thread's line: its stack and its output.
 fn add_thread_tail(text: &mut Vec<u8>, machine: &Machine, thread: u8) -> Result<(), AllocError>
     requires { thread < length machine.now.scene.threads }
     ensures text { let state = thread_at (scene_of machine.now.scene) thread in OnOk result
@@ -175,7 +176,7 @@ fn add_threads(text: &mut Vec<u8>, machine: &Machine) -> Result<(), AllocError>
     Ok(())
 }
 
-/// The end of a phaser's line: its parties, those that have arrived, and those that haven't.
+/// Appends the end of a phaser's line: how many parties, arrived and unarrived.
 fn add_parties(text: &mut Vec<u8>, forest: &Forest, id: PhaserId) -> Result<(), AllocError>
     requires { id.0 < length forest.now }
     ensures { let flat = flat_at (phasers_of forest.now) id.0 in OnOk result (text.new.items
@@ -188,7 +189,7 @@ fn add_parties(text: &mut Vec<u8>, forest: &Forest, id: PhaserId) -> Result<(), 
     text.extend_from_slice(b"\n")
 }
 
-/// Appends the line of a phaser.
+/// Appends the line of a phaser: its number, its view and its parties.
 fn add_phaser(text: &mut Vec<u8>, forest: &Forest, id: PhaserId) -> Result<(), AllocError>
     requires { id.0 < length forest.now }
     ensures { OnOk result (text.new.items
@@ -211,7 +212,7 @@ fn add_phasers(text: &mut Vec<u8>, forest: &Forest) -> Result<(), AllocError>
     Ok(())
 }
 
-/// Appends the line of a barrier.
+/// Appends the line of a barrier: its number, how many wait, and 1 if it is broken, or else 0.
 fn add_barrier(text: &mut Vec<u8>, number: u8, barrier: &Barrier) -> Result<(), AllocError>
     ensures { OnOk result (text.new.items ≡ text.old.items ++ barrier_text number barrier.now) }
 {
@@ -258,7 +259,7 @@ fn add_cells(text: &mut Vec<u8>, cells: &[i32]) -> Result<(), AllocError>
     Ok(())
 }
 
-/// The lines of the phasers, the barriers and the cells.
+/// Appends the lines of the phasers, the barriers and the cells.
 fn add_objects(text: &mut Vec<u8>, machine: &Machine) -> Result<(), AllocError>
     ensures { let scene = scene_of machine.now.scene in OnOk result (text.new.items ≡ text.old.items
         ++ (numbered_texts phaser_text 0 scene.phasers ++ (numbered_texts barrier_text 0 scene.barriers
@@ -269,8 +270,7 @@ fn add_objects(text: &mut Vec<u8>, machine: &Machine) -> Result<(), AllocError>
     add_cells(text, machine.cells())
 }
 
-/// Returns the text of a machine's state, which ends a trace. A comparison reads each of its lines. Fails if it is out of
-/// memory.
+/// Returns the text of a machine's state, which ends a trace.
 pub fn state_text(alloc: Global, machine: &Machine) -> Result<Vec<u8>, AllocError>
     ensures text { IfOk result (λ text. text.items ≡ state_text (world_of machine.now)) }
     ensures lines { OnOk result (HasNoLongLine (state_text (world_of machine.now))) }

@@ -5,7 +5,7 @@ ghost use Rattle.trace_text.specs.ExpectedLine.{begins, begins_whole, ends_a_lis
 
 use line_reader::words::length_before;
 
-/// Returns whether a word ends if this follows it.
+/// Returns whether a word ends before these bytes: there are none, or a blank is the first.
 fn ends_a_word(rest: &[u8]) -> bool
     ensures { result ≡ ends_a_word rest.now }
 {
@@ -15,7 +15,7 @@ fn ends_a_word(rest: &[u8]) -> bool
     }
 }
 
-/// Returns whether a text begins with these words.
+/// Returns whether a text begins with these words, and the last of them ends there.
 fn begins(words: &[u8], text: &[u8]) -> bool
     ensures { result ≡ begins words.now text.now }
 {
@@ -36,29 +36,28 @@ fn has_words(words: &[u8], line: &[u8]) -> bool
     false
 }
 
-/// Returns whether a list begins among these words, as in the line of a thread: its registers, its stack, or its output.
+/// Returns whether the name of a thread's list is in these words: registers, stack or output.
 fn names_a_list(words: &[u8]) -> bool
     ensures { result ≡ names_a_list words.now }
 {
     has_words(b" regs", words) || has_words(b" stack", words) || has_words(b" out", words)
 }
 
-/// Returns whether such a list ends if this follows it.
+/// Returns whether a list ends before these bytes: nothing, or the next list's name, follows.
 fn ends_a_list(rest: &[u8]) -> bool
     ensures { result ≡ ends_a_list rest.now }
 {
     rest.is_empty() || begins(b" stack", rest) || begins(b" out", rest)
 }
 
-/// Returns whether a text begins with these words; if a list is among them, with the whole list.
+/// Returns whether a text begins with these words, a list among them with all its values.
 fn begins_whole(words: &[u8], text: &[u8]) -> bool
     ensures { result ≡ begins_whole words.now text.now }
 {
     begins(words, text) && (!names_a_list(words) || ends_a_list(&text[words.len()..]))
 }
 
-/// Returns whether a line has these words in a row, with the blank before them. If a list is among them, it has to be the whole
-/// list.
+/// Returns whether a line has these words in a row after a blank, a list only as a whole.
 pub fn has_whole(words: &[u8], line: &[u8]) -> bool
     ensures { result ≡ has_whole words.now line.now }
 {
@@ -72,14 +71,14 @@ pub fn has_whole(words: &[u8], line: &[u8]) -> bool
     false
 }
 
-/// The line that a text begins with.
+/// Returns the first line of a text, without its LF.
 fn first_line(text: &[u8]) -> &[u8]
     ensures { result.now ≡ first_line text.now }
 {
     &text[..length_before(b'\n', text)]
 }
 
-/// Returns the first line after a line end that begins with this word.
+/// Returns the first line that begins with this word, of those that follow an LF.
 fn later_line<'a>(subject: &[u8], text: &'a [u8]) -> Option<&'a [u8]>
     ensures { option_map (λ (line : Bor (List ℕ)). line.now) result ≡ later_line subject.now text.now }
 {

@@ -7,7 +7,7 @@ use crate::next_choice::rest_of;
 use line_reader::words::length_before;
 use thread_machine::Choice;
 
-/// Returns a turn of this thread, or the expiry of its wait, or `None` if there can't be such a thread.
+/// Returns a thread's choice, or `None` if its number has no digits or is above 63.
 fn choice_by(expiry: bool, are_digits: bool, thread: u16) -> Option<Choice>
     ensures { result ≡ choice_by expiry are_digits thread }
 {
@@ -21,7 +21,7 @@ fn choice_by(expiry: bool, are_digits: bool, thread: u16) -> Option<Choice>
     }
 }
 
-/// The choice of a thread with one or two digits.
+/// Returns the choice of the thread that one or two digits name, or `None`.
 fn choice_of_digits(expiry: bool, digits: &[u8]) -> Option<Choice>
     ensures { result ≡ choice_of_digits expiry digits.now }
 {
@@ -40,7 +40,7 @@ fn choice_of_digits(expiry: bool, digits: &[u8]) -> Option<Choice>
     }
 }
 
-/// The choice of this name.
+/// Returns the choice that a name as `t2` or `x2` stands for, or `None`.
 fn choice_named(name: &[u8]) -> Option<Choice>
     ensures { result ≡ choice_named name.now }
 {
@@ -51,14 +51,14 @@ fn choice_named(name: &[u8]) -> Option<Choice>
     }
 }
 
-/// Returns what precedes the first space.
+/// Returns what precedes the first space, or the whole line if it has none.
 fn first_word(line: &[u8]) -> &[u8]
     ensures { result.now ≡ before_first is_space line.now }
 {
     &line[..length_before(b' ', line)]
 }
 
-/// Where the first byte stands that is no digit.
+/// Returns the place of the first byte that is no digit, or `None` if there is none.
 fn place_of_no_digit(line: &[u8]) -> Option<usize>
     ensures { result ≡ position is_no_digit line.now }
 {
@@ -76,8 +76,7 @@ fn digits_before(line: &[u8]) -> usize
     }
 }
 
-/// Returns the choice that a trace's line names. It looks at the number only once: what follows the digits is the end of the
-/// line's name, or the line names nothing.
+/// Returns the choice that a trace's line names after 1 to 13 digits and a space, or `None`.
 pub fn choice_in(line: &[u8]) -> Option<Choice>
     ensures { result ≡ choice_in line.now }
 {

@@ -15,14 +15,14 @@ impl Model for Came {
 }
 
 impl Came {
-    /// None so far.
+    /// Returns what has come to a new sink: no bytes.
     pub fn none() -> Came
         ensures { result.bytes ≡ [] }
     {
         Came {}
     }
 
-    /// And these.
+    /// Returns what has come so far, and these bytes.
     pub fn and(&self, bytes: &[u8]) -> Came
         ensures { result.bytes ≡ self.now.bytes ++ bytes.now }
     {

@@ -48,7 +48,7 @@ impl CountingSink {
         self.kept.as_slice()
     }
 
-    /// Returns how many bytes came.
+    /// Returns how many bytes came, or the largest number if there were more.
     pub fn count(&self) -> usize
         ensures { result ≡ min (length self.now.written) most_counted }
     {
@@ -63,7 +63,7 @@ impl CountingSink {
     }
 }
 
-/// Keeps the first of these bytes, where all that came was kept, so many, and more may be.
+/// Appends as many of these bytes as fit below `most`, if all `count` bytes before are kept.
 fn keep(kept: &mut Vec<u8>, most: usize, count: usize, bytes: &[u8])
     ensures { (came : List ℕ) → AreFirst kept.old.items came → count ≡ min (length came) most_counted
         → AreFirst kept.new.items (came ++ bytes.now) }
@@ -79,6 +79,7 @@ impl Sink for CountingSink {
 
     ghost has_failed = { λ _. false };
 
+    /// Counts these bytes, and keeps as many as fit. It never fails.
     fn push(&mut self, bytes: &[u8]) -> Result<(), Failed>
         ensures failed { FailsForGood false false result }
         ensures bytes { Appends (Some self.old.written) (Some self.new.written) bytes.now }

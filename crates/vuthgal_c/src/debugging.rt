@@ -7,7 +7,7 @@ use std::alloc::Global;
 use workbench::debug_cmd;
 use workbench::slice_source::SliceSource;
 
-/// Carries out lines of commands on a program. The output is the replies.
+/// Writes the replies to lines of commands to `output`. Returns the status, with a fault in `line`.
 #[unsafe(no_mangle)]
 pub extern "C" fn vuthgal_debug(
     alloc: Global,

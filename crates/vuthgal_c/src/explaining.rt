@@ -15,7 +15,7 @@ use workbench::fault::Fault;
 /// How many bytes words may have.
 const MOST_BYTES: usize = 65_536;
 
-/// The words of a text.
+/// Returns the words of a text, which are separated by blanks.
 fn words_of(alloc: Global, text: &str) -> Result<Vec<&str>, AllocError>
     ensures { IfOk result (λ words. AreWordsOf text.now (map (λ w. w.now) words.items)) }
 {
@@ -26,7 +26,7 @@ fn words_of(alloc: Global, text: &str) -> Result<Vec<&str>, AllocError>
     Ok(words)
 }
 
-/// Writes the entry that the words of a text request. Returns whether there is such an entry.
+/// Writes the entry that a text's words request. Returns whether there is one.
 fn explained<K: Sink>(alloc: Global, text: &[u8], output: &mut K) -> Result<bool, Fault>
     ensures { ExplainsText QUESTIONS.now text.now result (K.written output.old) (K.written output.new) (K.has_failed output.new) }
 {
@@ -45,7 +45,7 @@ fn explained<K: Sink>(alloc: Global, text: &[u8], output: &mut K) -> Result<bool
     }
 }
 
-/// The status of what came of words, and its line.
+/// Returns the status: 2 if there is no entry. What is wrong goes to `line`.
 fn settled<E: Sink>(answer: Result<bool, Fault>, line: &mut E) -> u8
     ensures { SettlesExplaining QUESTIONS.now NO_LINE.now answer result (E.has_failed line.new) (E.written line.old) (E.written line.new) }
 {
@@ -59,7 +59,7 @@ fn settled<E: Sink>(answer: Result<bool, Fault>, line: &mut E) -> u8
     }
 }
 
-/// Explains the words of a line. The output is what they mean.
+/// Writes what the words mean to `output`. Returns the status, with a fault in `line`.
 #[unsafe(no_mangle)]
 pub extern "C" fn vuthgal_explain(
     alloc: Global,

@@ -12,14 +12,14 @@ use workbench::program::program_in;
 /// How many bytes an input may have.
 const MOST_BYTES: usize = 16_777_216;
 
-/// Returns whether an input has at most as many bytes as one may have.
+/// Returns whether an input has at most 16,777,216 bytes.
 pub fn is_within(bytes: &[u8]) -> bool
     ensures { IsTrue result ↔ (length bytes.now ≤ most_bytes) }
 {
     bytes.len() <= MOST_BYTES
 }
 
-/// `program_in`, with what it says of a program in one clause.
+/// Returns the program in a file like `program_in`, but its contract has one clause about it.
 pub fn whole_program(alloc: Global, file: &[u8]) -> Result<Program<'_>, Fault>
     ensures program { IfOk result (λ program. IsProgramIn file.now program) }
     ensures none { IfErr result (λ fault. IsNoProgramFor fault file.now) }

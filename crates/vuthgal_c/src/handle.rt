@@ -35,7 +35,7 @@ impl Handle {
         }
     }
 
-    /// Makes the handle of a session in a block.
+    /// Makes the handle of a session whose block this is.
     pub(crate) fn of(loose: Loose<Held, Global>) -> Handle
         ensures { result.session ≡ Some loose.value }
     {
@@ -46,7 +46,7 @@ impl Handle {
         }
     }
 
-    /// Takes the block of the session, if there is one.
+    /// Returns the block of the session, if there is one. The handle is gone.
     pub(crate) fn into_loose(self, alloc: Global) -> Option<Loose<Held, Global>>
         ensures { option_map (λ l. l.value) result ≡ self.session }
     {

@@ -33,7 +33,7 @@ pub enum Unanswered {
     ReplyLost,
 }
 
-/// Carries out a command. Returns whether there was memory for it.
+/// Carries out a command. Returns false if it is out of memory, and then nothing is done.
 fn is_answered(debugger: &mut Debugger, command: &[u8], shown: &mut SessionSink) -> bool
     ensures done { result ≡ true → (text : List ℕ) × (Replies debugger.old (line_order command.now) debugger.new text
         × Appends (Some shown.old) (Some shown.new) text) }
@@ -46,7 +46,7 @@ fn is_answered(debugger: &mut Debugger, command: &[u8], shown: &mut SessionSink)
 }
 
 impl Held {
-    /// Holds a debugger that has had no command.
+    /// Returns a session with this debugger and an empty reply.
     pub fn new(alloc: Global, debugger: Debugger) -> Held
         ensures { result ≡ record { debugger = debugger; reply = [] } }
     {

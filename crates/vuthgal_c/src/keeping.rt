@@ -8,7 +8,7 @@ use crate::loose::Loose;
 use std::alloc::Global;
 use std::mem::replace;
 
-/// Takes the session of a handle, if it has one.
+/// Returns the session of a handle, if it has one. The handle is gone.
 fn into_box(handle: Handle, alloc: Global) -> Option<Box<Held>>
     ensures { MatchOption result (handle.session ≡ None) (λ b. handle.session ≡ Some b.value) }
 {

@@ -14,7 +14,7 @@ use commands::write_picture::parts_of;
 use std::alloc::Global;
 use workbench::fault::Fault;
 
-/// Writes the schedule that a plan stands for on the program in a file.
+/// Writes a plan's schedule on a file's program. Returns whether it needs over 1,000,000 choices.
 fn planned<K: Sink>(
     alloc: Global,
     file: &[u8],
@@ -33,7 +33,7 @@ fn planned<K: Sink>(
     }
 }
 
-/// The status of what a plan came to, and its line.
+/// Returns the status: 1 if the plan was cut off. What is wrong goes to `line`.
 fn settled<E: Sink>(answer: Result<bool, Unplanned>, line: &mut E) -> u8
     ensures { SettlesPlan answer result (E.has_failed line.new) (E.written line.old) (E.written line.new) }
 {
@@ -50,7 +50,7 @@ fn settled<E: Sink>(answer: Result<bool, Unplanned>, line: &mut E) -> u8
     }
 }
 
-/// Plans a program, which is an image or a text, with or without a schedule after it. The output is the schedule.
+/// Writes the schedule of a plan to `output`. Returns the status, with a fault in `line`.
 #[unsafe(no_mangle)]
 pub extern "C" fn vuthgal_plan(
     alloc: Global,

@@ -7,7 +7,7 @@ use std::alloc::Global;
 use workbench::slice_source::SliceSource;
 use workbench::{both_cmd, run_cmd};
 
-/// Plays a program, an image or a text, under a schedule. The output is the trace.
+/// Writes the trace of a program's run to `output`. Returns the status, with a fault in `line`.
 #[unsafe(no_mangle)]
 pub extern "C" fn vuthgal_run(
     alloc: Global,
@@ -28,7 +28,7 @@ pub extern "C" fn vuthgal_run(
     reply.hand(status, output, output_length, line, line_length)
 }
 
-/// Plays a text under the schedule after its line `.run`. The output is the trace.
+/// Writes a text's trace under its schedule to `output`, a fault to `line`. Returns the status.
 #[unsafe(no_mangle)]
 pub extern "C" fn vuthgal_both(
     alloc: Global,

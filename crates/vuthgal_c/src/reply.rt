@@ -16,7 +16,7 @@ pub struct Reply {
 }
 
 impl Reply {
-    /// Makes an empty reply, which keeps at most so many bytes of the output and of the line. It allocates as they come.
+    /// Makes an empty reply that keeps at most so many bytes of the output and of the line.
     pub fn new(alloc: Global, output: usize, line: usize) -> Reply
         ensures shown { result.shown.written ≡ [] }
         ensures told { result.told.written ≡ [] }
@@ -27,7 +27,7 @@ impl Reply {
         }
     }
 
-    /// Hands over the output and the line, or reports that there was no memory to keep them. Returns the status.
+    /// Copies the output and the line to the caller. Returns the status, 4 if bytes weren't kept.
     pub fn hand(
         &self,
         status: u8,

@@ -31,7 +31,7 @@ impl Model for SessionSink {
 }
 
 impl SessionSink {
-    /// Makes a sink that has its room. Fails if it is out of memory.
+    /// Makes an empty sink with room for 192 bytes.
     pub fn new(alloc: Global) -> Result<SessionSink, AllocError>
         ensures { IfOk result (λ sink. sink ≡ []) }
     {
@@ -42,7 +42,7 @@ impl SessionSink {
         })
     }
 
-    /// Returns all that came, or nothing if there was no memory for it.
+    /// Returns all bytes that came, or `None` if there was no memory for some.
     pub fn into_all(self) -> Option<Vec<u8>>
         ensures { MatchOption result (reply_room < length self) (λ all. all.items ≡ self) }
     {
@@ -64,6 +64,7 @@ impl Sink for SessionSink {
 
     ghost has_failed = { λ _. false };
 
+    /// Keeps these bytes, or notes that there is no memory for them. It never fails.
     fn push(&mut self, bytes: &[u8]) -> Result<(), Failed>
         ensures failed { FailsForGood false false result }
         ensures bytes { Appends (Some self.old) (Some self.new) bytes.now }

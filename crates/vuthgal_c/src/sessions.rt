@@ -38,7 +38,7 @@ fn held_of(alloc: Global, file: &[u8]) -> Result<Held, Fault>
     }
 }
 
-/// The same in a block of its own.
+/// Does what `held_of` does, and puts the session into a block of its own.
 fn boxed(alloc: Global, file: &[u8]) -> Result<Box<Held>, Fault>
     ensures first { IfOk result (λ held. IsFirstOf file.now held.value) }
     ensures limit { OnOk result (length file.now ≤ most_bytes) }
@@ -54,7 +54,7 @@ fn boxed(alloc: Global, file: &[u8]) -> Result<Box<Held>, Fault>
     }
 }
 
-/// Tells why there is no session.
+/// Writes the line that says why there is no session.
 fn tell(fault: Fault, told: &mut CountingSink)
     ensures { told.new.written ≡ told.old.written ++ line_of fault }
 {
@@ -64,7 +64,7 @@ fn tell(fault: Fault, told: &mut CountingSink)
     }
 }
 
-/// Opens a session of a program, an image or a text. One that was open is closed.
+/// Closes the session, if one is open, and opens one. Returns the status, with a fault in `line`.
 #[unsafe(no_mangle)]
 pub extern "C" fn vuthgal_session_open(
     alloc: Global,
@@ -96,7 +96,8 @@ pub extern "C" fn vuthgal_session_open(
     status
 }
 
-/// Carries out a command, a line without its LF. The output is the reply.
+/// Carries out a command, a line without its LF. Returns 0, or 6 if no session is open, or 4 if it is out of memory. Then the
+/// session is as before, or, if only the reply is lost, it is closed.
 #[unsafe(no_mangle)]
 pub extern "C" fn vuthgal_session_command(
     alloc: Global,
@@ -130,7 +131,7 @@ pub extern "C" fn vuthgal_session_command(
     }
 }
 
-/// Tells the reply to the last command again, for a caller that had no room for it.
+/// Writes the last reply again, if a buffer was too small. Returns 0, or 6 if it is closed.
 #[unsafe(no_mangle)]
 pub extern "C" fn vuthgal_session_reply(
     alloc: Global,

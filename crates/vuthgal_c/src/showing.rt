@@ -22,7 +22,7 @@ use workbench::done::settled_as_asked;
 use workbench::fault::Fault;
 use workbench::slice_source::SliceSource;
 
-/// Writes the picture of a program under a schedule.
+/// Writes the picture of the program in a file under a schedule.
 fn made<P: Picture, K: Sink>(
     alloc: Global,
     picture: &P,
@@ -48,7 +48,7 @@ fn made<P: Picture, K: Sink>(
     }
 }
 
-/// Shows the run of a program under a schedule. The output is a page for a browser.
+/// Writes the page of a run to `output`. Returns the status, with a fault in `line`.
 #[unsafe(no_mangle)]
 pub extern "C" fn vuthgal_show(
     alloc: Global,
@@ -71,7 +71,7 @@ pub extern "C" fn vuthgal_show(
     reply.hand(status, output, output_length, line, line_length)
 }
 
-/// Draws the run of a program under a schedule, in lines of at most `width` columns. The output is the drawing.
+/// Writes a drawing of `width` columns to `output`. Returns the status, with a fault in `line`.
 #[unsafe(no_mangle)]
 pub extern "C" fn vuthgal_draw(
     alloc: Global,

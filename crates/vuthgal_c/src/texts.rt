@@ -7,7 +7,7 @@ use std::alloc::Global;
 use workbench::slice_source::SliceSource;
 use workbench::{asm_cmd, list_cmd};
 
-/// Assembles a text. The output is its image.
+/// Writes the image of a text to `output`. Returns the status, with a fault in `line`.
 #[unsafe(no_mangle)]
 pub extern "C" fn vuthgal_asm(
     alloc: Global,
@@ -25,7 +25,7 @@ pub extern "C" fn vuthgal_asm(
     reply.hand(status, output, output_length, line, line_length)
 }
 
-/// Lists a program, an image or a text. The output is its canonical text.
+/// Writes a program's canonical text to `output`. Returns the status, with a fault in `line`.
 #[unsafe(no_mangle)]
 pub extern "C" fn vuthgal_list(
     alloc: Global,

@@ -7,7 +7,7 @@ use std::alloc::Global;
 use workbench::compare_cmd;
 use workbench::slice_source::SliceSource;
 
-/// Compares a trace with the run of a program. The output is the line of the verdict.
+/// Writes a trace's verdict to `output`. Returns the status, with a fault in `line`.
 #[unsafe(no_mangle)]
 pub extern "C" fn vuthgal_compare(
     alloc: Global,

@@ -14,10 +14,8 @@ use byte_ports::{Sink, Source};
 use row_code::{Image, write_image};
 use std::alloc::Global;
 
-/// Assembles the text in `input` and writes the bytes of its image to `output`. It doesn't check whether the program can be
-/// loaded. Returns the exit status: 0 if everything went well. With any other status `errors` gets one line: `refused asm LINE
-/// KIND` (3), `memory` (4), or `read` or `write` (5). If `errors` fails, the status stays. Nothing is written to `output`
-/// before the whole text is accepted.
+/// Assembles the text in `input`, and writes its image to `output`. It doesn't check whether the program can be loaded. Returns
+/// the exit status. If that isn't 0, `errors` gets one line: `refused asm LINE KIND` (3), `memory` (4), `read` or `write` (5).
 pub fn asm_cmd<S: Source, K: Sink, E: Sink>(
     alloc: Global,
     input: &mut S,
@@ -35,7 +33,7 @@ pub fn asm_cmd<S: Source, K: Sink, E: Sink>(
     }
 }
 
-/// Writes the bytes of the image that a text stands for.
+/// Assembles a text, and writes the bytes of its image. A text with a fault writes nothing.
 pub fn asm<K: Sink>(alloc: Global, text: &[u8], output: &mut K) -> Result<(), Fault>
     ensures { Assembles text.now result (K.written output.old) (K.written output.new) (K.has_failed output.new) }
 {

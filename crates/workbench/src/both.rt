@@ -15,10 +15,8 @@ use byte_ports::{Sink, Source};
 use std::alloc::Global;
 use trace_text::RunEnd;
 
-/// Reads a program text, a line `.run` and a schedule from `input`, plays the program under the schedule, and writes the trace
-/// to `output`. Returns the exit status: 0 if everything went well. With any other status `errors` gets one line: `refused asm
-/// LINE KIND`, `refused load KIND [PLACE]` or `refused schedule KIND AT` (3), `memory` (4), or `read` or `write` (5). If
-/// `errors` fails, the status stays. Nothing is written to `output` before the input is read and the program is loaded.
+/// Reads a program text, a line `.run` and a schedule from `input`, and writes the trace of the run to `output`. Returns the
+/// exit status. If that isn't 0, `errors` gets one line: `refused ..` (3), `memory` (4), or `read` or `write` (5).
 pub fn both_cmd<S: Source, K: Sink, E: Sink>(
     alloc: Global,
     input: &mut S,
@@ -36,8 +34,7 @@ pub fn both_cmd<S: Source, K: Sink, E: Sink>(
     }
 }
 
-/// Plays the program of a text under the schedule that stands behind its line `.run`, writes the trace, and answers how the run
-/// has ended.
+/// Plays the program of a text under the schedule after its line `.run`, and writes the trace.
 fn both<K: Sink>(alloc: Global, text: &[u8], output: &mut K) -> Result<RunEnd, Fault>
     ensures { PlaysText text.now result (K.written output.old) (K.written output.new) (K.has_failed output.new) }
 {

@@ -1,3 +1,4 @@
+// Where the lines of a session come from.
 ghost use Rattle.std.specs.Prelude.{◌≡◌, ◌⊎◌, ◌+◌, ◌≤◌, ◌∷◌, ◌++◌, [], true, false, ℕ, Bool, length, All, List, Option, Some, None, Ok, Err, IsTrue, IfErr, OnOk};
 ghost use Rattle.std.specs.Io.KnownBytes.{Consumes, IsAtEnd};
 ghost use Rattle.workbench.specs.declared.fault.Fault.{Fault};
@@ -18,9 +19,8 @@ pub trait Companion {
     // Whether the lines could not be read.
     ghost has_failed: { Self → Bool };
 
-    /// Puts the next line, up to its LF, which is left out, or up to the end, in place of what the vector holds. Answers whether
-    /// there was an LF. No byte behind it is asked for, so a line can be answered before the next one is there. `reads` is how
-    /// many bytes may still be given.
+    /// Puts the next line, without its LF, in place of what the vector holds. Returns whether there was an LF. It reads no byte
+    /// after the LF, so the reply can be written before the next line is there. `reads` is how many bytes may still be read.
     fn next_line(
         &mut self,
         debugger: &Debugger,
@@ -43,7 +43,7 @@ pub trait Companion {
         ensures few { IsCounted reads.old reads.new (left self.old) (left self.new) };
 }
 
-/// The next byte, `None` at the end.
+/// Reads one byte and returns it, or `None` at the end.
 fn next_byte<S: Source>(source: &mut S) -> Result<Option<u8>, Fault>
     ensures byte { (byte : ℕ) → result ≡ Ok (Some byte) → Consumes (S.left source.old) (S.left source.new) (byte ∷ []) }
     ensures end { result ≡ Ok None → Consumes (S.left source.old) (S.left source.new) [] × IsAtEnd (S.left source.new) }
@@ -64,6 +64,7 @@ impl<S: Source> Companion for S {
 
     ghost has_failed = { λ source. S.has_failed source };
 
+    /// Reads a byte at a time, so that nothing after the LF is read. It ignores the debugger.
     fn next_line(
         &mut self,
         _debugger: &Debugger,

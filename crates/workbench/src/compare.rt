@@ -15,11 +15,8 @@ use row_code::Image;
 use std::alloc::Global;
 use trace_compare::{CompareFault, Verdict, compare};
 
-/// Compares the trace in `trace` with the run of the program in `file`, an image or a text, under the choices that the trace
-/// names. Writes one line to `output`: `same`, `differs LINE` or `not a trace LINE`. Returns the exit status: 0 for `same`, and
-/// 1 for the other two. With any other status `errors` gets one line: `refused asm LINE KIND`, `refused image KIND [PLACE]` or
-/// `refused load KIND [PLACE]` (3), `memory` (4), or `read` or `write` (5). If `errors` fails, the status stays. The trace may
-/// have any length. It is read piece by piece, up to the line that decides.
+/// Compares the trace in `trace` with the run of the program in `file`, and writes `same`, `differs LINE` or `not a trace LINE`
+/// to `output`. Returns the exit status: 0 for `same`, 1 for the other two, and 3 to 5 with a fault's line on `errors`.
 pub fn compare_cmd<F: Source, S: Source, K: Sink, E: Sink>(
     alloc: Global,
     file: &mut F,
@@ -44,7 +41,7 @@ pub fn compare_cmd<F: Source, S: Source, K: Sink, E: Sink>(
     }
 }
 
-/// Returns how a comparison is done, by its verdict.
+/// Returns `AsAsked` for the verdict `Same`, and `Unlike` for any other.
 pub fn done_by(verdict: Verdict) -> Done
     ensures { result ≡ done_by verdict }
 {
@@ -77,7 +74,7 @@ pub fn compared<S: Source, K: Sink>(
     }
 }
 
-/// Writes the line of a verdict: `same`, `differs LINE` or `not a trace LINE`. Fails if the output fails.
+/// Writes the line of a verdict: `same`, `differs LINE` or `not a trace LINE`.
 pub fn push_verdict<K: Sink>(output: &mut K, verdict: Verdict) -> Result<(), Failed>
     ensures bytes { OnOk result (Appends (K.written output.old) (K.written output.new)
         (verdict_line verdict)) }

@@ -1,3 +1,4 @@
+// A session of the debugger: a line is read, carried out and replied to before the next one.
 ghost use Rattle.std.specs.Prelude.{◌≡◌, ◌⊎◌, ◌+◌, ◌∷◌, [], true, false, List, ℕ, length, None, Some, Ok, Err, IsTrue, IfOk, IfErr, OnOk, Result};
 ghost use Rattle.std.specs.Io.KnownBytes.{Appends, Consumes};
 ghost use Rattle.trace_compare.specs.Naming.{HasNamed};
@@ -36,13 +37,10 @@ const MOST_KEPT: u16 = 4096;
 /// How many bytes are read of the commands at most, over all lines.
 const MOST_READS: u64 = 1_000_000_000;
 
-/// Debugs the program in `file`, an image or a text. It reads a line of `commands`, carries it out, writes its reply to
-/// `output`, and goes on up to the line `q` or to the end. Returns the exit status: 0 if everything went well, even if a line
-/// is no command or its choice is refused. With any other status `errors` gets one line: `refused asm LINE KIND`, `refused
-/// image KIND [PLACE]` or `refused load KIND [PLACE]` (3), `memory` (4), or `read` or `write` (5). If `errors` fails, the
-/// status stays. The commands are read a byte at a time, after the program is loaded. No byte after a line's LF is read before
-/// its reply is written, and none after `q`. Each reply is written in one piece. If `output` collects bytes, it has to pass
-/// them on there.
+/// Debugs the program in `file`: reads a line of `commands`, carries it out, writes its reply to `output`, and goes on up to
+/// the line `q` or to the end. Returns the exit status: 0 even if a line is no command or its choice is refused. With any other
+/// status `errors` gets one line: `refused ..` (3), `memory` (4), or `read` or `write` (5). No byte after a line's LF is read
+/// before its reply is written, and none after `q`. Each reply is written in one piece.
 pub fn debug_cmd<F: Source, S: Source, K: Sink, E: Sink>(
     alloc: Global,
     file: &mut F,
@@ -64,8 +62,7 @@ pub fn debug_cmd<F: Source, S: Source, K: Sink, E: Sink>(
     }
 }
 
-/// Debugs an image's program: reads a line of commands, carries it out, writes its reply, and reads on, up to the
-/// line `q` or to the end.
+/// Reads a line, carries it out, writes its reply, and reads on, up to `q` or to the end.
 pub fn debug<C: Companion, K: Sink>(
     alloc: Global,
     image: Image,
@@ -83,7 +80,7 @@ pub fn debug<C: Companion, K: Sink>(
     converse(alloc, &mut debugger, commands, output)
 }
 
-/// `debug` after runs of choices, which it plays first. Their reply is that of the command `g`.
+/// Plays runs of choices, writes the reply of the command `g`, and goes on as `debug` does.
 pub fn debug_behind<C: Companion, K: Sink>(
     alloc: Global,
     image: Image,
@@ -102,7 +99,7 @@ pub fn debug_behind<C: Companion, K: Sink>(
     }
 }
 
-/// Like `debug_behind`, from a session on that hasn't begun.
+/// Does what `debug_behind` does, on a debugger before its first choice.
 fn debug_runs<C: Companion, K: Sink>(
     alloc: Global,
     debugger: &mut Debugger,
@@ -121,9 +118,8 @@ fn debug_runs<C: Companion, K: Sink>(
     }
 }
 
-/// `debug` after the choices of a trace. They are played as they are read, so none is kept, and their reply is that of the
-/// command `g`. If it isn't a trace, the first wrong line is reported as `compare` does, and no command is read. The program is
-/// loaded before the trace is read.
+/// Plays the choices of a trace as they are read, writes the reply of the command `g`, and goes on as `debug` does. If it isn't
+/// a trace, it writes the first wrong line as `compare` does, and reads no command.
 pub fn debug_at<T: Source, C: Companion, K: Sink>(
     alloc: Global,
     image: Image,
@@ -142,7 +138,7 @@ pub fn debug_at<T: Source, C: Companion, K: Sink>(
     }
 }
 
-/// Like `debug_at`, from a session on that hasn't begun.
+/// Does what `debug_at` does, on a debugger before its first choice.
 fn debug_from<T: Source, C: Companion, K: Sink>(
     alloc: Global,
     debugger: &mut Debugger,
@@ -175,7 +171,7 @@ enum PlayedTrace {
     NotATrace { line: u64 },
 }
 
-/// Plays the choices that a trace's lines name, up to where they stop, and reads on to the line of its state.
+/// Plays a trace's choices up to a stop, and reads on to its state. Fails if it can't be read.
 fn play_trace<T: Source>(
     alloc: Global,
     debugger: &mut Debugger,
@@ -205,7 +201,7 @@ fn play_trace<T: Source>(
     Err(Fault::Read)
 }
 
-/// Tells which line is the first that is no line of a trace.
+/// Writes `not a trace LINE`, and returns `Unlike`.
 fn not_a_trace<K: Sink>(output: &mut K, line: u64) -> Result<Done, Fault>
     ensures told { OnOk result (Appends (K.written output.old) (K.written output.new)
         (verdict_line (verdict.NotATrace line))) }
@@ -218,7 +214,7 @@ fn not_a_trace<K: Sink>(output: &mut K, line: u64) -> Result<Done, Fault>
     }
 }
 
-/// Makes the debugger of an image's program before its first choice.
+/// Makes the debugger of an image's program before its first choice. It keeps 4,096 choices.
 pub fn first_debugger(alloc: Global, image: Image) -> Result<Debugger, Fault>
     ensures first { IfOk result (λ debugger. IsFirstSession image debugger) }
     ensures none { IfErr result (λ fault. HasNoSession fault image) }
@@ -234,7 +230,7 @@ pub fn first_debugger(alloc: Global, image: Image) -> Result<Debugger, Fault>
     }
 }
 
-/// Reads lines and answers each before the next, up to `q` or to the end.
+/// Reads a line, writes its reply, and goes on so, up to `q` or to the end.
 fn converse<C: Companion, K: Sink>(
     alloc: Global,
     debugger: &mut Debugger,
@@ -258,7 +254,7 @@ fn converse<C: Companion, K: Sink>(
     Err(Fault::Read)
 }
 
-/// Reads a line and answers it; whether the session goes on. `reads` is how often the commands may still be read.
+/// Reads a line and writes its reply. Returns whether the session goes on after it.
 fn take_turn<C: Companion, K: Sink>(
     debugger: &mut Debugger,
     line: &mut Vec<u8>,
@@ -292,7 +288,7 @@ fn take_turn<C: Companion, K: Sink>(
     }
 }
 
-/// `Debugger::command` in the words of the commands.
+/// Carries out a line as `Debugger::command` does, with its fault as a fault of the commands.
 fn answer<K: Sink>(debugger: &mut Debugger, line: &[u8], output: &mut K) -> Result<bool, Fault>
     ensures answered { OnOk result ((text : List ℕ)
         × (Replies debugger.old (line_order line.now) debugger.new text

@@ -16,7 +16,7 @@ pub enum Done {
 }
 
 impl Done {
-    /// The program's exit status.
+    /// Returns the exit status: 0, or 1 if a trace or an end isn't as expected.
     pub fn status(self) -> u8
         ensures { result ≡ done_status self }
     {
@@ -27,7 +27,7 @@ impl Done {
     }
 }
 
-/// Returns the result of a command that does what it is asked unless there is a fault.
+/// Returns `AsAsked` in place of any value. A fault stays.
 pub fn as_asked<T: Drop>(answer: Result<T, Fault>) -> Result<Done, Fault>
     ensures done { OnOk answer (result ≡ Ok done.AsAsked) }
     ensures fault { IfErr answer (λ fault. result ≡ Err fault) }
@@ -38,14 +38,14 @@ pub fn as_asked<T: Drop>(answer: Result<T, Fault>) -> Result<Done, Fault>
     }
 }
 
-/// `settled`, for a command that does what it is asked unless there is a fault.
+/// Does what `settled` does, with status 0 for any result that is no fault.
 pub fn settled_as_asked<T: Drop, E: Sink>(answer: Result<T, Fault>, errors: &mut E) -> u8
     ensures { IsSettledBy as_asked answer result (E.has_failed errors.new) (E.written errors.old) (E.written errors.new) }
 {
     settled(as_asked(answer), errors)
 }
 
-/// The exit status of a command that came to this. A fault's line is written to `errors`; that this may fail changes no status.
+/// Returns the exit status of a result. A fault's line is written to `errors`, if that works.
 pub fn settled<E: Sink>(answer: Result<Done, Fault>, errors: &mut E) -> u8
     ensures { IsSettled answer result (E.has_failed errors.new) (E.written errors.old) (E.written errors.new) }
 {

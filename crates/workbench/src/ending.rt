@@ -8,7 +8,7 @@ use crate::fault::Fault;
 use byte_ports::{BlockPort, WritePort};
 use std::io::Write;
 
-/// What a command came to whose last flush was tried: where that failed, its output is lost, whatever else there is to tell.
+/// Returns a command's result, or `Write` if its output wasn't flushed, since that is lost.
 fn unless_lost<T: Drop>(answer: Result<T, Fault>, is_flushed: bool) -> Result<T, Fault>
     ensures kept { is_flushed ≡ true → result ≡ answer }
     ensures lost { is_flushed ≡ false → result ≡ Err Fault.Write }
@@ -20,7 +20,7 @@ fn unless_lost<T: Drop>(answer: Result<T, Fault>, is_flushed: bool) -> Result<T,
     }
 }
 
-/// Flushes the output of a command, and returns the command's result.
+/// Flushes a command's output. Returns the command's result, or `Write` if a call has failed.
 pub fn flushed<T: Drop, W: Write>(
     answer: Result<T, Fault>,
     output: &mut WritePort<W>,
@@ -31,8 +31,7 @@ pub fn flushed<T: Drop, W: Write>(
     unless_lost(answer, output.finish().is_ok())
 }
 
-/// Passes on the last block of a command that wrote blocks, flushes its output, and returns the command's result. It is lost only
-/// where a call on the output has failed.
+/// Writes the last block and flushes. Returns the command's result, or `Write` if a call failed.
 pub fn passed_on<T: Drop, W: Write + Drop>(
     answer: Result<T, Fault>,
     output: &mut BlockPort<WritePort<W>>,

@@ -1,3 +1,4 @@
+// Why a command gave up, its line for standard error, and its exit status.
 ghost use Rattle.std.specs.Prelude.{◌≡◌, ◌++◌, IsTrue, OnErr, OnOk, codes};
 ghost use Rattle.std.specs.Io.KnownBytes.{Appends};
 ghost use Rattle.workbench.specs.Outcome.{told_as};
@@ -21,7 +22,7 @@ pub enum PictureKind {
 }
 
 impl PictureKind {
-    /// The line of more choices than such a picture shows.
+    /// Returns the line for a schedule with more choices than such a picture shows.
     fn too_long(self) -> &'static [u8]
         ensures { result.now ≡ too_long self }
     {
@@ -70,7 +71,7 @@ impl Fault {
     }
 }
 
-/// The exit status of a refusal, by the number of its kind: missing memory has none.
+/// Returns 3 for a fault that has a number, and 4 without one, which is out of memory.
 fn refusal_status(number: Option<u8>) -> u8
     ensures { result ≡ refusal_status number }
 {
@@ -80,7 +81,7 @@ fn refusal_status(number: Option<u8>) -> u8
     }
 }
 
-/// A word, and a number behind it.
+/// Writes a word and a number.
 fn push_with_count<E: Sink>(errors: &mut E, word: &[u8], count: u64) -> Result<(), Failed>
     ensures bytes { OnOk result (Appends (E.written errors.old) (E.written errors.new)
         (counted word.now count)) }
@@ -90,7 +91,7 @@ fn push_with_count<E: Sink>(errors: &mut E, word: &[u8], count: u64) -> Result<(
     errors.push(Buffer::new().format(count).as_bytes())
 }
 
-/// Writes a line that ends in this number.
+/// Writes a word, a number and an LF.
 pub fn push_counted_line<E: Sink>(errors: &mut E, word: &[u8], count: u64) -> Result<(), Failed>
     ensures bytes { OnOk result (Appends (E.written errors.old) (E.written errors.new)
         (counted_line word.now count)) }
@@ -100,7 +101,7 @@ pub fn push_counted_line<E: Sink>(errors: &mut E, word: &[u8], count: u64) -> Re
     errors.push(b"\n")
 }
 
-/// A phaser that can't be declared, and the number of why.
+/// Writes the number of a phaser that can't be declared, and the number of the reason.
 fn push_declare_place<E: Sink>(errors: &mut E, phaser: u8, why: u8) -> Result<(), Failed>
     ensures bytes { OnOk result (Appends (E.written errors.old) (E.written errors.new)
         (counted (codes " ") phaser ++ counted (codes " ") why)) }
@@ -111,7 +112,7 @@ fn push_declare_place<E: Sink>(errors: &mut E, phaser: u8, why: u8) -> Result<()
 }
 
 impl Fault {
-    /// The number of a refusal's kind; missing memory has none.
+    /// Returns the number of a refusal's kind, or `None` if this is out of memory or no refusal.
     fn number(self) -> Option<u8>
         ensures { result ≡ number_of self }
     {
@@ -124,7 +125,7 @@ impl Fault {
         }
     }
 
-    /// What stands before the number.
+    /// Writes what precedes the number in a refusal's line, as `refused load `.
     fn push_word<E: Sink>(self, errors: &mut E) -> Result<(), Failed>
         ensures bytes { OnOk result (Appends (E.written errors.old) (E.written errors.new) (word_of self)) }
         ensures failed { OnErr result (IsTrue (E.has_failed errors.new)) }
@@ -141,7 +142,7 @@ impl Fault {
         }
     }
 
-    /// What stands behind it.
+    /// Writes what follows the number in a refusal's line: the fault's place, or nothing.
     fn push_place<E: Sink>(self, errors: &mut E) -> Result<(), Failed>
         ensures bytes { OnOk result (Appends (E.written errors.old) (E.written errors.new) (place_of self)) }
         ensures failed { OnErr result (IsTrue (E.has_failed errors.new)) }
@@ -180,7 +181,7 @@ impl Fault {
         }
     }
 
-    /// The line of a refusal; missing memory is told as such.
+    /// Writes a refusal's line: its words, number and place. Out of memory is the line `memory`.
     fn push_refusal<E: Sink>(self, errors: &mut E) -> Result<(), Failed>
         ensures bytes { OnOk result (Appends (E.written errors.old) (E.written errors.new)
             (refusal_line (word_of self) (number_of self) (place_of self))) }
@@ -197,7 +198,7 @@ impl Fault {
         }
     }
 
-    /// The program's exit status.
+    /// Returns the exit status: 3 for a refusal, 4 if out of memory or threads, 5 if a port failed.
     pub fn status(self) -> u8
         ensures { result ≡ status_of self }
     {
@@ -209,7 +210,7 @@ impl Fault {
         }
     }
 
-    /// Writes the fault's line for standard error, piece by piece and without memory.
+    /// Writes the fault's line for standard error, in pieces and without memory.
     pub fn tell<E: Sink>(self, errors: &mut E) -> Result<(), Failed>
         ensures bytes { OnOk result (Appends (E.written errors.old) (E.written errors.new)
             (line_of self)) }

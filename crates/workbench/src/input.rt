@@ -1,3 +1,4 @@
+// Reads an input whole, if it isn't too long.
 ghost use Rattle.std.specs.Prelude.{◌≡◌, ◌⊎◌, ◌≤◌, ◌<◌, ◌+◌, ◌++◌, Err, IsTrue, false, IfOk, IfErr, OnOk, length};
 ghost use Rattle.std.specs.Io.KnownBytes.{ReadConsumes, Consumes, IsAtEnd};
 ghost use Rattle.workbench.specs.Input.{GivesTooMuch, most_bytes};
@@ -12,7 +13,7 @@ const MOST_BYTES: usize = 16_777_216;
 /// How many bytes are asked for at a time.
 const PIECE: usize = 4096;
 
-/// Reads the next bytes to the start of the piece, and returns how many: none only at the end.
+/// Reads the next bytes to the start of `piece`, and returns how many: 0 only at the end.
 pub fn pull<S: Source>(source: &mut S, piece: &mut [u8]) -> Result<usize, Fault>
     ensures bytes { ReadConsumes (S.left source.old) (S.left source.new) result piece.new }
     ensures bound { IfOk result (λ n. n ≤ length piece.new) }
@@ -26,7 +27,7 @@ pub fn pull<S: Source>(source: &mut S, piece: &mut [u8]) -> Result<usize, Fault>
     }
 }
 
-/// Appends a piece to what was read, `Read` where that is more than 16,777,216 bytes.
+/// Appends a piece. Fails with `Read` if there would be more than 16,777,216 bytes.
 fn append(bytes: &mut Vec<u8>, piece: &[u8]) -> Result<(), Fault>
     requires { length bytes.old.items ≤ most_bytes }
     ensures appended { OnOk result (bytes.new.items ≡ bytes.old.items ++ piece.now) }
@@ -40,8 +41,7 @@ fn append(bytes: &mut Vec<u8>, piece: &[u8]) -> Result<(), Fault>
     bytes.extend_from_slice(piece).map_err(|_| Fault::Memory)
 }
 
-/// Returns everything that a source has left, or `Read` if it fails or has more than 16,777,216 bytes. Each read returns a byte at
-/// least, except the last one.
+/// Returns all that a source has left. Fails with `Read` if that is more than 16,777,216 bytes.
 pub fn read_all<S: Source>(alloc: Global, source: &mut S) -> Result<Vec<u8>, Fault>
     ensures bytes { IfOk result (λ bytes. Consumes (S.left source.old) (S.left source.new) bytes.items) }
     ensures end { IfOk result (λ bytes. IsAtEnd (S.left source.new)) }

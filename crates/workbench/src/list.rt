@@ -12,10 +12,8 @@ use byte_ports::{Sink, Source};
 use row_code::Image;
 use std::alloc::Global;
 
-/// Writes the canonical text of the program in `file`, an image or a text, to `output`. It doesn't check whether the program
-/// can be loaded. Returns the exit status: 0 if everything went well. With any other status `errors` gets one line: `refused
-/// asm LINE KIND` or `refused image KIND [PLACE]` (3), `memory` (4), or `read` or `write` (5). If `errors` fails, the status
-/// stays. The text is written in one piece.
+/// Writes the canonical text of the program in `file` to `output`. It doesn't check whether the program can be loaded. Returns
+/// the exit status. If it isn't 0, `errors` gets one line: `refused ..` (3), `memory` (4), `read` or `write` (5).
 pub fn list_cmd<S: Source, K: Sink, E: Sink>(
     alloc: Global,
     file: &mut S,

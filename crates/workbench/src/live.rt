@@ -1,3 +1,4 @@
+// A run on real threads, whose recorded choices are then played again for the trace.
 ghost use Rattle.std.specs.Prelude.{◌≡◌, ◌⊎◌, ◌≤◌, All, None, Ok, Err, IfOk, IfErr, OnOk, Result, length};
 ghost use Rattle.row_code.specs.declared.image.Image.{Image};
 ghost use Rattle.loader.specs.Fault.{first_fault};
@@ -28,10 +29,8 @@ use trace_text::loaded::run_loaded;
 use trace_text::{PlayFault, RunEnd};
 
 /// Plays the program in `file`, an image or a text, with a real thread for each of its threads, for at most `limit` steps. Then
-/// it writes the trace of the recorded choices to `output`. Returns the exit status: 0 if everything went well, however the run
-/// ended. With any other status `errors` gets one line: `refused asm LINE KIND`, `refused image KIND [PLACE]` or `refused load
-/// KIND [PLACE]` (3), `memory` or `spawn` (4), or `read` or `write` (5). If `errors` fails, the status stays. Nothing is
-/// written before the run is over.
+/// it writes the trace of the recorded choices to `output`. Returns the exit status: 0 however the run ended. With any other
+/// status `errors` gets one line: `refused ..` (3), `memory` or `spawn` (4), or `read` or `write` (5).
 pub fn live_cmd<R: Threads + Wait + Sync, F: Source, K: Sink, E: Sink>(
     threads: &R,
     alloc: Global,
@@ -53,8 +52,7 @@ pub fn live_cmd<R: Threads + Wait + Sync, F: Source, K: Sink, E: Sink>(
 }
 
 /// Plays an image's program on real threads, writes the trace of the choices that they made, and returns how the run has ended.
-/// Each thread passes the gate each time before it takes the lock. Which thread the gate lets through first decides which run
-/// it is, and nothing else.
+/// Each thread passes `gate` before it takes the lock. So the gate decides which run it is, and nothing else.
 pub fn live<R: Threads + Wait + Sync, G: Gate + Sync, K: Sink>(
     rt: &R,
     alloc: Global,
@@ -85,7 +83,7 @@ pub fn live<R: Threads + Wait + Sync, G: Gate + Sync, K: Sink>(
     }
 }
 
-/// An image's program, loaded.
+/// Loads an image's program. Its fault is one of the commands.
 fn loaded(alloc: Global, image: Image) -> Result<Loaded, Fault>
     ensures loaded { IfOk result (λ program. IsProgramOf image program) }
     ensures none { OnOk result (first_fault image ≡ None) }
@@ -110,7 +108,7 @@ pub fn fault_of_live(fault: LiveFault) -> Fault
     }
 }
 
-/// The choices of a live run, or why it was broken off.
+/// Returns the choices of a live run as runs, or why it was broken off.
 fn runs_of(alloc: Global, ran: Result<LiveRun, LiveFault>) -> Result<Vec<Run>, Fault>
     requires few { IfOk ran (λ run. length run.schedule.items ≤ 4000000000) }
     ensures runs { IfOk result (λ runs. All IsRun runs.items) }
@@ -129,7 +127,7 @@ fn runs_of(alloc: Global, ran: Result<LiveRun, LiveFault>) -> Result<Vec<Run>, F
     }
 }
 
-/// The choices that were recorded of a run of a loaded program on real threads.
+/// Plays a program on real threads, and returns the choices that they made as runs.
 fn recorded<R: Threads + Wait + Sync, G: Gate + Sync>(
     rt: &R,
     alloc: Global,

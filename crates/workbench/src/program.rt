@@ -22,7 +22,7 @@ pub struct Program<'a> {
     pub names: Symbols<'a>,
 }
 
-/// Returns the program that a text stands for.
+/// Assembles a text. Returns it as a program, with its image and its names.
 pub fn program_of_text(alloc: Global, text: &[u8]) -> Result<Program<'_>, Fault>
     ensures image { IfOk result (λ program. StandsFor text.now program.image) }
     ensures names { IfOk result (λ program. symbols_in text.now ≡ Ok program.names) }

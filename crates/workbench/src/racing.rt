@@ -28,9 +28,8 @@ use std::sync::Wait;
 use std::thread::Threads;
 
 /// `parties` threads call `arriveAndAwaitAdvance` `rounds` times each, on one shared phaser with as many parties. Writes the
-/// line `phase A parties B unarrived C` of the closed phaser to `output`. Returns the exit status: 0 if everything went well, 4
-/// with the line `memory` or `spawn` on `errors`, 5 with `write`. `parties` and `rounds` may be any numbers: the command line
-/// allows 1 to 16 and 1 to 1000000. Neither port is flushed.
+/// line `phase A parties B unarrived C` of the closed phaser to `output`. Returns the exit status: 0, or 4 with the line
+/// `memory` or `spawn` on `errors`, or 5 with `write`. The numbers may be any.
 pub fn race_cmd<R: Threads + Wait + Sync, K: Sink, E: Sink>(
     rt: &R,
     alloc: Global,
@@ -54,7 +53,7 @@ pub fn race_cmd<R: Threads + Wait + Sync, K: Sink, E: Sink>(
     )
 }
 
-/// `race_cmd`, with the fault that decides the status. Each thread reports each meeting to `pace`.
+/// Does what `race_cmd` does, but returns the fault. Each thread reports each meeting to `pace`.
 pub fn race<R: Threads + Wait + Sync, P: Pace + Sync, K: Sink>(
     rt: &R,
     alloc: Global,
@@ -76,7 +75,7 @@ pub fn race<R: Threads + Wait + Sync, P: Pace + Sync, K: Sink>(
     }
 }
 
-/// A race's fault among those of all commands.
+/// Returns a race's fault as a command's fault.
 fn fault_of_race(fault: RaceFault) -> Fault
     ensures { result ≡ fault_of_race fault }
 {

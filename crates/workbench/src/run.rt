@@ -13,11 +13,8 @@ use row_code::Image;
 use std::alloc::Global;
 use trace_text::{RunEnd, run_to_end};
 
-/// Plays the program in `file`, an image or a text, under the schedule in `schedule`, and writes the trace to `output`. Returns
-/// the exit status: 0 if everything went well. With any other status `errors` gets one line: `refused asm LINE KIND`, `refused
-/// image KIND [PLACE]`, `refused load KIND [PLACE]` or `refused schedule KIND AT` (3), `memory` (4), or `read` or `write` (5).
-/// If `errors` fails, the status stays. The schedule may have any length. It is read and played piece by piece, after the
-/// program is loaded.
+/// Plays the program in `file` under the schedule in `schedule`, read piece by piece, and writes the trace to `output`. Returns
+/// the exit status. If it isn't 0, `errors` gets one line: `refused ..` (3), `memory` (4), or `read` or `write` (5).
 pub fn run_cmd<F: Source, S: Source, K: Sink, E: Sink>(
     alloc: Global,
     file: &mut F,
@@ -38,7 +35,7 @@ pub fn run_cmd<F: Source, S: Source, K: Sink, E: Sink>(
     }
 }
 
-/// `run_to_end` in the words of the commands.
+/// Does what `run_to_end` does, with its fault as a command's fault.
 pub(crate) fn run<S: Source, K: Sink>(
     alloc: Global,
     image: Image,

@@ -1,3 +1,4 @@
+// Splits a text at its line `.run` into a program and a schedule.
 ghost use Rattle.std.specs.Prelude.{◌≡◌, ◌≤◌, codes, length};
 ghost use Rattle.std.specs.List.{before_first, after_first, list_all};
 ghost use Rattle.std.specs.Str.{bytes_eq};
@@ -14,7 +15,7 @@ fn count_words(text: &[u8]) -> usize
         .count()
 }
 
-/// Whether the text has no other word than `.run`.
+/// Returns whether each word of a text is `.run`. This is so if it has none.
 fn has_only_run(text: &[u8]) -> bool
     ensures { result ≡ list_all (λ word. bytes_eq word (codes ".run")) (words_in text.now) }
 {
@@ -23,7 +24,7 @@ fn has_only_run(text: &[u8]) -> bool
         .all(|word| word == b".run".as_slice())
 }
 
-/// Whether `.run` is the line's only word.
+/// Returns whether `.run` is the line's only word. A comment may follow.
 #[tactic(auto, using(crate::proofs::RunLine::are_run_by_count))]
 fn is_run_line(line: &[u8]) -> bool
     ensures { result ≡ is_run_line line.now }
@@ -32,7 +33,7 @@ fn is_run_line(line: &[u8]) -> bool
     count_words(text) == 1 && has_only_run(text)
 }
 
-/// The first line, and what follows its LF.
+/// Returns the first line without its LF, and what follows the LF.
 fn first_line(bytes: &[u8]) -> (&[u8], &[u8])
     ensures line { result.0.now ≡ before_first is_line_end bytes.now }
     ensures after { result.1.now ≡ after_first is_line_end bytes.now }

@@ -18,7 +18,6 @@ impl<'a> Model for SliceSource<'a> {
 }
 
 impl<'a> SliceSource<'a> {
-    /// Makes a source of these bytes.
     pub fn new(bytes: &'a [u8]) -> SliceSource<'a>
         ensures { result ≡ bytes.now }
     {
@@ -33,6 +32,7 @@ impl<'a> Source for SliceSource<'a> {
 
     ghost reads = { λ _. 0 };
 
+    /// Copies the next bytes to the buffer, as many as fit, and returns how many.
     fn pull(&mut self, buffer: &mut [u8]) -> Result<usize, Failed>
         ensures failed { FailsForGood false false result }
         ensures bound { IfOk result (λ n. n ≤ length buffer.new) }

@@ -16,7 +16,7 @@ pub enum Pause {
 }
 
 impl Pause {
-    /// Returns the pause that a generator's word stands for.
+    /// Returns the pause for a random number: of four, one yields, one spins and two do nothing.
     pub fn of(word: u32) -> Pause
         ensures { result ≡ pause_of word }
     {
@@ -27,7 +27,7 @@ impl Pause {
         }
     }
 
-    /// Pauses.
+    /// Yields the processor or spins as often as the pause says.
     pub fn wait(self) {
         match self {
             Pause::NoPause => {}

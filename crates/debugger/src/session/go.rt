@@ -1,3 +1,4 @@
+// Plays several choices at once, up to a breakpoint or a refusal.
 ghost use Rattle.std.specs.Prelude.{◌≡◌, ◌≤◌, ◌-◌, ◌∷◌, [], ◌++◌, ℕ, List, replicate};
 ghost use Rattle.machine_scene.specs.Scene.{scene_of, thread_at};
 ghost use Rattle.schedule_reader.specs.Schedule.{choices_of};
@@ -22,8 +23,7 @@ pub enum Went {
 }
 
 impl Debugger {
-    /// Plays the choices of some runs, up to one that is an effective step and leaves its thread running at a breakpoint, or
-    /// up to one that is refused. Each that it plays can be taken back as if `step` had played it.
+    /// Plays choices up to a step that leaves its thread at a breakpoint, or up to a refused one.
     pub fn go(&mut self, runs: &[Run]) -> Stop
         ensures { Stops self.old (choices_of runs.now) result self.new }
     {
@@ -32,7 +32,7 @@ impl Debugger {
         self.stop_of(went, before)
     }
 
-    /// Where choices stopped that went so, by how many were counted before them.
+    /// Returns where and why `go` stopped. Before it, `before` choices were counted.
     fn stop_of(&self, went: Went, before: u64) -> Stop
         requires { before ≤ self.now.machine.choices }
         ensures { (session : Session) (choices : List Choice) → before ≡ session.machine.choices
@@ -46,8 +46,7 @@ impl Debugger {
         }
     }
 
-    /// Goes on after choices that have stopped so: plays one more if all of them were played, and otherwise does nothing. So
-    /// the choices of a stream can be played one after another, as `go` plays them all at once.
+    /// Plays a choice if all before it were played. So a stream stops where `go` would stop.
     pub fn go_on(&mut self, stop: Stop, choice: Choice) -> Stop
         requires few { (played : ℕ) → stop ≡ Stop.End played → played ≤ 1000000000000 }
         ensures { (before : Session) (choices : List Choice) → Stops before choices stop self.old
@@ -63,7 +62,7 @@ impl Debugger {
         }
     }
 
-    /// Plays the choices of some runs, as `go` does.
+    /// Plays the choices of runs in order, up to a break or a refusal.
     fn go_runs(&mut self, runs: &[Run]) -> Went
         ensures { Goes self.old (choices_of runs.now) result self.new }
     {
@@ -77,7 +76,7 @@ impl Debugger {
         Went::On
     }
 
-    /// Plays the choices of one run, as `go` does.
+    /// Plays the choices of one run, up to a break or a refusal.
     fn go_run(&mut self, run: Run) -> Went
         ensures { Goes self.old (replicate run.times run.choice) result self.new }
     {
@@ -93,7 +92,7 @@ impl Debugger {
         Went::On
     }
 
-    /// Plays one choice. Where the count of steps is the same afterwards, it was idle.
+    /// Plays one choice. It is a break if it was no idle choice and its thread is at a breakpoint.
     #[inline(always)]
     fn pass(&mut self, choice: Choice) -> Went
         ensures { Goes self.old (choice ∷ []) result self.new }
@@ -111,7 +110,7 @@ impl Debugger {
         }
     }
 
-    /// Whether a thread runs and stands at a breakpoint; false where there is no such thread.
+    /// Returns whether a thread runs and is at a breakpoint. No such thread is no break.
     #[tactic(auto, using(crate::proofs::Unmarked::none_there))]
     fn stands_at_break(&self, thread: u8) -> bool
         ensures { result ≡ is_at_break self.now.breaks (thread_at (scene_of self.now.machine.scene) thread) }

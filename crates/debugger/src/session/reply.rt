@@ -1,3 +1,4 @@
+// The commands of a session, and the replies that they write.
 ghost use Rattle.std.specs.Prelude.{◌≡◌, ◌+◌, ◌≤◌, ◌∷◌, [], ◌++◌, length, codes, if◌then◌else◌, true, IsTrue, IfErr, IfOk, Ok, Err, OnOk, OnErr};
 ghost use Rattle.std.specs.Fmt.{decimal};
 ghost use Rattle.std.specs.Io.KnownBytes.{Appends};
@@ -48,7 +49,7 @@ impl From<Failed> for CommandFault {
     }
 }
 
-/// Writes a word, a number and the line's end, in one piece.
+/// Writes a word, a number and the line's end in one piece.
 #[inline(always)]
 fn say<W: Sink>(output: &mut W, word: &[u8], number: u64, end: &[u8]) -> Result<(), Failed>
     requires { length word.now + length end.now ≤ 20 }
@@ -61,7 +62,7 @@ fn say<W: Sink>(output: &mut W, word: &[u8], number: u64, end: &[u8]) -> Result<
     output.push(&bytes[start..])
 }
 
-/// Writes why `go` was refused a choice after so many.
+/// Writes how many choices `go` played before one was refused, and why that was refused.
 fn say_fault<W: Sink>(output: &mut W, number: u64, fault: StepFault) -> Result<(), Failed>
     ensures line { OnOk result (Appends (W.written output.old) (W.written output.new)
         (stop_text (Stop.Fault number fault))) }
@@ -86,7 +87,7 @@ pub fn say_stop<W: Sink>(output: &mut W, stop: Stop) -> Result<(), Failed>
     }
 }
 
-/// Writes a word and the row that was marked, or `?` where there is no such row.
+/// Writes a word and the row's number, or `?` if there is no such row.
 fn say_row<W: Sink>(output: &mut W, is_there: bool, word: &[u8], row: usize) -> Result<(), Failed>
     requires { length word.now ≤ 19 }
     ensures line { OnOk result (Appends (W.written output.old) (W.written output.new)
@@ -100,7 +101,7 @@ fn say_row<W: Sink>(output: &mut W, is_there: bool, word: &[u8], row: usize) -> 
     }
 }
 
-/// Writes a line that is made.
+/// Writes a line that is already made.
 fn say_line<W: Sink>(output: &mut W, line: &LineEnd) -> Result<(), CommandFault>
     ensures line { OnOk result (Appends (W.written output.old) (W.written output.new) line.now) }
     ensures fault { IfErr result (λ fault. (fault ≡ CommandFault.Write) × IsTrue (W.has_failed output.new)) }
@@ -111,7 +112,7 @@ fn say_line<W: Sink>(output: &mut W, line: &LineEnd) -> Result<(), CommandFault>
     }
 }
 
-/// The session goes on behind a command that is done so, unless it has failed.
+/// Returns true, since the session goes on after any command but `q`, or the command's fault.
 fn going_on(done: Result<(), CommandFault>) -> Result<bool, CommandFault>
     ensures more { IfOk result (λ more. (more ≡ true) × (done ≡ Ok tt)) }
     ensures fault { IfErr result (λ fault. done ≡ Err fault) }
@@ -150,8 +151,7 @@ impl Debugger {
         }
     }
 
-    /// Plays the choices of runs like the command `g`, and writes its reply. It allocates only for values that are put out, and
-    /// fails only if the reply can't be written.
+    /// Plays the choices of runs like the command `g`, and writes its reply.
     pub fn go_command<W: Sink>(&mut self, runs: &[Run], output: &mut W) -> Result<(), CommandFault>
         ensures { IsCarriedOut ⊥ result self.old (Go runs.now) self.new
             (W.written output.old) (W.written output.new) (W.has_failed output.new) }
@@ -163,7 +163,7 @@ impl Debugger {
         }
     }
 
-    /// Takes back the last choice as the command `b` does, and writes its reply.
+    /// Takes back the last choice like the command `b`, and writes its reply.
     fn back_command<W: Sink>(&mut self, output: &mut W) -> Result<(), CommandFault>
         ensures { IsCarriedOut ⊥ result self.old Back self.new
             (W.written output.old) (W.written output.new) (W.has_failed output.new) }
@@ -175,7 +175,7 @@ impl Debugger {
         Ok(())
     }
 
-    /// Sets a breakpoint as the command `k` does, and writes its reply.
+    /// Sets a breakpoint like the command `k`. The reply is `?` if there is no such row.
     fn break_command<W: Sink>(&mut self, row: usize, output: &mut W) -> Result<(), CommandFault>
         ensures { IsCarriedOut ⊥ result self.old (Break row) self.new
             (W.written output.old) (W.written output.new) (W.has_failed output.new) }
@@ -185,7 +185,7 @@ impl Debugger {
         Ok(())
     }
 
-    /// Clears a breakpoint as the command `c` does, and writes its reply.
+    /// Clears a breakpoint like the command `c`. The reply is `?` if there is no such row.
     fn clear_command<W: Sink>(&mut self, row: usize, output: &mut W) -> Result<(), CommandFault>
         ensures { IsCarriedOut ⊥ result self.old (Clear row) self.new
             (W.written output.old) (W.written output.new) (W.has_failed output.new) }
@@ -195,7 +195,7 @@ impl Debugger {
         Ok(())
     }
 
-    /// Writes the machine's state.
+    /// Writes the text of the machine's state, the reply to the command `p`.
     fn print_command<W: Sink>(&self, output: &mut W) -> Result<(), CommandFault>
         ensures { IsCarriedOut (wants_memory self.now Print ≡ true) result self.now Print self.now
             (W.written output.old) (W.written output.new) (W.has_failed output.new) }
@@ -214,7 +214,7 @@ impl Debugger {
         Ok(())
     }
 
-    /// Carries out a command and writes its reply; false after `q`.
+    /// Carries out a command and writes its reply. Returns false after `q`.
     fn carry_out<W: Sink>(
         &mut self,
         command: &Command,
@@ -236,9 +236,8 @@ impl Debugger {
         }
     }
 
-    /// Carries out the command of a line and writes its reply; false after `q`. The line is read whole before anything is
-    /// done, so one that is no command leaves the debugger as before. After `Write` the command was carried out, and how much of its
-    /// reply went out is left open; after `Memory` it was not, and nothing was written.
+    /// Carries out the command of a line and writes its reply. Returns false after `q`. After `Write` the command was
+    /// carried out, and a part of its reply may be written. After `Memory` nothing was done or written.
     pub fn command<W: Sink>(&mut self, line: &[u8], output: &mut W) -> Result<bool, CommandFault>
         ensures outcome { IsCarriedOut (NeedsMemory self.old line.now) result self.old (line_order line.now) self.new
             (W.written output.old) (W.written output.new) (W.has_failed output.new) }

@@ -15,8 +15,7 @@ use std::sync::Wait;
 use std::thread::Threads;
 
 /// `parties` threads call `arriveAndAwaitAdvance` `rounds` times each, on one shared phaser with as many parties. Writes the
-/// line `phase A parties B unarrived C` of the closed phaser. `parties` and `rounds` may be any numbers: the command line
-/// allows 1 to 16 and 1 to 1000000. Each thread reports each meeting to `pace`. The output isn't flushed.
+/// line `phase A parties B unarrived C` of the closed phaser. Each thread reports each meeting to `pace`.
 pub fn write_race<R: Threads + Wait + Sync, P: Pace + Sync, K: Sink>(
     rt: &R,
     alloc: Global,

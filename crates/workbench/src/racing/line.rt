@@ -19,7 +19,7 @@ fn push_with_count<K: Sink>(output: &mut K, word: &[u8], count: u64) -> Result<(
     output.push(Buffer::new().format(count).as_bytes())
 }
 
-/// The number of the phase that a word's phaser is in.
+/// Returns the number of a phaser's phase, 0 to 2147483647, also if it is terminated.
 fn phase_of(word: Word) -> u64
     ensures { result ≡ (record_of word).phase }
 {
@@ -31,7 +31,7 @@ fn phase_of(word: Word) -> u64
     }
 }
 
-/// Writes `phase A parties B unarrived C` of a word.
+/// Writes the line `phase A parties B unarrived C` of a phaser's word.
 pub fn push_line<K: Sink>(output: &mut K, word: Word) -> Result<(), Failed>
     ensures bytes { OnOk result (Appends (K.written output.old) (K.written output.new)
         (line_of (record_of word))) }

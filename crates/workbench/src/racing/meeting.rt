@@ -33,7 +33,7 @@ impl Promise<Party> for Home {
 /// A running thread, and its caller.
 type Running = PromisedHandle<Party, Home>;
 
-/// What one thread does: it arrives and waits for the end of the phase, so many times.
+/// Arrives and waits for the end of the phase, `rounds` times. Each thread of a race does this.
 fn work<R: Wait, P: Pace>(
     rt: &R,
     phaser: &SharedPhaser,
@@ -51,7 +51,7 @@ fn work<R: Wait, P: Pace>(
     party
 }
 
-/// Makes so many callers besides the first.
+/// Makes `count` callers besides the first, one for each thread.
 fn callers(
     alloc: Global,
     phaser: &SharedPhaser,
@@ -74,8 +74,8 @@ fn callers(
     Ok(callers)
 }
 
-/// Starts a thread for each caller, and waits until all have ended. Returns whether each could be started. If one can't be, it
-/// terminates the phaser, so that those that run come back.
+/// Starts a thread for each caller, and waits until all have ended. Returns the first caller, the threads, and whether each
+/// could be started. If one can't be, it terminates the phaser, so that the others end.
 fn run<R: Threads + Wait + Sync, P: Pace + Sync>(
     rt: &R,
     phaser: &SharedPhaser,
@@ -141,7 +141,7 @@ fn run<R: Threads + Wait + Sync, P: Pace + Sync>(
     )
 }
 
-/// Takes all callers back into the first.
+/// Joins the callers of all threads, which have ended, to the first.
 fn gather<R: Threads>(rt: &R, phaser: &SharedPhaser, first: &mut Party, running: Vec<Running>)
     requires first { first.old.known.number ≡ 0 }
     requires phaser { phaser_of first.old ≡ phaser.now }
@@ -163,7 +163,7 @@ fn gather<R: Threads>(rt: &R, phaser: &SharedPhaser, first: &mut Party, running:
     }
 }
 
-/// Returns the last word of a race whose callers have all come back, if each of its threads was started.
+/// Closes the phaser and returns its word. Fails with `Spawn` if a thread wasn't started.
 fn ended(phaser: SharedPhaser, first: Party, is_whole: bool) -> Result<Word, RaceFault>
     requires first { first.known.number ≡ 0 }
     requires phaser { phaser_of first ≡ phaser }
@@ -176,7 +176,7 @@ fn ended(phaser: SharedPhaser, first: Party, is_whole: bool) -> Result<Word, Rac
     Ok(phaser.close(first))
 }
 
-/// Why there is no phaser for a race.
+/// Returns the fault of a phaser that isn't made: it can only be out of memory.
 fn fault_of_new(fault: NewFault) -> RaceFault
     requires { fault ≢ NewFault.RoutinePolicy }
     ensures { result ≡ RaceFault.Memory }
@@ -187,8 +187,7 @@ fn fault_of_new(fault: NewFault) -> RaceFault
     }
 }
 
-/// So many threads meet so often at a phaser with as many parties. Returns its last word, when every caller has come back. Each
-/// thread reports each meeting to `pace`.
+/// Lets `parties` threads meet `rounds` times at one phaser, and returns the phaser's last word.
 pub fn race<R: Threads + Wait + Sync, P: Pace + Sync>(
     rt: &R,
     alloc: Global,
