@@ -5,6 +5,7 @@ ghost use Rattle.tier_tree.specs.Declaration.{AreAllFresh};
 ghost use Rattle.tier_tree.specs.PhaseEnd.{after_phase_end};
 ghost use Rattle.tier_tree.specs.Stored.{phasers_of};
 
+use Plan::{Child, Root, RootWith};
 use packed_phaser::Policy;
 use phase_number::Phase;
 use std::alloc::Global;
@@ -71,15 +72,15 @@ fn is_planted(forest: &mut Forest, plan: Plan) -> bool
     ensures { AreAllFresh (phasers_of forest.new) }
 {
     let (parent, parties, policy, phase) = match plan {
-        Plan::Root(parties) => (None, parties, Policy::Default, 0),
-        Plan::RootWith(parties, policy, phase) => (None, parties, policy, phase),
-        Plan::Child(parent, parties) => (Some(PhaserId(parent)), parties, Policy::Default, 0),
+        Root(parties) => (None, parties, Policy::Default, 0),
+        RootWith(parties, policy, phase) => (None, parties, policy, phase),
+        Child(parent, parties) => (Some(PhaserId(parent)), parties, Policy::Default, 0),
     };
     let phase = Phase::prevailing(phase);
     forest.declare(parent, parties, policy, phase).is_ok()
 }
 
-/// Returns the forest of these phasers, or `None` if one is refused.
+/// Returns a copy of the forest of these phasers, or `None` if one is refused.
 fn planted(alloc: Global, plans: &[Plan]) -> Option<Forest>
     ensures { IfSome result (λ forest. AreAllFresh (phasers_of forest)) }
 {
@@ -89,7 +90,7 @@ fn planted(alloc: Global, plans: &[Plan]) -> Option<Forest>
             return None;
         }
     }
-    Some(forest)
+    forest.copy(alloc).ok()
 }
 
 /// Returns the result of the last arrival in the tree of phaser 0.
@@ -150,33 +151,6 @@ fn ends_each(forest: &mut Forest, root: u8, parties: u16, from: i32, to: i32) ->
     true
 }
 
-/// Returns whether a phaser shows this view, and so many parties, of which so many have arrived.
-fn shows(forest: &Forest, id: PhaserId, view: i32, parties: u16, arrived: u16) -> bool
-    requires { id.0 < length forest.now }
-{
-    forest.phase(id) == view
-        && forest.parties(id) == parties
-        && forest.arrived(id) == arrived
-        && forest.unarrived(id) == parties.saturating_sub(arrived)
-}
-
-/// Returns whether a phaser has this parent, root, policy and number of its phase.
-fn is(
-    forest: &Forest,
-    id: PhaserId,
-    parent: Option<PhaserId>,
-    root: PhaserId,
-    policy: Policy,
-    phase: i32,
-) -> bool
-    requires { id.0 < length forest.now }
-{
-    forest.parent(id) == parent
-        && forest.root(id) == root
-        && forest.policy(id) == policy
-        && forest.phase_number(id).number() == phase
-}
-
 /// Makes the call, and returns whether it has its expected effect.
 fn comes_true_at(forest: &mut Forest, id: PhaserId, step: Step) -> bool
     requires { id.0 < length forest.old }
@@ -194,8 +168,18 @@ fn comes_true_at(forest: &mut Forest, id: PhaserId, step: Step) -> bool
             forest.force(id);
             true
         }
-        Step::Shows(_, view, parties, arrived) => shows(forest, id, view, parties, arrived),
-        Step::Is(_, parent, root, policy, phase) => is(forest, id, parent, root, policy, phase),
+        Step::Shows(_, view, parties, arrived) => {
+            forest.phase(id) == view
+                && forest.parties(id) == parties
+                && forest.arrived(id) == arrived
+                && forest.unarrived(id) == parties.saturating_sub(arrived)
+        }
+        Step::Is(_, parent, root, policy, phase) => {
+            forest.parent(id) == parent
+                && forest.root(id) == root
+                && forest.policy(id) == policy
+                && forest.phase_number(id).number() == phase
+        }
     }
 }
 
@@ -223,7 +207,7 @@ type Row = (&'static str, &'static [Plan], &'static [Step]);
 static ROWS: [Row; 13] = [
     (
         "children arrive and leave with their parties",
-        &[Plan::Root(0), Plan::Child(0, 1), Plan::Child(0, 1)],
+        &[Root(0), Child(0, 1), Child(0, 1)],
         &[
             Step::Shows(0, 0, 2, 0),
             Step::Arrives(1, Arrived::At(0)),
@@ -241,7 +225,7 @@ static ROWS: [Row; 13] = [
     ),
     (
         "children that were never used are in the fifth phase",
-        &[Plan::Root(1), Plan::Child(0, 1), Plan::Child(0, 1)],
+        &[Root(1), Child(0, 1), Child(0, 1)],
         &[
             Step::EndsEach(0, 3, 0, 5),
             Step::Shows(1, 5, 1, 0),
@@ -251,7 +235,7 @@ static ROWS: [Row; 13] = [
     ),
     (
         "one child lags behind by 10 phases, and one that was never used by 15",
-        &[Plan::Root(1), Plan::Child(0, 1), Plan::Child(0, 1)],
+        &[Root(1), Child(0, 1), Child(0, 1)],
         &[
             Step::EndsEach(0, 3, 0, 5),
             Step::Arrives(1, Arrived::At(5)),
@@ -267,7 +251,7 @@ static ROWS: [Row; 13] = [
     ),
     (
         "a termination reaches lagging children",
-        &[Plan::Root(1), Plan::Child(0, 2), Plan::Child(0, 1)],
+        &[Root(1), Child(0, 2), Child(0, 1)],
         &[
             Step::Arrives(1, Arrived::At(0)),
             Step::Arrives(0, Arrived::At(0)),
@@ -287,10 +271,7 @@ static ROWS: [Row; 13] = [
     ),
     (
         "phase 0 follows the last phase",
-        &[
-            Plan::RootWith(1, Policy::Default, 2147483647),
-            Plan::Child(0, 0),
-        ],
+        &[RootWith(1, Policy::Default, 2147483647), Child(0, 0)],
         &[
             Step::Shows(1, 2147483647, 0, 0),
             Step::ArrivesLast(0, 2147483647, 1),
@@ -303,11 +284,7 @@ static ROWS: [Row; 13] = [
     ),
     (
         "nobody comes while a routine runs",
-        &[
-            Plan::RootWith(1, Policy::Routine, 0),
-            Plan::Child(0, 1),
-            Plan::Child(0, 1),
-        ],
+        &[RootWith(1, Policy::Routine, 0), Child(0, 1), Child(0, 1)],
         &[
             Step::Arrives(0, Arrived::At(0)),
             Step::Arrives(0, Arrived::At(0)),
@@ -321,7 +298,7 @@ static ROWS: [Row; 13] = [
     ),
     (
         "a child outlives the parties of its root",
-        &[Plan::RootWith(1, Policy::Never, 0), Plan::Child(0, 1)],
+        &[RootWith(1, Policy::Never, 0), Child(0, 1)],
         &[
             Step::Leaves(0, Arrived::At(0)),
             Step::LeavesLast(0, 0, 0),
@@ -334,7 +311,7 @@ static ROWS: [Row; 13] = [
     ),
     (
         "a tree ends when its child is left",
-        &[Plan::Root(0), Plan::Child(0, 2)],
+        &[Root(0), Child(0, 2)],
         &[
             Step::Leaves(1, Arrived::At(0)),
             Step::LeavesLast(1, 0, 0),
@@ -345,7 +322,7 @@ static ROWS: [Row; 13] = [
     ),
     (
         "a refused climb changes nothing",
-        &[Plan::Root(0), Plan::Child(0, 0), Plan::Child(1, 1)],
+        &[Root(0), Child(0, 0), Child(1, 1)],
         &[
             Step::ArrivesLast(0, 0, 1),
             Step::Arrives(2, Arrived::NotThere),
@@ -359,7 +336,7 @@ static ROWS: [Row; 13] = [
     ),
     (
         "an empty child has left its parent",
-        &[Plan::Root(1), Plan::Child(0, 1)],
+        &[Root(1), Child(0, 1)],
         &[
             Step::Leaves(1, Arrived::At(0)),
             Step::Shows(0, 0, 1, 0),
@@ -373,7 +350,7 @@ static ROWS: [Row; 13] = [
     ),
     (
         "registrations are asked for in order",
-        &[Plan::Root(1)],
+        &[Root(1)],
         &[
             Step::Asks(0, 1, Registered::At(0)),
             Step::LeavesLast(0, 0, 0),
@@ -386,11 +363,7 @@ static ROWS: [Row; 13] = [
     ),
     (
         "a phaser of the third level",
-        &[
-            Plan::RootWith(1, Policy::Until(9), 5),
-            Plan::Child(0, 1),
-            Plan::Child(1, 1),
-        ],
+        &[RootWith(1, Policy::Until(9), 5), Child(0, 1), Child(1, 1)],
         &[
             Step::Is(0, None, PhaserId(0), Policy::Until(9), 5),
             Step::Is(2, Some(PhaserId(1)), PhaserId(0), Policy::Default, 5),
@@ -400,7 +373,7 @@ static ROWS: [Row; 13] = [
     ),
     (
         "a party arrives through an empty parent",
-        &[Plan::Root(0), Plan::Child(0, 0), Plan::Child(1, 1)],
+        &[Root(0), Child(0, 0), Child(1, 1)],
         &[
             Step::ArrivesLast(2, 0, 1),
             Step::Shows(2, 0, 1, 1),
@@ -426,17 +399,16 @@ fn what_is_to_come_comes_true(rt: HostRuntime) {
     }
 }
 
-/// Makes the parties of the first 8 lines arrive. Returns whether each is counted in phase 0.
-fn eight_arrive(forest: &mut Forest) -> bool {
-    for line in 1..9u8 {
-        if !comes_true(forest, Step::Arrives(line * 7, Arrived::At(0))) {
-            return false;
-        }
-    }
-    true
-}
-
-static THE_NINTH: [Step; 5] = [
+/// The parties of nine lines arrive one after another, and the last ends the phase.
+static NINE_ARRIVE: [Step; 13] = [
+    Step::Arrives(7, Arrived::At(0)),
+    Step::Arrives(14, Arrived::At(0)),
+    Step::Arrives(21, Arrived::At(0)),
+    Step::Arrives(28, Arrived::At(0)),
+    Step::Arrives(35, Arrived::At(0)),
+    Step::Arrives(42, Arrived::At(0)),
+    Step::Arrives(49, Arrived::At(0)),
+    Step::Arrives(56, Arrived::At(0)),
     Step::Shows(7, 0, 1, 1),
     Step::ArrivesLast(63, 0, 9),
     Step::Finishes(0, false),
@@ -446,30 +418,21 @@ static THE_NINTH: [Step; 5] = [
 
 /// Returns 64 phasers of a tree: 9 lines of 7 below the root, with a party in the last of each.
 fn nine_lines() -> [Plan; 64] {
-    let mut plans = [Plan::Root(0); 64];
+    let mut plans = [Root(0); 64];
     for id in 1..64u8 {
         let above = if id % 7 == 1 { 0 } else { id - 1 };
-        plans[id as usize] = Plan::Child(above, if id % 7 == 0 { 1 } else { 0 });
+        plans[id as usize] = Child(above, if id % 7 == 0 { 1 } else { 0 });
     }
     plans
-}
-
-/// Returns a copy of the forest of these phasers, or `None` if one is refused.
-fn planted_copy(alloc: Global, plans: &[Plan]) -> Option<Forest> {
-    match planted(alloc, plans) {
-        Some(forest) => forest.copy(alloc).ok(),
-        None => None,
-    }
 }
 
 /// A copy of a tree of 64 phasers ends its phase when the party of its ninth line arrives.
 #[test]
 fn a_full_forest(rt: HostRuntime) {
-    match planted_copy(rt.alloc(), &nine_lines()) {
+    match planted(rt.alloc(), &nine_lines()) {
         Some(mut forest) => {
-            let all = eight_arrive(&mut forest);
-            let right = right_steps(&mut forest, &THE_NINTH);
-            assert!(rt; all && right == THE_NINTH.len(), "{right}");
+            let right = right_steps(&mut forest, &NINE_ARRIVE);
+            assert!(rt; right == NINE_ARRIVE.len(), "{right}");
         }
         None => assert!(rt; false),
     }
@@ -495,14 +458,14 @@ fn fault_of(
 }
 
 static EIGHT_LEVELS: [Plan; 8] = [
-    Plan::Root(65535),
-    Plan::Child(0, 0),
-    Plan::Child(1, 0),
-    Plan::Child(2, 0),
-    Plan::Child(3, 0),
-    Plan::Child(4, 0),
-    Plan::Child(5, 0),
-    Plan::Child(6, 0),
+    Root(65535),
+    Child(0, 0),
+    Child(1, 0),
+    Child(2, 0),
+    Child(3, 0),
+    Child(4, 0),
+    Child(5, 0),
+    Child(6, 0),
 ];
 
 /// The parent, the parties and the phase of a declaration after eight levels, and its fault.
@@ -528,6 +491,6 @@ fn declarations_are_refused_in_order(rt: HostRuntime) {
 /// A forest has at most 64 phasers.
 #[test]
 fn a_full_forest_takes_no_more(rt: HostRuntime) {
-    let answer = fault_of(rt.alloc(), &[Plan::Root(0); 64], None, 0, 0);
+    let answer = fault_of(rt.alloc(), &[Root(0); 64], None, 0, 0);
     assert!(rt; answer == Some(DeclareFault::TooManyPhasers));
 }
