@@ -1,3 +1,4 @@
+//! The assembler's calls: from the text of a program to its image.
 ghost use Rattle.std.specs.Prelude.{◌≡◌, ◌≤◌, IfErr, IfOk, Ok, length, max};
 ghost use Rattle.row_code.specs.declared.image.Image.{Image};
 ghost use Rattle.assembler.specs.Answers.{AnswersAt, AnswersPlaced};

@@ -1,3 +1,4 @@
+//! What is known after some lines: the lines, the names, and the counts of rows and objects.
 ghost use Rattle.std.specs.Prelude.{◌≡◌, ◌+◌, ◌<◌, ◌||◌, ◌++◌, ◌∷◌, [], IfErr, IfOk, IfSome, List, Option, None, Some, false, is_some, map, option_copied, option_map};
 ghost use Rattle.instruction_table.specs.declared.shape.OperandKind.{OperandKind};
 ghost use Rattle.line_reader.specs.declared.statement.Line.{Line};

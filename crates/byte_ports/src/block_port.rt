@@ -1,3 +1,4 @@
+//! A sink that writes in blocks.
 ghost use Rattle.std.specs.Prelude.{◌≡◌, ◌⊎◌, ◌+◌, ◌≤◌, [], ◌++◌, length, false, IsTrue, IfOk, OnErr, OnOk};
 ghost use Rattle.std.specs.Io.KnownBytes.{Appends, Keeps, append_known};
 ghost use Rattle.byte_ports.specs.Port.{FailsForGood};

@@ -1,3 +1,4 @@
+//! A source that reads in blocks.
 ghost use Rattle.std.specs.Prelude.{◌≡◌, ◌≢◌, ◌⊎◌, ◌≤◌, ◌+◌, [], ◌++◌, false, min, length, take, IsTrue, IfOk, OnOk, OnErr};
 ghost use Rattle.std.specs.Io.KnownBytes.{IsAtEnd, Keeps, ReadConsumes, prepend_known};
 ghost use Rattle.byte_ports.specs.Port.{FailsForGood};

@@ -1,3 +1,4 @@
+//! The lines of a source, none of which is copied for its reader.
 ghost use Rattle.std.specs.Prelude.{◌≡◌, ◌≢◌, ◌≤◌, ◌<◌, ◌+◌, ◌-◌, ◌++◌, ◌⊎◌, [], false, ℕ, List, length, take, drop, get_or, Ok, IsTrue, IfOk, OnErr, OnOk};
 ghost use Rattle.std.specs.Io.KnownBytes.{Consumes, IsAtEnd, Keeps, prepend_known};
 ghost use Rattle.byte_ports.specs.SourceLines.{EndsInAPiece, Gave, HasCome, IsOneLine, taken};

@@ -1,3 +1,4 @@
+//! Where and why the debugger stops.
 use thread_machine::StepFault;
 
 /// A choice can't be taken back, because nothing is kept to do so. The debugger is as before.

@@ -1,3 +1,4 @@
+//! The instruction table, and how a word is found in it: by a slot for each word.
 ghost use Rattle.std.specs.Prelude.{◌≡◌, ◌<◌, ◌≤◌, All, IfSome, MatchOption, Some, None, map, option_map, length, slice_index_or, slice_get};
 ghost use Rattle.instruction_table.specs.Row.{opcode_of};
 ghost use Rattle.instruction_table.specs.Table.{Entry, no_entry, entry_listed, filled_by, entry_of, entry_named, table, entry_for};

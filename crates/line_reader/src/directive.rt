@@ -1,3 +1,4 @@
+//! Directives: `.phaser`, `.barrier`, `.thread` and `.cell`.
 ghost use Rattle.std.specs.Prelude.{◌≡◌, map};
 ghost use Rattle.line_reader.specs.Seen.{seen_in, name_seen, statement_seen};
 ghost use Rattle.line_reader.specs.Reading.{cell_at, directive_at, is_directive};

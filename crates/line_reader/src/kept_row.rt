@@ -1,3 +1,4 @@
+//! Rows as they are stored until their names are looked up.
 ghost use Rattle.std.specs.Prelude.{◌≡◌, ◌<◌, [], ◌∷◌, IfOk, IfSome, length, false, map, true};
 ghost use Rattle.line_reader.specs.Reading.{operand_at, operand_there, register_at, row_at, row_of_kinds};
 ghost use Rattle.line_reader.specs.Seen.{name_seen, seen, seen_in};

@@ -1,3 +1,4 @@
+//! Labels: words that end in a colon.
 ghost use Rattle.std.specs.Prelude.{◌≡◌};
 ghost use Rattle.line_reader.specs.Reading.{before_last, is_label};
 

@@ -1,3 +1,4 @@
+//! Names, and how they are spelled.
 ghost use Rattle.std.specs.Prelude.{◌≡◌};
 ghost use Rattle.std.specs.List.{list_all};
 ghost use Rattle.line_reader.specs.Seen.{seen, name_seen};

@@ -1,3 +1,4 @@
+//! Makes the barriers of an image.
 ghost use Rattle.std.specs.Prelude.{◌≡◌, ◌≢◌, ◌≤◌, length, map, None, Some, IfOk, IfErr, OnOk};
 ghost use Rattle.loader.specs.Declarations.{new_barrier, action_row};
 ghost use Rattle.loader.specs.Fault.{action_fault, barrier_fault, earliest_in};

@@ -1,3 +1,4 @@
+//! Declares the phasers of an image in a forest.
 ghost use Rattle.std.specs.Prelude.{◌≡◌, ◌≢◌, ◌+◌, ◌<◌, length, map, None, Some, IfOk, IfErr, OnOk};
 ghost use Rattle.tier_tree.specs.Answer.{KeepsEnds};
 ghost use Rattle.tier_tree.specs.Declaration.{AreAllFresh, is_root};

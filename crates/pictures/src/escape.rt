@@ -1,3 +1,4 @@
+//! How a text stands in a page.
 ghost use Rattle.std.specs.Prelude.{◌≡◌, ◌++◌, OnOk};
 ghost use Rattle.pictures.specs.Page.{escaped, escaped_byte};
 

@@ -1,3 +1,4 @@
+//! The phasers that an image declares.
 ghost use Rattle.std.specs.Prelude.{◌≡◌, ◌↔◌, ◌<◌, ℕ, slice_index_or, length, All, IsTrue, IsOk, IfOk, IfErr, List};
 ghost use Rattle.row_code.specs.declared.phasers.DeclaredPhaser.{DeclaredPhaser};
 ghost use Rattle.row_code.specs.Phasers.{IsPolicy, IsPhaser, ArePhasers};

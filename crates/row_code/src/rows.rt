@@ -1,3 +1,4 @@
+//! The rows of an image. The bytes of a single row are in `row_bytes`.
 ghost use Rattle.std.specs.Prelude.{◌≡◌, ◌≤◌, ◌↔◌, length, IsOk, IfOk, IfErr, List};
 ghost use Rattle.instruction_table.specs.declared.row.Row.{Row};
 ghost use Rattle.row_code.specs.Rows.{has_timed_row};

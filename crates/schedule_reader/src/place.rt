@@ -1,3 +1,4 @@
+//! The grammar of a token: from each place a byte leads to the next place, or is a fault.
 ghost use Rattle.std.specs.Prelude.{◌≡◌, ◌+◌, ◌<◌, ◌≤◌, ◌^◌, List, ◌∷◌, [], ℕ, IfOk, IfSome, ◌≢◌, true, false, Err};
 ghost use Rattle.std.specs.Char.{is_ascii_digit};
 ghost use Rattle.schedule_reader.specs.Schedule.{Schedule, IsRun, is_blank, choice_of, reading_of};

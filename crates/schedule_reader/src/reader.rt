@@ -1,3 +1,4 @@
+//! The reader of a stream that comes in pieces. The grammar of a token is in `place`.
 ghost use Rattle.std.specs.Prelude.{◌≡◌, ◌≢◌, ◌⊎◌, ◌+◌, ◌*◌, ◌/◌, ◌<◌, ◌≤◌, List, ◌∷◌, [], ◌++◌, ℕ, Bool, false, length, drop, IfOk, IfSome, IfErr, OnOk, IsErr, All, Err, Ok, Some, None};
 ghost use Rattle.std.specs.Vec.{vec_len, vec_capacity};
 ghost use Rattle.schedule_reader.specs.declared.fault.ScheduleFault.TheVariants.{Memory};

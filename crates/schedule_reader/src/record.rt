@@ -1,3 +1,4 @@
+//! The schedule that a live run writes: a token for each choice.
 ghost use Rattle.std.specs.Prelude.{◌≡◌, ◌+◌, ◌≤◌, ◌++◌, ◌∷◌, [], All, List, None};
 ghost use Rattle.std.specs.Vec.{vec_len, vec_capacity};
 ghost use Rattle.thread_machine.specs.declared.choice.Choice.{Choice};

@@ -1,3 +1,4 @@
+//! Runs, each of a choice that is made once or more, and lists of them.
 ghost use Rattle.std.specs.Prelude.{◌≡◌, ◌≤◌, ◌<◌, ◌+◌, ◌++◌, ◌∷◌, [], All, IfOk, MatchOption, OnOk, replicate};
 ghost use Rattle.std.specs.Vec.{vec_len, vec_capacity};
 ghost use Rattle.schedule_reader.specs.Joined.{AreJoined};

@@ -1,3 +1,4 @@
+//! What the workers of a run share under its lock, and what each of them does with it.
 ghost use Rattle.std.specs.Prelude.{◌≡◌, ◌⊎◌, ◌<◌, length, true, false, is_some, Some, None};
 ghost use Rattle.thread_machine.specs.World.{World};
 ghost use Rattle.thread_runner.specs.Recording.{recorded_world, with_choice, no_world};

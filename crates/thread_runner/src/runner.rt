@@ -1,3 +1,4 @@
+//! The workers of a live run, one for each thread of the program. What they share is in `live`.
 ghost use Rattle.std.specs.Prelude.{◌≡◌, ◌≢◌, ◌↔◌, ◌*◌, ◌<◌, ◌≤◌, length, is_some, IfErr, IfOk, Err, Some, true};
 ghost use Rattle.std.specs.Thread.{IsSend, IsSync};
 ghost use Rattle.cyclic_barrier.specs.ThreadSet.{has};

@@ -1,3 +1,4 @@
+//! A forest and its calls. What they change is in `join`, `climb` and `phase_end`.
 ghost use Rattle.std.specs.Prelude.{◌≡◌, ℕ, ◌<◌, List, [], length, true, false, IfOk};
 ghost use Rattle.tier_tree.specs.Answer.{DoesntJoin, DoesntArrive, IfTurning, MakesPending, KeepsPlaces, KeepsEnds, HaveOnePhase};
 ghost use Rattle.tier_tree.specs.Arrival.{arrival};

@@ -1,3 +1,4 @@
+//! The line of a phaser: the phasers from it up to its root.
 ghost use Rattle.std.specs.Prelude.{◌≡◌, ◌-◌, ◌<◌, [], ◌∷◌, length, slice_index_or};
 
 use std::marker::Model;

@@ -1,3 +1,4 @@
+//! The rows on outputs, cells, thread numbers and interrupted statuses.
 ghost use Rattle.std.specs.Prelude.{◌≡◌, ◌<◌, length, pos, true, Some, is_some, IsErr, IfOk, OnErr};
 ghost use Rattle.thread_state.specs.Thread.{turn_of_out, turn_of_answer, turn_of_intrd};
 ghost use Rattle.machine_scene.specs.Scene.{scene_of, counts_in, thread_at, cell_at, outcome_of_turn};

@@ -1,3 +1,4 @@
+//! The rows that read a phaser.
 ghost use Rattle.std.specs.Prelude.{◌≡◌, ◌<◌, ◌≤◌, length, slice_get, true, Some, is_some};
 ghost use Rattle.tier_tree.specs.Forest.{phaser_at};
 ghost use Rattle.tier_tree.specs.Stored.{phasers_of};

@@ -1,3 +1,4 @@
+//! What a turn may change is saved before it, and restored when it is taken back.
 ghost use Rattle.std.specs.Prelude.{◌≡◌, ◌<◌, length};
 ghost use Rattle.thread_state.specs.Thread.{top_of};
 ghost use Rattle.machine_scene.specs.Scene.{scene_of, thread_at};

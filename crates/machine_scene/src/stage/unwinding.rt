@@ -1,3 +1,4 @@
+//! The turns of a thread that throws an exception.
 ghost use Rattle.std.specs.Prelude.{◌≡◌, ◌<◌, length};
 ghost use Rattle.machine_scene.specs.Scene.{scene_of};
 ghost use Rattle.machine_scene.specs.Unwinding.{outcome_of_pop};
