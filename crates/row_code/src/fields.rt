@@ -71,85 +71,34 @@ pub fn fields_of(row: Row) -> Fields
 {
     match row {
         Row::Halt | Row::Ret | Row::Endtry => no_register(0),
-        Row::Jmp { target: object }
-        | Row::Call { target: object }
-        | Row::Try { handler: object }
-        | Row::Intr { thread: object }
-        | Row::Pforce { phaser: object }
-        | Row::Creset { barrier: object } => no_register(i32::from(object)),
+        Row::Jmp { target } | Row::Call { target } => no_register(i32::from(target)),
+        Row::Try { handler } => no_register(i32::from(handler)),
+        Row::Intr { thread } => no_register(i32::from(thread)),
+        Row::Pforce { phaser } => no_register(i32::from(phaser)),
+        Row::Creset { barrier } => no_register(i32::from(barrier)),
         Row::Ldi { into, value } => one_register(into, value),
         Row::Throw { code: a }
         | Row::Out { value: a }
         | Row::SelfNumber { into: a }
         | Row::Intrd { into: a } => one_register(a, 0),
-        Row::Lds {
-            into: a,
-            cell: object,
+        Row::Lds { into: a, cell } | Row::Sts { from: a, cell } => {
+            one_register(a, i32::from(cell))
         }
-        | Row::Sts {
-            from: a,
-            cell: object,
-        }
-        | Row::Preg {
-            into: a,
-            phaser: object,
-        }
-        | Row::Parr {
-            into: a,
-            phaser: object,
-        }
-        | Row::Pdereg {
-            into: a,
-            phaser: object,
-        }
-        | Row::Paaa {
-            into: a,
-            phaser: object,
-        }
-        | Row::Pphase {
-            into: a,
-            phaser: object,
-        }
-        | Row::Pparties {
-            into: a,
-            phaser: object,
-        }
-        | Row::Parrived {
-            into: a,
-            phaser: object,
-        }
-        | Row::Punarr {
-            into: a,
-            phaser: object,
-        }
-        | Row::Pterm {
-            into: a,
-            phaser: object,
-        }
-        | Row::Pparent {
-            into: a,
-            phaser: object,
-        }
-        | Row::Proot {
-            into: a,
-            phaser: object,
-        }
-        | Row::Cawait {
-            into: a,
-            barrier: object,
-        }
-        | Row::Cbroken {
-            into: a,
-            barrier: object,
-        }
-        | Row::Cwaiting {
-            into: a,
-            barrier: object,
-        }
-        | Row::Cparties {
-            into: a,
-            barrier: object,
-        } => one_register(a, i32::from(object)),
+        Row::Preg { into, phaser }
+        | Row::Parr { into, phaser }
+        | Row::Pdereg { into, phaser }
+        | Row::Paaa { into, phaser }
+        | Row::Pphase { into, phaser }
+        | Row::Pparties { into, phaser }
+        | Row::Parrived { into, phaser }
+        | Row::Punarr { into, phaser }
+        | Row::Pterm { into, phaser }
+        | Row::Pparent { into, phaser }
+        | Row::Proot { into, phaser } => one_register(into, i32::from(phaser)),
+        Row::Cawait { into, barrier }
+        | Row::Cbroken { into, barrier }
+        | Row::Cwaiting { into, barrier }
+        | Row::Cparties { into, barrier } => one_register(into, i32::from(barrier)),
         Row::Mov { into, from } => two_registers(into, from, 0),
         Row::Beq {
             left: a,
