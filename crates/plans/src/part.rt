@@ -32,7 +32,7 @@ pub struct Stored {
     pub seed: u64,
 }
 
-/// Returns whether a part has a number beside it: a count other than 1, or a limit.
+/// Returns whether a part is stored with a number: a count other than 1, or the most choices of a rule.
 pub fn takes_number(part: Part) -> bool
     ensures { result ≡ takes_number part }
 {
@@ -48,14 +48,14 @@ pub fn takes_number(part: Part) -> bool
     )
 }
 
-/// Returns whether a part has a seed beside it: one of 256 or more.
+/// Returns whether a part is stored with a seed: one of 256 or more. A smaller seed is in the part.
 pub fn takes_seed(part: Part) -> bool
     ensures { result ≡ takes_seed part }
 {
     matches!(part, Part::BySeed | Part::BySeedMost)
 }
 
-/// Returns a part as it is stored with no number and no seed.
+/// Returns how a part without a number and without a seed is stored: both are 0.
 fn alone(part: Part) -> Stored
     ensures { result ≡ record { part = part; number = 0; seed = 0 } }
 {
@@ -66,7 +66,7 @@ fn alone(part: Part) -> Stored
     }
 }
 
-/// Returns a part as it is stored with this number and no seed.
+/// Returns how a part with this number, but without a seed, is stored.
 fn numbered(part: Part, number: u32) -> Stored
     ensures { result ≡ record { part = part; number = number; seed = 0 } }
 {
@@ -152,7 +152,7 @@ fn rule(rule: Rule, most: Option<u32>) -> Word
     Word::Step(Step::Follow { rule, most })
 }
 
-/// Returns the word that is stored so. A part that has no number or seed ignores what is given.
+/// Returns the word that is stored as this part, number and seed. A part without a number or without a seed ignores it.
 pub fn word_with(part: Part, number: u32, seed: u64) -> Word
     ensures { result ≡ word_with part number seed }
 {

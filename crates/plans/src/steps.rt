@@ -18,7 +18,7 @@ fn choice_of(who: Chosen) -> Choice
 }
 
 impl Player {
-    /// Makes a choice so many times, or until no choice is left.
+    /// Makes a choice `times` times. It stops if one is asked for when none of the 1,000,000 is left.
     fn repeat(&mut self, choice: Choice, times: u32) -> Result<(), AllocError>
         ensures { OnOk result (self.new ≡ repeated times (chosen choice) self.old) }
     {
@@ -31,7 +31,7 @@ impl Player {
         Ok(())
     }
 
-    /// Makes choices by a rule, at most `most`, until it has none or no choice is left.
+    /// Makes choices by a rule, at most `most`. It stops if the rule has none, or one is asked for when none is left.
     pub fn follow(&mut self, alloc: Global, rule: Rule, most: u32) -> Result<(), AllocError>
         ensures { OnOk result (self.new ≡ followed rule most 0 self.old) }
     {

@@ -75,7 +75,7 @@ impl LineEnd {
         self.start = write_digits(count, &mut self.bytes, self.start);
     }
 
-    /// Puts a number before the line whose digits are already made, by a copy of their block.
+    /// Puts the number of `digits` before the line: its whole block of 20 bytes is copied, and what precedes the digits isn't counted.
     #[inline(always)]
     pub fn put_digits(&mut self, digits: &Digits)
         requires { length self.old + 20 ≤ 192 }

@@ -62,7 +62,7 @@ fn push_event<W: Sink>(
     push_line(line.as_slice(), output)
 }
 
-/// Writes the line of a choice that this machine refused. `line` is its buffer.
+/// Writes the line of the choice that this machine refused as its next: `pc` is the thread's row, or `None` if there is none.
 fn push_refusal<W: Sink>(
     machine: &Machine,
     choice: Choice,
@@ -113,7 +113,7 @@ fn play_choice<W: Sink>(
     }
 }
 
-/// Plays one choice, and makes its line. Returns whether the choice was accepted.
+/// Plays one choice, and makes its line, also if it is refused. Returns whether the choice was accepted. Fails without memory.
 pub fn line_of_choice(
     machine: &mut Machine,
     choice: Choice,
@@ -141,7 +141,7 @@ pub fn line_of_choice(
     }
 }
 
-/// Plays a thread's choice, and makes its line but for the number. Returns if it was accepted.
+/// Plays the choice of an existing thread, and makes its line without the number. Returns whether it was accepted; if not, no line.
 #[inline(always)]
 pub fn own_line_of_choice(
     machine: &mut Machine,

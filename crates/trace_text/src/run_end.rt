@@ -68,7 +68,7 @@ fn told(machine: &Machine, refused: Refused) -> Refusal
     }
 }
 
-/// Writes the text of a machine's state, and returns how its run ended, with a refused choice.
+/// Writes the text of a machine's state, and returns how its run ended: `refused` is the choice that was refused, if one was.
 pub fn push_end<W: Sink>(
     alloc: Global,
     machine: &Machine,
