@@ -72,7 +72,7 @@ pub fn debug<C: Companion, K: Sink>(
     workbench::debug::debug(alloc, image, commands, output)
 }
 
-/// Plays runs of choices, and then does what `debug` does.
+/// Plays runs of choices as the command `g` does, then carries out the commands of a session, and writes all replies.
 pub fn debug_behind<C: Companion, K: Sink>(
     alloc: Global,
     image: Image,
@@ -90,7 +90,7 @@ pub fn debug_behind<C: Companion, K: Sink>(
     workbench::debug::debug_behind(alloc, image, runs, commands, output)
 }
 
-/// Plays the choices of a trace, and then does what `debug` does, unless it is no trace.
+/// Plays a trace's choices as `g` does, then carries out a session's commands. If it is no trace, it says so and reads none.
 pub fn debug_at<T: Source, C: Companion, K: Sink>(
     alloc: Global,
     image: Image,

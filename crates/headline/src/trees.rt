@@ -38,7 +38,7 @@ pub fn no_word_lags_far(machine: &Machine)
     machine.forest().is_forest();
 }
 
-/// Makes a forest without phasers. The counts of who is registered and who is to arrive begin here, whatever they are.
+/// Makes a forest without phasers. It agrees with any counts of who is registered and who is to arrive: it has no phaser yet.
 pub fn plant(alloc: Global) -> Result<Forest, AllocError>
     ensures empty { IfOk result (λ forest. phasers_of forest ≡ []) }
     ensures counts { IfOk result (λ forest. (counts : Origin) → AreTallied (phasers_of forest) counts) }
@@ -68,7 +68,7 @@ pub fn declare(
     forest.declare(parent, parties, policy, phase)
 }
 
-/// Registers so many parties with a phaser of a tree, and returns what came of it.
+/// Registers `parties` parties with a phaser. Returns the phase, or why they aren't: terminated, too many, or held for now.
 pub fn register(forest: &mut Forest, id: PhaserId, parties: u32) -> Registered
     requires { id.0 < length forest.old }
     ensures answer { result ≡ registration id.0 parties (phasers_of forest.old) }

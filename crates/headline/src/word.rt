@@ -46,7 +46,8 @@ pub fn make_call<R: Wait>(rt: &R, phaser: &SharedPhaser, party: &mut Party, call
     }
 }
 
-/// Does what `make_call` does, with at most so many tries. If each was lost, no call was made.
+/// Makes a registration, an arrival, a departure or a termination in at most `tries` tries. If other calls came first in all
+/// of them, no call was made.
 pub fn make_call_within(
     phaser: &SharedPhaser,
     party: &mut Party,
@@ -69,7 +70,7 @@ pub fn make_call_within(
     }
 }
 
-/// Returns the phaser's word. It shows the phaser after all calls that the caller has then seen.
+/// Returns the phaser's packed state: after a legal history that has all calls which this caller made or saw.
 pub fn look(phaser: &SharedPhaser, party: &mut Party) -> Word
     requires { phaser_of party.old ≡ phaser.now }
     ensures phaser { phaser_of party.new ≡ phaser.now }
@@ -78,7 +79,7 @@ pub fn look(phaser: &SharedPhaser, party: &mut Party) -> Word
     phaser.look(party)
 }
 
-/// Waits until a legal history has the end of this phase. A negative number isn't waited for.
+/// Waits until a legal history has the end of this phase. A negative `phase` isn't waited for, and is returned.
 pub fn await_advance<R: Wait>(rt: &R, phaser: &SharedPhaser, party: &mut Party, phase: i32) -> i32
     requires { phaser_of party.old ≡ phaser.now }
     ensures phaser { phaser_of party.new ≡ phaser.now }

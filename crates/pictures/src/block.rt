@@ -33,7 +33,8 @@ fn did(pen: &Pen<'_, '_>, choice: Choice, row: Row, event: &Event) -> Result<Vec
     )
 }
 
-/// Returns a choice's line in the block from thread `first` on. `machine` is the one after it.
+/// Returns the line of choice `number`, at `row` and with this event, in the block from thread `first` on. `machine` is the
+/// one after it.
 fn played_line(
     pen: &Pen<'_, '_>,
     machine: &Machine,
@@ -61,7 +62,7 @@ fn played_line(
     )
 }
 
-/// Returns the words for a thread that doesn't exist. A column already shows the limit.
+/// Returns `no thread t9` for a thread that doesn't exist. For the limit, which the thread's column shows, returns nothing.
 fn refused_words(alloc: Global, why: StepFault, thread: u8) -> Result<Vec<u8>, AllocError>
     ensures { IfOk result (λ text. text.items ≡ refused_words why thread) }
 {

@@ -44,7 +44,7 @@ pub fn push_number(text: &mut Vec<u8>, number: u64) -> Result<(), AllocError>
     text.extend_from_slice(digits)
 }
 
-/// Returns the first `room` bytes of a longer text, with `~` as the last of them.
+/// Returns the first `room` bytes of a longer text, with `~` as the last of them. If `room` is 0, that is nothing.
 fn cut(alloc: Global, room: usize, bytes: &[u8]) -> Result<Vec<u8>, AllocError>
     requires { room < length bytes.now }
     ensures { IfOk result (λ text. text.items ≡ take room (take (room - 1) bytes.now ++ codes "~")) }
@@ -80,7 +80,7 @@ pub fn kept_behind(
     shortened(alloc, room, text.as_slice())
 }
 
-/// Appends a text at a column of the line, after blanks. An empty text adds nothing.
+/// Appends a text at a column of the line, after blanks, or at once if the line is longer. An empty text adds nothing.
 pub fn put_at(line: &mut Vec<u8>, column: usize, text: &[u8]) -> Result<(), AllocError>
     ensures { OnOk result (line.new.items ≡ put_at column text.now line.old.items) }
 {

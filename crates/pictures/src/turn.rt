@@ -30,7 +30,7 @@ fn push_what(text: &mut Vec<u8>, what: What) -> Result<(), AllocError>
     }
 }
 
-/// Returns whether a column shows the row before this result.
+/// Returns whether a column shows the row before this result, as in `paaa r0 p = 1`. Other results, as `out 1`, are alone.
 fn shows_row(what: What) -> bool
     ensures { result ≡ shows_row what }
 {
@@ -72,7 +72,7 @@ pub fn turn_text(
     kept_behind(alloc, room, front, answer.as_slice())
 }
 
-/// Returns the sign of another thread: `|` runs, `!` throws, `:` waits and is ready, `#` waits.
+/// Returns the sign of another thread: `|` runs, `!` throws, `:` waits and is runnable, `#` waits; nothing after its end.
 pub fn standing(ready: bool, status: Status) -> &'static [u8]
     ensures { result.now ≡ standing ready status }
 {
@@ -132,7 +132,7 @@ fn mark_words(alloc: Global, mark: Mark) -> Result<Vec<u8>, AllocError>
     Ok(text)
 }
 
-/// Returns what a choice changed besides its own thread, shortened to its room.
+/// Returns what a choice changed besides its own thread, as `p: phase 1`, shortened to its room; nothing if that is nothing.
 pub fn told(pen: &Pen<'_, '_>, mark: Mark) -> Result<Vec<u8>, AllocError>
     ensures { IfOk result (λ text. text.items
         ≡ kept_behind (mark_room pen.now.sheet) (marked pen.now.symbols.now mark) (mark_words mark)) }

@@ -46,7 +46,7 @@ pub fn add_line(
     }
 }
 
-/// Appends what a choice would do next, if it would be a step.
+/// Appends `next ` and the line that a choice would have. A choice that would be no step adds nothing.
 fn add_what_if(
     text: &mut Vec<u8>,
     machine: &mut Machine,

@@ -81,7 +81,7 @@ impl Reading {
         }
     }
 
-    /// Appends the word that `bytes` spell, for threads with these names, or returns what is wrong with it and its line's number.
+    /// Appends the word that `bytes` spell, for threads with these names, or returns what is wrong, with the line's number.
     fn add_word(&mut self, names: &[&[u8]], line: u64, bytes: &[u8]) -> Result<(), PlanFault>
         requires { length names.now ≤ 64 }
         ensures { AnswersPlan (λ _. draft_of self.new) result

@@ -168,8 +168,8 @@ impl Player {
         self.stopped = true;
     }
 
-    /// Makes a choice and counts it, idle or not. If the machine refuses it, nothing changes. Room for the run is made before the
-    /// step, so that no step is played that can't be kept.
+    /// Makes a choice and counts it, idle or not. If the machine refuses it, nothing changes. Room for it is reserved before
+    /// the step, so that each step that is played is also kept.
     fn make(&mut self, choice: Choice) -> Result<(), AllocError>
         requires thread { choice.thread < thread_count self.old.world }
         requires few { thread_count self.old.world ≤ 64 }

@@ -8,8 +8,8 @@ use crate::words::WordsFrom;
 use std::alloc::{AllocError, Global};
 
 impl Player {
-    /// Plays words up to the parenthesis that closes their group, and returns how often the group is to be played, or up to the end,
-    /// and returns `None`.
+    /// Plays words up to the parenthesis that closes their group, and returns how often the group is to be played; or plays
+    /// them to their end, and returns `None`.
     #[cycle(words)]
     pub fn play_words(
         &mut self,
@@ -45,7 +45,7 @@ impl Player {
         Ok(())
     }
 
-    /// Plays words again until they have been played `times` times with the first one, or make no choice. So a group can't go on idly.
+    /// Plays words until they have been played `times` times with the first one. A pass that makes no choice is the last.
     #[cycle(words)]
     fn play_again(
         &mut self,

@@ -178,7 +178,7 @@ fn expiry_named(names: &[&[u8]], name: &[u8]) -> Result<Chosen, PlanFaultKind>
     }
 }
 
-/// Returns the turn of the thread with this name, or its expiry if an `x` precedes the name. So a thread `xann` wins over ann's x.
+/// Returns the turn of the thread with this name, or else its expiry if an `x` precedes the name, as in `xann`.
 fn named(names: &[&[u8]], name: &[u8]) -> Result<Chosen, PlanFaultKind>
     requires { length names.now ≤ 64 }
     ensures { result ≡ named_by (map name_seen names.now) name.now
@@ -206,7 +206,7 @@ fn or_numbered(why: PlanFaultKind, count: usize, name: &[u8]) -> Result<Chosen, 
     Err(why)
 }
 
-/// Returns the choice that a word names: by a thread's name, as `ann` or `xann`, or if no thread has it, by number as `t2` or `x2`.
+/// Returns the choice that a word names: by a thread's name, as `ann` or `xann`, or else by its number, as `t2` or `x2`.
 fn chosen_by(names: &[&[u8]], name: &[u8]) -> Result<Chosen, PlanFaultKind>
     requires { length names.now ≤ 64 }
     ensures { result ≡ chosen_by (map name_seen names.now) name.now }
@@ -253,8 +253,8 @@ fn seeded(times: Option<u32>, digits: &[u8]) -> Result<Word, PlanFaultKind>
     }
 }
 
-/// Returns the word that `stem`, what precedes the star, and the count `times` after it mean, or what is wrong with the stem. The
-/// form of the word was checked before.
+/// Returns the word that `stem`, what precedes the star, and the count `times` after it mean, or what is wrong with the
+/// stem. The form of the word was checked before.
 fn meaning(names: &[&[u8]], stem: &[u8], times: Option<u32>) -> Result<Word, PlanFaultKind>
     requires { length names.now ≤ 64 }
     ensures { result ≡ meaning (map name_seen names.now) stem.now times }

@@ -85,8 +85,8 @@ impl Player {
         None
     }
 
-    /// Returns the turn of the next runnable thread after the last one chosen, round to itself. If none is runnable, returns the
-    /// lowest expiry, or `None`.
+    /// Returns the turn of the next runnable thread after the last one chosen, round to that one. If none is runnable, returns
+    /// the lowest thread's expiry that is possible, or `None`.
     #[tactic(auto, unfolding(crate::specs::Rules::turn_about))]
     fn turn_about(&self) -> Option<Choice>
         ensures { result ≡ turn_about self.now.next self.now.world }
@@ -134,7 +134,7 @@ impl Player {
         Ok(choices)
     }
 
-    /// Returns the next choice of `rule`, or `None` if it has none. `k` is how many it has made: a seed's random number is its `k`th.
+    /// Returns the next choice of `rule`, or `None` if it has none. `k` choices precede it: a seed takes its random number `k`.
     #[tactic(auto, unfolding(crate::specs::Rules::next_choice))]
     pub fn next_choice(
         &self,

@@ -144,8 +144,8 @@ fn commanded(trial: Trial, debugger: &mut Debugger, command: &Command) -> Answer
     answer.provided(goes_on(trial.alloc, debugger, count))
 }
 
-/// Judges a command's result and its `reply`, which is whole or empty. Also returns how many choices have to be played after it:
-/// `behind`, or 3 as before it if memory was refused, but 5 if `g` came to its second value.
+/// Judges a command's result and its `reply`, which is whole or empty. Also returns how many choices have to be played after
+/// it: `behind`, or 3 as before if memory was refused, but 5 if `g` came to its second value.
 fn command_answer(
     answered: Result<bool, CommandFault>,
     reply: &[u8],

@@ -105,7 +105,7 @@ fn taking(trial: Trial, text: &[u8], turns: &[Run], choice: Choice, schedule: &[
     }
 }
 
-/// Takes `turns`, and then tries `choice`, which has to make the record `schedule`. The record is dropped before memory is compared.
+/// Takes `turns` and then tries `choice`, after which the record has to be `schedule`. It drops the record and so frees it.
 fn taken_behind(
     trial: Trial,
     text: &[u8],

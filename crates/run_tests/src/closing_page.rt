@@ -108,7 +108,7 @@ fn an_arrival_is_taken_back(rt: HostRuntime) {
     }
 }
 
-/// Plays a choice, and takes it back with the `undo` of the step. Returns the steps counted between, or `None` if it is refused.
+/// Plays a choice and takes it back with the step's `undo`. Returns the steps counted between, or `None` if it is refused.
 fn steps_meanwhile(machine: &mut Machine, choice: Choice) -> Option<u32> {
     let Ok((_, undo)) = step(machine, choice) else {
         return None;

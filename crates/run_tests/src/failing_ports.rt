@@ -134,8 +134,8 @@ fn is_cut(case: &Case, came: &Came, failing: Port) -> bool {
     came.status == 5 && case.whole.starts_with(came.output.bytes()) && came.errors.bytes() == line
 }
 
-/// Returns whether the command of a case reports that the port `failing` failed, or else writes everything. If the first call of
-/// a port that it uses fails, it has to report this. A later one may never be made.
+/// Returns whether the command of a case reports that the port `failing` failed, or else writes everything. If the first call
+/// of a port that it uses fails, it has to report this. A later one may never be made.
 fn is_right(alloc: Global, case: &Case, failing: Port, call: u32) -> bool {
     let Ok(came) = made(alloc, case, failing, call) else {
         return false;

@@ -84,8 +84,8 @@ impl Script {
 }
 
 impl Gate for Script {
-    /// Notes that a pass of `thread` has begun, and waits until the steps before it in the script are done: until each other thread
-    /// has begun one pass more than it has steps there.
+    /// Notes that a pass of `thread` has begun, and waits until the steps before it in the script are done: until each other
+    /// thread has begun one pass more than it has steps there.
     fn pass(&self, thread: u8, step: u32) {
         if let Some(begun) = self.begun.get(usize::from(thread)) {
             begun.store(step.saturating_add(1), Ordering::SeqCst);
@@ -124,7 +124,7 @@ fn comes_to(run: &LiveRun, came: Came) -> bool {
     is_it && run.ending == Ending::AllEnded
 }
 
-/// Plays the program `text` live, held by `gate`. Returns whether all threads end, with the schedule or number of steps in `came`.
+/// Plays `text` live, held by `gate`. Returns whether all threads end, with the schedule or the number of steps in `came`.
 fn runs<R: Threads + Wait + Sync, G: Gate + Sync>(
     rt: &R,
     alloc: Global,

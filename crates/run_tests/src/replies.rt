@@ -86,8 +86,8 @@ fn is_told(alloc: Global, debugger: &mut Debugger, line: &str, call: u32, whole:
     }
 }
 
-/// Returns whether command `number`, whose output fails at call `call`, returns `Write` after a beginning of its reply, or writes
-/// all of it, as a new debugger does.
+/// Returns whether command `number`, whose output fails at call `call`, returns `Write` after a beginning of its reply, or
+/// writes all of it, as a new debugger does.
 fn is_answered(alloc: Global, debugger: &mut Debugger, number: usize, call: u32) -> bool {
     let Some(line) = COMMANDS.get(number) else {
         return false;
@@ -108,7 +108,7 @@ fn is_behind(alloc: Global, debugger: &mut Debugger, count: usize) -> bool {
     }
 }
 
-/// Returns whether command `number` is carried out although its output fails at call `call`: the next ones then find its effect.
+/// Returns whether command `number` is carried out although its output fails at call `call`: it then has its full effect.
 fn is_carried_out(alloc: Global, number: usize, call: u32) -> bool {
     match begun(alloc) {
         Some(mut debugger) => {

@@ -79,7 +79,7 @@ fn called<R: Wait>(rt: &R, phaser: &SharedPhaser, party: &mut Party, call: Call)
     }
 }
 
-/// Returns whether the call of `row` has its result and leaves its word: with `waits` by the call that tries again, or in one try.
+/// Returns whether the call of `row` has its result and leaves its word: by the call that tries on (`waits`) or in one try.
 fn holds<R: Wait>(rt: &R, alloc: Global, row: &Row, waits: bool) -> bool {
     let (parties, phase, policy, call, reply, word) = *row;
     match SharedPhaser::new(alloc, parties, policy, Phase::prevailing(phase)) {

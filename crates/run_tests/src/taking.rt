@@ -77,7 +77,7 @@ static ROWS: [Row; 9] = [
     ),
 ];
 
-/// Returns whether the choice of `token` (`t0`, `x1`) is taken, or refused: `!` as not runnable, `#` by the limit. `~` begins a wait.
+/// Returns whether the choice of `token` (`t0`, `x1`) is taken, or refused: `!` not runnable, `#` by the limit. `~` waits.
 fn takes(journaled: &mut Journaled, token: &str) -> bool {
     let [kind, digit, rest @ ..] = token.as_bytes() else {
         return false;

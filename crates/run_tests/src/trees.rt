@@ -110,7 +110,7 @@ fn arrives(forest: &mut Forest, id: u8, answer: Arrived) -> bool {
     }
 }
 
-/// Ends the phase if `root` is a turned root that may end it; with `ends` this terminates the root. Returns whether it has ended.
+/// Ends the phase if `root` is a turned root that may end it, with `ends` for ever. Returns whether it has ended.
 fn end_turned_phase(forest: &mut Forest, root: PhaserId, ends: bool) -> bool
     requires { root.0 < length forest.old }
     ensures ended { result ≡ true
@@ -416,7 +416,7 @@ static NINE_ARRIVE: [Step; 13] = [
     Step::Shows(0, 1, 9, 0),
 ];
 
-/// Returns 64 phasers of a tree: 9 lines of 7 below the root, each phaser below the one before it. The last of a line has a party.
+/// Returns 64 phasers of a tree: 9 lines of 7 below the root, each the child of the one before. The last of a line has a party.
 fn nine_lines() -> [Plan; 64] {
     let mut plans = [Root(0); 64];
     for id in 1..64u8 {

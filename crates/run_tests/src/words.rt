@@ -189,7 +189,7 @@ fn registration(registered: Registered) -> Answer {
     }
 }
 
-/// Returns what `call` returns, or `None` if its contract forbids it: an end needs a turned word, `vacate` also one without parties.
+/// Returns what `call` returns, or `None` if its contract forbids it: ends need a turned word, `vacate` also no parties.
 fn made(word: Word, call: Call) -> Option<Answer> {
     match call {
         Renew(phase) => Some(Is(word.renew(Phase::prevailing(phase)).raw())),

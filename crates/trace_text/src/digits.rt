@@ -56,7 +56,7 @@ impl Digits {
         self.move_far(number);
     }
 
-    /// Makes these the digits of `number`, if more than the last digit changes. From 19 to 20 it writes just two; else all of them.
+    /// Makes these the digits of `number`, if more than the last digit changes. From 19 to 20 it writes two digits, else all.
     #[inline(never)]
     fn move_far(&mut self, number: u64)
         requires { number + 1 < 2 ^ 64 }

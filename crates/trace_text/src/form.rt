@@ -30,7 +30,7 @@ pub fn subject_of(text: &[u8]) -> &[u8]
     &text[..length_before(b' ', text)]
 }
 
-/// Returns what the line named by `subject_of` has to contain: the first blank and all that follows it, as ` ended` for `t0 ended`.
+/// Returns what the line named by `subject_of` has to contain, from the first blank on: ` ended` for `t0 ended`.
 pub fn words_of(text: &[u8]) -> &[u8]
     ensures { result.now ≡ words_of text.now }
 {

@@ -78,7 +78,7 @@ fn put_mark(line: &mut LineEnd, mark: Mark)
     }
 }
 
-/// Makes this the end of a line: a blank, what a choice did and changed, and an LF. The most frequent ends are put whole, for speed.
+/// Makes this the end of a line: a blank, what a choice did and changed, and an LF. Frequent ends are put whole, for speed.
 #[inline(always)]
 fn put_answer(line: &mut LineEnd, event: &Event)
     ensures text { line.new
@@ -162,7 +162,7 @@ pub fn put_event(line: &mut LineEnd, step: u64, choice: Choice, pc: u16, event: 
     line.put_count(step);
 }
 
-/// Makes this the line of a refused choice without its number: with `pc`, the thread's row, of the limit; without, of no such thread.
+/// Makes this the line of a refused choice without its number: `limit` with its thread's row `pc`, `none` for no such thread.
 pub(super) fn put_refused(line: &mut LineEnd, choice: Choice, pc: Option<u16>)
     ensures text { (step : ℕ) → decimal step ++ line.new ≡ refusal_text step choice pc }
     ensures length { length line.new ≤ 100 }

@@ -81,7 +81,7 @@ fn allows(text: &[u8], standing: Standing) -> bool
     }
 }
 
-/// Returns whether a run ended as the expectation `text` says: no choice was refused, and the end and the state are as expected.
+/// Returns whether a run ended as the expectation `text` says: no choice was refused, and its end and its state are so.
 pub fn is_end_expected(end: &RunEnd, text: &[u8]) -> bool
     ensures { result ≡ is_end_expected end.now text.now }
 {

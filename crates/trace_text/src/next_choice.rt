@@ -97,7 +97,7 @@ fn choice_between_spaces(bytes: &[u8]) -> Option<Choice>
     Some(Choice { thread, expiry })
 }
 
-/// Returns the choice that follows `number` at the start of these bytes, as ` t0 `. After `None` the line has to be read slowly.
+/// Returns the choice that follows `number` at the start of these bytes, as ` t0 `. `None`: the line has to be read whole.
 #[inline(always)]
 pub fn choice_behind(bytes: &[u8], number: &[u8]) -> Option<Choice>
     requires { length number.now ≤ length bytes.now }

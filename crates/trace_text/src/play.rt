@@ -141,7 +141,7 @@ pub fn line_of_choice(
     }
 }
 
-/// Plays the choice of an existing thread, and makes its line without the number. Returns whether it was accepted; if not, no line.
+/// Plays the choice of an existing thread, and makes its line without the number. Returns false, and no line, if refused.
 #[inline(always)]
 pub fn own_line_of_choice(
     machine: &mut Machine,

@@ -55,7 +55,7 @@ fn add_status(text: &mut Vec<u8>, status: Status) -> Result<(), AllocError>
     }
 }
 
-/// Appends a stack entry after a blank: its letter, and its row or, of `A` and `X`, the number of the root or the barrier.
+/// Appends a stack entry, a blank before it: `C` or `H` and a row, `A` and the number of a root, or `X` and that of a barrier.
 fn add_entry(text: &mut Vec<u8>, entry: Entry) -> Result<(), AllocError>
     ensures { OnOk result (text.new.items ≡ text.old.items ++ entry_text entry) }
 {

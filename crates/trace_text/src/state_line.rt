@@ -36,8 +36,8 @@ fn has_words(words: &[u8], line: &[u8]) -> bool
     false
 }
 
-/// Returns whether ` regs`, ` stack` or ` out` is among these words of an expectation, as a whole word. If so, the words have to
-/// go on to the end of a list (`begins_whole`).
+/// Returns whether ` regs`, ` stack` or ` out` is among these words of an expectation, as a whole word. If so, the words
+/// have to go on to the end of a list (`begins_whole`).
 fn names_a_list(words: &[u8]) -> bool
     ensures { result ≡ names_a_list words.now }
 {

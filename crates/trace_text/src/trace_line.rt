@@ -76,7 +76,7 @@ fn digits_before(line: &[u8]) -> usize
     }
 }
 
-/// Returns the choice that a trace's line names after its number of 1 to 13 digits and a space, as t0 in `7 t0 1 out 1`, or `None`.
+/// Returns the choice that a line names after its number of 1 to 13 digits, as t0 in `7 t0 1 out 1`, or `None`.
 pub fn choice_in(line: &[u8]) -> Option<Choice>
     ensures { result ≡ choice_in line.now }
 {

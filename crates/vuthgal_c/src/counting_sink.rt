@@ -48,7 +48,7 @@ impl CountingSink {
         self.kept.as_slice()
     }
 
-    /// Returns how many bytes came, or the largest number if there were more.
+    /// Returns how many bytes came, or the largest `usize` if there were more.
     pub fn count(&self) -> usize
         ensures { result ≡ min (length self.now.written) most_counted }
     {
@@ -63,7 +63,7 @@ impl CountingSink {
     }
 }
 
-/// Appends as many of these bytes as fit below `most`, if all `count` bytes before are kept.
+/// Appends as many of `bytes` as fit below `most`, if all `count` bytes before are kept. Without memory it keeps none of them.
 fn keep(kept: &mut Vec<u8>, most: usize, count: usize, bytes: &[u8])
     ensures { (came : List ℕ) → AreFirst kept.old.items came → count ≡ min (length came) most_counted
         → AreFirst kept.new.items (came ++ bytes.now) }

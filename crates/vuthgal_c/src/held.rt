@@ -33,7 +33,7 @@ pub enum Unanswered {
     ReplyLost,
 }
 
-/// Carries out a command. Returns false if it is out of memory, and then nothing is done.
+/// Carries out a command. Returns false if it is out of memory, and then nothing is done. The sink `shown` never fails.
 fn is_answered(debugger: &mut Debugger, command: &[u8], shown: &mut SessionSink) -> bool
     ensures done { result ≡ true → (text : List ℕ) × (Replies debugger.old (line_order command.now) debugger.new text
         × Appends (Some shown.old) (Some shown.new) text) }

@@ -53,7 +53,8 @@ pub fn race_cmd<R: Threads + Wait + Sync, K: Sink, E: Sink>(
     )
 }
 
-/// Does what `race_cmd` does, but returns the fault. Each thread reports each meeting to `pace`.
+/// `parties` threads meet `rounds` times at one phaser, and its line is written to `output`, as `race_cmd` says; or the fault
+/// is returned. Each thread reports each meeting to `pace`.
 pub fn race<R: Threads + Wait + Sync, P: Pace + Sync, K: Sink>(
     rt: &R,
     alloc: Global,

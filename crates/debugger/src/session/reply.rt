@@ -112,7 +112,7 @@ fn say_line<W: Sink>(output: &mut W, line: &LineEnd) -> Result<(), CommandFault>
     }
 }
 
-/// Returns true, since the session goes on after any command but `q`, or the command's fault.
+/// Returns true after a command, since the session goes on after any but `q`, or the command's fault.
 fn going_on(done: Result<(), CommandFault>) -> Result<bool, CommandFault>
     ensures more { IfOk result (λ more. (more ≡ true) × (done ≡ Ok tt)) }
     ensures fault { IfErr result (λ fault. done ≡ Err fault) }
