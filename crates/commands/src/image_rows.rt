@@ -10,7 +10,7 @@ use line_reader::listing::rows::push_row;
 use row_code::Image;
 use std::alloc::{AllocError, Global};
 
-/// Appends the line of a row: its number and its canonical text.
+/// Appends the line of row `n`: its number and its canonical text, as `0 paaa r0 #0`.
 #[tactic(auto, using(line_reader::proofs::ListedTexts::word_steps))]
 fn push_numbered(listing: &mut Vec<u8>, n: u64, row: Row) -> Result<(), AllocError>
     ensures { OnOk result (listing.new.items

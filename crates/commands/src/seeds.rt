@@ -60,7 +60,7 @@ pub struct Unlike {
     pub state: Vec<u8>,
 }
 
-/// Appends `*` and the most choices of an order, if that is given.
+/// Appends `*` and the most choices of an order, as `*100`, or nothing if no limit is given.
 #[tactic(auto, using(crate::proofs::Reports::text_steps))]
 fn push_limit(text: &mut Vec<u8>, limit: Option<u32>) -> Result<(), AllocError>
     ensures { OnOk result (text.new.items ≡ text.old.items ++ limit_mark limit) }
@@ -119,7 +119,7 @@ fn judged(
     }))
 }
 
-/// Plays a plan, and then choices by a seed, on a copy of a program.
+/// Plays `plan`, and then choices by `seed`, at most `limit` if that is given, on a copy of a program.
 fn planned_by_seed(
     alloc: Global,
     program: &Loaded,

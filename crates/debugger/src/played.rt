@@ -61,7 +61,7 @@ impl Played {
         self.runs.as_slice()
     }
 
-    /// Appends the choices of a run. If they repeat the last choice, they are joined to its run.
+    /// Appends the choices of a run, which may be none. If they repeat the last choice, they are joined to its run.
     fn push(&mut self, run: Run) -> Result<(), AllocError>
         ensures choices { OnOk result (choices_of self.new ≡ choices_of self.old ++ replicate run.times run.choice) }
         ensures runs { run.choice.thread ≤ 63 → run.times ≤ 1000000000 → All IsRun self.old → All IsRun self.new }

@@ -54,7 +54,7 @@ pub fn schedule(journaled: &Journaled) -> &[u8]
     journaled.schedule()
 }
 
-/// Takes a thread's turn under the lock of a live run, and records it. Each may be out of memory, since the record grows.
+/// Takes a thread's turn under the lock of a live run, and records it. Any turn may be out of memory, as the record grows.
 pub fn take_step(journaled: &mut Journaled, thread: u8) -> Result<Event, TakeFault>
     requires { thread < length journaled.old.first.scene.threads }
     ensures played { IfOk result (λ event. record { world = recorded_world journaled.new; event = event }
@@ -68,7 +68,7 @@ pub fn take_step(journaled: &mut Journaled, thread: u8) -> Result<Event, TakeFau
     journaled.take_step(thread)
 }
 
-/// Lets a thread's wait expire under the lock of a live run, and records it. It may be out of memory, since the record grows.
+/// Lets a thread's wait expire under the lock of a live run, and records it. It may be out of memory, as the record grows.
 pub fn take_expiry(journaled: &mut Journaled, thread: u8) -> Result<Event, TakeFault>
     requires { thread < length journaled.old.first.scene.threads }
     ensures played { IfOk result (λ event. record { world = recorded_world journaled.new; event = event }

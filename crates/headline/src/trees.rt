@@ -78,7 +78,8 @@ pub fn register(forest: &mut Forest, id: PhaserId, parties: u32) -> Registered
     forest.register(id, parties)
 }
 
-/// Makes one party arrive at a phaser of a tree, and deregisters it if `leave` is true.
+/// Makes one party arrive at a phaser, and with `leave` deregisters it. Returns the phase, or that it was the tree's last, or
+/// that there is no party left to arrive or the tree is terminated.
 pub fn arrive(forest: &mut Forest, id: PhaserId, leave: bool) -> Arrived
     requires { id.0 < length forest.old }
     ensures arrival { record { phasers = phasers_of forest.new; answer = result } ≡ arrival id.0 leave (phasers_of forest.old) }

@@ -14,7 +14,7 @@ use shared_phaser::{Call, NewFault, NotThere, Party, Raced, Reply, SharedPhaser}
 use std::alloc::Global;
 use std::sync::Wait;
 
-/// Makes a phaser that threads share, with so many parties in this phase, and its first caller. No later call needs memory.
+/// Makes a phaser that threads share, with `parties` parties in this phase, and its first caller. No later call needs memory.
 pub fn new(
     alloc: Global,
     parties: u16,

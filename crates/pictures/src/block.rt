@@ -17,7 +17,7 @@ use instruction_table::Row;
 use std::alloc::{AllocError, Global};
 use thread_machine::{Choice, Event, Machine, StepFault};
 
-/// Returns what a thread's column shows for its choice: its row, and what that did.
+/// Returns what a thread's column shows for its choice, the row and what it did, as `paaa r0 p = 1`.
 fn did(pen: &Pen<'_, '_>, choice: Choice, row: Row, event: &Event) -> Result<Vec<u8>, AllocError>
     ensures { IfOk result (λ text. text.items ≡ turn_text (column_room pen.now.sheet) (row_caption pen.now.symbols.now row)
         choice.expiry event.now.what) }
@@ -74,7 +74,7 @@ fn refused_words(alloc: Global, why: StepFault, thread: u8) -> Result<Vec<u8>, A
     Ok(words)
 }
 
-/// Returns the line of a refused choice in the block from thread `first` on.
+/// Returns the line of a choice refused for `why`, in the block from thread `first` on: `refused: limit` or `no thread t9`.
 fn refused_line(
     pen: &Pen<'_, '_>,
     machine: &Machine,

@@ -210,7 +210,7 @@ impl Teller {
         self.known.add(moment)
     }
 
-    /// Plays choices up to a refused one, and adds the moment before and after each.
+    /// Plays choices up to a refused one, and adds the moments before and after each to the known ones.
     fn know_all(
         &mut self,
         alloc: Global,
@@ -260,7 +260,7 @@ impl Teller {
         Ok(())
     }
 
-    /// Appends another run: the number of choices before it, and then its choices.
+    /// Appends another run: the line `other 5` if 5 choices precede it, and then its choices with their moments.
     fn add_other(
         &mut self,
         alloc: Global,

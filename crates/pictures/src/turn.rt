@@ -40,7 +40,7 @@ fn shows_row(what: What) -> bool
     )
 }
 
-/// Returns what follows the row: a blank and its result, or nothing for `Done`.
+/// Returns what follows the row: a blank and its result, as ` = 1`, or nothing for `Done`.
 fn answer(alloc: Global, what: What) -> Result<Vec<u8>, AllocError>
     ensures { IfOk result (λ text. text.items ≡ answer_text what) }
 {
@@ -52,7 +52,7 @@ fn answer(alloc: Global, what: What) -> Result<Vec<u8>, AllocError>
     Ok(text)
 }
 
-/// Returns what the column of the choice's thread shows: the row or `expiry`, and the result.
+/// Returns what the column of the choice's thread shows: the row or `expiry`, and the result. Some results are shown alone.
 pub fn turn_text(
     alloc: Global,
     room: usize,
@@ -107,7 +107,7 @@ fn marked(pen: &Pen<'_, '_>, mark: Mark) -> Result<Vec<u8>, AllocError>
     Ok(text)
 }
 
-/// Appends which phase a root has come into, or that it is terminated.
+/// Appends `: phase 1`, the phase that a root is in now, or `: terminated` for a negative view.
 fn push_view(text: &mut Vec<u8>, view: i32) -> Result<(), AllocError>
     ensures { OnOk result (text.new.items ≡ text.old.items ++ view_words view) }
 {
@@ -118,7 +118,7 @@ fn push_view(text: &mut Vec<u8>, view: i32) -> Result<(), AllocError>
     }
 }
 
-/// Returns what happened to the phaser or barrier, or nothing.
+/// Returns what happened to the phaser or barrier, as `: phase 1` or ` trips`, or nothing.
 fn mark_words(alloc: Global, mark: Mark) -> Result<Vec<u8>, AllocError>
     ensures { IfOk result (λ text. text.items ≡ mark_words mark) }
 {

@@ -77,7 +77,7 @@ fn numbered(part: Part, number: u32) -> Stored
     }
 }
 
-/// Returns how a choice that is made so many times is stored. Once needs no number.
+/// Returns how a choice that is made `times` times is stored. For once no number is stored.
 fn stored_choice(chosen: Chosen, times: u32) -> Stored
     ensures { Holds result (Word.Step (Step.Make chosen times)) }
 {
@@ -135,7 +135,7 @@ pub fn stored_word(word: Word) -> Stored
     }
 }
 
-/// Returns the word for a thread's turn or expiry, made so many times.
+/// Returns the word for a thread's turn, or with `expiry` for its expiry, made `times` times.
 fn choice(thread: u8, expiry: bool, times: u32) -> Word
     ensures { result ≡ Word.Step (Step.Make (record { thread = thread; expiry = expiry }) times) }
 {

@@ -47,7 +47,7 @@ impl Player {
         Ok(())
     }
 
-    /// Returns a rule's limit: without one, all that are left and one more, so that this is noted.
+    /// Returns the most choices of a rule. Without a limit that is one more than are left, so that running out is noted.
     fn most_of(&self, most: Option<u32>) -> u32
         ensures { result ≡ most_of most self.now }
     {

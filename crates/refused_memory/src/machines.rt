@@ -117,7 +117,7 @@ pub fn noting(trial: Trial) -> Answer {
     out_answer(trial, &mut machine, answered)
 }
 
-/// Returns the event of a step, without what takes it back.
+/// Returns the event of a step, or its fault. It drops what takes the step back, so that both ways to step are judged alike.
 fn noted(answered: Result<(Event, Undo), StepFault>) -> Result<Event, StepFault> {
     match answered {
         Ok((event, _)) => Ok(event),

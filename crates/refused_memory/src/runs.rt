@@ -73,7 +73,7 @@ fn stated(trial: Trial, machine: &Machine) -> Answer {
 /// A thread that goes round for ever.
 pub const ROUND: &[u8] = b".thread a m\nm: jmp m\n";
 
-/// Returns a schedule with so many turns of thread 0: a token for each, and not one for all.
+/// Returns a schedule with `choices` turns of thread 0: a token for each, and not one for all.
 pub fn rounds(alloc: Global, choices: u32) -> Result<Vec<u8>, AllocError> {
     let mut schedule = Vec::new(alloc);
     for _ in 0..choices {

@@ -77,7 +77,7 @@ fn answered(trial: Trial, mut debugger: Debugger, asked: Asked) -> Answer {
     answer(trial, &mut debugger, asked)
 }
 
-/// Tries what the debugger is asked for.
+/// Tries what `debugger` is asked for, after the two or three choices that it has played: a step, `go`, or a command.
 fn answer(trial: Trial, debugger: &mut Debugger, asked: Asked) -> Answer {
     match asked {
         Asked::Step => stepped(trial, debugger),

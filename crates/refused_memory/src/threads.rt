@@ -96,8 +96,8 @@ fn leads(alloc: Global, text: &[u8], schedule: &[u8], record: &Journaled) -> boo
     record.schedule() == schedule && leads_to(alloc, text, schedule, record.machine())
 }
 
-/// Tries to take a choice after these turns, which makes the record `schedule`. After `Memory` the record is as before, and
-/// then takes the choice.
+/// Tries to take `choice` after `turns`, which makes the record `schedule`. After `Memory` the record is as before, and then
+/// takes the choice.
 fn taking(trial: Trial, text: &[u8], turns: &[Run], choice: Choice, schedule: &[u8]) -> Answer {
     match record_of(trial.alloc, text) {
         Ok(record) => taken_behind(trial, text, record, turns, choice, schedule),

@@ -89,7 +89,7 @@ fn a_program_with_a_fault_is_not_played(rt: HostRuntime) {
     }
 }
 
-/// Returns whether a choice is played and taken back, and the machine then shows the same as before.
+/// Returns whether `choice` is played and taken back, and the machine then shows the same state as before.
 fn is_taken_back(alloc: Global, machine: &mut Machine, choice: Choice) -> bool {
     match state_text(alloc, machine) {
         Ok(before) => {

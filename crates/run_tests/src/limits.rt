@@ -32,7 +32,7 @@ fn ends_at_the_most(machine: &mut Machine) -> bool {
         && machine.step(EXPIRY) == Err(StepFault::StepLimit)
 }
 
-/// Returns the machine of a text, with this limit of steps.
+/// Returns the machine of a program's text, with this limit of steps, or `None` if the text has a fault.
 fn machine_of(alloc: Global, text: &str, limit: u32) -> Option<Machine>
     requires { limit ≤ 1000000000 }
 {

@@ -395,7 +395,7 @@ fn is_read(verdict: Verdict, number: u64, ended: LineEnded, line: &[u8]) -> bool
     names_line(verdict, number) && is_one(ended, line)
 }
 
-/// Compares a trace with the run from the comparison's world on. Returns the verdict, and whether the trace's line that it
+/// Compares a trace with the run that begins at the machine of `now`. Returns the verdict, and whether the trace's line that it
 /// names is the one that was read last. Equal lines are compared in their block, and any other line is read.
 pub(crate) fn compare_lines<S: Source>(
     alloc: Global,

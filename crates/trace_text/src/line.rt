@@ -186,7 +186,7 @@ pub fn put_refusal(line: &mut LineEnd, step: u64, choice: Choice, pc: Option<u16
     line.put_count(step);
 }
 
-/// Appends the line of a choice that a thread at this row has played. If it is out of memory, the text is as before.
+/// Appends the line of choice number `step`, which a thread at row `pc` has played. Without memory `text` is as before.
 pub fn event_line(
     text: &mut Vec<u8>,
     step: u64,

@@ -36,7 +36,7 @@ fn is_zero_cell(state: &[u8], subject: &[u8], words: &[u8]) -> bool
     words == b" 0".as_slice() && is_cell(subject) && line_of(state, subject).is_none()
 }
 
-/// Returns whether every thread has ended, so that none has died.
+/// Returns whether the run is over (`all` in the line `state`) and no thread has died: so every thread has ended.
 fn have_ended(state: &[u8]) -> bool
     ensures { result ≡ have_ended state.now }
 {

@@ -54,7 +54,7 @@ fn have_same_ends<const N: usize>(one: &[u8], other: &[u8]) -> bool
     are_same(first, other_first) && are_same(last, other_last)
 }
 
-/// Returns whether bytes begin with a text. It is fastest for a text of N to 2 N bytes.
+/// Returns whether bytes begin with a text. N matters only for speed: a text of N to 2 N bytes is compared fastest.
 #[inline(always)]
 pub fn begins_with<const N: usize>(bytes: &[u8], text: &[u8]) -> bool
     requires { length text.now ≤ length bytes.now }

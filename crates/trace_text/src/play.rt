@@ -79,7 +79,7 @@ fn push_refusal<W: Sink>(
     push_line(line.as_slice(), output)
 }
 
-/// Plays one choice and writes its line. `line` is its buffer. Returns the choice if it was refused.
+/// Plays one choice and writes its line, also if it is refused. `line` is its buffer. Returns the refused choice, or `None`.
 #[inline(always)]
 fn play_choice<W: Sink>(
     machine: &mut Machine,
@@ -165,7 +165,7 @@ pub fn own_line_of_choice(
     }
 }
 
-/// Plays one choice as often as the run says, up to a refusal. Returns the refused choice.
+/// Plays one choice as often as the run says, up to a refusal, and writes the lines. Returns the refused choice, or `None`.
 fn play_run<W: Sink>(
     machine: &mut Machine,
     run: &Run,

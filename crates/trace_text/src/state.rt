@@ -67,7 +67,7 @@ fn add_entry(text: &mut Vec<u8>, entry: Entry) -> Result<(), AllocError>
     }
 }
 
-/// Appends the entries of a thread's stack.
+/// Appends the entries of a thread's stack, each after a blank: none if the stack is empty.
 fn add_stack(text: &mut Vec<u8>, machine: &Machine, thread: u8) -> Result<(), AllocError>
     requires { thread < length machine.now.scene.threads }
     ensures text { OnOk result (text.new.items

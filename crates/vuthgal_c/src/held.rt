@@ -63,7 +63,7 @@ impl Held {
         self.reply.as_slice()
     }
 
-    /// Carries out a command, a line without its LF, and keeps the reply.
+    /// Carries out a command, a line without its LF, and keeps the reply. If there is no memory, it says whether this was done.
     pub fn command(&mut self, alloc: Global, line: &[u8]) -> Result<(), Unanswered>
         ensures done { OnOk result (Replies self.old.debugger (line_order line.now) self.new.debugger self.new.reply) }
         ensures none { result ≡ Err Unanswered.NotCarriedOut → self.new ≡ self.old }

@@ -16,7 +16,7 @@ pub struct Reply {
 }
 
 impl Reply {
-    /// Makes an empty reply that keeps at most `output` and `line` bytes of the output and the line: as many as the caller takes.
+    /// Makes an empty reply that keeps at most `output` bytes of the output and `line` bytes of the line: all that fit later.
     pub fn new(alloc: Global, output: usize, line: usize) -> Reply
         ensures shown { result.shown.written ≡ [] }
         ensures told { result.told.written ≡ [] }

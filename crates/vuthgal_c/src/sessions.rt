@@ -64,7 +64,7 @@ fn tell(fault: Fault, told: &mut CountingSink)
     }
 }
 
-/// Closes the session, if one is open, and opens one of `program`. Returns the status: 0, or a fault's, whose line is in `line`.
+/// Closes the session, if one is open, and opens one of `program`. Returns 0, or the status of a fault, with its `line`.
 #[unsafe(no_mangle)]
 pub extern "C" fn vuthgal_session_open(
     alloc: Global,

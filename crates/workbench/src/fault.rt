@@ -101,7 +101,7 @@ pub fn push_counted_line<E: Sink>(errors: &mut E, word: &[u8], count: u64) -> Re
     errors.push(b"\n")
 }
 
-/// Writes the number of a phaser that can't be declared, and the number of the reason.
+/// Writes the number of a phaser that can't be declared, and the number of the reason, as ` 0 2`.
 fn push_declare_place<E: Sink>(errors: &mut E, phaser: u8, why: u8) -> Result<(), Failed>
     ensures bytes { OnOk result (Appends (E.written errors.old) (E.written errors.new)
         (counted (codes " ") phaser ++ counted (codes " ") why)) }

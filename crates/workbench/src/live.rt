@@ -127,7 +127,7 @@ fn runs_of(alloc: Global, ran: Result<LiveRun, LiveFault>) -> Result<Vec<Run>, F
     }
 }
 
-/// Plays a program on real threads, and returns the choices that they made as runs.
+/// Plays a program on real threads, at most `limit` steps. Returns the choices that they made, or why it was broken off.
 fn recorded<R: Threads + Wait + Sync, G: Gate + Sync>(
     rt: &R,
     alloc: Global,

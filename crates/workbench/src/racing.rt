@@ -53,8 +53,8 @@ pub fn race_cmd<R: Threads + Wait + Sync, K: Sink, E: Sink>(
     )
 }
 
-/// `parties` threads meet `rounds` times at one phaser, and its line is written to `output`, as `race_cmd` says; or the fault
-/// is returned. Each thread reports each meeting to `pace`.
+/// Lets `parties` threads meet `rounds` times at one phaser, and writes its line `phase A parties B unarrived C`. Each thread
+/// reports each meeting to `pace`.
 pub fn race<R: Threads + Wait + Sync, P: Pace + Sync, K: Sink>(
     rt: &R,
     alloc: Global,

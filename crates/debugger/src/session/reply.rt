@@ -62,7 +62,7 @@ fn say<W: Sink>(output: &mut W, word: &[u8], number: u64, end: &[u8]) -> Result<
     output.push(&bytes[start..])
 }
 
-/// Writes how many choices `go` played before one was refused, and why that was refused.
+/// Writes how many choices `go` played before one was refused, and why that was refused, as `fault 2 limit`.
 fn say_fault<W: Sink>(output: &mut W, number: u64, fault: StepFault) -> Result<(), Failed>
     ensures line { OnOk result (Appends (W.written output.old) (W.written output.new)
         (stop_text (Stop.Fault number fault))) }
@@ -75,7 +75,7 @@ fn say_fault<W: Sink>(output: &mut W, number: u64, fault: StepFault) -> Result<(
     }
 }
 
-/// Writes how far `go` went: the reply to the command `g`. Fails if the output has failed.
+/// Writes how far `go` went, the reply to the command `g`, as `at 3` at a breakpoint. Fails if the output has failed.
 pub fn say_stop<W: Sink>(output: &mut W, stop: Stop) -> Result<(), Failed>
     ensures line { OnOk result (Appends (W.written output.old) (W.written output.new) (stop_text stop)) }
     ensures failed { OnErr result (IsTrue (W.has_failed output.new)) }

@@ -141,7 +141,7 @@ fn run<R: Threads + Wait + Sync, P: Pace + Sync>(
     )
 }
 
-/// Joins the callers of all threads, which have ended, to the first.
+/// Joins the callers of all threads, which have ended, to the first, so that it knows all their calls.
 fn gather<R: Threads>(rt: &R, phaser: &SharedPhaser, first: &mut Party, running: Vec<Running>)
     requires first { first.old.known.number ≡ 0 }
     requires phaser { phaser_of first.old ≡ phaser.now }
