@@ -167,7 +167,7 @@ fn push_planned<K: Sink>(
     Ok(planned.stopped)
 }
 
-/// Plays a plan on a program. Returns its runs of choices, and the names of the threads.
+/// Plays a plan on a program, which it uses up. Returns its runs of choices, and the names of the threads.
 fn planned_of<'a>(
     alloc: Global,
     program: Program<'a>,

@@ -27,7 +27,8 @@ pub fn phases_end_in_time()
     ensures { PhasesEndInTime }
 {}
 
-/// An arrival doesn't throw while a registered party is left to arrive, with the exceptions that `ArrivalsAreTaken` names.
+/// An arrival doesn't throw while a party registered with its phaser is left to arrive, unless its thread runs the tree's
+/// `onAdvance` or has no room on its stack for it. Excepted are terminated trees, and those with an unregistered arrival.
 pub fn arrivals_are_taken()
     ensures { ArrivalsAreTaken }
 {}

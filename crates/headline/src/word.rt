@@ -116,7 +116,7 @@ pub fn split(phaser: &SharedPhaser, first: &mut Party) -> Party
     phaser.split(first)
 }
 
-/// Joins a caller to the first, which then has seen one legal history of what either had seen.
+/// Joins the caller `other` to the first, which then knows one legal history that has the calls of both.
 pub fn join(phaser: &SharedPhaser, first: &mut Party, other: Party)
     requires first { first.old.known.number ≡ 0 }
     requires phaser { phaser_of first.old ≡ phaser.now }
@@ -127,8 +127,8 @@ pub fn join(phaser: &SharedPhaser, first: &mut Party, other: Party)
     phaser.join(first, other)
 }
 
-/// Returns the word that is left: that of the phaser after one legal history. It has the calls of all who were joined, each
-/// once and in order, and no other if none is missing.
+/// Closes the phaser and returns its last packed state, after a legal history that has each call of all joined callers once,
+/// in each caller's order, and no other call if none is missing.
 pub fn close(phaser: SharedPhaser, first: Party) -> Word
     requires first { first.known.number ≡ 0 }
     requires phaser { phaser_of first ≡ phaser }

@@ -68,7 +68,7 @@ fn missing_for(forest: &Forest, id: PhaserId) -> PhaserId
 }
 
 /// Appends to `front` how many have arrived at this phaser, if a party is missing here. If one is missing further up, appends
-/// to `front` the name of that phaser, and to `back` how many have arrived there.
+/// to `front` ` (arrived at ` and the name of that phaser, and to `back` how many have arrived there.
 fn push_arrived_at(
     pen: &Pen<'_, '_>,
     front: &mut Vec<u8>,

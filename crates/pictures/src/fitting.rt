@@ -6,7 +6,7 @@ ghost use Rattle.pictures.specs.Sheet.{blanks, kept_behind, number_text, put_at,
 use itoa::Buffer;
 use std::alloc::{AllocError, Global};
 
-/// Appends so many blanks.
+/// Appends `count` blanks.
 fn push_blanks(text: &mut Vec<u8>, count: usize) -> Result<(), AllocError>
     ensures { OnOk result (text.new.items ≡ text.old.items ++ blanks count) }
 {
@@ -34,7 +34,7 @@ pub fn push_value(text: &mut Vec<u8>, word: &[u8], value: i32) -> Result<(), All
     text.extend_from_slice(Buffer::new().format(value).as_bytes())
 }
 
-/// Appends the number of a choice, with blanks before it up to six bytes.
+/// Appends the number of a choice, with blanks before it so that both have six bytes. A longer number has no blank.
 pub fn push_number(text: &mut Vec<u8>, number: u64) -> Result<(), AllocError>
     ensures { OnOk result (text.new.items ≡ text.old.items ++ number_text number) }
 {

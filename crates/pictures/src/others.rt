@@ -86,7 +86,7 @@ fn is_other(machine: &Machine, own: &[Choice], choice: Choice) -> bool
     is_ready(machine, choice) && !is_next(own, choice)
 }
 
-/// Returns how many choices another run may have: 100 more than `own`, up to 2,000 from the start.
+/// Returns how many choices another run may have: 100 more than `own` has left, but at most 2,000 from the run's start.
 fn room_for(machine: &Machine, own: &[Choice]) -> u32
     requires { length own.now ≤ most_choices }
     ensures { result ≡ room_for (world_of machine.now) own.now }

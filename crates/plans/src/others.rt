@@ -32,7 +32,7 @@ impl Player {
         self.follow(alloc, Rule::Alone(choice.thread), MOST_TURNS)
     }
 
-    /// Makes a choice of the run's own if it is a step now, and otherwise nothing: the run has changed before it.
+    /// Makes a choice of the run's own if it is a step now, and otherwise nothing: other choices have come before it.
     #[tactic(auto, unfolding(crate::specs::Others::kept))]
     fn keep(&mut self, choice: Choice) -> Result<(), AllocError>
         ensures { OnOk result (self.new ≡ kept choice self.old) }

@@ -1,4 +1,4 @@
-//! Trees of phasers, and machines.
+//! Trees of phasers, and machines. A try of a call, from `begin` to `end`, is `Right`, out of `Memory`, or `Wrong`.
 
 use crate::programs::{FIRST, MEETING, goes_on, is_at, meeting_after, program_of};
 use crate::trial::{Answer, Trial};

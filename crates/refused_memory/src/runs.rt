@@ -1,4 +1,5 @@
 //! Lines of traces, states, runs whose trace is written, and traces that are compared.
+//! A try of a call, from `begin` to `end`, is `Right`, out of `Memory`, or `Wrong`.
 
 use crate::programs::{FIRST, image_of, meeting_after, shows, trace_of};
 use crate::trial::{Answer, Trial};

@@ -1,4 +1,4 @@
-//! Schedules that are read and written.
+//! Schedules that are read and written. A try of a call, from `begin` to `end`, is `Right`, out of `Memory`, or `Wrong`.
 
 use crate::trial::{Answer, Trial};
 use schedule_reader::{Reader, Run, ScheduleFault, write_schedule};

@@ -1,4 +1,4 @@
-//! The debugger.
+//! The debugger. A try of a call, from `begin` to `end`, is `Right`, out of `Memory`, or `Wrong`.
 
 use crate::programs::{FIRST, TURNS, is_at, meeting_after};
 use crate::trial::{Answer, Trial};

@@ -47,7 +47,7 @@ fn swept(alloc: Global, all: bool, call: Call) -> Outcome {
     Outcome::Wrong(MOST)
 }
 
-/// Returns in words whether both calls, the second with a longer run, make as many requests: 0 if no library refuses memory.
+/// Returns in words whether both calls, the second with a longer run, make as many requests. `many` is 0 without the library.
 fn compared(short: Outcome, long: Outcome) -> &'static str {
     match (short, long) {
         (Outcome::Refused { requests: few, .. }, Outcome::Refused { requests: many, .. }) => {

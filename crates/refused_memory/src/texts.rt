@@ -1,4 +1,4 @@
-//! Texts, images and programs.
+//! Texts, images and programs. A try of a call, from `begin` to `end`, is `Right`, out of `Memory`, or `Wrong`.
 
 use crate::programs::{image_of, program_of, shows};
 use crate::trial::{Answer, Trial};

@@ -1,4 +1,5 @@
 //! Real threads: the record of their run, the phaser between them, and whole runs.
+//! A try of a call, from `begin` to `end`, is `Right`, out of `Memory`, or `Wrong`.
 
 use crate::marks;
 use crate::programs::{FIRST, MEETING, SECOND, is_at, program_of, trace_of};

@@ -189,12 +189,12 @@ fn goes_on_and_back(debugger: &mut Debugger) -> bool {
         && session::present(debugger).steps() == 1
 }
 
-/// Returns a session of the meeting that keeps one choice.
+/// Returns a session of the meeting before its first choice, which keeps one choice.
 fn begun(alloc: Global) -> Option<Debugger> {
     session::begin(alloc, met(alloc, &[])?, 1).ok()
 }
 
-/// A session that keeps one choice takes back one, and no second one.
+/// A session that keeps one choice takes back one, and no second one, though it has played two.
 #[test]
 fn a_session_steps_on_and_back(rt: HostRuntime) {
     match begun(rt.alloc()) {
@@ -344,7 +344,8 @@ fn a_turn_is_recorded(rt: HostRuntime) {
     }
 }
 
-/// One party meets itself. A second is registered; one of both leaves, the other ends phase 1. A wait for phase -5 returns -5.
+/// One party meets itself. A second one is registered; one of both leaves, and the other ends phase 1. In phase 2 the phaser
+/// is terminated. A wait for phase -5, which is no phase, returns -5.
 #[test]
 fn calls_are_made_on_a_shared_phaser(rt: HostRuntime) -> Result<(), Fail> {
     let made = new(rt.alloc(), 1, Policy::Default, Phase::prevailing(0));

@@ -124,7 +124,7 @@ fn is_whole(case: &Case, came: &Came) -> bool {
     came.status == 0 && came.output.bytes() == case.whole && came.errors.bytes().is_empty()
 }
 
-/// Returns whether a command reports by status 5 and a line that the port `failing` failed, after a beginning of its output.
+/// Returns whether a command has status 5 and the line `write`, or `read` if an input failed, after a beginning of its output.
 fn is_cut(case: &Case, came: &Came, failing: Port) -> bool {
     let line: &[u8] = if failing == Port::Output {
         b"write\n"

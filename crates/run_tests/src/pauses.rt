@@ -48,7 +48,7 @@ impl Pausing for Notes {
     }
 }
 
-/// The pause before each pass is the one that seed, run and step determine.
+/// In two runs of four passes, the pause before each pass is the one that seed, run and step determine.
 #[test]
 fn each_run_has_pauses_of_its_own(rt: HostRuntime) -> Result<(), Fail> {
     let zeros = || [0; 8].map(AtomicU32::new);

@@ -77,7 +77,8 @@ static ROWS: [Row; 9] = [
     ),
 ];
 
-/// Returns whether the choice of `token` (`t0`, `x1`) is taken, or refused: `!` not runnable, `#` by the limit. `~` waits.
+/// Returns whether the choice of `token` (`t0`, `x1`) is taken, or refused: `!` as not runnable, `#` by the limit of steps.
+/// With `~` it is taken, and its thread begins to wait.
 fn takes(journaled: &mut Journaled, token: &str) -> bool {
     let [kind, digit, rest @ ..] = token.as_bytes() else {
         return false;

@@ -110,7 +110,7 @@ fn arrives(forest: &mut Forest, id: u8, answer: Arrived) -> bool {
     }
 }
 
-/// Ends the phase if `root` is a turned root that may end it, with `ends` for ever. Returns whether it has ended.
+/// Ends the phase of `root`, if that is a turned root that may end it; `ends` terminates it. Returns whether this was done.
 fn end_turned_phase(forest: &mut Forest, root: PhaserId, ends: bool) -> bool
     requires { root.0 < length forest.old }
     ensures ended { result ≡ true

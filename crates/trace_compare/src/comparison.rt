@@ -368,7 +368,7 @@ impl Comparison {
     }
 }
 
-/// Returns whether what was read last is a line: no bytes after the last LF aren't one.
+/// Returns whether what was read last is a line: only an empty rest after the trace's last LF isn't one.
 fn is_one(ended: LineEnded, line: &[u8]) -> bool
     ensures { result ≡ is_one ended line.now }
 {
@@ -388,7 +388,7 @@ fn names_line(verdict: Verdict, number: u64) -> bool
     }
 }
 
-/// Returns whether the line that was read last, with this number, is the one that a verdict names.
+/// Returns whether the line that was read last, which has this number, is there at all and is the one that a verdict names.
 fn is_read(verdict: Verdict, number: u64, ended: LineEnded, line: &[u8]) -> bool
     ensures { result ≡ (names_line verdict number && is_one ended line.now) }
 {

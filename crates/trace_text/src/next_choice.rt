@@ -29,7 +29,7 @@ fn are_same<const N: usize>(one: &[u8; N], other: &[u8; N]) -> bool
     *one == *other
 }
 
-/// Returns whether two texts of N to 2 N bytes are equal, by their first N and their last N, which may overlap.
+/// Returns whether two texts of N to 2 N bytes are equal, by their first N and their last N, which may overlap: two fast looks.
 #[inline(always)]
 #[tactic(auto, using(crate::proofs::Words::ends_same))]
 fn have_same_ends<const N: usize>(one: &[u8], other: &[u8]) -> bool

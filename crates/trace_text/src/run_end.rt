@@ -48,7 +48,7 @@ fn row_of(machine: &Machine, choice: Choice) -> Option<u16>
     }
 }
 
-/// Returns what is reported of a choice that this machine has refused: number, line and cause.
+/// Returns what is reported of a choice that this machine has refused: its number, its line and the cause.
 fn told(machine: &Machine, refused: Refused) -> Refusal
     ensures { result ≡ told_as (world_of machine.now) refused }
 {

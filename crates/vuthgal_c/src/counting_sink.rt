@@ -28,7 +28,7 @@ impl Model for CountingSink {
 }
 
 impl CountingSink {
-    /// Makes a sink that keeps at most `most` bytes. It allocates as they come.
+    /// Makes a sink that keeps at most `most` bytes. It allocates no memory before bytes come.
     pub fn new(alloc: Global, most: usize) -> CountingSink
         ensures { result ≡ record { written = []; kept = [] } }
     {
@@ -55,7 +55,7 @@ impl CountingSink {
         self.count
     }
 
-    /// Returns whether it has kept everything that fits a buffer of this size.
+    /// Returns whether it has kept everything that fits a buffer of `room` bytes: out of memory it hasn't.
     pub fn has_kept(&self, room: usize) -> bool
         ensures { IsTrue result ↔ (min (length self.now.written) room ≤ length self.now.kept) }
     {

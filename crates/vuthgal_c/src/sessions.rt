@@ -19,7 +19,7 @@ use workbench::program::program_in;
 /// The status where a handle has no session.
 const CLOSED: u8 = 6;
 
-/// Returns a session of the program in a file, before its first command.
+/// Returns a session of the program in a file, before its first command. A file of more than 16,777,216 bytes is `Read`.
 fn held_of(alloc: Global, file: &[u8]) -> Result<Held, Fault>
     ensures first { IfOk result (λ held. IsFirstOf file.now held) }
     ensures limit { OnOk result (length file.now ≤ most_bytes) }

@@ -124,7 +124,7 @@ fn going_on(done: Result<(), CommandFault>) -> Result<bool, CommandFault>
 }
 
 impl Debugger {
-    /// Plays a choice as the command `s` does, and writes its line. It takes no memory but for what is put out.
+    /// Plays a choice as the command `s` does, and writes its line, also if it is refused. Only a value put out takes memory.
     fn step_command<W: Sink>(&mut self, choice: Choice, output: &mut W) -> Result<(), CommandFault>
         ensures { IsCarriedOut (wants_memory self.old (Step choice) ≡ true) result self.old (Step choice) self.new
             (W.written output.old) (W.written output.new) (W.has_failed output.new) }
