@@ -154,7 +154,7 @@ impl Player {
         }
     }
 
-    /// Returns the number of the thread chosen last, plus 1: there the rule `..` begins to look. It is 0 before the first choice.
+    /// Returns the number of the thread chosen last, plus 1: there the rule `..` begins to look. 0 before the first choice.
     pub fn next(&self) -> u8
         ensures { result ≡ self.now.next }
     {
