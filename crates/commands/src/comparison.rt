@@ -13,8 +13,9 @@ use trace_compare::{CompareFault, Judged, Verdict, judge};
 use workbench::compare::push_verdict;
 use workbench::fault::Fault;
 
-/// Does what `compare_cmd` does. After `differs LINE` it also writes the lines `trace ..` and `run ..`, with only the word if
-/// there is no such line, and after `not a trace LINE` the line `trace ..`, and what a line has to be.
+/// Compares a trace with an image's run, and writes the line of the verdict. After `differs LINE` it also writes the lines
+/// `trace ..` and `run ..`, with only the word if there is no such line, and after `not a trace LINE` the line `trace ..`, and
+/// what a line has to be.
 pub fn show_comparison<S: Source, K: Sink>(
     alloc: Global,
     image: Image,
@@ -35,7 +36,8 @@ pub fn show_comparison<S: Source, K: Sink>(
     }
 }
 
-/// Makes the lines that follow the verdict, and then writes them after it.
+/// Writes the line of the verdict and the lines that follow it. Those are made first, so nothing is written if there is no
+/// memory for them.
 fn push_judged<K: Sink>(alloc: Global, judged: &Judged, output: &mut K) -> Result<(), Fault>
     ensures bytes { OnOk result ((shown : List ℕ) × (StandsBehind judged.now.told.verdict judged.now.trace judged.now.told.line shown
         × Appends (K.written output.old) (K.written output.new) (verdict_line judged.now.told.verdict ++ shown))) }

@@ -57,7 +57,7 @@ fn behind_first_line(text: &[u8]) -> &[u8]
     &text[end..]
 }
 
-/// Returns the text by which end states are compared: `state`, the word, and the state's lines.
+/// Returns the text by which end states are compared: `state` and `word`, and the lines of `state` after the first.
 fn text_with(alloc: Global, word: &[u8], state: &[u8]) -> Result<Vec<u8>, AllocError>
     ensures { IfOk result (λ text. text.items ≡ codes "state " ++ (word.now ++ (10 ∷ behind_first_line state.now))) }
 {
@@ -69,7 +69,7 @@ fn text_with(alloc: Global, word: &[u8], state: &[u8]) -> Result<Vec<u8>, AllocE
 }
 
 impl EndState {
-    /// Returns the end state of a machine whose run ended so.
+    /// Returns the end state of `machine`, whose run ended as `ending` says.
     pub fn of(alloc: Global, ending: Ending, machine: &Machine) -> Result<EndState, AllocError>
         ensures { IfOk result (λ end. end.text.items ≡ end_text ending (world_of machine.now)) }
     {

@@ -10,7 +10,7 @@ use line_reader::listing::rows::push_row;
 use row_code::Image;
 use std::alloc::{AllocError, Global};
 
-/// Appends the line of a row: its number and its canonical text.
+/// Appends the line of row `n`: its number and its canonical text, as `0 paaa r0 #0`.
 #[tactic(auto, using(line_reader::proofs::ListedTexts::word_steps))]
 fn push_numbered(listing: &mut Vec<u8>, n: u64, row: Row) -> Result<(), AllocError>
     ensures { OnOk result (listing.new.items
@@ -21,7 +21,7 @@ fn push_numbered(listing: &mut Vec<u8>, n: u64, row: Row) -> Result<(), AllocErr
     push_row(listing, row)
 }
 
-/// Appends a line for each of these rows, numbered from 0.
+/// Appends a line for each of these rows, its number, from 0, and its canonical text.
 #[tactic(auto, using(line_reader::proofs::ListedTexts::text_steps))]
 fn push_image_rows(listing: &mut Vec<u8>, rows: &[Row]) -> Result<(), AllocError>
     ensures { OnOk result (listing.new.items

@@ -89,7 +89,7 @@ fn outcomes_of<R: Threads + Wait + Sync, G: Pausing + Sync>(
     }
 }
 
-/// Writes the outcomes of all runs in one piece, and returns whether they ended as expected.
+/// Writes the lines of all outcomes in one piece. Returns `AsAsked` if each is as `expected`, and otherwise `Unlike`.
 fn push_outcomes<K: Sink>(
     alloc: Global,
     expected: &[Vec<u8>],

@@ -15,7 +15,7 @@ use schedule_reader::{Run, write_schedule};
 use std::alloc::{AllocError, Global};
 use thread_machine::Choice;
 
-/// Returns a choice by its thread's name, with an `x` before it for an expiry.
+/// Returns a choice by its thread's name, as `ann`, or `xann` for an expiry. If the thread has no name, this is left out.
 #[tactic(auto, using(crate::proofs::Naming::name_at))]
 fn name_word(alloc: Global, names: &[&[u8]], choice: Choice) -> Result<Vec<u8>, AllocError>
     ensures { IfOk result (λ word. word.items ≡ name_word (map name_seen names.now) choice) }
@@ -52,7 +52,7 @@ fn is_once(choice: Choice, word: Word) -> bool
     }
 }
 
-/// Returns whether a plan of this text makes this choice once, and nothing else.
+/// Returns whether a plan of this text makes `choice` once, and nothing else. A text with a fault doesn't.
 fn is_only(alloc: Global, names: &[&[u8]], text: &[u8], choice: Choice) -> Result<bool, AllocError>
     requires { length names.now ≤ 64 }
     ensures { IfOk result (λ is. is ≡ is_only choice (words_in_plan (map name_seen names.now) text.now)) }
@@ -77,7 +77,7 @@ fn is_only(alloc: Global, names: &[&[u8]], text: &[u8], choice: Choice) -> Resul
     Ok(is_once(choice, first))
 }
 
-/// Returns a choice by name if a plan reads the name as this choice, and otherwise by number.
+/// Returns a choice by name if a plan reads that as this choice, and otherwise by number, as `x0` if a thread is called `xann`.
 fn choice_word(alloc: Global, names: &[&[u8]], choice: Choice) -> Result<Vec<u8>, AllocError>
     requires { length names.now ≤ 64 }
     ensures { IfOk result (λ word. word.items ≡ choice_word (map name_seen names.now) choice) }
@@ -100,7 +100,7 @@ fn push_times(text: &mut Vec<u8>, times: u32) -> Result<(), AllocError>
     text.extend_from_slice(Buffer::new().format(times).as_bytes())
 }
 
-/// Appends a run as a plan's word: a choice and its count.
+/// Appends a run as a plan's word, a choice and its count: `ann*3`, or `t2` if the name means something else.
 #[tactic(auto, using(crate::proofs::Reports::text_steps))]
 fn push_token(
     alloc: Global,
@@ -116,7 +116,7 @@ fn push_token(
     push_times(text, run.times)
 }
 
-/// Returns the words for these runs, with a space between them.
+/// Returns the words for `first` and the runs of `rest`, with a space between them, as `ann*3 bob`.
 #[tactic(auto, using(crate::proofs::Reports::text_steps))]
 fn tokens(alloc: Global, names: &[&[u8]], first: Run, rest: &[Run]) -> Result<Vec<u8>, AllocError>
     requires { length names.now ≤ 64 }
@@ -132,7 +132,7 @@ fn tokens(alloc: Global, names: &[&[u8]], first: Run, rest: &[Run]) -> Result<Ve
     Ok(text)
 }
 
-/// Returns a plan that makes the choices of these runs, with a word for each run.
+/// Returns a plan that makes the choices of these runs, with a word for each run: an empty one if there are none.
 pub fn named_text(alloc: Global, names: &[&[u8]], runs: &[Run]) -> Result<Vec<u8>, AllocError>
     requires { length names.now ≤ 64 }
     ensures { IfOk result (λ text. text.items ≡ named_text (map name_seen names.now) runs.now) }

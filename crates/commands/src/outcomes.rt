@@ -55,7 +55,7 @@ pub fn add(
     Ok(())
 }
 
-/// Puts the state in which most runs ended first.
+/// Sorts the states by how many runs ended in them, the most frequent first.
 pub fn sort(outcomes: &mut Outcomes) -> Result<(), AllocError>
     ensures sorted { OnOk result (IsMostFrequentFirst outcomes.new.entries) }
     ensures same { OnOk result ((runs : List Ended) → AreOutcomes runs outcomes.old.entries

@@ -27,7 +27,7 @@ pub struct RunGate<'a, G> {
 }
 
 impl Pauses {
-    /// Returns the gate of the run of this number. Each run has other pauses.
+    /// Returns the gate of run number `run`, which has pauses of its own, or none without a seed. Then `behind` is passed.
     pub fn of_run<'a, G>(self, run: u32, behind: &'a G) -> RunGate<'a, G>
         ensures stirred { result.stirred ≡ option_map (λ seed. record { seed = seed; run = run }) self.seed }
         ensures behind { result.behind.now ≡ behind.now }

@@ -57,7 +57,7 @@ pub fn thread_names<'a>(
     Ok(names)
 }
 
-/// Loads an image's program, and returns it with the names of its threads.
+/// Loads an image's program, and returns it with the names of its threads, in order. A thread without a name has an empty one.
 pub fn loaded_program<'a>(
     alloc: Global,
     image: Image,
@@ -142,7 +142,7 @@ pub fn planned_in(alloc: Global, program: &Program<'_>, plan: &[u8]) -> Result<P
     planned_on(alloc, loaded, names.as_slice(), plan)
 }
 
-/// Writes a plan's choices as a line, by names if given. Returns whether the plan was cut off.
+/// Writes a plan's choices as a line, with `names` if given. Returns whether the plan was cut off at 1,000,000 choices.
 fn push_planned<K: Sink>(
     alloc: Global,
     planned: &Planned,
@@ -167,7 +167,7 @@ fn push_planned<K: Sink>(
     Ok(planned.stopped)
 }
 
-/// Plays a plan on a program. Returns its runs of choices, and the names of the threads.
+/// Plays a plan on a program, which it uses up. Returns its runs of choices, and the names of the threads.
 fn planned_of<'a>(
     alloc: Global,
     program: Program<'a>,
@@ -208,7 +208,8 @@ pub fn plan<K: Sink>(
     push_planned(alloc, &planned, None, output)
 }
 
-/// Does what `plan` does, but writes names in place of numbers, so that the line is a plan.
+/// Writes the schedule that a plan stands for as one line with names for numbers, which is a plan, too. Returns whether the
+/// plan needed more than 1,000,000 choices. Then the choices so far are written.
 pub fn plan_with_names<K: Sink>(
     alloc: Global,
     program: Program<'_>,

@@ -45,7 +45,7 @@ fn push_seed(text: &mut Vec<u8>, seed: Option<u64>) -> Result<(), AllocError>
     Ok(())
 }
 
-/// Appends a schedule, by these names if there are some. One with a fault stays as it is.
+/// Appends a schedule: as a plan with `names` if there are some, and as it is if there are none or it has a fault.
 fn push_schedule(
     alloc: Global,
     text: &mut Vec<u8>,
@@ -68,7 +68,7 @@ fn push_schedule(
     }
 }
 
-/// Appends the seed, the schedule and the line end of an outcome.
+/// Appends the seed, if any, the schedule and the line end of an outcome, as `?7 t0 t1*2`, with `names` if there are some.
 #[tactic(auto, using(crate::proofs::Reports::text_steps))]
 fn push_order(
     alloc: Global,
@@ -85,7 +85,7 @@ fn push_order(
     text.extend_from_slice(b"\n")
 }
 
-/// Appends an outcome's line: how many runs ended so, the state's word, and the first's schedule.
+/// Appends an outcome's line, as `12 stuck t0 t1*2`: how many runs ended so, the state's word, and the first one's schedule.
 #[tactic(auto, using(crate::proofs::Reports::text_steps))]
 fn push_line(
     alloc: Global,
@@ -154,7 +154,7 @@ fn is_as_expected(expected: &[Vec<u8>], state: &EndState) -> bool
     are_met(state.text.as_slice(), expected)
 }
 
-/// Returns whether every state that a run ended in is as all these texts expect.
+/// Returns whether every state that a run ended in is as all these texts expect: so if no texts are given.
 fn are_as_expected(expected: &[Vec<u8>], outcomes: &Outcomes) -> bool
     ensures { result ≡ are_as_expected expected.now outcomes.now.entries }
 {

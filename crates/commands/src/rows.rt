@@ -26,7 +26,7 @@ pub fn list_rows<K: Sink>(alloc: Global, program: &Program<'_>, output: &mut K) 
     }
 }
 
-/// Returns the listing of a program's rows, by its text or else by its image.
+/// Returns the listing of a program's rows: for a text with the lines that have the rows, for an image with canonical text.
 fn listed(alloc: Global, program: &Program<'_>) -> Result<Vec<u8>, AllocError>
     requires { IsNamedProgram program.now.bytes.now program.now.image program.now.names }
     ensures { IfOk result (λ listing. IsRowListing program.now.bytes.now listing.items) }

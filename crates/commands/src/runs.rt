@@ -46,7 +46,7 @@ fn run_once<R: Threads + Wait + Sync, G: Gate + Sync>(
     }
 }
 
-/// Returns a schedule in which choices that repeat have one token, as it is shown.
+/// Returns a schedule in which a choice that repeats has one token, as `t0*3` for `t0 t0 t0`. This is how it is shown.
 fn shown(alloc: Global, schedule: &[u8]) -> Result<String, Fault>
     requires { length schedule.now ≤ 4000000000 }
     ensures fault { OnOk result ((finished_schedule schedule.now).fault ≡ None) }
@@ -68,7 +68,7 @@ fn shown(alloc: Global, schedule: &[u8]) -> Result<String, Fault>
     }
 }
 
-/// Counts the state in which a live run ended, with the run's schedule.
+/// Counts the state in which a live run ended. If it is the first such run, its schedule is kept.
 fn add_run(alloc: Global, run: &LiveRun, outcomes: &mut Outcomes) -> Result<(), Fault>
     requires few { length run.now.schedule.items ≤ 4000000000 }
     requires outcomes { (other : EndState) → IfSome (get is_state outcomes.old other) (λ outcome. outcome.times < 4294967295) }
@@ -88,8 +88,8 @@ fn add_run(alloc: Global, run: &LiveRun, outcomes: &mut Outcomes) -> Result<(), 
     }
 }
 
-/// Plays a program `count` times, and counts the states in which the runs ended. The threads of each run pause as its number
-/// says, and then pass `gate`.
+/// Plays a program `count` times, and counts the states in which the runs ended. The threads of each run make the pauses for
+/// its number, and after each pass `gate`.
 pub fn add_runs<R: Threads + Wait + Sync, G: Pausing + Sync>(
     rt: &R,
     alloc: Global,

@@ -60,7 +60,7 @@ pub struct Unlike {
     pub state: Vec<u8>,
 }
 
-/// Appends `*` and the most choices of an order, if that is given.
+/// Appends `*` and the most choices of an order, as `*100`, or nothing if no limit is given.
 #[tactic(auto, using(crate::proofs::Reports::text_steps))]
 fn push_limit(text: &mut Vec<u8>, limit: Option<u32>) -> Result<(), AllocError>
     ensures { OnOk result (text.new.items ≡ text.old.items ++ limit_mark limit) }
@@ -72,7 +72,8 @@ fn push_limit(text: &mut Vec<u8>, limit: Option<u32>) -> Result<(), AllocError>
     Ok(())
 }
 
-/// Returns a plan that does what `plan` says and then makes choices by the seed, up to the limit.
+/// Returns a plan that does what `plan` says and then makes choices by the seed, up to the limit, as `ann` LF `?7*100`. The
+/// LF ends a comment in `plan`.
 #[tactic(auto, using(crate::proofs::Reports::text_steps))]
 fn plan_by(alloc: Global, plan: &[u8], limit: Option<u32>, seed: u64) -> Result<Vec<u8>, AllocError>
     ensures { IfOk result (λ text. text.items ≡ plan_by plan.now limit seed) }
@@ -95,7 +96,7 @@ fn ending_of(machine: &Machine) -> Ending
     }
 }
 
-/// Returns the run of this seed if it ended unlike expected, or else `None`.
+/// Returns the run of this seed if the state in which it ended isn't as all of `expected` say, or else `None`.
 #[tactic(auto, using(crate::proofs::Seeded::judged))]
 fn judged(
     alloc: Global,
@@ -118,7 +119,7 @@ fn judged(
     }))
 }
 
-/// Plays a plan, and then choices by a seed, on a copy of a program.
+/// Plays `plan`, and then choices by `seed`, at most `limit` if that is given, on a copy of a program.
 fn planned_by_seed(
     alloc: Global,
     program: &Loaded,
@@ -144,7 +145,7 @@ fn planned_by_seed(
     planned_on(alloc, program, names, text.as_slice())
 }
 
-/// Counts the state in which a seed's run ended. Returns the run if it ended unlike expected.
+/// Counts the state in which a seed's run ended. Returns the run if that isn't as expected, or else `None`.
 fn add_planned(
     alloc: Global,
     planned: &Planned,
@@ -166,7 +167,7 @@ fn add_planned(
     Ok(unlike)
 }
 
-/// Plays a seed's run and counts its end. Returns the run if it ended unlike expected.
+/// Plays a seed's run and counts the state in which it ended. Returns the run if that isn't as expected, or else `None`.
 fn add_order(
     alloc: Global,
     program: &Loaded,
@@ -203,7 +204,7 @@ struct Tally {
     unlike: Option<Unlike>,
 }
 
-/// Plays each seed's run. Returns how many ended in each state, and the first unlike expected.
+/// Plays each seed's run. Returns how many ended in each state, and the first run that didn't end as expected, if any.
 fn counted(
     alloc: Global,
     program: &Loaded,
@@ -232,7 +233,7 @@ fn counted(
     Ok(Tally { outcomes, unlike })
 }
 
-/// Does what `counted` does, and puts the most frequent state first.
+/// Plays each seed's run. Returns how many ended in each state, the most frequent first, and the first run not as expected.
 fn tally_of(
     alloc: Global,
     program: Loaded,
@@ -260,7 +261,8 @@ fn tally_of(
     }
 }
 
-/// Loads a program and does what `tally_of` does. Also returns the names of the threads.
+/// Loads a program and plays each seed's run. Returns how many ended in each state, the most frequent first, and the first run
+/// not as expected. Also returns the names of the threads.
 fn tally_in<'a>(
     alloc: Global,
     program: Program<'a>,

@@ -36,7 +36,7 @@ fn trimmed(line: &[u8]) -> &[u8]
     line.trim_ascii()
 }
 
-/// Appends a line of the listing: the row's number, the number of its line in the text, the line.
+/// Appends a line of the listing, as `0 5 main: paaa r0 p`: the row's number, its line's number in the text, and that line.
 #[tactic(auto, using(line_reader::proofs::ListedTexts::word_steps))]
 fn push_text_row(
     listing: &mut Vec<u8>,
@@ -55,7 +55,7 @@ fn push_text_row(
     listing.extend_from_slice(b"\n")
 }
 
-/// Appends a line for each row. Row 0 is in the line of the first number, and so on.
+/// Appends a line for each row. Row n is in the text's line number `numbers[n]`, counted from 1.
 #[tactic(auto, using(line_reader::proofs::ListedTexts::text_steps))]
 fn push_text_rows(listing: &mut Vec<u8>, lines: &[&[u8]], numbers: &[u64]) -> Result<(), AllocError>
     ensures { OnOk result (listing.new.items ≡ listing.old.items

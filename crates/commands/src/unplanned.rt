@@ -56,7 +56,7 @@ impl Unplanned {
         }
     }
 
-    /// Writes the line of this fault for standard error, in pieces and without memory.
+    /// Writes the line of this fault for standard error, as `refused plan 2 4`, in pieces, so that it needs no memory.
     pub fn tell<E: Sink>(self, errors: &mut E) -> Result<(), Failed>
         ensures bytes { OnOk result (Appends (E.written errors.old) (E.written errors.new)
             (unplanned_line self)) }

@@ -28,7 +28,7 @@ fn differing(alloc: Global, trace: Option<&[u8]>, run: Option<&[u8]>) -> Result<
     Ok(text)
 }
 
-/// Returns the line `trace ..`, and one that says what a trace's line may be.
+/// Returns the line `trace ..`, with only the word without a line, and one that says what a trace's line may be.
 fn not_a_trace(alloc: Global, trace: Option<&[u8]>) -> Result<Vec<u8>, AllocError>
     ensures { IfOk result (λ text. text.items ≡ line_behind (codes "trace") (option_map (λ l. l.now) trace.entry) ++ wanted) }
 {

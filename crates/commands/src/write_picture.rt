@@ -41,7 +41,7 @@ pub fn make<P: Picture, S: Source, K: Sink>(
     write(alloc, picture, program, choices.as_slice(), output)
 }
 
-/// Returns the program and the schedule of a file: an image has none, and a text has it after its line `.run`.
+/// Returns the program and the schedule of a file: a text has one after its line `.run`. An image, or a text without, has none.
 pub fn parts_of(file: &[u8]) -> (&[u8], &[u8])
     ensures program { result.0.now ≡ program_of file.now }
     ensures schedule { result.1.now ≡ schedule_behind file.now }
@@ -54,7 +54,7 @@ pub fn parts_of(file: &[u8]) -> (&[u8], &[u8])
     }
 }
 
-/// Writes the picture of a program and a schedule, once it is whole. Returns what `make` returns.
+/// Writes a picture, once it is whole. Returns the choice of a thread that doesn't exist, with its place, if one ended the run.
 fn write<P: Picture, K: Sink>(
     alloc: Global,
     picture: &P,

@@ -23,7 +23,7 @@ impl Model for Marks {
 }
 
 impl Marks {
-    /// Makes marks without a breakpoint at any of so many rows. Fails if it is out of memory.
+    /// Makes marks for `rows` rows, none of which has a breakpoint. Fails if it is out of memory.
     pub fn new(alloc: Global, rows: usize) -> Result<Marks, AllocError>
         ensures { IfOk result (λ marks. marks ≡ replicate rows false) }
     {
@@ -33,7 +33,7 @@ impl Marks {
         })
     }
 
-    /// Sets or clears the breakpoint at a row. Returns false if there is no such row.
+    /// Sets the breakpoint at a row, or clears it if `is_break` is false. Returns false if there is no such row.
     #[tactic(auto, using(crate::proofs::Unmarked::none_cleared))]
     pub fn put(&mut self, row: usize, is_break: bool) -> bool
         ensures row { result ≡ nat_lt row (length self.old) }

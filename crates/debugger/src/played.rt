@@ -61,7 +61,7 @@ impl Played {
         self.runs.as_slice()
     }
 
-    /// Appends the choices of a run. If they repeat the last choice, they are joined to its run.
+    /// Appends the choices of a run, which may be none. If they repeat the last choice, they are joined to its run.
     fn push(&mut self, run: Run) -> Result<(), AllocError>
         ensures choices { OnOk result (choices_of self.new ≡ choices_of self.old ++ replicate run.times run.choice) }
         ensures runs { run.choice.thread ≤ 63 → run.times ≤ 1000000000 → All IsRun self.old → All IsRun self.new }
@@ -83,7 +83,7 @@ impl Played {
         Ok(())
     }
 
-    /// Appends so many of the first choices of these runs, or all if there are fewer. Fails if it is out of memory.
+    /// Appends the first `count` choices of these runs, or all if there are fewer. Fails if it is out of memory.
     pub fn push_first(&mut self, runs: &[Run], count: u64) -> Result<(), AllocError>
         ensures choices { OnOk result (choices_of self.new ≡ choices_of self.old ++ take count (choices_of runs.now)) }
         ensures runs { All IsRun runs.now → All IsRun self.old → All IsRun self.new }

@@ -38,7 +38,7 @@ pub fn step_and_back(machine: &mut Machine, choice: Choice) -> Result<Event, Ste
     Ok(event)
 }
 
-/// Takes a choice back, with what `step` returned. So several can be taken back, the last first.
+/// Takes the last choice back, with the `undo` that `step` returned for it. So several can be taken back, the last first.
 pub fn take_back(machine: &mut Machine, undo: Undo)
     requires { CanUndo undo machine.old }
     ensures { machine.new ≡ undone undo machine.old }
@@ -46,7 +46,7 @@ pub fn take_back(machine: &mut Machine, undo: Undo)
     machine.back(undo);
 }
 
-/// Plays these choices in order and returns their events. It stops at a refused one.
+/// Plays these choices in order and returns their events. If one is refused, those before it stay played, and it says why.
 fn steps(
     alloc: Global,
     debugger: &mut Debugger,
@@ -72,7 +72,7 @@ fn steps(
     Ok(events)
 }
 
-/// Takes back so many of the last choices, as far as they are kept.
+/// Takes back the last `count` choices, or as many as the session still keeps.
 fn backs(debugger: &mut Debugger, count: usize)
     ensures { debugger.new ≡ backs count debugger.old }
 {
@@ -81,7 +81,7 @@ fn backs(debugger: &mut Debugger, count: usize)
     }
 }
 
-/// Plays these choices and takes as many back. If one can't be played, those before it stay.
+/// Plays these choices, takes all back, and returns their events. If one can't be played, those before it stay played.
 pub fn steps_and_backs(
     alloc: Global,
     debugger: &mut Debugger,

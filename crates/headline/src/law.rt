@@ -15,7 +15,7 @@ ghost use Rattle.headline.specs.Headline.{
   TerminationsAreSaid,
 };
 
-/// No phase of an accepted program ends early, whatever is chosen, unless an unregistered party has arrived in its tree.
+/// No phase ends while a registered party has neither arrived nor left, unless an unregistered party arrived in its tree.
 pub fn no_phase_ends_early()
     ensures { EndsNoPhaseEarly }
 {}
@@ -27,7 +27,8 @@ pub fn phases_end_in_time()
     ensures { PhasesEndInTime }
 {}
 
-/// An arrival doesn't throw while a registered party is left to arrive, with the exceptions that `ArrivalsAreTaken` names.
+/// An arrival doesn't throw while a party registered with its phaser is left to arrive, unless its thread runs the tree's
+/// `onAdvance` or has no room on its stack for it. Excepted are terminated trees, and those with an unregistered arrival.
 pub fn arrivals_are_taken()
     ensures { ArrivalsAreTaken }
 {}
@@ -43,8 +44,8 @@ pub fn numbers_change_at_ends()
     ensures { NumbersChangeAtEnds }
 {}
 
-/// Each barrier has a past, to which the calls of the threads are added. In each state of a run, the barrier is what this past
-/// leads to.
+/// Each barrier has a past, the calls that threads have made at it, to which their further calls are added. In each state of a
+/// run, the barrier is what this past leads to.
 pub fn barriers_have_pasts()
     ensures { BarriersHavePasts }
 {}

@@ -12,7 +12,7 @@ use std::alloc::Global;
 use thread_machine::{Choice, Machine, StepFault};
 use trace_text::start::{StartFault, first_machine};
 
-/// Plays one choice. Returns whether it was accepted.
+/// Plays one choice. Returns whether it was accepted. A refusal is `Ok(false)`, and only out of memory is `Err`.
 #[tactic(auto, using(crate::proofs::Scenes::led_on, crate::proofs::Scenes::led_nowhere))]
 fn play_one(machine: &mut Machine, choice: Choice) -> Result<bool, StartFault>
     ensures led { IfOk result (λ accepted. Leaves (world_of machine.old) choice accepted (world_of machine.new)) }
@@ -25,7 +25,7 @@ fn play_one(machine: &mut Machine, choice: Choice) -> Result<bool, StartFault>
     }
 }
 
-/// Plays these choices in order, up to the first that is refused.
+/// Plays these choices in order, up to the first that is refused. A refusal is `Ok`, and only out of memory is `Err`.
 fn play_all(machine: &mut Machine, choices: &[Choice]) -> Result<(), StartFault>
     ensures left { OnOk result (world_of machine.new ≡ (execution (world_of machine.old) choices.now).world) }
     ensures memory { (fault : LoadFault) → result ≢ Err (StartFault.Load fault) }

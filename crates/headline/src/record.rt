@@ -18,7 +18,7 @@ use std::thread::Threads;
 use thread_machine::{Event, Machine};
 use thread_runner::{Gate, Journaled, LiveFault, LiveRun, TakeFault};
 
-/// Loads the program of an image. It begins in the image's first world, but for its phasers' words.
+/// Loads the program of an image. Its machines begin in the image's first state, but its phasers may be stored otherwise.
 #[tactic(auto, using(thread_machine::proofs::Firsts::is_first))]
 pub fn load(alloc: Global, image: Image) -> Result<Loaded, LoadFault>
     ensures fault { IfErr result (λ fault. fault ≢ LoadFault.Memory → first_fault image ≡ Some fault) }
@@ -54,7 +54,7 @@ pub fn schedule(journaled: &Journaled) -> &[u8]
     journaled.schedule()
 }
 
-/// Takes a thread's turn under the lock of a live run, and records it. `Memory` may come at each turn, for the record.
+/// Takes a thread's turn under the lock of a live run, and records it. Any turn may be out of memory, as the record grows.
 pub fn take_step(journaled: &mut Journaled, thread: u8) -> Result<Event, TakeFault>
     requires { thread < length journaled.old.first.scene.threads }
     ensures played { IfOk result (λ event. record { world = recorded_world journaled.new; event = event }
@@ -68,7 +68,7 @@ pub fn take_step(journaled: &mut Journaled, thread: u8) -> Result<Event, TakeFau
     journaled.take_step(thread)
 }
 
-/// Lets the wait of a thread expire under the lock of a live run, and records it. `Memory` may come here, too.
+/// Lets a thread's wait expire under the lock of a live run, and records it. It may be out of memory, as the record grows.
 pub fn take_expiry(journaled: &mut Journaled, thread: u8) -> Result<Event, TakeFault>
     requires { thread < length journaled.old.first.scene.threads }
     ensures played { IfOk result (λ event. record { world = recorded_world journaled.new; event = event }
@@ -82,7 +82,8 @@ pub fn take_expiry(journaled: &mut Journaled, thread: u8) -> Result<Event, TakeF
     journaled.take_expiry(thread)
 }
 
-/// Takes the machine out of a record. As each record, this one began with the first world of its machine's program.
+/// Takes the machine out of a record, as the recorded choices left it. The record's first world (the machine's whole state
+/// before any choice) is that of this machine's program and limit.
 pub fn into_machine(journaled: Journaled) -> Machine
     ensures first { journaled.first ≡ first_world result.program result.limit }
     ensures machine { world_of result ≡ recorded_world journaled }
@@ -91,7 +92,8 @@ pub fn into_machine(journaled: Journaled) -> Machine
     machine
 }
 
-/// Plays a program on real threads, at most `limit` steps. The schedule is the machine's record.
+/// Plays a program on real threads, at most `limit` steps. The run's schedule is what led to its machine. Each thread passes
+/// `gate` before each step.
 pub fn run_live<R: Threads + Wait + Sync, G: Gate + Sync>(
     threads: &R,
     alloc: Global,

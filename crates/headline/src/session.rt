@@ -16,7 +16,7 @@ use schedule_reader::Run;
 use std::alloc::{AllocError, Global};
 use thread_machine::{Choice, Event, Machine, StepFault};
 
-/// Begins a session on a machine. It keeps what takes back so many of the last choices.
+/// Begins a session on a machine, in which the last `kept` choices can be taken back.
 pub fn begin(alloc: Global, machine: Machine, kept: u16) -> Result<Debugger, AllocError>
     requires some { 0 < kept }
     requires few { kept ≤ 4096 }
@@ -37,7 +37,7 @@ pub fn present(debugger: &Debugger) -> &Machine
     debugger.machine()
 }
 
-/// Plays a choice in a session, and keeps the world before it. If the choice is refused, nothing has changed.
+/// Plays a choice in a session, and keeps what takes it back. If the choice is refused, nothing has changed.
 pub fn step_on(debugger: &mut Debugger, choice: Choice) -> Result<Event, StepFault>
     ensures row { IfOk result (λ event. StepGivesTheRow debugger.old.machine choice event debugger.new.machine) }
     ensures kept { OnOk result (debugger.new ≡ went_on debugger.old debugger.new.machine) }
@@ -51,7 +51,7 @@ pub fn step_on(debugger: &mut Debugger, choice: Choice) -> Result<Event, StepFau
     debugger.step(choice)
 }
 
-/// Takes back the last choice of a session. It fails exactly if no world is kept.
+/// Takes back the last choice of a session. It fails exactly if nothing is kept to do so.
 pub fn step_back(debugger: &mut Debugger) -> Result<(), NoHistory>
     ensures back { debugger.new ≡ went_back debugger.old }
     ensures none { IsErr result ↔ (debugger.old.past ≡ []) }

@@ -72,7 +72,7 @@ pub fn debug<C: Companion, K: Sink>(
     workbench::debug::debug(alloc, image, commands, output)
 }
 
-/// Plays runs of choices, and then does what `debug` does.
+/// Plays runs of choices as the command `g` does, then carries out the commands of a session, and writes all replies.
 pub fn debug_behind<C: Companion, K: Sink>(
     alloc: Global,
     image: Image,
@@ -90,7 +90,7 @@ pub fn debug_behind<C: Companion, K: Sink>(
     workbench::debug::debug_behind(alloc, image, runs, commands, output)
 }
 
-/// Plays the choices of a trace, and then does what `debug` does, unless it is no trace.
+/// Plays a trace's choices as `g` does, then carries out a session's commands. If it is no trace, it says so and reads none.
 pub fn debug_at<T: Source, C: Companion, K: Sink>(
     alloc: Global,
     image: Image,
@@ -126,7 +126,8 @@ pub fn live<R: Threads + Wait + Sync, G: Gate + Sync, K: Sink>(
     workbench::live::live(threads, alloc, limit, gate, image, output)
 }
 
-/// Plays what a source has, a text with its schedule, writes the trace, and returns the exit status. Status 4 is out of memory.
+/// Plays a source's text with its schedule, and writes the trace. Returns the exit status: 0, 3 for a text that is refused,
+/// 4 if it is out of memory, or 5 if a port failed.
 pub fn both_cmd<S: Source, K: Sink, E: Sink>(
     alloc: Global,
     input: &mut S,
@@ -168,8 +169,8 @@ pub fn list<K: Sink>(alloc: Global, image: &Image, output: &mut K) -> Result<(),
     workbench::list::list(alloc, image, output)
 }
 
-/// A whole trace has the verdict `Same` exactly if it is the trace of the choices that its lines name, as from `start`. The world
-/// is one in which a program of the image begins.
+/// A whole trace has the verdict `Same` exactly if it is the trace of the choices that its lines name, from the first state of
+/// a program of the image.
 pub fn the_same_is_that_trace_alone()
     ensures { (image : Image) (first : World) (trace : List ℕ) → IsFirstOf image 1000000000 first
         → (verdict_of first trace ≡ verdict.Same) ↔ (trace ≡ trace_of (start image) (choices_of_trace trace)) }
@@ -182,7 +183,7 @@ pub fn what_is_refused_is_never_shown()
         → HasShownText text before after → ⊥ }
 {}
 
-/// A session of commands shows the headline's run, line by line.
+/// At each line of a session, the machine is what the rows give for the choices played and not taken back. None is refused.
 pub fn sessions_give_the_rows()
     ensures { SessionsGiveTheRows }
 {}

@@ -46,7 +46,7 @@ pub fn a_canonical_text_is_read_back()
     one_image();
 }
 
-/// Appends the line of a trace about a choice that a thread at this row has played.
+/// Appends the line of choice `number`, which a thread at row `row` has played. If it is out of memory, the text is as before.
 pub fn event_line(
     text: &mut Vec<u8>,
     number: u64,
@@ -60,7 +60,7 @@ pub fn event_line(
     trace_text::event_line(text, number, choice, row, event)
 }
 
-/// Appends the line of a trace about a choice that is refused, of a thread at this row or of none.
+/// Appends the line of refused choice `number`. `row` is its thread's row, or `None` if there is no such thread.
 pub fn refusal_line(
     text: &mut Vec<u8>,
     number: u64,

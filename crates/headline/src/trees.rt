@@ -38,7 +38,7 @@ pub fn no_word_lags_far(machine: &Machine)
     machine.forest().is_forest();
 }
 
-/// Makes a forest without phasers. The counts of who is registered and who is to arrive begin here, whatever they are.
+/// Makes a forest without phasers. It agrees with any counts of who is registered and who is to arrive: it has no phaser yet.
 pub fn plant(alloc: Global) -> Result<Forest, AllocError>
     ensures empty { IfOk result (λ forest. phasers_of forest ≡ []) }
     ensures counts { IfOk result (λ forest. (counts : Origin) → AreTallied (phasers_of forest) counts) }
@@ -68,7 +68,7 @@ pub fn declare(
     forest.declare(parent, parties, policy, phase)
 }
 
-/// Registers so many parties with a phaser of a tree, and returns what came of it.
+/// Registers `parties` parties with a phaser. Returns the phase, or why they aren't: terminated, too many, or held for now.
 pub fn register(forest: &mut Forest, id: PhaserId, parties: u32) -> Registered
     requires { id.0 < length forest.old }
     ensures answer { result ≡ registration id.0 parties (phasers_of forest.old) }
@@ -78,7 +78,8 @@ pub fn register(forest: &mut Forest, id: PhaserId, parties: u32) -> Registered
     forest.register(id, parties)
 }
 
-/// Makes one party arrive at a phaser of a tree, and deregisters it if `leave` is true.
+/// Makes one party arrive at a phaser, and with `leave` deregisters it. Returns the phase, or that it was the tree's last, or
+/// that there is no party left to arrive or the tree is terminated.
 pub fn arrive(forest: &mut Forest, id: PhaserId, leave: bool) -> Arrived
     requires { id.0 < length forest.old }
     ensures arrival { record { phasers = phasers_of forest.new; answer = result } ≡ arrival id.0 leave (phasers_of forest.old) }

@@ -14,7 +14,7 @@ use shared_phaser::{Call, NewFault, NotThere, Party, Raced, Reply, SharedPhaser}
 use std::alloc::Global;
 use std::sync::Wait;
 
-/// Makes a phaser that threads share, with so many parties in this phase, and its first caller. No later call needs memory.
+/// Makes a phaser that threads share, with `parties` parties in this phase, and its first caller. No later call needs memory.
 pub fn new(
     alloc: Global,
     parties: u16,
@@ -46,7 +46,8 @@ pub fn make_call<R: Wait>(rt: &R, phaser: &SharedPhaser, party: &mut Party, call
     }
 }
 
-/// Does what `make_call` does, with at most so many tries. If each was lost, no call was made.
+/// Makes a registration, an arrival, a departure or a termination in at most `tries` tries. If other calls came first in all
+/// of them, no call was made.
 pub fn make_call_within(
     phaser: &SharedPhaser,
     party: &mut Party,
@@ -69,7 +70,7 @@ pub fn make_call_within(
     }
 }
 
-/// Returns the phaser's word. It shows the phaser after all calls that the caller has then seen.
+/// Returns the phaser's packed state: after a legal history that has all calls which this caller made or saw.
 pub fn look(phaser: &SharedPhaser, party: &mut Party) -> Word
     requires { phaser_of party.old ≡ phaser.now }
     ensures phaser { phaser_of party.new ≡ phaser.now }
@@ -78,7 +79,7 @@ pub fn look(phaser: &SharedPhaser, party: &mut Party) -> Word
     phaser.look(party)
 }
 
-/// Waits until a legal history has the end of this phase. A negative number isn't waited for.
+/// Waits until a legal history has the end of this phase. A negative `phase` isn't waited for, and is returned.
 pub fn await_advance<R: Wait>(rt: &R, phaser: &SharedPhaser, party: &mut Party, phase: i32) -> i32
     requires { phaser_of party.old ≡ phaser.now }
     ensures phaser { phaser_of party.new ≡ phaser.now }
@@ -115,7 +116,7 @@ pub fn split(phaser: &SharedPhaser, first: &mut Party) -> Party
     phaser.split(first)
 }
 
-/// Joins a caller to the first, which then has seen one legal history of what either had seen.
+/// Joins the caller `other` to the first, which then knows one legal history that has the calls of both.
 pub fn join(phaser: &SharedPhaser, first: &mut Party, other: Party)
     requires first { first.old.known.number ≡ 0 }
     requires phaser { phaser_of first.old ≡ phaser.now }
@@ -126,8 +127,8 @@ pub fn join(phaser: &SharedPhaser, first: &mut Party, other: Party)
     phaser.join(first, other)
 }
 
-/// Returns the word that is left: that of the phaser after one legal history. It has the calls of all who were joined, each
-/// once and in order, and no other if none is missing.
+/// Closes the phaser and returns its last packed state, after a legal history that has each call of all joined callers once,
+/// in each caller's order, and no other call if none is missing.
 pub fn close(phaser: SharedPhaser, first: Party) -> Word
     requires first { first.known.number ≡ 0 }
     requires phaser { phaser_of first ≡ phaser }

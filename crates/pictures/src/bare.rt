@@ -12,7 +12,7 @@ use std::alloc::{AllocError, Global};
 use thread_machine::{Choice, Machine, Undo};
 use trace_text::state::state_text;
 
-/// Returns what follows the first such byte, or nothing if there is none.
+/// Returns what follows the first `byte` in a text, or nothing if it has none.
 fn behind_first(byte: u8, text: &[u8]) -> &[u8]
     ensures { result.now ≡ behind_first byte text.now }
 {
@@ -32,7 +32,7 @@ fn bare_state(alloc: Global, machine: &Machine) -> Result<Vec<u8>, AllocError>
     Ok(text)
 }
 
-/// Appends what a choice would do next, without its number, if it would be a step.
+/// Appends `next ` and the line that a choice would have, without its number. A choice that would be no step adds nothing.
 fn add_bare_what_if(
     alloc: Global,
     text: &mut Vec<u8>,
@@ -53,7 +53,7 @@ fn add_bare_what_if(
     text.extend_from_slice(behind_first(b' ', line.as_slice()))
 }
 
-/// Appends what a thread's turn and its expiry would do, if they would be steps.
+/// Appends the lines that a thread's turn and its expiry would have, if they would be steps. `undo` takes them back.
 fn add_bare_what_if_of(
     alloc: Global,
     text: &mut Vec<u8>,
@@ -78,7 +78,7 @@ fn add_bare_what_if_of(
     add_bare_what_if(alloc, text, machine, expiry, undo)
 }
 
-/// Appends what each thread's turn and expiry would do. The machine is as before.
+/// Appends the lines that each thread's turn and expiry would have. They are played and taken back: the machine is as before.
 fn add_bare_what_ifs(
     alloc: Global,
     text: &mut Vec<u8>,
@@ -95,7 +95,7 @@ fn add_bare_what_ifs(
     Ok(())
 }
 
-/// Returns a machine's text that doesn't depend on its place in a run. The machine is as before.
+/// Returns a machine's text without its place in a run: its state but for the counts, and what each choice would do.
 #[tactic(auto, unfolding(crate::specs::Others::bare))]
 pub fn bare(alloc: Global, machine: &mut Machine) -> Result<Moment, AllocError>
     ensures text { IfOk result (λ moment. moment.text.items ≡ bare (world_of machine.old)) }

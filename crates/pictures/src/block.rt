@@ -17,7 +17,7 @@ use instruction_table::Row;
 use std::alloc::{AllocError, Global};
 use thread_machine::{Choice, Event, Machine, StepFault};
 
-/// Returns what a thread's column shows for its choice: its row, and what that did.
+/// Returns what a thread's column shows for its choice, the row and what it did, as `paaa r0 p = 1`.
 fn did(pen: &Pen<'_, '_>, choice: Choice, row: Row, event: &Event) -> Result<Vec<u8>, AllocError>
     ensures { IfOk result (λ text. text.items ≡ turn_text (column_room pen.now.sheet) (row_caption pen.now.symbols.now row)
         choice.expiry event.now.what) }
@@ -33,7 +33,8 @@ fn did(pen: &Pen<'_, '_>, choice: Choice, row: Row, event: &Event) -> Result<Vec
     )
 }
 
-/// Returns a choice's line in the block from thread `first` on. `machine` is the one after it.
+/// Returns the line of choice `number`, at `row` and with this event, in the block from thread `first` on. `machine` is the
+/// one after it.
 fn played_line(
     pen: &Pen<'_, '_>,
     machine: &Machine,
@@ -61,7 +62,7 @@ fn played_line(
     )
 }
 
-/// Returns the words for a thread that doesn't exist. A column already shows the limit.
+/// Returns `no thread t9` for a thread that doesn't exist. For the limit, which the thread's column shows, returns nothing.
 fn refused_words(alloc: Global, why: StepFault, thread: u8) -> Result<Vec<u8>, AllocError>
     ensures { IfOk result (λ text. text.items ≡ refused_words why thread) }
 {
@@ -73,7 +74,7 @@ fn refused_words(alloc: Global, why: StepFault, thread: u8) -> Result<Vec<u8>, A
     Ok(words)
 }
 
-/// Returns the line of a refused choice in the block from thread `first` on.
+/// Returns the line of a choice refused for `why`, in the block from thread `first` on: `refused: limit` or `no thread t9`.
 fn refused_line(
     pen: &Pen<'_, '_>,
     machine: &Machine,

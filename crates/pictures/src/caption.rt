@@ -51,7 +51,8 @@ fn push_operand(
     push_called(text, symbols, kind, number)
 }
 
-/// Appends the operands of these kinds, each after a blank. It stops if no register is left.
+/// Appends the operands of these kinds, each after a blank: a register is the next of `registers`, any other is `imm`, as a
+/// number or by its name. It stops if no register is left.
 #[tactic(auto, using(line_reader::proofs::ListedTexts::operand_steps))]
 fn push_operands(
     text: &mut Vec<u8>,
@@ -80,7 +81,7 @@ fn push_operands(
     Ok(())
 }
 
-/// Appends a row as a program text would have it, with the names of its operands.
+/// Appends a row as a program text would have it, with the names of its operands, as `paaa r0 p`.
 pub fn push_row(text: &mut Vec<u8>, symbols: &Symbols, row: Row) -> Result<(), AllocError>
     ensures { OnOk result (text.new.items ≡ text.old.items ++ row_caption symbols.now row) }
 {

@@ -26,7 +26,8 @@ fn push_arrived(text: &mut Vec<u8>, arrived: u16, parties: u16) -> Result<(), Al
     text.extend_from_slice(b" arrived)")
 }
 
-/// Appends the same, as `: 1 of 2)`, after the name of a phaser above.
+/// Appends `: 1 of 2)`: how many parties of a phaser above have arrived, and how many there are. It closes what
+/// ` (arrived at NAME` opened.
 fn push_arrived_above(text: &mut Vec<u8>, arrived: u16, parties: u16) -> Result<(), AllocError>
     ensures { OnOk result (text.new.items ≡ text.old.items ++ above_text arrived parties) }
 {
@@ -44,8 +45,8 @@ fn have_all_arrived(forest: &Forest, id: PhaserId) -> bool
     !forest.is_terminated(id) && parties != 0 && forest.arrived(id) == parties
 }
 
-/// Returns the phaser that a thread at this phaser really waits for: this phaser if a party of it is missing, or else the first
-/// one above with a missing party.
+/// Returns the phaser that a thread at this phaser really waits for: this one if a party of it is missing, or else the first
+/// one above with a missing party, or the root. A tree has at most eight levels.
 fn missing_for(forest: &Forest, id: PhaserId) -> PhaserId
     requires { id.0 < length forest.now }
     ensures phaser { result.0 ≡ missing_for (phasers_of forest.now) id.0 }
@@ -67,7 +68,7 @@ fn missing_for(forest: &Forest, id: PhaserId) -> PhaserId
 }
 
 /// Appends to `front` how many have arrived at this phaser, if a party is missing here. If one is missing further up, appends
-/// to `front` the name of that phaser, and to `back` how many have arrived there.
+/// to `front` ` (arrived at ` and the name of that phaser, and to `back` how many have arrived there.
 fn push_arrived_at(
     pen: &Pen<'_, '_>,
     front: &mut Vec<u8>,
@@ -90,7 +91,7 @@ fn push_arrived_at(
     push_arrived_above(back, forest.arrived(at), forest.parties(at))
 }
 
-/// Appends a phaser's name, and how many have arrived there or further up.
+/// Appends to `front` a phaser's name, and to `front` or `back` how many have arrived there or further up, if it exists.
 fn push_phaser(
     pen: &Pen<'_, '_>,
     front: &mut Vec<u8>,
@@ -126,7 +127,7 @@ fn push_barrier_arrived(
     push_arrived(text, barrier.number_waiting(), barrier.parties())
 }
 
-/// Appends a name, shortened to the width that a name may have in such a line.
+/// Appends a name to `text`, shortened to the width that a name may have in the last lines of a picture.
 fn push_name(
     pen: &Pen<'_, '_>,
     text: &mut Vec<u8>,
@@ -142,7 +143,8 @@ fn push_name(
     text.extend_from_slice(name.as_slice())
 }
 
-/// Appends to `front` what a thread at this row waits at, and to `back` how many have arrived further up.
+/// Appends to `front` what a thread at this row waits at, and to `back` how many have arrived further up. A row that isn't a
+/// wait adds nothing.
 fn push_awaited(
     pen: &Pen<'_, '_>,
     front: &mut Vec<u8>,
@@ -167,7 +169,7 @@ fn push_awaited(
     }
 }
 
-/// Returns whether a waiting thread can go on or can expire, or the program is stuck, in words.
+/// Returns `: can go on`, `: can expire` or `: stuck` for a waiting thread, or nothing if it depends on others that go on.
 fn hope(machine: &Machine, thread: u8) -> &'static [u8]
     requires { thread < length machine.now.scene.threads }
     ensures { result.now ≡ hope_text (world_of machine.now) thread }
@@ -183,7 +185,7 @@ fn hope(machine: &Machine, thread: u8) -> &'static [u8]
     }
 }
 
-/// Returns the line of a waiting thread: at what it waits, who has arrived, and its hope.
+/// Returns the line of a waiting thread, as `a waits at p (1 of 2 arrived): stuck`. If it is too long, its front is cut.
 fn waiting_line(pen: &Pen<'_, '_>, machine: &Machine, thread: u8) -> Result<Vec<u8>, AllocError>
     requires { thread < length machine.now.scene.threads }
     ensures { IfOk result (λ line. line.items ≡ waiting_line pen.now.sheet pen.now.symbols.now (world_of machine.now) thread) }
@@ -203,7 +205,7 @@ fn waiting_line(pen: &Pen<'_, '_>, machine: &Machine, thread: u8) -> Result<Vec<
     )
 }
 
-/// Returns the line of a thread that died of an exception.
+/// Returns the line of a thread that died of an exception, as `a died of exception -5`.
 fn dead_line(pen: &Pen<'_, '_>, thread: u8, code: i32) -> Result<Vec<u8>, AllocError>
     ensures { IfOk result (λ line. line.items ≡ dead_line pen.now.sheet pen.now.symbols.now thread code) }
 {

@@ -6,7 +6,7 @@ ghost use Rattle.pictures.specs.Sheet.{blanks, kept_behind, number_text, put_at,
 use itoa::Buffer;
 use std::alloc::{AllocError, Global};
 
-/// Appends so many blanks.
+/// Appends `count` blanks.
 fn push_blanks(text: &mut Vec<u8>, count: usize) -> Result<(), AllocError>
     ensures { OnOk result (text.new.items ≡ text.old.items ++ blanks count) }
 {
@@ -34,7 +34,7 @@ pub fn push_value(text: &mut Vec<u8>, word: &[u8], value: i32) -> Result<(), All
     text.extend_from_slice(Buffer::new().format(value).as_bytes())
 }
 
-/// Appends the number of a choice, with blanks before it up to six bytes.
+/// Appends the number of a choice, with blanks before it so that both have six bytes. A longer number has no blank.
 pub fn push_number(text: &mut Vec<u8>, number: u64) -> Result<(), AllocError>
     ensures { OnOk result (text.new.items ≡ text.old.items ++ number_text number) }
 {
@@ -44,7 +44,7 @@ pub fn push_number(text: &mut Vec<u8>, number: u64) -> Result<(), AllocError>
     text.extend_from_slice(digits)
 }
 
-/// Returns the first `room` bytes of a longer text, with `~` as the last of them.
+/// Returns the first `room` bytes of a longer text, with `~` as the last of them. If `room` is 0, that is nothing.
 fn cut(alloc: Global, room: usize, bytes: &[u8]) -> Result<Vec<u8>, AllocError>
     requires { room < length bytes.now }
     ensures { IfOk result (λ text. text.items ≡ take room (take (room - 1) bytes.now ++ codes "~")) }
@@ -80,7 +80,7 @@ pub fn kept_behind(
     shortened(alloc, room, text.as_slice())
 }
 
-/// Appends a text at a column of the line, after blanks. An empty text adds nothing.
+/// Appends a text at a column of the line, after blanks, or at once if the line is longer. An empty text adds nothing.
 pub fn put_at(line: &mut Vec<u8>, column: usize, text: &[u8]) -> Result<(), AllocError>
     ensures { OnOk result (line.new.items ≡ put_at column text.now line.old.items) }
 {

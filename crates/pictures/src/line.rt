@@ -43,7 +43,7 @@ fn cell<'a>(machine: &Machine, turn: u8, did: &'a [u8], thread: u8) -> &'a [u8]
     }
 }
 
-/// Appends the columns from thread `first` on. That of thread `turn` shows `did`.
+/// Appends the columns from thread `first` on, after the first 8 bytes for the number. That of thread `turn` shows `did`.
 #[tactic(auto, using(crate::proofs::Cells::cell_steps))]
 fn put_cells(
     pen: &Pen<'_, '_>,

@@ -12,7 +12,7 @@ pub struct Shown {
     pub missing: Option<(u64, Choice)>,
 }
 
-/// Returns the choice at which the run ended since it has no such thread, and its place from 1.
+/// Returns the choice of a thread that doesn't exist, if it ended the run that led to `machine`, and its place from 1.
 pub fn missing(machine: &Machine, choices: &[Choice]) -> Option<(u64, Choice)>
     ensures { result ≡ missing_at (world_of machine.now) choices.now }
 {

@@ -7,7 +7,7 @@ use std::alloc::{AllocError, Global};
 use thread_machine::Machine;
 use trace_text::state::state_text;
 
-/// Returns the text of a machine's state and of what each choice would do. It stays as it is.
+/// Returns the text of a machine's state and of what each choice would do. The machine stays as it is.
 pub fn moment(alloc: Global, machine: &mut Machine) -> Result<Vec<u8>, AllocError>
     ensures text { IfOk result (λ text. text.items ≡ moment (world_of machine.old)) }
     ensures machine { machine.new ≡ machine.old }

@@ -68,7 +68,7 @@ fn choices_of(alloc: Global, runs: &[Run]) -> Result<Vec<Choice>, AllocError>
     Ok(choices)
 }
 
-/// Returns whether the page's own run makes this choice next.
+/// Returns whether `choice` is the first of `own`, the choices that the page's own run still makes.
 fn is_next(own: &[Choice], choice: Choice) -> bool
     ensures { result ≡ is_next own.now choice }
 {
@@ -78,7 +78,7 @@ fn is_next(own: &[Choice], choice: Choice) -> bool
     }
 }
 
-/// Returns whether a choice could be next, but isn't the next choice of the page's own run.
+/// Returns whether `choice` would be a step, but isn't the next of `own`, the choices that the page's own run still makes.
 fn is_other(machine: &Machine, own: &[Choice], choice: Choice) -> bool
     requires { choice.thread < length machine.now.scene.threads }
     ensures { result ≡ is_other (world_of machine.now) own.now choice }
@@ -86,7 +86,7 @@ fn is_other(machine: &Machine, own: &[Choice], choice: Choice) -> bool
     is_ready(machine, choice) && !is_next(own, choice)
 }
 
-/// Returns how many choices another run may have: 100 more than `own`, up to 2,000 from the start.
+/// Returns how many choices another run may have: 100 more than `own` has left, but at most 2,000 from the run's start.
 fn room_for(machine: &Machine, own: &[Choice]) -> u32
     requires { length own.now ≤ most_choices }
     ensures { result ≡ room_for (world_of machine.now) own.now }
@@ -96,7 +96,7 @@ fn room_for(machine: &Machine, own: &[Choice]) -> u32
     longer.min(left as u32)
 }
 
-/// Returns the choices of the run that begins here with this choice.
+/// Returns the choices of the run that begins here with `choice`: then its thread's, the run's `own`, and those of all threads.
 fn fork(
     alloc: Global,
     machine: &Machine,
@@ -112,7 +112,7 @@ fn fork(
     choices_of(alloc, planned.runs.as_slice())
 }
 
-/// Returns how many choices may still be played: none after a moment of more than 6,000 bytes.
+/// Returns how many choices may still be played: `left`, or none after a moment of more than 6,000 bytes.
 fn left_behind(moment: &Moment, left: u32) -> u32
     ensures { result ≡ left_behind moment.now.text.items left }
 {
@@ -177,7 +177,7 @@ impl Teller {
         self.text.extend_from_slice(b"\n")
     }
 
-    /// Appends the line of a choice: its thread, and the number of the moment that it leads to.
+    /// Appends the line of a choice, as `t0 12`: its thread, and the number of the moment that it leads to.
     fn add_line(&mut self, choice: Choice, number: usize) -> Result<(), AllocError>
         ensures { OnOk result (self.new ≡ record self.old { text = self.old.text ++ step_line choice number }) }
     {
@@ -186,7 +186,7 @@ impl Teller {
         self.add_last(b" ", number as u64)
     }
 
-    /// Appends a choice's line, and its moment if that is new. One choice less may be played then.
+    /// Appends a choice's line, and the text of its moment if that isn't known yet. Then one choice less may be played.
     fn add_step(&mut self, choice: Choice, moment: Moment) -> Result<(), AllocError>
         ensures { OnOk result (self.new ≡ with_step choice moment.text.items self.old) }
     {
@@ -200,7 +200,7 @@ impl Teller {
         Ok(())
     }
 
-    /// Adds the moment of a machine to the known ones, but not to the text.
+    /// Adds the moment of a machine, which the page's own run shows, to the known ones, but not to the text.
     fn know(&mut self, alloc: Global, machine: &mut Machine) -> Result<(), AllocError>
         ensures told { OnOk result (self.new ≡ with_moment (world_of machine.old) self.old) }
         ensures machine { machine.new ≡ machine.old }
@@ -210,7 +210,7 @@ impl Teller {
         self.known.add(moment)
     }
 
-    /// Plays choices up to a refused one, and adds the moment before and after each.
+    /// Plays choices up to a refused one, and adds the moments before and after each to the known ones.
     fn know_all(
         &mut self,
         alloc: Global,
@@ -260,7 +260,7 @@ impl Teller {
         Ok(())
     }
 
-    /// Appends another run: the number of choices before it, and then its choices.
+    /// Appends another run: the line `other 5` if 5 choices precede it, and then its choices with their moments.
     fn add_other(
         &mut self,
         alloc: Global,
@@ -274,7 +274,7 @@ impl Teller {
         self.add_steps(alloc, &mut copy, choices)
     }
 
-    /// If the text is longer than 1,000,000 bytes, cuts it to `end` bytes, and lets nothing follow.
+    /// If the text is longer than 1,000,000 bytes, cuts it to `end` bytes, where the last run began, and lets none follow.
     fn cut_at(&mut self, end: usize)
         ensures { self.new ≡ (if nat_le (length self.old.text) 1000000 then self.old
             else record self.old { text = take end self.old.text; left = 0 }) }
@@ -303,7 +303,7 @@ impl Teller {
         Ok(())
     }
 
-    /// Appends the run of a choice that is ready and isn't `own`'s next, if there is room for it.
+    /// Appends the run of a choice that would be a step and isn't the next of `own`, if there is room for it, and else nothing.
     #[tactic(auto, unfolding(crate::specs::Others::told_choice))]
     fn tell_choice(
         &mut self,
@@ -322,7 +322,7 @@ impl Teller {
         self.add_fork(alloc, machine, own, choice)
     }
 
-    /// Appends the runs that a thread's turn and the expiry of its wait lead to.
+    /// Appends the runs that a thread's turn and the expiry of its wait lead to, other than the next choice of `own`.
     #[tactic(auto, unfolding(crate::specs::Others::told_thread))]
     fn tell_thread(
         &mut self,
@@ -347,7 +347,7 @@ impl Teller {
         self.tell_choice(alloc, machine, own, expiry)
     }
 
-    /// Appends the runs that the choices of all threads lead to.
+    /// Appends the runs that the choices of all threads at this machine lead to, other than the next choice of `own`.
     fn tell_here(
         &mut self,
         alloc: Global,
@@ -382,7 +382,7 @@ impl Teller {
         self.tell_here(alloc, machine, &[])
     }
 
-    /// Does what `tell_along` does on a copy of the machine.
+    /// Plays a run on a copy of the machine, and appends the other runs at each of its moments, in order.
     fn tell_run(
         &mut self,
         alloc: Global,
@@ -397,7 +397,8 @@ impl Teller {
     }
 }
 
-/// Returns the text of the other runs of a run that begins at this machine.
+/// Returns the text of the other runs of a run that begins at this machine. The run's own moments are known before, since the
+/// page shows them anyway.
 fn told_text(alloc: Global, machine: &Machine, choices: &[Choice]) -> Result<Vec<u8>, AllocError>
     requires { length choices.now ≤ most_choices }
     ensures { IfOk result (λ text. text.items ≡ told_text (world_of machine.now) choices.now) }

@@ -112,7 +112,7 @@ fn add_run(
     add_choices(alloc, page, machine, choices)
 }
 
-/// Plays the choices, and returns a page of these fixed parts and texts with their run.
+/// Plays the choices, and returns a page: the parts of `frame`, and between them `listing`, `source`, the run and `others`.
 fn page_in(
     alloc: Global,
     frame: Frame,
@@ -139,7 +139,8 @@ fn page_in(
     Ok(page)
 }
 
-/// Returns the page of the run that begins at this machine under a schedule, with these fixed parts and texts.
+/// Returns the page of the run that begins at this machine under a schedule, with these fixed parts and texts. `others` says
+/// whether it has other runs.
 fn show_run(
     alloc: Global,
     frame: Frame,
@@ -177,7 +178,7 @@ fn show_run(
     })
 }
 
-/// Returns the page's fault if an image can't become a machine.
+/// Returns the page's fault if an image can't become a machine: `Load`, or out of memory.
 fn fault_of(fault: StartFault) -> PageFault
     ensures load { (told : LoadFault) → result ≡ PageFault.Load told → fault ≡ StartFault.Load told }
     ensures others { ((told : ScheduleFault) → result ≢ PageFault.Schedule told) × (result ≢ PageFault.Choices) }

@@ -61,7 +61,7 @@ fn draw_others(
     Ok(())
 }
 
-/// Draws all blocks, and the last lines. The last block plays the choices on this machine.
+/// Draws all blocks, and the last lines. Each block plays the choices: the last one on this machine, the others on copies.
 fn draw_all(
     pen: &Pen<'_, '_>,
     text: &mut Vec<u8>,
@@ -80,7 +80,7 @@ fn draw_all(
     push_closings(pen, text, machine)
 }
 
-/// Returns the picture of a machine's run, with these names, at most `width` bytes wide.
+/// Returns the picture of a run from this machine on, with the names `symbols`, whose lines have at most `width` bytes.
 pub fn picture(
     alloc: Global,
     machine: &mut Machine,

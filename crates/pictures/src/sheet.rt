@@ -14,7 +14,7 @@ pub struct Sheet {
     pub column: u16,
 }
 
-/// Returns how many threads, of 19 bytes each, fit beside number and marks: at least one.
+/// Returns how many threads, of 19 bytes each, fit in a line beside 23 bytes for its number and what changed: at least one.
 fn most_beside(width: u16) -> u16
     ensures most { result ≡ most_beside width }
     ensures some { 0 < result }
@@ -23,7 +23,7 @@ fn most_beside(width: u16) -> u16
 }
 
 impl Sheet {
-    /// Returns the layout for a width: blocks of about equally many threads, of at most 27 bytes.
+    /// Returns the layout for lines of `width` bytes: blocks of about equally many threads, with columns of at most 27 bytes.
     pub fn new(width: u16, threads: u16) -> Sheet
         ensures sheet { result ≡ sheet_of width threads }
         ensures some { 0 < result.beside }
@@ -54,7 +54,7 @@ impl Sheet {
         usize::from(self.beside).min(threads.saturating_sub(first))
     }
 
-    /// Returns the column at which the changes of phasers and barriers begin.
+    /// Returns the column at which the changes of phasers and barriers begin: after 8 bytes for the number, and the threads.
     pub fn mark_column(self) -> usize
         ensures { result ≡ mark_column self }
     {
@@ -75,7 +75,7 @@ impl Sheet {
         usize::from(self.column).saturating_sub(1)
     }
 
-    /// Returns how many bytes a name may take in one of the last lines.
+    /// Returns how many bytes a name may take in one of the last lines: it may have two, and 46 bytes of other words.
     pub fn name_room(self) -> usize
         ensures { result ≡ name_room self }
     {

@@ -30,7 +30,7 @@ fn push_what(text: &mut Vec<u8>, what: What) -> Result<(), AllocError>
     }
 }
 
-/// Returns whether a column shows the row before this result.
+/// Returns whether a column shows the row before this result, as in `paaa r0 p = 1`. Other results, as `out 1`, are alone.
 fn shows_row(what: What) -> bool
     ensures { result ≡ shows_row what }
 {
@@ -40,7 +40,7 @@ fn shows_row(what: What) -> bool
     )
 }
 
-/// Returns what follows the row: a blank and its result, or nothing for `Done`.
+/// Returns what follows the row: a blank and its result, as ` = 1`, or nothing for `Done`.
 fn answer(alloc: Global, what: What) -> Result<Vec<u8>, AllocError>
     ensures { IfOk result (λ text. text.items ≡ answer_text what) }
 {
@@ -52,7 +52,7 @@ fn answer(alloc: Global, what: What) -> Result<Vec<u8>, AllocError>
     Ok(text)
 }
 
-/// Returns what the column of the choice's thread shows: the row or `expiry`, and the result.
+/// Returns what the column of the choice's thread shows: the row or `expiry`, and the result. Some results are shown alone.
 pub fn turn_text(
     alloc: Global,
     room: usize,
@@ -72,7 +72,7 @@ pub fn turn_text(
     kept_behind(alloc, room, front, answer.as_slice())
 }
 
-/// Returns the sign of another thread: `|` runs, `!` throws, `:` waits and is ready, `#` waits.
+/// Returns the sign of another thread: `|` runs, `!` throws, `:` waits and is runnable, `#` waits; nothing after its end.
 pub fn standing(ready: bool, status: Status) -> &'static [u8]
     ensures { result.now ≡ standing ready status }
 {
@@ -107,7 +107,7 @@ fn marked(pen: &Pen<'_, '_>, mark: Mark) -> Result<Vec<u8>, AllocError>
     Ok(text)
 }
 
-/// Appends which phase a root has come into, or that it is terminated.
+/// Appends `: phase 1`, the phase that a root is in now, or `: terminated` for a negative view.
 fn push_view(text: &mut Vec<u8>, view: i32) -> Result<(), AllocError>
     ensures { OnOk result (text.new.items ≡ text.old.items ++ view_words view) }
 {
@@ -118,7 +118,7 @@ fn push_view(text: &mut Vec<u8>, view: i32) -> Result<(), AllocError>
     }
 }
 
-/// Returns what happened to the phaser or barrier, or nothing.
+/// Returns what happened to the phaser or barrier, as `: phase 1` or ` trips`, or nothing.
 fn mark_words(alloc: Global, mark: Mark) -> Result<Vec<u8>, AllocError>
     ensures { IfOk result (λ text. text.items ≡ mark_words mark) }
 {
@@ -132,7 +132,7 @@ fn mark_words(alloc: Global, mark: Mark) -> Result<Vec<u8>, AllocError>
     Ok(text)
 }
 
-/// Returns what a choice changed besides its own thread, shortened to its room.
+/// Returns what a choice changed besides its own thread, as `p: phase 1`, shortened to its room; nothing if that is nothing.
 pub fn told(pen: &Pen<'_, '_>, mark: Mark) -> Result<Vec<u8>, AllocError>
     ensures { IfOk result (λ text. text.items
         ≡ kept_behind (mark_room pen.now.sheet) (marked pen.now.symbols.now mark) (mark_words mark)) }

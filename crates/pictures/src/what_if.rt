@@ -23,7 +23,7 @@ pub fn is_ready(machine: &Machine, choice: Choice) -> bool
     }
 }
 
-/// Appends the line that a choice would have if it were next. The machine plays it and takes it back.
+/// Appends the line that a choice would have if it were next. The machine plays it, and takes it back with `undo`.
 pub fn add_line(
     text: &mut Vec<u8>,
     machine: &mut Machine,
@@ -46,7 +46,7 @@ pub fn add_line(
     }
 }
 
-/// Appends what a choice would do next, if it would be a step.
+/// Appends `next ` and the line that a choice would have. A choice that would be no step adds nothing.
 fn add_what_if(
     text: &mut Vec<u8>,
     machine: &mut Machine,
@@ -64,7 +64,7 @@ fn add_what_if(
     add_line(text, machine, choice, undo)
 }
 
-/// Appends what a thread's turn and its expiry would do, if they would be steps.
+/// Appends the lines that a thread's turn and its expiry would have, if they would be steps. `undo` takes them back.
 fn add_what_if_of(
     text: &mut Vec<u8>,
     machine: &mut Machine,
@@ -88,7 +88,7 @@ fn add_what_if_of(
     add_what_if(text, machine, expiry, undo)
 }
 
-/// Appends what the two choices of each thread would do. The machine is the same afterwards, to the stored word.
+/// Appends the lines that each thread's turn and expiry would have. The machine is the same afterwards, to the stored word.
 pub fn add_what_ifs(text: &mut Vec<u8>, machine: &mut Machine) -> Result<(), AllocError>
     ensures text { OnOk result (text.new.items ≡ text.old.items
         ++ numbered_texts (what_if_of (world_of machine.old)) 0 machine.old.scene.threads) }

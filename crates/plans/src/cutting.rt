@@ -46,8 +46,8 @@ fn is_parenthesis(byte: u8) -> bool
     byte == b'(' || byte == b')'
 }
 
-/// Returns the number of bytes of a line's first word, 0 if the line begins with a blank. A parenthesis is a word of its own,
-/// with its count if it has one.
+/// Returns the number of bytes of a line's first word, 0 if the line begins with a blank. A parenthesis is a word of its own:
+/// `(`, `)`, or `)*3` with the count after it.
 pub fn word_length(line: &[u8]) -> usize
     requires { 0 < length line.now }
     ensures word { words_in (spread line.now) ≡ word_alone (take result line.now) ++ words_in (spread (drop result line.now)) }
@@ -65,7 +65,7 @@ pub fn word_length(line: &[u8]) -> usize
     1
 }
 
-/// Returns the bytes before a place.
+/// Returns the first `place` bytes of a text.
 pub fn before(text: &[u8], place: usize) -> &[u8]
     requires { place ≤ length text.now }
     ensures { result.now ≡ take place text.now }
@@ -73,7 +73,7 @@ pub fn before(text: &[u8], place: usize) -> &[u8]
     &text[..place]
 }
 
-/// Returns the bytes from a place on.
+/// Returns the bytes of a text from `place` on.
 pub fn from(text: &[u8], place: usize) -> &[u8]
     requires { place ≤ length text.now }
     ensures { result.now ≡ drop place text.now }

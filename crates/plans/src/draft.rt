@@ -28,7 +28,7 @@ struct Reading {
 }
 
 impl Reading {
-    /// Opens a parenthesis in this line. Fails if 16 are open. Of the outermost it notes the line.
+    /// Counts one more open parenthesis. Fails if 16 are open. It keeps the line of the outermost, for the fault `NotClosed`.
     fn open(&mut self, line: u64) -> Result<(), PlanFaultKind>
         ensures opened { AnswersSaid (λ _. draft_of self.new) result (draft_opened line (draft_of self.old)) }
         ensures other { result ≢ Err PlanFaultKind.Memory }
@@ -67,7 +67,7 @@ impl Reading {
         }
     }
 
-    /// Appends the word that these bytes of this line spell, or returns what is wrong with it.
+    /// Appends the word that `bytes` spell, for threads with these names, or returns what is wrong. `line` is noted for a `(`.
     fn add_said(&mut self, names: &[&[u8]], line: u64, bytes: &[u8]) -> Result<(), PlanFaultKind>
         requires { length names.now ≤ 64 }
         ensures { AnswersSaid (λ _. draft_of self.new) result
@@ -81,7 +81,7 @@ impl Reading {
         }
     }
 
-    /// Does what `add_said` does. The fault also has the line's number.
+    /// Appends the word that `bytes` spell, for threads with these names, or returns what is wrong, with the line's number.
     fn add_word(&mut self, names: &[&[u8]], line: u64, bytes: &[u8]) -> Result<(), PlanFault>
         requires { length names.now ≤ 64 }
         ensures { AnswersPlan (λ _. draft_of self.new) result
@@ -93,7 +93,7 @@ impl Reading {
         }
     }
 
-    /// Appends the words of a line up to its comment. It stops at the first fault.
+    /// Appends the words of `bytes`, line number `line`, up to its comment, for threads with these names. Stops at a fault.
     fn add_line(&mut self, names: &[&[u8]], line: u64, bytes: &[u8]) -> Result<(), PlanFault>
         requires { length names.now ≤ 64 }
         ensures { AnswersPlan (λ _. draft_of self.new) result
@@ -114,7 +114,7 @@ impl Reading {
         Ok(())
     }
 
-    /// Appends the words of a text's lines, counted from 1. It stops at the first fault.
+    /// Appends the words of a text's lines, counted from 1, for threads with these names. It stops at the first fault.
     fn add_lines(&mut self, names: &[&[u8]], text: &[u8]) -> Result<(), PlanFault>
         requires { length names.now ≤ 64 }
         ensures { AnswersPlan (λ _. draft_of self.new) result
@@ -136,7 +136,7 @@ impl Reading {
         }
     }
 
-    /// Returns the words. Fails if a parenthesis is still open, with the outermost one's line.
+    /// Returns the words. If a parenthesis is still open, the fault is `NotClosed`, with the outermost one's line.
     fn finished(self) -> Result<Words, PlanFault>
         ensures finished { AnswersPlan (λ words. words) result (finished (draft_of self)) }
         ensures other { IfErr result (λ fault. fault.kind ≢ PlanFaultKind.Memory) }

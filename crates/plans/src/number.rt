@@ -35,7 +35,7 @@ fn digits_value(digits: &[u8]) -> u128
     value
 }
 
-/// Returns the number of a word of at most `most_digits` digits, if it is at most `most`.
+/// Returns the number that a word of 1 to `most_digits` digits spells, or `None` if it is above `most` or no such word.
 pub fn number_in(most_digits: usize, most: u64, word: &[u8]) -> Option<u64>
     requires { most_digits ≤ 20 }
     ensures { result ≡ number_in most_digits most word.now }
@@ -50,7 +50,7 @@ pub fn number_in(most_digits: usize, most: u64, word: &[u8]) -> Option<u64>
     Some(value as u64)
 }
 
-/// Returns the count that a word spells: 1 to 1,000,000, without a leading zero.
+/// Returns the count that a word spells, 1 to 1,000,000 without a leading zero, or `None` for any other word.
 pub fn count_in(word: &[u8]) -> Option<u32>
     ensures { result ≡ count_in word.now }
 {
@@ -63,7 +63,7 @@ pub fn count_in(word: &[u8]) -> Option<u32>
     }
 }
 
-/// Returns the seed that a word of at most twenty digits spells, if it is below 2 to the 64th.
+/// Returns the seed below 2 to the 64th that a word of at most twenty digits spells, or `None` for any other word.
 pub fn seed_in(word: &[u8]) -> Option<u64>
     ensures { result ≡ seed_in word.now }
 {

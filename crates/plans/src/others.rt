@@ -23,7 +23,7 @@ impl Player {
         (choice.thread as usize) < self.thread_count() && self.is_choice_ready(choice)
     }
 
-    /// Makes a choice, and then at most 99 turns of its thread, while that is ready.
+    /// Makes a choice, and then at most 99 turns of its thread, while that is runnable.
     #[tactic(auto, unfolding(crate::specs::Others::gone_ahead))]
     fn go_ahead(&mut self, alloc: Global, choice: Choice) -> Result<(), AllocError>
         ensures { OnOk result (self.new ≡ gone_ahead choice self.old) }
@@ -32,7 +32,7 @@ impl Player {
         self.follow(alloc, Rule::Alone(choice.thread), MOST_TURNS)
     }
 
-    /// Makes a choice of the run's own, unless it wouldn't be a step now.
+    /// Makes a choice of the run's own if it is a step now, and otherwise nothing: other choices have come before it.
     #[tactic(auto, unfolding(crate::specs::Others::kept))]
     fn keep(&mut self, choice: Choice) -> Result<(), AllocError>
         ensures { OnOk result (self.new ≡ kept choice self.old) }

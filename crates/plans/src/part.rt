@@ -32,7 +32,7 @@ pub struct Stored {
     pub seed: u64,
 }
 
-/// Returns whether a part has a number beside it: a count other than 1, or a limit.
+/// Returns whether a part is stored with a number: a count other than 1, or the most choices of a rule.
 pub fn takes_number(part: Part) -> bool
     ensures { result ≡ takes_number part }
 {
@@ -48,14 +48,14 @@ pub fn takes_number(part: Part) -> bool
     )
 }
 
-/// Returns whether a part has a seed beside it: one of 256 or more.
+/// Returns whether a part is stored with a seed: one of 256 or more. A smaller seed is in the part.
 pub fn takes_seed(part: Part) -> bool
     ensures { result ≡ takes_seed part }
 {
     matches!(part, Part::BySeed | Part::BySeedMost)
 }
 
-/// Returns a part as it is stored with no number and no seed.
+/// Returns how a part without a number and without a seed is stored: both are 0.
 fn alone(part: Part) -> Stored
     ensures { result ≡ record { part = part; number = 0; seed = 0 } }
 {
@@ -66,7 +66,7 @@ fn alone(part: Part) -> Stored
     }
 }
 
-/// Returns a part as it is stored with this number and no seed.
+/// Returns how a part with this number, but without a seed, is stored.
 fn numbered(part: Part, number: u32) -> Stored
     ensures { result ≡ record { part = part; number = number; seed = 0 } }
 {
@@ -77,7 +77,7 @@ fn numbered(part: Part, number: u32) -> Stored
     }
 }
 
-/// Returns how a choice that is made so many times is stored. Once needs no number.
+/// Returns how a choice that is made `times` times is stored. For once no number is stored.
 fn stored_choice(chosen: Chosen, times: u32) -> Stored
     ensures { Holds result (Word.Step (Step.Make chosen times)) }
 {
@@ -135,7 +135,7 @@ pub fn stored_word(word: Word) -> Stored
     }
 }
 
-/// Returns the word for a thread's turn or expiry, made so many times.
+/// Returns the word for a thread's turn, or with `expiry` for its expiry, made `times` times.
 fn choice(thread: u8, expiry: bool, times: u32) -> Word
     ensures { result ≡ Word.Step (Step.Make (record { thread = thread; expiry = expiry }) times) }
 {
@@ -152,7 +152,7 @@ fn rule(rule: Rule, most: Option<u32>) -> Word
     Word::Step(Step::Follow { rule, most })
 }
 
-/// Returns the word that is stored so. A part that has no number or seed ignores what is given.
+/// Returns the word that is stored as this part, number and seed. A part without a number or without a seed ignores it.
 pub fn word_with(part: Part, number: u32, seed: u64) -> Word
     ensures { result ≡ word_with part number seed }
 {

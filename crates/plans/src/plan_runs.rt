@@ -9,7 +9,7 @@ use loader::Loaded;
 use std::alloc::{AllocError, Global};
 use thread_machine::Machine;
 
-/// Plays a plan from the beginning of a program. Returns its schedule and the machine after it.
+/// Plays a plan from the beginning of a program. Returns its choices, the machine after them, and whether it was cut off.
 pub fn plan_runs(
     alloc: Global,
     program: Loaded,
@@ -23,7 +23,7 @@ pub fn plan_runs(
     Ok(player.into_planned())
 }
 
-/// Plays a plan from a machine's present state. Returns its schedule and the machine after it.
+/// Plays a plan from a machine's present state. Returns its choices, the machine after them, and whether it was cut off.
 pub fn plan_runs_at(
     alloc: Global,
     machine: Machine,

@@ -154,7 +154,7 @@ impl Player {
         }
     }
 
-    /// Returns the number after that of the thread chosen last, 0 before the first choice.
+    /// Returns the number of the thread chosen last, plus 1: there the rule `..` begins to look. 0 before the first choice.
     pub fn next(&self) -> u8
         ensures { result ≡ self.now.next }
     {
@@ -168,7 +168,8 @@ impl Player {
         self.stopped = true;
     }
 
-    /// Makes a choice, which then counts. If the machine refuses it, nothing changes.
+    /// Makes a choice and counts it, idle or not. If the machine refuses it, nothing changes. Room for it is reserved before
+    /// the step, so that each step that is played is also kept.
     fn make(&mut self, choice: Choice) -> Result<(), AllocError>
         requires thread { choice.thread < thread_count self.old.world }
         requires few { thread_count self.old.world ≤ 64 }

@@ -8,8 +8,8 @@ use crate::words::WordsFrom;
 use std::alloc::{AllocError, Global};
 
 impl Player {
-    /// Plays words up to and including the parenthesis that closes their group, or to their end. Returns how often the group is
-    /// to be played.
+    /// Plays words up to the parenthesis that closes their group, and returns how often the group is to be played; or plays
+    /// them to their end, and returns `None`.
     #[cycle(words)]
     pub fn play_words(
         &mut self,
@@ -29,7 +29,7 @@ impl Player {
         }
     }
 
-    /// Plays a group after its `(`, as often as its `)` says, or once if that makes no choice.
+    /// Plays a group, whose `(` was read, as often as its `)` says. If the first time makes no choice, it isn't played again.
     #[cycle(words)]
     fn play_group(&mut self, alloc: Global, words: &mut WordsFrom<'_>) -> Result<(), AllocError>
         ensures played { OnOk result (HasPlayedGroup words.old words.new self.old self.new) }
@@ -45,7 +45,7 @@ impl Player {
         Ok(())
     }
 
-    /// Plays words once more until they were played `times` times, or a pass makes no choice.
+    /// Plays words until they have been played `times` times with the first one. A pass that makes no choice is the last.
     #[cycle(words)]
     fn play_again(
         &mut self,

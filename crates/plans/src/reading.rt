@@ -44,7 +44,7 @@ fn is_name(word: &[u8]) -> bool
     }
 }
 
-/// Returns whether a stem begins with `?`, and so stands for choices by a seed.
+/// Returns whether a stem begins with `?`, as `?7` does, which chooses threads by the seed 7.
 fn is_seeded(stem: &[u8]) -> bool
     ensures { result ≡ is_seeded stem.now }
 {
@@ -79,14 +79,14 @@ fn may_repeat(stem: &[u8]) -> bool
     is_word(stem, ")") || is_word(stem, "..") || is_seeded(stem) || is_name(stem)
 }
 
-/// Returns whether a word has the form of a plan's word. Its count or seed may be wrong.
+/// Returns whether a word has one of the forms of a plan's words. Its count, its seed or its name may still be wrong.
 fn is_spelled(word: &[u8]) -> bool
     ensures { result ≡ is_spelled word.now }
 {
     may_repeat(stem_of(word)) || (!has_star(word) && (is_word(word, "(") || is_alone(word)))
 }
 
-/// Returns the count after the star, or `None` without a star. Fails if it isn't a count.
+/// Returns the count after the star, or `None` without a star. What isn't a count from 1 to 1,000,000 is `BadCount`.
 fn times_in(word: &[u8]) -> Result<Option<u32>, PlanFaultKind>
     ensures { result ≡ times_in word.now }
 {
@@ -115,7 +115,8 @@ fn is_numbered(letter: u8, name: &[u8]) -> bool
     !name.is_empty() && name[0] == letter && are_digits(name.len(), behind_first(name))
 }
 
-/// Returns the choice of the thread with this number. Fails if it isn't below `count`.
+/// Returns the turn, or with `expiry` the expiry, of the thread whose number these digits spell. If it isn't below `count`, the
+/// number of threads, the fault is `NoThread`.
 fn numbered(count: usize, expiry: bool, digits: &[u8]) -> Result<Chosen, PlanFaultKind>
     ensures { result ≡ numbered_by count expiry (number_in 2 63 digits.now) }
 {
@@ -134,7 +135,7 @@ fn numbered(count: usize, expiry: bool, digits: &[u8]) -> Result<Chosen, PlanFau
     }
 }
 
-/// Returns the number of the thread that has this name.
+/// Returns the number of the thread that has this name, its place in `names`, or `None`.
 fn thread_named(names: &[&[u8]], name: &[u8]) -> Option<u8>
     requires { length names.now ≤ 64 }
     ensures { result ≡ thread_named (map name_seen names.now) name.now }
@@ -160,7 +161,7 @@ fn begins_expiry(name: &[u8]) -> bool
     matches!(name, [b'x', ..])
 }
 
-/// Returns the expiry of the thread whose name follows an `x`. Fails if there is none.
+/// Returns the expiry of the thread whose name follows an `x`, as in `xann`. Any other word is `NotNamed`.
 fn expiry_named(names: &[&[u8]], name: &[u8]) -> Result<Chosen, PlanFaultKind>
     requires { length names.now ≤ 64 }
     ensures { result ≡ expiry_named (map name_seen names.now) name.now }
@@ -177,7 +178,7 @@ fn expiry_named(names: &[&[u8]], name: &[u8]) -> Result<Chosen, PlanFaultKind>
     }
 }
 
-/// Returns the turn of the thread with this name, or its expiry if an `x` precedes the name.
+/// Returns the turn of the thread with this name, or else its expiry if an `x` precedes the name, as in `xann`.
 fn named(names: &[&[u8]], name: &[u8]) -> Result<Chosen, PlanFaultKind>
     requires { length names.now ≤ 64 }
     ensures { result ≡ named_by (map name_seen names.now) name.now
@@ -192,7 +193,7 @@ fn named(names: &[&[u8]], name: &[u8]) -> Result<Chosen, PlanFaultKind>
     }
 }
 
-/// Returns the choice that `t` or `x` and a number name. Any other word has the fault `why`.
+/// Returns the choice that `t` or `x` and digits name, as `t2`, of `count` threads. Any other word has the fault `why`.
 fn or_numbered(why: PlanFaultKind, count: usize, name: &[u8]) -> Result<Chosen, PlanFaultKind>
     ensures { result ≡ or_numbered (Err why) count name.now }
 {
@@ -205,7 +206,7 @@ fn or_numbered(why: PlanFaultKind, count: usize, name: &[u8]) -> Result<Chosen, 
     Err(why)
 }
 
-/// Returns the choice that a word names: by a thread's name, or else as `t2` or `x2`.
+/// Returns the choice that a word names: by a thread's name, as `ann` or `xann`, or else by its number, as `t2` or `x2`.
 fn chosen_by(names: &[&[u8]], name: &[u8]) -> Result<Chosen, PlanFaultKind>
     requires { length names.now ≤ 64 }
     ensures { result ≡ chosen_by (map name_seen names.now) name.now }
@@ -216,7 +217,7 @@ fn chosen_by(names: &[&[u8]], name: &[u8]) -> Result<Chosen, PlanFaultKind>
     }
 }
 
-/// Returns the word for this choice, made so many times, or once without a count.
+/// Returns the word for this choice, made `times` times, or once without a count. It never fails.
 fn make(times: Option<u32>, chosen: Chosen) -> Result<Word, PlanFaultKind>
     ensures { result ≡ make times chosen }
 {
@@ -226,7 +227,7 @@ fn make(times: Option<u32>, chosen: Chosen) -> Result<Word, PlanFaultKind>
     }))
 }
 
-/// Returns the word for turns of this thread alone. Fails if the choice is an expiry.
+/// Returns the word for turns of this thread alone, as `ann.`. An expiry, as `xann.`, is `BadWord`.
 fn alone(chosen: Chosen) -> Result<Word, PlanFaultKind>
     ensures { result ≡ alone chosen }
 {
@@ -239,7 +240,7 @@ fn alone(chosen: Chosen) -> Result<Word, PlanFaultKind>
     }))
 }
 
-/// Returns the word for choices by the seed that these digits spell. Fails if they spell none.
+/// Returns the word for choices by the seed that these digits spell, at most `times`. No seed below 2 to the 64th is `BadSeed`.
 fn seeded(times: Option<u32>, digits: &[u8]) -> Result<Word, PlanFaultKind>
     ensures { result ≡ seeded_by times (seed_in digits.now) }
 {
@@ -252,7 +253,8 @@ fn seeded(times: Option<u32>, digits: &[u8]) -> Result<Word, PlanFaultKind>
     }
 }
 
-/// Returns the word of a stem with this count, or why they are no word.
+/// Returns the word that `stem`, what precedes the star, and the count `times` after it mean, or what is wrong with the
+/// stem. The form of the word was checked before.
 fn meaning(names: &[&[u8]], stem: &[u8], times: Option<u32>) -> Result<Word, PlanFaultKind>
     requires { length names.now ≤ 64 }
     ensures { result ≡ meaning (map name_seen names.now) stem.now times }
@@ -278,7 +280,7 @@ fn meaning(names: &[&[u8]], stem: &[u8], times: Option<u32>) -> Result<Word, Pla
     make(times, chosen_by(names, stem)?)
 }
 
-/// Returns what a word of the text means, or why it means nothing.
+/// Returns what a word of a plan means, as `ann*3` or `)*20`, or what is wrong: its form, then its count, then the rest.
 pub fn word_of(names: &[&[u8]], word: &[u8]) -> Result<Word, PlanFaultKind>
     requires { length names.now ≤ 64 }
     ensures { result ≡ word_of (map name_seen names.now) word.now }

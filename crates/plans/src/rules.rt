@@ -20,7 +20,7 @@ fn word_at(seed: u64, k: u32) -> u32
     words.next_word()
 }
 
-/// Returns one of these choices, at `word` modulo their number, or `None` if there is none.
+/// Returns the choice at place `word` modulo their number, or `None` if there is none.
 fn picked(word: u32, choices: &[Choice]) -> Option<Choice>
     ensures { result ≡ picked word choices.now }
 {
@@ -39,7 +39,7 @@ fn turn_of(thread: u8) -> Choice
     }
 }
 
-/// Appends a choice, if there is one.
+/// Appends `choice`, if it is a choice and not `None`.
 fn push_made(choices: &mut Vec<Choice>, choice: Option<Choice>) -> Result<(), AllocError>
     ensures { OnOk result (choices.new.items ≡ choices.old.items ++ cons_option choice []) }
 {
@@ -50,7 +50,7 @@ fn push_made(choices: &mut Vec<Choice>, choice: Option<Choice>) -> Result<(), Al
 }
 
 impl Player {
-    /// Returns the turn of a thread if there is such a thread and it is ready.
+    /// Returns the turn of a thread, or `None` if there is no such thread or it isn't runnable.
     fn alone(&self, thread: u8) -> Option<Choice>
         ensures { result ≡ alone thread self.now.world }
     {
@@ -61,7 +61,7 @@ impl Player {
         }
     }
 
-    /// Returns the first ready thread with at least this number.
+    /// Returns the first runnable thread from number `low` on, or `None`.
     fn first_ready(&self, low: u8) -> Option<u8>
         ensures { result ≡ find (is_ready_in self.now.world) (threads_from low self.now.world) }
     {
@@ -73,7 +73,7 @@ impl Player {
         None
     }
 
-    /// Returns the lowest thread whose wait may time out.
+    /// Returns the thread with the lowest number whose wait may time out, or `None`.
     fn first_expiring(&self) -> Option<u8>
         ensures { result ≡ find (can_expire_in self.now.world) (threads_from 0 self.now.world) }
     {
@@ -85,7 +85,8 @@ impl Player {
         None
     }
 
-    /// Returns the turn of the next ready thread after the last one chosen, or else an expiry.
+    /// Returns the turn of the next runnable thread after the last one chosen, round to that one. If none is runnable, returns
+    /// the lowest thread's expiry that is possible, or `None`.
     #[tactic(auto, unfolding(crate::specs::Rules::turn_about))]
     fn turn_about(&self) -> Option<Choice>
         ensures { result ≡ turn_about self.now.next self.now.world }
@@ -105,7 +106,7 @@ impl Player {
         }
     }
 
-    /// Returns a thread's turn if it is ready, or else its expiry if its wait may time out.
+    /// Returns a thread's turn if that is a step, or else its expiry if its wait may time out, or `None`.
     fn choice_in(&self, thread: u8) -> Option<Choice>
         requires { thread < thread_count self.now.world }
         ensures { result ≡ choice_in self.now.world thread }
@@ -122,7 +123,7 @@ impl Player {
         None
     }
 
-    /// Returns for each thread in order the turn or the expiry by which it can go on, if any.
+    /// Returns for each thread, in order of number, its turn if it is runnable, or its expiry if its wait may time out.
     fn able(&self, alloc: Global) -> Result<Vec<Choice>, AllocError>
         ensures { IfOk result (λ choices. choices.items ≡ able self.now.world) }
     {
@@ -133,7 +134,7 @@ impl Player {
         Ok(choices)
     }
 
-    /// Returns the rule's choice after `k` others, or `None` if it has none.
+    /// Returns the next choice of `rule`, or `None` if it has none. `k` choices precede it: a seed takes its random number `k`.
     #[tactic(auto, unfolding(crate::specs::Rules::next_choice))]
     pub fn next_choice(
         &self,

@@ -48,7 +48,7 @@ impl<'a> Model for WordsFrom<'a> {
     ghost view = { λ words. words_of_parts words.parts.now words.numbers.now words.seeds.now };
 }
 
-/// Appends a number if the part has one. Its place is already reserved.
+/// Appends the number of a part if `takes` says that it has one. The caller has reserved room, so this can't fail.
 fn put_number(numbers: &mut Vec<u32>, takes: bool, number: u32)
     requires { vec_len numbers.old < vec_capacity numbers.old }
     ensures { numbers.new.items ≡ numbers.old.items ++ put_of takes number }
@@ -58,7 +58,7 @@ fn put_number(numbers: &mut Vec<u32>, takes: bool, number: u32)
     }
 }
 
-/// Appends a seed if the part has one. Its place is already reserved.
+/// Appends the seed of a part if `takes` says that it has one. The caller has reserved room, so this can't fail.
 fn put_seed(seeds: &mut Vec<u64>, takes: bool, seed: u64)
     requires { vec_len seeds.old < vec_capacity seeds.old }
     ensures { seeds.new.items ≡ seeds.old.items ++ put_of takes seed }
@@ -80,7 +80,7 @@ impl Words {
         }
     }
 
-    /// Appends a word. Fails if it is out of memory.
+    /// Appends a word, or fails and changes nothing: room in all three lists is reserved before anything is appended.
     pub fn push(&mut self, word: Word) -> Result<(), AllocError>
         ensures { OnOk result (self.new ≡ self.old ++ word ∷ []) }
     {
@@ -106,7 +106,7 @@ impl Words {
     }
 }
 
-/// Returns the first of some numbers if the part has one, or else 0.
+/// Returns the first of `numbers` if the part has one (`takes`), or else 0.
 fn taken_number(takes: bool, numbers: &[u32]) -> u32
     ensures { result ≡ taken_of takes numbers.now }
 {
@@ -117,7 +117,7 @@ fn taken_number(takes: bool, numbers: &[u32]) -> u32
     }
 }
 
-/// Returns the first of some seeds if the part has one, or else 0.
+/// Returns the first of `seeds` if the part has one (`takes`), or else 0.
 fn taken_seed(takes: bool, seeds: &[u64]) -> u64
     ensures { result ≡ taken_of takes seeds.now }
 {
@@ -128,7 +128,7 @@ fn taken_seed(takes: bool, seeds: &[u64]) -> u64
     }
 }
 
-/// Returns the numbers without the first if the part has one, or else all.
+/// Returns `numbers` without the first if the part has one (`takes`), or else all.
 fn numbers_left(takes: bool, numbers: &[u32]) -> &[u32]
     ensures { result.now ≡ left_of takes numbers.now }
 {
@@ -139,7 +139,7 @@ fn numbers_left(takes: bool, numbers: &[u32]) -> &[u32]
     }
 }
 
-/// Returns the seeds without the first if the part has one, or else all.
+/// Returns `seeds` without the first if the part has one (`takes`), or else all.
 fn seeds_left(takes: bool, seeds: &[u64]) -> &[u64]
     ensures { result.now ≡ left_of takes seeds.now }
 {

@@ -1,4 +1,4 @@
-//! Trees of phasers, and machines.
+//! Trees of phasers, and machines. A try of a call, from `begin` to `end`, is `Right`, out of `Memory`, or `Wrong`.
 
 use crate::programs::{FIRST, MEETING, goes_on, is_at, meeting_after, program_of};
 use crate::trial::{Answer, Trial};
@@ -20,7 +20,7 @@ fn declare_root(forest: &mut Forest) -> Result<PhaserId, DeclareFault> {
     forest.declare(None, 2, Policy::Default, Phase::prevailing(7))
 }
 
-/// Tries `Forest::declare`: after `Memory` the forest is as before, and then takes the phaser.
+/// Tries `Forest::declare`: after `Memory` the forest is as before, and a second try, with memory, declares the phaser.
 pub fn declaring(trial: Trial) -> Answer {
     match Forest::new(trial.alloc) {
         Ok(mut forest) => declared(trial, &mut forest),
@@ -28,7 +28,7 @@ pub fn declaring(trial: Trial) -> Answer {
     }
 }
 
-/// Tries `Forest::declare` in this forest, which is empty.
+/// Tries `Forest::declare` in `forest`, which is empty. If memory is refused, it is still empty, and a second try succeeds.
 fn declared(trial: Trial, forest: &mut Forest) -> Answer {
     trial.begin();
     match trial.end(declare_root(forest)) {
@@ -40,7 +40,7 @@ fn declared(trial: Trial, forest: &mut Forest) -> Answer {
     }
 }
 
-/// Tries `Forest::copy`: the forest that was copied still has its phaser.
+/// Tries `Forest::copy` of a forest with one phaser: the forest that was copied still has it, even if memory is refused.
 pub fn copying_forest(trial: Trial) -> Answer {
     let Ok(mut forest) = Forest::new(trial.alloc) else {
         return Answer::Wrong;
@@ -49,7 +49,7 @@ pub fn copying_forest(trial: Trial) -> Answer {
     copied_forest(trial, &forest)
 }
 
-/// Tries `Forest::copy` of this forest, which has one phaser.
+/// Tries `Forest::copy` of `forest`, which has one phaser. It still has it afterwards, and so does the copy.
 fn copied_forest(trial: Trial, forest: &Forest) -> Answer {
     match trial.end(forest.copy(trial.begin())) {
         Ok(copy) => Answer::Right.provided(copy.len() == 1 && forest.len() == 1),
@@ -68,7 +68,7 @@ pub fn beginning(trial: Trial) -> Answer {
     }
 }
 
-/// Tries `Machine::copy`: the machine that was copied is as before, and goes on.
+/// Tries `Machine::copy` after the meeting's fourth choice: the machine that was copied is as before, and plays the rest.
 pub fn copying(trial: Trial) -> Answer {
     let Ok(mut machine) = meeting_after(trial.alloc, 4) else {
         return Answer::Wrong;
@@ -77,7 +77,7 @@ pub fn copying(trial: Trial) -> Answer {
     answer.provided(goes_on(trial.alloc, &mut machine, 4))
 }
 
-/// Tries `Machine::copy` of this machine: the copy goes on.
+/// Tries `Machine::copy` of `machine`, which has played four choices of the meeting: the copy plays the rest of them.
 fn copied(trial: Trial, machine: &Machine) -> Answer {
     match trial.end(machine.copy(trial.begin())) {
         Ok(mut copy) => Answer::Right.provided(goes_on(trial.alloc, &mut copy, 4)),
@@ -85,8 +85,8 @@ fn copied(trial: Trial, machine: &Machine) -> Answer {
     }
 }
 
-/// Judges the result of the meeting's fourth choice, `out`, the only step here that allocates. After `Memory` the machine is
-/// as before, and takes the choice.
+/// Judges `answered`, the result of the meeting's fourth choice: it plays `out r0`, and the list of output needs memory. After
+/// `Memory` the machine has to be as after three choices. In both cases it has to play the rest.
 fn out_answer(trial: Trial, machine: &mut Machine, answered: Result<Event, StepFault>) -> Answer {
     match answered {
         Ok(event) => {
@@ -97,7 +97,7 @@ fn out_answer(trial: Trial, machine: &mut Machine, answered: Result<Event, StepF
     }
 }
 
-/// Tries `Machine::step` at the meeting's fourth choice.
+/// Tries `Machine::step` at the meeting's fourth choice, the first that puts a value out.
 pub fn stepping(trial: Trial) -> Answer {
     let Ok(mut machine) = meeting_after(trial.alloc, 3) else {
         return Answer::Wrong;
@@ -107,7 +107,7 @@ pub fn stepping(trial: Trial) -> Answer {
     out_answer(trial, &mut machine, answered)
 }
 
-/// Tries `Machine::step_noting` at the meeting's fourth choice.
+/// Tries `Machine::step_noting` at the meeting's fourth choice, the first that puts a value out.
 pub fn noting(trial: Trial) -> Answer {
     let Ok(mut machine) = meeting_after(trial.alloc, 3) else {
         return Answer::Wrong;
@@ -117,7 +117,7 @@ pub fn noting(trial: Trial) -> Answer {
     out_answer(trial, &mut machine, answered)
 }
 
-/// Returns the event of a step, without what takes it back.
+/// Returns the event of a step, or its fault. It drops what takes the step back, so that both ways to step are judged alike.
 fn noted(answered: Result<(Event, Undo), StepFault>) -> Result<Event, StepFault> {
     match answered {
         Ok((event, _)) => Ok(event),

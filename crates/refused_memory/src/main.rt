@@ -28,7 +28,7 @@ use std::alloc::AllocError;
 use std::io;
 use sweep::Trials;
 
-/// Writes whether runs, and comparisons, make as many requests with either of these schedules.
+/// Writes whether a run, and a comparison, makes as many requests for memory with `long`, of 100,000 turns, as with `short`.
 fn tell_counts(trials: &mut Trials, short: &[u8], long: &[u8]) {
     trials.tell_counts(
         "run_text of 10,000 and of 100,000 tokens",
@@ -42,7 +42,7 @@ fn tell_counts(trials: &mut Trials, short: &[u8], long: &[u8]) {
     );
 }
 
-/// Writes whether runs of 10,000 and of 100,000 choices make as many requests.
+/// Makes schedules of 10,000 and of 100,000 turns, and writes whether their runs make as many requests for memory.
 fn tell_long_runs(trials: &mut Trials) -> Result<(), AllocError> {
     let short = runs::rounds(trials.alloc, 10_000)?;
     let long = runs::rounds(trials.alloc, 100_000)?;
@@ -58,6 +58,7 @@ fn tell_debugger(trials: &mut Trials) {
     }
 }
 
+/// Tries all calls and writes the results, a line each. Fails if a line can't be written.
 fn main(rt: HostRuntime) -> io::Result<()> {
     let alloc = rt.alloc();
     let mut trials = Trials {

@@ -18,28 +18,28 @@ const COUNT: usize = 7_200_001;
 /// This request is refused if there are more or fewer blocks than at `COUNT`.
 const COMPARE: usize = 7_200_002;
 
-/// Requests a block of this size, by which the library is called. Returns whether it is refused.
+/// Requests a block of `size` bytes, which only tells the library something. Returns whether the library refuses it.
 fn is_refused(alloc: Global, size: usize) -> bool {
     Vec::<u8>::with_capacity(alloc, size).is_err()
 }
 
-/// From now on the request of this number, from 1, is refused: alone, or with all that follow.
+/// From now on the request for memory with this number is refused, counted from 1: with `all` all that follow are refused, too.
 pub fn begin(alloc: Global, request: u16, all: bool) {
     let mark = if all { REFUSE_ALL } else { REFUSE_ONE };
     let _ = is_refused(alloc, mark + usize::from(request));
 }
 
-/// From now on no request is refused. Returns whether one was.
+/// From now on no request is refused. Returns whether one was since `begin`.
 pub fn end(alloc: Global) -> bool {
     is_refused(alloc, END)
 }
 
-/// Makes the library note how many blocks are in use.
+/// Makes the library note how many blocks of memory are in use, for `is_left_over`.
 pub fn count(alloc: Global) {
     let _ = is_refused(alloc, COUNT);
 }
 
-/// Returns whether more or fewer blocks are in use than at the last `count`.
+/// Returns whether more or fewer blocks of memory are in use than at the last `count`: a leak, or a block freed too often.
 pub fn is_left_over(alloc: Global) -> bool {
     is_refused(alloc, COMPARE)
 }

@@ -51,7 +51,7 @@ pub fn program_of(alloc: Global, text: &[u8]) -> Result<Loaded, AllocError> {
     }
 }
 
-/// Returns the trace of a text under a schedule. Any fault counts as out of memory.
+/// Returns the trace of the program `text` under `schedule`, of at most 2,000,000 bytes. Any fault counts as out of memory.
 pub fn trace_of(alloc: Global, text: &[u8], schedule: &[u8]) -> Result<MemorySink, AllocError> {
     let mut source = MemorySource::new(schedule, None);
     let mut trace = MemorySink::new(alloc, 2_000_000, None)?;
@@ -71,7 +71,7 @@ fn plays(machine: &mut Machine, turns: &[Run]) -> bool {
     true
 }
 
-/// Returns the machine of the meeting before its first choice.
+/// Returns the machine of the meeting before its first choice. Its limit of 1000 steps is never reached.
 fn meeting(alloc: Global) -> Result<Machine, AllocError> {
     match program_of(alloc, MEETING) {
         Ok(program) => Machine::new(alloc, program, 1000),
@@ -79,7 +79,7 @@ fn meeting(alloc: Global) -> Result<Machine, AllocError> {
     }
 }
 
-/// Returns the machine of the meeting after its first `count` choices.
+/// Returns the machine of the meeting after its first `count` choices (at most 7). A refused choice counts as out of memory.
 pub fn meeting_after(alloc: Global, count: usize) -> Result<Machine, AllocError> {
     let (turns, _) = TURNS.split_at(count.min(7));
     let mut machine = meeting(alloc)?;
@@ -98,7 +98,7 @@ pub fn shows(alloc: Global, machine: &Machine, state: &[u8]) -> bool {
     }
 }
 
-/// Returns whether two machines show the same state.
+/// Returns whether two machines show the same state. If there is no memory for the states, they don't.
 fn are_alike(alloc: Global, machine: &Machine, other: &Machine) -> bool {
     match state_text(alloc, other) {
         Ok(text) => shows(alloc, machine, text.as_slice()),
@@ -106,7 +106,7 @@ fn are_alike(alloc: Global, machine: &Machine, other: &Machine) -> bool {
     }
 }
 
-/// Returns whether a machine shows the state of the meeting after so many of its choices.
+/// Returns whether `machine` shows the state of the meeting after its first `count` choices.
 pub fn is_at(alloc: Global, machine: &Machine, count: usize) -> bool {
     match meeting_after(alloc, count) {
         Ok(wanted) => are_alike(alloc, machine, &wanted),
@@ -114,7 +114,7 @@ pub fn is_at(alloc: Global, machine: &Machine, count: usize) -> bool {
     }
 }
 
-/// Returns whether a machine is that of the meeting after so many of its choices, and plays the rest of them.
+/// Returns whether `machine` shows the state of the meeting after its first `count` choices, and then plays the rest of the 7.
 pub fn goes_on(alloc: Global, machine: &mut Machine, count: usize) -> bool {
     let (_, rest) = TURNS.split_at(count.min(7));
     is_at(alloc, machine, count) && plays(machine, rest) && is_at(alloc, machine, 7)

@@ -1,4 +1,5 @@
 //! Lines of traces, states, runs whose trace is written, and traces that are compared.
+//! A try of a call, from `begin` to `end`, is `Right`, out of `Memory`, or `Wrong`.
 
 use crate::programs::{FIRST, image_of, meeting_after, shows, trace_of};
 use crate::trial::{Answer, Trial};
@@ -21,7 +22,7 @@ fn full_text(alloc: Global) -> Result<Vec<u8>, AllocError> {
     Ok(text)
 }
 
-/// Judges a call that appends a line to these three bytes: after a refusal they are as before.
+/// Judges a call that appends a line to `abc`: `text` has to be `wanted`, or still `abc` if memory was refused.
 fn line_answer(answered: Result<(), AllocError>, text: &[u8], wanted: &[u8]) -> Answer {
     match answered {
         Ok(()) => Answer::Right.provided(text == wanted),
@@ -29,7 +30,7 @@ fn line_answer(answered: Result<(), AllocError>, text: &[u8], wanted: &[u8]) -> 
     }
 }
 
-/// Tries `event_line`: after a refusal the text is as before.
+/// Tries `event_line`, which appends the line of choice 7 at row 5 to a full text. If memory is refused, the text is as before.
 pub fn event(trial: Trial) -> Answer {
     let Ok(mut text) = full_text(trial.alloc) else {
         return Answer::Wrong;
@@ -39,7 +40,7 @@ pub fn event(trial: Trial) -> Answer {
     line_answer(answered, text.as_slice(), b"abc7 t0 5 = -5 +p0 1\n")
 }
 
-/// Tries `refusal_line`: after a refusal the text is as before.
+/// Tries `refusal_line`, which appends the line of choice 8 to a full text. If memory is refused, the text is as before.
 pub fn refusal(trial: Trial) -> Answer {
     let Ok(mut text) = full_text(trial.alloc) else {
         return Answer::Wrong;
@@ -53,7 +54,7 @@ pub fn refusal(trial: Trial) -> Answer {
 const AT_FIRST: &[u8] = b"state 0 0 live\nt0 0 runs 0 regs 0 0 0 0 0 0 0 0 stack out\n\
 t1 0 runs 0 regs 0 0 0 0 0 0 0 0 stack out\np0 0 2 0 2\n";
 
-/// Tries `state_text`: the machine is as before.
+/// Tries `state_text` of the meeting before its first choice. Afterwards the machine still shows this state.
 pub fn state(trial: Trial) -> Answer {
     match meeting_after(trial.alloc, 0) {
         Ok(machine) => stated(trial, &machine),
@@ -61,7 +62,7 @@ pub fn state(trial: Trial) -> Answer {
     }
 }
 
-/// Tries `state_text` of this machine.
+/// Tries `state_text` of `machine`, which has played no choice of the meeting. Afterwards it still shows that state.
 fn stated(trial: Trial, machine: &Machine) -> Answer {
     let answer = match trial.end(state_text(trial.begin(), machine)) {
         Ok(text) => Answer::Right.provided(text.as_slice() == AT_FIRST),
@@ -73,7 +74,7 @@ fn stated(trial: Trial, machine: &Machine) -> Answer {
 /// A thread that goes round for ever.
 pub const ROUND: &[u8] = b".thread a m\nm: jmp m\n";
 
-/// Returns a schedule with so many turns of thread 0: a token for each, and not one for all.
+/// Returns a schedule with `choices` turns of thread 0: a token for each, and not one for all.
 pub fn rounds(alloc: Global, choices: u32) -> Result<Vec<u8>, AllocError> {
     let mut schedule = Vec::new(alloc);
     for _ in 0..choices {
@@ -82,7 +83,7 @@ pub fn rounds(alloc: Global, choices: u32) -> Result<Vec<u8>, AllocError> {
     Ok(schedule)
 }
 
-/// Returns whether bytes are a beginning of the lines of a trace, and have nothing of its state.
+/// Returns whether `bytes` begin `trace` and have no line of its state, which begins with `s`: a cut run writes no state.
 fn is_beginning(bytes: &[u8], trace: &[u8]) -> bool {
     for line in bytes.split(|byte| *byte == b'\n') {
         if line.starts_with(b"s") {
@@ -92,7 +93,7 @@ fn is_beginning(bytes: &[u8], trace: &[u8]) -> bool {
     trace.starts_with(bytes)
 }
 
-/// Tries `run_text`: what is written before `Memory` is a beginning of the lines of the choices.
+/// Tries `run_text` of the program `text` with `schedule`: before `Memory` it writes a beginning of the choices' lines.
 pub fn playing(trial: Trial, text: &[u8], schedule: &[u8]) -> Answer {
     match trace_of(trial.alloc, text, schedule) {
         Ok(wanted) => played(trial, text, schedule, wanted.bytes()),
@@ -100,7 +101,7 @@ pub fn playing(trial: Trial, text: &[u8], schedule: &[u8]) -> Answer {
     }
 }
 
-/// Tries `run_text`, which writes the trace `wanted` if nothing is refused.
+/// Tries `run_text`, which writes the trace `wanted` if nothing is refused. Otherwise it writes a beginning, without the state.
 fn played(trial: Trial, text: &[u8], schedule: &[u8], wanted: &[u8]) -> Answer {
     let Ok(mut trace) = MemorySink::new(trial.alloc, 2_000_000, None) else {
         return Answer::Wrong;
@@ -116,7 +117,7 @@ fn played(trial: Trial, text: &[u8], schedule: &[u8], wanted: &[u8]) -> Answer {
     }
 }
 
-/// Tries `compare` with the trace that the text has under this schedule.
+/// Tries `compare` of the program `text` with the trace that it has under `schedule`.
 pub fn comparing(trial: Trial, text: &[u8], schedule: &[u8]) -> Answer {
     match trace_of(trial.alloc, text, schedule) {
         Ok(trace) => compared(trial, text, trace.bytes()),

@@ -1,4 +1,4 @@
-//! Schedules that are read and written.
+//! Schedules that are read and written. A try of a call, from `begin` to `end`, is `Right`, out of `Memory`, or `Wrong`.
 
 use crate::trial::{Answer, Trial};
 use schedule_reader::{Reader, Run, ScheduleFault, write_schedule};
@@ -6,7 +6,7 @@ use thread_machine::Choice;
 
 const TOKENS: &[u8] = b"t0 t1*2 t2*3 t3*4 t4*5 t5*6 t6*7 t7*8 x8*9 ";
 
-/// Returns whether a list has the runs of the first tokens: each thread takes one turn more than its number says.
+/// Returns whether `runs` is a beginning of what `TOKENS` says, where thread n has n + 1 turns: at most nine runs.
 fn is_beginning(runs: &[Run]) -> bool {
     for (run, thread) in runs.iter().zip(0..9u8) {
         if run.choice.thread != thread || run.times != u32::from(thread) + 1 {
@@ -16,7 +16,7 @@ fn is_beginning(runs: &[Run]) -> bool {
     runs.len() <= 9
 }
 
-/// Tries `Reader::feed`: after `Memory` there are runs of whole tokens, and `Memory` comes again.
+/// Tries `Reader::feed`, and again with memory: after `Memory` it has the runs of some first tokens, and stays at `Memory`.
 pub fn feeding(trial: Trial) -> Answer {
     let mut runs = Vec::new(trial.alloc);
     let mut reader = Reader::new();
@@ -33,7 +33,7 @@ pub fn feeding(trial: Trial) -> Answer {
     }
 }
 
-/// Tries `Reader::finish`, which appends the last token: after `Memory` the list is as before.
+/// Tries `Reader::finish`, which appends the last token, since no space follows it. After `Memory` the list is still empty.
 pub fn finishing(trial: Trial) -> Answer {
     let mut runs = Vec::new(trial.alloc);
     let mut reader = Reader::new();

@@ -1,4 +1,4 @@
-//! The debugger.
+//! The debugger. A try of a call, from `begin` to `end`, is `Right`, out of `Memory`, or `Wrong`.
 
 use crate::programs::{FIRST, TURNS, is_at, meeting_after};
 use crate::trial::{Answer, Trial};
@@ -7,7 +7,7 @@ use debugger::{CommandFault, Debugger, Stop};
 use std::alloc::{AllocError, Global};
 use thread_machine::{Machine, StepFault};
 
-/// Returns a debugger of the meeting that has played its first `count` choices.
+/// Returns a debugger of the meeting that has played its first `count` choices. It keeps 8 choices, more than the meeting's 7.
 fn debugger_after(alloc: Global, count: usize) -> Result<Debugger, AllocError> {
     let machine = meeting_after(alloc, 0)?;
     let mut debugger = Debugger::new(alloc, machine, 8)?;
@@ -16,7 +16,7 @@ fn debugger_after(alloc: Global, count: usize) -> Result<Debugger, AllocError> {
     Ok(debugger)
 }
 
-/// Returns whether a debugger is after so many choices of the meeting, plays the rest, and takes all of them back.
+/// Returns whether `debugger` has played `count` choices of the meeting, plays the rest, takes back all 7, and no more.
 fn goes_on(alloc: Global, debugger: &mut Debugger, count: usize) -> bool {
     let (_, rest) = TURNS.split_at(count.min(7));
     let stood = is_at(alloc, debugger.machine(), count);
@@ -60,7 +60,7 @@ pub enum Asked<'a> {
     Command(&'a Command),
 }
 
-/// Tries what a debugger is asked for: `go` after the meeting's second choice, all else after the third.
+/// Tries what a debugger is asked for after the meeting's third choice, or `go` after its second. The fourth puts a value out.
 pub fn asking(trial: Trial, asked: Asked) -> Answer {
     let count = match asked {
         Asked::Go => 2,
@@ -72,12 +72,12 @@ pub fn asking(trial: Trial, asked: Asked) -> Answer {
     }
 }
 
-/// Does what `answer` does, and drops the debugger.
+/// Tries what `debugger` is asked for, and drops it: its blocks have to be freed before the sweep compares their number.
 fn answered(trial: Trial, mut debugger: Debugger, asked: Asked) -> Answer {
     answer(trial, &mut debugger, asked)
 }
 
-/// Tries what the debugger is asked for.
+/// Tries what `debugger` is asked for, after the two or three choices that it has played: a step, `go`, or a command.
 fn answer(trial: Trial, debugger: &mut Debugger, asked: Asked) -> Answer {
     match asked {
         Asked::Step => stepped(trial, debugger),
@@ -86,7 +86,7 @@ fn answer(trial: Trial, debugger: &mut Debugger, asked: Asked) -> Answer {
     }
 }
 
-/// Tries `Debugger::step` at the meeting's fourth choice, which puts a value out.
+/// Tries `Debugger::step` at the meeting's fourth choice, which puts a value out. After `Memory` it has still played 3 choices.
 fn stepped(trial: Trial, debugger: &mut Debugger) -> Answer {
     trial.begin();
     let (answer, count) = match trial.end(debugger.step(FIRST.choice)) {
@@ -132,7 +132,7 @@ t1 1 runs 0 regs 1 0 0 0 0 0 0 0 stack out\np0 1 2 0 2\n",
     ("no command", b"g t0 t64", b"?\n", 3),
 ];
 
-/// Tries `Debugger::command`: if memory is refused, it fails or the reply of `g` says so.
+/// Tries `Debugger::command` with the line of `command`: without memory it returns `Memory`, or the reply of `g` says so.
 fn commanded(trial: Trial, debugger: &mut Debugger, command: &Command) -> Answer {
     let (_, line, wanted, behind) = *command;
     let Ok(mut output) = MemorySink::new(trial.alloc, 1000, None) else {
@@ -144,7 +144,8 @@ fn commanded(trial: Trial, debugger: &mut Debugger, command: &Command) -> Answer
     answer.provided(goes_on(trial.alloc, debugger, count))
 }
 
-/// Judges a command and its reply. Also returns how many choices have to be played after it.
+/// Judges a command's result and its `reply`, which is whole or empty. Also returns how many choices have to be played after
+/// it: `behind`, or 3 as before if memory was refused, but 5 if `g` came to its second value.
 fn command_answer(
     answered: Result<bool, CommandFault>,
     reply: &[u8],

@@ -19,7 +19,8 @@ enum Outcome {
 /// Requests of one call that are refused at most.
 const MOST: u16 = 60_000;
 
-/// Tries a call with its first request refused, then its second, and so on, until it makes no more.
+/// Tries a call with its first request for memory refused, then its second, and so on, until it makes no more: with `all` each
+/// with all later ones. A wrong answer ends this, and so do blocks of memory that are still in use.
 fn swept(alloc: Global, all: bool, call: Call) -> Outcome {
     let mut memory = 0u16;
     for request in 1..=MOST {
@@ -46,7 +47,7 @@ fn swept(alloc: Global, all: bool, call: Call) -> Outcome {
     Outcome::Wrong(MOST)
 }
 
-/// Returns in words whether two calls, of which the second has a longer run, make as many requests.
+/// Returns in words whether both calls, the second with a longer run, make as many requests. `many` is 0 without the library.
 fn compared(short: Outcome, long: Outcome) -> &'static str {
     match (short, long) {
         (Outcome::Refused { requests: few, .. }, Outcome::Refused { requests: many, .. }) => {
@@ -70,20 +71,20 @@ pub struct Trials<'a> {
 }
 
 impl<'a> Trials<'a> {
-    /// Tries a call and writes the results: each request refused alone, or with all later ones.
+    /// Tries the call named `name` twice, and writes a line for each: with each request refused alone, and with all later ones.
     pub fn tell(&mut self, name: &str, call: Call) {
         self.try_once(name, false, call);
         self.try_once(name, true, call);
     }
 
-    /// Tries these calls, one after the other.
+    /// Tries these calls, one after the other, and writes two lines for each.
     pub fn tell_all(&mut self, calls: Calls) {
         for (name, call) in calls {
             self.tell(name, *call);
         }
     }
 
-    /// Tries a call with each request refused, alone or with all later ones, and writes the result.
+    /// Tries a call with each request refused, with `all` also all later ones, and writes a line, unless writing has failed.
     fn try_once(&mut self, name: &str, all: bool, call: Call) {
         if self.written.is_ok() {
             let outcome = swept(self.alloc, all, call);
@@ -96,7 +97,7 @@ impl<'a> Trials<'a> {
         }
     }
 
-    /// Writes the result of a call as one line.
+    /// Writes the result of a call as one line. It names the call and `which` requests were refused, unless none was.
     fn write(&self, name: &str, which: &str, outcome: Outcome) -> io::Result<()> {
         let came = match outcome {
             Outcome::Refused { requests: 0, .. } => {
@@ -111,7 +112,8 @@ impl<'a> Trials<'a> {
         println!(self.rt; "{name}, {which} refused: {came}")
     }
 
-    /// Writes whether a run makes as many requests as a run of ten times its length.
+    /// Tries both calls with each request for memory refused alone, and writes whether they make as many requests (or `WRONG`).
+    /// `long` has ten times the tokens or lines of `short`: the number of requests should not depend on that.
     pub fn tell_counts(&mut self, name: &str, short: Call, long: Call) {
         if self.written.is_ok() {
             let short = swept(self.alloc, false, short);

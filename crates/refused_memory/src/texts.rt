@@ -1,4 +1,4 @@
-//! Texts, images and programs.
+//! Texts, images and programs. A try of a call, from `begin` to `end`, is `Right`, out of `Memory`, or `Wrong`.
 
 use crate::programs::{image_of, program_of, shows};
 use crate::trial::{Answer, Trial};
@@ -33,7 +33,7 @@ fn lists(alloc: Global, image: &Image, listing: &[u8]) -> bool {
     }
 }
 
-/// Returns whether the machine of a program is that of the text before its first choice.
+/// Returns whether the machine of `program` shows the state that `TEXT` has before its first choice.
 fn begins(alloc: Global, program: Loaded) -> bool {
     match Machine::new(alloc, program, 1000) {
         Ok(machine) => shows(alloc, &machine, AT_FIRST),
@@ -41,7 +41,7 @@ fn begins(alloc: Global, program: Loaded) -> bool {
     }
 }
 
-/// Tries `assemble`: if memory is refused, the fault names a line of the text.
+/// Tries `assemble` of `TEXT`: if memory is refused, the fault names one of its eight lines.
 pub fn assembling(trial: Trial) -> Answer {
     match trial.end(assemble(trial.begin(), TEXT)) {
         Ok(image) => Answer::Right.provided(lists(trial.alloc, &image, LISTING)),
@@ -52,7 +52,7 @@ pub fn assembling(trial: Trial) -> Answer {
     }
 }
 
-/// Tries `disassemble`: the image is as before.
+/// Tries `disassemble` of the image of `TEXT`. Afterwards the image has the same canonical text as before.
 pub fn listing(trial: Trial) -> Answer {
     match image_of(trial.alloc, TEXT) {
         Ok(image) => listed(trial, &image),
@@ -60,7 +60,7 @@ pub fn listing(trial: Trial) -> Answer {
     }
 }
 
-/// Tries `disassemble` of this image.
+/// Tries `disassemble` of `image`, and then checks that the image still has this canonical text.
 fn listed(trial: Trial, image: &Image) -> Answer {
     let answer = match trial.end(disassemble(trial.begin(), image)) {
         Ok(text) => Answer::Right.provided(text.as_slice() == LISTING),
@@ -69,7 +69,7 @@ fn listed(trial: Trial, image: &Image) -> Answer {
     answer.provided(lists(trial.alloc, image, LISTING))
 }
 
-/// Tries `read_image` on the bytes of an image.
+/// Tries `read_image` on the bytes `IMAGE`: the image that it returns has the canonical text `listing`.
 pub fn reading(trial: Trial) -> Answer {
     let listing = b".thread t0 #1\n.thread t1 #0\nout r0\nhalt\n";
     match trial.end(read_image(trial.begin(), IMAGE)) {
@@ -79,7 +79,7 @@ pub fn reading(trial: Trial) -> Answer {
     }
 }
 
-/// Tries `load` on the image of the text.
+/// Tries `load` on the image of `TEXT`: a machine of the program shows the state before the first choice.
 pub fn loading(trial: Trial) -> Answer {
     let Ok(image) = image_of(trial.alloc, TEXT) else {
         return Answer::Wrong;
@@ -91,7 +91,7 @@ pub fn loading(trial: Trial) -> Answer {
     }
 }
 
-/// Tries `Loaded::copy`: the program that was copied is as before.
+/// Tries `Loaded::copy` of the program of `TEXT`. Afterwards the program that was copied is played as before.
 pub fn copying(trial: Trial) -> Answer {
     let Ok(program) = program_of(trial.alloc, TEXT) else {
         return Answer::Wrong;
@@ -100,7 +100,7 @@ pub fn copying(trial: Trial) -> Answer {
     answer.provided(begins(trial.alloc, program))
 }
 
-/// Tries `Loaded::copy` of this program.
+/// Tries `Loaded::copy` of `program`: a machine of the copy shows the state before the first choice.
 fn copied(trial: Trial, program: &Loaded) -> Answer {
     match trial.end(program.copy(trial.begin())) {
         Ok(copy) => Answer::Right.provided(begins(trial.alloc, copy)),

@@ -1,4 +1,5 @@
 //! Real threads: the record of their run, the phaser between them, and whole runs.
+//! A try of a call, from `begin` to `end`, is `Right`, out of `Memory`, or `Wrong`.
 
 use crate::marks;
 use crate::programs::{FIRST, MEETING, SECOND, is_at, program_of, trace_of};
@@ -33,7 +34,7 @@ fn is_played(alloc: Global, text: &[u8], schedule: &[u8], end: &[u8]) -> bool {
     }
 }
 
-/// Returns whether each choice of a schedule is a step, and they lead to a machine's state.
+/// Returns whether each choice of `schedule` is a step of the program `text`, and the last leads to the state of `machine`.
 fn leads_to(alloc: Global, text: &[u8], schedule: &[u8], machine: &Machine) -> bool {
     match state_text(alloc, machine) {
         Ok(state) => is_played(alloc, text, schedule, state.as_slice()),
@@ -41,12 +42,12 @@ fn leads_to(alloc: Global, text: &[u8], schedule: &[u8], machine: &Machine) -> b
     }
 }
 
-/// Returns whether a new record of the meeting is at its beginning.
+/// Returns whether the machine of `record` shows the state of the meeting before its first choice.
 fn begins(alloc: Global, record: Journaled) -> bool {
     is_at(alloc, record.machine(), 0)
 }
 
-/// Tries `Journaled::new` with this program.
+/// Tries `Journaled::new` with the meeting's program: the record's machine has played no choice. The limit is 1000 steps.
 fn recorded(trial: Trial, program: Loaded) -> Answer {
     match trial.end(Journaled::new(trial.begin(), program, 1000)) {
         Ok(record) => Answer::Right.provided(begins(trial.alloc, record)),
@@ -54,7 +55,7 @@ fn recorded(trial: Trial, program: Loaded) -> Answer {
     }
 }
 
-/// Tries `Journaled::new` with the meeting: the record is at its beginning.
+/// Tries `Journaled::new` with the meeting: the record's machine has played no choice.
 pub fn recording(trial: Trial) -> Answer {
     match program_of(trial.alloc, MEETING) {
         Ok(program) => recorded(trial, program),
@@ -62,7 +63,7 @@ pub fn recording(trial: Trial) -> Answer {
     }
 }
 
-/// Takes a thread's turn, or lets its wait expire. Without such a thread it is not ready.
+/// Takes a thread's turn, or lets its wait expire. If there is no such thread, the result is `NotReady`.
 fn take(record: &mut Journaled, choice: Choice) -> Result<Event, TakeFault> {
     if usize::from(choice.thread) >= record.machine().thread_count() {
         Err(TakeFault::NotReady)
@@ -73,7 +74,7 @@ fn take(record: &mut Journaled, choice: Choice) -> Result<Event, TakeFault> {
     }
 }
 
-/// Returns whether a record takes these turns.
+/// Returns whether `record` takes all of these turns. After the first that it refuses, none is tried.
 fn takes(record: &mut Journaled, turns: &[Run]) -> bool {
     for turn in turns {
         if take(record, turn.choice).is_err() {
@@ -83,7 +84,7 @@ fn takes(record: &mut Journaled, turns: &[Run]) -> bool {
     true
 }
 
-/// Returns the record of a text's run before its first turn.
+/// Returns the record of a run of the program `text` before its first turn. Any fault of the text counts as out of memory.
 fn record_of(alloc: Global, text: &[u8]) -> Result<Journaled, AllocError> {
     match program_of(alloc, text) {
         Ok(program) => Journaled::new(alloc, program, 1000),
@@ -91,13 +92,13 @@ fn record_of(alloc: Global, text: &[u8]) -> Result<Journaled, AllocError> {
     }
 }
 
-/// Returns whether a record is this schedule, and its machine what the schedule leads to.
+/// Returns whether the choices in `record` are `schedule`, and playing them on `text` leads to the state of its machine.
 fn leads(alloc: Global, text: &[u8], schedule: &[u8], record: &Journaled) -> bool {
     record.schedule() == schedule && leads_to(alloc, text, schedule, record.machine())
 }
 
-/// Tries to take a choice after these turns, which makes the record `schedule`. After `Memory` the record is as before, and
-/// then takes the choice.
+/// Tries to take `choice` after `turns`, which makes the record `schedule`. After `Memory` the record is as before, and then
+/// takes the choice.
 fn taking(trial: Trial, text: &[u8], turns: &[Run], choice: Choice, schedule: &[u8]) -> Answer {
     match record_of(trial.alloc, text) {
         Ok(record) => taken_behind(trial, text, record, turns, choice, schedule),
@@ -105,7 +106,7 @@ fn taking(trial: Trial, text: &[u8], turns: &[Run], choice: Choice, schedule: &[
     }
 }
 
-/// Does what `taking` does, on a record that hasn't taken these turns yet, which it drops.
+/// Takes `turns` and then tries `choice`, after which the record has to be `schedule`. It drops the record and so frees it.
 fn taken_behind(
     trial: Trial,
     text: &[u8],
@@ -118,7 +119,8 @@ fn taken_behind(
     taken(trial, text, &mut record, choice, schedule).provided(has_taken)
 }
 
-/// Does what `taking` does, on a record that has taken the turns.
+/// Tries to take `choice`, after which the record has to be `schedule`. After `Memory` it has to be `schedule` without the last
+/// three bytes (the token and the space before it), and then takes the choice.
 fn taken(
     trial: Trial,
     text: &[u8],
@@ -139,7 +141,7 @@ fn taken(
     answer.provided(leads(trial.alloc, text, schedule, record))
 }
 
-/// Tries `Journaled::take_step` at an `out`, of a thread that didn't have the last turn.
+/// Tries `Journaled::take_step` at an `out`, of a thread that didn't have the last turn: the output and the record need memory.
 pub fn taking_step(trial: Trial) -> Answer {
     let turns = [FIRST, SECOND, FIRST];
     taking(trial, MEETING, &turns, SECOND.choice, b"t0 t1 t0 t1")
@@ -159,7 +161,7 @@ pub fn taking_expiry(trial: Trial) -> Answer {
     taking(trial, TIMED, &turns, expiry, b"t0 t1 t0 t1 t1 x0")
 }
 
-/// Tries `SharedPhaser::new` with two parties in phase 0, of whom none has arrived.
+/// Tries `SharedPhaser::new` with two parties in phase 0, of which none has arrived: its packed state is 0x2_0002.
 pub fn sharing(trial: Trial) -> Answer {
     let made = SharedPhaser::new(trial.begin(), 2, Policy::Default, Phase::prevailing(0));
     trial.end(());
@@ -170,7 +172,7 @@ pub fn sharing(trial: Trial) -> Answer {
     }
 }
 
-/// Tries `run_live`: its schedule leads to its machine, or what a broken run left can be played.
+/// Tries `run_live`: its schedule leads to its machine's state, or after `Memory` can be played. `Spawn` counts as `Memory`.
 fn running<R: Threads + Wait + Sync>(rt: &R, trial: Trial) -> Answer {
     let Ok(program) = program_of(trial.alloc, MEETING) else {
         return Answer::Wrong;
@@ -182,18 +184,18 @@ fn running<R: Threads + Wait + Sync>(rt: &R, trial: Trial) -> Answer {
     }
 }
 
-/// Returns whether the schedule of a run of the meeting leads to its machine.
+/// Returns whether each choice in the schedule of `run`, one of the meeting, is a step, and they lead to its machine's state.
 fn is_its(alloc: Global, run: LiveRun) -> bool {
     leads_to(alloc, MEETING, run.schedule.as_slice(), &run.machine)
 }
 
-/// Returns whether what a run of the meeting left is a schedule that was played.
+/// Returns whether each choice of `left`, the schedule of a run of the meeting that ended early, is a step (`b""`: any end).
 fn is_left(alloc: Global, left: Vec<u8>) -> bool {
     is_played(alloc, MEETING, left.as_slice(), b"")
 }
 
-/// Returns the result of `run_live` with each of its first requests refused in turn. How many requests a run makes depends on
-/// how its threads meet, and a thread's block may outlive the run for a moment: so neither is counted.
+/// Returns in words the result of `run_live` with each of its first 100 requests refused in turn. How many requests a run makes
+/// depends on how its threads meet, and a thread's block may outlive the run for a moment: so neither is counted.
 pub fn swept<R: Threads + Wait + Sync>(rt: &R, alloc: Global) -> &'static str {
     let mut memory = 0u32;
     for request in 1..=100u16 {

@@ -34,13 +34,13 @@ pub struct Trial {
 }
 
 impl Trial {
-    /// Begins the call: the trial's request of it is refused. Returns the allocator for the call.
+    /// Begins the call: its request of number `request` will be refused, with `all` also the later ones. Returns its allocator.
     pub fn begin(&self) -> Global {
         marks::begin(self.alloc, self.request, self.all);
         self.alloc
     }
 
-    /// Ends the call: no request is refused any more. Returns the call's result, which is given.
+    /// Ends the call: no request is refused any more. Returns `answered`, the call's result, which was made before.
     pub fn end<T>(&self, answered: T) -> T
         ensures { result ≡ answered }
     {

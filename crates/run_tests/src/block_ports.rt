@@ -16,7 +16,7 @@ static PUSHES: [(usize, usize); 7] = [
     (BLOCK + 1, 2),
 ];
 
-/// Returns whether a port takes a piece so often, and has written all of it when it is finished.
+/// Returns whether a block port takes `piece` as often as `times` says, and `finish` writes as many bytes as were pushed.
 fn writes(alloc: Global, piece: &[u8], times: usize) -> Result<bool, AllocError> {
     let mut kept = Vec::new(alloc);
     let mut port = BlockPort::new(alloc, WritePort::new(&mut kept))?;

@@ -46,12 +46,12 @@ fn turns(alloc: Global, threads: &[u8]) -> Result<Vec<Choice>, AllocError> {
     Ok(choices)
 }
 
-/// Returns the machine of the meeting after these choices, if its program is played.
+/// Returns the machine of the meeting after these choices up to the first refused one. `None` is out of memory.
 fn played(alloc: Global, choices: &[Choice]) -> Option<Machine> {
     play(alloc, image_of(alloc, MEETING)?, choices).ok()
 }
 
-/// Returns the machine of the meeting after turns of these threads, if its program is played.
+/// Returns the machine of the meeting after turns of `threads`, in order, up to the first refused one. `None` is out of memory.
 fn met(alloc: Global, threads: &[u8]) -> Option<Machine> {
     let choices = turns(alloc, threads).ok()?;
     played(alloc, choices.as_slice())
@@ -89,7 +89,7 @@ fn a_program_with_a_fault_is_not_played(rt: HostRuntime) {
     }
 }
 
-/// Returns whether a choice is played and taken back, and the machine then shows the same as before.
+/// Returns whether `choice` is played and taken back, and the machine then shows the same state as before.
 fn is_taken_back(alloc: Global, machine: &mut Machine, choice: Choice) -> bool {
     match state_text(alloc, machine) {
         Ok(before) => {
@@ -108,7 +108,7 @@ fn an_arrival_is_taken_back(rt: HostRuntime) {
     }
 }
 
-/// Plays a choice, and takes it back with what it returned. Returns how many steps were done meanwhile, or None if it is refused.
+/// Plays a choice and takes it back with the step's `undo`. Returns the steps counted between, or `None` if it is refused.
 fn steps_meanwhile(machine: &mut Machine, choice: Choice) -> Option<u32> {
     let Ok((_, undo)) = step(machine, choice) else {
         return None;
@@ -118,7 +118,7 @@ fn steps_meanwhile(machine: &mut Machine, choice: Choice) -> Option<u32> {
     Some(steps)
 }
 
-/// Returns whether a turn of the second thread is played and taken back, and one of a third thread refused.
+/// Returns whether the second thread's turn is played as step 2 and taken back, and a turn of a missing third one is refused.
 fn steps_and_comes_back(machine: &mut Machine) -> bool {
     steps_meanwhile(machine, turn(1)) == Some(2)
         && steps_meanwhile(machine, turn(2)).is_none()
@@ -134,7 +134,7 @@ fn a_step_is_taken_back(rt: HostRuntime) {
     }
 }
 
-/// Returns how many events choices have that are played and taken back, if none is refused.
+/// Plays `choices` and takes them back. Returns how many events they returned, one each, or `None` if a choice is refused.
 fn events(alloc: Global, debugger: &mut Debugger, choices: &[Choice]) -> Option<usize>
     requires { length choices.now ≤ debugger.old.kept }
 {
@@ -144,7 +144,7 @@ fn events(alloc: Global, debugger: &mut Debugger, choices: &[Choice]) -> Option<
     }
 }
 
-/// Returns whether six choices are played and taken back, and the machine then shows the same as before.
+/// Returns whether `choices`, six of them, are played and taken back, and the machine then shows the same state as before.
 fn are_taken_back(alloc: Global, debugger: &mut Debugger, choices: &[Choice]) -> bool
     requires { length choices.now ≤ debugger.old.kept }
 {
@@ -157,7 +157,7 @@ fn are_taken_back(alloc: Global, debugger: &mut Debugger, choices: &[Choice]) ->
     }
 }
 
-/// Returns whether the meeting, after its first turn, is played and taken back to there.
+/// Returns whether the six turns that follow the meeting's first are played by a debugger, and taken back. It keeps just six.
 fn is_meeting_taken_back(alloc: Global, machine: Machine) -> bool {
     let choices = [turn(1), turn(0), turn(0), turn(0), turn(1), turn(1)];
     match Debugger::new(alloc, machine, 6) {
@@ -189,12 +189,12 @@ fn goes_on_and_back(debugger: &mut Debugger) -> bool {
         && session::present(debugger).steps() == 1
 }
 
-/// Returns a session of the meeting that keeps one choice.
+/// Returns a session of the meeting before its first choice, which keeps one choice.
 fn begun(alloc: Global) -> Option<Debugger> {
     session::begin(alloc, met(alloc, &[])?, 1).ok()
 }
 
-/// A session that keeps one choice takes back one, and no second one.
+/// A session that keeps one choice takes back one, and no second one, though it has played two.
 #[test]
 fn a_session_steps_on_and_back(rt: HostRuntime) {
     match begun(rt.alloc()) {
@@ -219,7 +219,7 @@ fn registers(forest: &mut Forest) -> Option<Registered> {
     Some(register(forest, PhaserId(0), 1))
 }
 
-/// Ends the phase of the first phaser if its contract allows it. Returns whether it has ended.
+/// Ends the phase of the first phaser if it is a turned root that may end it. Returns whether it has ended.
 fn ends_phase(forest: &mut Forest) -> bool {
     let id = PhaserId(0);
     if forest.len() == 0 || forest.root(id).0 != 0 || !forest.is_turned(id) {
@@ -266,7 +266,7 @@ fn a_text_shows_its_run(rt: HostRuntime) -> Result<(), Fail> {
     Ok(())
 }
 
-/// Returns whether an image is listed as the meeting's canonical text.
+/// Returns whether `list` writes the meeting's canonical text of `image`.
 fn is_listed(alloc: Global, image: &Image) -> bool {
     match MemorySink::new(alloc, 1000, None) {
         Ok(mut output) => list(alloc, image, &mut output).is_ok() && output.bytes() == LISTED,
@@ -274,7 +274,7 @@ fn is_listed(alloc: Global, image: &Image) -> bool {
     }
 }
 
-/// Returns whether the canonical text of an image is the meeting's.
+/// Returns whether `disassemble` returns the meeting's canonical text of `image`.
 fn is_disassembled(alloc: Global, image: &Image) -> bool {
     match disassemble(alloc, image) {
         Ok(text) => text.as_slice() == LISTED,
@@ -300,7 +300,7 @@ fn its_canonical_text_is_assembled(rt: HostRuntime) {
     }
 }
 
-/// Returns whether the trace of an image's program is that of the meeting.
+/// Returns whether `compare` finds the meeting's trace to be that of the image's program, and writes the line `same`.
 fn is_found_the_same(alloc: Global, image: Image) -> bool {
     let mut trace = MemorySource::new(TRACE, None);
     let Ok(mut line) = MemorySink::new(alloc, 100, None) else {
@@ -327,12 +327,12 @@ fn takes_one_turn(journaled: &mut Journaled) -> bool {
         && schedule(journaled) == b"t0".as_slice()
 }
 
-/// Returns the record of the meeting before the first step.
+/// Returns the record of a live run of the meeting before the first step. Its limit is 10 steps.
 fn record_of_meeting(alloc: Global) -> Option<Journaled> {
     begin(alloc, program_of(alloc, MEETING)?, 10).ok()
 }
 
-/// A turn that is taken is in the record, and a turn that isn't ready is not.
+/// A turn that is taken is in the record. The turn of a thread that isn't runnable is refused, and not in it.
 #[test]
 fn a_turn_is_recorded(rt: HostRuntime) {
     match record_of_meeting(rt.alloc()) {
@@ -344,7 +344,8 @@ fn a_turn_is_recorded(rt: HostRuntime) {
     }
 }
 
-/// One party meets itself, and a second one is registered, arrives and leaves.
+/// One party meets itself. A second one is registered; one of both leaves, and the other ends phase 1. In phase 2 the phaser
+/// is terminated. A wait for phase -5, which is no phase, returns -5.
 #[test]
 fn calls_are_made_on_a_shared_phaser(rt: HostRuntime) -> Result<(), Fail> {
     let made = new(rt.alloc(), 1, Policy::Default, Phase::prevailing(0));

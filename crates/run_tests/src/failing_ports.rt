@@ -98,7 +98,7 @@ fn fails(port: Port, failing: Port, call: u32) -> Option<u32> {
     if port == failing { Some(call) } else { None }
 }
 
-/// Makes the call of a case. The port `failing` fails at its own call `call`, counted from 0.
+/// Makes the call of a case. The port `failing` fails at its own call `call`, counted from 0. The port for errors never fails.
 fn made(alloc: Global, case: &Case, failing: Port, call: u32) -> Result<Came, AllocError> {
     let mut file = MemorySource::new(case.file.as_bytes(), fails(Port::File, failing, call));
     let mut other = MemorySource::new(case.other, fails(Port::Other, failing, call));
@@ -119,12 +119,12 @@ fn made(alloc: Global, case: &Case, failing: Port, call: u32) -> Result<Came, Al
     })
 }
 
-/// Returns whether a call wrote everything, and has no fault.
+/// Returns whether a command wrote all of its output, and has the exit status 0 and no line of an error.
 fn is_whole(case: &Case, came: &Came) -> bool {
     came.status == 0 && came.output.bytes() == case.whole && came.errors.bytes().is_empty()
 }
 
-/// Returns whether a call reports that this port failed, after a beginning of what it writes.
+/// Returns whether a command has status 5 and the line `write`, or `read` if an input failed, after a beginning of its output.
 fn is_cut(case: &Case, came: &Came, failing: Port) -> bool {
     let line: &[u8] = if failing == Port::Output {
         b"write\n"
@@ -134,7 +134,8 @@ fn is_cut(case: &Case, came: &Came, failing: Port) -> bool {
     came.status == 5 && case.whole.starts_with(came.output.bytes()) && came.errors.bytes() == line
 }
 
-/// Returns whether a case is cut or whole. If the first call of a port fails, it has to be cut.
+/// Returns whether the command of a case reports that the port `failing` failed, or else writes everything. If the first call
+/// of a port that it uses fails, it has to report this. A later one may never be made.
 fn is_right(alloc: Global, case: &Case, failing: Port, call: u32) -> bool {
     let Ok(came) = made(alloc, case, failing, call) else {
         return false;
@@ -144,7 +145,7 @@ fn is_right(alloc: Global, case: &Case, failing: Port, call: u32) -> bool {
     is_cut(case, &came, failing) || (may_be_whole && is_whole(case, &came))
 }
 
-/// Whichever call of a port fails, the command reports it after a beginning of its output.
+/// Whichever call of whichever port fails, the command reports it after a beginning of its output. No command makes 60 calls.
 #[test]
 fn a_port_that_fails_at_any_call_is_reported(rt: HostRuntime) {
     for case in &CASES {
@@ -156,7 +157,7 @@ fn a_port_that_fails_at_any_call_is_reported(rt: HostRuntime) {
     }
 }
 
-/// Returns whether a run reports that its trace failed at this call, or else writes all of it.
+/// Returns whether `run_text` reports that its trace can't be written, which fails at call `call`, or else writes all of it.
 fn is_right_run(alloc: Global, call: u32) -> bool {
     let Ok(mut trace) = MemorySink::new(alloc, 1000, Some(call)) else {
         return false;
@@ -171,7 +172,7 @@ fn is_right_run(alloc: Global, call: u32) -> bool {
     }
 }
 
-/// Returns whether the comparison of a run reports that its port failed at this call, or else has a verdict.
+/// Returns whether `compare` reports that the trace can't be read, which fails at call `call`, or else finds it the same.
 fn is_right_verdict(alloc: Global, call: u32) -> bool {
     let Some(image) = image_of(alloc, MEETING) else {
         return false;
@@ -183,7 +184,7 @@ fn is_right_verdict(alloc: Global, call: u32) -> bool {
     }
 }
 
-/// Returns whether writing an image reports that it failed at this call, or else writes all.
+/// Returns whether `write_image` reports that its output fails at call `call`, or else writes all bytes of the image.
 fn is_right_image(alloc: Global, call: u32) -> bool {
     let Some(image) = image_of(alloc, ".thread a main\nmain: halt\n") else {
         return false;
@@ -195,7 +196,7 @@ fn is_right_image(alloc: Global, call: u32) -> bool {
     HALT.starts_with(output.bytes()) && is_made == (output.bytes() == HALT)
 }
 
-/// The functions that these commands call report a failing port, too.
+/// `run_text`, `compare` and `write_image`, which these commands call, report a failing port, too.
 #[test]
 fn what_the_commands_stand_on_reports_it_too(rt: HostRuntime) {
     for call in 0..CALLS {
@@ -206,7 +207,7 @@ fn what_the_commands_stand_on_reports_it_too(rt: HostRuntime) {
     }
 }
 
-/// Returns whether a lonely thread is played by real threads until it is stuck.
+/// Returns whether a program whose only thread waits for a second party is played by a real thread until it is stuck.
 fn is_played_live<R: Threads + Wait + Sync>(rt: &R, alloc: Global) -> Result<bool, AllocError> {
     let text = b".phaser p 2\n.thread a main\nmain: paaa r0 p\nhalt\n";
     let trace: &[u8] =
@@ -218,7 +219,7 @@ fn is_played_live<R: Threads + Wait + Sync>(rt: &R, alloc: Global) -> Result<boo
     Ok(status == 0 && output.bytes() == trace)
 }
 
-/// Returns whether a race of two parties writes its line.
+/// Returns whether a race of two threads that meet 1000 times writes its line: the phaser is then in phase 1000.
 fn is_raced<R: Threads + Wait + Sync>(rt: &R, alloc: Global) -> Result<bool, AllocError> {
     let mut line = MemorySink::new(alloc, 100, None)?;
     let mut errors = MemorySink::new(alloc, 100, None)?;

@@ -15,12 +15,12 @@ const EXPIRY: Choice = Choice {
     expiry: true,
 };
 
-/// Returns whether exactly `taken` idle turns are played if `most` are asked for.
+/// Returns whether exactly `taken` idle turns of thread 0 are played if `most` are asked for. It waits, so each is idle.
 fn idles(machine: &mut Machine, most: u64, taken: u64) -> bool {
     machine.thread_count() == 2 && machine.idle(TURN, most) == taken
 }
 
-/// Returns whether a machine in which thread 0 begins to wait plays as many choices as it may, and no more.
+/// Returns whether a machine whose thread 0 begins to wait plays 10^12 choices, nearly all idle, and then refuses every choice.
 fn ends_at_the_most(machine: &mut Machine) -> bool {
     machine.step(TURN).is_ok()
         && idles(machine, 999_999_999_998, 999_999_999_998)
@@ -32,7 +32,7 @@ fn ends_at_the_most(machine: &mut Machine) -> bool {
         && machine.step(EXPIRY) == Err(StepFault::StepLimit)
 }
 
-/// Returns the machine of a text, with this limit of steps.
+/// Returns the machine of a program's text, with this limit of steps, or `None` if the text has a fault.
 fn machine_of(alloc: Global, text: &str, limit: u32) -> Option<Machine>
     requires { limit ≤ 1000000000 }
 {
@@ -59,7 +59,7 @@ static REFUSED: [(u8, bool, Result<What, StepFault>); 7] = [
     (2, true, Err(StepFault::NoSuchThread)),
 ];
 
-/// Returns whether each choice of the table has its result, and only two idle ones are played.
+/// Returns whether each choice of `REFUSED` has its result. After three steps only its two idle expiries count as choices.
 fn refuses(machine: &mut Machine) -> bool {
     for (thread, expiry, answer) in &REFUSED {
         let choice = Choice {
@@ -73,7 +73,7 @@ fn refuses(machine: &mut Machine) -> bool {
     machine.choices() == 5 && machine.steps() == 3
 }
 
-/// Returns whether so many turns of thread 0 are played.
+/// Returns whether thread 0 takes `turns` turns, none of which is refused.
 fn plays(machine: &mut Machine, turns: u32) -> bool {
     for _ in 0..turns {
         if machine.step(TURN).is_err() {

@@ -13,7 +13,7 @@ const EXPIRY: Choice = Choice {
     expiry: true,
 };
 
-/// Appends the line of an event and those of two refusals, with the largest numbers.
+/// Appends the line of an event and those of two refusals, with the largest numbers: of choices, threads, rows and values.
 fn append(text: &mut Vec<u8>) -> Result<(), AllocError> {
     let event = Event {
         what: What::Out(i32::MIN),

@@ -2,7 +2,7 @@
 use assembler::name_hash::NameHash;
 use std::hash::BuildHasher;
 
-/// One name after two texts: if the text is left out, or the hash is fixed, both hashes are equal.
+/// A name has another hash in another text, here one with one more LF, so that no text can be made in which names collide.
 #[test]
 fn a_name_is_hashed_behind_its_text(rt: HostRuntime) {
     let name = b"a".as_slice();

@@ -29,7 +29,7 @@ impl Meeting {
 }
 
 impl Gate for Meeting {
-    /// Holds a worker's first pass until all have begun theirs, or notes that they never did.
+    /// Holds a worker's first pass (`step` 0) until all have begun theirs, or notes in `failed` that they never did.
     fn pass(&self, _thread: u8, step: u32) {
         if step > 0 {
             return;
@@ -63,7 +63,7 @@ impl Script {
         }
     }
 
-    /// Returns how many passes of a thread have begun.
+    /// Returns how many passes of a thread have begun. A thread after the third has none.
     fn begun(&self, thread: u8) -> u32 {
         match self.begun.get(usize::from(thread)) {
             Some(begun) => begun.load(Ordering::SeqCst),
@@ -71,7 +71,7 @@ impl Script {
         }
     }
 
-    /// Waits until so many passes of a thread have begun. After too many looks it has failed.
+    /// Waits until `passes` passes of `thread` have begun. After `MOST_LOOKS` looks it gives up, and notes this in `failed`.
     fn hold(&self, thread: u8, passes: u32) {
         for _ in 0..MOST_LOOKS {
             if self.begun(thread) >= passes {
@@ -84,7 +84,8 @@ impl Script {
 }
 
 impl Gate for Script {
-    /// Notes that this pass has begun, and waits until the steps before it in the script are done.
+    /// Notes that a pass of `thread` has begun, and waits until the steps before it in the script are done: until each other
+    /// thread has begun one pass more than it has steps there.
     fn pass(&self, thread: u8, step: u32) {
         if let Some(begun) = self.begun.get(usize::from(thread)) {
             begun.store(step.saturating_add(1), Ordering::SeqCst);
@@ -114,7 +115,7 @@ enum Came<'a> {
     Steps(u32),
 }
 
-/// Returns whether the threads of a run have all ended, with this schedule or so many steps.
+/// Returns whether the threads of `run` have all ended, and its schedule, or its number of steps, is the one in `came`.
 fn comes_to(run: &LiveRun, came: Came) -> bool {
     let is_it = match came {
         Came::Schedule(order) => run.schedule.as_slice() == order.as_bytes(),
@@ -123,7 +124,7 @@ fn comes_to(run: &LiveRun, came: Came) -> bool {
     is_it && run.ending == Ending::AllEnded
 }
 
-/// Plays a program live. Returns whether all threads end, with this schedule or so many steps.
+/// Plays `text` live, held by `gate`. Returns whether all threads end, with the schedule or the number of steps in `came`.
 fn runs<R: Threads + Wait + Sync, G: Gate + Sync>(
     rt: &R,
     alloc: Global,
@@ -173,7 +174,7 @@ fn workers_step_in_the_order_that_a_gate_forces(rt: HostRuntime) {
     }
 }
 
-/// Returns the text of a program in which so many threads meet at one phaser.
+/// Returns the text of a program in which `threads` threads meet at one phaser and end.
 fn crowd(alloc: Global, threads: u8) -> Result<String, AllocError> {
     let mut text = String::new(alloc);
     write!(text, ".phaser p {threads}\n")?;
@@ -184,7 +185,7 @@ fn crowd(alloc: Global, threads: u8) -> Result<String, AllocError> {
     Ok(text)
 }
 
-/// 64 workers begin before any goes on. Each but the last to arrive has one step more.
+/// 64 workers begin before any goes on. Each has two steps (`paaa`, `halt`), and each but the last to arrive ends a wait: 191.
 #[test]
 fn sixty_four_workers_run_at_once(rt: HostRuntime) -> Result<(), AllocError> {
     let text = crowd(rt.alloc(), 64)?;

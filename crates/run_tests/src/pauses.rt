@@ -28,7 +28,7 @@ struct Notes {
     steps: [AtomicU32; 8],
 }
 
-/// Returns a number for a pause: 0 for none, even for a yield, and odd for a spin.
+/// Returns a number for a pause, to be kept in an atomic: 0 for none, twice the times for a yield, and an odd one for a spin.
 fn number_of(pause: Pause) -> u32 {
     match pause {
         Pause::NoPause => 0,
@@ -48,7 +48,7 @@ impl Pausing for Notes {
     }
 }
 
-/// The pause before each pass is the one that seed, run and step determine.
+/// In two runs of four passes, the pause before each pass is the one that seed, run and step determine.
 #[test]
 fn each_run_has_pauses_of_its_own(rt: HostRuntime) -> Result<(), Fail> {
     let zeros = || [0; 8].map(AtomicU32::new);
@@ -83,7 +83,7 @@ fn each_run_has_pauses_of_its_own(rt: HostRuntime) -> Result<(), Fail> {
     Ok(())
 }
 
-/// A long pause takes time: who is at it doesn't pass at once.
+/// A pause takes time: a spin of 10,000,000 rounds takes a millisecond or longer.
 #[test]
 fn a_worker_waits_at_its_pause(rt: HostRuntime) -> Result<(), Fail> {
     let began = Instant::now(&rt)?;

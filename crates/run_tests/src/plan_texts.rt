@@ -6,7 +6,7 @@ use plans::word::{Chosen, Rule, Step, Word};
 use plans::words::Words;
 use std::alloc::Global;
 
-/// Returns the line and number of a plan's fault, if any, for the threads ann, xavier and bob.
+/// Returns the line and the number of a plan's fault for the threads ann, xavier and bob, or `None` if it has none.
 fn told(alloc: Global, text: &[u8]) -> Option<(u64, Option<u8>)> {
     let names: [&[u8]; 3] = [b"ann", b"xavier", b"bob"];
     match read_plan(alloc, text, &names) {
@@ -52,6 +52,7 @@ fn turn(thread: u8, times: u32) -> Word {
     })
 }
 
+/// Returns the word for choices by a rule, at most `most` of them, as `..*5`. `None` is no limit.
 fn rule(rule: Rule, most: Option<u32>) -> Word {
     Word::Step(Step::Follow { rule, most })
 }
@@ -75,7 +76,7 @@ fn is_read_as(alloc: Global, text: &[u8], wanted: &[Word]) -> bool {
     }
 }
 
-/// Returns whether these are exactly the words that are expected.
+/// Returns whether `words` are exactly those of `wanted`, in this order.
 fn has_words(words: &Words, wanted: &[Word]) -> bool {
     let mut left = words.all();
     for word in wanted {

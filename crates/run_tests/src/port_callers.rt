@@ -13,7 +13,7 @@ enum Fault {
     Write,
 }
 
-/// Writes one piece and then the other.
+/// Writes `first` and then `second`. If the first write fails, the second isn't made.
 fn write_both<K: Sink>(sink: &mut K, first: &[u8], second: &[u8]) -> Result<(), Failed>
     ensures bytes { OnOk result
         (Appends (K.written sink.old) (K.written sink.new) (first.now ++ second.now)) }
@@ -44,7 +44,7 @@ fn copy_piece<S: Source, K: Sink>(
     }
 }
 
-/// Copies two pieces, one after the other.
+/// Copies two pieces of the source, each at most as long as the buffer. The first fault ends the copy, and says which side.
 fn copy_two_pieces<S: Source, K: Sink>(
     source: &mut S,
     sink: &mut K,
@@ -70,7 +70,8 @@ static COPIES: [(Option<u32>, Option<u32>, Option<Fault>, &[u8]); 5] = [
     (None, Some(1), Some(Fault::Write), b"bar"),
 ];
 
-/// Returns whether two pieces of `barrier` are copied with this fault, if any, and exactly these bytes.
+/// Returns whether a copy of two pieces of `barrier` has this fault and moves exactly `bytes`, if the source fails at its call
+/// `read_fails`, and the sink at its call `write_fails`, counted from 0.
 fn copies(
     alloc: Global,
     read_fails: Option<u32>,

@@ -22,13 +22,13 @@ static COMMANDS: [&str; 10] = [
 /// A reply is written by fewer calls than these.
 const CALLS: u32 = 20;
 
-/// Returns a debugger of the meeting that has carried out no command.
+/// Returns a debugger of the meeting that has carried out no command, and keeps 100 choices. `None` is out of memory.
 fn begun(alloc: Global) -> Option<Debugger> {
     let machine = first_machine(alloc, image_of(alloc, MEETING)?).ok()?;
     Debugger::new(alloc, machine, 100).ok()
 }
 
-/// Carries out a command, and returns the reply, if there is no fault.
+/// Carries out the command in `line`, and returns its reply, or `None` if it is out of memory.
 fn answered(alloc: Global, debugger: &mut Debugger, line: &str) -> Option<MemorySink> {
     let mut output = MemorySink::new(alloc, 1000, None).ok()?;
     if debugger.command(line.as_bytes(), &mut output).is_ok() {
@@ -38,7 +38,7 @@ fn answered(alloc: Global, debugger: &mut Debugger, line: &str) -> Option<Memory
     }
 }
 
-/// Returns whether a debugger carries out so many of the first commands without a fault.
+/// Returns whether a debugger carries out the first `count` of `COMMANDS` without a fault.
 fn carries_out(alloc: Global, debugger: &mut Debugger, count: usize) -> bool {
     let (commands, _) = COMMANDS.split_at(count.min(COMMANDS.len()));
     for line in commands {
@@ -49,7 +49,7 @@ fn carries_out(alloc: Global, debugger: &mut Debugger, count: usize) -> bool {
     true
 }
 
-/// Returns whether a long `g` has the same reply in both, so that both have the same breakpoints.
+/// Returns whether `g t0*3 t1*3` has the same reply in both debuggers: they stop at the same breakpoints.
 fn stop_alike(alloc: Global, debugger: &mut Debugger, other: &mut Debugger) -> bool {
     let Some(output) = answered(alloc, debugger, "g t0*3 t1*3") else {
         return false;
@@ -65,7 +65,7 @@ fn is_like(alloc: Global, debugger: &mut Debugger, other: &mut Debugger) -> bool
     are_alike(alloc, debugger.machine(), other.machine()) && stop_alike(alloc, debugger, other)
 }
 
-/// Returns the reply of a new debugger to a command after the first `count` of the table.
+/// Returns the whole reply of a new debugger to the command in `line`, after the first `count` of `COMMANDS`.
 fn reply(alloc: Global, count: usize, line: &str) -> Option<MemorySink> {
     let mut debugger = begun(alloc)?;
     if carries_out(alloc, &mut debugger, count) {
@@ -75,7 +75,7 @@ fn reply(alloc: Global, count: usize, line: &str) -> Option<MemorySink> {
     }
 }
 
-/// Returns whether a command fails after a part of its reply, or writes all if no call fails.
+/// Returns whether a command whose output fails at call `call` returns `Write` after a beginning of its reply, or writes all.
 fn is_told(alloc: Global, debugger: &mut Debugger, line: &str, call: u32, whole: &[u8]) -> bool {
     let Ok(mut output) = MemorySink::new(alloc, 1000, Some(call)) else {
         return false;
@@ -86,7 +86,8 @@ fn is_told(alloc: Global, debugger: &mut Debugger, line: &str, call: u32, whole:
     }
 }
 
-/// Returns whether `is_told` is true of the command of this number.
+/// Returns whether command `number`, whose output fails at call `call`, returns `Write` after a beginning of its reply, or
+/// writes all of it, as a new debugger does.
 fn is_answered(alloc: Global, debugger: &mut Debugger, number: usize, call: u32) -> bool {
     let Some(line) = COMMANDS.get(number) else {
         return false;
@@ -97,7 +98,7 @@ fn is_answered(alloc: Global, debugger: &mut Debugger, number: usize, call: u32)
     }
 }
 
-/// Returns whether a debugger is like one that has carried out the first `count` commands.
+/// Returns whether a debugger shows the state, and has the breakpoints, of one that has carried out the first `count` commands.
 fn is_behind(alloc: Global, debugger: &mut Debugger, count: usize) -> bool {
     match begun(alloc) {
         Some(mut other) => {
@@ -107,7 +108,7 @@ fn is_behind(alloc: Global, debugger: &mut Debugger, count: usize) -> bool {
     }
 }
 
-/// Returns whether a command is carried out although its reply fails at this call.
+/// Returns whether command `number` is carried out although its output fails at call `call`: it then has its full effect.
 fn is_carried_out(alloc: Global, number: usize, call: u32) -> bool {
     match begun(alloc) {
         Some(mut debugger) => {

@@ -11,7 +11,7 @@ static ROWS: [([u8; 8], &str, usize); 4] = [
     ([0x28, 0, 1, 2, 0, 0, 0, 0], "pawaitt", 4),
 ];
 
-/// Returns whether these bytes are a row with this word, and the word has so many operands.
+/// Returns whether `bytes` are those of a row whose word is `word`, and a row of this word has `operands` operands.
 fn is_spelled(bytes: [u8; 8], word: &str, operands: usize) -> bool {
     let shape = shape_of(word.as_bytes());
     match decode(bytes) {
@@ -33,7 +33,7 @@ fn rows_are_spelled_in_words_and_bytes(rt: HostRuntime) {
     assert!(rt; decode([0, 1, 0, 0, 0, 0, 0, 0]).is_none());
 }
 
-/// A row that only computes with registers is played without a machine.
+/// A row that only computes with registers is played without a machine: `ldi r1 100` at row 4 leads to row 5, and `jmp` to 7.
 #[test]
 fn rows_of_registers_are_played_alone(rt: HostRuntime) {
     let load = Row::Ldi {
@@ -49,7 +49,7 @@ fn rows_of_registers_are_played_alone(rt: HostRuntime) {
 /// A phase, the next, and the view of a phaser that was terminated in it.
 static PHASES: [(i32, i32, i32); 2] = [(4, 5, -2147483644), (2147483647, 0, -1)];
 
-/// Returns whether this phase comes before `next`, and has this view if it is terminated.
+/// Returns whether `next` follows phase `number`, and `view` is the view of a phaser that was terminated in phase `number`.
 fn leads_to(number: i32, next: i32, view: i32) -> bool {
     match Phase::new(number) {
         Some(phase) => phase.next().number() == next && phase.negative() == view,

@@ -42,7 +42,7 @@ static EXAMPLES: [Example; 26] = [
     ("T1", &[], Err(Byte(0))),
 ];
 
-/// Returns whether these runs are exactly these tokens.
+/// Returns whether `runs` are exactly those of `tokens`, each given as whether it is an expiry, its thread, and how often.
 fn is_same(runs: &[Run], tokens: &[(bool, u8, u32)]) -> bool {
     runs.len() == tokens.len()
         && runs.iter().zip(tokens).all(|(run, (expiry, thread, times))| {
@@ -75,7 +75,7 @@ fn reads(
         && (first == second || first.is_ok())
 }
 
-/// Checks each cut of a stream into three pieces, some of them empty.
+/// Checks that each cut of a stream into three pieces, some of them empty, is read as its tokens, with its fault.
 fn check_cuts(rt: &impl Abort, alloc: Global, example: &Example) {
     let (text, tokens, answer) = *example;
     let text = text.as_bytes();

@@ -44,14 +44,14 @@ static ROWS: [Row; 12] = [
     (2, 3, Default, Force, Dead(-2147483645), 0x8000000300020002),
 ];
 
-/// Makes a phaser in phase 0, and its first caller.
+/// Makes a phaser in phase 0, and its first caller: a `Party` is what a caller needs for its calls.
 fn made(alloc: Global, parties: u16, policy: Policy) -> Result<(SharedPhaser, Party), NewFault>
     ensures { IfOk result (λ r. (phaser_of r.1 ≡ r.0) × (r.1.known.number ≡ 0)) }
 {
     SharedPhaser::new(alloc, parties, policy, Phase::prevailing(0))
 }
 
-/// Returns the result of one try of a call, or `None` if it loses a race or is a look or a wait.
+/// Returns the result of `call` in one try, or `None` if another caller came first or it isn't one of these three calls.
 fn tried(phaser: &SharedPhaser, party: &mut Party, call: Call) -> Option<Reply>
     requires { phaser_of party.old ≡ phaser.now }
     ensures { phaser_of party.new ≡ phaser.now }
@@ -65,7 +65,7 @@ fn tried(phaser: &SharedPhaser, party: &mut Party, call: Call) -> Option<Reply>
     made.ok()
 }
 
-/// Returns the result of a call that takes `Wait` and tries on, or `None` for a look or a wait.
+/// Returns the result of `call`, which tries again until no other caller comes first, or `None` if it is a look or a wait.
 fn called<R: Wait>(rt: &R, phaser: &SharedPhaser, party: &mut Party, call: Call) -> Option<Reply>
     requires { phaser_of party.old ≡ phaser.now }
     ensures { phaser_of party.new ≡ phaser.now }
@@ -79,7 +79,7 @@ fn called<R: Wait>(rt: &R, phaser: &SharedPhaser, party: &mut Party, call: Call)
     }
 }
 
-/// Returns whether a call has its row's result: with `waits` the call that tries on, or one try.
+/// Returns whether the call of `row` has its result and leaves its word: by the call that tries on (`waits`) or in one try.
 fn holds<R: Wait>(rt: &R, alloc: Global, row: &Row, waits: bool) -> bool {
     let (parties, phase, policy, call, reply, word) = *row;
     match SharedPhaser::new(alloc, parties, policy, Phase::prevailing(phase)) {
@@ -95,7 +95,7 @@ fn holds<R: Wait>(rt: &R, alloc: Global, row: &Row, waits: bool) -> bool {
     }
 }
 
-/// Each call has the result of its row and leaves its word, in one try or in several.
+/// Each call has the result of its row and leaves its word, both in one try and by the function that may try several times.
 #[test]
 fn single_calls(rt: HostRuntime) {
     for row in &ROWS {
@@ -136,7 +136,7 @@ static SESSIONS: [Session; 2] = [
     ),
 ];
 
-/// Returns whether each of these calls has its result and leaves its word, in one try.
+/// Returns whether each of `calls`, made one after the other, has its result and leaves its word, in one try.
 fn go_on(phaser: &SharedPhaser, party: &mut Party, calls: &[(Call, Reply, u64)]) -> bool
     requires { phaser_of party.old ≡ phaser.now }
 {
@@ -149,7 +149,7 @@ fn go_on(phaser: &SharedPhaser, party: &mut Party, calls: &[(Call, Reply, u64)])
         && go_on(phaser, party, rest)
 }
 
-/// Returns whether the calls of a session have their results and leave their words.
+/// Returns whether the calls of `session`, on a new phaser, have their results and leave their words.
 fn goes_so(alloc: Global, session: &Session) -> bool {
     let (parties, phase, policy, calls) = *session;
     match SharedPhaser::new(alloc, parties, policy, Phase::prevailing(phase)) {
@@ -166,7 +166,7 @@ fn calls_in_a_row(rt: HostRuntime) {
     }
 }
 
-/// Returns whether each call on a phaser that was terminated in phase 0 has this result.
+/// Terminates a phaser in phase 0. Returns whether this and the waits after it return its view, -2147483648, at once.
 fn stays_terminated<R: Wait>(rt: &R, phaser: &SharedPhaser, party: &mut Party) -> bool
     requires { phaser_of party.old ≡ phaser.now }
 {
@@ -184,7 +184,7 @@ fn a_terminated_phaser_stays_so(rt: HostRuntime) {
     }
 }
 
-/// Returns whether the waits of the only party end at once.
+/// Returns whether the only party never waits: for a negative phase, for another one than the present 0, or after its arrival.
 fn waits_for_nobody<R: Wait>(rt: &R, phaser: &SharedPhaser, party: &mut Party) -> bool
     requires { phaser_of party.old ≡ phaser.now }
 {
@@ -233,7 +233,7 @@ fn two_callers_of_one_phaser(rt: HostRuntime) {
     }
 }
 
-/// Returns the word of a phaser of two parties that was closed after one arrival of each of two callers.
+/// Returns the packed state of a phaser that is closed after its two parties' arrivals, or `None` if one has another result.
 fn word_of_two(alloc: Global) -> Option<u64> {
     let (phaser, mut first) = made(alloc, 2, Default).ok()?;
     let mut second = phaser.split(&mut first);
@@ -245,7 +245,7 @@ fn word_of_two(alloc: Global) -> Option<u64> {
     if both { Some(word) } else { None }
 }
 
-/// Returns the word of a phaser of two parties that was closed before any call.
+/// Returns the packed state of a phaser of two parties that is closed before any call. `None` is out of memory.
 fn word_of_none(alloc: Global) -> Option<u64> {
     match made(alloc, 2, Default) {
         Ok((phaser, first)) => Some(phaser.close(first).raw()),
@@ -253,14 +253,14 @@ fn word_of_none(alloc: Global) -> Option<u64> {
     }
 }
 
-/// A phaser that is closed has the word that its calls have left.
+/// `close` returns the packed state that the calls have left: two parties in phase 1 after two arrivals, in phase 0 after none.
 #[test]
 fn closed_words(rt: HostRuntime) {
     assert!(rt; word_of_two(rt.alloc()) == Some(0x100020002));
     assert!(rt; word_of_none(rt.alloc()) == Some(0x20002));
 }
 
-/// One thread waits for the end of phase 0, and another calls. Returns the results of both.
+/// On a phaser of one party a thread waits for the end of phase 0, and another makes `call`. Returns the results of both.
 fn released<R: Threads + Wait + Sync>(
     rt: &R,
     alloc: Global,
@@ -285,7 +285,7 @@ static RELEASING: [(Call, Reply, i32); 3] = [
     (Force, Dead(-2147483648), -2147483648),
 ];
 
-/// Whoever ends the phase or terminates the phaser releases a waiting thread.
+/// A call that ends the phase or terminates the phaser releases a waiting thread, whose wait returns the view after that.
 #[test]
 fn who_waits_is_released(rt: HostRuntime) {
     for (call, reply, told) in &RELEASING {

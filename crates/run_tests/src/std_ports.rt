@@ -65,7 +65,8 @@ static FAILING_READS: [(Option<u32>, usize, &[u8; 13], u32); 6] = [
     (None, 6, b"abc..........", 6),
 ];
 
-/// Returns whether so many of six calls succeed before the first fails, and give these bytes.
+/// Makes six calls of a port, each into a buffer that begins one place later. Returns whether exactly the first `succeeding`
+/// calls succeed, and these places then hold `bytes`: a dot where nothing was read.
 fn gives<R: Read>(port: &mut ReadPort<R>, succeeding: usize, bytes: &[u8; 13]) -> bool {
     let mut given = [b'.'; 13];
     let mut is_as_wanted = true;
@@ -99,7 +100,7 @@ static INTERRUPTED_READS: [(u32, bool, u32); 5] = [
     (1001, false, 1000),
 ];
 
-/// Returns whether the first call returns a byte, as stated, or else this call and the next fail.
+/// Returns whether the port's first call returns one byte, if `gives`, or otherwise this call and the next fail.
 fn gives_one_or_fails<R: Read>(port: &mut ReadPort<R>, gives: bool) -> bool {
     let mut buffer = [0; 8];
     if gives {
@@ -140,7 +141,7 @@ impl FakeWriter {
         }
     }
 
-    /// Returns whether the writer has kept these bytes, and was called and flushed so often.
+    /// Returns whether the writer has kept `bytes`, was called `calls` times, flushes included, and flushed `flushes` times.
     fn has_met(&self, bytes: &[u8], calls: u32, flushes: u32) -> bool {
         self.kept.as_slice() == bytes && self.calls.made == calls && self.flushes == flushes
     }
@@ -173,7 +174,7 @@ static FAILING_WRITES: [(Option<u32>, usize, &[u8], u32, u32); 7] = [
     (None, 5, b"abcde", 5, 2),
 ];
 
-/// Pushes thrice and finishes twice. Returns whether exactly the first so many calls succeed.
+/// Pushes three times and finishes twice. Returns whether exactly the first `succeeding` of these five calls succeed.
 fn succeeds<W: Write>(port: &mut WritePort<W>, succeeding: usize) -> bool {
     let pushed = [
         port.push(b"abc").is_ok(),
@@ -218,7 +219,7 @@ fn tries_an_interrupted_flush_again(rt: HostRuntime) {
     }
 }
 
-/// A port tries an interrupted write again, so that all bytes are written.
+/// A port tries an interrupted write again, so that all bytes are written, though the writer takes two bytes at most a call.
 #[test]
 fn tries_an_interrupted_write_again(rt: HostRuntime) {
     let mut writer = FakeWriter::new(rt.alloc(), 3, None);
@@ -247,7 +248,7 @@ fn fails_late_behind_a_buffer(rt: HostRuntime) -> Result<(), Fail> {
     Ok(())
 }
 
-/// Finishing a block writes its bytes, and flushes the writer once.
+/// Finishing a block writes its three bytes in two calls, and flushes the writer once: three calls in all.
 #[test]
 fn flushes_behind_a_block(rt: HostRuntime) -> Result<(), Fail> {
     let mut writer = FakeWriter::new(rt.alloc(), 0, None);

@@ -77,7 +77,8 @@ static ROWS: [Row; 9] = [
     ),
 ];
 
-/// Returns whether the choice of a token is taken, or refused as the sign after it says.
+/// Returns whether the choice of `token` (`t0`, `x1`) is taken, or refused: `!` as not runnable, `#` by the limit of steps.
+/// With `~` it is taken, and its thread begins to wait.
 fn takes(journaled: &mut Journaled, token: &str) -> bool {
     let [kind, digit, rest @ ..] = token.as_bytes() else {
         return false;
@@ -102,7 +103,7 @@ fn takes(journaled: &mut Journaled, token: &str) -> bool {
     }
 }
 
-/// Returns whether each token of a row comes true, and the record and the end are the row's.
+/// Returns whether the choices of `row` are taken or refused as its tokens say, and then its schedule and its end are right.
 fn records(journaled: &mut Journaled, row: &Row) -> bool {
     let (_, _, tokens, schedule, ending) = *row;
     for token in tokens.split(' ') {
@@ -113,12 +114,12 @@ fn records(journaled: &mut Journaled, row: &Row) -> bool {
     journaled.schedule() == schedule.as_bytes() && journaled.ending() == ending
 }
 
-/// Returns the record of a text's run before the first step.
+/// Returns the record of a run of the program `text` before its first step, with this limit of steps.
 fn record_of(alloc: Global, text: &str, limit: u32) -> Option<Journaled> {
     Journaled::new(alloc, program_of(alloc, text)?, limit.min(1_000_000_000)).ok()
 }
 
-/// Returns whether a row of the table comes true, from the beginning of its program.
+/// Returns whether all that `row` says is so, from the beginning of a run of its program.
 fn holds(alloc: Global, row: &Row) -> bool {
     let (text, limit, _, _, _) = *row;
     match record_of(alloc, text, limit) {

@@ -80,7 +80,7 @@ fn is_planted(forest: &mut Forest, plan: Plan) -> bool
     forest.declare(parent, parties, policy, phase).is_ok()
 }
 
-/// Returns a copy of the forest of these phasers, or `None` if one is refused.
+/// Returns the forest of these phasers, or `None` if one is refused. It is a copy, so that copies are tested, too.
 fn planted(alloc: Global, plans: &[Plan]) -> Option<Forest>
     ensures { IfSome result (λ forest. AreAllFresh (phasers_of forest)) }
 {
@@ -93,7 +93,7 @@ fn planted(alloc: Global, plans: &[Plan]) -> Option<Forest>
     forest.copy(alloc).ok()
 }
 
-/// Returns the result of the last arrival in the tree of phaser 0.
+/// Returns the expected result of the last arrival in the tree of phaser 0: `phase` is to be ended, the root has `parties`.
 fn turns(phase: i32, parties: u16) -> Arrived {
     Arrived::Turning {
         root: PhaserId(0),
@@ -102,7 +102,7 @@ fn turns(phase: i32, parties: u16) -> Arrived {
     }
 }
 
-/// Makes one party arrive, and returns whether the result is this one.
+/// Makes one party arrive at phaser `id`, and returns whether the result is `answer`. Returns false if there is no such phaser.
 fn arrives(forest: &mut Forest, id: u8, answer: Arrived) -> bool {
     match known(forest, id) {
         Some(id) => forest.arrive(id, false) == answer,
@@ -110,7 +110,7 @@ fn arrives(forest: &mut Forest, id: u8, answer: Arrived) -> bool {
     }
 }
 
-/// Ends the phase of a root if its contract allows it. Returns whether it has ended.
+/// Ends the phase of `root`, if that is a turned root that may end it; `ends` terminates it. Returns whether this was done.
 fn end_turned_phase(forest: &mut Forest, root: PhaserId, ends: bool) -> bool
     requires { root.0 < length forest.old }
     ensures ended { result ≡ true
@@ -127,7 +127,7 @@ fn end_turned_phase(forest: &mut Forest, root: PhaserId, ends: bool) -> bool
     true
 }
 
-/// Makes so many arrivals at a root. Returns whether the last one ends its phase.
+/// Makes `parties` arrivals at a root in phase `phase`. Returns whether only the last turns it, and the phase then ends.
 fn ends(forest: &mut Forest, root: u8, parties: u16, phase: i32) -> bool {
     for _ in 1..parties {
         if !arrives(forest, root, Arrived::At(phase)) {
@@ -141,7 +141,7 @@ fn ends(forest: &mut Forest, root: u8, parties: u16, phase: i32) -> bool {
     }
 }
 
-/// Returns whether such arrivals end each phase from `from` up to the one before `to`.
+/// Makes `parties` arrivals at a root in each phase from `from` up to the one before `to`. Returns whether they end each.
 fn ends_each(forest: &mut Forest, root: u8, parties: u16, from: i32, to: i32) -> bool {
     for phase in from..to {
         if !ends(forest, root, parties, phase) {
@@ -151,7 +151,7 @@ fn ends_each(forest: &mut Forest, root: u8, parties: u16, from: i32, to: i32) ->
     true
 }
 
-/// Makes the call, and returns whether it has its expected effect.
+/// Makes the call of `step` at phaser `id`, the one that it names, and returns whether it has its expected effect.
 fn comes_true_at(forest: &mut Forest, id: PhaserId, step: Step) -> bool
     requires { id.0 < length forest.old }
 {
@@ -183,7 +183,7 @@ fn comes_true_at(forest: &mut Forest, id: PhaserId, step: Step) -> bool
     }
 }
 
-/// Does what `comes_true_at` does. Returns false if there is no such phaser.
+/// Makes the call of `step`, and returns whether it has its expected effect: false if it names a phaser that isn't there.
 fn comes_true(forest: &mut Forest, step: Step) -> bool {
     match known(forest, step.id()) {
         Some(id) => comes_true_at(forest, id, step),
@@ -416,7 +416,7 @@ static NINE_ARRIVE: [Step; 13] = [
     Step::Shows(0, 1, 9, 0),
 ];
 
-/// Returns 64 phasers of a tree: 9 lines of 7 below the root, with a party in the last of each.
+/// Returns 64 phasers of a tree: 9 lines of 7 below the root, each the child of the one before. The last of a line has a party.
 fn nine_lines() -> [Plan; 64] {
     let mut plans = [Root(0); 64];
     for id in 1..64u8 {
@@ -438,7 +438,7 @@ fn a_full_forest(rt: HostRuntime) {
     }
 }
 
-/// Returns the fault of a declaration after those of the plans, or `None` if it has none.
+/// Returns the fault of a declaration after those of `plans`, or `None` if it has none or one of `plans` is refused.
 fn fault_of(
     alloc: Global,
     plans: &[Plan],

@@ -45,7 +45,7 @@ static NO_WORDS: [u64; 6] = [
     0x80000000ffff,
 ];
 
-/// Returns whether these bits are a word that has these counts and flags.
+/// Returns whether `bits` are a phaser's packed state with these counts (view, parties, arrived, unarrived) and these flags.
 fn is_seen(bits: u64, counts: (i32, u16, u16, u16), flags: (bool, bool, bool)) -> bool {
     match Word::from_raw(bits) {
         Some(word) => {
@@ -189,7 +189,7 @@ fn registration(registered: Registered) -> Answer {
     }
 }
 
-/// Returns what a call returns if its contract allows it at this word, or else `None`.
+/// Returns what `call` returns, or `None` if its contract forbids it: ends need a turned word, `vacate` also no parties.
 fn made(word: Word, call: Call) -> Option<Answer> {
     match call {
         Renew(phase) => Some(Is(word.renew(Phase::prevailing(phase)).raw())),

@@ -69,7 +69,7 @@ pub(crate) struct Comparison {
     number: u64,
 }
 
-/// Returns whether a text is this line and its LF.
+/// Returns whether a text is `line` and an LF, and nothing else.
 fn is_line(line: &[u8], text: &[u8]) -> bool
     ensures { result ≡ bytes_eq (line.now ++ (10 ∷ [])) text.now }
 {
@@ -98,7 +98,8 @@ impl Comparison {
         }
     }
 
-    /// Plays the choice that a line names. Returns a verdict if the line isn't the run's.
+    /// Plays the choice that a line names. Returns `None` if the run has the same line, and otherwise the verdict. After a
+    /// refused choice any other line of a choice differs.
     fn take_choice(&mut self, line: &[u8]) -> Result<Option<Verdict>, AllocError>
         requires number { self.old.number < 9223372036854775807 }
         requires few { length line.now ≤ 65536 }
@@ -131,7 +132,7 @@ impl Comparison {
         Ok(None)
     }
 
-    /// Compares a line with the next one of the state. Returns a verdict if they differ.
+    /// Compares a line with the next one of the state. Returns the verdict if they differ, or no line is left, and else `None`.
     fn take_state_line(&mut self, line: &[u8]) -> Option<Verdict>
         requires number { self.old.number < 9223372036854775807 }
         requires few { length line.now ≤ 65536 }
@@ -159,7 +160,7 @@ impl Comparison {
         None
     }
 
-    /// Compares a line, without its LF, with the run's. Returns a verdict if they differ.
+    /// Compares a line, without its LF, with the run's: of a choice or of the state. Returns the verdict if they differ.
     fn take_line(&mut self, alloc: Global, line: &[u8]) -> Result<Option<Verdict>, AllocError>
         requires number { self.old.number < 9223372036854775807 }
         requires few { length line.now ≤ 65536 }
@@ -189,8 +190,8 @@ impl Comparison {
         Ok(self.take_state_line(line))
     }
 
-    /// Compares the bytes with the line of the choice just played. Returns the line's length, or 0 if they
-    /// differ. Then no choice counts as accepted any more.
+    /// Compares bytes that begin with the right number with the line of the choice just played. Returns the line's length, or 0
+    /// if they differ. Then no choice counts as accepted any more.
     #[inline(always)]
     fn meet(&mut self, bytes: &[u8]) -> usize
         requires room { 120 ≤ length bytes.now }
@@ -239,7 +240,7 @@ impl Comparison {
         }
     }
 
-    /// Goes on over lines that are the run's, while 120 bytes are left. Returns their length.
+    /// Goes on over lines that are the run's, while 120 bytes are left: no choice's line is longer. Returns their length.
     fn take_own_lines(&mut self, bytes: &[u8]) -> Result<usize, AllocError>
         requires number { self.old.number + length bytes.now < 9223372036854775807 }
         ensures { IfOk result (λ count. GoesOver self.old self.new bytes.now count) }
@@ -258,7 +259,7 @@ impl Comparison {
         Ok(done)
     }
 
-    /// Returns the verdict of a trace that ends with this line of the run: it lacks lines or an LF.
+    /// Returns the verdict of a trace that ends with this line of the run, but without an LF: lines or this LF are missing.
     fn end_verdict(&mut self, line: &[u8]) -> Verdict
         requires at { self.old.at ≤ length self.old.text.items }
         requires behind { self.old.is_state ≡ true → StandsBehind self.old line.now }
@@ -280,7 +281,7 @@ impl Comparison {
         }
     }
 
-    /// Returns whether the whole state text has come, and nothing follows it.
+    /// Returns whether the trace has had the whole text of the state, and nothing (`line`) follows the last LF.
     fn is_whole(&self, line: &[u8]) -> bool
         requires { self.now.at ≤ length self.now.text.items }
         ensures { result ≡ (self.now.is_state
@@ -313,7 +314,7 @@ impl Comparison {
         }
     }
 
-    /// Compares a line that has ended so with the run's. Returns `None` if the trace goes on.
+    /// Compares a line, ended by an LF, by the trace's end or by its length, with the run's. `None`: the trace goes on.
     fn take_ended(
         &mut self,
         alloc: Global,
@@ -352,7 +353,7 @@ fn first_line(alloc: Global, bytes: &[u8]) -> Result<Option<Vec<u8>>, AllocError
 }
 
 impl Comparison {
-    /// Returns the run's line where the trace differs, if it has one there. It plays no choice.
+    /// Returns the run's line at the place where the trace differs, or `None` if it has none there. It plays no choice.
     pub(crate) fn run_line(&self, alloc: Global) -> Result<Option<Vec<u8>>, AllocError>
         requires { self.now.at ≤ length self.now.text.items }
         ensures { IfOk result (λ line. option_map (λ l. l.items) line ≡ line_kept self.now) }
@@ -367,7 +368,7 @@ impl Comparison {
     }
 }
 
-/// Returns whether a line that has come so is one: an empty rest after the last LF isn't.
+/// Returns whether what was read last is a line: only an empty rest after the trace's last LF isn't one.
 fn is_one(ended: LineEnded, line: &[u8]) -> bool
     ensures { result ≡ is_one ended line.now }
 {
@@ -387,14 +388,14 @@ fn names_line(verdict: Verdict, number: u64) -> bool
     }
 }
 
-/// Returns whether the line that was read last, with this number, is the one that a verdict names.
+/// Returns whether the line that was read last, which has this number, is there at all and is the one that a verdict names.
 fn is_read(verdict: Verdict, number: u64, ended: LineEnded, line: &[u8]) -> bool
     ensures { result ≡ (names_line verdict number && is_one ended line.now) }
 {
     names_line(verdict, number) && is_one(ended, line)
 }
 
-/// Compares a trace with the run from the comparison's world on. Returns the verdict, and whether the trace's line that it
+/// Compares a trace with the run that begins at the machine of `now`. Returns the verdict, and whether the trace's line that it
 /// names is the one that was read last. Equal lines are compared in their block, and any other line is read.
 pub(crate) fn compare_lines<S: Source>(
     alloc: Global,

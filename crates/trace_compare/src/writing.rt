@@ -25,7 +25,7 @@ pub enum WritingFault {
     Write,
 }
 
-/// Puts `*` and the count before the line, if the count is above 1.
+/// Puts `*` and the count before the line, unless the count is 1.
 #[inline(always)]
 fn put_times(line: &mut LineEnd, times: u32)
     requires { length line.old ≤ 1 }
@@ -69,7 +69,7 @@ pub fn push_token<K: Sink>(
     output.push(line.as_slice())
 }
 
-/// Returns the last run with this choice added. If it can't be, writes that run and begins one.
+/// Returns the run `last` with one more `choice`. If that is another choice or the run is full, writes `last` and begins a run.
 fn take<K: Sink>(
     last: Option<Run>,
     choice: Choice,
@@ -93,7 +93,7 @@ fn take<K: Sink>(
     Ok(Run::once(choice))
 }
 
-/// Writes the last run and an LF. Without a run it writes the LF, or nothing if it is no trace.
+/// Writes the last run and an LF. Without a run it writes only the LF, or nothing if a line was no line of a trace.
 fn end<K: Sink>(
     last: Option<Run>,
     is_trace: bool,
@@ -158,7 +158,7 @@ pub fn write_choices<S: Source, K: Sink>(
     Err(WritingFault::Read)
 }
 
-/// Returns `no_line` if the end was written, or else the fault `Write`.
+/// Returns `no_line`, the number of the first wrong line, if any; or the fault `Write` if the end wasn't written.
 fn ended(written: Result<(), Failed>, no_line: Option<u64>) -> Result<Option<u64>, WritingFault>
     ensures ok { OnOk result (written ≡ Ok tt) }
     ensures value { IfOk result (λ answer. answer ≡ no_line) }

@@ -56,7 +56,7 @@ impl Digits {
         self.move_far(number);
     }
 
-    /// Does what `move_to` does, if more than the last digit changes. For the next number it is mostly the last two.
+    /// Makes these the digits of `number`, if more than the last digit changes. From 19 to 20 it writes two digits, else all.
     #[inline(never)]
     fn move_far(&mut self, number: u64)
         requires { number + 1 < 2 ^ 64 }

@@ -5,7 +5,8 @@ ghost use Rattle.trace_text.specs.Expectation.{end_words, is_expectation, subjec
 
 use line_reader::words::length_before;
 
-/// Returns what `all`, `ended`, `stuck` or `live` requires in the line `state`, or `None`.
+/// Returns what a word for a run's end requires in the line `state`, or `None` for any other text. `ended`, as `all`, requires
+/// ` all`; that no thread has died is checked elsewhere.
 pub fn end_words(text: &[u8]) -> Option<&'static [u8]>
     ensures { option_map (λ (words : Bor (List ℕ)). words.now) result ≡ end_words text.now }
 {
@@ -29,14 +30,14 @@ pub fn subject_of(text: &[u8]) -> &[u8]
     &text[..length_before(b' ', text)]
 }
 
-/// Returns what that line has to contain: the first blank and all that follows it.
+/// Returns what the line named by `subject_of` has to contain, from the first blank on: ` ended` for `t0 ended`.
 pub fn words_of(text: &[u8]) -> &[u8]
     ensures { result.now ≡ words_of text.now }
 {
     &text[length_before(b' ', text)..]
 }
 
-/// Returns whether a text is an expectation: a word for how a run ends, or a name with words after it.
+/// Returns whether a text is an expectation: a word for how a run ends, as `all`, or a line's name and words, as `t0 ended`.
 pub fn is_expectation(text: &[u8]) -> bool
     ensures { result ≡ is_expectation text.now }
 {

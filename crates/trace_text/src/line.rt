@@ -52,7 +52,7 @@ fn put_what(line: &mut LineEnd, what: What)
     }
 }
 
-/// Puts a root's number and view before the line, after a phase's end or a termination.
+/// Puts ` +p`, a root's number, a space and its view before the line: the root's phase has ended, or it is terminated.
 #[inline(always)]
 fn put_phase(line: &mut LineEnd, root: u8, view: i32)
     requires { length line.old + 35 ≤ 192 }
@@ -63,7 +63,7 @@ fn put_phase(line: &mut LineEnd, root: u8, view: i32)
     put_with_count(line, b" +p", u64::from(root));
 }
 
-/// Puts before the line what a choice changed besides its own thread, or nothing.
+/// Puts ` +p0 1`, ` +b0` or ` -b0` before the line if a phase ended, a barrier tripped or broke, and otherwise nothing.
 #[inline(always)]
 fn put_mark(line: &mut LineEnd, mark: Mark)
     requires { length line.old + 35 ≤ 192 }
@@ -78,7 +78,7 @@ fn put_mark(line: &mut LineEnd, mark: Mark)
     }
 }
 
-/// Makes this the end of a line: a blank, what a choice did and changed, and an LF.
+/// Makes this the end of a line: a blank, what a choice did and changed, and an LF. Frequent ends are put whole, for speed.
 #[inline(always)]
 fn put_answer(line: &mut LineEnd, event: &Event)
     ensures text { line.new
@@ -113,7 +113,7 @@ fn put_answer(line: &mut LineEnd, event: &Event)
     }
 }
 
-/// Puts a number and a space before the line.
+/// Puts a number and a space after it before the line. A single digit, the most frequent, is put at once.
 #[inline(always)]
 fn put_spaced(line: &mut LineEnd, number: u8)
     requires { length line.old + 21 ≤ 192 }
@@ -128,7 +128,7 @@ fn put_spaced(line: &mut LineEnd, number: u8)
     line.put_count(u64::from(number));
 }
 
-/// Puts before the line whose turn (`t`) or expiry (`x`) a choice is, between blanks.
+/// Puts the choice's letter, `t` for a turn or `x` for an expiry, and its thread's number before the line, as ` t0 `.
 #[inline(always)]
 fn put_thread(line: &mut LineEnd, choice: Choice)
     requires { length line.old + 23 ≤ 192 }
@@ -162,7 +162,7 @@ pub fn put_event(line: &mut LineEnd, step: u64, choice: Choice, pc: u16, event: 
     line.put_count(step);
 }
 
-/// Makes this a refused choice's line without its number. No `pc` means no such thread.
+/// Makes this the line of a refused choice without its number: `limit` with its thread's row `pc`, `none` for no such thread.
 pub(super) fn put_refused(line: &mut LineEnd, choice: Choice, pc: Option<u16>)
     ensures text { (step : ℕ) → decimal step ++ line.new ≡ refusal_text step choice pc }
     ensures length { length line.new ≤ 100 }
@@ -178,7 +178,7 @@ pub(super) fn put_refused(line: &mut LineEnd, choice: Choice, pc: Option<u16>)
     put_thread(line, choice);
 }
 
-/// Makes this the line of a refused choice. Without a `pc` there is no such thread.
+/// Makes this the line of refused choice number `step`. `pc` is its thread's row (`limit`); without it there is no such thread.
 pub fn put_refusal(line: &mut LineEnd, step: u64, choice: Choice, pc: Option<u16>)
     ensures { line.new ≡ refusal_text step choice pc }
 {
@@ -186,7 +186,7 @@ pub fn put_refusal(line: &mut LineEnd, step: u64, choice: Choice, pc: Option<u16
     line.put_count(step);
 }
 
-/// Appends the line of a choice that a thread at this row has played. If it is out of memory, the text is as before.
+/// Appends the line of choice number `step`, which a thread at row `pc` has played. Without memory `text` is as before.
 pub fn event_line(
     text: &mut Vec<u8>,
     step: u64,
@@ -202,7 +202,7 @@ pub fn event_line(
     text.extend_from_slice(line.as_slice())
 }
 
-/// Appends the line of a refused choice. Without a `pc` there is no such thread.
+/// Appends the line of refused choice number `step`. `pc` is its thread's row (`limit`); without it there is no such thread.
 pub fn refusal_line(
     text: &mut Vec<u8>,
     step: u64,

@@ -75,7 +75,7 @@ impl LineEnd {
         self.start = write_digits(count, &mut self.bytes, self.start);
     }
 
-    /// Puts a number before the line whose digits are already made, by a copy of their block.
+    /// Puts the number of `digits` before the line. For speed it copies their whole block; only the digits belong to the line.
     #[inline(always)]
     pub fn put_digits(&mut self, digits: &Digits)
         requires { length self.old + 20 ≤ 192 }

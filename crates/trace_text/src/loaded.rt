@@ -15,7 +15,7 @@ use schedule_reader::Run;
 use std::alloc::Global;
 use thread_machine::Machine;
 
-/// Plays runs of choices up to a refused one, and writes their lines and the state's.
+/// Plays runs of choices up to a refused one, and writes their lines and the text of the state. Returns how the run has ended.
 fn play_known<W: Sink>(
     alloc: Global,
     machine: &mut Machine,
@@ -34,7 +34,7 @@ fn play_known<W: Sink>(
     }
 }
 
-/// Plays runs on a program from its beginning, writes the trace, and returns how the run has ended.
+/// Plays `runs` on a program from its beginning up to a refused choice, writes the trace, and returns how the run has ended.
 pub fn run_loaded<W: Sink>(
     alloc: Global,
     program: Loaded,

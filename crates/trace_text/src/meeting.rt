@@ -7,7 +7,7 @@ use crate::run_end::RunEnd;
 use crate::state_line::{has_died, has_whole, line_of};
 use thread_machine::Standing;
 
-/// Returns whether the state's line of this name has these words in a row, a list only whole.
+/// Returns whether the state's line that begins with `subject` has `words` in a row. Words of a list go on to the list's end.
 fn says(state: &[u8], subject: &[u8], words: &[u8]) -> bool
     ensures { result ≡ says state.now subject.now words.now }
 {
@@ -29,21 +29,21 @@ fn is_cell(word: &[u8]) -> bool
     }
 }
 
-/// Returns whether 0 is expected of a cell that has no line: a cell that is 0 has none.
+/// Returns whether ` 0` is expected of a cell, as `c3`, that has no line in the state: a cell that is 0 has none.
 fn is_zero_cell(state: &[u8], subject: &[u8], words: &[u8]) -> bool
     ensures { result ≡ is_zero_cell state.now subject.now words.now }
 {
     words == b" 0".as_slice() && is_cell(subject) && line_of(state, subject).is_none()
 }
 
-/// Returns whether every thread has ended, so that none has died.
+/// Returns whether the run is over (`all` in the line `state`) and no thread has died: so every thread has ended.
 fn have_ended(state: &[u8]) -> bool
     ensures { result ≡ have_ended state.now }
 {
     says(state, b"state", b" all") && !has_died(state)
 }
 
-/// Returns whether a state, given as its text, is as a text expects.
+/// Returns whether `state`, the text of a state, is as the expectation `text` says, as `ended`, `t0 ended` or `c3 0`.
 pub fn is_met(state: &[u8], text: &[u8]) -> bool
     ensures { result ≡ is_met state.now text.now }
 {
@@ -67,7 +67,7 @@ pub fn are_met(state: &[u8], texts: &[Vec<u8>]) -> bool
     texts.iter().all(|text| is_met(state, text.as_slice()))
 }
 
-/// Returns whether a text is no word for how a run ends, or is one for this end.
+/// Returns whether `text`, if it is a word for how a run ends, is the one for this end. Any other text allows every end.
 fn allows(text: &[u8], standing: Standing) -> bool
     ensures { result ≡ allows text.now standing }
 {
@@ -81,7 +81,7 @@ fn allows(text: &[u8], standing: Standing) -> bool
     }
 }
 
-/// Returns whether a run ended as a text expects: no choice was refused, and the state and the word for it are as expected.
+/// Returns whether a run ended as the expectation `text` says: no choice was refused, and its end and its state are so.
 pub fn is_end_expected(end: &RunEnd, text: &[u8]) -> bool
     ensures { result ≡ is_end_expected end.now text.now }
 {

@@ -29,7 +29,7 @@ fn are_same<const N: usize>(one: &[u8; N], other: &[u8; N]) -> bool
     *one == *other
 }
 
-/// Returns whether two texts of N to 2 N bytes are equal, by their first N and their last N, which may overlap.
+/// Returns whether two texts of N to 2 N bytes are equal, by their first N and their last N, which may overlap: two fast looks.
 #[inline(always)]
 #[tactic(auto, using(crate::proofs::Words::ends_same))]
 fn have_same_ends<const N: usize>(one: &[u8], other: &[u8]) -> bool
@@ -54,7 +54,7 @@ fn have_same_ends<const N: usize>(one: &[u8], other: &[u8]) -> bool
     are_same(first, other_first) && are_same(last, other_last)
 }
 
-/// Returns whether bytes begin with a text. It is fastest for a text of N to 2 N bytes.
+/// Returns whether bytes begin with a text. N matters only for speed: a text of N to 2 N bytes is compared fastest.
 #[inline(always)]
 pub fn begins_with<const N: usize>(bytes: &[u8], text: &[u8]) -> bool
     requires { length text.now ≤ length bytes.now }
@@ -97,7 +97,7 @@ fn choice_between_spaces(bytes: &[u8]) -> Option<Choice>
     Some(Choice { thread, expiry })
 }
 
-/// Returns the choice named after this number at the start. `None` proves nothing of the line.
+/// Returns the choice that follows `number` at the start of these bytes, as ` t0 `. `None`: the line has to be read whole.
 #[inline(always)]
 pub fn choice_behind(bytes: &[u8], number: &[u8]) -> Option<Choice>
     requires { length number.now ≤ length bytes.now }

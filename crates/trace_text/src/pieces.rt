@@ -12,7 +12,7 @@ pub(super) fn add_count(text: &mut Vec<u8>, count: u64) -> Result<(), AllocError
     text.extend_from_slice(Buffer::new().format(count).as_bytes())
 }
 
-/// Appends a word that ends in a space, and a number. Fails if it is out of memory.
+/// Appends a word, as `died:` or a blank, and a signed number. Fails if it is out of memory.
 pub(super) fn add_with_value(text: &mut Vec<u8>, word: &[u8], value: i32) -> Result<(), AllocError>
     ensures text { OnOk result (text.new.items ≡ text.old.items ++ (word.now ++ signed_decimal value)) }
     ensures few { length (signed_decimal value) ≤ 11 }

@@ -62,7 +62,7 @@ fn push_event<W: Sink>(
     push_line(line.as_slice(), output)
 }
 
-/// Writes the line of a choice that this machine refused. `line` is its buffer.
+/// Writes the line of the choice that this machine refused as its next: `pc` is the thread's row, or `None` if there is none.
 fn push_refusal<W: Sink>(
     machine: &Machine,
     choice: Choice,
@@ -79,7 +79,7 @@ fn push_refusal<W: Sink>(
     push_line(line.as_slice(), output)
 }
 
-/// Plays one choice and writes its line. `line` is its buffer. Returns the choice if it was refused.
+/// Plays one choice and writes its line, also if it is refused. `line` is its buffer. Returns the refused choice, or `None`.
 #[inline(always)]
 fn play_choice<W: Sink>(
     machine: &mut Machine,
@@ -113,7 +113,7 @@ fn play_choice<W: Sink>(
     }
 }
 
-/// Plays one choice, and makes its line. Returns whether the choice was accepted.
+/// Plays one choice, and makes its line, also if it is refused. Returns whether the choice was accepted. Fails without memory.
 pub fn line_of_choice(
     machine: &mut Machine,
     choice: Choice,
@@ -141,7 +141,7 @@ pub fn line_of_choice(
     }
 }
 
-/// Plays a thread's choice, and makes its line but for the number. Returns if it was accepted.
+/// Plays the choice of an existing thread, and makes its line without the number. Returns false, and no line, if refused.
 #[inline(always)]
 pub fn own_line_of_choice(
     machine: &mut Machine,
@@ -165,7 +165,7 @@ pub fn own_line_of_choice(
     }
 }
 
-/// Plays one choice as often as the run says, up to a refusal. Returns the refused choice.
+/// Plays one choice as often as the run says, up to a refusal, and writes the lines. Returns the refused choice, or `None`.
 fn play_run<W: Sink>(
     machine: &mut Machine,
     run: &Run,

@@ -44,7 +44,6 @@ pub enum RunFault {
 }
 
 impl RunFault {
-    /// Returns the fault of a run whose choices can't be played further.
     fn of_play(fault: PlayFault) -> RunFault
         ensures { result ≡ played_fault fault }
     {
@@ -55,7 +54,7 @@ impl RunFault {
     }
 }
 
-/// Returns the reader's fault, if it returned one, or else the choice refused so far.
+/// Returns the fault that the reader of the schedule returned, or if it returned none, the choice that was refused, if any.
 fn told_of(
     told: Result<(), ScheduleFault>,
     refused: Option<Refused>,
@@ -71,7 +70,7 @@ fn told_of(
 }
 
 /// Plays the runs that a reader appended to the list, unless a choice was refused before, and empties the list. Then returns
-/// the reader's fault, if it returned one, and otherwise the choice that was refused so far.
+/// the reader's fault, `told`, if it has one, and otherwise the choice that was refused, now or before.
 fn play_told<W: Sink>(
     machine: &mut Machine,
     refused: Option<Refused>,
@@ -99,7 +98,7 @@ fn play_told<W: Sink>(
     }
 }
 
-/// Reads a schedule to its end, and plays it up to a refused choice, which it returns.
+/// Reads a schedule to its end, even after a refused choice, to find its faults. Plays it up to that choice, and returns it.
 fn play_stream<S: Source, W: Sink>(
     machine: &mut Machine,
     schedule: &mut S,
@@ -181,7 +180,7 @@ pub fn run_to_end<S: Source, W: Sink>(
     }
 }
 
-/// Does what `run_to_end` does, for a caller that needn't know how the run ended.
+/// Plays an image's program under a schedule, and writes the trace, for a caller that needn't know how the run ended.
 pub fn run_text<S: Source, W: Sink>(
     alloc: Global,
     image: Image,

@@ -48,7 +48,7 @@ fn row_of(machine: &Machine, choice: Choice) -> Option<u16>
     }
 }
 
-/// Returns what is reported of a choice that this machine has refused: number, line and cause.
+/// Returns what is reported of a choice that this machine has refused: its number, its line and the cause.
 fn told(machine: &Machine, refused: Refused) -> Refusal
     ensures { result ≡ told_as (world_of machine.now) refused }
 {
@@ -68,7 +68,7 @@ fn told(machine: &Machine, refused: Refused) -> Refusal
     }
 }
 
-/// Writes the text of a machine's state, and returns how its run ended, with a refused choice.
+/// Writes the text of a machine's state, and returns how its run ended: `refused` is the choice that was refused, if one was.
 pub fn push_end<W: Sink>(
     alloc: Global,
     machine: &Machine,

@@ -29,7 +29,7 @@ const REGISTERS: [Reg; 8] = [
     Reg::R7,
 ];
 
-/// Appends the first line: how many choices and steps, and whether the run can go on.
+/// Appends the first line, as `state 7 7 all`: how many choices and steps, and `all`, `stuck` or `live`.
 fn add_counts(text: &mut Vec<u8>, machine: &Machine) -> Result<(), AllocError>
     ensures { OnOk result (text.new.items ≡ text.old.items ++ (codes "state "
         ++ (decimal machine.now.choices ++ (codes " " ++ (decimal machine.now.steps
@@ -42,7 +42,7 @@ fn add_counts(text: &mut Vec<u8>, machine: &Machine) -> Result<(), AllocError>
     text.extend_from_slice(b"\n")
 }
 
-/// Appends a thread's status, with the code of its exception if it has one.
+/// Appends a thread's status, as `waits` or `died:-5` with the code of its exception.
 fn add_status(text: &mut Vec<u8>, status: Status) -> Result<(), AllocError>
     ensures { OnOk result (text.new.items ≡ text.old.items ++ status_text status) }
 {
@@ -55,7 +55,7 @@ fn add_status(text: &mut Vec<u8>, status: Status) -> Result<(), AllocError>
     }
 }
 
-/// Appends a stack entry, with the space before it.
+/// Appends a stack entry, a blank before it: `C` or `H` and a row, `A` and the number of a root, or `X` and that of a barrier.
 fn add_entry(text: &mut Vec<u8>, entry: Entry) -> Result<(), AllocError>
     ensures { OnOk result (text.new.items ≡ text.old.items ++ entry_text entry) }
 {
@@ -67,7 +67,7 @@ fn add_entry(text: &mut Vec<u8>, entry: Entry) -> Result<(), AllocError>
     }
 }
 
-/// Appends the entries of a thread's stack.
+/// Appends the entries of a thread's stack, each after a blank: none if the stack is empty.
 fn add_stack(text: &mut Vec<u8>, machine: &Machine, thread: u8) -> Result<(), AllocError>
     requires { thread < length machine.now.scene.threads }
     ensures text { OnOk result (text.new.items
@@ -109,7 +109,7 @@ fn add_values(text: &mut Vec<u8>, values: &[i32]) -> Result<(), AllocError>
     Ok(())
 }
 
-/// Appends the beginning of a thread's line: its number and its row.
+/// Appends the beginning of a thread's line, its number and its row, as `t0 2 `.
 fn add_thread_place(text: &mut Vec<u8>, machine: &Machine, thread: u8) -> Result<(), AllocError>
     requires { thread < length machine.now.scene.threads }
     ensures { let state = thread_at (scene_of machine.now.scene) thread in OnOk result
@@ -136,7 +136,7 @@ fn add_thread_status(text: &mut Vec<u8>, machine: &Machine, thread: u8) -> Resul
     })
 }
 
-/// Appends the end of a thread's line: its stack and its output.
+/// Appends the end of a thread's line: ` stack` and its entries, ` out` and the values put out, and an LF.
 fn add_thread_tail(text: &mut Vec<u8>, machine: &Machine, thread: u8) -> Result<(), AllocError>
     requires { thread < length machine.now.scene.threads }
     ensures text { let state = thread_at (scene_of machine.now.scene) thread in OnOk result
@@ -151,7 +151,7 @@ fn add_thread_tail(text: &mut Vec<u8>, machine: &Machine, thread: u8) -> Result<
     text.extend_from_slice(b"\n")
 }
 
-/// Appends the line of a thread.
+/// Appends the line of a thread, as `t0 2 ended 0 regs 1 0 0 0 0 0 0 0 stack out 1`.
 fn add_thread(text: &mut Vec<u8>, machine: &Machine, thread: u8) -> Result<(), AllocError>
     requires { thread < length machine.now.scene.threads }
     ensures text { OnOk result (text.new.items
@@ -176,7 +176,7 @@ fn add_threads(text: &mut Vec<u8>, machine: &Machine) -> Result<(), AllocError>
     Ok(())
 }
 
-/// Appends the end of a phaser's line: how many parties, arrived and unarrived.
+/// Appends the end of a phaser's line: how many parties there are, how many have arrived, and how many haven't, as ` 2 1 1`.
 fn add_parties(text: &mut Vec<u8>, forest: &Forest, id: PhaserId) -> Result<(), AllocError>
     requires { id.0 < length forest.now }
     ensures { let flat = flat_at (phasers_of forest.now) id.0 in OnOk result (text.new.items
@@ -189,7 +189,7 @@ fn add_parties(text: &mut Vec<u8>, forest: &Forest, id: PhaserId) -> Result<(), 
     text.extend_from_slice(b"\n")
 }
 
-/// Appends the line of a phaser: its number, its view and its parties.
+/// Appends the line of a phaser: its number, its view and its parties, as `p0 1 2 0 2`.
 fn add_phaser(text: &mut Vec<u8>, forest: &Forest, id: PhaserId) -> Result<(), AllocError>
     requires { id.0 < length forest.now }
     ensures { OnOk result (text.new.items
@@ -270,7 +270,7 @@ fn add_objects(text: &mut Vec<u8>, machine: &Machine) -> Result<(), AllocError>
     add_cells(text, machine.cells())
 }
 
-/// Returns the text of a machine's state, which ends a trace.
+/// Returns the text of a machine's state, which ends a trace. Fails if it is out of memory.
 pub fn state_text(alloc: Global, machine: &Machine) -> Result<Vec<u8>, AllocError>
     ensures text { IfOk result (λ text. text.items ≡ state_text (world_of machine.now)) }
     ensures lines { OnOk result (HasNoLongLine (state_text (world_of machine.now))) }

@@ -5,7 +5,7 @@ ghost use Rattle.trace_text.specs.ExpectedLine.{begins, begins_whole, ends_a_lis
 
 use line_reader::words::length_before;
 
-/// Returns whether a word ends before these bytes: there are none, or a blank is the first.
+/// Returns whether a word that precedes `rest` is complete: `rest` is empty or begins with a blank.
 fn ends_a_word(rest: &[u8]) -> bool
     ensures { result ≡ ends_a_word rest.now }
 {
@@ -15,14 +15,14 @@ fn ends_a_word(rest: &[u8]) -> bool
     }
 }
 
-/// Returns whether a text begins with these words, and the last of them ends there.
+/// Returns whether a text begins with these words, and the last of them is complete: `t1` doesn't begin `t12 0`.
 fn begins(words: &[u8], text: &[u8]) -> bool
     ensures { result ≡ begins words.now text.now }
 {
     text.starts_with(words) && ends_a_word(&text[words.len()..])
 }
 
-/// Returns whether a line has these words in a row, with the blank before them.
+/// Returns whether a line has `words`, which begin with a blank, somewhere in a row, the last of them complete.
 fn has_words(words: &[u8], line: &[u8]) -> bool
     ensures { result ≡ has_words words.now line.now }
 {
@@ -36,28 +36,29 @@ fn has_words(words: &[u8], line: &[u8]) -> bool
     false
 }
 
-/// Returns whether the name of a thread's list is in these words: registers, stack or output.
+/// Returns whether ` regs`, ` stack` or ` out` is among these words of an expectation, as a whole word. If so, the words
+/// have to go on to the end of a list (`begins_whole`).
 fn names_a_list(words: &[u8]) -> bool
     ensures { result ≡ names_a_list words.now }
 {
     has_words(b" regs", words) || has_words(b" stack", words) || has_words(b" out", words)
 }
 
-/// Returns whether a list ends before these bytes: nothing, or the next list's name, follows.
+/// Returns whether a list that precedes `rest` is complete: `rest` is empty, or begins with the next list's name.
 fn ends_a_list(rest: &[u8]) -> bool
     ensures { result ≡ ends_a_list rest.now }
 {
     rest.is_empty() || begins(b" stack", rest) || begins(b" out", rest)
 }
 
-/// Returns whether a text begins with these words, a list among them with all its values.
+/// Returns whether a text begins with these words. If a list is among them, they have to go on to a list's end in the text.
 fn begins_whole(words: &[u8], text: &[u8]) -> bool
     ensures { result ≡ begins_whole words.now text.now }
 {
     begins(words, text) && (!names_a_list(words) || ends_a_list(&text[words.len()..]))
 }
 
-/// Returns whether a line has these words in a row after a blank, a list only as a whole.
+/// Returns whether a line has `words`, which begin with a blank, somewhere in a row. Words of a list go on to a list's end.
 pub fn has_whole(words: &[u8], line: &[u8]) -> bool
     ensures { result ≡ has_whole words.now line.now }
 {
@@ -78,7 +79,7 @@ fn first_line(text: &[u8]) -> &[u8]
     &text[..length_before(b'\n', text)]
 }
 
-/// Returns the first line that begins with this word, of those that follow an LF.
+/// Returns the first line after the text's first one that begins with the word `subject`, without its LF, or `None`.
 fn later_line<'a>(subject: &[u8], text: &'a [u8]) -> Option<&'a [u8]>
     ensures { option_map (λ (line : Bor (List ℕ)). line.now) result ≡ later_line subject.now text.now }
 {
@@ -104,7 +105,7 @@ pub fn line_of<'a>(state: &'a [u8], subject: &[u8]) -> Option<&'a [u8]>
     }
 }
 
-/// Returns whether some thread of a state has died.
+/// Returns whether ` died:`, the status of a thread that has died, is in a state's text.
 pub fn has_died(state: &[u8]) -> bool
     ensures { result ≡ has_died state.now }
 {

@@ -7,7 +7,7 @@ use crate::next_choice::rest_of;
 use line_reader::words::length_before;
 use thread_machine::Choice;
 
-/// Returns a thread's choice, or `None` if its number has no digits or is above 63.
+/// Returns the choice of thread number `thread`, or `None` if it wasn't named in digits or is above 63.
 fn choice_by(expiry: bool, are_digits: bool, thread: u16) -> Option<Choice>
     ensures { result ≡ choice_by expiry are_digits thread }
 {
@@ -21,7 +21,7 @@ fn choice_by(expiry: bool, are_digits: bool, thread: u16) -> Option<Choice>
     }
 }
 
-/// Returns the choice of the thread that one or two digits name, or `None`.
+/// Returns the choice of the thread that one or two digits name, or `None` for any other bytes or a number above 63.
 fn choice_of_digits(expiry: bool, digits: &[u8]) -> Option<Choice>
     ensures { result ≡ choice_of_digits expiry digits.now }
 {
@@ -76,7 +76,7 @@ fn digits_before(line: &[u8]) -> usize
     }
 }
 
-/// Returns the choice that a trace's line names after 1 to 13 digits and a space, or `None`.
+/// Returns the choice that a line names after its number of 1 to 13 digits, as t0 in `7 t0 1 out 1`, or `None`.
 pub fn choice_in(line: &[u8]) -> Option<Choice>
     ensures { result ≡ choice_in line.now }
 {

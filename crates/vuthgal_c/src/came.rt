@@ -22,7 +22,7 @@ impl Came {
         Came {}
     }
 
-    /// Returns what has come so far, and these bytes.
+    /// Returns what has come so far, followed by these bytes.
     pub fn and(&self, bytes: &[u8]) -> Came
         ensures { result.bytes ≡ self.now.bytes ++ bytes.now }
     {

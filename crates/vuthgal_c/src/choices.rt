@@ -12,7 +12,7 @@ use workbench::done::{self, Done};
 use workbench::fault::Fault;
 use workbench::slice_source::SliceSource;
 
-/// Returns the status: 1 if it is no trace. The line of a fault goes to `line`.
+/// Returns the status: 0 for a trace, 1 if it is none, or that of the fault, whose line goes to `line`.
 fn settled<E: Sink>(answer: Result<bool, Fault>, line: &mut E) -> u8
     ensures { IsSettledBy done_by_trace answer result (E.has_failed line.new) (E.written line.old) (E.written line.new) }
 {
@@ -23,7 +23,7 @@ fn settled<E: Sink>(answer: Result<bool, Fault>, line: &mut E) -> u8
     }
 }
 
-/// Writes the schedule of a trace to `output`. Returns the status, with a fault in `line`.
+/// Writes the schedule of `trace` to `output` and a fault to `line`, as far as they fit, and their lengths. Returns the status.
 #[unsafe(no_mangle)]
 pub extern "C" fn vuthgal_choices(
     alloc: Global,

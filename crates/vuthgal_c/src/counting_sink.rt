@@ -28,7 +28,7 @@ impl Model for CountingSink {
 }
 
 impl CountingSink {
-    /// Makes a sink that keeps at most `most` bytes. It allocates as they come.
+    /// Makes a sink that keeps at most `most` bytes. It allocates no memory before bytes come.
     pub fn new(alloc: Global, most: usize) -> CountingSink
         ensures { result ≡ record { written = []; kept = [] } }
     {
@@ -48,14 +48,14 @@ impl CountingSink {
         self.kept.as_slice()
     }
 
-    /// Returns how many bytes came, or the largest number if there were more.
+    /// Returns how many bytes came, or the largest `usize` if there were more.
     pub fn count(&self) -> usize
         ensures { result ≡ min (length self.now.written) most_counted }
     {
         self.count
     }
 
-    /// Returns whether it has kept everything that fits a buffer of this size.
+    /// Returns whether it has kept everything that fits a buffer of `room` bytes: out of memory it hasn't.
     pub fn has_kept(&self, room: usize) -> bool
         ensures { IsTrue result ↔ (min (length self.now.written) room ≤ length self.now.kept) }
     {
@@ -63,7 +63,7 @@ impl CountingSink {
     }
 }
 
-/// Appends as many of these bytes as fit below `most`, if all `count` bytes before are kept.
+/// Appends as many of `bytes` as fit below `most`, if all `count` bytes before are kept. Without memory it keeps none of them.
 fn keep(kept: &mut Vec<u8>, most: usize, count: usize, bytes: &[u8])
     ensures { (came : List ℕ) → AreFirst kept.old.items came → count ≡ min (length came) most_counted
         → AreFirst kept.new.items (came ++ bytes.now) }

@@ -7,7 +7,7 @@ use std::alloc::Global;
 use workbench::debug_cmd;
 use workbench::slice_source::SliceSource;
 
-/// Writes the replies to lines of commands to `output`. Returns the status, with a fault in `line`.
+/// Writes the replies to `commands` to `output`, a fault to `line`, as far as they fit, and their lengths. Returns the status.
 #[unsafe(no_mangle)]
 pub extern "C" fn vuthgal_debug(
     alloc: Global,

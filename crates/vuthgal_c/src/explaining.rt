@@ -26,7 +26,8 @@ fn words_of(alloc: Global, text: &str) -> Result<Vec<&str>, AllocError>
     Ok(words)
 }
 
-/// Writes the entry that a text's words request. Returns whether there is one.
+/// Writes the entry that a text's words request. Returns whether there is one: false if it isn't UTF-8. If it is too long,
+/// it isn't read (`Read`).
 fn explained<K: Sink>(alloc: Global, text: &[u8], output: &mut K) -> Result<bool, Fault>
     ensures { ExplainsText QUESTIONS.now text.now result (K.written output.old) (K.written output.new) (K.has_failed output.new) }
 {
@@ -45,7 +46,7 @@ fn explained<K: Sink>(alloc: Global, text: &[u8], output: &mut K) -> Result<bool
     }
 }
 
-/// Returns the status: 2 if there is no entry. What is wrong goes to `line`.
+/// Returns the status: 0, or 2 with a line if there is no entry, or that of the fault, whose line goes to `line`.
 fn settled<E: Sink>(answer: Result<bool, Fault>, line: &mut E) -> u8
     ensures { SettlesExplaining QUESTIONS.now NO_LINE.now answer result (E.has_failed line.new) (E.written line.old) (E.written line.new) }
 {
@@ -59,7 +60,7 @@ fn settled<E: Sink>(answer: Result<bool, Fault>, line: &mut E) -> u8
     }
 }
 
-/// Writes what the words mean to `output`. Returns the status, with a fault in `line`.
+/// Writes what `words` mean to `output` and a fault to `line`, as far as they fit, and their lengths. Returns the status.
 #[unsafe(no_mangle)]
 pub extern "C" fn vuthgal_explain(
     alloc: Global,

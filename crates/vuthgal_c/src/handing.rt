@@ -8,7 +8,7 @@ use crate::counting_sink::CountingSink;
 /// The line where there is no memory.
 pub const NO_MEMORY: &[u8] = b"memory\n";
 
-/// Copies the first bytes to the caller's `room`, as many as fit. `told` gets the count of all.
+/// Copies `first`, the beginning of `count` bytes, to the caller's `room`, as many as fit. `told` gets `count`.
 fn hand(first: &[u8], count: usize, room: &mut [u8], told: &mut usize)
     requires { min count (length room.old) ≤ length first.now }
     ensures { (bytes : List ℕ) → AreFirst first.now bytes → count ≡ min (length bytes) most_counted

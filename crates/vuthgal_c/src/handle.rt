@@ -35,7 +35,7 @@ impl Handle {
         }
     }
 
-    /// Makes the handle of a session whose block this is.
+    /// Makes the handle of the session in the block `loose`, which it then owns.
     pub(crate) fn of(loose: Loose<Held, Global>) -> Handle
         ensures { result.session ≡ Some loose.value }
     {

@@ -33,7 +33,7 @@ pub enum Unanswered {
     ReplyLost,
 }
 
-/// Carries out a command. Returns false if it is out of memory, and then nothing is done.
+/// Carries out a command. Returns false if it is out of memory, and then nothing is done. The sink `shown` never fails.
 fn is_answered(debugger: &mut Debugger, command: &[u8], shown: &mut SessionSink) -> bool
     ensures done { result ≡ true → (text : List ℕ) × (Replies debugger.old (line_order command.now) debugger.new text
         × Appends (Some shown.old) (Some shown.new) text) }
@@ -63,7 +63,7 @@ impl Held {
         self.reply.as_slice()
     }
 
-    /// Carries out a command, a line without its LF, and keeps the reply.
+    /// Carries out a command, a line without its LF, and keeps the reply. If there is no memory, it says whether this was done.
     pub fn command(&mut self, alloc: Global, line: &[u8]) -> Result<(), Unanswered>
         ensures done { OnOk result (Replies self.old.debugger (line_order line.now) self.new.debugger self.new.reply) }
         ensures none { result ≡ Err Unanswered.NotCarriedOut → self.new ≡ self.old }

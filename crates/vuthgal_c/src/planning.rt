@@ -14,7 +14,7 @@ use commands::write_picture::parts_of;
 use std::alloc::Global;
 use workbench::fault::Fault;
 
-/// Writes a plan's schedule on a file's program. Returns whether it needs over 1,000,000 choices.
+/// Writes a plan's schedule on a file's program. Returns whether it needs over 1,000,000 choices. Too long an input is `Read`.
 fn planned<K: Sink>(
     alloc: Global,
     file: &[u8],
@@ -33,7 +33,7 @@ fn planned<K: Sink>(
     }
 }
 
-/// Returns the status: 1 if the plan was cut off. What is wrong goes to `line`.
+/// Returns the status: 0, or 1 with a line if the plan was cut off (`Ok(true)`), or the fault's, whose line goes to `line`.
 fn settled<E: Sink>(answer: Result<bool, Unplanned>, line: &mut E) -> u8
     ensures { SettlesPlan answer result (E.has_failed line.new) (E.written line.old) (E.written line.new) }
 {
@@ -50,7 +50,7 @@ fn settled<E: Sink>(answer: Result<bool, Unplanned>, line: &mut E) -> u8
     }
 }
 
-/// Writes the schedule of a plan to `output`. Returns the status, with a fault in `line`.
+/// Writes the schedule of `plan` to `output` and a fault to `line`, as far as they fit, and their lengths. Returns the status.
 #[unsafe(no_mangle)]
 pub extern "C" fn vuthgal_plan(
     alloc: Global,

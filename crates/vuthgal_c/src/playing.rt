@@ -7,7 +7,7 @@ use std::alloc::Global;
 use workbench::slice_source::SliceSource;
 use workbench::{both_cmd, run_cmd};
 
-/// Writes the trace of a program's run to `output`. Returns the status, with a fault in `line`.
+/// Writes the trace of a run to `output` and a fault to `line`, as far as they fit, and their lengths. Returns the status.
 #[unsafe(no_mangle)]
 pub extern "C" fn vuthgal_run(
     alloc: Global,
@@ -28,7 +28,8 @@ pub extern "C" fn vuthgal_run(
     reply.hand(status, output, output_length, line, line_length)
 }
 
-/// Writes a text's trace under its schedule to `output`, a fault to `line`. Returns the status.
+/// Plays `text` under its own schedule, and writes the trace to `output` and a fault to `line`, as far as they fit, and their
+/// lengths. Returns the status.
 #[unsafe(no_mangle)]
 pub extern "C" fn vuthgal_both(
     alloc: Global,

@@ -16,7 +16,7 @@ pub struct Reply {
 }
 
 impl Reply {
-    /// Makes an empty reply that keeps at most so many bytes of the output and of the line.
+    /// Makes an empty reply that keeps at most `output` bytes of the output and `line` bytes of the line: all that fit later.
     pub fn new(alloc: Global, output: usize, line: usize) -> Reply
         ensures shown { result.shown.written ≡ [] }
         ensures told { result.told.written ≡ [] }
@@ -27,7 +27,8 @@ impl Reply {
         }
     }
 
-    /// Copies the output and the line to the caller. Returns the status, 4 if bytes weren't kept.
+    /// Copies the output and the line to the caller. Returns `status`. If bytes that fit weren't kept, it copies only the line
+    /// `memory`, and returns 4.
     pub fn hand(
         &self,
         status: u8,

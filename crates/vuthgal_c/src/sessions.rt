@@ -19,7 +19,7 @@ use workbench::program::program_in;
 /// The status where a handle has no session.
 const CLOSED: u8 = 6;
 
-/// Returns a session of the program in a file, before its first command.
+/// Returns a session of the program in a file, before its first command. A file of more than 16,777,216 bytes is `Read`.
 fn held_of(alloc: Global, file: &[u8]) -> Result<Held, Fault>
     ensures first { IfOk result (λ held. IsFirstOf file.now held) }
     ensures limit { OnOk result (length file.now ≤ most_bytes) }
@@ -38,7 +38,7 @@ fn held_of(alloc: Global, file: &[u8]) -> Result<Held, Fault>
     }
 }
 
-/// Does what `held_of` does, and puts the session into a block of its own.
+/// Returns a session of the program in a file, before its first command, in a block of its own, which a handle can hold.
 fn boxed(alloc: Global, file: &[u8]) -> Result<Box<Held>, Fault>
     ensures first { IfOk result (λ held. IsFirstOf file.now held.value) }
     ensures limit { OnOk result (length file.now ≤ most_bytes) }
@@ -54,7 +54,7 @@ fn boxed(alloc: Global, file: &[u8]) -> Result<Box<Held>, Fault>
     }
 }
 
-/// Writes the line that says why there is no session.
+/// Writes the line that says why there is no session. A sink in memory never fails.
 fn tell(fault: Fault, told: &mut CountingSink)
     ensures { told.new.written ≡ told.old.written ++ line_of fault }
 {
@@ -64,7 +64,7 @@ fn tell(fault: Fault, told: &mut CountingSink)
     }
 }
 
-/// Closes the session, if one is open, and opens one. Returns the status, with a fault in `line`.
+/// Closes the session, if one is open, and opens one of `program`. Returns 0, or the status of a fault, with its `line`.
 #[unsafe(no_mangle)]
 pub extern "C" fn vuthgal_session_open(
     alloc: Global,
@@ -131,7 +131,7 @@ pub extern "C" fn vuthgal_session_command(
     }
 }
 
-/// Writes the last reply again, if a buffer was too small. Returns 0, or 6 if it is closed.
+/// Writes the last reply again, for a caller whose buffer was too small. Returns 0, or 6 if no session is open.
 #[unsafe(no_mangle)]
 pub extern "C" fn vuthgal_session_reply(
     alloc: Global,

@@ -22,7 +22,7 @@ use workbench::done::settled_as_asked;
 use workbench::fault::Fault;
 use workbench::slice_source::SliceSource;
 
-/// Writes the picture of the program in a file under a schedule.
+/// Writes the picture of the program in a file under a schedule. A file of more than 16,777,216 bytes is `Read`.
 fn made<P: Picture, K: Sink>(
     alloc: Global,
     picture: &P,
@@ -48,7 +48,7 @@ fn made<P: Picture, K: Sink>(
     }
 }
 
-/// Writes the page of a run to `output`. Returns the status, with a fault in `line`.
+/// Writes the page of a run to `output` and a fault to `line`, as far as they fit, and their lengths. Returns the status.
 #[unsafe(no_mangle)]
 pub extern "C" fn vuthgal_show(
     alloc: Global,
@@ -71,7 +71,8 @@ pub extern "C" fn vuthgal_show(
     reply.hand(status, output, output_length, line, line_length)
 }
 
-/// Writes a drawing of `width` columns to `output`. Returns the status, with a fault in `line`.
+/// Writes a drawing of `width` columns to `output` and a fault to `line`, as far as they fit, and their lengths. Returns the
+/// status.
 #[unsafe(no_mangle)]
 pub extern "C" fn vuthgal_draw(
     alloc: Global,

@@ -7,7 +7,7 @@ use std::alloc::Global;
 use workbench::slice_source::SliceSource;
 use workbench::{asm_cmd, list_cmd};
 
-/// Writes the image of a text to `output`. Returns the status, with a fault in `line`.
+/// Writes the image of `text` to `output` and a fault to `line`, as far as they fit, and their lengths. Returns the status.
 #[unsafe(no_mangle)]
 pub extern "C" fn vuthgal_asm(
     alloc: Global,
@@ -25,7 +25,7 @@ pub extern "C" fn vuthgal_asm(
     reply.hand(status, output, output_length, line, line_length)
 }
 
-/// Writes a program's canonical text to `output`. Returns the status, with a fault in `line`.
+/// Writes the canonical text to `output` and a fault to `line`, as far as they fit, and their lengths. Returns the status.
 #[unsafe(no_mangle)]
 pub extern "C" fn vuthgal_list(
     alloc: Global,

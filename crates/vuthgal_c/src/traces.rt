@@ -7,7 +7,7 @@ use std::alloc::Global;
 use workbench::compare_cmd;
 use workbench::slice_source::SliceSource;
 
-/// Writes a trace's verdict to `output`. Returns the status, with a fault in `line`.
+/// Writes the verdict of `trace` to `output` and a fault to `line`, as far as they fit, and their lengths. Returns the status.
 #[unsafe(no_mangle)]
 pub extern "C" fn vuthgal_compare(
     alloc: Global,

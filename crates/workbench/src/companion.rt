@@ -64,7 +64,7 @@ impl<S: Source> Companion for S {
 
     ghost has_failed = { λ source. S.has_failed source };
 
-    /// Reads a byte at a time, so that nothing after the LF is read. It ignores the debugger.
+    /// Reads a byte at a time, so that nothing after the LF is read, and at most `reads` bytes. It ignores the debugger.
     fn next_line(
         &mut self,
         _debugger: &Debugger,

@@ -62,7 +62,7 @@ pub fn debug_cmd<F: Source, S: Source, K: Sink, E: Sink>(
     }
 }
 
-/// Reads a line, carries it out, writes its reply, and reads on, up to `q` or to the end.
+/// Debugs an image's program: reads a line of `commands`, carries it out, writes its reply, and so on, up to `q` or the end.
 pub fn debug<C: Companion, K: Sink>(
     alloc: Global,
     image: Image,
@@ -80,7 +80,7 @@ pub fn debug<C: Companion, K: Sink>(
     converse(alloc, &mut debugger, commands, output)
 }
 
-/// Plays runs of choices, writes the reply of the command `g`, and goes on as `debug` does.
+/// Plays `runs` of choices, writes the reply of the command `g`, and then carries out the lines of `commands`.
 pub fn debug_behind<C: Companion, K: Sink>(
     alloc: Global,
     image: Image,
@@ -99,7 +99,7 @@ pub fn debug_behind<C: Companion, K: Sink>(
     }
 }
 
-/// Does what `debug_behind` does, on a debugger before its first choice.
+/// Plays `runs` on a debugger before its first choice, writes the reply of `g`, and carries out the lines of `commands`.
 fn debug_runs<C: Companion, K: Sink>(
     alloc: Global,
     debugger: &mut Debugger,
@@ -118,8 +118,8 @@ fn debug_runs<C: Companion, K: Sink>(
     }
 }
 
-/// Plays the choices of a trace as they are read, writes the reply of the command `g`, and goes on as `debug` does. If it isn't
-/// a trace, it writes the first wrong line as `compare` does, and reads no command.
+/// Plays the choices of a trace as they are read, writes the reply of the command `g`, and carries out the lines of
+/// `commands`. If it isn't a trace, it writes `not a trace LINE` for the first wrong line, and reads no command.
 pub fn debug_at<T: Source, C: Companion, K: Sink>(
     alloc: Global,
     image: Image,
@@ -138,7 +138,8 @@ pub fn debug_at<T: Source, C: Companion, K: Sink>(
     }
 }
 
-/// Does what `debug_at` does, on a debugger before its first choice.
+/// Plays a trace's choices on a debugger before its first choice, writes the reply of `g`, and carries out the lines of
+/// `commands`. If it isn't a trace, it writes `not a trace LINE`, and reads no command.
 fn debug_from<T: Source, C: Companion, K: Sink>(
     alloc: Global,
     debugger: &mut Debugger,
@@ -171,7 +172,8 @@ enum PlayedTrace {
     NotATrace { line: u64 },
 }
 
-/// Plays a trace's choices up to a stop, and reads on to its state. Fails if it can't be read.
+/// Plays a trace's choices up to a breakpoint or a refusal, and reads on to its state. A trace that ends with a choice's line
+/// lacks the next line: that is the first wrong one.
 fn play_trace<T: Source>(
     alloc: Global,
     debugger: &mut Debugger,
@@ -230,7 +232,7 @@ pub fn first_debugger(alloc: Global, image: Image) -> Result<Debugger, Fault>
     }
 }
 
-/// Reads a line, writes its reply, and goes on so, up to `q` or to the end.
+/// Reads a line, writes its reply, and goes on so, up to `q` or to the end. Fails with `Read` after 1,000,000,000 bytes.
 fn converse<C: Companion, K: Sink>(
     alloc: Global,
     debugger: &mut Debugger,
@@ -254,7 +256,7 @@ fn converse<C: Companion, K: Sink>(
     Err(Fault::Read)
 }
 
-/// Reads a line and writes its reply. Returns whether the session goes on after it.
+/// Reads a line and writes its reply. Returns whether the session goes on: not after `q`, nor after a last line without LF.
 fn take_turn<C: Companion, K: Sink>(
     debugger: &mut Debugger,
     line: &mut Vec<u8>,
@@ -288,7 +290,7 @@ fn take_turn<C: Companion, K: Sink>(
     }
 }
 
-/// Carries out a line as `Debugger::command` does, with its fault as a fault of the commands.
+/// Carries out the command in `line`, and writes its reply. Returns false after `q`, or the fault as a command's fault.
 fn answer<K: Sink>(debugger: &mut Debugger, line: &[u8], output: &mut K) -> Result<bool, Fault>
     ensures answered { OnOk result ((text : List ℕ)
         × (Replies debugger.old (line_order line.now) debugger.new text

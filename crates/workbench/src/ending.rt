@@ -8,7 +8,7 @@ use crate::fault::Fault;
 use byte_ports::{BlockPort, WritePort};
 use std::io::Write;
 
-/// Returns a command's result, or `Write` if its output wasn't flushed, since that is lost.
+/// Returns a command's result, or `Write` if its output wasn't flushed: what the command wrote may then be lost.
 fn unless_lost<T: Drop>(answer: Result<T, Fault>, is_flushed: bool) -> Result<T, Fault>
     ensures kept { is_flushed ≡ true → result ≡ answer }
     ensures lost { is_flushed ≡ false → result ≡ Err Fault.Write }
@@ -20,7 +20,7 @@ fn unless_lost<T: Drop>(answer: Result<T, Fault>, is_flushed: bool) -> Result<T,
     }
 }
 
-/// Flushes a command's output. Returns the command's result, or `Write` if a call has failed.
+/// Flushes a command's output. Returns the command's result, or `Write` if this or an earlier call of the output failed.
 pub fn flushed<T: Drop, W: Write>(
     answer: Result<T, Fault>,
     output: &mut WritePort<W>,
@@ -31,7 +31,7 @@ pub fn flushed<T: Drop, W: Write>(
     unless_lost(answer, output.finish().is_ok())
 }
 
-/// Writes the last block and flushes. Returns the command's result, or `Write` if a call failed.
+/// Writes the last block and flushes. Returns the command's result, or `Write` if this or an earlier call failed.
 pub fn passed_on<T: Drop, W: Write + Drop>(
     answer: Result<T, Fault>,
     output: &mut BlockPort<WritePort<W>>,

@@ -101,7 +101,7 @@ pub fn push_counted_line<E: Sink>(errors: &mut E, word: &[u8], count: u64) -> Re
     errors.push(b"\n")
 }
 
-/// Writes the number of a phaser that can't be declared, and the number of the reason.
+/// Writes the number of a phaser that can't be declared, and the number of the reason, as ` 0 2`.
 fn push_declare_place<E: Sink>(errors: &mut E, phaser: u8, why: u8) -> Result<(), Failed>
     ensures bytes { OnOk result (Appends (E.written errors.old) (E.written errors.new)
         (counted (codes " ") phaser ++ counted (codes " ") why)) }
@@ -125,7 +125,7 @@ impl Fault {
         }
     }
 
-    /// Writes what precedes the number in a refusal's line, as `refused load `.
+    /// Writes what precedes the number in a refusal's line, as `refused load `, or `refused asm 3 ` with the line of the text.
     fn push_word<E: Sink>(self, errors: &mut E) -> Result<(), Failed>
         ensures bytes { OnOk result (Appends (E.written errors.old) (E.written errors.new) (word_of self)) }
         ensures failed { OnErr result (IsTrue (E.has_failed errors.new)) }
@@ -142,7 +142,7 @@ impl Fault {
         }
     }
 
-    /// Writes what follows the number in a refusal's line: the fault's place, or nothing.
+    /// Writes what follows the number in a refusal's line: the fault's place, as ` row 7`, or nothing if it has none.
     fn push_place<E: Sink>(self, errors: &mut E) -> Result<(), Failed>
         ensures bytes { OnOk result (Appends (E.written errors.old) (E.written errors.new) (place_of self)) }
         ensures failed { OnErr result (IsTrue (E.has_failed errors.new)) }
@@ -210,7 +210,7 @@ impl Fault {
         }
     }
 
-    /// Writes the fault's line for standard error, in pieces and without memory.
+    /// Writes the fault's line for standard error, as `refused asm 3 2` or `memory`, in pieces, so that it needs no memory.
     pub fn tell<E: Sink>(self, errors: &mut E) -> Result<(), Failed>
         ensures bytes { OnOk result (Appends (E.written errors.old) (E.written errors.new)
             (line_of self)) }

@@ -83,7 +83,7 @@ pub fn live<R: Threads + Wait + Sync, G: Gate + Sync, K: Sink>(
     }
 }
 
-/// Loads an image's program. Its fault is one of the commands.
+/// Loads an image's program. What is wrong with it is returned as a command's fault: `Load`, or `Memory`.
 fn loaded(alloc: Global, image: Image) -> Result<Loaded, Fault>
     ensures loaded { IfOk result (λ program. IsProgramOf image program) }
     ensures none { OnOk result (first_fault image ≡ None) }
@@ -108,7 +108,7 @@ pub fn fault_of_live(fault: LiveFault) -> Fault
     }
 }
 
-/// Returns the choices of a live run as runs, or why it was broken off.
+/// Returns the choices of a live run, read from its schedule, or why the run was broken off. Its schedule has no fault.
 fn runs_of(alloc: Global, ran: Result<LiveRun, LiveFault>) -> Result<Vec<Run>, Fault>
     requires few { IfOk ran (λ run. length run.schedule.items ≤ 4000000000) }
     ensures runs { IfOk result (λ runs. All IsRun runs.items) }
@@ -127,7 +127,7 @@ fn runs_of(alloc: Global, ran: Result<LiveRun, LiveFault>) -> Result<Vec<Run>, F
     }
 }
 
-/// Plays a program on real threads, and returns the choices that they made as runs.
+/// Plays a program on real threads, at most `limit` steps. Returns the choices that they made, or why it was broken off.
 fn recorded<R: Threads + Wait + Sync, G: Gate + Sync>(
     rt: &R,
     alloc: Global,

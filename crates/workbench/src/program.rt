@@ -59,7 +59,7 @@ pub fn program_in(alloc: Global, file: &[u8]) -> Result<Program<'_>, Fault>
     }
 }
 
-/// Returns the image of the program in a source, which is read to its end.
+/// Returns the image of the program in a source, an image or a text, which is read to its end.
 pub fn image_from<F: Source>(alloc: Global, file: &mut F) -> Result<Image, Fault>
     ensures { ReadsProgram result (F.left file.old) (F.left file.new) (F.has_failed file.new) }
 {

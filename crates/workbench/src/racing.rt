@@ -53,7 +53,8 @@ pub fn race_cmd<R: Threads + Wait + Sync, K: Sink, E: Sink>(
     )
 }
 
-/// Does what `race_cmd` does, but returns the fault. Each thread reports each meeting to `pace`.
+/// Lets `parties` threads meet `rounds` times at one phaser, and writes its line `phase A parties B unarrived C`. Each thread
+/// reports each meeting to `pace`.
 pub fn race<R: Threads + Wait + Sync, P: Pace + Sync, K: Sink>(
     rt: &R,
     alloc: Global,

@@ -35,7 +35,7 @@ pub fn run_cmd<F: Source, S: Source, K: Sink, E: Sink>(
     }
 }
 
-/// Does what `run_to_end` does, with its fault as a command's fault.
+/// Plays an image's program under a schedule, and writes the trace. Returns how the run ended, or a command's fault.
 pub(crate) fn run<S: Source, K: Sink>(
     alloc: Global,
     image: Image,

@@ -24,7 +24,7 @@ fn has_only_run(text: &[u8]) -> bool
         .all(|word| word == b".run".as_slice())
 }
 
-/// Returns whether `.run` is the line's only word. A comment may follow.
+/// Returns whether `.run` is the line's only word, between blanks or not. A comment may follow.
 #[tactic(auto, using(crate::proofs::RunLine::are_run_by_count))]
 fn is_run_line(line: &[u8]) -> bool
     ensures { result ≡ is_run_line line.now }
@@ -33,7 +33,7 @@ fn is_run_line(line: &[u8]) -> bool
     count_words(text) == 1 && has_only_run(text)
 }
 
-/// Returns the first line without its LF, and what follows the LF.
+/// Returns the first line without its LF, and what follows the LF: nothing if there is none.
 fn first_line(bytes: &[u8]) -> (&[u8], &[u8])
     ensures line { result.0.now ≡ before_first is_line_end bytes.now }
     ensures after { result.1.now ≡ after_first is_line_end bytes.now }

@@ -16,7 +16,7 @@ pub enum Pause {
 }
 
 impl Pause {
-    /// Returns the pause for a random number: of four, one yields, one spins and two do nothing.
+    /// Returns the pause for a random number: of four, one yields (1 to 8 times), one spins (1 to 4096 rounds), two do nothing.
     pub fn of(word: u32) -> Pause
         ensures { result ≡ pause_of word }
     {

@@ -14,7 +14,7 @@ pub struct Stirred {
 }
 
 impl Stirred {
-    /// Returns the pause before turn `step` of a thread. It depends on the seed and the run, too.
+    /// Returns the pause before turn `step` of a thread: random number `step` of a sequence for this seed, run and thread.
     pub fn pause(&self, thread: u8, step: u32) -> Pause
         ensures { result ≡ pause_of (word_at self.now.seed self.now.run thread step) }
     {

@@ -32,7 +32,7 @@ impl Debugger {
         self.stop_of(went, before)
     }
 
-    /// Returns where and why `go` stopped. Before it, `before` choices were counted.
+    /// Returns why `go` stopped (`went`), with how many choices it played. `before` choices had been counted before it.
     fn stop_of(&self, went: Went, before: u64) -> Stop
         requires { before ≤ self.now.machine.choices }
         ensures { (session : Session) (choices : List Choice) → before ≡ session.machine.choices
@@ -46,7 +46,8 @@ impl Debugger {
         }
     }
 
-    /// Plays a choice if all before it were played. So a stream stops where `go` would stop.
+    /// Plays `choice` if `stop` says that all choices before it were played, and returns where this stops. So a stream of
+    /// choices stops where `go` would stop.
     pub fn go_on(&mut self, stop: Stop, choice: Choice) -> Stop
         requires few { (played : ℕ) → stop ≡ Stop.End played → played ≤ 1000000000000 }
         ensures { (before : Session) (choices : List Choice) → Stops before choices stop self.old
@@ -92,7 +93,7 @@ impl Debugger {
         Went::On
     }
 
-    /// Plays one choice. It is a break if it was no idle choice and its thread is at a breakpoint.
+    /// Plays one choice. It is a break if it was a step, not idle, and its thread then runs and is at a breakpoint.
     #[inline(always)]
     fn pass(&mut self, choice: Choice) -> Went
         ensures { Goes self.old (choice ∷ []) result self.new }
@@ -110,7 +111,7 @@ impl Debugger {
         }
     }
 
-    /// Returns whether a thread runs and is at a breakpoint. No such thread is no break.
+    /// Returns whether a thread runs and is at a breakpoint: false if there is no such thread.
     #[tactic(auto, using(crate::proofs::Unmarked::none_there))]
     fn stands_at_break(&self, thread: u8) -> bool
         ensures { result ≡ is_at_break self.now.breaks (thread_at (scene_of self.now.machine.scene) thread) }

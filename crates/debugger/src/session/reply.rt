@@ -62,7 +62,7 @@ fn say<W: Sink>(output: &mut W, word: &[u8], number: u64, end: &[u8]) -> Result<
     output.push(&bytes[start..])
 }
 
-/// Writes how many choices `go` played before one was refused, and why that was refused.
+/// Writes how many choices `go` played before one was refused, and why that was refused, as `fault 2 limit`.
 fn say_fault<W: Sink>(output: &mut W, number: u64, fault: StepFault) -> Result<(), Failed>
     ensures line { OnOk result (Appends (W.written output.old) (W.written output.new)
         (stop_text (Stop.Fault number fault))) }
@@ -75,7 +75,7 @@ fn say_fault<W: Sink>(output: &mut W, number: u64, fault: StepFault) -> Result<(
     }
 }
 
-/// Writes how far `go` went: the reply to the command `g`. Fails if the output has failed.
+/// Writes how far `go` went, the reply to the command `g`, as `at 3` at a breakpoint. Fails if the output has failed.
 pub fn say_stop<W: Sink>(output: &mut W, stop: Stop) -> Result<(), Failed>
     ensures line { OnOk result (Appends (W.written output.old) (W.written output.new) (stop_text stop)) }
     ensures failed { OnErr result (IsTrue (W.has_failed output.new)) }
@@ -112,7 +112,7 @@ fn say_line<W: Sink>(output: &mut W, line: &LineEnd) -> Result<(), CommandFault>
     }
 }
 
-/// Returns true, since the session goes on after any command but `q`, or the command's fault.
+/// Returns true after a command, since the session goes on after any but `q`, or the command's fault.
 fn going_on(done: Result<(), CommandFault>) -> Result<bool, CommandFault>
     ensures more { IfOk result (λ more. (more ≡ true) × (done ≡ Ok tt)) }
     ensures fault { IfErr result (λ fault. done ≡ Err fault) }
@@ -124,7 +124,7 @@ fn going_on(done: Result<(), CommandFault>) -> Result<bool, CommandFault>
 }
 
 impl Debugger {
-    /// Plays a choice as the command `s` does, and writes its line. It takes no memory but for what is put out.
+    /// Plays a choice as the command `s` does, and writes its line, also if it is refused. Only a value put out takes memory.
     fn step_command<W: Sink>(&mut self, choice: Choice, output: &mut W) -> Result<(), CommandFault>
         ensures { IsCarriedOut (wants_memory self.old (Step choice) ≡ true) result self.old (Step choice) self.new
             (W.written output.old) (W.written output.new) (W.has_failed output.new) }

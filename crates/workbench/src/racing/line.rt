@@ -19,7 +19,7 @@ fn push_with_count<K: Sink>(output: &mut K, word: &[u8], count: u64) -> Result<(
     output.push(Buffer::new().format(count).as_bytes())
 }
 
-/// Returns the number of a phaser's phase, 0 to 2147483647, also if it is terminated.
+/// Returns the number of a phaser's phase, 0 to 2147483647. After termination the view is that number less 2147483648.
 fn phase_of(word: Word) -> u64
     ensures { result ≡ (record_of word).phase }
 {

@@ -33,7 +33,7 @@ impl Promise<Party> for Home {
 /// A running thread, and its caller.
 type Running = PromisedHandle<Party, Home>;
 
-/// Arrives and waits for the end of the phase, `rounds` times. Each thread of a race does this.
+/// Arrives and waits for the end of the phase, `rounds` times, and reports each time to `pace`. Each thread does this.
 fn work<R: Wait, P: Pace>(
     rt: &R,
     phaser: &SharedPhaser,
@@ -141,7 +141,7 @@ fn run<R: Threads + Wait + Sync, P: Pace + Sync>(
     )
 }
 
-/// Joins the callers of all threads, which have ended, to the first.
+/// Joins the callers of all threads, which have ended, to the first, so that it knows all their calls.
 fn gather<R: Threads>(rt: &R, phaser: &SharedPhaser, first: &mut Party, running: Vec<Running>)
     requires first { first.old.known.number ≡ 0 }
     requires phaser { phaser_of first.old ≡ phaser.now }
@@ -163,7 +163,7 @@ fn gather<R: Threads>(rt: &R, phaser: &SharedPhaser, first: &mut Party, running:
     }
 }
 
-/// Closes the phaser and returns its word. Fails with `Spawn` if a thread wasn't started.
+/// Closes the phaser and returns its word. Fails with `Spawn` if a thread wasn't started (`is_whole` is false).
 fn ended(phaser: SharedPhaser, first: Party, is_whole: bool) -> Result<Word, RaceFault>
     requires first { first.known.number ≡ 0 }
     requires phaser { phaser_of first ≡ phaser }
@@ -187,7 +187,7 @@ fn fault_of_new(fault: NewFault) -> RaceFault
     }
 }
 
-/// Lets `parties` threads meet `rounds` times at one phaser, and returns the phaser's last word.
+/// Lets `parties` threads meet `rounds` times at one phaser, and returns its packed state after all threads have ended.
 pub fn race<R: Threads + Wait + Sync, P: Pace + Sync>(
     rt: &R,
     alloc: Global,
