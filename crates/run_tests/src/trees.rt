@@ -94,7 +94,7 @@ fn planted(alloc: Global, plans: &[Plan]) -> Option<Forest>
 }
 
 /// Returns the expected result of the last arrival in the tree of phaser 0: `phase` is to be ended, the root has `parties`.
-fn turns(phase: i32, parties: u16) -> Arrived {
+fn turning(phase: i32, parties: u16) -> Arrived {
     Arrived::Turning {
         root: PhaserId(0),
         phase,
@@ -134,7 +134,7 @@ fn ends(forest: &mut Forest, root: u8, parties: u16, phase: i32) -> bool {
             return false;
         }
     }
-    let all = arrives(forest, root, turns(phase, parties));
+    let all = arrives(forest, root, turning(phase, parties));
     match known(forest, root) {
         Some(root) => all && end_turned_phase(forest, root, false),
         None => false,
@@ -158,8 +158,8 @@ fn comes_true_at(forest: &mut Forest, id: PhaserId, step: Step) -> bool
     match step {
         Step::Arrives(_, answer) => forest.arrive(id, false) == answer,
         Step::Leaves(_, answer) => forest.arrive(id, true) == answer,
-        Step::ArrivesLast(_, phase, parties) => forest.arrive(id, false) == turns(phase, parties),
-        Step::LeavesLast(_, phase, parties) => forest.arrive(id, true) == turns(phase, parties),
+        Step::ArrivesLast(_, phase, parties) => forest.arrive(id, false) == turning(phase, parties),
+        Step::LeavesLast(_, phase, parties) => forest.arrive(id, true) == turning(phase, parties),
         Step::Registers(_, count, answer) => forest.register(id, count) == answer,
         Step::Asks(_, count, answer) => forest.registration(id, count) == answer,
         Step::Finishes(_, ends) => end_turned_phase(forest, id, ends),
