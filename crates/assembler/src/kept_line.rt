@@ -72,7 +72,7 @@ impl<'a> KeptLine<'a> {
         }
     }
 
-    /// Returns the kind of what the line's name refers to. A label refers to a row (`Target`).
+    /// Returns the kind of what this line declares. A label and a row, labelled or not, give `Target`.
     pub fn kind_named(&self) -> OperandKind
         ensures { result ≡ kind_named (statement_kept self.now) }
     {

@@ -73,7 +73,7 @@ pub fn row_behind<'a>(
     Ok(row)
 }
 
-/// Reads what follows a label in the line of this number: nothing, or a row.
+/// Reads what follows a label in the line of this number: nothing, or a row. A directive there is `MisplacedDirective`.
 #[tactic(auto, unfolding(crate::specs::Reading::labelled_behind))]
 fn labelled_behind<'a>(
     draft: &Draft<'a>,

@@ -65,7 +65,8 @@ fn value_in(word: &[u8]) -> i64
     if is_negative(word) { -digits } else { digits }
 }
 
-/// Reads a number from `low` to `high`: a minus sign if it is negative, and one to ten digits.
+/// Reads a number from `low` to `high`: a minus sign if it is negative, and one to ten digits. It is `BadNumber` if it has no
+/// digits or another byte, and `OutOfRange` if it is less or greater, or has more digits.
 #[inline(never)]
 #[tactic(auto, unfolding(crate::specs::Reading::number_at))]
 pub fn number_at(low: i32, high: i32, word: &[u8]) -> Result<i32, AsmFaultKind>

@@ -58,7 +58,7 @@ fn reach_of_row(row: Row, top: &Option<Frame>) -> Reach
     }
 }
 
-/// Returns the reach of the end of a wait at a barrier, at this row.
+/// Returns the reach of the end of a wait at this row's barrier. No thread waits at a barrier at any other row.
 fn reach_of_wait(row: Row) -> Reach
     ensures { result ≡ reach_of_wait row }
 {

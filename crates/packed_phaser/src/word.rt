@@ -186,7 +186,7 @@ impl Word {
         unpacked(self.bits).ended
     }
 
-    /// Returns whether no party is registered, no phase end is pending, and it isn't terminated. 1 in `unarrived` is no party.
+    /// Returns whether no party is registered, and the phase isn't about to end. False once terminated.
     pub fn is_empty(self) -> bool
         ensures { result ≡ is_empty (record_of self) }
     {
@@ -202,7 +202,8 @@ impl Word {
         !fields.ended && fields.unarrived == 0
     }
 
-    /// `register` if `count` is 1, and otherwise `bulkRegister(count)`. 0 parties change nothing.
+    /// `register` if `count` is 1, and otherwise `bulkRegister(count)`. 0 parties change nothing. The first parties of an
+    /// empty phaser replace the 1 in `unarrived`, which isn't a party.
     pub fn register(self, count: u32) -> Registered
         ensures { registration_of result ≡ register count (record_of self) }
     {
@@ -254,7 +255,7 @@ impl Word {
         }
     }
 
-    /// `arrive`, or `arriveAndDeregister` if the party leaves. After `Turned` the word needs an `advance`.
+    /// `arrive`, or `arriveAndDeregister` if `leave`. After `Turned` the phase doesn't end until the caller calls `advance`.
     pub fn arrive(self, leave: bool) -> Arrived
         ensures { arrival_of result ≡ arrive leave (record_of self) }
     {
@@ -271,7 +272,7 @@ impl Word {
         Arrived::Turned(self.without_one(leave))
     }
 
-    /// `arrive` in the phase of `other`, for a word of an earlier phase: first, all its parties are to arrive again.
+    /// `arrive` for a word of an earlier phase: the word first enters the phase of `other`, in which no party has arrived.
     #[inline(always)]
     pub fn arrive_anew(self, other: Word, leave: bool) -> Arrived
         ensures { arrival_of result
@@ -310,7 +311,7 @@ impl Word {
         })
     }
 
-    /// Makes a turned phaser empty, without an end of its phase: nobody is registered. A child does so after its last party.
+    /// Makes a turned phaser without parties empty, and keeps its phase. A child does so when its last party has left.
     pub fn vacate(self) -> Word
         requires turned { (record_of self).turned ≡ true }
         requires no_parties { (record_of self).parties ≡ 0 }

@@ -15,6 +15,7 @@ pub struct Operands {
     pub object: u16,
 }
 
+/// Returns the register of this number, or R0 above 7. `decode` refuses such a number, because R0 is encoded as 0.
 fn register_at(number: u8) -> Reg
     ensures { result ≡ register_at number }
 {
@@ -30,6 +31,7 @@ fn register_at(number: u8) -> Reg
     }
 }
 
+/// Returns the number of an object or a row. 0 stands for a number that isn't in 0 to 65535, which `decode` refuses.
 fn object_at(imm: i32) -> u16
     ensures { result ≡ object_at imm }
 {

@@ -34,7 +34,7 @@ fn kind_at(at: usize, byte: u8) -> Result<u8, ImageFault>
     }
 }
 
-/// Returns the policy of this kind. `value`, in the field at `at`, is its phase or its row, and otherwise 0.
+/// Returns the policy: 0 is default, 1 never, 2 until, 3 a routine. `value`, in the field at `at`, is a phase, a row or 0.
 #[tactic(auto, unfolding(crate::specs::Reading::policy_at))]
 fn policy_at(at: usize, kind: u8, value: i32) -> Result<DeclaredPolicy, ImageFault>
     ensures policy { result ≡ policy_at at kind value }
@@ -74,7 +74,7 @@ fn phaser_at(at: usize, bytes: &[u8]) -> Result<DeclaredPhaser, ImageFault>
     })
 }
 
-/// Returns the number of the policy's kind.
+/// Returns the number of the policy's kind, as in its byte: 0 to 3.
 fn kind_byte(policy: DeclaredPolicy) -> u8
     ensures { result ≡ kind_byte policy }
 {

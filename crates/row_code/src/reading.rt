@@ -122,7 +122,8 @@ fn bytes_from(bytes: &[u8], start: usize) -> &[u8]
     &bytes[start..]
 }
 
-/// Reads `count` rows. If the magic says `timed`, one of them has to have a timeout; otherwise none may.
+/// Reads `count` rows. If the magic says `timed`, one of them has to have a timeout; otherwise none may. A row's fault has the
+/// row's number, not its place, so the place given for the list is just 0.
 #[tactic(auto, unfolding(crate::specs::Reading::rows_at))]
 fn read_rows(alloc: Global, timed: bool, count: u16, bytes: &[u8]) -> Result<Rows, ImageFault>
     requires { 8 * count ≤ length bytes.now }

@@ -242,7 +242,7 @@ fn turn_of(thread: u8) -> Run
     }
 }
 
-/// Returns the thread and the number of bytes, if the bytes begin with a single turn of a thread up to 63 and a space.
+/// Returns the thread and the number of bytes, if 4 bytes or more begin with a single turn, `t0` to `t63`, and a space.
 #[inline(always)]
 fn turn_before_space(bytes: &[u8]) -> Option<(u8, usize)>
     ensures turn { IfSome result (λ turn. BeginsWithTurn bytes.now turn.0 turn.1) }

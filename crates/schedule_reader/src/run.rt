@@ -79,7 +79,8 @@ pub fn joined(alloc: Global, runs: &[Run]) -> Result<Vec<Run>, AllocError>
     Ok(all)
 }
 
-/// Appends a run's choice, as often as it is made, to runs in which equal neighbours are joined, and keeps them so.
+/// Appends a run's choice, as often as it is made, to runs in which equal neighbours are joined, and keeps them so. It pushes
+/// one by one, because the last run may become full on the way, and then a new one begins.
 fn push_run(runs: &mut Vec<Run>, run: Run) -> Result<(), AllocError>
     requires run { IsRun run }
     requires runs { All IsRun runs.old.items }

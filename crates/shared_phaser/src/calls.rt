@@ -50,7 +50,8 @@ impl SharedPhaser {
         }
     }
 
-    /// Tries a call that never waits, at most so many times. `Raced`: another call was faster each time.
+    /// Tries a call that never waits, at most `tries` times. `Raced`: another call was faster each time. `last` begins as the
+    /// word of an empty phaser, which the first lost try replaces.
     fn within<C: Asked>(&self, party: &mut Party, call: Call, tries: u32) -> Result<Reply, Raced>
         requires call { C.call ≡ call }
         requires prompt { IsPrompt call }

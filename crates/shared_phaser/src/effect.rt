@@ -21,7 +21,7 @@ pub enum Outcome {
     Wait,
 }
 
-/// Returns a turned phaser after the end of its phase. The policy says whether it is terminated.
+/// Returns a turned phaser after the end of its phase. The policy says whether it is terminated; no shared one is `Routine`.
 fn phase_ended(turned: Word, policy: Policy) -> Word
     requires { (record_of turned).turned ≡ true }
     ensures { record_of result

@@ -116,7 +116,7 @@ impl SharedPhaser {
         }
     }
 
-    /// From now on the first caller also stands for `other`, and has seen what either had seen.
+    /// Takes in `other`, which can't call any more. The first caller keeps its calls, and has seen what either had seen.
     pub fn join(&self, first: &mut Party, other: Party)
         requires first { first.old.known.number ≡ 0 }
         requires phaser { phaser_of first.old ≡ self.now }

@@ -180,7 +180,7 @@ fn run_of<O: Origin + Send + Sync, R: Threads + Wait + Sync, G: Gate + Sync>(
     end(lock.into_inner())
 }
 
-/// Makes the record of a machine before its first choice.
+/// Makes the record of a machine before its first choice. Out of memory, the fault has an empty schedule.
 fn first_record(alloc: Global, program: Loaded, limit: u32) -> Result<Journaled, LiveFault>
     requires { limit ≤ 1000000000 }
     ensures first { IfOk result (λ journaled. journaled.first ≡ first_world program limit) }

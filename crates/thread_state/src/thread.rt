@@ -192,7 +192,7 @@ impl Thread {
         What::Done
     }
 
-    /// Begins to wait for the end of a phase.
+    /// Begins to wait for the end of the phase of this number. The thread stays at its row until the wait ends.
     pub fn wait(&mut self, phase: i32) -> What
         ensures { record { thread = self.new; what = result } ≡ turn_of_wait phase self.old }
     {
@@ -226,7 +226,7 @@ impl Thread {
         self.stack.iter().any(|frame| frame.is_routine())
     }
 
-    /// Plays a row that uses only the thread's registers and place.
+    /// Plays a row that uses only the thread's registers and the number of its next row, such as `add` or `jmp`.
     #[inline(always)]
     pub fn local_row(&mut self, row: Row) -> What
         requires row { IsTrue (is_local_row row) }
@@ -347,7 +347,8 @@ impl Thread {
         self.pc = row;
     }
 
-    /// Is interrupted by a thread: `Thread.interrupt`. No effect once it has ended or died.
+    /// `Thread.interrupt`: only sets the interrupted status; a waiting thread notices it at its next turn. A thread that has
+    /// ended or died stays as it is.
     pub fn interrupt(&mut self)
         ensures { self.new ≡ interrupted self.old }
     {
@@ -366,7 +367,8 @@ impl Thread {
         self.answer(into, status)
     }
 
-    /// Pops one entry while an exception looks for its handler. A handler catches it. With an empty stack the thread dies.
+    /// Pops one entry while exception `code` looks for its handler. A handler catches it, and R7 gets it. A routine or an
+    /// action gives back the registers of before. With an empty stack the thread dies.
     pub fn pop(&mut self, code: i32) -> What
         ensures { record { thread = self.new; what = result } ≡ turn_of_pop code self.old }
     {

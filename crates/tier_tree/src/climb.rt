@@ -34,7 +34,7 @@ struct Ascent {
     levels: usize,
 }
 
-/// Returns the result of an arrival at phaser `i` alone. `top` is its root's word; its own may be of an earlier phase.
+/// Returns the result of an arrival at phaser `i` alone. `top` is its root's word. If its own lags, their upper halves differ.
 #[inline(always)]
 fn arrival_at(nodes: &[Node], i: usize, top: Word, leave: bool) -> packed_phaser::Arrived
     requires stored { IsStored nodes.now }

@@ -188,7 +188,7 @@ impl Stage {
         }
     }
 
-    /// `parr`, `pdereg` and `paaa`: arrives, unless `refusal` has an exception.
+    /// `parr`, `pdereg`, `paaa`: throws 1 inside the tree's own routine, 6 if a routine would find the stack full, or arrives.
     #[inline(always)]
     #[tactic(auto, using(tier_tree::proofs::Changed::changed_nothing, crate::proofs::Arrivals::refused, crate::proofs::Arrivals::comes))]
     pub(super) fn arrival(
@@ -214,7 +214,7 @@ impl Stage {
         }
     }
 
-    /// Returns the exception of an arrival that doesn't reach the phaser. A thread with an empty stack has none.
+    /// Returns the exception that an arrival throws before it reaches the phaser, if any. With an empty stack there is none.
     #[inline(always)]
     #[tactic(auto, using(crate::proofs::Arrivals::free))]
     fn refusal(&self, phaser: u16, t: usize) -> Option<i32>
@@ -362,7 +362,8 @@ impl Stage {
         }
     }
 
-    /// `pawait`, `pawaiti` and `pawaitt`: throws 1 inside the tree's own routine, and otherwise plays `await_phase`.
+    /// `pawait`, `pawaiti`, `pawaitt`: throws 1 inside the tree's own routine. Otherwise waits for the end of the phase in the
+    /// register `phase`, if the phaser is in it.
     fn await_unless_own(
         &mut self,
         patience: Patience,

@@ -63,7 +63,7 @@ fn changes_tree(row: Row) -> bool
     }
 }
 
-/// Returns whether the event has a mark, or a routine or an action begins. Other threads' turns may then be ready or not.
+/// Returns whether the event has a mark, or a routine or an action begins. Any other thread may then become ready or not.
 #[inline(always)]
 fn is_loud(event: Event) -> bool
     ensures { result ≡ is_loud event }
@@ -138,7 +138,7 @@ impl Stage {
         }
     }
 
-    /// Returns the sets with thread t looked at, whatever row and status it has.
+    /// Returns the sets `before` with the bits of thread `t` computed again from its row and its status.
     #[inline(always)]
     fn looked_closely(&self, program: &Loaded, before: ReadySet, t: usize) -> ReadySet
         requires sound { IsSound program.now most_after (scene_of self.now) }
@@ -151,7 +151,8 @@ impl Stage {
         }
     }
 
-    /// Returns the sets with thread t looked at: in a short way if it runs and is at a row where none waits, as most do.
+    /// Returns the sets `before` with the bits of thread `t` computed again. For most threads, which run and are at a row
+    /// where none waits, they are known at once.
     #[inline(always)]
     #[tactic(auto, using(crate::proofs::ReadySets::looked_on))]
     fn looked(&self, program: &Loaded, before: ReadySet, t: usize) -> ReadySet
@@ -169,7 +170,7 @@ impl Stage {
         }
     }
 
-    /// Looks at thread t, and stores its bits.
+    /// Computes the bits of thread `t` again, and stores them.
     #[inline(never)]
     fn refresh(&mut self, program: &Loaded, t: usize)
         requires sound { IsSound program.now most_after (scene_of self.old) }
@@ -246,7 +247,7 @@ impl Stage {
         }
     }
 
-    /// Returns the sets with all threads looked at.
+    /// Returns the sets with the bits of all threads computed from the scene.
     #[inline(never)]
     pub(super) fn all_looked(&self, program: &Loaded) -> ReadySet
         requires sound { IsSound program.now most_after (scene_of self.now) }
@@ -262,7 +263,7 @@ impl Stage {
         set
     }
 
-    /// Returns the sets with the thread looked at that the row interrupts, if the row is `intr`.
+    /// Returns the sets `before`. If the row is `intr`, the bits of the thread that it interrupts are computed again.
     #[inline(always)]
     fn interrupted_looked(&self, program: &Loaded, before: ReadySet, row: Row) -> ReadySet
         requires sound { IsSound program.now most_after (scene_of self.now) }
@@ -275,7 +276,7 @@ impl Stage {
         }
     }
 
-    /// Returns the sets after a step of thread t, with it looked at, and the thread that it may have interrupted.
+    /// Returns the sets after a step of thread `t`: its bits are computed again, and those of the thread that it interrupted.
     #[inline(always)]
     fn few_looked(&self, program: &Loaded, before: ReadySet, row: Row, t: usize) -> ReadySet
         requires sound { IsSound program.now most_after (scene_of self.now) }
@@ -289,7 +290,8 @@ impl Stage {
         self.looked(program, rest, t)
     }
 
-    /// Returns the sets after a step of thread t at this row, with this event. `before` are the sets before the step.
+    /// Returns the sets after a step of thread `t` at this row, with this event. `before` are the sets before the step. All
+    /// bits are computed again only if the step may have made any other thread ready or not.
     #[inline(always)]
     pub(super) fn ready_after(
         &self,
