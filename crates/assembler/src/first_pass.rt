@@ -20,7 +20,7 @@ use line_reader::first_line::put_line;
 use line_reader::label::is_label;
 use std::alloc::{AllocError, Global};
 
-/// Returns the error of a line that wasn't added as `Memory`. It is at no word of the line, so 0 words are left.
+/// Returns a failure to add a line as its fault `Memory`, which is at none of its words: 0 words are left.
 #[inline(always)]
 fn pushed(added: Result<(), AllocError>) -> Result<(), WordFault>
     ensures ok { OnOk result (added ≡ Ok tt) }

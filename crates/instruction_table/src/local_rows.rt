@@ -60,7 +60,7 @@ fn go_to(pc: &mut u16, place: u16) -> Option<i32>
     None
 }
 
-/// Goes to the row `target` if `taken` is true, and otherwise to the next row. Returns `None`, as `go_to` does.
+/// Goes to the row `target` if `taken` is true, and otherwise to the next row. Returns `None`: no register gets a number.
 fn branch(pc: &mut u16, taken: bool, target: u16) -> Option<i32>
     requires { pc.old < 65535 }
     ensures place { pc.new ≡ (if taken then target else pc.old + 1) }

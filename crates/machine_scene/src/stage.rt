@@ -146,7 +146,7 @@ impl Stage {
         self.threads.len()
     }
 
-    /// Returns a thread.
+    /// Returns thread `t`.
     pub fn thread(&self, t: usize) -> &Thread
         requires { t < length self.now.threads }
         ensures { result.now ≡ thread_at (scene_of self.now) t }
@@ -178,7 +178,7 @@ impl Stage {
         self.barriers.len()
     }
 
-    /// Returns a barrier.
+    /// Returns barrier `b`.
     pub fn barrier(&self, b: usize) -> &Barrier
         requires { b < length self.now.barriers }
         ensures { result.now ≡ barrier_at (scene_of self.now) b }

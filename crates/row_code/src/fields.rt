@@ -13,7 +13,7 @@ pub struct Fields {
     pub imm: i32,
 }
 
-/// Returns the fields of a row without a register. `imm` is its number or the number of its object or row, or 0.
+/// Returns the fields of a row without a register. `imm` is the number of the object or the row that it names, or 0.
 fn no_register(imm: i32) -> Fields
     ensures { result ≡ record { a = 0; b = 0; c = 0; imm = imm } }
 {

@@ -31,7 +31,7 @@ fn register_at(number: u8) -> Reg
     }
 }
 
-/// Returns the number of an object or a row. 0 stands for a number that isn't in 0 to 65535, which `decode` refuses.
+/// Returns the number of an object or a row, or 0 for any other `imm`, such as -1, which only the row `ldi` may have.
 fn object_at(imm: i32) -> u16
     ensures { result ≡ object_at imm }
 {

@@ -45,7 +45,7 @@ impl Run {
     }
 }
 
-/// Appends one choice to runs: the last run gets longer, or there is a new one. There is room for it.
+/// Appends one choice to runs: the last run gets longer, or if it is of another choice or full, there is a new one.
 pub fn push_joined(runs: &mut Vec<Run>, choice: Choice)
     requires room { vec_len runs.old < vec_capacity runs.old }
     requires thread { choice.thread ≤ 63 }

@@ -68,7 +68,7 @@ pub enum NewFault {
 }
 
 impl SharedPhaser {
-    /// Makes a phaser with so many parties in this phase, and its first caller. Only this call allocates.
+    /// Makes a phaser with so many parties in this phase, and its first caller. `Routine` is refused. Only this allocates.
     pub fn new(
         alloc: Global,
         parties: u16,

@@ -67,7 +67,7 @@ impl SharedPhaser {
         }
     }
 
-    /// Looks at the phase, the word's upper half, until it isn't this one, at most `looks_among` times. Returns whether it
+    /// Looks at the phase, the word's upper half, until it isn't `phase`, at most `looks_among` times. Returns whether it
     /// still is. The registered parties, in bits 16 to 31, say whether they are few.
     #[inline(always)]
     fn lingers(&self, phase: i32) -> bool {
@@ -154,7 +154,7 @@ impl SharedPhaser {
         self.insist_promptly::<Brand, R>(rt, party, Call::Arrive(false))
     }
 
-    /// `arriveAndDeregister`.
+    /// `arriveAndDeregister`. The last arrival of a phase ends it in the same step.
     pub fn arrive_and_deregister<R: Wait>(&self, rt: &R, party: &mut Party) -> Reply
         requires { phaser_of party.old ≡ self.now }
         ensures phaser { phaser_of party.new ≡ self.now }

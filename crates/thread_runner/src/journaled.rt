@@ -183,7 +183,7 @@ impl Journaled {
         matches!(self.machine.status(thread), Status::Ended | Status::Died(_))
     }
 
-    /// Makes the choice that a thread has to make, and records it: its turn, or the expiry of its wait.
+    /// Makes the choice that a thread has to make, and records it: its turn, or the expiry of its wait. `NotReady`: none.
     pub fn take_choice(&mut self, thread: u8) -> Result<Event, TakeFault>
         requires { thread < length self.old.first.scene.threads }
         ensures recorded { OnOk result

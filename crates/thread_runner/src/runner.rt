@@ -162,7 +162,7 @@ fn end<O: Origin>(live: Live<O>) -> Result<(Journaled, Ending), LiveFault>
     }
 }
 
-/// Plays a run by as many workers as there are threads.
+/// Plays a run by a worker for each thread. Returns its record and how it ended, or why it was broken off.
 fn run_of<O: Origin + Send + Sync, R: Threads + Wait + Sync, G: Gate + Sync>(
     rt: &R,
     journaled: Journaled,

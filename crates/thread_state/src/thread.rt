@@ -338,7 +338,7 @@ impl Thread {
         What::Enters
     }
 
-    /// Leaves the routine or action on top of the stack: the thread is back at `row`, where it began, with these registers.
+    /// Leaves the routine or action on top of the stack: the thread is back at its arrival's `row`, with these registers.
     pub fn leave_routine(&mut self, registers: &Regs, row: u16)
         ensures { self.new ≡ left_routine registers.now row self.old }
     {
@@ -347,8 +347,8 @@ impl Thread {
         self.pc = row;
     }
 
-    /// `Thread.interrupt`: only sets the interrupted status; a waiting thread notices it at its next turn. A thread that has
-    /// ended or died stays as it is.
+    /// `Thread.interrupt`: only sets the interrupted status. A thread in an interruptible wait notices it at its next turn. A
+    /// thread that has ended or died stays as it is.
     pub fn interrupt(&mut self)
         ensures { self.new ≡ interrupted self.old }
     {

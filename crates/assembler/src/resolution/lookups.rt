@@ -131,7 +131,7 @@ fn with_operand<'a>(
     }
 }
 
-/// Returns the operands of a row's last two places, which most rows leave empty.
+/// Returns the operands of a row's last two places, and R0 or 0 for those that the row, as most rows, doesn't have.
 #[inline(always)]
 fn last_operands<'a>(draft: &Draft<'a>, row: &KeptRow<'a>) -> Option<Operands>
     ensures { let last = operand_kept row.now.held row.now.third
