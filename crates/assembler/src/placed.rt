@@ -119,7 +119,8 @@ fn unknown_name<'a>(draft: &Draft<'_>, line: &KeptLine<'a>) -> Option<(&'a [u8],
     }
 }
 
-/// Returns the fault `UnknownName` of a line that refers to an unknown name, with the name's place in the line.
+/// Returns the fault `UnknownName` of a line that refers to an unknown name, with the place of the last word that is this
+/// name: an earlier one may be the name that the line declares.
 pub fn unknown(draft: &Draft<'_>, line: &KeptLine<'_>, text: &[u8]) -> PlacedFault
     ensures { result.fault ≡ record { line = number_kept line.now; kind = kinds.UnknownName } }
 {

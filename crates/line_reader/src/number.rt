@@ -54,7 +54,7 @@ pub fn digits_value(digits: &[u8]) -> u64
     value
 }
 
-/// Returns the number that a word spells: at most ten digits, perhaps after a minus sign.
+/// Returns the number that a word spells: at most ten digits, which fit in an `i64`, perhaps after a minus sign.
 fn value_in(word: &[u8]) -> i64
     requires number { is_number word.now ≡ true }
     requires short { length (digits_in word.now) ≤ 10 }
@@ -90,7 +90,7 @@ pub fn number_at(low: i32, high: i32, word: &[u8]) -> Result<i32, AsmFaultKind>
     }
 }
 
-/// Reads a number from 0 to `high`.
+/// Reads a number from 0 to `high`. Any other word is `BadNumber` or `OutOfRange`.
 #[tactic(auto, unfolding(crate::specs::Reading::count_at))]
 pub fn count_at(high: u16, word: &[u8]) -> Result<u16, AsmFaultKind>
     ensures { result ≡ count_at high word.now }

@@ -68,7 +68,8 @@ fn reach_of_wait(row: Row) -> Reach
     }
 }
 
-/// Returns the reach of the turn of a thread with this status, at this row, with this entry on top of its stack.
+/// Returns the reach of the turn of a thread with this status, at this row, with this entry on top of its stack. The end of
+/// a wait for a phase reaches nothing else.
 pub fn reach_in(status: Status, row: Row, top: &Option<Frame>) -> Reach
     ensures { result ≡ reach_in status row top.now }
 {

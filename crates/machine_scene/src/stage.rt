@@ -361,7 +361,7 @@ impl Stage {
         event
     }
 
-    /// Ends a timed wait that can expire: the thread throws 5. The caller brings the sets of ready threads up to date.
+    /// Ends a timed wait that can expire: the thread throws `TimeoutException`. The caller updates the sets of ready threads.
     fn run_out(&mut self, program: &Loaded, row: Row, t: usize) -> Event
         requires sound { IsSound program.now most_before (scene_of self.old) }
         requires thread { t < length self.old.threads }

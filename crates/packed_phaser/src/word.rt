@@ -61,7 +61,7 @@ pub enum Arrived {
     NotThere,
 }
 
-/// Splits 64 bits into the four fields.
+/// Splits 64 bits into the four fields: `unarrived` in bits 0 to 15, `parties` 16 to 31, `phase` 32 to 62, `ended` 63.
 #[tactic(auto, using(std::proofs::lemmas::Nat::and_mask), unfolding(crate::specs::Word::fields_of))]
 fn unpacked(bits: u64) -> Fields
     ensures fields { result ≡ fields_of bits }
@@ -234,7 +234,7 @@ impl Word {
         Registered::At(packed(after), self.phase_view())
     }
 
-    /// Subtracts an arrival: returns the word with one party fewer to arrive, and one fewer registered if it leaves.
+    /// Returns the word with one party fewer to arrive (1 less), and if the party leaves, one fewer registered (0x10000 less).
     #[inline(always)]
     fn without_one(self, leave: bool) -> Word
         requires awaited { 0 < (fields_of self).unarrived }

@@ -86,7 +86,7 @@ fn says_timed(bytes: &[u8]) -> bool
     &bytes[..4] == TIMED_MAGIC.as_slice()
 }
 
-/// Returns the counts of an image, or the first fault of its magic, its counts and its length.
+/// Returns the counts of an image, or the first fault: fewer than 12 bytes, the magic, the counts, too few or too many bytes.
 #[tactic(auto, unfolding(crate::specs::Reading::counts_at))]
 fn counts_at(bytes: &[u8]) -> Result<Counts, ImageFault>
     ensures counts { result ≡ counts_at bytes.now }

@@ -134,7 +134,7 @@ impl Machine {
         self.play(choice)
     }
 
-    /// Plays one choice, as `step` does: idle choices and common turns itself, and others by `seldom`.
+    /// Plays one choice: idle and common turns itself, others by `seldom`. It checks the thread first, then choices, then steps.
     #[inline(always)]
     fn play(&mut self, choice: Choice) -> Result<Event, StepFault>
         ensures { HasPlayed self.old choice result self.new }

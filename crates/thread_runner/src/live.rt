@@ -20,8 +20,8 @@ pub enum Break {
     Spawn,
 }
 
-/// The first world of a live run. Each run names its own, and the program never makes such a value: with it the type of what
-/// the lock protects says which program and limit it belongs to.
+/// The machine's state before the first choice of a live run. Each run names its own, and the program never makes such a
+/// value: with it the type of what the lock protects says which program and limit it belongs to.
 pub trait Origin {
     ghost first: { World };
 }

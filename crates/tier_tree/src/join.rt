@@ -21,7 +21,7 @@ fn is_full_for(word: Word, count: u32) -> bool
 }
 
 /// Returns whether `count` parties more would give the line's first phaser more than 65535. If it is empty, it registers one
-/// party with the next, where the same is asked.
+/// party with the next, where the same is asked, and so on up to the root.
 pub fn is_overfull_along(nodes: &[Node], line: &[u8], count: u32) -> bool
     requires stored { IsStored nodes.now }
     requires there { All (λ id. id < length nodes.now) line.now }
@@ -43,7 +43,7 @@ pub fn is_overfull_along(nodes: &[Node], line: &[u8], count: u32) -> bool
 }
 
 /// Returns whether a registration with the line's first phaser would change a turned one: the first, or if that is empty,
-/// the next, and so on.
+/// the next, and so on up to the root.
 pub fn is_turned_along(nodes: &[Node], line: &[u8], count: u32) -> bool
     requires stored { IsStored nodes.now }
     requires there { All (λ id. id < length nodes.now) line.now }

@@ -319,7 +319,7 @@ impl Stage {
         }
     }
 
-    /// Ends the pending phase of a root, and terminates its tree if `terminates`. The last arrival gets its result.
+    /// Ends the phase of a turned root, and terminates its tree if `terminates`. The last arrival gets its result.
     #[inline(always)]
     pub(super) fn end_phase(
         &mut self,

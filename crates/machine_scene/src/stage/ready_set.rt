@@ -1,4 +1,4 @@
-//! The sets of ready threads, exact after each step. To look at a thread is to compute its bits again from the scene.
+//! The sets of ready (runnable) threads, exact after each step. To look at a thread is to compute its bits from the scene.
 ghost use Rattle.std.specs.Prelude.{◌≡◌, ℕ, ◌<◌, length, true, false, None, IfSome};
 ghost use Rattle.instruction_table.specs.LocalRows.{is_local_row};
 ghost use Rattle.cyclic_barrier.specs.ThreadSet.{has};
@@ -71,7 +71,7 @@ fn is_loud(event: Event) -> bool
     !matches!(event.mark, Mark::Nothing) || matches!(event.what, What::Enters)
 }
 
-/// Whether a step may change which other threads are ready, so that all are looked at. `pforce` and `creset` always count.
+/// Returns whether a step may make any other thread ready or not, so that all are looked at. `pforce` and `creset` always do.
 #[inline(always)]
 fn changes_all(row: Row, event: Event) -> bool
     ensures { result ≡ changes_all row event }
@@ -106,7 +106,7 @@ impl Stage {
         row
     }
 
-    /// Returns whether a thread can take a step, computed from the scene and not from the sets.
+    /// Returns whether a thread is runnable, computed from the threads, phasers and barriers, and not from the sets.
     #[inline(always)]
     #[tactic(auto, using(crate::proofs::Readiness::row_is_ready))]
     fn goes_on(&self, program: &Loaded, t: usize) -> bool
@@ -124,7 +124,7 @@ impl Stage {
         }
     }
 
-    /// Returns whether a thread runs and is at a registration.
+    /// Returns whether a thread runs and is at a registration: `preg` or `pbulk`.
     #[inline(always)]
     fn is_registering(&self, program: &Loaded, t: usize) -> bool
         requires sound { IsSound program.now most_after (scene_of self.now) }
