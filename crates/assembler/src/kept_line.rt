@@ -25,7 +25,7 @@ pub enum KeptLine<'a> {
 }
 
 impl<'a> KeptLine<'a> {
-    /// Makes the line of a directive: it declares a phaser, a barrier, a thread or a cell. Fails if it is out of memory.
+    /// Makes line `number`, the directive `said`: it declares a phaser, a barrier, a thread or a cell. Fails if out of memory.
     pub fn of_directive(
         alloc: Global,
         number: u64,

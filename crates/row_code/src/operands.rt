@@ -38,7 +38,7 @@ fn object_at(imm: i32) -> u16
     u16::try_from(imm).unwrap_or(0)
 }
 
-/// Reads the fields as operands of each kind. A field that holds no such operand is read as 0.
+/// Reads the fields as operands of each kind. A field that holds no such operand is read as R0 or 0.
 pub fn operands_at(fields: Fields) -> Operands
     ensures { result ≡ operands_at fields }
 {

@@ -11,7 +11,7 @@ use crate::read_fields::{i32_at, phase_at, target_at, u16_at, zero_at};
 use crate::write_fault::WriteFault;
 use byte_ports::Sink;
 
-/// Returns the parent that a byte says: a number up to 63, or none for 255. Others are a fault of the field at `at`.
+/// Returns the parent's number in a byte, 0 to 63, or none for 255. Any other byte is the fault of the field at `at`.
 fn parent_at(at: usize, byte: u8) -> Result<Option<u8>, ImageFault>
     ensures parent { result ≡ parent_at at byte }
     ensures fits { IfOk result (λ parent. IfSome parent (λ n. n < 64)) }

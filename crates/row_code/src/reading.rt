@@ -36,21 +36,21 @@ fn is_too_many(counts: Counts) -> bool
     64 < counts.phasers || 64 < counts.barriers || 64 < counts.threads
 }
 
-/// Returns the place of the first barrier in the file, after 12 bytes a phaser.
+/// Returns the place of the first barrier in the file: after the head of 12 bytes, and the phasers, of 12 bytes each.
 fn barriers_start(counts: Counts) -> usize
     ensures { result ≡ barriers_start counts }
 {
     12 + 12 * usize::from(counts.phasers)
 }
 
-/// Returns the place of the first thread in the file, after 8 bytes a barrier.
+/// Returns the place of the first thread in the file: after the barriers, of 8 bytes each.
 fn threads_start(counts: Counts) -> usize
     ensures { result ≡ threads_start counts }
 {
     barriers_start(counts) + 8 * usize::from(counts.barriers)
 }
 
-/// Returns the place of the first row in the file, after 4 bytes a thread.
+/// Returns the place of the first row in the file: after the threads, of 4 bytes each.
 fn rows_start(counts: Counts) -> usize
     ensures { result ≡ rows_start counts }
 {
@@ -137,7 +137,7 @@ fn read_rows(alloc: Global, timed: bool, count: u16, bytes: &[u8]) -> Result<Row
     Ok(rows)
 }
 
-/// Reads the four lists of an image whose counts are checked, or returns their first fault.
+/// Reads the four lists after the head of 12 bytes, or returns their first fault. The counts are checked: no list is too long.
 #[tactic(auto, unfolding(crate::specs::Reading::lists_at))]
 fn lists_at(alloc: Global, counts: Counts, bytes: &[u8]) -> Result<Image, ImageFault>
     requires size { length bytes.now ≡ file_end counts }

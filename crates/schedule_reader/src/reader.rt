@@ -290,7 +290,7 @@ fn read_byte(place: Place, at: u64, byte: u8, runs: &mut Vec<Run>) -> Result<Pla
     }
 }
 
-/// Appends the run of the token that ends before this offset, if one does.
+/// Appends the run of the token that ends before this offset. Between tokens, none does, and nothing is appended.
 fn end_token(place: Place, at: u64, runs: &mut Vec<Run>) -> Result<(), ScheduleFault>
     requires place { IsPlace at place }
     ensures takes { Takes result runs.old.items runs.new.items

@@ -134,7 +134,7 @@ impl Machine {
         self.play(choice)
     }
 
-    /// Plays one choice: idle and common turns itself, others by `seldom`. It checks the thread first, then choices, then steps.
+    /// Plays one choice: idle and common turns itself, others by `seldom`. It first checks the thread and the choices left.
     #[inline(always)]
     fn play(&mut self, choice: Choice) -> Result<Event, StepFault>
         ensures { HasPlayed self.old choice result self.new }

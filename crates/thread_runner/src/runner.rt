@@ -192,7 +192,7 @@ fn first_record(alloc: Global, program: Loaded, limit: u32) -> Result<Journaled,
     }
 }
 
-/// Plays the run of this record by `run_of`, and names its origin, which only contracts use.
+/// Plays the run of this record by `run_of`. `Brand` names its origin, which only contracts use.
 fn recorded<R: Threads + Wait + Sync, G: Gate + Sync>(
     rt: &R,
     journaled: Journaled,

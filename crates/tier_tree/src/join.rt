@@ -13,7 +13,7 @@ use crate::present::{line_at, set_word, word_at};
 use crate::registered::Registered;
 use packed_phaser::Word;
 
-/// Returns whether a phaser with this word would have more than 65535 parties after so many more.
+/// Returns whether a phaser with this word would have more than 65535 parties after `count` more.
 fn is_full_for(word: Word, count: u32) -> bool
     ensures { result ≡ nat_lt 65535 ((record_of word).parties + count) }
 {

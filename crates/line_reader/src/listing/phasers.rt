@@ -17,7 +17,7 @@ fn push_parent(text: &mut Vec<u8>, parent: Option<u8>) -> Result<(), AllocError>
     }
 }
 
-/// Appends the option `phase`, unless the phaser begins in phase 0.
+/// Appends the option ` phase 5`, unless the phaser begins in phase 0.
 #[tactic(auto, using(crate::proofs::ListedTexts::word_steps, crate::proofs::ListedTexts::phase_there))]
 fn push_phase(text: &mut Vec<u8>, phase: i32) -> Result<(), AllocError>
     ensures { OnOk result (text.new.items ≡ text.old.items ++ spaced (phase_words phase)) }

@@ -279,7 +279,7 @@ impl Stage {
         }
     }
 
-    /// After the last arrival: ends the phase if the root's policy says how, and otherwise enters the root's routine.
+    /// After the last arrival: ends the phase as the root's policy says, or enters the root's routine, which says it later.
     #[inline(always)]
     #[tactic(auto, using(tier_tree::proofs::Changed::changed_nothing))]
     fn pending_end(
