@@ -1,8 +1,8 @@
 ghost use Rattle.std.specs.Prelude.{◌<◌};
 ghost use Rattle.machine_scene.specs.ReadySet.{IsSetAt};
 
-/// Two sets of threads, with bit n for thread n: those that are ready (the glossary's runnable), and those that are about to
-/// register at a phaser, which any other arrival may make ready or not.
+/// Two sets of threads, with bit n for thread n: those whose turn is ready, and those that are about to register at a phaser,
+/// which may become ready or not with any other arrival.
 #[derive(Clone, Copy)]
 pub struct ReadySet {
     pub turns: u64,

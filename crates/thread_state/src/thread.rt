@@ -315,7 +315,8 @@ impl Thread {
         What::Done
     }
 
-    /// Enters a root's routine at the row `first`. R0 gets the phase that ends, and R1 the registered parties.
+    /// Enters a root's routine at the row `first`. The registers and the row of the arrival are put on the stack before R0
+    /// gets the phase that ends, and R1 the registered parties.
     pub fn enter_advance(&mut self, root: u8, phase: i32, parties: u16, first: u16) -> What
         requires { is_full self.old ≡ false }
         ensures { record { thread = self.new; what = result }
@@ -328,7 +329,7 @@ impl Thread {
         What::Enters
     }
 
-    /// Enters the action of a barrier, which begins at the row `first`.
+    /// Enters a barrier's action at the row `first`. The registers and the row of the arrival are put on the stack.
     pub fn enter_action(&mut self, barrier: u8, first: u16) -> What
         requires { is_full self.old ≡ false }
         ensures { record { thread = self.new; what = result } ≡ turn_of_action barrier first self.old }

@@ -195,7 +195,7 @@ impl Stage {
         }
     }
 
-    /// Brings the sets up to date after a common turn of thread t at this row, with this event. Most change only the bits of t.
+    /// Brings the sets up to date after a common turn of thread t at this row, with this event. Most change only t's bits.
     #[inline(always)]
     pub(super) fn settle(&mut self, program: &Loaded, row: Row, event: Event, t: usize)
         requires sound { IsSound program.now most_after (scene_of self.old) }
