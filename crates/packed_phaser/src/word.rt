@@ -296,7 +296,7 @@ impl Word {
         }
     }
 
-    /// Moves a turned phaser to its next phase. If `ends` is true, it is terminated there, and `unarrived` is 0.
+    /// Moves a turned phaser to its next phase: all parties are to arrive, or if `ends`, it is terminated with `unarrived` 0.
     pub fn advance(self, ends: bool) -> Word
         requires { (record_of self).turned ≡ true }
         ensures record { record_of result ≡ advance ends (record_of self) }

@@ -170,7 +170,7 @@ impl Stage {
         self.registration(into, phaser, count as u32, t)
     }
 
-    /// Registers parties, and puts the phase, or the view if terminated, into a register. Throws 1 if they are too many.
+    /// Registers parties, which isn't held. Puts the phase, or the view if terminated, into a register. Throws 1 if too many.
     fn registration(&mut self, into: Reg, phaser: u16, count: u32, t: usize) -> Event
         requires ready { is_some (outcome_of_registration into phaser count t (scene_of self.old)) ≡ true }
         requires phaser { phaser < length self.old.phasers }

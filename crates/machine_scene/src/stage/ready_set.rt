@@ -93,7 +93,7 @@ impl Stage {
         is_local(row) && matches!(self.threads[t].status(), Status::Runs)
     }
 
-    /// Returns the row that a thread is at. Other than `row_of` it may be called after a step, too.
+    /// Returns the row that a thread is at. `row_of` may be called before a step only, and this after it, too.
     #[inline(always)]
     fn place(&self, program: &Loaded, t: usize) -> Row
         requires sound { IsSound program.now most_after (scene_of self.now) }
