@@ -70,7 +70,7 @@ pub fn name_in<'a>(statement: &Statement<&'a [u8]>) -> Option<&'a [u8]>
     }
 }
 
-/// Returns the kind of what the statement's name refers to. A label refers to a row (`Target`).
+/// Returns the kind of what this statement declares. A label and a row, labelled or not, give `Target`.
 pub fn kind_named(statement: &Statement<&[u8]>) -> OperandKind
     ensures { result ≡ kind_named (statement_seen statement.now) }
 {
@@ -83,7 +83,7 @@ pub fn kind_named(statement: &Statement<&[u8]>) -> OperandKind
     }
 }
 
-/// Returns how many rows, or objects of a kind, a program may have.
+/// Returns how many rows (65535), cells (32), or objects of any other kind (64) a program may have.
 fn most(kind: OperandKind) -> u16
     ensures { result ≡ most kind }
 {
@@ -94,7 +94,7 @@ fn most(kind: OperandKind) -> u16
     }
 }
 
-/// Returns how many rows or objects of a kind there are. A register or a number is neither.
+/// Returns how many rows or objects of a kind there are: 0 for a register or a number, which are neither.
 fn counted(counts: &Counts, kind: OperandKind) -> u16
     ensures { result ≡ counted counts.now kind }
 {
@@ -140,14 +140,14 @@ fn counted_with(counts: Counts, line: &KeptLine<'_>) -> Counts
     }
 }
 
-/// Returns whether a label or a row was read, after one more line.
+/// Returns whether a label or a row was read after one more line: before it (`has_code`), or in it.
 fn code_with(has_code: bool, line: &KeptLine<'_>) -> bool
     ensures { result ≡ (has_code || is_code (statement_kept line.now)) }
 {
     has_code || line.is_code()
 }
 
-/// Returns what the name of a line refers to: the next row or object of its kind, after so many.
+/// Returns what the name in `line` refers to: the next row or object of its kind. Its number is how many `counts` has so far.
 fn place_behind(counts: &Counts, line: &KeptLine<'_>) -> Place
     ensures { let kind = kind_named (statement_kept line.now) in
         result ≡ record { kind = kind; number = counted counts.now kind } }
@@ -159,7 +159,7 @@ fn place_behind(counts: &Counts, line: &KeptLine<'_>) -> Place
     }
 }
 
-/// Adds a name, if there is one, to those that are there. Fails if it is out of memory, and then adds nothing.
+/// Adds a name, if there is one, with what it refers to. Fails if it is out of memory, and then adds nothing.
 #[inline(always)]
 fn add_name<'a>(
     names: &mut IndexMap<NameKey<'a>, Place, NameHash>,
@@ -281,7 +281,7 @@ impl<'a> Draft<'a> {
         number_there(kind, self.place_named(name))
     }
 
-    /// Returns the number that a reference has, or that its name has, if something of this kind has this name.
+    /// Returns the number in a reference, unchecked, or the number of what its name names. `None`: nothing of this kind.
     pub fn referent(&self, kind: OperandKind, reference: &Reference<&'a [u8]>) -> Option<u16>
         ensures { result ≡ referent self.now kind (reference_seen reference.now) }
     {
@@ -291,7 +291,7 @@ impl<'a> Draft<'a> {
         }
     }
 
-    /// Appends a directive that may follow the lines so far. Fails if it is out of memory.
+    /// Appends the directive `said`, which is line `number` and may follow the lines so far. Fails if it is out of memory.
     pub fn push_directive(
         &mut self,
         number: u64,

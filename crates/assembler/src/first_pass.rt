@@ -20,7 +20,7 @@ use line_reader::first_line::put_line;
 use line_reader::label::is_label;
 use std::alloc::{AllocError, Global};
 
-/// Returns whether a line was added. It was read without a fault, so only memory can be missing.
+/// Returns a failure to add a line as its fault `Memory`, which is at none of its words: 0 words are left.
 #[inline(always)]
 fn pushed(added: Result<(), AllocError>) -> Result<(), WordFault>
     ensures ok { OnOk result (added ≡ Ok tt) }
@@ -106,7 +106,7 @@ fn add_words<'a>(draft: &mut Draft<'a>, number: u64, words: &[&'a [u8]]) -> Resu
     }
 }
 
-/// Adds the first line of a text, which has this number. Returns the text after it. The list is only a buffer for words.
+/// Adds the first line of a text, which has this number. Returns the text after it. The line's words are left in `words`.
 #[inline(always)]
 #[tactic(auto, unfolding(crate::specs::Reading::line_behind))]
 fn read_line<'a>(

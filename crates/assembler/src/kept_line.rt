@@ -25,7 +25,7 @@ pub enum KeptLine<'a> {
 }
 
 impl<'a> KeptLine<'a> {
-    /// Makes the line of a directive: it declares a phaser, a barrier, a thread or a cell. Fails if it is out of memory.
+    /// Makes line `number`, the directive `said`: it declares a phaser, a barrier, a thread or a cell. Fails if out of memory.
     pub fn of_directive(
         alloc: Global,
         number: u64,
@@ -72,7 +72,7 @@ impl<'a> KeptLine<'a> {
         }
     }
 
-    /// Returns the kind of what the line's name refers to. A label refers to a row (`Target`).
+    /// Returns the kind of what this line declares. A label and a row, labelled or not, give `Target`.
     pub fn kind_named(&self) -> OperandKind
         ensures { result ≡ kind_named (statement_kept self.now) }
     {

@@ -45,7 +45,8 @@ impl PlacedFault {
     }
 }
 
-/// Returns the place of a fault in its line, which has so many words: the byte for `BadByte`, otherwise the word, if any.
+/// Returns where a fault is in `line`, which has so many `words`: the byte of `BadByte`, otherwise the word with which the
+/// last `fault.left` words begin. `None` if that is 0: the whole line is too long, or memory was refused.
 fn place_in(line: &[u8], fault: WordFault, words: usize) -> Option<WordPlace> {
     if fault.kind == AsmFaultKind::BadByte {
         let at = place_of_forbidden(line)?;
@@ -60,7 +61,7 @@ fn place_in(line: &[u8], fault: WordFault, words: usize) -> Option<WordPlace> {
     )
 }
 
-/// Returns the fault of a line, which has this number and so many words, with its place in the line.
+/// Returns the fault of line `number` of a text, which has so many `words`, with its place in the line.
 pub fn placed(number: u64, fault: WordFault, text: &[u8], words: usize) -> PlacedFault
     ensures { result.fault ≡ record { line = number; kind = fault.kind } }
 {
@@ -77,7 +78,7 @@ pub fn placed(number: u64, fault: WordFault, text: &[u8], words: usize) -> Place
     }
 }
 
-/// Returns the name in a reference, and the kind that it should name, if nothing of this kind has the name.
+/// Returns the name in a reference and the kind `wanted`, if nothing of this kind has the name. `None` for a number.
 fn unknown_in<'a>(
     draft: &Draft<'_>,
     wanted: OperandKind,
@@ -91,7 +92,7 @@ fn unknown_in<'a>(
     }
 }
 
-/// Returns the first unknown name in a line, and the kind that it should name. A row's name is taken for unknown.
+/// Returns the first unknown name in a line that has one, and the kind that it should name. In a row it is the only name.
 fn unknown_name<'a>(draft: &Draft<'_>, line: &KeptLine<'a>) -> Option<(&'a [u8], OperandKind)> {
     match line {
         KeptLine::Phaser(_, phaser) => {
@@ -118,7 +119,8 @@ fn unknown_name<'a>(draft: &Draft<'_>, line: &KeptLine<'a>) -> Option<(&'a [u8],
     }
 }
 
-/// Returns the fault `UnknownName` of a line that refers to an unknown name, with the name's place in the line.
+/// Returns the fault `UnknownName` of a line that refers to an unknown name, with the place of the last word that is this
+/// name: an earlier one may be the name that the line declares.
 pub fn unknown(draft: &Draft<'_>, line: &KeptLine<'_>, text: &[u8]) -> PlacedFault
     ensures { result.fault ≡ record { line = number_kept line.now; kind = kinds.UnknownName } }
 {

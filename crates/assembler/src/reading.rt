@@ -28,7 +28,8 @@ fn is_new(draft: &Draft, name: Option<&[u8]>) -> bool
     }
 }
 
-/// Reads a directive after the lines so far. None of them may be code; its name has to be new, and there has to be room.
+/// Reads a directive after the lines so far. None of them may be code; its name has to be new, and there has to be room. The
+/// fault of a name is at the name, and the two others are at `word`.
 #[tactic(auto, unfolding(crate::specs::Reading::directive_behind))]
 pub fn directive_behind<'a>(
     draft: &Draft<'a>,
@@ -55,7 +56,7 @@ pub fn directive_behind<'a>(
     Ok(said)
 }
 
-/// Reads a row after the lines so far. There has to be room for it. Its label was checked before.
+/// Reads a row after the lines so far. If there is no room for it, `word` is `TooMany`. Its label was checked before.
 #[inline(always)]
 #[tactic(auto, unfolding(crate::specs::Reading::row_behind))]
 pub fn row_behind<'a>(
@@ -73,7 +74,7 @@ pub fn row_behind<'a>(
     Ok(row)
 }
 
-/// Reads what follows a label in the line of this number: nothing, or a row.
+/// Reads what follows a label in the line of this number: nothing, or a row. A directive there is `MisplacedDirective`.
 #[tactic(auto, unfolding(crate::specs::Reading::labelled_behind))]
 fn labelled_behind<'a>(
     draft: &Draft<'a>,

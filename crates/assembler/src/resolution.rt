@@ -16,7 +16,8 @@ use std::alloc::Global;
 mod lookups;
 mod parts;
 
-/// Makes the lists of an image, line by line, or returns the fault of the first line that refers to an unknown name.
+/// Makes the lists of an image, line by line, or returns the fault of the first line that refers to an unknown name. `last` is
+/// the line that is reported if it is out of memory.
 fn parts_of<'a>(
     alloc: Global,
     draft: &Draft<'a>,

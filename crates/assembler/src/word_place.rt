@@ -76,7 +76,8 @@ pub fn place_of_word(text: &[u8], number: usize) -> Option<WordPlace>
     None
 }
 
-/// Returns the place of the last word equal to `word` in a line without its comment, if there is one.
+/// Returns the place of the last word equal to `word` in a line without its comment, if there is one. It tries each number
+/// that a word can have, from the highest on: a line has at most as many words as bytes.
 pub fn last_place_of(text: &[u8], word: &[u8]) -> Option<WordPlace> {
     for number in (0..text.len()).rev() {
         if let Some(place) = place_of_word(text, number) {

@@ -69,7 +69,8 @@ impl<K: Sink + Drop> BlockPort<K> {
         Ok(())
     }
 
-    /// The rest of `push`, not inlined: fails if the port has, or passes the block on, and then holds or passes on `bytes`.
+    /// The rare cases of `push`, which is inlined: the port has failed, or `bytes` don't fit. Then the block is passed on, and
+    /// `bytes` begin the next block. If they are longer than a block, they are passed on, too.
     #[inline(never)]
     fn push_far(&mut self, bytes: &[u8]) -> Result<(), Failed>
         ensures failed { FailsForGood self.old.failed self.new.failed result }

@@ -9,7 +9,7 @@ pub(crate) fn is_next_call(fail_at: Option<u32>) -> bool
     fail_at == Some(0)
 }
 
-/// Returns the call that is to fail, counted from the call after this one.
+/// Returns which call is to fail, counted from the call after this one, which didn't fail. `None` means no call.
 pub(crate) fn after_a_call(fail_at: Option<u32>) -> Option<u32>
     ensures { result ≡ one_nearer fail_at }
 {

@@ -59,7 +59,7 @@ impl Sink for MemorySink {
 
     ghost has_failed = { λ s. s.failed };
 
-    /// Fails if the bytes don't fit, at the chosen call, and after a failure. A call that fails writes nothing.
+    /// Writes the bytes. Fails if they don't fit, at the chosen call, and after a failure. A call that fails writes nothing.
     fn push(&mut self, bytes: &[u8]) -> Result<(), Failed>
         ensures failed { FailsForGood self.old.failed self.new.failed result }
         ensures bytes { OnOk result

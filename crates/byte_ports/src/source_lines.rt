@@ -175,7 +175,8 @@ impl SourceLines {
         self.take_line(count, count);
     }
 
-    /// Moves what is held to the front, reads a piece after it, and returns the piece's length. Fails after `MOST_READS` reads.
+    /// Moves what is held to the front, and reads a piece after it. Returns its length, 0 at the end. Fails after `MOST_READS`
+    /// reads.
     #[inline(never)]
     fn fill<S: Source>(&mut self, source: &mut S) -> Result<usize, Failed>
         requires { length self.old.held ≤ 65536 }

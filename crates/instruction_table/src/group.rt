@@ -20,7 +20,7 @@ pub enum Group {
     Barriers,
 }
 
-/// Returns the row's group.
+/// Returns the row's group: what it acts on.
 pub fn group_of(row: Row) -> Group
     ensures { result ≡ group_of row }
 {

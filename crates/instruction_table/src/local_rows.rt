@@ -7,7 +7,7 @@ use crate::register::Reg;
 use crate::registers::{Local, Regs};
 use crate::row::Row;
 
-/// Returns whether the row uses only its thread's registers and place: the rows of opcodes 1 to 8.
+/// Returns whether the row uses only its thread's registers and the number of its next row: the rows of opcodes 1 to 8.
 pub fn is_local(row: Row) -> bool
     ensures { result ≡ is_local_row row }
 {
@@ -60,7 +60,7 @@ fn go_to(pc: &mut u16, place: u16) -> Option<i32>
     None
 }
 
-/// Goes to the row `target` if `taken` is true, and otherwise to the next row. Returns `None`, as `go_to` does.
+/// Goes to the row `target` if `taken` is true, and otherwise to the next row. Returns `None`: no register gets a number.
 fn branch(pc: &mut u16, taken: bool, target: u16) -> Option<i32>
     requires { pc.old < 65535 }
     ensures place { pc.new ≡ (if taken then target else pc.old + 1) }
@@ -70,7 +70,8 @@ fn branch(pc: &mut u16, taken: bool, target: u16) -> Option<i32>
     go_to(pc, if taken { target } else { next })
 }
 
-/// Returns the registers and the place after the local row at `pc`. A place above 65535 is given as 65535.
+/// Returns the registers and the next row's number after the local row at `pc`. A row at 65535 is played as if at 65534, so
+/// that the number of the row after it is 65535.
 pub fn local(row: Row, registers: &Regs, pc: u16) -> Local
     requires { IsTrue (is_local_row row) }
     ensures registers { result.registers ≡ (local_of row registers.now pc).registers }
@@ -84,7 +85,7 @@ pub fn local(row: Row, registers: &Regs, pc: u16) -> Local
     left
 }
 
-/// Plays a local row on these registers and `pc`. Returns the number that it put into a register, for the row's event.
+/// Plays a local row on these registers and `pc`. Returns the number that it put into a register, or `None` for a jump.
 #[inline(always)]
 pub fn play_local(row: Row, registers: &mut Regs, pc: &mut u16) -> Option<i32>
     requires local { IsTrue (is_local_row row) }

@@ -68,7 +68,7 @@ fn shape_listed(listed: Listed) -> Shape
     }
 }
 
-/// For each slot the place of the entry whose word has it, or 255 if no word does. Words with two entries have two slots.
+/// For each slot the place of the entry whose word has it, or 255 if no word does. Each word has a slot of its own.
 const PLACES: [u8; 128] = [
     255, 255, 255, 255, 255, 255, 255, 36, 255, 31, 255, 33, 13, 255, 255, 255, 255, 16, 255, 34,
     255, 27, 255, 255, 255, 2, 255, 6, 255, 255, 17, 14, 255, 255, 255, 22, 255, 23, 255, 255, 19,
@@ -79,7 +79,8 @@ const PLACES: [u8; 128] = [
     255, 255, 255, 29,
 ];
 
-/// Returns the place of the entry with this word, by the slot of its length and three letters. Other bytes get any place.
+/// Returns the place of the entry with this word: `PLACES` at a slot computed from the word's length and its first, second and
+/// last letters. The factors 5 and 13 give each word of the table its own slot. Other bytes get any place, or 255.
 #[inline(always)]
 fn place_of(word: &[u8]) -> u8
     ensures { (e : Entry) → entry_named table word.now ≡ Some e → result ≡ e.opcode }
@@ -111,7 +112,7 @@ fn opcode_there(entries: &[Listed], place: u8, word: &[u8]) -> Option<u8>
     }
 }
 
-/// Returns the opcode of the rows that begin with this word, which is whole and in small letters, if there are any.
+/// Returns the opcode of the rows that begin with this word: 14 for `out`. `None` if it is no row's word, as `ou` or `OUT`.
 #[inline(always)]
 pub fn opcode_named(word: &[u8]) -> Option<u8>
     ensures opcode { result ≡ option_map (λ e. e.opcode) (entry_named table word.now) }
@@ -148,7 +149,7 @@ fn shape_at(entries: &[Listed], place: u8) -> Shape
     shape_listed(entries[usize::from(place)])
 }
 
-/// Returns the shape of the rows that begin with this word, which is whole and in small letters, if there are any.
+/// Returns how the rows that begin with this word are written. `None` if it is no row's word, as `ou` or `OUT`.
 pub fn shape_of(word: &[u8]) -> Option<Shape>
     ensures entry { option_map entry_of result ≡ entry_named table word.now }
 

@@ -12,7 +12,8 @@ use crate::words::is_word;
 /// How many words are left at an option without its argument: the option, which is the last word.
 const OPTION_ALONE: usize = 1;
 
-/// Reads an option's argument: the name of a row or an object, or its number, at most `high`.
+/// Reads an option's argument: the name of a row or an object, or `#` and its number, at most `high`. If no word is left, the
+/// option has the fault `OperandCount`.
 pub fn reference_argument<'a, 'w>(
     high: u16,
     words: &'w [&'a [u8]],
@@ -26,7 +27,8 @@ pub fn reference_argument<'a, 'w>(
     }
 }
 
-/// Reads this option and its argument, a row or an object, if the option comes next. Otherwise the result has `None`.
+/// Reads this option and its argument, the name of a row or an object, or `#` and its number, at most `high`, if the option
+/// comes next. Otherwise returns `None` and all the words.
 #[tactic(auto, unfolding(crate::specs::Reading::reference_option_at))]
 pub fn reference_option_at<'a, 'w>(
     option: &str,
@@ -48,7 +50,7 @@ pub fn reference_option_at<'a, 'w>(
     }
 }
 
-/// Reads an option's argument: a phase, 0 to 2147483647.
+/// Reads an option's argument: a phase, 0 to 2147483647. If no word is left, the option has the fault `OperandCount`.
 pub fn phase_argument<'a, 'w>(words: &'w [&'a [u8]]) -> Result<(i32, &'w [&'a [u8]]), WordFault>
     ensures { seen_in (λ x. (x.0, map name_seen x.1.now)) result
         ≡ argument_at (number_at (pos 0) greatest_int) (map name_seen words.now) }
@@ -59,7 +61,7 @@ pub fn phase_argument<'a, 'w>(words: &'w [&'a [u8]]) -> Result<(i32, &'w [&'a [u
     }
 }
 
-/// Checks that no word is left. Any word that is left is `BadOption`.
+/// Checks that no word is left. Otherwise the first is `BadOption`: a fault's place is the count of the words from it on.
 pub fn end_at(words: &[&[u8]]) -> Result<(), WordFault>
     ensures { seen_word result ≡ end_at (map name_seen words.now) }
 {

@@ -27,7 +27,7 @@ pub fn is_directive(word: &[u8]) -> bool
     }
 }
 
-/// Reads the words after `.cell`: one name.
+/// Reads the words after `.cell`: one name. With no word or more than one, `.cell` has the fault `OperandCount`.
 #[tactic(auto, unfolding(crate::specs::Reading::cell_at))]
 fn cell_at<'a>(words: &[&'a [u8]]) -> Result<&'a [u8], WordFault>
     ensures { seen_in name_seen result ≡ cell_at (map name_seen words.now) }

@@ -15,7 +15,7 @@ use std::alloc::AllocError;
 /// The most bytes that a line holds.
 const LONGEST_LINE: usize = 256;
 
-/// Returns the place of the first byte that is part of no word.
+/// Returns the place of the first byte that is part of no word, if there is one.
 fn place_of_end(bytes: &[u8]) -> Option<usize>
     ensures { result ≡ position (λ byte. not (is_letter byte)) bytes.now }
 {

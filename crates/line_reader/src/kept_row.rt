@@ -41,7 +41,7 @@ pub struct KeptRow<'a> {
     pub fourth: KeptOperand,
 }
 
-/// Returns the register of the digit that follows `r`.
+/// Returns the register of the digit that follows `r`. A byte other than `0` to `7` is `BadRegister`.
 #[inline(always)]
 #[tactic(auto, unfolding(crate::specs::Reading::register_at))]
 fn register_of(digit: u8) -> Result<Reg, AsmFaultKind>
@@ -60,7 +60,7 @@ fn register_of(digit: u8) -> Result<Reg, AsmFaultKind>
     }
 }
 
-/// Reads a register: `r0` to `r7`.
+/// Reads a register: `r0` to `r7`. Any other word is `BadRegister`.
 #[inline(always)]
 #[tactic(auto, unfolding(crate::specs::Reading::register_at))]
 fn register_at(word: &[u8]) -> Result<Reg, AsmFaultKind>
@@ -121,7 +121,7 @@ fn operand_at<'a>(
     }
 }
 
-/// Reads the operand at this place, from 0. It is `Absent` if the row has fewer operands.
+/// Reads the operand at this place, from 0, of a row with operands of these `kinds`. It is `Absent` if the row has fewer.
 #[inline(always)]
 #[tactic(auto, using(crate::proofs::ByPlace::seen_there))]
 fn operand_there<'a>(
@@ -148,7 +148,7 @@ fn operand_there<'a>(
     }
 }
 
-/// Reads operands of these kinds, from left to right, as those of a row of this opcode.
+/// Reads the operands of a row of this opcode, which are of these `kinds`, from left to right. The first fault is returned.
 #[inline(always)]
 #[tactic(auto, unfolding(crate::specs::Reading::row_of_kinds))]
 fn row_of_kinds<'a>(
@@ -178,7 +178,8 @@ fn row_of_kinds<'a>(
     })
 }
 
-/// Reads a row: the word that begins it, and the words after it, as many as the row has operands.
+/// Reads a row: `word` begins it, or else is an `UnknownWord`, and `words` are its operands. If they are too few or too many,
+/// `word` has the fault `OperandCount`.
 #[inline(always)]
 #[tactic(auto, unfolding(crate::specs::Reading::row_at))]
 pub fn row_at<'a>(word: &[u8], words: &[&'a [u8]]) -> Result<KeptRow<'a>, WordFault>

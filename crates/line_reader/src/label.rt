@@ -10,7 +10,7 @@ pub fn is_label(word: &[u8]) -> bool
     !word.is_empty() && word[word.len() - 1] == b':'
 }
 
-/// Returns a word without its last byte: a label without its colon.
+/// Returns a word without its last byte, if it has one: a label without its colon.
 pub fn before_last(word: &[u8]) -> &[u8]
     ensures { result.now ≡ before_last word.now }
 {

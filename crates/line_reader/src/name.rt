@@ -22,14 +22,14 @@ fn all_go_on_name(word: &[u8]) -> bool
     word.iter().all(|byte| goes_on_name(*byte))
 }
 
-/// Returns whether a word is spelled as a name.
+/// Returns whether a word is spelled as a name: at most 32 bytes, of which the first isn't a digit.
 fn is_name(word: &[u8]) -> bool
     ensures { result ≡ is_name word.now }
 {
     !word.is_empty() && word.len() < 33 && begins_name(word[0]) && all_go_on_name(word)
 }
 
-/// Reads a name: a letter or `_`, then letters, digits and `_`, at most 32 bytes in all.
+/// Reads a name: a letter or `_`, then letters, digits and `_`, at most 32 bytes in all. Any other word is `BadName`.
 #[inline(always)]
 #[tactic(auto, unfolding(crate::specs::Reading::name_at))]
 pub fn name_at(word: &[u8]) -> Result<&[u8], AsmFaultKind>

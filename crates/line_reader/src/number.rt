@@ -54,7 +54,7 @@ pub fn digits_value(digits: &[u8]) -> u64
     value
 }
 
-/// Returns the number that a word spells: at most ten digits, perhaps after a minus sign.
+/// Returns the number that a word spells: at most ten digits, which fit in an `i64`, perhaps after a minus sign.
 fn value_in(word: &[u8]) -> i64
     requires number { is_number word.now ≡ true }
     requires short { length (digits_in word.now) ≤ 10 }
@@ -65,7 +65,8 @@ fn value_in(word: &[u8]) -> i64
     if is_negative(word) { -digits } else { digits }
 }
 
-/// Reads a number from `low` to `high`: a minus sign if it is negative, and one to ten digits.
+/// Reads a number from `low` to `high`: a minus sign if it is negative, and one to ten digits. It is `BadNumber` if it has no
+/// digits or another byte, and `OutOfRange` if it is less or greater, or has more digits.
 #[inline(never)]
 #[tactic(auto, unfolding(crate::specs::Reading::number_at))]
 pub fn number_at(low: i32, high: i32, word: &[u8]) -> Result<i32, AsmFaultKind>
@@ -89,7 +90,7 @@ pub fn number_at(low: i32, high: i32, word: &[u8]) -> Result<i32, AsmFaultKind>
     }
 }
 
-/// Reads a number from 0 to `high`.
+/// Reads a number from 0 to `high`. Any other word is `BadNumber` or `OutOfRange`.
 #[tactic(auto, unfolding(crate::specs::Reading::count_at))]
 pub fn count_at(high: u16, word: &[u8]) -> Result<u16, AsmFaultKind>
     ensures { result ≡ count_at high word.now }

@@ -13,7 +13,7 @@ pub enum Reference<N> {
     Numbered(u16),
 }
 
-/// Reads a name, or `#` and a number from 0 to `high`.
+/// Reads a name, or `#` and a number from 0 to `high`. An empty word is `BadName`.
 #[inline(always)]
 #[tactic(auto, unfolding(crate::specs::Reading::reference_at))]
 pub fn reference_at(high: u16, word: &[u8]) -> Result<Reference<&[u8]>, AsmFaultKind>

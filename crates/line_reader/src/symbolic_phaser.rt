@@ -99,7 +99,7 @@ fn phaser_with<'a>(
     })
 }
 
-/// Reads the words after `.phaser`: a name, the parties, and perhaps options.
+/// Reads the words after `.phaser`: a name, the parties, and perhaps options. Fewer than two words are `OperandCount`.
 #[tactic(auto, unfolding(crate::specs::Reading::phaser_at))]
 pub fn phaser_at<'a>(words: &[&'a [u8]]) -> Result<SymbolicPhaser<&'a [u8]>, WordFault>
     ensures { seen_in phaser_seen result ≡ phaser_at (map name_seen words.now) }

@@ -13,7 +13,7 @@ pub struct SymbolicThread<N> {
     pub first_row: Reference<N>,
 }
 
-/// Reads the name and the first row of a thread.
+/// Reads the name and the first row of a thread. A fault's place counts the words left: 2 at the name, and 1 at the row.
 #[tactic(auto, unfolding(crate::specs::Reading::thread_at))]
 fn thread_of<'a>(name: &'a [u8], row: &'a [u8]) -> Result<SymbolicThread<&'a [u8]>, WordFault>
     ensures { seen_in thread_seen result ≡ thread_at (name.now ∷ row.now ∷ []) }
@@ -24,7 +24,7 @@ fn thread_of<'a>(name: &'a [u8], row: &'a [u8]) -> Result<SymbolicThread<&'a [u8
     })
 }
 
-/// Reads the words after `.thread`: a name and the first row.
+/// Reads the words after `.thread`: a name and the first row. With fewer or more, `.thread` has the fault `OperandCount`.
 #[tactic(auto, unfolding(crate::specs::Reading::thread_at))]
 pub fn thread_at<'a>(words: &[&'a [u8]]) -> Result<SymbolicThread<&'a [u8]>, WordFault>
     ensures { seen_in thread_seen result ≡ thread_at (map name_seen words.now) }

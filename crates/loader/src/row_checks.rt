@@ -11,7 +11,7 @@ use row_code::DeclaredThread;
 /// How many cells there are.
 const CELLS: u16 = 32;
 
-/// Checks whether this row exists, which `place` names. There are `rows` rows.
+/// Checks whether the row of this number, which `place` names, exists. There are `rows` rows.
 pub fn target_fault(rows: usize, place: Place, row: u16) -> Option<LoadFault>
     ensures { result ≡ target_fault rows place row }
 {

@@ -1,4 +1,5 @@
-//! What is true of every scene. Each law is the contract of a function that does nothing.
+//! What is true of every scene: a program's cells, threads, phasers and barriers. Each law is the contract of a function that
+//! does nothing.
 ghost use Rattle.std.specs.Prelude.{◌≡◌, ℕ, ◌&&◌, not, is_some};
 ghost use Rattle.loader.specs.Program.{Program, row_at};
 ghost use Rattle.machine_scene.specs.Scene.{Scene, thread_at, first_scene};

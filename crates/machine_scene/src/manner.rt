@@ -12,7 +12,7 @@ pub struct Manner {
     pub waits: bool,
 }
 
-/// Returns how the row arrives. At any other row nobody arrives, and no routine and no action begins.
+/// Returns how the row arrives. For any other row, at which nobody arrives, it gives R0 and false, which nobody uses.
 #[inline(always)]
 pub fn manner_of(row: Row) -> Manner
     ensures { result ≡ manner_of row }

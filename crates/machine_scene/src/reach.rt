@@ -58,7 +58,7 @@ fn reach_of_row(row: Row, top: &Option<Frame>) -> Reach
     }
 }
 
-/// Returns the reach of the end of a wait at a barrier, at this row.
+/// Returns the reach of the end of a wait at this row's barrier. No thread waits at a barrier at any other row.
 fn reach_of_wait(row: Row) -> Reach
     ensures { result ≡ reach_of_wait row }
 {
@@ -68,7 +68,8 @@ fn reach_of_wait(row: Row) -> Reach
     }
 }
 
-/// Returns the reach of the turn of a thread with this status, at this row, with this entry on top of its stack.
+/// Returns the reach of the turn of a thread with this status, at this row, with this entry on top of its stack. The end of
+/// a wait for a phase reaches nothing else.
 pub fn reach_in(status: Status, row: Row, top: &Option<Frame>) -> Reach
     ensures { result ≡ reach_in status row top.now }
 {

@@ -146,7 +146,7 @@ impl Stage {
         self.threads.len()
     }
 
-    /// Returns a thread.
+    /// Returns thread `t`.
     pub fn thread(&self, t: usize) -> &Thread
         requires { t < length self.now.threads }
         ensures { result.now ≡ thread_at (scene_of self.now) t }
@@ -178,7 +178,7 @@ impl Stage {
         self.barriers.len()
     }
 
-    /// Returns a barrier.
+    /// Returns barrier `b`.
     pub fn barrier(&self, b: usize) -> &Barrier
         requires { b < length self.now.barriers }
         ensures { result.now ≡ barrier_at (scene_of self.now) b }
@@ -221,7 +221,7 @@ impl Stage {
         self.cells[number]
     }
 
-    /// Returns whether a thread can take a step. The stored set of ready threads says so.
+    /// Returns whether thread `t` is runnable. The stored set of ready threads says so, and nothing is computed.
     #[inline(always)]
     pub fn is_ready(&self, program: &Loaded, t: usize) -> bool
         requires ready { KnowsReady program.now self.now }
@@ -231,7 +231,7 @@ impl Stage {
         ready_set::is_in(self.ready.turns, t)
     }
 
-    /// Returns whether a thread's timed wait can expire now. Its turn isn't ready then, and no action runs at its barrier.
+    /// Returns whether a thread's timed wait can expire now: the thread isn't runnable, and no action runs at its barrier.
     pub fn can_expire(&self, program: &Loaded, t: usize) -> bool
         requires sound { IsSound program.now most_before (scene_of self.now) }
         requires known { KnowsReady program.now self.now }
@@ -361,7 +361,7 @@ impl Stage {
         event
     }
 
-    /// Like `expire`, but it leaves the sets of ready threads for the caller to bring up to date.
+    /// Ends a timed wait that can expire: the thread throws `TimeoutException`. The caller updates the sets of ready threads.
     fn run_out(&mut self, program: &Loaded, row: Row, t: usize) -> Event
         requires sound { IsSound program.now most_before (scene_of self.old) }
         requires thread { t < length self.old.threads }

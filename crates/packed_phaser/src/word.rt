@@ -61,7 +61,7 @@ pub enum Arrived {
     NotThere,
 }
 
-/// Splits 64 bits into the four fields.
+/// Splits 64 bits into the four fields: `unarrived` in bits 0 to 15, `parties` 16 to 31, `phase` 32 to 62, `ended` 63.
 #[tactic(auto, using(std::proofs::lemmas::Nat::and_mask), unfolding(crate::specs::Word::fields_of))]
 fn unpacked(bits: u64) -> Fields
     ensures fields { result ≡ fields_of bits }
@@ -186,7 +186,7 @@ impl Word {
         unpacked(self.bits).ended
     }
 
-    /// Returns whether no party is registered, no phase end is pending, and it isn't terminated. 1 in `unarrived` is no party.
+    /// Returns whether no party is registered, and the phase isn't about to end. False once terminated.
     pub fn is_empty(self) -> bool
         ensures { result ≡ is_empty (record_of self) }
     {
@@ -202,7 +202,8 @@ impl Word {
         !fields.ended && fields.unarrived == 0
     }
 
-    /// `register` if `count` is 1, and otherwise `bulkRegister(count)`. 0 parties change nothing.
+    /// `register` if `count` is 1, and otherwise `bulkRegister(count)`. 0 parties change nothing. The first parties of an
+    /// empty phaser replace the 1 in `unarrived`, which isn't a party.
     pub fn register(self, count: u32) -> Registered
         ensures { registration_of result ≡ register count (record_of self) }
     {
@@ -233,7 +234,7 @@ impl Word {
         Registered::At(packed(after), self.phase_view())
     }
 
-    /// Subtracts an arrival: returns the word with one party fewer to arrive, and one fewer registered if it leaves.
+    /// Returns the word with one party fewer to arrive (1 less), and if the party leaves, one fewer registered (0x10000 less).
     #[inline(always)]
     fn without_one(self, leave: bool) -> Word
         requires awaited { 0 < (fields_of self).unarrived }
@@ -254,7 +255,7 @@ impl Word {
         }
     }
 
-    /// `arrive`, or `arriveAndDeregister` if the party leaves. After `Turned` the word needs an `advance`.
+    /// `arrive`, or `arriveAndDeregister` if `leave`. After `Turned` the phase doesn't end until the caller calls `advance`.
     pub fn arrive(self, leave: bool) -> Arrived
         ensures { arrival_of result ≡ arrive leave (record_of self) }
     {
@@ -271,7 +272,7 @@ impl Word {
         Arrived::Turned(self.without_one(leave))
     }
 
-    /// `arrive` in the phase of `other`, for a word of an earlier phase: first, all its parties are to arrive again.
+    /// `arrive` for a word of an earlier phase: the word first enters the phase of `other`, in which no party has arrived.
     #[inline(always)]
     pub fn arrive_anew(self, other: Word, leave: bool) -> Arrived
         ensures { arrival_of result
@@ -295,7 +296,7 @@ impl Word {
         }
     }
 
-    /// Moves a turned phaser to its next phase. If `ends` is true, it is terminated there, and `unarrived` is 0.
+    /// Moves a turned phaser to its next phase: all parties are to arrive, or if `ends`, it is terminated with `unarrived` 0.
     pub fn advance(self, ends: bool) -> Word
         requires { (record_of self).turned ≡ true }
         ensures record { record_of result ≡ advance ends (record_of self) }
@@ -310,7 +311,7 @@ impl Word {
         })
     }
 
-    /// Makes a turned phaser empty, without an end of its phase: nobody is registered. A child does so after its last party.
+    /// Makes a turned phaser without parties empty, and keeps its phase. A child does so when its last party has left.
     pub fn vacate(self) -> Word
         requires turned { (record_of self).turned ≡ true }
         requires no_parties { (record_of self).parties ≡ 0 }

@@ -11,7 +11,8 @@ use crate::read_fields::{i32_at, target_at, u16_at, zero_at};
 use crate::write_fault::WriteFault;
 use byte_ports::Sink;
 
-/// Returns the first row of the action, by a flag at the place `at` and the number after it: none for 0, and `value` for 1.
+/// Returns the action's first row: `value` if `flag` is 1, none if both are 0. Otherwise the flag, at `at`, or `value`, in the
+/// field after it, is wrong.
 #[tactic(auto, unfolding(crate::specs::Reading::action_at))]
 fn action_at(at: usize, flag: u16, value: i32) -> Result<Option<u16>, ImageFault>
     requires { at + 2 < 2 ^ 64 }

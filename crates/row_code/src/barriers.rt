@@ -27,7 +27,7 @@ impl Model for Barriers {
 }
 
 impl Barriers {
-    /// Takes the barriers as they are. Returns them if they are too many.
+    /// Takes the barriers as they are. Returns them in `Err` if they are more than 64.
     pub fn new(barriers: Vec<DeclaredBarrier>) -> Result<Barriers, Vec<DeclaredBarrier>>
         ensures made { IfOk result (λ made. made ≡ barriers.items) }
         ensures back { IfErr result (λ back. back ≡ barriers) }
@@ -56,7 +56,7 @@ impl Barriers {
         })
     }
 
-    /// Returns the barriers in the memory that was taken for them.
+    /// Returns the list of the barriers itself, not a copy.
     pub fn into_vec(self) -> Vec<DeclaredBarrier>
         ensures barriers { result.items ≡ self }
         ensures fits { length self ≤ 64 }

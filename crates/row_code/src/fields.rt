@@ -13,7 +13,7 @@ pub struct Fields {
     pub imm: i32,
 }
 
-/// The fields of a row without a register.
+/// Returns the fields of a row without a register. `imm` is the number of the object or the row that it names, or 0.
 fn no_register(imm: i32) -> Fields
     ensures { result ≡ record { a = 0; b = 0; c = 0; imm = imm } }
 {
@@ -25,7 +25,7 @@ fn no_register(imm: i32) -> Fields
     }
 }
 
-/// The fields of a row of one register.
+/// Returns the fields of a row with one register. `imm` is its other operand, or 0.
 fn one_register(a: Reg, imm: i32) -> Fields
     ensures { result ≡ record { a = number_of a; b = 0; c = 0; imm = imm } }
 {
@@ -37,7 +37,7 @@ fn one_register(a: Reg, imm: i32) -> Fields
     }
 }
 
-/// The fields of a row of two registers.
+/// Returns the fields of a row with two registers. `imm` is its other operand, or 0.
 fn two_registers(a: Reg, b: Reg, imm: i32) -> Fields
     ensures { result ≡ record { a = number_of a; b = number_of b; c = 0; imm = imm } }
 {
@@ -49,7 +49,7 @@ fn two_registers(a: Reg, b: Reg, imm: i32) -> Fields
     }
 }
 
-/// The fields of a row of three registers.
+/// Returns the fields of a row with three registers. `imm` is its other operand, or 0.
 fn three_registers(a: Reg, b: Reg, c: Reg, imm: i32) -> Fields
     ensures { result ≡ record { a = number_of a; b = number_of b; c = number_of c; imm = imm } }
 {
@@ -61,7 +61,7 @@ fn three_registers(a: Reg, b: Reg, c: Reg, imm: i32) -> Fields
     }
 }
 
-/// Puts a row's operands into their fields.
+/// Returns a row's operands in their fields: the registers from left to right in `a`, `b` and `c`, the other one in `imm`.
 #[inline(always)]
 pub fn fields_of(row: Row) -> Fields
     ensures fields { result ≡ fields_of row }

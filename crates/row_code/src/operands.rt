@@ -15,6 +15,7 @@ pub struct Operands {
     pub object: u16,
 }
 
+/// Returns the register of this number, or R0 above 7. `decode` refuses such a number, because R0 is encoded as 0.
 fn register_at(number: u8) -> Reg
     ensures { result ≡ register_at number }
 {
@@ -30,13 +31,14 @@ fn register_at(number: u8) -> Reg
     }
 }
 
+/// Returns the number of an object or a row, or 0 for any other `imm`, such as -1, which only the row `ldi` may have.
 fn object_at(imm: i32) -> u16
     ensures { result ≡ object_at imm }
 {
     u16::try_from(imm).unwrap_or(0)
 }
 
-/// Reads the fields as operands of each kind. A field that holds no such operand is read as 0.
+/// Reads the fields as operands of each kind. A field that holds no such operand is read as R0 or 0.
 pub fn operands_at(fields: Fields) -> Operands
     ensures { result ≡ operands_at fields }
 {

@@ -11,7 +11,7 @@ use crate::read_fields::{i32_at, phase_at, target_at, u16_at, zero_at};
 use crate::write_fault::WriteFault;
 use byte_ports::Sink;
 
-/// Returns the parent that a byte says: a number up to 63, or none for 255. Others are a fault of the field at `at`.
+/// Returns the parent's number in a byte, 0 to 63, or none for 255. Any other byte is the fault of the field at `at`.
 fn parent_at(at: usize, byte: u8) -> Result<Option<u8>, ImageFault>
     ensures parent { result ≡ parent_at at byte }
     ensures fits { IfOk result (λ parent. IfSome parent (λ n. n < 64)) }
@@ -34,7 +34,7 @@ fn kind_at(at: usize, byte: u8) -> Result<u8, ImageFault>
     }
 }
 
-/// Returns the policy of this kind. `value`, in the field at `at`, is its phase or its row, and otherwise 0.
+/// Returns the policy: 0 is default, 1 never, 2 until, 3 a routine. `value`, in the field at `at`, is a phase, a row or 0.
 #[tactic(auto, unfolding(crate::specs::Reading::policy_at))]
 fn policy_at(at: usize, kind: u8, value: i32) -> Result<DeclaredPolicy, ImageFault>
     ensures policy { result ≡ policy_at at kind value }
@@ -74,7 +74,7 @@ fn phaser_at(at: usize, bytes: &[u8]) -> Result<DeclaredPhaser, ImageFault>
     })
 }
 
-/// Returns the number of the policy's kind.
+/// Returns the number of the policy's kind, as in its byte: 0 to 3.
 fn kind_byte(policy: DeclaredPolicy) -> u8
     ensures { result ≡ kind_byte policy }
 {

@@ -54,7 +54,7 @@ fn is_policy(policy: DeclaredPolicy) -> bool
     }
 }
 
-/// Returns whether each field is in its range: parent below 64, no negative phase.
+/// Returns whether each field is in its range: parent below 64, any number of parties, no negative phase.
 fn is_phaser(phaser: DeclaredPhaser) -> bool
     ensures { IsTrue result ↔ IsPhaser phaser }
 {
@@ -79,7 +79,7 @@ fn are_all_phasers(phasers: &[DeclaredPhaser]) -> bool
 }
 
 impl Phasers {
-    /// Takes the phasers as they are. Returns them if they are too many, or if a field of one is out of its range.
+    /// Takes the phasers as they are. Returns them in `Err` if they are more than 64, or if a field of one is out of range.
     pub fn new(phasers: Vec<DeclaredPhaser>) -> Result<Phasers, Vec<DeclaredPhaser>>
         ensures made { IfOk result (λ made. made ≡ phasers.items) }
         ensures back { IfErr result (λ back. back ≡ phasers) }
@@ -109,7 +109,7 @@ impl Phasers {
         })
     }
 
-    /// Returns the phasers in the memory that was taken for them.
+    /// Returns the list of the phasers itself, not a copy.
     pub fn into_vec(self) -> Vec<DeclaredPhaser>
         ensures phasers { result.items ≡ self }
         ensures fits { ArePhasers self }

@@ -36,21 +36,21 @@ fn is_too_many(counts: Counts) -> bool
     64 < counts.phasers || 64 < counts.barriers || 64 < counts.threads
 }
 
-/// Returns the place of the first barrier in the file, after 12 bytes a phaser.
+/// Returns the place of the first barrier in the file: after the head of 12 bytes, and the phasers, of 12 bytes each.
 fn barriers_start(counts: Counts) -> usize
     ensures { result ≡ barriers_start counts }
 {
     12 + 12 * usize::from(counts.phasers)
 }
 
-/// Returns the place of the first thread in the file, after 8 bytes a barrier.
+/// Returns the place of the first thread in the file: after the barriers, of 8 bytes each.
 fn threads_start(counts: Counts) -> usize
     ensures { result ≡ threads_start counts }
 {
     barriers_start(counts) + 8 * usize::from(counts.barriers)
 }
 
-/// Returns the place of the first row in the file, after 4 bytes a thread.
+/// Returns the place of the first row in the file: after the threads, of 4 bytes each.
 fn rows_start(counts: Counts) -> usize
     ensures { result ≡ rows_start counts }
 {
@@ -86,7 +86,7 @@ fn says_timed(bytes: &[u8]) -> bool
     &bytes[..4] == TIMED_MAGIC.as_slice()
 }
 
-/// Returns the counts of an image, or the first fault of its magic, its counts and its length.
+/// Returns the counts of an image, or the first fault: fewer than 12 bytes, the magic, the counts, too few or too many bytes.
 #[tactic(auto, unfolding(crate::specs::Reading::counts_at))]
 fn counts_at(bytes: &[u8]) -> Result<Counts, ImageFault>
     ensures counts { result ≡ counts_at bytes.now }
@@ -122,7 +122,8 @@ fn bytes_from(bytes: &[u8], start: usize) -> &[u8]
     &bytes[start..]
 }
 
-/// Reads `count` rows. If the magic says `timed`, one of them has to have a timeout; otherwise none may.
+/// Reads `count` rows. If the magic says `timed`, one of them has to have a timeout; otherwise none may. A row's fault has the
+/// row's number, not its place, so the place given for the list is just 0.
 #[tactic(auto, unfolding(crate::specs::Reading::rows_at))]
 fn read_rows(alloc: Global, timed: bool, count: u16, bytes: &[u8]) -> Result<Rows, ImageFault>
     requires { 8 * count ≤ length bytes.now }
@@ -136,7 +137,7 @@ fn read_rows(alloc: Global, timed: bool, count: u16, bytes: &[u8]) -> Result<Row
     Ok(rows)
 }
 
-/// Reads the four lists of an image whose counts are checked, or returns their first fault.
+/// Reads the four lists after the head of 12 bytes, or returns their first fault. The counts are checked: no list is too long.
 #[tactic(auto, unfolding(crate::specs::Reading::lists_at))]
 fn lists_at(alloc: Global, counts: Counts, bytes: &[u8]) -> Result<Image, ImageFault>
     requires size { length bytes.now ≡ file_end counts }

@@ -39,7 +39,7 @@ fn fields_at(bytes: [u8; 8]) -> Fields
     Fields { a, b, c, imm }
 }
 
-/// Returns the row with this encoding, or `None`: a field that the row doesn't use has to be 0, each operand of its kind.
+/// Returns the row that these bytes encode, if any: it takes the bytes for some row, and compares its encoding with them.
 pub fn decode(bytes: [u8; 8]) -> Option<Row>
     // The row is the one with these bytes, and it is found if there is one.
     ensures found { IfSome result (λ row. IsRow row × (bytes_of row ≡ bytes)) }

@@ -25,7 +25,7 @@ impl Model for Rows {
 }
 
 impl Rows {
-    /// Takes the rows as they are. Returns them if they are too many.
+    /// Takes the rows as they are. Returns them in `Err` if they are more than 65535.
     pub fn new(rows: Vec<Row>) -> Result<Rows, Vec<Row>>
         ensures made { IfOk result (λ made. made ≡ rows.items) }
         ensures back { IfErr result (λ back. back ≡ rows) }
@@ -61,7 +61,7 @@ impl Rows {
         })
     }
 
-    /// Returns the rows in the memory that was taken for them.
+    /// Returns the list of the rows itself, not a copy.
     pub fn into_vec(self) -> Vec<Row>
         ensures rows { result.items ≡ self }
         ensures fits { length self ≤ 65535 }

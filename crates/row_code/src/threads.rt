@@ -26,7 +26,7 @@ impl Model for Threads {
 }
 
 impl Threads {
-    /// Takes the threads as they are. Returns them if they are too many.
+    /// Takes the threads as they are. Returns them in `Err` if they are more than 64.
     pub fn new(threads: Vec<DeclaredThread>) -> Result<Threads, Vec<DeclaredThread>>
         ensures made { IfOk result (λ made. made ≡ threads.items) }
         ensures back { IfErr result (λ back. back ≡ threads) }
@@ -55,7 +55,7 @@ impl Threads {
         })
     }
 
-    /// Returns the threads in the memory that was taken for them.
+    /// Returns the list of the threads itself, not a copy.
     pub fn into_vec(self) -> Vec<DeclaredThread>
         ensures threads { result.items ≡ self }
         ensures fits { length self ≤ 64 }

@@ -124,7 +124,7 @@ fn first_byte(at: u64, byte: u8) -> Result<Place, ScheduleFault>
     })
 }
 
-/// Returns the place after one more digit of the thread's number. A third digit, or a number above 63, is a fault.
+/// Returns the place after one more digit of the thread's number. With a third digit or above 63, the number is a fault.
 fn thread_digit(
     at: u64,
     expiry: bool,
@@ -186,7 +186,7 @@ fn after_thread(
     })
 }
 
-/// Returns the place after one more digit of the count. An eleventh digit, or a count above 1,000,000,000, is a fault.
+/// Returns the place after one more digit of the count. With an eleventh digit or above 1,000,000,000, the count is a fault.
 fn times_digit(
     at: u64,
     choice: Choice,

@@ -242,7 +242,7 @@ fn turn_of(thread: u8) -> Run
     }
 }
 
-/// Returns the thread and the number of bytes, if the bytes begin with a single turn of a thread up to 63 and a space.
+/// Returns the thread and the number of bytes, if 4 bytes or more begin with a single turn, `t0` to `t63`, and a space.
 #[inline(always)]
 fn turn_before_space(bytes: &[u8]) -> Option<(u8, usize)>
     ensures turn { IfSome result (λ turn. BeginsWithTurn bytes.now turn.0 turn.1) }
@@ -290,7 +290,7 @@ fn read_byte(place: Place, at: u64, byte: u8, runs: &mut Vec<Run>) -> Result<Pla
     }
 }
 
-/// Appends the run of the token that ends before this offset, if one does.
+/// Appends the run of the token that ends before this offset. Between tokens, none does, and nothing is appended.
 fn end_token(place: Place, at: u64, runs: &mut Vec<Run>) -> Result<(), ScheduleFault>
     requires place { IsPlace at place }
     ensures takes { Takes result runs.old.items runs.new.items

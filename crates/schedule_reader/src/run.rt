@@ -45,7 +45,7 @@ impl Run {
     }
 }
 
-/// Appends one choice to runs: the last run gets longer, or there is a new one. There is room for it.
+/// Appends one choice to runs: the last run gets longer, or if it is of another choice or full, there is a new one.
 pub fn push_joined(runs: &mut Vec<Run>, choice: Choice)
     requires room { vec_len runs.old < vec_capacity runs.old }
     requires thread { choice.thread ≤ 63 }
@@ -79,7 +79,8 @@ pub fn joined(alloc: Global, runs: &[Run]) -> Result<Vec<Run>, AllocError>
     Ok(all)
 }
 
-/// Appends a run's choice, as often as it is made, to runs in which equal neighbours are joined, and keeps them so.
+/// Appends a run's choice, as often as it is made, to runs in which equal neighbours are joined, and keeps them so. It pushes
+/// one by one, because the last run may become full on the way, and then a new one begins.
 fn push_run(runs: &mut Vec<Run>, run: Run) -> Result<(), AllocError>
     requires run { IsRun run }
     requires runs { All IsRun runs.old.items }

@@ -6,7 +6,7 @@ use crate::reader::Reader;
 use crate::run::Run;
 use std::alloc::Global;
 
-/// Returns the runs of a whole schedule, or its first fault.
+/// Returns the runs of a whole schedule, or its first fault. A fault that `feed` finds is returned again by `finish`.
 pub fn read_schedule(alloc: Global, schedule: &[u8]) -> Result<Vec<Run>, ScheduleFault>
     requires { length schedule.now < 9223372036854775807 }
     ensures runs { IfOk result (λ runs.

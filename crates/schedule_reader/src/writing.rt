@@ -43,7 +43,7 @@ fn tokens(alloc: Global, first: Run, rest: &[Run]) -> Result<String, AllocError>
     Ok(text)
 }
 
-/// Appends a run as a token.
+/// Appends a run as a token, such as `t3*20`, or `x3` for an expiry.
 fn push_token(text: &mut String, run: Run) -> Result<(), AllocError>
     ensures { OnOk result (string_bytes text.new ≡ string_bytes text.old ++ token_of run) }
 {

@@ -20,7 +20,8 @@ pub enum Attempt {
 }
 
 impl SharedPhaser {
-    /// Tries once: a load, and an exchange if the call changes the phaser. A new phase or a termination wakes the waiters.
+    /// Tries once: a load, and an exchange if the call changes the phaser. A change of the word's upper half, by a new phase
+    /// or a termination, wakes the waiters.
     #[inline(always)]
     pub(crate) fn attempt<C: Asked>(&self, party: &mut Party, call: Call) -> Attempt
         requires call { C.call ≡ call }

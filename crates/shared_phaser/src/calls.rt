@@ -50,7 +50,8 @@ impl SharedPhaser {
         }
     }
 
-    /// Tries a call that never waits, at most so many times. `Raced`: another call was faster each time.
+    /// Tries a call that never waits, at most `tries` times. `Raced`: another call was faster each time. `last` begins as the
+    /// word of an empty phaser, which the first lost try replaces.
     fn within<C: Asked>(&self, party: &mut Party, call: Call, tries: u32) -> Result<Reply, Raced>
         requires call { C.call ≡ call }
         requires prompt { IsPrompt call }
@@ -76,7 +77,7 @@ impl SharedPhaser {
         }
     }
 
-    /// `register` if `parties` is 1, and otherwise `bulkRegister(parties)`. It tries at most so many times.
+    /// `register` if `parties` is 1, and otherwise `bulkRegister(parties)`. It tries at most `tries` times.
     pub fn register_within(
         &self,
         party: &mut Party,
@@ -93,7 +94,7 @@ impl SharedPhaser {
         self.within::<Brand>(party, Call::Register(parties), tries)
     }
 
-    /// `arrive`, or `arriveAndDeregister` if the party leaves. It tries at most so many times. The last arrival ends the phase.
+    /// `arrive`, or `arriveAndDeregister` if `leave`. It tries at most `tries` times. The last arrival ends the phase.
     pub fn arrive_within(&self, party: &mut Party, leave: bool, tries: u32) -> Result<Reply, Raced>
         requires tries { 0 < tries }
         requires phaser { phaser_of party.old ≡ self.now }
@@ -105,7 +106,7 @@ impl SharedPhaser {
         self.within::<Brand>(party, Call::Arrive(leave), tries)
     }
 
-    /// `forceTermination`. It tries at most so many times. The reply is the view afterwards.
+    /// `forceTermination`. It tries at most `tries` times. The reply is the view afterwards.
     pub fn force_within(&self, party: &mut Party, tries: u32) -> Result<Reply, Raced>
         requires tries { 0 < tries }
         requires phaser { phaser_of party.old ≡ self.now }

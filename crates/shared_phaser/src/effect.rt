@@ -21,7 +21,7 @@ pub enum Outcome {
     Wait,
 }
 
-/// Returns a turned phaser after the end of its phase. The policy says whether it is terminated.
+/// Returns a turned phaser after the end of its phase. The policy says whether it is terminated; no shared one is `Routine`.
 fn phase_ended(turned: Word, policy: Policy) -> Word
     requires { (record_of turned).turned ≡ true }
     ensures { record_of result
@@ -34,7 +34,7 @@ fn phase_ended(turned: Word, policy: Policy) -> Word
     turned.advance(ends)
 }
 
-/// Returns what `register` or `bulkRegister` does to a word. 0 parties change nothing.
+/// Returns what `register` or `bulkRegister` does to a word, which isn't turned, so none is held. 0 parties change nothing.
 fn registration(word: Word, count: u32) -> Outcome
     requires { (record_of word).turned ≡ false }
     ensures effect { effect_of result ≡ registering count (register count (record_of word)) }
@@ -97,7 +97,7 @@ fn wait(word: Word, phase: i32) -> Outcome
     }
 }
 
-/// Returns what the call does to the word. A look isn't such a call.
+/// Returns what the call does to the word. It isn't asked for `Look`, which does nothing.
 #[inline(always)]
 pub fn outcome_at(word: Word, call: Call, policy: Policy) -> Outcome
     requires unturned { (record_of word).turned ≡ false }

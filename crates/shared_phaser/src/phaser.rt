@@ -68,7 +68,7 @@ pub enum NewFault {
 }
 
 impl SharedPhaser {
-    /// Makes a phaser with so many parties in this phase, and its first caller. Only this call allocates.
+    /// Makes a phaser with so many parties in this phase, and its first caller. `Routine` is refused. Only this allocates.
     pub fn new(
         alloc: Global,
         parties: u16,
@@ -116,7 +116,7 @@ impl SharedPhaser {
         }
     }
 
-    /// From now on the first caller also stands for `other`, and has seen what either had seen.
+    /// Takes in `other`, which can't call any more. The first caller keeps its calls, and has seen what either had seen.
     pub fn join(&self, first: &mut Party, other: Party)
         requires first { first.old.known.number ≡ 0 }
         requires phaser { phaser_of first.old ≡ self.now }

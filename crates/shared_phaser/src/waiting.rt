@@ -57,7 +57,7 @@ fn rest_among(few: bool) {
 }
 
 impl SharedPhaser {
-    /// Announces a wait that will sleep, before the try that decides on it. So no end of a phase after that try is missed.
+    /// If `sleeps`, announces a wait before the try that decides on it. So no end of a phase after that try is missed.
     #[inline(always)]
     fn announced(&self, sleeps: bool) -> Option<Key<'_>> {
         if sleeps {
@@ -67,7 +67,8 @@ impl SharedPhaser {
         }
     }
 
-    /// Looks at the phase in the word until it isn't this one, or for the last time. Returns whether it still is.
+    /// Looks at the phase, the word's upper half, until it isn't `phase`, at most `looks_among` times. Returns whether it
+    /// still is. The registered parties, in bits 16 to 31, say whether they are few.
     #[inline(always)]
     fn lingers(&self, phase: i32) -> bool {
         let phase = u64::from(phase.unsigned_abs());
@@ -82,8 +83,8 @@ impl SharedPhaser {
         true
     }
 
-    /// Rests between two tries of a wait. A wait that was announced before the last try sleeps, unless a phase has ended since,
-    /// and any other one lingers. Returns whether the next try is announced.
+    /// Rests between two tries of a wait. If the wait was announced (`key`), it sleeps until a phase has ended since then. Any
+    /// other looks at the phase for a while. Returns whether the next try is to be announced: the phase hasn't ended yet.
     #[inline(always)]
     fn rests<R: Wait>(&self, rt: &R, key: Option<Key<'_>>, call: Call) -> bool {
         if let Some(key) = key {
@@ -153,7 +154,7 @@ impl SharedPhaser {
         self.insist_promptly::<Brand, R>(rt, party, Call::Arrive(false))
     }
 
-    /// `arriveAndDeregister`.
+    /// `arriveAndDeregister`. The last arrival of a phase ends it in the same step.
     pub fn arrive_and_deregister<R: Wait>(&self, rt: &R, party: &mut Party) -> Reply
         requires { phaser_of party.old ≡ self.now }
         ensures phaser { phaser_of party.new ≡ self.now }

@@ -22,8 +22,8 @@ pub fn one_more_choice_extends_the_execution()
         → execution world (choices ++ choice ∷ []) ≡ extended (execution world choices) choice }
 {}
 
-/// If all choices are accepted, a higher limit of steps changes nothing. The events are the same, and the last world differs
-/// only in its limit.
+/// If all choices are accepted, a higher limit of steps changes nothing. The events are the same, and the machine comes to the
+/// same state, but for its limit.
 pub fn a_higher_limit_changes_nothing_that_was_accepted()
     ensures { (limit : ℕ) (world : World) (choices : List Choice) → world.limit ≤ limit
         → (execution world choices).refusal ≡ None

@@ -124,8 +124,8 @@ impl Machine {
         })
     }
 
-    /// Plays one choice. An idle choice, the turn of a thread that isn't ready or the expiry of a wait that can't expire, only
-    /// counts as a choice. `Memory` comes only at the row `out`.
+    /// Plays one choice. An idle choice, the turn of a thread that isn't runnable or the expiry of a wait that can't expire,
+    /// only counts as a choice. `Memory` comes only at the row `out`.
     #[inline(always)]
     pub fn step(&mut self, choice: Choice) -> Result<Event, StepFault>
         ensures { IsStep self.old choice result (kept_of choice self.old) self.new }
@@ -134,7 +134,7 @@ impl Machine {
         self.play(choice)
     }
 
-    /// Plays one choice, as `step` does: idle choices and common turns itself, and others by `seldom`.
+    /// Plays one choice: idle and common turns itself, others by `seldom`. It first checks the thread and the choices left.
     #[inline(always)]
     fn play(&mut self, choice: Choice) -> Result<Event, StepFault>
         ensures { HasPlayed self.old choice result self.new }
@@ -166,7 +166,7 @@ impl Machine {
         }
     }
 
-    /// Plays a turn that isn't common, or an expiry. It has the buffer of `seldom_step`, for which a common turn needn't pay.
+    /// Plays a turn that isn't common, or an expiry. The room for its result is here: so a common turn needn't pay for it.
     #[inline(always)]
     fn seldom(&mut self, choice: Choice) -> Result<Event, StepFault>
         requires there { choice.thread < length self.old.scene.threads }
@@ -180,7 +180,7 @@ impl Machine {
         told
     }
 
-    /// Plays a turn that isn't a common one, or an expiry. `told`, in which the caller has put an idle event, gets the result.
+    /// Plays a turn that isn't common, or an expiry. `told` holds the event of an idle choice, and gets any other result.
     #[inline(never)]
     fn seldom_step(&mut self, choice: Choice, told: &mut Result<Event, StepFault>)
         requires there { choice.thread < length self.old.scene.threads }
@@ -201,7 +201,7 @@ impl Machine {
         }
     }
 
-    /// Plays the turn of a ready thread, and counts it. `told` gets the result. Out of memory it changes nothing else.
+    /// Plays the turn of a runnable thread, and counts it. `told` gets the result. Out of memory it changes nothing else.
     fn turn(&mut self, choice: Choice, told: &mut Result<Event, StepFault>)
         requires there { choice.thread < length self.old.scene.threads }
         requires choices { self.old.choices < 1000000000000 }
@@ -235,7 +235,7 @@ impl Machine {
         *told = Ok(event);
     }
 
-    /// `step`, and `undo` gets what `take_back` needs. After `Err` the machine is as before, and `undo` is of no choice.
+    /// Plays one choice, and `undo` gets what `take_back` needs. After `Err` the machine is as before, and `undo` is useless.
     #[inline(always)]
     pub fn step_into(&mut self, choice: Choice, undo: &mut Undo) -> Result<Event, StepFault>
         ensures { IsStep self.old choice result undo.new self.new }
@@ -257,7 +257,7 @@ impl Machine {
         }
     }
 
-    /// `step`, which also returns what `back` needs to undo it.
+    /// Plays one choice. Returns its event, and what `back` needs to undo it.
     pub fn step_noting(&mut self, choice: Choice) -> Result<(Event, Undo), StepFault>
         ensures step { IfOk result (λ both. IsStep self.old choice (Ok both.0) both.1 self.new) }
         ensures refused { IfErr result (λ fault. IsStep self.old choice (Err fault) None self.new) }
@@ -277,7 +277,7 @@ impl Machine {
         self.take_back(&undo);
     }
 
-    /// Like `back`, but takes the undo by reference.
+    /// Undoes the last choice: its count, and if it was a step, what the step changed. `undo` can then be used again.
     pub fn take_back(&mut self, undo: &Undo)
         requires { CanUndo undo.now self.old }
         ensures { self.new ≡ undone undo.now self.old }
@@ -300,7 +300,7 @@ impl Machine {
         self.choices += 1;
     }
 
-    /// Returns whether a choice would be a step: the turn of a ready thread, or the expiry of a wait that can expire.
+    /// Returns whether a choice would be a step: the turn of a runnable thread, or the expiry of a wait that can expire.
     fn is_choice_ready(&self, choice: Choice) -> bool
         requires { choice.thread < length self.now.scene.threads }
         ensures { result ≡ is_choice_ready self.now.program choice (scene_of self.now.scene) }
@@ -327,7 +327,7 @@ impl Machine {
         self.stage.is_ready(&self.program, thread as usize)
     }
 
-    /// Returns whether a thread's timed wait can expire: its turn isn't ready, and no thread runs the action of its barrier.
+    /// Returns whether a thread's timed wait can expire: it isn't runnable, and no thread runs the action of its barrier.
     pub fn can_expire(&self, thread: u8) -> bool
         requires { thread < length self.now.scene.threads }
         ensures { result ≡ can_expire thread self.now.program (scene_of self.now.scene) }

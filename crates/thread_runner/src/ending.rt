@@ -15,7 +15,7 @@ pub enum Ending {
 }
 
 impl Ending {
-    /// Returns how a program stands whose run ended so. At the limit of steps it can still go on.
+    /// Returns whether a program whose run ended so has ended, is stuck, or, at the limit of steps, can still go on.
     pub fn standing(self) -> Standing
         ensures { result ≡ standing_at self }
     {

@@ -52,7 +52,7 @@ impl Journaled {
         })
     }
 
-    /// Takes a thread's turn, and records it. It fails if the thread isn't ready, or at the limit of steps.
+    /// Takes a thread's turn, and records it. It fails if the thread isn't runnable, at the limit of steps, or without memory.
     pub fn take_step(&mut self, thread: u8) -> Result<Event, TakeFault>
         requires { thread < length self.old.first.scene.threads }
         ensures played { IfOk result (λ event. record { world = recorded_world self.new; event = event }
@@ -73,7 +73,8 @@ impl Journaled {
         })
     }
 
-    /// Lets a thread's timed wait expire, and records it, if it is the next to expire (`is_due`).
+    /// Lets a thread's timed wait expire, and records it. It fails if it isn't the next to expire (`is_due`), at the limit of
+    /// steps, or without memory.
     pub fn take_expiry(&mut self, thread: u8) -> Result<Event, TakeFault>
         requires { thread < length self.old.first.scene.threads }
         ensures played { IfOk result (λ event. record { world = recorded_world self.new; event = event }
@@ -95,7 +96,8 @@ impl Journaled {
         })
     }
 
-    /// Plays a choice that is ready, and records it. It makes room in the record first. After a failure nothing has changed.
+    /// Plays a choice that is a step, and records it. It makes room in the record first, so that after a failure nothing has
+    /// changed.
     fn take(&mut self, choice: Choice) -> Result<Event, TakeFault>
         requires thread { choice.thread < length self.old.first.scene.threads }
         requires ready { is_choice_ready (recorded_world self.old).program choice (recorded_world self.old).scene ≡ true }
@@ -149,7 +151,7 @@ impl Journaled {
         self.machine.is_ready(thread)
     }
 
-    /// Returns whether a thread's timed wait is the next to expire: no thread is ready, and no lower thread's wait can expire.
+    /// Returns whether a thread's timed wait is the next to expire: nobody is runnable, and no lower thread's wait can expire.
     pub fn is_due(&self, thread: u8) -> bool
         requires { thread < length self.now.first.scene.threads }
         ensures { result ≡ is_due (recorded_world self.now) thread }
@@ -165,7 +167,7 @@ impl Journaled {
         self.machine.can_expire(thread)
     }
 
-    /// Returns whether a thread has a choice to make: it is ready, or its wait is the next to expire.
+    /// Returns whether a thread has a choice to make: it is runnable, or its wait is the next to expire.
     pub fn may_choose(&self, thread: u8) -> bool
         requires { thread < length self.now.first.scene.threads }
         ensures { result ≡ may_choose (recorded_world self.now) thread }
@@ -181,7 +183,7 @@ impl Journaled {
         matches!(self.machine.status(thread), Status::Ended | Status::Died(_))
     }
 
-    /// Makes the choice that a thread has to make, and records it: its turn, or the expiry of its wait.
+    /// Makes the choice that a thread has to make, and records it: its turn, or the expiry of its wait. `NotReady`: none.
     pub fn take_choice(&mut self, thread: u8) -> Result<Event, TakeFault>
         requires { thread < length self.old.first.scene.threads }
         ensures recorded { OnOk result
@@ -201,7 +203,7 @@ impl Journaled {
         self.take_expiry(thread)
     }
 
-    /// Makes the choice of the lowest thread that has one to make, and records it. Only memory can be missing.
+    /// Makes the choice of the lowest thread that has one, and records it. The run isn't over, so only memory can be missing.
     #[tactic(auto, using(crate::proofs::Choosing::step_left))]
     pub fn take_next(&mut self) -> Result<Event, TakeFault>
         requires { ending_of (recorded_world self.old) ≡ None }
@@ -227,7 +229,7 @@ impl Journaled {
         let _ = &self.schedule;
     }
 
-    /// Returns whether some thread is ready.
+    /// Returns whether some thread is runnable.
     fn some_turn(&self) -> bool
         ensures { result ≡ some_turn (recorded_world self.now) }
     {

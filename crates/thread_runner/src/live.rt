@@ -20,8 +20,8 @@ pub enum Break {
     Spawn,
 }
 
-/// The first world of a live run. Each run names its own, and the program never makes such a value: with it the type of what
-/// the lock protects says which program and limit it belongs to.
+/// The machine's state before the first choice of a live run. Each run names its own, and the program never makes such a
+/// value: with it the type of what the lock protects says which program and limit it belongs to.
 pub trait Origin {
     ghost first: { World };
 }
@@ -110,7 +110,8 @@ impl<O: Origin> Live<O> {
         false
     }
 
-    /// Plays the turn of a worker that needn't wait: it makes its thread's choice and returns true, or stops and returns false.
+    /// Lets a worker that needn't wait make its thread's choice, and returns true. It returns false if the worker stops: if it
+    /// leaves, or if memory runs out, which breaks the run off.
     pub fn turn(&mut self, thread: u8) -> bool
         requires there { thread < length O.first.scene.threads }
         requires waits { waits self.old.broken (recorded_world self.old.journaled) thread ≡ false }

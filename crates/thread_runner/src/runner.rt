@@ -162,7 +162,7 @@ fn end<O: Origin>(live: Live<O>) -> Result<(Journaled, Ending), LiveFault>
     }
 }
 
-/// Plays a run by as many workers as there are threads.
+/// Plays a run by a worker for each thread. Returns its record and how it ended, or why it was broken off.
 fn run_of<O: Origin + Send + Sync, R: Threads + Wait + Sync, G: Gate + Sync>(
     rt: &R,
     journaled: Journaled,
@@ -180,7 +180,7 @@ fn run_of<O: Origin + Send + Sync, R: Threads + Wait + Sync, G: Gate + Sync>(
     end(lock.into_inner())
 }
 
-/// Makes the record of a machine before its first choice.
+/// Makes the record of a machine before its first choice. Out of memory, the fault has an empty schedule.
 fn first_record(alloc: Global, program: Loaded, limit: u32) -> Result<Journaled, LiveFault>
     requires { limit ≤ 1000000000 }
     ensures first { IfOk result (λ journaled. journaled.first ≡ first_world program limit) }
@@ -192,7 +192,7 @@ fn first_record(alloc: Global, program: Loaded, limit: u32) -> Result<Journaled,
     }
 }
 
-/// Plays the run of this record by `run_of`, and names its origin, which only contracts use.
+/// Plays the run of this record by `run_of`. `Brand` names its origin, which only contracts use.
 fn recorded<R: Threads + Wait + Sync, G: Gate + Sync>(
     rt: &R,
     journaled: Journaled,

@@ -192,7 +192,7 @@ impl Thread {
         What::Done
     }
 
-    /// Begins to wait for the end of a phase.
+    /// Begins to wait for the end of the phase of this number. The thread stays at its row until the wait ends.
     pub fn wait(&mut self, phase: i32) -> What
         ensures { record { thread = self.new; what = result } ≡ turn_of_wait phase self.old }
     {
@@ -226,7 +226,7 @@ impl Thread {
         self.stack.iter().any(|frame| frame.is_routine())
     }
 
-    /// Plays a row that uses only the thread's registers and place.
+    /// Plays a row that uses only the thread's registers and the number of its next row, such as `add` or `jmp`.
     #[inline(always)]
     pub fn local_row(&mut self, row: Row) -> What
         requires row { IsTrue (is_local_row row) }
@@ -315,7 +315,8 @@ impl Thread {
         What::Done
     }
 
-    /// Enters a root's routine at the row `first`. R0 gets the phase that ends, and R1 the registered parties.
+    /// Enters a root's routine at the row `first`. The registers and the row of the arrival are put on the stack before R0
+    /// gets the phase that ends, and R1 the registered parties.
     pub fn enter_advance(&mut self, root: u8, phase: i32, parties: u16, first: u16) -> What
         requires { is_full self.old ≡ false }
         ensures { record { thread = self.new; what = result }
@@ -328,7 +329,7 @@ impl Thread {
         What::Enters
     }
 
-    /// Enters the action of a barrier, which begins at the row `first`.
+    /// Enters a barrier's action at the row `first`. The registers and the row of the arrival are put on the stack.
     pub fn enter_action(&mut self, barrier: u8, first: u16) -> What
         requires { is_full self.old ≡ false }
         ensures { record { thread = self.new; what = result } ≡ turn_of_action barrier first self.old }
@@ -338,7 +339,7 @@ impl Thread {
         What::Enters
     }
 
-    /// Leaves the routine or action on top of the stack: the thread is back at `row`, where it began, with these registers.
+    /// Leaves the routine or action on top of the stack: the thread is back at its arrival's `row`, with these registers.
     pub fn leave_routine(&mut self, registers: &Regs, row: u16)
         ensures { self.new ≡ left_routine registers.now row self.old }
     {
@@ -347,7 +348,8 @@ impl Thread {
         self.pc = row;
     }
 
-    /// Is interrupted by a thread: `Thread.interrupt`. No effect once it has ended or died.
+    /// `Thread.interrupt`: only sets the interrupted status. A thread in an interruptible wait notices it at its next turn. A
+    /// thread that has ended or died stays as it is.
     pub fn interrupt(&mut self)
         ensures { self.new ≡ interrupted self.old }
     {
@@ -366,7 +368,8 @@ impl Thread {
         self.answer(into, status)
     }
 
-    /// Pops one entry while an exception looks for its handler. A handler catches it. With an empty stack the thread dies.
+    /// Pops one entry while exception `code` looks for its handler. A handler catches it, and R7 gets it. A routine or an
+    /// action gives back the registers of before. With an empty stack the thread dies.
     pub fn pop(&mut self, code: i32) -> What
         ensures { record { thread = self.new; what = result } ≡ turn_of_pop code self.old }
     {

@@ -34,7 +34,7 @@ struct Ascent {
     levels: usize,
 }
 
-/// Returns the result of an arrival at phaser `i` alone. `top` is its root's word; its own may be of an earlier phase.
+/// Returns the result of an arrival at phaser `i` alone. `top` is its root's word. If its own lags, their upper halves differ.
 #[inline(always)]
 fn arrival_at(nodes: &[Node], i: usize, top: Word, leave: bool) -> packed_phaser::Arrived
     requires stored { IsStored nodes.now }
@@ -54,6 +54,7 @@ fn arrival_at(nodes: &[Node], i: usize, top: Word, leave: bool) -> packed_phaser
 
 /// Goes from the first phaser of the line up to one at which others are still to arrive, and changes none. It fills `words`
 /// with their new words. A child whose parties have all arrived arrives above, or leaves there if it has no party left.
+/// If a phaser has no party left that could arrive, the whole arrival is refused, and none gets a new word.
 #[inline(always)]
 fn look(nodes: &[Node], line: &[u8], top: Word, leave: bool, words: &mut [Word]) -> Ascent
     requires stored { IsStored nodes.now }

@@ -164,7 +164,7 @@ impl Forest {
         self.put_back(&saved);
     }
 
-    /// Like `restore`, but takes what was saved by reference.
+    /// Undoes the call since the forest was saved, as `restore` does. What was saved can be used again.
     pub fn put_back(&mut self, saved: &Saved)
         requires { IsSavedOf saved.now self.old }
         ensures forest { self.new ≡ restored saved.now self.old }

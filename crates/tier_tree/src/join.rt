@@ -13,14 +13,15 @@ use crate::present::{line_at, set_word, word_at};
 use crate::registered::Registered;
 use packed_phaser::Word;
 
-/// Returns whether a phaser with this word would have more than 65535 parties after so many more.
+/// Returns whether a phaser with this word would have more than 65535 parties after `count` more.
 fn is_full_for(word: Word, count: u32) -> bool
     ensures { result ≡ nat_lt 65535 ((record_of word).parties + count) }
 {
     count > 65535 - word.parties() as u32
 }
 
-/// Returns whether a registration with the line's first phaser would give one that it changes more than 65535 parties.
+/// Returns whether `count` parties more would give the line's first phaser more than 65535. If it is empty, it registers one
+/// party with the next, where the same is asked, and so on up to the root.
 pub fn is_overfull_along(nodes: &[Node], line: &[u8], count: u32) -> bool
     requires stored { IsStored nodes.now }
     requires there { All (λ id. id < length nodes.now) line.now }
@@ -41,7 +42,8 @@ pub fn is_overfull_along(nodes: &[Node], line: &[u8], count: u32) -> bool
     }
 }
 
-/// Returns whether a registration with the line's first phaser would change one whose phase is about to end.
+/// Returns whether a registration with the line's first phaser would change a turned one: the first, or if that is empty,
+/// the next, and so on up to the root.
 pub fn is_turned_along(nodes: &[Node], line: &[u8], count: u32) -> bool
     requires stored { IsStored nodes.now }
     requires there { All (λ id. id < length nodes.now) line.now }
@@ -62,7 +64,7 @@ pub fn is_turned_along(nodes: &[Node], line: &[u8], count: u32) -> bool
     }
 }
 
-/// Registers parties with phaser `i` alone.
+/// Registers parties with phaser `i` alone. If its word refuses them, nothing changes.
 fn join_at(nodes: &mut [Node], i: usize, count: u32)
     requires stored { IsStored nodes.old }
     requires there { i < length nodes.old }
@@ -77,7 +79,7 @@ fn join_at(nodes: &mut [Node], i: usize, count: u32)
     }
 }
 
-/// Registers parties with the line's first phaser, and one party above each phaser that was empty.
+/// Registers `count` parties with the line's first phaser. If that is empty, it first registers one with the next, and so on.
 pub fn join_along(nodes: &mut [Node], line: &[u8], count: u32)
     requires stored { IsStored nodes.old }
     requires there { All (λ id. id < length nodes.old) line.now }
@@ -96,7 +98,7 @@ pub fn join_along(nodes: &mut [Node], line: &[u8], count: u32)
     join_at(nodes, i, count);
 }
 
-/// Returns what a registration with phaser `i` would return, and changes nothing.
+/// Returns what a registration with phaser `i` would return. It checks in this order: terminated, 0 parties, too many, held.
 pub fn registration(nodes: &[Node], i: usize, count: u32) -> Registered
     requires stored { IsStored nodes.now }
     requires there { i < length nodes.now }

@@ -35,7 +35,7 @@ fn force_root(nodes: &mut [Node], root: usize)
     nodes[root].set_word(word);
 }
 
-/// Terminates the tree of phaser `i`.
+/// Terminates the tree of phaser `i`, which may be a child.
 pub fn force_tree(nodes: &mut [Node], i: usize)
     requires stored { IsStored nodes.old }
     requires there { i < length nodes.old }

@@ -18,7 +18,8 @@ pub fn phase_of(word: Word) -> Phase
     Phase::prevailing(word.phase_view())
 }
 
-/// `brought_up` of a word that may lag: in the root's phase all its parties are to arrive again, or it is terminated.
+/// Returns what the word `own` says at present, given that of its `root`. If it lags, all its parties are to arrive in the
+/// root's phase, or it is terminated, too.
 #[inline(never)]
 fn renewed(root: Word, own: Word) -> Word
     ensures { record_of result ≡ present (record_of root) (record_of own) }

@@ -48,7 +48,7 @@ fn keep_at(nodes: &[Node], id: u8) -> KeptWord
     }
 }
 
-/// Saves the words of the phasers of a line.
+/// Saves the words of the phasers of a line, at most 8. Unused places hold an empty phaser's word.
 fn keep_line(nodes: &[Node], line: &[u8]) -> Saved
     requires few { length line.now ≤ 8 }
     requires there { All (λ id. id < length nodes.now) line.now }

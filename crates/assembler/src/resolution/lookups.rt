@@ -96,7 +96,8 @@ pub fn thread_of<'a>(draft: &Draft<'a>, thread: &SymbolicThread<&'a [u8]>) -> Op
     Some(DeclaredThread { first_row })
 }
 
-/// Puts one more operand of a row before these: a register before the registers, and others into their fields.
+/// Puts one more operand of a row before these: a register becomes `a`, and those in `a` and `b` become `b` and `c`. Another
+/// operand goes to its field, the number of a named object too.
 #[inline(always)]
 fn with_operand<'a>(
     draft: &Draft<'a>,
@@ -130,7 +131,7 @@ fn with_operand<'a>(
     }
 }
 
-/// Returns the operands of a row's last two places, which most rows leave empty.
+/// Returns the operands of a row's last two places, and R0 or 0 for those that the row, as most rows, doesn't have.
 #[inline(always)]
 fn last_operands<'a>(draft: &Draft<'a>, row: &KeptRow<'a>) -> Option<Operands>
     ensures { let last = operand_kept row.now.held row.now.third
@@ -152,7 +153,7 @@ fn last_operands<'a>(draft: &Draft<'a>, row: &KeptRow<'a>) -> Option<Operands>
     with_operand(draft, &row.held, row.third, operands)
 }
 
-/// Returns the row of a line.
+/// Returns the row of a line. Operands are added from right to left, because each register shifts those after it.
 #[inline(always)]
 pub fn row_of<'a>(draft: &Draft<'a>, row: &KeptRow<'a>) -> Option<Row>
     ensures { result

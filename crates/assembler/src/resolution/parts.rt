@@ -63,7 +63,7 @@ impl Parts {
         }
     }
 
-    /// Adds what a line adds to an image, if each name that it refers to is known. Returns whether this is so.
+    /// Adds what a line adds to an image, and returns true, or false if it has an unknown name. Cells and labels add nothing.
     pub fn add<'a>(&mut self, draft: &Draft<'a>, line: &KeptLine<'a>) -> Result<bool, AllocError>
         requires { AllByRecursion IsPhaser (phasers_in draft.now (statement_kept line.now)) }
         ensures known { IfOk result (λ known. known

@@ -145,7 +145,7 @@ fn agrees(barrier: &mut Barrier, call: &Call) -> bool {
     }
 }
 
-/// Like `agrees`, but the barrier is as before: a copy is put back.
+/// Makes the call, says whether it returned the result in `call`, and then puts back the barrier as it was.
 fn agrees_and_goes_back(barrier: &mut Barrier, call: &Call) -> bool
     ensures { barrier.new ≡ barrier.old }
 {

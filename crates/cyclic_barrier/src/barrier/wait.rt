@@ -40,7 +40,7 @@ impl Barrier {
         self.leave(thread);
     }
 
-    /// Ends the time of a waiting thread (`TimeoutException`). The barrier changes as by `interrupt`.
+    /// Ends the time of a waiting thread: the barrier breaks, and the thread's wait is forgotten (`TimeoutException`).
     pub fn expire(&mut self, thread: u8)
         requires thread { thread < 64 }
         requires waiting { wait_at self.old.waits thread ≡ Some Waiting }

@@ -19,7 +19,7 @@ fn push_action(text: &mut Vec<u8>, action: Option<u16>) -> Result<(), AllocError
     }
 }
 
-/// Appends the line of barrier `n`.
+/// Appends the line of barrier `n`, such as `.barrier b0 3 action #7`.
 #[tactic(auto, using(crate::proofs::ListedTexts::option_steps))]
 fn push_barrier(text: &mut Vec<u8>, n: u64, barrier: DeclaredBarrier) -> Result<(), AllocError>
     ensures text { OnOk result (text.new.items

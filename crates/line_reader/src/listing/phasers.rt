@@ -7,7 +7,7 @@ use crate::listing::pieces::{push_count, push_number, push_value};
 use row_code::{DeclaredPhaser, DeclaredPolicy};
 use std::alloc::AllocError;
 
-/// Appends the option `parent`, if the phaser has one.
+/// Appends the option `parent` with the parent's number, as in ` parent #0`, if the phaser has a parent.
 fn push_parent(text: &mut Vec<u8>, parent: Option<u8>) -> Result<(), AllocError>
     ensures { OnOk result (text.new.items ≡ text.old.items ++ spaced (parent_words parent)) }
 {
@@ -17,7 +17,7 @@ fn push_parent(text: &mut Vec<u8>, parent: Option<u8>) -> Result<(), AllocError>
     }
 }
 
-/// Appends the option `phase`, unless the phaser begins in phase 0.
+/// Appends the option ` phase 5`, unless the phaser begins in phase 0.
 #[tactic(auto, using(crate::proofs::ListedTexts::word_steps, crate::proofs::ListedTexts::phase_there))]
 fn push_phase(text: &mut Vec<u8>, phase: i32) -> Result<(), AllocError>
     ensures { OnOk result (text.new.items ≡ text.old.items ++ spaced (phase_words phase)) }
@@ -28,7 +28,7 @@ fn push_phase(text: &mut Vec<u8>, phase: i32) -> Result<(), AllocError>
     push_value(text, b" phase ", phase)
 }
 
-/// Appends the policy's option. `Default` has none.
+/// Appends the policy's option: ` never`, ` until 5` or ` onadvance #9`. `Default` has none.
 #[tactic(auto, using(crate::proofs::ListedTexts::word_steps))]
 fn push_policy(text: &mut Vec<u8>, policy: DeclaredPolicy) -> Result<(), AllocError>
     ensures { OnOk result (text.new.items ≡ text.old.items ++ spaced (policy_words policy)) }
@@ -41,7 +41,7 @@ fn push_policy(text: &mut Vec<u8>, policy: DeclaredPolicy) -> Result<(), AllocEr
     }
 }
 
-/// Appends the line of phaser `n`.
+/// Appends the line of phaser `n`, such as `.phaser p1 2 parent #0 never`.
 #[tactic(auto, using(crate::proofs::ListedTexts::option_steps))]
 fn push_phaser(text: &mut Vec<u8>, n: u64, phaser: DeclaredPhaser) -> Result<(), AllocError>
     ensures { OnOk result (text.new.items ≡ text.old.items ++ line_text (phaser_words n phaser)) }

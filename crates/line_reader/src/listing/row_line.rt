@@ -43,7 +43,7 @@ impl RowLine {
         &self.bytes[..self.len]
     }
 
-    /// Appends a word.
+    /// Appends a word, for which there is room.
     #[inline(always)]
     pub fn put_word(&mut self, word: &[u8])
         requires { length self.old + length word.now ≤ 64 }

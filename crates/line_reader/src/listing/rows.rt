@@ -9,7 +9,7 @@ use instruction_table::{OperandKind, Row, row_shape};
 use row_code::fields_of;
 use std::alloc::AllocError;
 
-/// Appends operands of these kinds: a register each time from the list, otherwise `imm`. A missing register ends them.
+/// Appends an operand for each of `kinds`: the next of `registers`, or `imm` for another kind. It ends if no register is left.
 #[inline(always)]
 #[tactic(auto, using(crate::proofs::ListedTexts::operand_steps))]
 fn put_operands(line: &mut RowLine, kinds: &[OperandKind], registers: &[u8], imm: i32)
@@ -37,7 +37,7 @@ fn put_operands(line: &mut RowLine, kinds: &[OperandKind], registers: &[u8], imm
     }
 }
 
-/// Appends the line that a row has in a canonical text.
+/// Appends the line that a row has in a canonical text, such as `paaa r0 #0`. Fails if it is out of memory.
 #[inline(always)]
 #[tactic(auto, using(crate::proofs::ListedTexts::option_steps))]
 pub fn push_row(text: &mut Vec<u8>, row: Row) -> Result<(), AllocError>

@@ -8,7 +8,7 @@ use crate::listing::pieces::push_count;
 use row_code::DeclaredThread;
 use std::alloc::AllocError;
 
-/// Appends the line of thread `n`.
+/// Appends the line of thread `n`, such as `.thread t0 #4`.
 #[tactic(auto, using(crate::proofs::ListedTexts::word_steps))]
 fn push_thread(text: &mut Vec<u8>, n: u64, thread: DeclaredThread) -> Result<(), AllocError>
     ensures text { OnOk result (text.new.items ≡ text.old.items ++ line_text (thread_words n thread)) }

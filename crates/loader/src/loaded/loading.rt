@@ -44,7 +44,7 @@ fn code_fault(image: &Image) -> Option<LoadFault>
     last_fault(rows)
 }
 
-/// Makes all checks in their order. Returns the phasers and the barriers, which are made on the way.
+/// Makes all checks in this order: is there a thread, phasers, barriers, code. Returns the phasers and barriers that it made.
 fn checked(alloc: Global, image: &Image) -> Result<(Forest, Vec<Barrier>), LoadFault>
     ensures fault { IfErr result (λ fault. fault ≢ LoadFault.Memory
         → first_fault image.now ≡ Some fault) }
@@ -78,8 +78,8 @@ fn entry_rows(alloc: Global, image: &Image) -> Result<(Vec<u16>, Vec<u16>), Allo
 }
 
 /// Checks the image, and makes the program that it declares. The checks come in this order: there is a thread; each phaser's
-/// routine exists, and then the phaser can be declared; each barrier's action exists, and then the barrier can be made; each
-/// thread's first row exists; everything that a row names exists; and no thread goes on after the last row. The first fault is
+/// routine exists, and then the phaser can be declared; each barrier has parties, and then its action exists; each thread's
+/// first row exists; everything that a row names exists; and no thread goes on after the last row. The first fault is
 /// returned. `Memory` comes at the place where memory runs out.
 pub fn load(alloc: Global, image: Image) -> Result<Loaded, LoadFault>
     ensures fault { IfErr result (λ fault. fault ≢ LoadFault.Memory

@@ -126,7 +126,7 @@ impl Stage {
         }
     }
 
-    /// `creset`. The event has a mark if threads were waiting.
+    /// `creset`: throws 1 inside the barrier's action. The event has a mark if threads were waiting.
     fn reset(&mut self, barrier: u16, t: usize) -> Event
         requires ready { is_some (unless_busy barrier t (scene_of self.old) (unless_runner barrier t (scene_of self.old)
             (Some (outcome_of_reset barrier t (scene_of self.old))))) ≡ true }
@@ -152,7 +152,7 @@ impl Stage {
         }
     }
 
-    /// `cwaiting`: puts into a register how many threads wait.
+    /// `cwaiting`: puts into a register how many threads wait, or throws 1 inside the barrier's action.
     fn number_waiting(&mut self, into: Reg, barrier: u16, t: usize) -> Event
         requires ready { is_some (unless_busy barrier t (scene_of self.old) (unless_runner barrier t (scene_of self.old)
             (Some (outcome_of_turn (turn_of_answer into (pos (number_waiting (barrier_at (scene_of self.old) barrier)))

@@ -42,7 +42,7 @@ impl Stage {
         }
     }
 
-    /// `ret`: returns from the call, the routine or the action on top of the stack. Throws 7 (bad return) if none is on top.
+    /// `ret`: returns from the call, the routine or the action on top of the stack. Throws 7 if there is a handler or nothing.
     fn ret(&mut self, program: &Loaded, t: usize) -> Event
         requires sound { IsSound program.now most_before (scene_of self.old) }
         requires thread { t < length self.old.threads }
@@ -70,7 +70,7 @@ impl Stage {
         }
     }
 
-    /// Ends a routine, whose result is in R0. Its thread goes back to its arrival, with the registers of then.
+    /// Ends a routine, which returns true unless R0 is 0. Its thread goes back to the arrival's `row`, with its `registers`.
     fn end_routine(
         &mut self,
         program: &Loaded,
@@ -99,7 +99,8 @@ impl Stage {
         self.take_answer(manner, root, terminates, t)
     }
 
-    /// Ends the phase as the routine says. If the tree was terminated meanwhile, the arrival only gets its result.
+    /// Ends the phase as the routine says. If the tree was terminated meanwhile, the arrival only gets its result: the view if
+    /// it waits, and otherwise the phase.
     #[tactic(auto, using(tier_tree::proofs::Changed::changed_nothing))]
     fn take_answer(&mut self, manner: Manner, root: PhaserId, terminates: bool, t: usize) -> Event
         requires there { root.0 < length self.old.phasers }

@@ -41,7 +41,7 @@ impl Stage {
         }
     }
 
-    /// Plays a common turn by what the thread is doing, and leaves the sets of ready threads. `None`: it is none.
+    /// Plays a common turn by what the thread is doing, and doesn't change the sets of ready threads. `None`: it isn't common.
     #[inline(always)]
     fn common_by_status(&mut self, program: &Loaded, row: Row, t: usize) -> Option<Event>
         requires at { StandsAt program.now row t self.old }
@@ -69,7 +69,8 @@ impl Stage {
         }
     }
 
-    /// Plays `parr` or `paaa`, while no thread is about to register. Otherwise it changes nothing and returns `None`.
+    /// Plays `parr` or `paaa`. At another row, or if a thread is about to register, which an arrival may make ready or not, it
+    /// changes nothing and returns `None`.
     #[inline(always)]
     fn common_arrival(&mut self, program: &Loaded, row: Row, t: usize) -> Option<Event>
         requires at { StandsAt program.now row t self.old }

@@ -10,7 +10,7 @@ use instruction_table::{Row, is_local};
 use thread_state::Event;
 
 impl Stage {
-    /// Plays a row that uses only the thread's registers and place.
+    /// Plays a row that uses only the thread's registers and the number of its next row.
     #[inline(always)]
     #[tactic(auto, using(crate::proofs::LocalTurns::own_outcome))]
     pub(super) fn local_row(&mut self, row: Row, t: usize) -> Event

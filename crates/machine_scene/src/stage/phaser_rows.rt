@@ -170,7 +170,7 @@ impl Stage {
         self.registration(into, phaser, count as u32, t)
     }
 
-    /// Registers parties, and puts the phase, or the view if terminated, into a register. Throws 1 if they are too many.
+    /// Registers parties, which isn't held. Puts the phase, or the view if terminated, into a register. Throws 1 if too many.
     fn registration(&mut self, into: Reg, phaser: u16, count: u32, t: usize) -> Event
         requires ready { is_some (outcome_of_registration into phaser count t (scene_of self.old)) ≡ true }
         requires phaser { phaser < length self.old.phasers }
@@ -188,7 +188,7 @@ impl Stage {
         }
     }
 
-    /// `parr`, `pdereg` and `paaa`: arrives, unless `refusal` has an exception.
+    /// `parr`, `pdereg`, `paaa`: throws 1 inside the tree's own routine, 6 if a routine would find the stack full, or arrives.
     #[inline(always)]
     #[tactic(auto, using(tier_tree::proofs::Changed::changed_nothing, crate::proofs::Arrivals::refused, crate::proofs::Arrivals::comes))]
     pub(super) fn arrival(
@@ -214,7 +214,7 @@ impl Stage {
         }
     }
 
-    /// Returns the exception of an arrival that doesn't reach the phaser. A thread with an empty stack has none.
+    /// Returns the exception that an arrival throws before it reaches the phaser, if any. With an empty stack there is none.
     #[inline(always)]
     #[tactic(auto, using(crate::proofs::Arrivals::free))]
     fn refusal(&self, phaser: u16, t: usize) -> Option<i32>
@@ -279,7 +279,7 @@ impl Stage {
         }
     }
 
-    /// After the last arrival: ends the phase if the root's policy says how, and otherwise enters the root's routine.
+    /// After the last arrival: ends the phase as the root's policy says, or enters the root's routine, which says it later.
     #[inline(always)]
     #[tactic(auto, using(tier_tree::proofs::Changed::changed_nothing))]
     fn pending_end(
@@ -319,7 +319,7 @@ impl Stage {
         }
     }
 
-    /// Ends the pending phase of a root, and terminates its tree if `terminates`. The last arrival gets its result.
+    /// Ends the phase of a turned root, and terminates its tree if `terminates`. The last arrival gets its result.
     #[inline(always)]
     pub(super) fn end_phase(
         &mut self,
@@ -362,7 +362,8 @@ impl Stage {
         }
     }
 
-    /// `pawait`, `pawaiti` and `pawaitt`: throws 1 inside the tree's own routine, and otherwise plays `await_phase`.
+    /// `pawait`, `pawaiti`, `pawaitt`: throws 1 inside the tree's own routine. Otherwise waits for the end of the phase in the
+    /// register `phase`, if the phaser is in it.
     fn await_unless_own(
         &mut self,
         patience: Patience,

@@ -15,7 +15,7 @@ use instruction_table::Row;
 use thread_state::Status;
 use tier_tree::Registered;
 
-/// Returns whether some threads have to wait before they play the row: a registration, or a call of a busy barrier.
+/// Returns whether a thread may have to wait before it plays the row: a registration, or a call that a busy barrier delays.
 #[inline(always)]
 pub(super) fn may_be_blocked(row: Row) -> bool
     ensures { result ≡ may_be_blocked row }
@@ -115,7 +115,7 @@ impl Stage {
         }
     }
 
-    /// Returns whether the thread's wait at the barrier was released, or an interrupt ends it. None does while an action runs.
+    /// Returns whether the thread's wait at the barrier was released, or an interrupt ends it: none does while an action runs.
     #[inline(always)]
     fn is_released(&self, barrier: u16, t: usize) -> bool
         requires there { barrier < length self.now.barriers }
@@ -132,7 +132,7 @@ impl Stage {
         }
     }
 
-    /// Returns whether the thread's timed wait can expire, if its turn isn't ready. None at a busy barrier can.
+    /// Returns whether the thread, which isn't ready, is in a timed wait that can expire. At a busy barrier none can.
     pub(super) fn has_time(&self, row: Row, t: usize) -> bool
         requires named { IsNamed (counts_in self.now) row }
         requires thread { t < length self.now.threads }

@@ -1,4 +1,4 @@
-//! The sets of ready threads, exact after each step. To look at a thread is to compute its bits again from the scene.
+//! The sets of ready (runnable) threads, exact after each step. To look at a thread is to compute its bits from the scene.
 ghost use Rattle.std.specs.Prelude.{◌≡◌, ℕ, ◌<◌, length, true, false, None, IfSome};
 ghost use Rattle.instruction_table.specs.LocalRows.{is_local_row};
 ghost use Rattle.cyclic_barrier.specs.ThreadSet.{has};
@@ -63,7 +63,7 @@ fn changes_tree(row: Row) -> bool
     }
 }
 
-/// Returns whether the event has a mark, or a routine or an action begins. Other threads' turns may then be ready or not.
+/// Returns whether the event has a mark, or a routine or an action begins. Any other thread may then become ready or not.
 #[inline(always)]
 fn is_loud(event: Event) -> bool
     ensures { result ≡ is_loud event }
@@ -71,7 +71,7 @@ fn is_loud(event: Event) -> bool
     !matches!(event.mark, Mark::Nothing) || matches!(event.what, What::Enters)
 }
 
-/// Whether a step may change which other threads are ready, so that all are looked at. `pforce` and `creset` always count.
+/// Returns whether a step may make any other thread ready or not, so that all are looked at. `pforce` and `creset` always do.
 #[inline(always)]
 fn changes_all(row: Row, event: Event) -> bool
     ensures { result ≡ changes_all row event }
@@ -93,7 +93,7 @@ impl Stage {
         is_local(row) && matches!(self.threads[t].status(), Status::Runs)
     }
 
-    /// Returns the row that a thread is at. Other than `row_of` it may be called after a step, too.
+    /// Returns the row that a thread is at. `row_of` may be called before a step only, and this after it, too.
     #[inline(always)]
     fn place(&self, program: &Loaded, t: usize) -> Row
         requires sound { IsSound program.now most_after (scene_of self.now) }
@@ -106,7 +106,7 @@ impl Stage {
         row
     }
 
-    /// Returns whether a thread can take a step, computed from the scene and not from the sets.
+    /// Returns whether a thread is runnable, computed from the threads, phasers and barriers, and not from the sets.
     #[inline(always)]
     #[tactic(auto, using(crate::proofs::Readiness::row_is_ready))]
     fn goes_on(&self, program: &Loaded, t: usize) -> bool
@@ -124,7 +124,7 @@ impl Stage {
         }
     }
 
-    /// Returns whether a thread runs and is at a registration.
+    /// Returns whether a thread runs and is at a registration: `preg` or `pbulk`.
     #[inline(always)]
     fn is_registering(&self, program: &Loaded, t: usize) -> bool
         requires sound { IsSound program.now most_after (scene_of self.now) }
@@ -138,7 +138,7 @@ impl Stage {
         }
     }
 
-    /// Returns the sets with thread t looked at, whatever row and status it has.
+    /// Returns the sets `before` with the bits of thread `t` computed again from its row and its status.
     #[inline(always)]
     fn looked_closely(&self, program: &Loaded, before: ReadySet, t: usize) -> ReadySet
         requires sound { IsSound program.now most_after (scene_of self.now) }
@@ -151,7 +151,8 @@ impl Stage {
         }
     }
 
-    /// Returns the sets with thread t looked at: in a short way if it runs and is at a row where none waits, as most do.
+    /// Returns the sets `before` with the bits of thread `t` computed again. For most threads, which run and are at a row
+    /// where none waits, they are known at once.
     #[inline(always)]
     #[tactic(auto, using(crate::proofs::ReadySets::looked_on))]
     fn looked(&self, program: &Loaded, before: ReadySet, t: usize) -> ReadySet
@@ -169,7 +170,7 @@ impl Stage {
         }
     }
 
-    /// Looks at thread t, and stores its bits.
+    /// Computes the bits of thread `t` again, and stores them.
     #[inline(never)]
     fn refresh(&mut self, program: &Loaded, t: usize)
         requires sound { IsSound program.now most_after (scene_of self.old) }
@@ -194,7 +195,7 @@ impl Stage {
         }
     }
 
-    /// Brings the sets up to date after a common turn of thread t at this row, with this event. Most change nobody's readiness.
+    /// Brings the sets up to date after a common turn of thread t at this row, with this event. Most change only t's bits.
     #[inline(always)]
     pub(super) fn settle(&mut self, program: &Loaded, row: Row, event: Event, t: usize)
         requires sound { IsSound program.now most_after (scene_of self.old) }
@@ -246,7 +247,7 @@ impl Stage {
         }
     }
 
-    /// Returns the sets with all threads looked at.
+    /// Returns the sets with the bits of all threads computed from the scene.
     #[inline(never)]
     pub(super) fn all_looked(&self, program: &Loaded) -> ReadySet
         requires sound { IsSound program.now most_after (scene_of self.now) }
@@ -262,7 +263,7 @@ impl Stage {
         set
     }
 
-    /// Returns the sets with the thread looked at that the row interrupts, if the row is `intr`.
+    /// Returns the sets `before`. If the row is `intr`, the bits of the thread that it interrupts are computed again.
     #[inline(always)]
     fn interrupted_looked(&self, program: &Loaded, before: ReadySet, row: Row) -> ReadySet
         requires sound { IsSound program.now most_after (scene_of self.now) }
@@ -275,7 +276,7 @@ impl Stage {
         }
     }
 
-    /// Returns the sets after a step of thread t, with it looked at, and the thread that it may have interrupted.
+    /// Returns the sets after a step of thread `t`: its bits are computed again, and those of the thread that it interrupted.
     #[inline(always)]
     fn few_looked(&self, program: &Loaded, before: ReadySet, row: Row, t: usize) -> ReadySet
         requires sound { IsSound program.now most_after (scene_of self.now) }
@@ -289,7 +290,8 @@ impl Stage {
         self.looked(program, rest, t)
     }
 
-    /// Returns the sets after a step of thread t at this row, with this event. `before` are the sets before the step.
+    /// Returns the sets after a step of thread `t` at this row, with this event. `before` are the sets before the step. All
+    /// bits are computed again only if the step may have made any other thread ready or not.
     #[inline(always)]
     pub(super) fn ready_after(
         &self,

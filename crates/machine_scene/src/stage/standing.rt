@@ -39,7 +39,7 @@ impl Stage {
         let _ = &self.threads;
     }
 
-    /// A routine on top of the stack has a pending or terminated root, and an action on top has a barrier whose action runs.
+    /// A routine on top of the stack has a turned or terminated root, and an action on top has a barrier whose action runs.
     #[tactic(auto, using(crate::proofs::Placed::top_placed))]
     pub(super) fn top_is_placed(&self, program: &Loaded, top: &Option<Frame>, t: usize)
         requires sound { IsSound program.now most_before (scene_of self.now) }

@@ -24,7 +24,7 @@ impl Stage {
         self.phasers.phase(self.phaser_id(phaser)) != phase
     }
 
-    /// Ends a thread's wait for a phase, at this row.
+    /// Ends a thread's wait for a phase, at this row. `true` stands for an interruptible wait.
     #[inline(always)]
     pub(super) fn finish_phase_wait(&mut self, row: Row, phase: i32, t: usize) -> Event
         requires ready { is_some (outcome_of_phase_wait row phase t (scene_of self.old)) ≡ true }
@@ -44,7 +44,8 @@ impl Stage {
         }
     }
 
-    /// Ends a wait for a phase: returns the view if the phase is over, and otherwise throws 3 for an interrupt.
+    /// Ends a wait for a phase: returns the view if the phase is over, and otherwise throws 3 for an interrupt. Only the
+    /// contract uses `looks`: whether the wait is interruptible.
     #[inline(always)]
     fn finish_awaited(&mut self, looks: bool, into: Reg, phaser: u16, phase: i32, t: usize) -> Event
         requires ready { is_some (outcome_of_awaited looks into phaser phase t (scene_of self.old)) ≡ true }

@@ -78,7 +78,7 @@ impl Thread {
         note.outputs = self.output.len() as u16;
     }
 
-    /// Undoes one turn: the thread is as it was when the note was taken.
+    /// Undoes one turn: the thread is as when the note was taken. The top entry is pushed again, because a turn may pop it.
     pub fn undo(&mut self, note: &ThreadNote)
         ensures { self.new ≡ undone note.now self.old }
     {

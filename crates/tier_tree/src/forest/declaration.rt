@@ -60,7 +60,7 @@ impl Forest {
         }
     }
 
-    /// Returns why a declaration is refused, or `None`. Memory isn't checked.
+    /// Returns the first fault of a declaration in the order of these checks, or `None`. Memory isn't checked.
     fn fault(&self, parent: Option<PhaserId>, parties: i32, phase: Phase) -> Option<DeclareFault>
         ensures { result ≡ fault_of parent parties phase (phasers_of self.now) }
     {
@@ -102,7 +102,7 @@ impl Forest {
         }
     }
 
-    /// Returns whether a phaser above has no room for the party that a child with these parties registers.
+    /// Returns whether a phaser above has no room for the party that a child registers. With 0 `parties` it registers none.
     fn is_overfull_above(&self, parent: Option<PhaserId>, parties: u32) -> bool
         requires { has_parent parent (phasers_of self.now) ≡ true }
         ensures { result ≡ list_any (is_overfull (phasers_of self.now))
@@ -120,7 +120,8 @@ impl Forest {
         }
     }
 
-    /// Adds a phaser that may be declared, and registers it with its parent.
+    /// Adds a phaser that `fault` doesn't refuse. If it has a parent and parties, registers one party with the parent, and one
+    /// further up as long as the phaser below that had no parties.
     fn add(
         &mut self,
         parent: Option<PhaserId>,
@@ -151,7 +152,7 @@ impl Forest {
         Ok(())
     }
 
-    /// Appends a phaser that isn't yet registered with its parent.
+    /// Appends a phaser, which isn't registered with its parent yet. Fails if it is out of memory, and then appends nothing.
     fn push(
         &mut self,
         parent: Option<PhaserId>,
@@ -197,7 +198,7 @@ impl Forest {
         }
     }
 
-    /// Registers a party for a child with its parent, if the child has parties.
+    /// If a child has parties, registers one party with its parent, and one further up above each phaser that was empty.
     fn join_above(&mut self, parent: Option<PhaserId>, parties: u16)
         requires { has_parent parent (phasers_of self.old) ≡ true }
         ensures joined { phasers_of self.new

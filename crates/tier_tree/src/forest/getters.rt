@@ -77,7 +77,7 @@ impl Forest {
         word_at(self.nodes.as_slice(), id.0 as usize).is_turned()
     }
 
-    /// Returns how many phases of a root's tree have ended with `finish_turn`.
+    /// Returns how many phases of a root's tree have ended with `finish_turn`. It is 0 for a child.
     pub fn ended_phases(&self, id: PhaserId) -> u32
         requires { id.0 < length self.now }
         ensures { result ≡ (phaser_at (phasers_of self.now) id.0).ends }
