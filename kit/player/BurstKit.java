@@ -4,8 +4,12 @@ import java.io.IOException;
 import java.nio.file.Files;
 import java.nio.file.Path;
 import java.util.Arrays;
+import java.util.LinkedHashMap;
 import java.util.List;
+import java.util.Map;
 import java.util.Set;
+import java.util.concurrent.ConcurrentHashMap;
+import java.util.function.Function;
 import java.util.regex.Matcher;
 import java.util.regex.Pattern;
 
@@ -138,23 +142,36 @@ final class BurstKit {
 
     /** Each wrong adapter of the folder is found by some burst, and the right one by none. */
     void checkAdapters(WrongAdapters adapters) throws IOException {
-        int found = 0;
+        Map<String, String> kinds = new LinkedHashMap<>();
         for (String name : adapters.names()) {
-            Stage stage = adapters.stage(name);
-            boolean right = name.equals(RIGHT);
-            String finding = right ? findingOnTheRightOne(stage)
-                : finding(stage, kind(adapters.folder().resolve(name + ".java")));
-            part.take(name, right == (finding == null), right ? "it is right, and found: " + finding : "no burst finds it");
-            if (!right && finding != null) {
-                found++;
-                part.to.println("  " + name + " is found by " + finding);
+            if (!name.equals(RIGHT)) {
+                kinds.put(name, kind(adapters.folder().resolve(name + ".java")));
             }
         }
-        part.to.println("wrong adapters that bursts have to find: " + found + " found");
+        String wrong = new Bursts(List.of(adapters.stage(RIGHT)), Bursts.PATIENT, null, part.to)
+            .find(1, ROUNDS_ON_THE_RIGHT_ONE, null, PointSeeds.OFF);
+        part.take(RIGHT, wrong == null, "it is right, and found: " + wrong);
+        takeFindings(kinds, adapters::stage);
     }
 
-    private String findingOnTheRightOne(Stage stage) {
-        return new Bursts(List.of(stage), Bursts.PATIENT, null, part.to).find(1, ROUNDS_ON_THE_RIGHT_ONE, null, PointSeeds.OFF);
+    /** What is to be found, each by bursts of its kind: a few are played at once, since many wait for ever when they are found. */
+    private void takeFindings(Map<String, String> kinds, Function<String, Stage> stageOf) {
+        Map<String, String> findings = new ConcurrentHashMap<>();
+        AtOnce.few(kinds.keySet(), name -> {
+            Stage stage = stageOf.apply(name);
+            String finding = finding(stage, kinds.get(name));
+            stage.close();
+            if (finding != null) {
+                findings.put(name, finding);
+            }
+        });
+        for (String name : kinds.keySet()) {
+            part.take(name, findings.containsKey(name), "no burst finds it");
+            if (findings.containsKey(name)) {
+                part.to.println("  " + name + " is found by " + findings.get(name));
+            }
+        }
+        part.to.println("to be found by bursts: " + findings.size() + " found");
     }
 
     /** The kind of burst that the comment of an adapter names. */
@@ -183,34 +200,25 @@ final class BurstKit {
         return finding;
     }
 
-    /** A port that loses interrupts is found by the waits that only an interrupt ends, at either class. */
-    void checkLosesInterrupts(Kit.Port port) {
+    /** Ports that lose interrupts are found by the waits that only an interrupt ends, at either class. */
+    void checkLoseInterrupts(List<Kit.Port> ports) {
         for (String kind : List.of("an-interrupt-alone", "an-interrupt-alone-at-a-barrier")) {
-            Stage stage = new PortStage(port.command());
-            String finding = finding(stage, kind);
-            stage.close();
-            part.take("`" + port.command() + "`, " + kind, finding != null, "no burst finds it");
-            part.to.println("  `" + port.command() + "` is found by " + finding);
+            Map<String, String> kinds = new LinkedHashMap<>();
+            ports.forEach(port -> kinds.put(port.command(), kind));
+            takeFindings(kinds, PortStage::new);
         }
     }
 
     /** The phaser without a lock: its bursts find nothing as long as it has no fault, and each fault of the table. */
     void checkLockFree(Path table, String command) throws IOException {
         checkPort(new Kit.Port(command, ROUNDS_ON_THE_RIGHT_ONE));
-        int found = 0;
+        Map<String, String> kinds = new LinkedHashMap<>();
         for (String line : Files.readAllLines(table)) {
-            if (line.startsWith("#")) {
-                continue;
+            if (!line.startsWith("#")) {
+                String[] words = line.split(" \\| ");
+                kinds.put(words[0], words[1]);
             }
-            String[] words = line.split(" \\| ");
-            String fault = words[0];
-            Stage stage = new PortStage("FAULT=" + fault + " " + command);
-            String finding = finding(stage, words[1]);
-            stage.close();
-            part.take("a phaser without a lock, " + fault, finding != null, "no burst finds it");
-            found += finding == null ? 0 : 1;
-            part.to.println("  " + fault + " is found by " + finding);
         }
-        part.to.println("faults of a phaser without a lock: " + found + " found");
+        takeFindings(kinds, fault -> new PortStage("FAULT=" + fault + " " + command));
     }
 }
