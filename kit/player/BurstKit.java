@@ -69,6 +69,10 @@ final class BurstKit {
             new Told(2, await, 1, Long.MAX_VALUE, null));
         checkSays(lost, "    thread 2: awaitAdvance 0 0 has no answer\n  with these made, whatever they answer:\n"
             + "    thread 0: arrive 0\n    thread 1: arrive 0\n");
+        String bothLost = report(new Told(0, arrive, 1, 2, Answer.value(0)), new Told(1, arrive, 1, 2, Answer.value(0)),
+            new Told(2, await, 1, Long.MAX_VALUE, null), new Told(1, await, 3, Long.MAX_VALUE, null));
+        checkSays(bothLost, "  no order explains these alone, whatever the other 1 did:\n    thread 2: awaitAdvance 0 0 has no answer\n"
+            + "  with these made, whatever they answer:\n    thread 0: arrive 0\n    thread 1: arrive 0\n");
         String right = report(new Told(0, arrive, 1, 2, Answer.value(0)), new Told(2, await, 1, Long.MAX_VALUE, null));
         part.take("a wait that has to be", !right.contains("no order explains these"), right);
         checkLongOne(arrive);
