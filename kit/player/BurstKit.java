@@ -18,11 +18,11 @@ final class BurstKit {
     private static final int SCENARIOS = 100;
     private static final int ROUNDS_ON_THE_JDK = 2_000;
     private static final int ROUNDS_ON_THE_RIGHT_ONE = 1_000;
-    private static final int ROUNDS_TO_FIND = 20_000;
+    private static final int ROUNDS_TO_FIND = 5_000;
     /** Calls of a long burst: more than the search for an order could try without a stack of its own. */
     private static final int LONG_ONE = 6_000;
     /** A race is a matter of chance, and of free processors: what the bursts of one seed don't find, those of another may. */
-    private static final int SEEDS_TO_FIND = 8;
+    private static final int SEEDS_TO_FIND = 32;
     /** What is wrong may be taken to wait for ever sooner, if it is at rest then. */
     private static final long IMPATIENT = 200_000_000L;
     private static final Pattern FOUND_BY = Pattern.compile("<p>Found by ([\\w-]+)");
@@ -187,7 +187,7 @@ final class BurstKit {
         return named.group(1);
     }
 
-    /** What bursts find in something wrong: many of this kind, else with points where it has some, else many of all kinds. */
+    /** What bursts find in something wrong: some of this kind, and with points where it has some, in turn; else many of all kinds. */
     private String finding(Stage stage, String kind) {
         Bursts bursts = new Bursts(List.of(stage), IMPATIENT, null, part.to);
         Bursts withPoints = new Bursts(List.of(stage), IMPATIENT, null, part.to);
