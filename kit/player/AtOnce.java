@@ -18,6 +18,8 @@ final class AtOnce {
         Executors.newFixedThreadPool(FOR_EACH_PROCESSOR * Runtime.getRuntime().availableProcessors(), AtOnce::thread);
     /** For what sleeps nearly all of its time. */
     private static final ExecutorService SLEEPERS = Executors.newCachedThreadPool(AtOnce::thread);
+    /** For what needs the processors, but often waits for something that never comes. */
+    private static final ExecutorService FEW = Executors.newFixedThreadPool(6, AtOnce::thread);
 
     private AtOnce() {
     }
@@ -36,6 +38,11 @@ final class AtOnce {
     /** The same, of checks that sleep nearly all of their time: none waits for its turn. */
     static void sleepers(Iterable<Runnable> checks) {
         each(SLEEPERS, checks, Runnable::run);
+    }
+
+    /** The same, of checks that need the processors: a few at a time. */
+    static <T> void few(Iterable<T> all, Consumer<T> check) {
+        each(FEW, all, check);
     }
 
     private static <T> void each(ExecutorService threads, Iterable<T> all, Consumer<T> check) {

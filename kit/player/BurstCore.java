@@ -47,7 +47,7 @@ final class BurstCore {
 
     /** The latest first, by ever smaller parts. */
     private void reduce() {
-        List<BurstEntry> left = new ArrayList<>(entries.stream().filter(entry -> !entry.isOpen()).toList());
+        List<BurstEntry> left = new ArrayList<>(entries);
         Collections.reverse(left);
         for (int size = (left.size() + 1) / 2; size > 0; size = size == 1 ? 0 : (size + 1) / 2) {
             for (int from = 0; from < left.size() && isInTime();) {

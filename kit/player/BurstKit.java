@@ -4,8 +4,12 @@ import java.io.IOException;
 import java.nio.file.Files;
 import java.nio.file.Path;
 import java.util.Arrays;
+import java.util.LinkedHashMap;
 import java.util.List;
+import java.util.Map;
 import java.util.Set;
+import java.util.concurrent.ConcurrentHashMap;
+import java.util.function.Function;
 import java.util.regex.Matcher;
 import java.util.regex.Pattern;
 
@@ -14,11 +18,11 @@ final class BurstKit {
     private static final int SCENARIOS = 100;
     private static final int ROUNDS_ON_THE_JDK = 2_000;
     private static final int ROUNDS_ON_THE_RIGHT_ONE = 1_000;
-    private static final int ROUNDS_TO_FIND = 20_000;
+    private static final int ROUNDS_TO_FIND = 5_000;
     /** Calls of a long burst: more than the search for an order could try without a stack of its own. */
     private static final int LONG_ONE = 6_000;
     /** A race is a matter of chance, and of free processors: what the bursts of one seed don't find, those of another may. */
-    private static final int SEEDS_TO_FIND = 8;
+    private static final int SEEDS_TO_FIND = 32;
     /** What is wrong may be taken to wait for ever sooner, if it is at rest then. */
     private static final long IMPATIENT = 200_000_000L;
     private static final Pattern FOUND_BY = Pattern.compile("<p>Found by ([\\w-]+)");
@@ -65,6 +69,10 @@ final class BurstKit {
             new Told(2, await, 1, Long.MAX_VALUE, null));
         checkSays(lost, "    thread 2: awaitAdvance 0 0 has no answer\n  with these made, whatever they answer:\n"
             + "    thread 0: arrive 0\n    thread 1: arrive 0\n");
+        String bothLost = report(new Told(0, arrive, 1, 2, Answer.value(0)), new Told(1, arrive, 1, 2, Answer.value(0)),
+            new Told(2, await, 1, Long.MAX_VALUE, null), new Told(1, await, 3, Long.MAX_VALUE, null));
+        checkSays(bothLost, "  no order explains these alone, whatever the other 1 did:\n    thread 2: awaitAdvance 0 0 has no answer\n"
+            + "  with these made, whatever they answer:\n    thread 0: arrive 0\n    thread 1: arrive 0\n");
         String right = report(new Told(0, arrive, 1, 2, Answer.value(0)), new Told(2, await, 1, Long.MAX_VALUE, null));
         part.take("a wait that has to be", !right.contains("no order explains these"), right);
         checkLongOne(arrive);
@@ -138,23 +146,36 @@ final class BurstKit {
 
     /** Each wrong adapter of the folder is found by some burst, and the right one by none. */
     void checkAdapters(WrongAdapters adapters) throws IOException {
-        int found = 0;
+        Map<String, String> kinds = new LinkedHashMap<>();
         for (String name : adapters.names()) {
-            Stage stage = adapters.stage(name);
-            boolean right = name.equals(RIGHT);
-            String finding = right ? findingOnTheRightOne(stage)
-                : finding(stage, kind(adapters.folder().resolve(name + ".java")));
-            part.take(name, right == (finding == null), right ? "it is right, and found: " + finding : "no burst finds it");
-            if (!right && finding != null) {
-                found++;
-                part.to.println("  " + name + " is found by " + finding);
+            if (!name.equals(RIGHT)) {
+                kinds.put(name, kind(adapters.folder().resolve(name + ".java")));
             }
         }
-        part.to.println("wrong adapters that bursts have to find: " + found + " found");
+        String wrong = new Bursts(List.of(adapters.stage(RIGHT)), Bursts.PATIENT, null, part.to)
+            .find(1, ROUNDS_ON_THE_RIGHT_ONE, null, PointSeeds.OFF);
+        part.take(RIGHT, wrong == null, "it is right, and found: " + wrong);
+        takeFindings(kinds, adapters::stage);
     }
 
-    private String findingOnTheRightOne(Stage stage) {
-        return new Bursts(List.of(stage), Bursts.PATIENT, null, part.to).find(1, ROUNDS_ON_THE_RIGHT_ONE, null, PointSeeds.OFF);
+    /** What is to be found, each by bursts of its kind: a few are played at once, since many wait for ever when they are found. */
+    private void takeFindings(Map<String, String> kinds, Function<String, Stage> stageOf) {
+        Map<String, String> findings = new ConcurrentHashMap<>();
+        AtOnce.few(kinds.keySet(), name -> {
+            Stage stage = stageOf.apply(name);
+            String finding = finding(stage, kinds.get(name));
+            stage.close();
+            if (finding != null) {
+                findings.put(name, finding);
+            }
+        });
+        for (String name : kinds.keySet()) {
+            part.take(name, findings.containsKey(name), "no burst finds it");
+            if (findings.containsKey(name)) {
+                part.to.println("  " + name + " is found by " + findings.get(name));
+            }
+        }
+        part.to.println("to be found by bursts: " + findings.size() + " found");
     }
 
     /** The kind of burst that the comment of an adapter names. */
@@ -166,7 +187,7 @@ final class BurstKit {
         return named.group(1);
     }
 
-    /** What bursts find in something wrong: many of this kind, else with points where it has some, else many of all kinds. */
+    /** What bursts find in something wrong: some of this kind, and with points where it has some, in turn; else many of all kinds. */
     private String finding(Stage stage, String kind) {
         Bursts bursts = new Bursts(List.of(stage), IMPATIENT, null, part.to);
         Bursts withPoints = new Bursts(List.of(stage), IMPATIENT, null, part.to);
@@ -183,34 +204,25 @@ final class BurstKit {
         return finding;
     }
 
-    /** A port that loses interrupts is found by the waits that only an interrupt ends, at either class. */
-    void checkLosesInterrupts(Kit.Port port) {
+    /** Ports that lose interrupts are found by the waits that only an interrupt ends, at either class. */
+    void checkLoseInterrupts(List<Kit.Port> ports) {
         for (String kind : List.of("an-interrupt-alone", "an-interrupt-alone-at-a-barrier")) {
-            Stage stage = new PortStage(port.command());
-            String finding = finding(stage, kind);
-            stage.close();
-            part.take("`" + port.command() + "`, " + kind, finding != null, "no burst finds it");
-            part.to.println("  `" + port.command() + "` is found by " + finding);
+            Map<String, String> kinds = new LinkedHashMap<>();
+            ports.forEach(port -> kinds.put(port.command(), kind));
+            takeFindings(kinds, PortStage::new);
         }
     }
 
     /** The phaser without a lock: its bursts find nothing as long as it has no fault, and each fault of the table. */
     void checkLockFree(Path table, String command) throws IOException {
         checkPort(new Kit.Port(command, ROUNDS_ON_THE_RIGHT_ONE));
-        int found = 0;
+        Map<String, String> kinds = new LinkedHashMap<>();
         for (String line : Files.readAllLines(table)) {
-            if (line.startsWith("#")) {
-                continue;
+            if (!line.startsWith("#")) {
+                String[] words = line.split(" \\| ");
+                kinds.put(words[0], words[1]);
             }
-            String[] words = line.split(" \\| ");
-            String fault = words[0];
-            Stage stage = new PortStage("FAULT=" + fault + " " + command);
-            String finding = finding(stage, words[1]);
-            stage.close();
-            part.take("a phaser without a lock, " + fault, finding != null, "no burst finds it");
-            found += finding == null ? 0 : 1;
-            part.to.println("  " + fault + " is found by " + finding);
         }
-        part.to.println("faults of a phaser without a lock: " + found + " found");
+        takeFindings(kinds, fault -> new PortStage("FAULT=" + fault + " " + command));
     }
 }

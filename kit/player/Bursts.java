@@ -148,9 +148,8 @@ final class Bursts {
     }
 
     /**
-     * Plays until something is found, but for a real side that breaks down; answers that in words, or null. Of the rounds it
-     * plays those of one kind alone, where {@code kind} isn't null; {@code points} is the seed of the points, or
-     * {@code PointSeeds.OFF}.
+     * Plays until something is found; answers that in words, or null. Of the rounds it plays those of one kind alone, where
+     * {@code kind} isn't null; {@code points} is the seed of the points, or {@code PointSeeds.OFF}.
      */
     String find(long seed, long rounds, String kind, long points) {
         Place place = places.get(0);
@@ -162,21 +161,24 @@ final class Bursts {
             if (count.isLeftOut(BurstKind.of(round).name())) {
                 continue;
             }
-            BurstHistory history = historyUnlessBroken(place, place.burst(seed, round));
-            BurstJudge.Finding finding = history == null ? null : judge(history, points);
+            Burst burst = place.burst(seed, round);
+            String finding = finding(place, burst, points);
             if (finding != null) {
-                return history.burst().kind() + ", round " + round + ": " + finding.words();
+                return burst.kind() + ", round " + round + ": " + finding;
             }
         }
         return null;
     }
 
-    private BurstHistory historyUnlessBroken(Place place, Burst burst) {
+    /** In words; null where it is right, and where the real side breaks down as a slow one might. */
+    private String finding(Place place, Burst burst, long points) {
         try {
-            return history(place, burst);
+            BurstHistory history = history(place, burst);
+            BurstJudge.Finding finding = history == null ? null : judge(history, points);
+            return finding == null ? null : finding.words();
         } catch (Breakdown broken) {
             place.stage().abandon();
-            return null;
+            return broken.mayBeSlowness() || broken.atStart() ? null : broken.getMessage();
         }
     }
 

@@ -90,6 +90,10 @@ final class CommandChecks {
             new Check(0, " bursts of ", "--for", "1", "--burst", "1000000000"),
             new Check(0, "round 5 didn't fail in 3 tries\n", "--burst", "3", "--round", "5"),
             new Check(1, "the port doesn't answer: case", "--port", "exec sleep 600", one),
+            new Check(1, "burst 1 0 meetings\n  the port has ended before its first answer",
+                "--burst", "1", "--port", "./nosuch"),
+            new Check(1, "with status 127 (no such command)", "--port", "./nosuch", reset),
+            new Check(1, " different, 0 left out\n", "--keep-going", "--port", "./nosuch", reset),
             new Check(0, "2 left out: it makes no phaser\n", "--factory", BarriersAlone.class.getName(), folder("action")),
             new Check(2, "nothing was compared\n", "--factory", BarriersAlone.class.getName(), folder("policies")),
             new Check(0, " left out: it makes no phaser\n", "--factory", BarriersAlone.class.getName(), "--random", "30"));
@@ -98,11 +102,8 @@ final class CommandChecks {
             new Check(2, "there is no case in", room.toString()),
             new Check(0, "<testsuite name=\"bursts\" tests=\"20\" failures=\"0\" errors=\"0\" skipped=\"0\"",
                 "--burst", "20", "--report", "/dev/stdout"),
-            new Check(1, "burst 1 0 meetings\n  the port has ended before its first answer",
-                "--burst", "1", "--port", "./nosuch"),
-            new Check(1, "with status 127 (no such command)", "--port", "./nosuch", reset),
-            new Check(1, "the run ends here, since there is no answer in 3 cases in a row", "--port", "./nosuch", reset),
-            new Check(1, " different, 0 left out\n", "--keep-going", "--port", "./nosuch", reset)), this::checkScript);
+            new Check(1, "the run ends here, since there is no answer in 3 cases in a row", "--port", "./nosuch", reset)),
+            this::checkScript);
         checkNothingIsWritten();
     }
 
@@ -228,8 +229,10 @@ final class CommandChecks {
             new Check(0, "12 bursts of 12 kinds, ", "--burst", "12", "--points", "3", "--port", right(python)),
             new Check(0, "12 kinds in which points matter, 1 to 1 bursts each; too few, at a load of ",
                 "--burst", "12", "--points", "3", "--port", right(python)),
-            new Check(0, "threads spin while all should wait, in 1 case: ", "--first-try", "--port", wrong + "polls.py 0",
-                folder("waiting") + "/for-the-present-phase.txt"),
+            spins("polls.py 0", wrong, "waiting/for-the-present-phase.txt"),
+            spins("spins.py interrupted", wrong, "waiting/interrupted-before.txt"),
+            spins("spins.py held", wrong, "registration/held-while-onadvance-runs.txt"),
+            spins("spins.py action", wrong, "action/others-come-while-it-runs.txt"),
             new Check(1, "with POINTS=7\nagain: --burst 20000 --seed 1 --round 0 --points 7..7\n",
                 "--burst", "1", "--points", "7..9", "--port", port + "'0 did' 'exit 3'"),
             new Check(1, "burst 1 0 meetings\n  the port's race detector warns:\n    WARNING: DATA RACE, as kit/faults/port.py"
@@ -320,6 +323,11 @@ final class CommandChecks {
             String fault = "burst 1 0 meetings\n  the port wrote `" + each.getKey() + "`: " + each.getValue() + "\n";
             part.take("a list's line " + each.getKey(), told.toString().startsWith(fault), told.toString());
         });
+    }
+
+    /** A wrong port that is right but for its spinning, in this case. */
+    private Check spins(String port, String wrong, String one) {
+        return new Check(0, "threads spin while all should wait, in 1 case: ", "--first-try", "--port", wrong + port, folder(one));
     }
 
     private String right(String python) {

@@ -24,7 +24,8 @@ public final class Kit {
     private static final int SCENARIOS = 300;
 
     /** Random scenarios are played beside all other parts: a thread that gets no processor for a while isn't one that is never released. */
-    private static final Patience[] PATIENCE_BESIDE_ALL = Patience.times(8, Patience.OF_JVM);
+    private static final Patience[] PATIENCE_BESIDE_ALL = Stream.of(Patience.times(2, Patience.OF_JVM))
+        .map(each -> each.withBound(4 * each.bound())).toArray(Patience[]::new);
     private static final String KEPT = "transcripts";
     /** How often a case is played whose transcript isn't the one that is kept. */
     private static final int PLAYS = 5;
@@ -33,7 +34,7 @@ public final class Kit {
     /** So many processes of each port, or judges of the JDK's classes, play at once. */
     private static final int JOBS = 4;
     /** Random scenarios wait most of their time. */
-    private static final int JOBS_THAT_WAIT = 8;
+    private static final int JOBS_THAT_WAIT = 16;
     /** What is said on standard input once the ports are made. */
     private static final String BUILT = "built";
     private static final long SECOND = 1_000_000_000L;
@@ -64,8 +65,8 @@ public final class Kit {
     private final Path program;
     private final Vuthgal vuthgal;
     private final WrongAdapters adapters;
-    /** What the cases have taught, once they are played. */
-    private final CompletableFuture<List<Learned>> learned = new CompletableFuture<>();
+    /** What the cases have taught. */
+    private final List<Learned> learned = new ArrayList<>();
     private final CompletableFuture<Void> built = CompletableFuture.runAsync(Kit::awaitPorts);
     private final long begun = System.nanoTime();
     private int passed;
@@ -100,9 +101,13 @@ public final class Kit {
         }
     }
 
-    /** All that mostly waits is played at once, and the bursts, which need the processors, behind it: first those on what is right. */
+    /**
+     * The cases are played first, since others play them again. Then comes all that mostly waits, at once, and behind it the
+     * bursts, which need the processors: first those on what is right.
+     */
     private boolean check(String python, String lockFree, List<Port> all) {
         List<Port> ports = all.stream().filter(port -> port.bursts() > 0).toList();
+        play(Map.of("cases", this::checkCases));
         Map<String, Body> atOnce = new LinkedHashMap<>();
         atOnce.put("commands", part -> commands(part).checkWords());
         atOnce.put("forms of cases", part -> commands(part).checkForms());
@@ -121,20 +126,21 @@ public final class Kit {
                 new ReplayChecks(kit, python, part).checkSoaks(ports, lockFree);
             });
         }
-        atOnce.put("cases", this::checkCases);
         atOnce.put("differences", this::checkDifferences);
         atOnce.put("wrong adapters", this::checkWrongAdapters);
         ports.forEach(port -> atOnce.put("cases on `" + port.command() + "`", part -> checkPort(part, port.command())));
         atOnce.put("random scenarios", this::checkRandom);
         atOnce.put("the model", this::checkModel);
         play(atOnce);
-        play("bursts on the JDK", part -> bursts(part).checkJdk());
-        ports.forEach(port -> play("bursts on `" + port.command() + "`", part -> bursts(part).checkPort(port)));
-        Map<String, Body> wrong = new LinkedHashMap<>();    // many are found when they wait for ever
+        Map<String, Body> right = new LinkedHashMap<>();
+        right.put("bursts on the JDK", part -> bursts(part).checkJdk());
+        ports.forEach(port -> right.put("bursts on `" + port.command() + "`", part -> bursts(part).checkPort(port)));
+        play(right);
+        Map<String, Body> wrong = new LinkedHashMap<>();
         wrong.put("wrong adapters for bursts", part -> bursts(part).checkAdapters(
             new WrongAdapters(kit.resolve("wrong").resolve("burst"), "kit.wrong.burst")));
         wrong.put("ports that lose interrupts",
-            part -> all.stream().filter(port -> port.bursts() == 0).forEach(port -> bursts(part).checkLosesInterrupts(port)));
+            part -> bursts(part).checkLoseInterrupts(all.stream().filter(port -> port.bursts() == 0).toList()));
         if (!lockFree.isEmpty()) {
             wrong.put("a phaser without a lock",
                 part -> bursts(part).checkLockFree(kit.resolve("wrong/lockfree/table.txt"), lockFree));
@@ -142,10 +148,6 @@ public final class Kit {
         play(wrong);
         System.out.println(passed + " passed, " + failed + " failed");
         return failed == 0;
-    }
-
-    private void play(String name, Body body) {
-        play(Map.of(name, body));
     }
 
     /** Plays these at once, and tells in their order what each came to. */
@@ -175,7 +177,6 @@ public final class Kit {
             to.complete(part);
         } catch (Exception | Error thrown) {
             to.completeExceptionally(thrown);
-            learned.completeExceptionally(thrown);
         }
     }
 
@@ -197,7 +198,6 @@ public final class Kit {
     // ---- cases
 
     private void checkCases(Part part) throws IOException {
-        List<Learned> same = new ArrayList<>();
         Sums sums = new Sums();
         Transcripts transcripts = new Transcripts();
         Map<String, String> kept = Transcripts.made(kit.resolve(KEPT));
@@ -214,14 +214,13 @@ public final class Kit {
             sums.add(verdict.notes());
             transcripts.add(each, sure.get(each));
             if (verdict.isSame()) {
-                same.add(new Learned(each, verdict.plan()));
+                learned.add(new Learned(each, verdict.plan()));
             }
             return true;
         });
-        learned.complete(same);
         transcripts.compare(kept, (file, difference) -> part.take("transcripts/" + file, difference.isEmpty(),
             "it isn't what was played (kit/play --known --transcripts kit/transcripts/cases.zip kit/cases):" + difference));
-        part.to.println("cases on the JDK: " + same.size() + " the same, " + sums.line());
+        part.to.println("cases on the JDK: " + learned.size() + " the same, " + sums.line());
     }
 
     private static List<Judge> judgesOfTheJdk(int count, KnownDifferences known, Patience... patience) {
@@ -338,7 +337,7 @@ public final class Kit {
     }
 
     private List<Learned> longOnesLast() {
-        return learned.join().stream().sorted(Comparator.comparing(at -> at.each().schedule().size() > LONG_SCHEDULE)).toList();
+        return learned.stream().sorted(Comparator.comparing(at -> at.each().schedule().size() > LONG_SCHEDULE)).toList();
     }
 
     /** The same among the programs of the differences, with these told over. */
@@ -360,7 +359,7 @@ public final class Kit {
         built.join();
         Sums sums = new Sums();
         int[] leftOut = {0};
-        new Jobs<>(learned.join(), (judge, at) -> Played.of(judge, at.each(), at.plan())).run(judges, played -> {
+        new Jobs<>(learned, (judge, at) -> Played.of(judge, at.each(), at.plan())).run(judges, played -> {
             Verdict verdict = played.verdict();
             boolean none = verdict.kind() == Verdict.Kind.LEFT_OUT;
             leftOut[0] += none ? 1 : 0;
@@ -386,7 +385,7 @@ public final class Kit {
 
     private void checkModel(Part part) throws IOException {
         BurstKit bursts = bursts(part);
-        bursts.checkModel(learned.join().stream().map(Learned::each).toList());
+        bursts.checkModel(learned.stream().map(Learned::each).toList());
         bursts.checkCores();
     }
 

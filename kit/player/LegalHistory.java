@@ -36,7 +36,7 @@ final class LegalHistory {
 
     /**
      * What isn't judged: calls of {@code answers} and of {@code calls} may answer anything, and the latter may as well not have
-     * been made. {@code waiting}: whoever has no answer has to wait in the end, and mustn't be released.
+     * been made. {@code waiting}: whoever else has no answer has to wait in the end, and mustn't be released.
      */
     record Freedom(Set<BurstEntry> answers, Set<BurstEntry> calls, boolean waiting, int mostPoints) {
         static final Freedom NONE = new Freedom(Set.of(), Set.of(), false, Integer.MAX_VALUE);
@@ -165,6 +165,11 @@ final class LegalHistory {
         return isOpen(entry) || freedom.ofAnswer(entry);
     }
 
+    /** Whether it has to wait in the end. */
+    private boolean hasToWait(BurstEntry entry) {
+        return isOpen(entry) && freedom.waiting() && !freedom.ofAnswer(entry);
+    }
+
     private boolean isNotMade(HistoryPoint at, int line, BurstEntry entry) {
         if (!freedom.calls().contains(entry)) {
             return false;
@@ -177,7 +182,7 @@ final class LegalHistory {
     private boolean isThrough(HistoryPoint at) {
         for (int line = 0; line < lines.size(); line++) {
             BurstEntry entry = at.present(lines, line);
-            if (entry != null && (!isOpen(entry) || freedom.waiting() && !waits(at, line, entry))) {
+            if (entry != null && (!isOpen(entry) || hasToWait(entry) && !waits(at, line, entry))) {
                 return false;
             }
         }
@@ -233,7 +238,7 @@ final class LegalHistory {
             next.begins(line);
             return steps(next, entry);
         }
-        if (isOpen(entry) && freedom.waiting()) {
+        if (hasToWait(entry)) {
             return false;
         }
         next.passes(line);
@@ -278,7 +283,7 @@ final class LegalHistory {
             HistoryPoint next = at.copy();
             return follows(next, line, entry, endInside(next.model(), thread, inside), true);
         }
-        if (isOpen(entry) && freedom.waiting()) {
+        if (hasToWait(entry)) {
             return false;
         }
         return freedom.ofAnswer(entry) && leavesReleased(at, line, entry) || leavesInterrupted(at, line, entry)

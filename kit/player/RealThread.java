@@ -34,7 +34,6 @@ abstract class RealThread {
     private static final int LEAVES = -99;
 
     private static final int SPINS = 100;
-    private static final int YIELDS = 200;
     /** Whoever sleeps until a call is done looks so often whether the real side has broken down, in nanoseconds. */
     private static final long LOOK = 1_000_000;
 
@@ -163,14 +162,12 @@ abstract class RealThread {
         return true;
     }
 
-    /** Whether it is time to sleep. Most calls are done sooner, so it spins first, and lets others run. */
+    /** Whether it is time to sleep. Many calls are done sooner, so it spins first. On a busy machine whoever yields comes back late. */
     private static boolean isLong(int round) {
         if (round < SPINS) {
             Thread.onSpinWait();
-        } else if (round < SPINS + YIELDS) {
-            Thread.yield();
         }
-        return round >= SPINS + YIELDS;
+        return round >= SPINS;
     }
 
     /** At a case's end: whether it is out of all calls; if it stands in a routine, it is told to leave that. */

@@ -15,6 +15,8 @@ final class ReplayChecks {
     private static final String RIGHT = " same, 0 different, 0 left out\n";
     /** So few that it takes some seconds. Where a heap still grows then, `kit/soak` makes twice as many. */
     private static final int WAITS = 24_000;
+    /** Enough where something of each wait is kept. */
+    private static final int FEW_WAITS = 6_000;
     private static final long LONGEST_SECONDS = 240;
     /** Longer than what many a reader of lines has room for. */
     private static final int LONG_LINE = 100_000;
@@ -64,18 +66,23 @@ final class ReplayChecks {
     void checkSoaks(List<Kit.Port> ports, String lockFree) {
         List<Runnable> checks = new ArrayList<>();
         for (Kit.Port port : ports) {
-            checks.add(() -> soak(0, "while 60 threads wait: ", port.command()));
+            checks.add(() -> soak(0, port.command(), WAITS, "while 60 threads wait: "));
         }
-        checks.add(() -> soak(0, "What a port costs that waits: ", "--help"));
-        checks.add(() -> soak(0, "left out: it makes no barrier\n", python + " " + kit.resolve("faults/port.py") + " without barrier"));
-        checks.add(() -> soak(1, " 0.0 bytes a wait are left, resident\n", wrong + "polls.py"));
-        checks.add(() -> soak(1, "while 60 threads wait: 0.", wrong + "keeps_waits.py"));
+        checks.add(() -> soak(0, "--help", WAITS, "What a port costs that waits: "));
+        String without = python + " " + kit.resolve("faults/port.py") + " without barrier";
+        checks.add(() -> soak(0, without, WAITS, "left out: it makes no barrier\n"));
+        checks.add(() -> soak(1, wrong + "keeps_waits.py", FEW_WAITS, "while 60 threads wait: 0."));
+        checks.add(() -> soak(1, wrong + "polls.py 0.01", 0, "\n  new waits at a barrier alone: "));
+        checks.add(() -> soak(1, wrong + "spins.py interrupted 0.001", 0, dearest("interrupted waits")));
+        checks.add(() -> soak(1, wrong + "spins.py held 0.001", 0, dearest("held registrations")));
+        checks.add(() -> soak(1, wrong + "spins.py action 0.001", 0, dearest("calls during an action")));
         if (!lockFree.isEmpty()) {
-            checks.add(() -> soak(1, "\n  waits after a release alone: ", "FAULT=permit-is-kept " + lockFree));
-            checks.add(() -> soak(1, "behind waits that are late, ", "FAULT=freed-while-queued " + lockFree));
+            checks.add(() -> soak(1, "FAULT=permit-is-kept " + lockFree, WAITS, dearest("waits after a release"),
+                " 0.0 bytes a wait are left, resident\n"));
+            checks.add(() -> soak(1, "FAULT=freed-while-queued " + lockFree, WAITS, "behind waits that are late, "));
         }
-        checks.add(() -> soak(2, "case has to have the answers ok, and has okay\n",
-            python + " " + kit.resolve("faults/port.py") + " ok 'say okay\\n'"));
+        checks.add(() -> soak(2, python + " " + kit.resolve("faults/port.py") + " ok 'say okay\\n'", WAITS,
+            "case has to have the answers ok, and has okay\n"));
         checks.add(() -> check(2, "kit/soak COMMAND [WAITS]", Map.of(), python + " '" + kit.resolve("soak") + "'"));
         AtOnce.sleepers(checks);
     }
@@ -110,10 +117,15 @@ final class ReplayChecks {
         }
     }
 
+    /** How it is said that this way to wait costs most. */
+    private static String dearest(String way) {
+        return " % of a processor\n  " + way + " alone: ";
+    }
+
     /** What a port costs that waits, by {@code kit/soak}. */
-    private void soak(int status, String says, String command) {
-        String words = "'" + command.replace("'", "'\\''") + "' " + WAITS;
-        check(status, says, Map.of(), python + " '" + kit.resolve("soak") + "' " + words);
+    private void soak(int status, String command, int waits, String... says) {
+        String quoted = "'" + command.replace("'", "'\\''") + "' " + waits;
+        check(status, List.of(says), Map.of(), python + " '" + kit.resolve("soak") + "' " + quoted);
     }
 
     /** The folders of cases of which there are transcripts. */
@@ -234,8 +246,12 @@ final class ReplayChecks {
     }
 
     private void check(int status, String says, Map<String, String> environment, String words) {
+        check(status, List.of(says), environment, words);
+    }
+
+    private void check(int status, List<String> says, Map<String, String> environment, String words) {
         Told told = shell(words, environment);
-        part.take(words, told.is(status, says), told.toString());
+        part.take(words, says.stream().allMatch(each -> told.is(status, each)), told.toString());
     }
 
     private Told shell(String words, Map<String, String> environment) {

@@ -38,11 +38,13 @@ final class Settling {
             return RealThread.outcome(call);
         }
         long last = roundTrip();
-        thread.markRest();
         for (int round = 1;; round++) {
             long still = Math.max(patience.settle(), TRIPS * last);
             thread.standStill(call, still, limit);
             RealThread.Rest rest = thread.rest();
+            if (round == 1 && rest != RealThread.Rest.ASLEEP) {
+                thread.markRest();      // who has had a processor is asked only after many rounds
+            }
             last = roundTrip();
             boolean waits = rest == RealThread.Rest.ASLEEP && last <= still;
             boolean runs = rest == RealThread.Rest.RUNNING && last <= still && round >= MOST_ROUNDS;

@@ -1,5 +1,7 @@
 package kit.player;
 
+import java.io.File;
+import java.io.FileInputStream;
 import java.io.IOException;
 import java.nio.charset.StandardCharsets;
 import java.nio.file.DirectoryIteratorException;
@@ -19,6 +21,8 @@ final class Tasks {
     private static final long BETWEEN_LOOKS = 10_000_000;
     /** Whoever has had a processor for so long has begun what it was told, in nanoseconds. */
     private static final long LONG_ENOUGH = 1_000_000;
+    /** What the system says of a task is shorter. */
+    private static final int LONGEST = 1_024;
     private static final boolean HAS_CHILDREN = Files.exists(Path.of("/proc/thread-self/children"));
     private static final boolean HAS_TIMES = Files.exists(Path.of("/proc/self/schedstat"));
 
@@ -28,7 +32,7 @@ final class Tasks {
 
     private final List<Path> folders;
     /** What was seen when the present call was told. */
-    private Map<Path, Seen> before = Map.of();
+    private Map<String, Seen> before = Map.of();
     private long marked;
 
     Tasks(Process process) {
@@ -69,7 +73,7 @@ final class Tasks {
     /** None of a task that ends meanwhile. */
     private static Stream<String> children(Path task) {
         try {
-            return Stream.of(text(task.resolve("children")).split(" "));
+            return Stream.of(Files.readString(task.resolve("children")).split(" "));
         } catch (IOException gone) {
             return Stream.empty();
         }
@@ -95,7 +99,7 @@ final class Tasks {
     /** How much of a processor they have taken since the mark, all together. */
     double share() {
         long ran = 0;
-        for (Map.Entry<Path, Seen> now : look().entrySet()) {
+        for (Map.Entry<String, Seen> now : look().entrySet()) {
             Seen then = before.get(now.getKey());
             ran += now.getValue().ran() - (then == null ? 0 : then.ran());
         }
@@ -104,7 +108,7 @@ final class Tasks {
 
     /** How much they rest, and whether those that don't have run since the mark. */
     RealThread.Rest rest() {
-        Map<Path, Seen> now = look();
+        Map<String, Seen> now = look();
         if (areAtRest(now)) {
             return RealThread.Rest.ASLEEP;
         }
@@ -113,14 +117,14 @@ final class Tasks {
     }
 
     /** Taken for granted where the system doesn't say it. */
-    private boolean hasRun(Path task, Seen now) {
+    private boolean hasRun(String task, Seen now) {
         Seen then = before.get(task);
         return !HAS_TIMES || now.ran() - (then == null ? 0 : then.ran()) >= LONG_ENOUGH;
     }
 
     /** Whether they are those of an earlier mark, which slept then and sleep now, and were given no processor between. */
     boolean haveSleptSince(Tasks earlier) {
-        Map<Path, Seen> now = look();
+        Map<String, Seen> now = look();
         return now.values().stream().allMatch(Seen::sleeps) && now.equals(earlier.before);
     }
 
@@ -133,35 +137,38 @@ final class Tasks {
      * One look after the other misses what a task hands to one that was seen asleep before. So a second look follows: whoever
      * slept at both, and was given no processor between, slept at the moment between them.
      */
-    private boolean areAtRest(Map<Path, Seen> first) {
+    private boolean areAtRest(Map<String, Seen> first) {
         return first.values().stream().allMatch(Seen::sleeps) && look().equals(first);
     }
 
-    private Map<Path, Seen> look() {
-        Map<Path, Seen> seen = new HashMap<>();
+    private Map<String, Seen> look() {
+        Map<String, Seen> seen = new HashMap<>();
         for (Path folder : folders) {
-            try (DirectoryStream<Path> tasks = Files.newDirectoryStream(folder)) {
-                tasks.forEach(task -> look(task, seen));
-            } catch (IOException | DirectoryIteratorException gone) {
-                continue;
+            String[] tasks = new File(folder.toString()).list();
+            for (String task : tasks == null ? new String[0] : tasks) {
+                look(folder + "/" + task, seen);
             }
         }
         return seen;
     }
 
     /** A task that ends meanwhile isn't there, or has files without their words. */
-    private static void look(Path task, Map<Path, Seen> seen) {
+    private static void look(String task, Map<String, Seen> seen) {
         try {
-            String stat = text(task.resolve("stat"));
+            String stat = line(task + "/stat");
             char state = stat.charAt(stat.lastIndexOf(')') + 2);
-            String[] times = (HAS_TIMES ? text(task.resolve("schedstat")).strip() : "0 0 0").split(" ");
+            String[] times = (HAS_TIMES ? line(task + "/schedstat").strip() : "0 0 0").split(" ");
             seen.put(task, new Seen(state != 'R' && state != 'D', Long.parseLong(times[0]), Long.parseLong(times[2])));
         } catch (IOException | RuntimeException gone) {
             seen.remove(task);
         }
     }
 
-    private static String text(Path file) throws IOException {
-        return new String(Files.readAllBytes(file), StandardCharsets.ISO_8859_1);
+    /** The only line of a file of a task, by one read: there are many, and often. */
+    private static String line(String file) throws IOException {
+        try (FileInputStream from = new FileInputStream(file)) {
+            byte[] bytes = new byte[LONGEST];
+            return new String(bytes, 0, Math.max(0, from.read(bytes)), StandardCharsets.ISO_8859_1);
+        }
     }
 }

@@ -35,7 +35,8 @@ Fault fault_of_environment() {
                          "advance-in-two-steps", "force-by-storing", "stale-answer", "sixteen-are-woken",
                          "nodes-used-again", "phase-before-counts", "end-by-storing",
                          "taken-off-by-comparing", "queued-for-good", "register-by-storing",
-                         "empty-before-on-advance", "freed-while-queued", "permit-is-kept"};
+                         "empty-before-on-advance", "owner-read-after-letting-go", "woken-before-the-mark",
+                         "freed-while-queued", "permit-is-kept"};
   for (int at = 1; name && at < static_cast<int>(std::size(names)); at++) {
     if (std::strcmp(name, names[at]) == 0) {
       return static_cast<Fault>(at);
@@ -248,7 +249,8 @@ void Phaser::wait(int phase, bool interruptibly, const Time& time) {
   }
   Node* node = fault == Fault::kNodesUsedAgain ? Node::of_own() : new Node();
   node->phase = phase;
-  while (view_of(word_) == phase) {
+  bool parked = false;
+  while (fault == Fault::kWokenBeforeTheMark && parked ? bool(node->queued) : view_of(word_) == phase) {
     if (interruptibly && Thread::current().clear_interrupted()) {
       node->leave();
       throw Interrupted();
@@ -264,6 +266,7 @@ void Phaser::wait(int phase, bool interruptibly, const Time& time) {
       }
     }
     node->parker.park(interruptibly, time);
+    parked = true;
     if (fault == Fault::kParkOnce && !Thread::current().is_interrupted() && !time.is_over()) {
       break;
     }
@@ -292,13 +295,21 @@ void Phaser::release_all() {
   int count = 0;
   for (Node* node = waiters_.exchange(nullptr); node; count++) {
     Node* next = node->next;
+    if (fault == Fault::kWokenBeforeTheMark) {
+      node->parker.unpark();
+    }
     if (fault != Fault::kQueuedForGood) {
       node->queued = false;
     }
-    if (count < most) {
+    if (fault == Fault::kOwnerReadAfterLettingGo) {
+      node->let_go();
+    }
+    if (count < most && fault != Fault::kWokenBeforeTheMark) {
       node->parker.unpark();
     }
-    node->let_go();
+    if (fault != Fault::kOwnerReadAfterLettingGo) {
+      node->let_go();
+    }
     node = next;
   }
 }

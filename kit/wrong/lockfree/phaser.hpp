@@ -26,6 +26,8 @@ enum class Fault {
   kQueuedForGood,
   kRegisterByStoring,
   kEmptyBeforeOnAdvance,
+  kOwnerReadAfterLettingGo,
+  kWokenBeforeTheMark,
   kFreedWhileQueued,
   kPermitIsKept,
 };
