@@ -9,6 +9,7 @@ use line_reader::words::{is_blank, length_before};
 use schedule_reader::ScheduleFault;
 use suggestions::file_kind::{helps_at_encoding, is_trace, is_whole_program};
 use suggestions::hint::help_if_any;
+use suggestions::plan_word::AT_TURN;
 use workbench::fault::Fault;
 
 /// Where a schedule is from.
@@ -22,7 +23,7 @@ pub enum Origin {
     Plan,
 }
 
-/// What helps if a schedule is refused at this byte, if that is more than its entry says.
+/// What helps if a schedule is refused at or behind this byte, if that is more than its entry says.
 fn helps_at(bytes: &[u8], byte: u8, origin: Origin) -> Option<&'static str> {
     if let Some(helps) = helps_at_encoding(bytes) {
         Some(helps)
@@ -32,6 +33,10 @@ fn helps_at(bytes: &[u8], byte: u8, origin: Origin) -> Option<&'static str> {
         Some("this looks like a trace: `vuthgal choices TRACE` writes its schedule")
     } else if byte == b';' {
         Some("a schedule can't have comments; a program text can, above its line `.run`")
+    } else if matches!(byte, b't' | b'x' | b'T' | b'X') {
+        Some(AT_TURN)
+    } else if byte == b'*' {
+        Some("a count follows its star, and no blank is beside the star: `t0*3`")
     } else if !byte.is_ascii_alphabetic() && !matches!(byte, b'.' | b'?' | b'(' | b')') {
         None
     } else if origin == Origin::Beside {
@@ -39,7 +44,7 @@ fn helps_at(bytes: &[u8], byte: u8, origin: Origin) -> Option<&'static str> {
     } else if origin == Origin::Standard {
         Some("a schedule has tN and xN; `--plan-file /dev/stdin` plays the plan on standard input")
     } else {
-        Some("a schedule has tN and xN; `--plan-file FILE` plays the plan in a file")
+        Some("a schedule has tN and xN; a plan has names and `?SEED`: `--plan-file FILE` plays one")
     }
 }
 
@@ -58,7 +63,8 @@ pub fn fail<S>(
         ScheduleFault::Memory => None,
     };
     let marked = place.map_or(b"".as_slice(), |place| place.marked());
-    let byte = marked.first().copied().unwrap_or(0);
+    let line = place.map_or(b"".as_slice(), |place| place.line.bytes);
+    let byte = marked.first().or(line.last()).copied().unwrap_or(0);
     let helps = helps_at(watched.whole().unwrap_or(&[]), byte, origin);
     report.fail(
         Unplanned::Fault(Fault::Schedule(fault)),
@@ -68,18 +74,18 @@ pub fn fail<S>(
     )
 }
 
-/// How many choices a token of a schedule stands for.
+/// How many choices a token stands for: its count, or 1.
 fn times_of(token: &[u8]) -> u64 {
     let digits = token
         .get(length_before(b'*', token).saturating_add(1)..)
         .unwrap_or(&[]);
-    match str::from_utf8(digits).unwrap_or("").parse::<u64>() {
-        Ok(times) => times,
-        Err(_) => 1,
-    }
+    str::from_utf8(digits)
+        .unwrap_or("")
+        .parse::<u64>()
+        .unwrap_or(1)
 }
 
-/// Where the token of a choice is in a schedule, by the choice's number, from 1.
+/// Where the token is that has the choice of this number, from 1. None if a schedule has fewer choices.
 fn token_of_choice(schedule: &[u8], number: u64) -> Option<WordPlace> {
     let mut at: usize = 0;
     let mut played: u64 = 0;

@@ -65,6 +65,7 @@ fn made<P: Picture>(
     }
 }
 
+/// Writes the picture of the program in a file, under the choices that `steps` name.
 fn picture<P: Picture>(
     report: &Report<'_>,
     picture: &P,

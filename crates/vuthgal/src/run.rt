@@ -140,6 +140,7 @@ fn played(
     }
 }
 
+/// Plays a program under the schedule that a plan stands for.
 fn play_plan(
     report: &Report<'_>,
     file: ProgramFile<'_>,
@@ -154,16 +155,13 @@ fn play_plan(
     let mut output = block_port(report)?;
     let answer = run_loaded(report.alloc(), loaded, runs.as_slice(), &mut output);
     let live = if stopped { "" } else { SCHEDULE_ENDS };
-    match passed_on(answer.map_err(|fault| fault_of(fault)), &mut output) {
-        Ok(end) => Ok(ended(report, file.bytes, expected, &end, live)),
-        Err(fault) => Err(fail(report, file, file.name, fault)),
-    }
-}
-
-fn fault_of(fault: PlayFault) -> Fault {
-    match fault {
+    let answer = answer.map_err(|fault| match fault {
         PlayFault::Memory => Fault::Memory,
         PlayFault::Write => Fault::Write,
+    });
+    match passed_on(answer, &mut output) {
+        Ok(end) => Ok(ended(report, file.bytes, expected, &end, live)),
+        Err(fault) => Err(fail(report, file, file.name, fault)),
     }
 }
 
