@@ -102,11 +102,6 @@ impl<'a> Place<'a> {
         })
     }
 
-    /// Returns the bytes that are marked, or none if there is no part.
-    pub fn marked(&self) -> &'a [u8] {
-        self.part.map_or(&[], |part| word_at(self.line.bytes, part))
-    }
-
     /// Writes `LINE:COLUMN:`, both from 1, or `LINE:` without a part.
     pub fn push_numbers<E: Sink>(&self, errors: &mut E) -> Result<(), Failed> {
         errors.push(Buffer::new().format(self.line.number).as_bytes())?;

@@ -1,4 +1,4 @@
-//! Why a plan is refused, or stopped.
+//! Why a plan is refused, or stopped at 1,000,000 choices, and which of its words makes it so.
 ghost use Rattle.std.specs.Prelude.{◌≤◌, length};
 
 use crate::place::{Place, word_at};

@@ -1,4 +1,4 @@
-//! Why the program in a file is refused.
+//! Why the program in a file is refused: by a word of its text, or by what can't be loaded of it.
 
 use crate::place::{Place, word_at};
 use crate::report::{Report, Reported};

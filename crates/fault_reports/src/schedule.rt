@@ -23,8 +23,9 @@ pub enum Origin {
     Plan,
 }
 
-/// What helps if a schedule is refused at or behind this byte, if that is more than its entry says.
-fn helps_at(bytes: &[u8], byte: u8, origin: Origin) -> Option<&'static str> {
+/// What helps if a schedule is refused at the first byte of the `rest` of its line, if that is more than its entry says.
+fn helps_at(bytes: &[u8], rest: &[u8], origin: Origin) -> Option<&'static str> {
+    let byte = rest.first().copied().unwrap_or(0);
     if let Some(helps) = helps_at_encoding(bytes) {
         Some(helps)
     } else if is_whole_program(bytes) {
@@ -33,7 +34,7 @@ fn helps_at(bytes: &[u8], byte: u8, origin: Origin) -> Option<&'static str> {
         Some("this looks like a trace: `vuthgal choices TRACE` writes its schedule")
     } else if byte == b';' {
         Some("a schedule can't have comments; a program text can, above its line `.run`")
-    } else if matches!(byte, b't' | b'x' | b'T' | b'X') {
+    } else if matches!(rest, [b't' | b'T' | b'X', b'0'..=b'9', ..]) {
         Some(AT_TURN)
     } else if byte == b'*' {
         Some("a count follows its star, and no blank is beside the star: `t0*3`")
@@ -62,10 +63,13 @@ pub fn fail<S>(
         }
         ScheduleFault::Memory => None,
     };
-    let marked = place.map_or(b"".as_slice(), |place| place.marked());
     let line = place.map_or(b"".as_slice(), |place| place.line.bytes);
-    let byte = marked.first().or(line.last()).copied().unwrap_or(0);
-    let helps = helps_at(watched.whole().unwrap_or(&[]), byte, origin);
+    let at = place.and_then(|place| place.part).map_or(0, |part| part.at);
+    // At the line's end the byte before it counts: there a star lacks its count.
+    let rest = line
+        .get(at.min(line.len().saturating_sub(1))..)
+        .unwrap_or(&[]);
+    let helps = helps_at(watched.whole().unwrap_or(&[]), rest, origin);
     report.fail(
         Unplanned::Fault(Fault::Schedule(fault)),
         name,

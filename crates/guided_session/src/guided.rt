@@ -87,16 +87,17 @@ struct Person<'a, S, K, E> {
     symbols: Symbols<'a>,
     /// How many bytes may still be read.
     reads: u64,
-    /// What was typed.
+    /// What was typed last.
     said: Vec<u8>,
-    /// It, or the last that wasn't nothing, as the debugger reads it.
+    /// What was typed last that wasn't empty, as the debugger reads it: with numbers for names.
     line: Vec<u8>,
-    /// What it asks for, until its effect is known.
+    /// What the line asks for, until its effect is known.
     command: Command,
-    /// How many choices the machine had played before it.
+    /// How many choices the machine had played before the command.
     choices: u64,
-    /// The machine before it, if it plays several choices at once.
+    /// The machine before the command, if that plays several choices at once.
     before: Option<Machine>,
+    /// The choices so far, for `w`.
     played: Played,
 }
 

@@ -1,4 +1,4 @@
-//! Which words ask for which entry.
+//! Which words ask for which entry: those that fit one of its patterns.
 ghost use Rattle.std.specs.Prelude.{◌≡◌, ℕ, Option, MatchOption, Some};
 ghost use Rattle.refusals.specs.declared.entry.Place.{Place};
 ghost use Rattle.refusals.specs.declared.question.Question.{Question};

@@ -1,4 +1,4 @@
-//! How a line of the language is written.
+//! How a line of the language is written: the form of a row, as `paaa REGISTER PHASER`, or of a directive.
 
 use crate::hint::{Hint, help};
 use refusals::word::word_entry;

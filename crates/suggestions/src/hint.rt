@@ -1,4 +1,4 @@
-//! What helps a person, as a line.
+//! The line that helps a person: `help: TEXT`, or `near: NAME` with what may have been meant.
 
 use std::alloc::{AllocError, Global};
 

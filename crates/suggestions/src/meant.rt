@@ -1,4 +1,4 @@
-//! What a line may have been meant as, if that is more than its fault's entry says.
+//! What helps at the wrong word of a program's line, if that is more than the entry of its fault says (`refusals`).
 
 use crate::file_kind::{helps_at_encoding, is_schedule};
 use crate::java::{in_place_of, row_of};

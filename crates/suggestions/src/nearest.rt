@@ -1,4 +1,4 @@
-//! The nearest of several names.
+//! The nearest of several names, by how many letters differ. If too many do, a name isn't near at all.
 
 ghost use Rattle.std.specs.Prelude.{◌≡◌, ◌⊎◌, ◌<◌, IfOk, Some};
 

@@ -1,4 +1,4 @@
-//! What a word of a plan may have been meant as, if that is more than its fault says.
+//! What helps at a wrong word of a plan, if that is more than the entry of its fault says (`refusals`).
 
 use crate::java::found_in;
 use crate::nearest::nearest_of;

@@ -1,4 +1,4 @@
-//! The arguments of the command line, and why they ask for nothing.
+//! The arguments of the command line, and what is reported if they ask for no command.
 ghost use Rattle.std.specs.Prelude.{IfOk};
 ghost use Rattle.command_line.specs.Request.{IsInRange};
 

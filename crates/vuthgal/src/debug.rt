@@ -1,4 +1,4 @@
-//! Sessions of the debugger.
+//! The command `debug`: sessions of a person at a terminal, or of another program.
 ghost use Rattle.workbench.specs.ProgramFile.{IsNamedProgram};
 
 use crate::input::{self, Stream};

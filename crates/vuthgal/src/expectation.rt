@@ -1,4 +1,4 @@
-//! Whether a run ended as expected.
+//! Whether a run ended as each `--expect STATE` says, and what is reported if it didn't.
 
 ghost use Rattle.std.specs.Prelude.{◌≡◌};
 ghost use Rattle.vuthgal.specs.Expectation.{are_as_expected, done_by};

@@ -1,4 +1,4 @@
-//! What real threads do: live runs, and a race.
+//! The commands `live` and `race`, which start real threads.
 
 ghost use Rattle.std.specs.Prelude.{◌≤◌, IfSome};
 

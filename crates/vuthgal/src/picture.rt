@@ -1,4 +1,4 @@
-//! Pictures of a run: the page, and the text.
+//! The commands `show` and `draw`, which write a picture of a run: a page, or a text.
 
 use crate::run::{Choices, NO_SCHEDULE, fail};
 use crate::steps::{OpenSteps, opened, planned};

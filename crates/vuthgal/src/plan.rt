@@ -1,4 +1,4 @@
-//! The schedules of plans, and how the orders of seeds end.
+//! The command `plan`: it writes the schedule of a plan, or how the orders of seeds end.
 
 ghost use Rattle.std.specs.Prelude.{◌≤◌};
 ghost use Rattle.command_line.specs.Request.{AreInRange};

@@ -1,4 +1,4 @@
-//! Runs: a program that is played under a schedule, and what is expected of its end.
+//! The command `run`: it plays a program under a schedule or a plan. How the run ended may be expected.
 
 use crate::expectation::{as_expected, expectations, report_unmet};
 use crate::input::{self, Stream, block_port};

@@ -1,4 +1,4 @@
-//! What is written of a program's text, of its image, and of the words of a line.
+//! The commands `asm`, `list` and `explain`, which play nothing.
 
 use crate::input::{self, Stream};
 use crate::run::fail;

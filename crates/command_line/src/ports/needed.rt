@@ -1,4 +1,4 @@
-//! As much of a schedule as a picture needs.
+//! As much of a schedule as a picture needs: nothing behind its fault, or behind one choice too many.
 
 ghost use Rattle.std.specs.Prelude.{◌≡◌, ◌≤◌, ◌+◌, if◌then◌else◌, false, IfOk, IfSome, None, length};
 ghost use Rattle.std.specs.Io.KnownBytes.{ReadConsumes};
