@@ -29,7 +29,7 @@ const QUOTES: &str =
 
 /// Options that people write, and what there is in their place.
 static OPTIONS: [(&str, &str); 3] = [
-    ("--threads --thread -n", "near: --parties\n"),
+    ("--threads --thread", "help: `race` has `--parties N`\n"),
     (
         "--seed",
         "help: `live` has `--stir SEED`, and `plan` has `--seeds FROM..TO`\n",
