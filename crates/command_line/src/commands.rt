@@ -269,7 +269,7 @@ static COMMANDS: [Subcommand; 12] = [
     Subcommand {
         name: "explain",
         aliases: &[],
-        about: "Says in words what a line on standard error means",
+        about: "Says what an error, a line of a trace or an instruction means",
         words: &[Word(
             "WORD",
             Kind::Several,
@@ -279,6 +279,7 @@ static COMMANDS: [Subcommand; 12] = [
 ];
 
 impl Word {
+    /// Returns the argument or option for `clap`.
     fn arg<'a>(&self, alloc: Global) -> Result<Arg<'a>, AllocError> {
         let Word(name, kind, help) = *self;
         let arg = Arg::new(alloc, name).help(help);
@@ -309,6 +310,7 @@ impl Word {
 }
 
 impl Subcommand {
+    /// Returns the command for `clap`, with its arguments and its help.
     fn command<'a>(&self, alloc: Global) -> Result<Command<'a>, AllocError> {
         let mut command = Command::new(alloc, self.name)
             .about(self.about)
@@ -322,7 +324,7 @@ impl Subcommand {
     }
 }
 
-/// When a failure is explained: an option of the program and of each command.
+/// The option `--explain WHEN` of the program and of each command. The last one counts.
 fn explain<'a>(alloc: Global) -> Result<Arg<'a>, AllocError> {
     Arg::new(alloc, "explain")
         .long("explain")
@@ -333,7 +335,7 @@ fn explain<'a>(alloc: Global) -> Result<Arg<'a>, AllocError> {
         .overrides_with("explain")
 }
 
-/// The program without its commands, of this version.
+/// The program of this version for `clap`, without its commands.
 fn bare<'a>(alloc: Global, version: &'a str) -> Result<Command<'a>, AllocError> {
     Command::new(alloc, "vuthgal")
         .version(version)
@@ -344,7 +346,7 @@ fn bare<'a>(alloc: Global, version: &'a str) -> Result<Command<'a>, AllocError> 
         .arg(explain(alloc)?)
 }
 
-/// The program with its commands.
+/// The program of this version for `clap`, with its commands.
 pub fn program<'a>(alloc: Global, version: &'a str) -> Result<Command<'a>, AllocError> {
     let mut program = bare(alloc, version)?;
     for subcommand in &COMMANDS {

@@ -109,7 +109,7 @@ pub enum When {
 }
 
 impl When {
-    /// Returns what a word says.
+    /// Returns what a word of `--explain` or VUTHGAL_EXPLAIN says. None if it is another.
     pub fn of(word: &str) -> Option<When> {
         match word {
             "always" => Some(When::Always),
@@ -143,11 +143,12 @@ const SEEDS: &str =
 
 const EARLY: &str = "--expect STATE goes after the command's name";
 
-/// The word in a place that has to be filled.
+/// The word in a place that `clap` has made sure of.
 fn word<'a>(matches: &ArgMatches<'a>, place: &str) -> &'a str {
     matches.get_str(place).unwrap_or("")
 }
 
+/// The words in a place that takes several.
 fn words<'a>(
     alloc: Global,
     matches: &ArgMatches<'a>,
@@ -156,6 +157,7 @@ fn words<'a>(
     Vec::from_slice(alloc, matches.get_strs(place).unwrap_or(&[]))
 }
 
+/// Whether a flag is given.
 fn is_set(matches: &ArgMatches<'_>, flag: &str) -> bool {
     matches.get_str(flag) == Some("true")
 }
@@ -201,14 +203,27 @@ fn needed(matches: &ArgMatches<'_>, option: &str, least: u32, most: u32) -> Resu
     }
 }
 
-/// What is expected of a run's end, where each word expects something.
-fn expected<'a>(alloc: Global, matches: &ArgMatches<'a>) -> Result<Vec<&'a str>, Refusal> {
-    let words = words(alloc, matches, "expect")?;
-    if words.iter().all(|word| is_expectation(word.as_bytes())) {
-        Ok(words)
-    } else {
-        Err(Refusal::Wrong(STATE))
+/// Returns the words of a text, with one blank between them.
+pub fn spaced(alloc: Global, text: &str) -> Result<Vec<u8>, AllocError> {
+    let mut spaced = Vec::new(alloc);
+    for word in text.split_ascii_whitespace() {
+        if !spaced.is_empty() {
+            spaced.push(b' ')?;
+        }
+        spaced.extend_from_slice(word.as_bytes())?;
     }
+    Ok(spaced)
+}
+
+/// Returns each `--expect STATE`, or the refusal of one that expects nothing. It may have any blanks between its words.
+fn expected<'a>(alloc: Global, matches: &ArgMatches<'a>) -> Result<Vec<&'a str>, Refusal> {
+    let states = words(alloc, matches, "expect")?;
+    for state in states.iter() {
+        if !is_expectation(spaced(alloc, *state)?.as_slice()) {
+            return Err(Refusal::Wrong(STATE));
+        }
+    }
+    Ok(states)
 }
 
 /// The choices that are named, as a schedule, by `--at`, `--plan` or `--plan-file`.
@@ -240,6 +255,7 @@ fn seeds_in(text: &str) -> Option<Seeds>
     }
 }
 
+/// The orders that `plan --seeds` asks for, or None without this option.
 fn given_orders<'a>(alloc: Global, matches: &ArgMatches<'a>) -> Result<Option<Orders<'a>>, Refusal>
     ensures { IfOk result (λ orders. IfSome orders AreInRange) }
 {
@@ -258,6 +274,7 @@ fn given_orders<'a>(alloc: Global, matches: &ArgMatches<'a>) -> Result<Option<Or
     }))
 }
 
+/// The request of `live`, whose numbers are in their ranges.
 fn live<'a>(alloc: Global, matches: &ArgMatches<'a>) -> Result<Request<'a>, Refusal>
     ensures { IfOk result IsInRange }
 {
@@ -274,6 +291,7 @@ fn live<'a>(alloc: Global, matches: &ArgMatches<'a>) -> Result<Request<'a>, Refu
     })
 }
 
+/// The request of `race`, whose numbers are in their ranges.
 fn race<'a>(matches: &ArgMatches<'a>) -> Result<Request<'a>, Refusal>
     ensures { IfOk result IsInRange }
 {
@@ -285,6 +303,7 @@ fn race<'a>(matches: &ArgMatches<'a>) -> Result<Request<'a>, Refusal>
     })
 }
 
+/// The request of `draw`, whose width is in its range.
 fn draw<'a>(matches: &ArgMatches<'a>) -> Result<Request<'a>, Refusal>
     ensures { IfOk result IsInRange }
 {
@@ -312,6 +331,7 @@ fn run<'a>(
     })
 }
 
+/// The request of the command of this name.
 fn request_by<'a>(
     alloc: Global,
     command: &str,
@@ -362,6 +382,7 @@ fn request_by<'a>(
     }
 }
 
+/// The request of the command, or without one a run of standard input. `--expect` before a command is refused.
 fn request_of<'a>(alloc: Global, matches: &ArgMatches<'a>) -> Result<Request<'a>, Refusal>
     ensures { IfOk result IsInRange }
 {
@@ -383,10 +404,7 @@ fn parsed<'a>(
     ensures { IfOk result (λ both. IsInRange both.0) }
 {
     let matches = program.try_get_matches_from_mut(words)?;
-    let when = match matches.get_str("explain") {
-        Some(word) => When::of(word),
-        None => None,
-    };
+    let when = matches.get_str("explain").and_then(|word| When::of(word));
     match request_of(alloc, &matches) {
         Ok(request) => Ok((request, when)),
         Err(Refusal::Memory) => Err(Error::from(AllocError)),

@@ -25,8 +25,8 @@ from standard input. It writes the trace: a line for each choice, and then the
 state.
 
 With `--expect STATE` the exit status is 1 if the run ends differently than
-STATE says (`vuthgal run --help`). `run` and `live` have this option too; then
-it goes after the command's name.
+STATE says (`vuthgal run --help`). `run`, `live` and `plan` have this option
+too; then it goes after the command's name.
 
 Example: vuthgal < examples/two-threads-meet.txt";
 

@@ -20,7 +20,7 @@ const AT_MINUS: &[u8] =
 /// The system's number for a pipe that nobody reads.
 const BROKEN_PIPE: i32 = 32;
 
-/// What helps if no file of this name can be opened: it may be none, or a plan, or near to that of a file.
+/// What helps if no file of this name can be opened: it is `-`, a page or a plan, or near to a file's name.
 fn hint_at_name(rt: &HostRuntime, name: &str) -> Hint {
     let alloc = rt.alloc();
     if name == "-" {
@@ -82,7 +82,7 @@ pub fn fail_for_one_file(report: &Report<'_>, name: &str) -> Reported {
     )
 }
 
-/// Reports a fault of a command that read the file of one name and wrote to that of the other.
+/// Reports a fault of a command that read the file `input` and wrote `output`. If the system has no reason, a read was too long.
 pub fn fail(report: &Report<'_>, input: &str, output: &str, fault: Fault) -> Reported {
     match (fault, report.reason.error()) {
         (Fault::Read, Some(error)) => fail_by(report, fault, input, &error, Ok(None)),

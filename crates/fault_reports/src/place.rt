@@ -21,7 +21,7 @@ pub struct Place<'a> {
     pub part: Option<WordPlace>,
 }
 
-/// Returns the bytes of a part of a line.
+/// Returns the bytes of a part of a line, or none if the line ends before it.
 pub fn word_at(line: &[u8], part: WordPlace) -> &[u8] {
     line.get(part.at..part.at.saturating_add(part.length))
         .unwrap_or(&[])
@@ -39,7 +39,7 @@ pub fn push_shown<E: Sink>(errors: &mut E, bytes: &[u8]) -> Result<(), Failed> {
     Ok(())
 }
 
-/// Where the part of a line begins that is shown: its beginning, or a part with the place in its middle.
+/// The byte from which on a line is shown: 0 if the place is then seen whole, or else one with the place in the middle.
 fn window(line: &[u8], place: WordPlace) -> usize
     ensures begin { result ≤ place.at }
     ensures end { place.at < length line.now → place.at ≤ result + 72 }
@@ -65,7 +65,7 @@ fn statement(line: &[u8], behind_label: usize) -> Option<WordPlace> {
 }
 
 impl<'a> Place<'a> {
-    /// Returns the place in the line of this number, from 1, of a text.
+    /// Returns the place of a part of the line of this number, from 1, of a text. None if it has fewer lines.
     pub fn in_text(text: &'a [u8], number: u64, part: Option<WordPlace>) -> Option<Place<'a>> {
         Some(Place {
             line: Line {
@@ -77,13 +77,11 @@ impl<'a> Place<'a> {
         })
     }
 
-    /// Returns the place of all that a line of a text says.
+    /// Returns the place of a line's row or directive with its operands, without label, comment and outer blanks.
     pub fn of_statement(text: &'a [u8], number: u64) -> Option<Place<'a>> {
         let line = before_comment(line_at(text, number)?);
-        let label = match line.iter().position(|byte| *byte == b':') {
-            Some(at) => at.saturating_add(1),
-            None => 0,
-        };
+        let colon = line.iter().position(|byte| *byte == b':');
+        let label = colon.map_or(0, |at| at.saturating_add(1));
         Place::in_text(text, number, statement(line, label))
     }
 
@@ -104,15 +102,7 @@ impl<'a> Place<'a> {
         })
     }
 
-    /// Returns the bytes of the part.
-    pub fn marked(&self) -> &'a [u8] {
-        match self.part {
-            Some(part) => word_at(self.line.bytes, part),
-            None => &[],
-        }
-    }
-
-    /// Writes the numbers of the line and of the part's first byte, from 1, each with a colon.
+    /// Writes `LINE:COLUMN:`, both from 1, or `LINE:` without a part.
     pub fn push_numbers<E: Sink>(&self, errors: &mut E) -> Result<(), Failed> {
         errors.push(Buffer::new().format(self.line.number).as_bytes())?;
         errors.push(b":")?;
@@ -128,13 +118,10 @@ impl<'a> Place<'a> {
         errors.push(b":")
     }
 
-    /// Writes as much of the line as is shown, and a mark below the part.
+    /// Writes at most 72 bytes of the line, and below them `^` under the part, if there is one.
     pub fn push_line<E: Sink>(&self, errors: &mut E) -> Result<(), Failed> {
         let line = self.line.bytes;
-        let from = match self.part {
-            Some(part) => window(line, part),
-            None => 0,
-        };
+        let from = self.part.map_or(0, |part| window(line, part));
         let dots: &[u8] = if from > 0 || self.line.before > 0 {
             DOTS
         } else {

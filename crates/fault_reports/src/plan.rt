@@ -1,4 +1,4 @@
-//! Why a plan is refused, or stopped.
+//! Why a plan is refused, or stopped at 1,000,000 choices, and which of its words makes it so.
 ghost use Rattle.std.specs.Prelude.{◌≤◌, length};
 
 use crate::place::{Place, word_at};
@@ -27,7 +27,7 @@ pub struct PlanFile<'a> {
     pub bytes: &'a [u8],
 }
 
-/// Returns the word that makes a fault of a plan, or the parenthesis that was opened last and not within others.
+/// Returns the word that makes a fault of a plan. For a `(` that isn't closed, it is the last one outside of others.
 fn place_of(
     alloc: Global,
     plan: &[u8],
@@ -64,19 +64,20 @@ fn place_of(
     Ok(opened)
 }
 
+/// Whether there is a file of this name.
 fn is_file(rt: &HostRuntime, path: &str) -> bool {
-    match fs::metadata(rt, path) {
-        Ok(metadata) => metadata.is_file(),
-        Err(_) => false,
-    }
+    fs::metadata(rt, path).is_ok_and(|metadata| metadata.is_file())
 }
 
+/// What helps if a plan's text isn't one: it is a trace, a program, `-`, the name of a file, or no ASCII.
 fn helps_at_file(rt: &HostRuntime, plan: PlanFile<'_>) -> Option<&'static str> {
     let path = str::from_utf8(plan.bytes).unwrap_or("");
     if is_trace(plan.bytes) {
         Some("this is a trace: `vuthgal choices TRACE | vuthgal run FILE -` plays its choices")
     } else if is_whole_program(plan.bytes) {
         Some("this is a program: a plan has words such as `ann. bob.`")
+    } else if plan.name == ARGUMENT && path == "-" {
+        Some("`--plan-file /dev/stdin` plays the plan on standard input")
     } else if plan.name == ARGUMENT && is_file(rt, path) {
         Some("this is a file: `--plan-file FILE` plays the plan in it")
     } else {
@@ -84,6 +85,7 @@ fn helps_at_file(rt: &HostRuntime, plan: PlanFile<'_>) -> Option<&'static str> {
     }
 }
 
+/// What helps at a name that no thread has: the nearest choice, or the names that there are.
 fn hint_at_name(alloc: Global, names: &[&[u8]], word: &[u8]) -> Hint {
     match near_choice(alloc, names, word)? {
         Some(choice) => near(alloc, choice.as_slice()),
@@ -118,7 +120,7 @@ fn is_without_count(word: &[u8]) -> bool {
     word.ends_with(b".") || word.starts_with(b"?")
 }
 
-/// The word that makes a plan endless, with its line, if only one plays turns without a count, and nothing has one.
+/// The line's number and the place of the only word without a count, in a plan that has no count. None if there are two.
 fn endless_word(alloc: Global, plan: &[u8]) -> Result<Option<(u64, WordPlace)>, AllocError> {
     let mut found = None;
     let mut number: u64 = 0;
@@ -138,7 +140,7 @@ fn endless_word(alloc: Global, plan: &[u8]) -> Result<Option<(u64, WordPlace)>, 
     Ok(found)
 }
 
-/// Reports that a plan needs more choices than it may make.
+/// Writes that a plan stopped at 1,000,000 choices, and for a person the word that lacks a count.
 pub fn report_stopped(report: &Report<'_>, plan: PlanFile<'_>) {
     let _ = WritePort::new(report.rt.stderr()).push(b"stopped at 1000000 choices\n");
     let place = match endless_word(report.alloc(), plan.bytes) {

@@ -1,4 +1,4 @@
-//! Why the program in a file is refused.
+//! Why the program in a file is refused: by a word of its text, or by what can't be loaded of it.
 
 use crate::place::{Place, word_at};
 use crate::report::{Report, Reported};
@@ -47,7 +47,7 @@ impl<'a> ProgramFile<'a> {
     }
 }
 
-/// What helps at a name that nothing of the kind that is needed has.
+/// What helps at a name that nothing of the wanted kind has: the nearest one, all, or how to declare one.
 fn hint_at_name(alloc: Global, text: &[u8], wanted: OperandKind, word: &[u8]) -> Hint {
     let names = names_in(alloc, text, Some(wanted))?;
     match nearest_of(alloc, names.as_slice(), word)?.meant {
@@ -56,22 +56,27 @@ fn hint_at_name(alloc: Global, text: &[u8], wanted: OperandKind, word: &[u8]) ->
             b"this name is below the line `.run`, where the program has ended",
         ),
         Some(name) => near(alloc, name),
+        None if names.is_empty() => {
+            let (wanted, line) = called(wanted);
+            let helps = format!(in alloc; "{wanted} is needed, and there is none: `{line}`")?;
+            help(alloc, helps.as_bytes())
+        }
         None => help_by_names(alloc, b"the names are ", names.as_slice()),
     }
 }
 
-/// What helps at a name that isn't known.
+/// What helps at an unknown name, which may be that of another kind of thing.
 fn hint_at_unknown(alloc: Global, text: &[u8], unknown: UnknownName, word: &[u8]) -> Hint {
     let UnknownName { wanted, given } = unknown;
     let Some(given) = given else {
         return hint_at_name(alloc, text, wanted, word);
     };
-    let (given, wanted) = (called(given), called(wanted));
+    let (given, wanted) = (called(given).0, called(wanted).0);
     let helps = format!(in alloc; "this is {given}, and {wanted} is needed")?;
     help(alloc, helps.as_bytes())
 }
 
-/// What helps at a name that an earlier line gave; the word may be a label's.
+/// What helps at a name that an earlier line gave. The word has a colon if it is a label.
 fn hint_at_second(alloc: Global, text: &[u8], word: &[u8]) -> Hint {
     let name = if is_label(word) {
         before_last(word)
@@ -85,7 +90,7 @@ fn hint_at_second(alloc: Global, text: &[u8], word: &[u8]) -> Hint {
     help(alloc, helps.as_bytes())
 }
 
-/// What helps at a word that begins no row or directive.
+/// What helps at a word that begins no row or directive: the form of the row that it means, or the nearest word.
 fn hint_at_word(alloc: Global, line: &[u8], word: &[u8]) -> Hint {
     if let Some(row) = row_meant(alloc, line, word) {
         return form_of(alloc, row.as_bytes());
@@ -96,7 +101,7 @@ fn hint_at_word(alloc: Global, line: &[u8], word: &[u8]) -> Hint {
     }
 }
 
-/// What helps at an option that a directive doesn't have there.
+/// What helps at a word that is no option of a directive there: the nearest option, or the directive's form.
 fn hint_at_option(alloc: Global, directive: &[u8], word: &[u8]) -> Hint {
     match nearest_option(alloc, str::from_utf8(directive).unwrap_or(""), word)? {
         Some(option) => near(alloc, option),
@@ -123,6 +128,7 @@ fn hint_at(alloc: Global, text: &[u8], placed: PlacedFault, line: &[u8], word: &
     }
 }
 
+/// Reports a fault of a program's text at the word that makes it, with what helps there.
 fn fail_in_text(report: &Report<'_>, file: ProgramFile<'_>, placed: PlacedFault) -> Reported {
     let PlacedFault { fault, at, .. } = placed;
     let alloc = report.alloc();
@@ -146,7 +152,7 @@ fn fail_in_text(report: &Report<'_>, file: ProgramFile<'_>, placed: PlacedFault)
     )
 }
 
-/// Reports why a file has no program.
+/// Reports why a file has no program: a fault of its text or image, or too little memory.
 pub fn fail_to_read(report: &Report<'_>, file: ProgramFile<'_>, fault: Fault) -> Reported {
     match fault {
         Fault::Asm(placed) if fault.status() == 3 => fail_in_text(report, file, placed),
@@ -167,7 +173,7 @@ fn last_line_with_row(text: &[u8]) -> u64 {
     last
 }
 
-/// What a load fault is about, and its number.
+/// The row, as the target of a label, or the declared thing that a load fault is about, by its kind and number.
 fn made_in(fault: LoadFault) -> Option<(OperandKind, u64)> {
     match fault {
         LoadFault::Target(Loaded::Row(row))
@@ -188,7 +194,7 @@ fn made_in(fault: LoadFault) -> Option<(OperandKind, u64)> {
     }
 }
 
-/// The place in a text of what a load fault is about.
+/// The place in a text of the row or declaration that a load fault is about. None in an image.
 fn place_made<'a>(alloc: Global, text: &'a [u8], fault: LoadFault) -> Option<Place<'a>> {
     if is_image_file(text) {
         return None;
@@ -200,7 +206,7 @@ fn place_made<'a>(alloc: Global, text: &'a [u8], fault: LoadFault) -> Option<Pla
     Place::of_statement(text, line_that_makes(alloc, text, kind, number)?)
 }
 
-/// Reports why the program of a file isn't loaded. Its threads may be below its end.
+/// Reports why a file's program isn't loaded. It may be empty, or have its threads below the line `.run`.
 pub fn fail_to_load(report: &Report<'_>, file: ProgramFile<'_>, fault: LoadFault) -> Reported {
     let why = Unplanned::Fault(Fault::Load(fault));
     if why.status() == 4 {
@@ -211,6 +217,11 @@ pub fn fail_to_load(report: &Report<'_>, file: ProgramFile<'_>, fault: LoadFault
         help(
             report.alloc(),
             b"the program ends at the line `.run`: its `.thread` lines have to be above it",
+        )
+    } else if file.bytes.trim_ascii().is_empty() {
+        help(
+            report.alloc(),
+            b"it is empty: a program has a thread and rows, as `.thread ann main` and `main: halt`",
         )
     } else {
         Ok(None)

@@ -51,7 +51,7 @@ pub struct Report<'a> {
     pub reason: Reason,
 }
 
-/// What the environment says.
+/// What VUTHGAL_EXPLAIN says. None if it isn't set, or has another value.
 fn when_set(rt: &HostRuntime) -> Option<When> {
     let mut room = [0u8; ROOM];
     match rt.var(VARIABLE, &mut room) {
@@ -61,7 +61,7 @@ fn when_set(rt: &HostRuntime) -> Option<When> {
 }
 
 impl<'a> Report<'a> {
-    /// By what the arguments say, or else the environment, or else whether standard error is a terminal.
+    /// Returns a report that explains as the arguments say, or else the environment, or else at a terminal.
     pub fn new(rt: &'a HostRuntime, said: Option<When>) -> Report<'a> {
         Report {
             rt,
@@ -85,7 +85,7 @@ impl<'a> Report<'a> {
         Reasoned::new(inner, &self.reason)
     }
 
-    /// Reports a value of the environment that is none.
+    /// Tells that VUTHGAL_EXPLAIN has a value that says nothing, if it has.
     fn push_wrong_value<E: Sink>(&self, errors: &mut E) -> Result<(), Failed> {
         let mut room = [0u8; ROOM];
         let value = match self.rt.var(VARIABLE, &mut room) {
@@ -106,7 +106,7 @@ impl<'a> Report<'a> {
         )
     }
 
-    /// Returns whether a person is told more. Where it is by the environment, a value that is none is reported.
+    /// Returns whether a person is told more. Unless the arguments decide, a wrong value of VUTHGAL_EXPLAIN is told first.
     pub fn explains(&self) -> bool {
         if !self.is_said {
             let _ = self.push_wrong_value(&mut WritePort::new(printable::errors(self.rt)));
@@ -114,7 +114,7 @@ impl<'a> Report<'a> {
         self.is_explained
     }
 
-    /// Reports a failure by its line alone.
+    /// Writes the fixed line of a failure alone. Returns its exit status.
     pub fn line(&self, why: Unplanned) -> Reported
         ensures { result.status ≡ unplanned_status why }
     {
@@ -189,7 +189,7 @@ impl<'a> Report<'a> {
     }
 }
 
-/// The entry of the line of a failure. It needs no memory if it is out of memory.
+/// The entry of `explain` for the fixed line of a failure. If memory has run out, none is needed for it.
 fn entry_of(alloc: Global, why: Unplanned) -> Option<Entry> {
     let question = if why.status() == 4 && !matches!(why, Unplanned::Fault(Fault::Spawn)) {
         question_of(&tables(), &["memory"])

@@ -9,6 +9,7 @@ use line_reader::words::{is_blank, length_before};
 use schedule_reader::ScheduleFault;
 use suggestions::file_kind::{helps_at_encoding, is_trace, is_whole_program};
 use suggestions::hint::help_if_any;
+use suggestions::plan_word::AT_TURN;
 use workbench::fault::Fault;
 
 /// Where a schedule is from.
@@ -22,8 +23,9 @@ pub enum Origin {
     Plan,
 }
 
-/// What helps if a schedule is refused at this byte, if that is more than its entry says.
-fn helps_at(bytes: &[u8], byte: u8, origin: Origin) -> Option<&'static str> {
+/// What helps if a schedule is refused at the first byte of the `rest` of its line, if that is more than its entry says.
+fn helps_at(bytes: &[u8], rest: &[u8], origin: Origin) -> Option<&'static str> {
+    let byte = rest.first().copied().unwrap_or(0);
     if let Some(helps) = helps_at_encoding(bytes) {
         Some(helps)
     } else if is_whole_program(bytes) {
@@ -32,6 +34,10 @@ fn helps_at(bytes: &[u8], byte: u8, origin: Origin) -> Option<&'static str> {
         Some("this looks like a trace: `vuthgal choices TRACE` writes its schedule")
     } else if byte == b';' {
         Some("a schedule can't have comments; a program text can, above its line `.run`")
+    } else if matches!(rest, [b't' | b'T' | b'X', b'0'..=b'9', ..]) {
+        Some(AT_TURN)
+    } else if byte == b'*' {
+        Some("a count follows its star, and no blank is beside the star: `t0*3`")
     } else if !byte.is_ascii_alphabetic() && !matches!(byte, b'.' | b'?' | b'(' | b')') {
         None
     } else if origin == Origin::Beside {
@@ -39,7 +45,7 @@ fn helps_at(bytes: &[u8], byte: u8, origin: Origin) -> Option<&'static str> {
     } else if origin == Origin::Standard {
         Some("a schedule has tN and xN; `--plan-file /dev/stdin` plays the plan on standard input")
     } else {
-        Some("a schedule has tN and xN; `--plan-file FILE` plays the plan in a file")
+        Some("a schedule has tN and xN; a plan has names and `?SEED`: `--plan-file FILE` plays one")
     }
 }
 
@@ -57,9 +63,13 @@ pub fn fail<S>(
         }
         ScheduleFault::Memory => None,
     };
-    let marked = place.map_or(b"".as_slice(), |place| place.marked());
-    let byte = marked.first().copied().unwrap_or(0);
-    let helps = helps_at(watched.whole().unwrap_or(&[]), byte, origin);
+    let line = place.map_or(b"".as_slice(), |place| place.line.bytes);
+    let at = place.and_then(|place| place.part).map_or(0, |part| part.at);
+    // At the line's end the byte before it counts: there a star lacks its count.
+    let rest = line
+        .get(at.min(line.len().saturating_sub(1))..)
+        .unwrap_or(&[]);
+    let helps = helps_at(watched.whole().unwrap_or(&[]), rest, origin);
     report.fail(
         Unplanned::Fault(Fault::Schedule(fault)),
         name,
@@ -68,18 +78,18 @@ pub fn fail<S>(
     )
 }
 
-/// How many choices a token of a schedule stands for.
+/// How many choices a token stands for: its count, or 1.
 fn times_of(token: &[u8]) -> u64 {
     let digits = token
         .get(length_before(b'*', token).saturating_add(1)..)
         .unwrap_or(&[]);
-    match str::from_utf8(digits).unwrap_or("").parse::<u64>() {
-        Ok(times) => times,
-        Err(_) => 1,
-    }
+    str::from_utf8(digits)
+        .unwrap_or("")
+        .parse::<u64>()
+        .unwrap_or(1)
 }
 
-/// Where the token of a choice is in a schedule, by the choice's number, from 1.
+/// Where the token is that has the choice of this number, from 1. None if a schedule has fewer choices.
 fn token_of_choice(schedule: &[u8], number: u64) -> Option<WordPlace> {
     let mut at: usize = 0;
     let mut played: u64 = 0;

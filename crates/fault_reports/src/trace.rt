@@ -8,7 +8,7 @@ use suggestions::file_kind::{is_schedule, is_whole_program};
 use trace_compare::naming::{Named, choices_in};
 use workbench::slice_source::SliceSource;
 
-/// What helps at a line of a trace that differs from the run's.
+/// What helps at a line of a trace that isn't the run's: it is cut, has another end, or `--show` says more.
 fn helps_at<S>(watched: &Watched<S>, number: u64, is_shown: bool) -> &'static str {
     let line = watched
         .line(number)
@@ -68,7 +68,7 @@ pub fn note_no_trace<S>(report: &Report<'_>, name: &str, watched: &Watched<S>, n
     );
 }
 
-/// Returns the number of the first line of a whole trace that no trace has there, or 0 if that isn't known.
+/// Returns the number of the first line that no trace has there, or 0 if the beginning isn't kept any more.
 pub fn wrong_line<S>(alloc: Global, watched: &Watched<S>) -> u64 {
     let bytes = watched.whole().unwrap_or(&[]);
     match choices_in(alloc, &mut SliceSource::new(bytes)) {

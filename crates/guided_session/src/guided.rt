@@ -47,12 +47,12 @@ const HELP: &[u8] = b"  s tN      one choice: thread N's turn; `s xN`: its timed
   Enter     repeat the last command
 ";
 
-/// Shows something besides the session. If it can't be shown, the session goes on.
+/// Ignores whether something besides the replies could be shown: the session goes on.
 fn note(told: Result<(), Failed>) {
     let _ = told;
 }
 
-/// Whether a command is answered with `?`.
+/// Whether the debugger answers a command with `?`: it isn't one, or names a row that there isn't.
 fn is_unknown(command: &Command, debugger: &Debugger) -> bool {
     match command {
         Command::Break(row) | Command::Clear(row) => {
@@ -87,21 +87,22 @@ struct Person<'a, S, K, E> {
     symbols: Symbols<'a>,
     /// How many bytes may still be read.
     reads: u64,
-    /// What was typed.
+    /// What was typed last.
     said: Vec<u8>,
-    /// It, or the last that wasn't nothing, as the debugger reads it.
+    /// What was typed last that wasn't empty, as the debugger reads it: with numbers for names.
     line: Vec<u8>,
-    /// What it asks for, until its effect is known.
+    /// What the line asks for, until its effect is known.
     command: Command,
-    /// How many choices the machine had played before it.
+    /// How many choices the machine had played before the command.
     choices: u64,
-    /// The machine before it, if it plays several choices at once.
+    /// The machine before the command, if that plays several choices at once.
     before: Option<Machine>,
+    /// The choices so far, for `w`.
     played: Played,
 }
 
 impl<'a, S: Source + Drop, K: Sink + Drop, E: Sink + Drop> Person<'a, S, K, E> {
-    /// Shows the lines of choices of which so many were played at once.
+    /// Shows the lines of the first `more` choices of these runs, which were played at once, and keeps them for `w`.
     fn look_at_runs(&mut self, runs: &[Run], more: u64) -> Result<(), AllocError> {
         if let Some(mut before) = self.before.take() {
             note(push_replayed(&mut self.notes, &mut before, runs, more));
@@ -109,7 +110,7 @@ impl<'a, S: Source + Drop, K: Sink + Drop, E: Sink + Drop> Person<'a, S, K, E> {
         self.played.push_first(runs, more)
     }
 
-    /// Sees what a command came to, and shows its effect where the debugger's reply doesn't.
+    /// Sees what a command came to: keeps the choices that it played or took back, and shows what its reply doesn't.
     fn look_at(&mut self, command: &Command, machine: &Machine) -> Result<(), AllocError> {
         let more = machine.choices().saturating_sub(self.choices);
         let threads = machine.thread_count();
@@ -153,7 +154,7 @@ impl<'a, S: Source + Drop, K: Sink + Drop, E: Sink + Drop> Person<'a, S, K, E> {
         thread_names(self.alloc, &self.symbols, count.min(MOST_THREADS))
     }
 
-    /// Writes the choices that were played, by the names of the threads, in a line.
+    /// Writes the choices so far as a plan with the names of the threads, in a line.
     fn write_played(&mut self, debugger: &Debugger) -> Result<(), AllocError> {
         let names = self.names(debugger)?;
         let mut line = named_text(self.alloc, names.as_slice(), self.played.runs())?;
@@ -162,7 +163,7 @@ impl<'a, S: Source + Drop, K: Sink + Drop, E: Sink + Drop> Person<'a, S, K, E> {
         Ok(())
     }
 
-    /// Returns the words of the line, if it is a plan.
+    /// Returns the words of what was typed, if it is a plan.
     fn words(&self, debugger: &Debugger) -> Result<Option<Words>, AllocError> {
         let names = self.names(debugger)?;
         match read_plan(self.alloc, self.said.as_slice(), names.as_slice()) {
@@ -172,7 +173,7 @@ impl<'a, S: Source + Drop, K: Sink + Drop, E: Sink + Drop> Person<'a, S, K, E> {
         }
     }
 
-    /// Takes the line for the choices that these words of a plan make from the session's machine on, as for `g`.
+    /// Takes the line `g TOKENS` for the choices that a plan's words make from the session's machine on.
     fn go(&mut self, debugger: &Debugger, words: &Words) -> Result<(), AllocError> {
         let machine = debugger.machine().copy(self.alloc)?;
         let planned = plan_runs_at(self.alloc, machine, &words.all())?;
@@ -184,8 +185,7 @@ impl<'a, S: Source + Drop, K: Sink + Drop, E: Sink + Drop> Person<'a, S, K, E> {
         Ok(())
     }
 
-    /// Takes the line for the debugger: a command, or else words of a plan. Keeps the machine as it is if the line asks for several
-    /// choices at once.
+    /// Takes the line: a command, or else words of a plan. If it is several choices, it keeps the machine before them.
     fn take(&mut self, debugger: &Debugger) -> Result<(), AllocError> {
         self.command = command_of(self.alloc, self.line.as_slice())?;
         if matches!(&self.command, Command::Unknown) && !self.said.trim_ascii().is_empty() {
@@ -199,8 +199,7 @@ impl<'a, S: Source + Drop, K: Sink + Drop, E: Sink + Drop> Person<'a, S, K, E> {
         Ok(())
     }
 
-    /// Reads a line, and puts it in place of the one before, with numbers; an empty one repeats the one before. Returns whether
-    /// it has an end.
+    /// Reads a line, in which numbers replace names. An empty one repeats the line before. Returns whether it has an LF.
     fn read(&mut self, debugger: &Debugger) -> Result<bool, Fault>
         ensures fault { IfErr result (λ fault. (fault ≡ Fault.Memory) ⊎ (fault ≡ Fault.Read)) }
     {
@@ -216,7 +215,7 @@ impl<'a, S: Source + Drop, K: Sink + Drop, E: Sink + Drop> Person<'a, S, K, E> {
         Ok(is_ended)
     }
 
-    /// Answers the line, or reads what it asks the debugger for. Returns whether the debugger is to read it.
+    /// Answers `help` and `w`, or takes any other line. Returns whether the debugger is to read it.
     fn is_for_debugger(&mut self, debugger: &Debugger) -> Result<bool, AllocError> {
         match self.line.as_slice().trim_ascii() {
             b"help" | b"?" => note(self.notes.push(HELP)),
@@ -229,7 +228,7 @@ impl<'a, S: Source + Drop, K: Sink + Drop, E: Sink + Drop> Person<'a, S, K, E> {
         Ok(false)
     }
 
-    /// The next line that the debugger is to read. Those before it are answered.
+    /// Reads lines up to one for the debugger, and answers the others. Returns false if the input ends without an LF.
     fn next_line(&mut self, debugger: &Debugger) -> Result<bool, Fault>
         ensures fault { IfErr result (λ fault. (fault ≡ Fault.Memory) ⊎ (fault ≡ Fault.Read)) }
     {
@@ -302,6 +301,7 @@ impl<'a, S: Source + Drop, K: Sink + Drop, E: Sink + Drop> Companion
 
     ghost has_failed = { λ g. g.failed };
 
+    /// Gives the debugger a person's next line, with numbers for names. Its bytes and its LF are taken off `reads`.
     fn next_line(
         &mut self,
         debugger: &Debugger,

@@ -14,6 +14,7 @@ use thread_machine::{Machine, Status};
 /// How many threads are named at most.
 const MOST_NAMED: usize = 8;
 
+/// Whether a thread waits at a phaser or a barrier.
 fn is_waiting(machine: &Machine, thread: u8) -> bool
     requires { thread < length machine.now.scene.threads }
 {
@@ -64,8 +65,7 @@ fn push_thread(
     text.extend_from_slice(b"\n")
 }
 
-/// Adds the lines of the threads that can go on, or of those that wait and can't. Of many only some are named. Returns how many
-/// there are.
+/// Appends the first eight threads that can go on, or that wait and can't, and how many more. Returns how many there are.
 fn push_threads(
     text: &mut Vec<u8>,
     symbols: &Symbols<'_>,

@@ -6,7 +6,7 @@ use itoa::Buffer;
 use line_reader::words::{is_blank, length_before};
 use std::alloc::{AllocError, Global};
 
-/// The number of what has this kind and is called so.
+/// The number of the thing of this kind and name: for a label that of its row.
 fn number_called(symbols: &Symbols<'_>, kind: OperandKind, name: &[u8]) -> Option<u16> {
     for index in 0..symbols.len() {
         let symbol = symbols.get(index)?;
@@ -17,8 +17,7 @@ fn number_called(symbols: &Symbols<'_>, kind: OperandKind, name: &[u8]) -> Optio
     None
 }
 
-/// Returns the letter and the number of the choice that a word names, if it has a declared name: `ann`, or `xann` for the
-/// expiry of her wait.
+/// Returns the letter and the number of the choice of a declared name: of `ann`, or of `xann`, the expiry of her wait.
 fn choice_called(symbols: &Symbols<'_>, word: &[u8]) -> Option<(u8, u16)> {
     if let Some(thread) = number_called(symbols, OperandKind::Thread, word) {
         return Some((b't', thread));
@@ -27,7 +26,7 @@ fn choice_called(symbols: &Symbols<'_>, word: &[u8]) -> Option<(u8, u16)> {
     Some((b'x', number_called(symbols, OperandKind::Thread, name)?))
 }
 
-/// Adds a choice, in which a name may stand before `*`.
+/// Appends a choice with a number for a thread's name: `t0*3` for `ann*3`. Other words stay as they are.
 fn push_choice(line: &mut Vec<u8>, symbols: &Symbols<'_>, word: &[u8]) -> Result<(), AllocError> {
     let (name, times) = word.split_at(length_before(b'*', word));
     match choice_called(symbols, name) {
@@ -40,7 +39,7 @@ fn push_choice(line: &mut Vec<u8>, symbols: &Symbols<'_>, word: &[u8]) -> Result
     }
 }
 
-/// Adds a row, which may be given by a label.
+/// Appends a row's number for a label. Other words stay as they are.
 fn push_row(line: &mut Vec<u8>, symbols: &Symbols<'_>, row: &[u8]) -> Result<(), AllocError> {
     match number_called(symbols, OperandKind::Target, row) {
         Some(number) => line.extend_from_slice(Buffer::new().format(number).as_bytes()),

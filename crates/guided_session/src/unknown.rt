@@ -103,15 +103,17 @@ fn wrong_word(alloc: Global, names: &[&[u8]], plan: &[u8]) -> Option<(WordPlace,
     None
 }
 
+/// Writes a line that begins with this label.
 fn push_line<E: Sink>(notes: &mut E, label: &[u8], text: &[u8]) -> Result<(), Failed> {
     push_pieces(notes, &[label, text, b"\n"])
 }
 
+/// Writes a line of help, behind two blanks.
 fn push_help<E: Sink>(notes: &mut E, helps: &str) -> Result<(), Failed> {
     push_line(notes, b"  ", helps.as_bytes())
 }
 
-/// Writes which threads there are.
+/// Writes the number of the last thread, for a choice of one that there isn't.
 pub fn push_threads<E: Sink>(notes: &mut E, count: usize) -> Result<(), Failed> {
     match count.checked_sub(1) {
         Some(last) => push_line(

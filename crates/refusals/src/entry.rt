@@ -1,4 +1,4 @@
-//! An entry of the table, and how it is written.
+//! An entry, which says what a line on standard error or another word means, and how it is written.
 ghost use Rattle.std.specs.Prelude.{IsTrue, OnErr, OnOk};
 ghost use Rattle.std.specs.List.{flat_map};
 ghost use Rattle.std.specs.Io.KnownBytes.{Appends};

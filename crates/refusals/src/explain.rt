@@ -1,4 +1,4 @@
-//! The command.
+//! The command `explain`: it writes the entry that words ask for, or else what can be asked.
 ghost use Rattle.std.specs.Prelude.{◌≡◌, ◌++◌, Ok, IsTrue, MatchOption, OnErr, OnOk, true, false};
 ghost use Rattle.std.specs.Io.KnownBytes.{Appends};
 ghost use Rattle.refusals.specs.declared.question.Question.{Question};

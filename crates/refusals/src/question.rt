@@ -1,4 +1,4 @@
-//! Which words ask for which entry.
+//! Which words ask for which entry: those that fit one of its patterns.
 ghost use Rattle.std.specs.Prelude.{◌≡◌, ℕ, Option, MatchOption, Some};
 ghost use Rattle.refusals.specs.declared.entry.Place.{Place};
 ghost use Rattle.refusals.specs.declared.question.Question.{Question};
@@ -16,7 +16,7 @@ pub struct Question {
     pub place: Option<Place>,
 }
 
-/// Whether a word of a pattern stands for the number of a place.
+/// Whether a word of a pattern stands for the number of a place: it begins with a blank.
 fn is_place(word: &str) -> bool
     ensures { result ≡ is_place word.now }
 {
@@ -26,7 +26,7 @@ fn is_place(word: &str) -> bool
     }
 }
 
-/// The number that digits alone spell.
+/// The number that digits alone spell. None for a sign, other signs, or too large a number.
 fn number(text: &str) -> Option<u64>
     ensures { MatchOption result ((n : ℕ) → Spells text.now n → ⊥) (Spells text.now) }
 {
@@ -51,7 +51,7 @@ fn place_told(asked: &'static str, word: &str) -> Option<Place>
     })
 }
 
-/// Returns the place that words have, if they have one, if they fit a pattern.
+/// Returns the place in words that fit a pattern, `Some(None)` if they have none. None if they don't fit.
 fn fitted(pattern: &[&'static str], words: &[&str]) -> Option<Option<Place>>
     ensures { MatchOption result ((place : Option Place) → Fits (texts pattern.now) (texts words.now) place → ⊥)
         (Fits (texts pattern.now) (texts words.now)) }
@@ -81,7 +81,7 @@ fn fitted(pattern: &[&'static str], words: &[&str]) -> Option<Option<Place>>
     }
 }
 
-/// Returns the place that words have, if they have one, by the first of several patterns that they fit.
+/// Returns what `fitted` does for the first of several patterns that words fit. None if they fit none.
 fn fitted_one(patterns: &[&'static [&'static str]], words: &[&str]) -> Option<Option<Place>>
     ensures { MatchOption result ((place : Option Place) → FitOne patterns.now (texts words.now) place → ⊥)
         (FitOne patterns.now (texts words.now)) }
@@ -95,7 +95,7 @@ fn fitted_one(patterns: &[&'static [&'static str]], words: &[&str]) -> Option<Op
     }
 }
 
-/// The first entry of a table that words ask for.
+/// The first entry of a table that words ask for, with their place. None if they ask for none.
 fn question_in(entries: &[Entry], words: &[&str]) -> Option<Question>
     ensures { MatchOption result ((q : Question) → AsksIn entries.now (texts words.now) q → ⊥)
         (AsksIn entries.now (texts words.now)) }
@@ -112,7 +112,7 @@ fn question_in(entries: &[Entry], words: &[&str]) -> Option<Question>
     }
 }
 
-/// The first entry of several tables that words ask for.
+/// The first entry of several tables that words ask for, with their place. None if they ask for none.
 fn question_among(tables: &[&[Entry]], words: &[&str]) -> Option<Question>
     ensures { MatchOption result ((q : Question) → AsksAmong tables.now (texts words.now) q → ⊥)
         (AsksAmong tables.now (texts words.now)) }

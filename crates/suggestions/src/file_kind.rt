@@ -9,15 +9,9 @@ const LONGEST: usize = 16_777_216;
 /// How many bytes of a file show whether it is binary.
 const BEGINNING: usize = 512;
 
-/// Returns whether these bytes are a schedule of some choices.
+/// Returns whether these bytes are a schedule with at least one choice, such as `t0 t1*3`.
 pub fn is_schedule(alloc: Global, bytes: &[u8]) -> bool {
-    if bytes.len() > LONGEST {
-        return false;
-    }
-    match read_schedule(alloc, bytes) {
-        Ok(runs) => !runs.is_empty(),
-        Err(_) => false,
-    }
+    bytes.len() <= LONGEST && read_schedule(alloc, bytes).is_ok_and(|runs| !runs.is_empty())
 }
 
 /// Returns whether these bytes are a trace, by how they begin: with a line of the first choice, or the state's.
@@ -25,14 +19,14 @@ pub fn is_trace(bytes: &[u8]) -> bool {
     bytes.starts_with(b"1 t") || bytes.starts_with(b"1 x") || bytes.starts_with(b"state ")
 }
 
-/// Returns whether these bytes are a program's text with a thread.
+/// Returns whether a line of these bytes begins with `.thread`, as one of each program does.
 pub fn is_whole_program(bytes: &[u8]) -> bool {
     bytes
         .split(|byte| *byte == b'\n')
         .any(|line| line.trim_ascii_start().starts_with(b".thread"))
 }
 
-/// Whether bytes are UTF-16, by how they begin: with a mark, or with letters of two bytes.
+/// Whether bytes are UTF-16: they begin with a byte order mark, or with two ASCII letters of two bytes.
 fn is_utf_16(bytes: &[u8]) -> bool {
     match bytes {
         [0xff, 0xfe, ..] | [0xfe, 0xff, ..] => true,
@@ -44,7 +38,7 @@ fn is_utf_16(bytes: &[u8]) -> bool {
     }
 }
 
-/// Returns what helps if a file isn't saved as ASCII, by how it begins: with a mark, or with letters of two bytes.
+/// Returns what helps if a file has a byte order mark, is UTF-16 or is binary. None for an ASCII text.
 pub fn helps_at_encoding(bytes: &[u8]) -> Option<&'static str> {
     if bytes.starts_with(&[0xef, 0xbb, 0xbf]) {
         Some("the file begins with a UTF-8 byte order mark (EF BB BF): save it without one")

@@ -8,13 +8,12 @@ use strsim::osa_distance;
 /// In how many letters two names differ at least if they aren't near.
 const FAR: usize = 3;
 
+/// The name up to its last dot, or the whole name if it has none.
 fn stem_of(name: &str) -> &str {
-    match name.rsplit_once('.') {
-        Some((stem, _)) => stem,
-        None => name,
-    }
+    name.rsplit_once('.').map_or(name, |(stem, _)| stem)
 }
 
+/// Whether a name ends as those of programs, texts or images, do.
 fn is_of_program(name: &str) -> bool {
     name.ends_with(".asm")
         || name.ends_with(".txt")
@@ -32,7 +31,7 @@ struct Nearest {
 }
 
 impl Nearest {
-    /// Takes another name than this one if it is nearer, or as near and before it in alphabetical order.
+    /// Takes `given` if it is nearer to `name` than the one so far, or as near and before that in alphabetical order.
     fn take(&mut self, alloc: Global, given: &str, name: &str) -> Result<(), AllocError> {
         let of_stem = osa_distance(alloc, stem_of(given), stem_of(name))?;
         let letters = osa_distance(alloc, given, name)?;
@@ -41,10 +40,10 @@ impl Nearest {
         } else {
             letters.saturating_add(given.len())
         };
-        let is_before = match &self.name {
-            Some(found) => given < found.as_str(),
-            None => false,
-        };
+        let is_before = self
+            .name
+            .as_ref()
+            .is_some_and(|found| given < found.as_str());
         let is_nearer = of_all < self.of_all || of_all == self.of_all && is_before;
         if given != name && (of_stem < self.of_stem || of_stem == self.of_stem && is_nearer) {
             self.of_stem = of_stem;
@@ -54,7 +53,7 @@ impl Nearest {
         Ok(())
     }
 
-    /// Takes the nearest of the names in a folder, if they can be read and there is memory for it.
+    /// Takes the nearest to `name` of a folder's entries. None if they can't be read, or there is no memory.
     fn take_entries(&mut self, alloc: Global, entries: ReadDir, name: &str) -> Option<()> {
         for entry in entries {
             self.take(alloc, entry.ok()?.file_name(), name).ok()?;
@@ -63,17 +62,14 @@ impl Nearest {
     }
 }
 
-/// Returns the file with a name that is nearest to one that can't be opened, if one is near.
+/// Returns the file that a path was meant as: PATH.asm, or the one of its folder with the nearest name. None if none is near.
 pub fn near_file(rt: &HostRuntime, path: &str) -> Option<String> {
     if let Ok(near) = format!(in rt.alloc(); "{path}.asm") {
         if fs::metadata(rt, near.as_str()).is_ok() {
             return Some(near);
         }
     }
-    let length = match path.rfind('/') {
-        Some(slash) => slash.saturating_add(1),
-        None => 0,
-    };
+    let length = path.rfind('/').map_or(0, |slash| slash.saturating_add(1));
     let folder = path.get(..length).unwrap_or("");
     let name = path.get(length..).unwrap_or(path);
     let mut nearest = Nearest {

@@ -1,10 +1,10 @@
-//! How a line of the language is written.
+//! How a line of the language is written: the form of a row, as `paaa REGISTER PHASER`, or of a directive.
 
 use crate::hint::{Hint, help};
 use refusals::word::word_entry;
 use std::alloc::{AllocError, Global};
 
-/// What the letter of an operand stands for, and an operand like that.
+/// What the letter of an operand in a form stands for, and an example: REGISTER and `r0` for `a`.
 fn operand(letter: &str) -> Option<(&'static str, &'static str)> {
     match letter {
         "a" => Some(("REGISTER", "r0")),
@@ -20,7 +20,7 @@ fn operand(letter: &str) -> Option<(&'static str, &'static str)> {
     }
 }
 
-/// Appends the words of a form, each operand as what it stands for, or as one like that.
+/// Appends the words of a form such as `ldi a n`: each letter as what it stands for, or as an example.
 fn push_each(text: &mut Vec<u8>, form: &str, is_example: bool) -> Result<(), AllocError> {
     for word in form.split_ascii_whitespace() {
         match operand(word) {
@@ -34,7 +34,7 @@ fn push_each(text: &mut Vec<u8>, form: &str, is_example: bool) -> Result<(), All
     Ok(())
 }
 
-/// Returns how a line is written that begins with this word, if the language has it: a row with an example, a directive as it stands.
+/// Returns the line `help: ..` with the form of a row or a directive, and of a row an example. None for other words.
 pub fn form_of(alloc: Global, word: &[u8]) -> Hint {
     let Some(entry) = word_entry(str::from_utf8(word).unwrap_or("")) else {
         return Ok(None);

@@ -1,4 +1,4 @@
-//! What helps a person, as a line.
+//! The line that helps a person: `help: TEXT`, or `near: NAME` with what may have been meant.
 
 use std::alloc::{AllocError, Global};
 
@@ -8,32 +8,29 @@ const MOST_NAMES: usize = 8;
 /// The line of what helps, or of what may have been meant, if there is something and there was memory for it.
 pub type Hint = Result<Option<Vec<u8>>, AllocError>;
 
-/// A line that begins with this word.
+/// The line that has this word before a text.
 fn hint(alloc: Global, word: &[u8], text: &[u8]) -> Hint {
     let mut line = Vec::from_slice(alloc, word)?;
     line.extend_from_slice(text)?;
     Ok(Some(line))
 }
 
-/// Returns the line of what helps.
+/// Returns the line `help: TEXT`.
 pub fn help(alloc: Global, text: &[u8]) -> Hint {
     hint(alloc, b"help: ", text)
 }
 
-/// Returns the line of what helps, if something does.
+/// Returns the line `help: TEXT`, or no line without a text.
 pub fn help_if_any(alloc: Global, text: Option<&str>) -> Hint {
-    match text {
-        Some(text) => help(alloc, text.as_bytes()),
-        None => Ok(None),
-    }
+    text.map_or(Ok(None), |text| help(alloc, text.as_bytes()))
 }
 
-/// Returns the line of what may have been meant.
+/// Returns the line `near: NAME`, which says what may have been meant.
 pub fn near(alloc: Global, name: &[u8]) -> Hint {
     hint(alloc, b"near: ", name)
 }
 
-/// Returns the line with these words, and the first of some names, if there are names.
+/// Returns a line of help: these words, and then the first eight names that aren't empty. None if there is no name.
 pub fn help_by_names(alloc: Global, words: &[u8], names: &[&[u8]]) -> Hint {
     let mut text = Vec::new(alloc);
     for name in names

@@ -54,10 +54,7 @@ static JAVA: [(&str, &str); 21] = [
         "int long boolean var final",
         "a thread has the registers r0 to r7, as in `ldi r0 3`; `.cell x` declares a cell that all threads share",
     ),
-    (
-        "atomicinteger",
-        "`.cell sum` declares a cell that all threads share",
-    ),
+    ("atomicinteger", "`.cell sum`: all threads share it"),
     (
         "semaphore countdownlatch latch mutex lock reentrantlock synchronized condition exchanger",
         "there are only phasers, barriers and cells: `.phaser p 2`, `.barrier b 2`, `.cell c`",
@@ -76,10 +73,7 @@ static JAVA: [(&str, &str); 21] = [
     ),
     ("nop", "there is no such row: leave it out"),
     ("label", "a label is a name with a colon, as in `main:`"),
-    (
-        "goto break continue",
-        "`jmp again` goes to the label `again:`",
-    ),
+    ("goto break continue", "`jmp again` jumps to `again:`"),
     (
         "return",
         "`halt` ends a thread; `ret` returns from a `call`, a routine or an action",
@@ -104,10 +98,7 @@ static JAVA: [(&str, &str); 21] = [
         "new",
         "no `new`: declare it, as in `.phaser p 2`, `.barrier b 2` or `.thread ann main`",
     ),
-    (
-        "onadvance",
-        "a routine is declared, as in `.phaser p 2 onadvance routine`",
-    ),
+    ("onadvance", "a routine, as in `.phaser p 2 onadvance r`"),
     (
         "public private static class void import package { }",
         "no classes and no braces: only declarations, labels and instructions",
@@ -118,7 +109,7 @@ static JAVA: [(&str, &str); 21] = [
     ),
 ];
 
-/// Returns what a table has for one of these words, in whatever letters.
+/// Returns what a table has beside this word, in large or small letters: each row has several words, and one text.
 pub fn found_in(table: &[(&'static str, &'static str)], word: &[u8]) -> Option<&'static str> {
     table
         .iter()
@@ -133,13 +124,11 @@ pub fn found_in(table: &[(&'static str, &'static str)], word: &[u8]) -> Option<&
 /// Returns the method's name alone, `arrive` of `p.arrive()`, or that of a class, `Phaser` of `Phaser(2)`.
 pub fn method_in(word: &[u8]) -> &[u8] {
     let call = &word[..length_before(b'(', word)];
-    match call.iter().rposition(|byte| *byte == b'.') {
-        Some(at) => call.get(at.saturating_add(1)..).unwrap_or(call),
-        None => call,
-    }
+    let at = call.iter().rposition(|byte| *byte == b'.');
+    at.map_or(call, |at| call.get(at.saturating_add(1)..).unwrap_or(call))
 }
 
-/// Whether a call has an argument, at least so far as a word goes, which ends at a blank.
+/// Whether a call has an argument, as far as the word goes, which ends at a blank: `await(5,` but not `await()`.
 fn has_argument(word: &[u8]) -> bool {
     match word.get(length_before(b'(', word).saturating_add(1)..) {
         Some([first, ..]) => *first != b')',
@@ -147,8 +136,7 @@ fn has_argument(word: &[u8]) -> bool {
     }
 }
 
-/// Returns the word of the language for the method that a word calls. `await` takes a time as its only argument, and
-/// `awaitAdvanceInterruptibly` as one that isn't the first.
+/// Returns the row or directive for the method that a word calls. `await` and `awaitAdvanceInterruptibly` may have a time.
 pub fn row_of(word: &[u8]) -> Option<&'static str> {
     match found_in(&METHODS, method_in(word))? {
         "cawait" if has_argument(word) => Some("cawaitt"),
@@ -157,7 +145,7 @@ pub fn row_of(word: &[u8]) -> Option<&'static str> {
     }
 }
 
-/// Returns what the language has in place of a word of Java: a declaration, rows, or nothing.
+/// Returns what helps at a word of Java that has no row of its own, such as `while`, `new` or `x++`.
 pub fn in_place_of(word: &[u8]) -> Option<&'static str> {
     if word.ends_with(b"++") || word.ends_with(b"--") {
         found_in(&JAVA, b"++")

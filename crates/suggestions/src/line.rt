@@ -4,7 +4,7 @@ use line_reader::label::is_label;
 use line_reader::words::{before_comment, is_blank};
 use std::alloc::{AllocError, Global};
 
-/// Returns the words of a line.
+/// Returns the words of a line, up to its comment.
 pub fn words_of(alloc: Global, line: &[u8]) -> Result<Vec<&[u8]>, AllocError> {
     let mut words = Vec::new(alloc);
     for word in before_comment(line).split(|byte| is_blank(*byte)) {
@@ -15,7 +15,7 @@ pub fn words_of(alloc: Global, line: &[u8]) -> Result<Vec<&[u8]>, AllocError> {
     Ok(words)
 }
 
-/// Returns the word of this number, from 0.
+/// Returns the word of this number, from 0, of a line up to its comment.
 pub fn word(line: &[u8], number: usize) -> Option<&[u8]> {
     before_comment(line)
         .split(|byte| is_blank(*byte))
@@ -23,7 +23,7 @@ pub fn word(line: &[u8], number: usize) -> Option<&[u8]> {
         .nth(number)
 }
 
-/// Returns the word that a line says something with, its first or the one after its label, or an empty one.
+/// Returns the row's or the directive's word of a line: its first, or the one after its label. It is empty if there is none.
 pub fn first_word(line: &[u8]) -> &[u8] {
     match word(line, 0) {
         Some(first) if !is_label(first) => first,

@@ -1,4 +1,4 @@
-//! What a line may have been meant as, if that is more than its fault's entry says.
+//! What helps at the wrong word of a program's line, if that is more than the entry of its fault says (`refusals`).
 
 use crate::file_kind::{helps_at_encoding, is_schedule};
 use crate::java::{in_place_of, row_of};
@@ -17,17 +17,21 @@ const AT_COMMA: &str = "no commas: put blanks between operands, as in `paaa r0 p
 const AT_THREAD: &str =
     "a line declares one thread, by its name and the label where it begins: `.thread ann main`";
 
+const AT_COLON: &str = "a label has a colon only in its own line: `.thread ann main`, `main: halt`";
+
 const AT_EQUALS: &str = "no `=`: as in `.phaser p 2` and `ldi r0 5`";
 
+/// Whether one of these words has this byte.
 fn have(words: &[&[u8]], byte: u8) -> bool {
     words.iter().any(|word| word.contains(&byte))
 }
 
-/// Whether a word begins a comment of other languages where `#` and a number may be, too.
+/// Whether a word begins a comment of other languages, and isn't an operand such as `#0`.
 fn begins_other_comment(word: &[u8]) -> bool {
     has_comment_sign(word) && !matches!(word, [b'#', b'0'..=b'9', ..])
 }
 
+/// Whether a word has digits and `-` alone, and isn't empty.
 fn is_number(word: &[u8]) -> bool {
     !word.is_empty()
         && word
@@ -35,11 +39,12 @@ fn is_number(word: &[u8]) -> bool {
             .all(|byte| byte.is_ascii_digit() || *byte == b'-')
 }
 
+/// Whether a row or a directive begins with this word.
 fn is_word_of_the_language(word: &[u8]) -> bool {
     shape_of(word).is_some() || is_directive(word)
 }
 
-/// Whether a line of a text has this word behind another one.
+/// Whether a line of a text has this word, but not as its first.
 fn is_operand(text: &[u8], word: &[u8]) -> bool {
     text.split(|byte| *byte == b'\n').any(|line| {
         word_in(line, 0) != Some(word)
@@ -55,7 +60,7 @@ fn declares(text: &[u8], directive: &[u8], name: &[u8]) -> bool {
         && word_in(line, 1) == Some(name))
 }
 
-/// The word after the one that is `=`, if a line has one.
+/// The word after the word `=`, if a line has one: `5` of `r0 = 5`.
 fn word_assigned<'a>(words: &[&'a [u8]]) -> Option<&'a [u8]> {
     words
         .iter()
@@ -64,8 +69,8 @@ fn word_assigned<'a>(words: &[&'a [u8]]) -> Option<&'a [u8]> {
         .copied()
 }
 
-/// Returns the row that a word or a line was meant as: the row of the method that it calls, or whose result it assigns, or the row
-/// that it writes as a call.
+/// Returns the row that a line of Java means: that of the method whose result it assigns (`r = p.arrive()`) or that the word
+/// calls, or the row that the word writes as a call (`parr(r0)`).
 pub fn row_meant(alloc: Global, line: &[u8], word: &[u8]) -> Option<&'static str> {
     if let Some(assigned) = word_assigned(words_of(alloc, line).ok()?.as_slice()) {
         return row_of(assigned);
@@ -89,7 +94,7 @@ fn in_place_of_made(words: &[&[u8]]) -> Option<&'static str> {
         .next()
 }
 
-/// Returns what helps if a line is one of Java's. One that calls a method has the form of its row.
+/// Returns what helps if a line is one of Java's. None if it assigns the result of a method: the form of that row helps.
 fn helps_at_java_line(words: &[&[u8]], word: &[u8]) -> Option<&'static str> {
     let assigned = word_assigned(words);
     if assigned.is_some_and(|assigned| row_of(assigned).is_some()) {
@@ -105,7 +110,7 @@ fn helps_at_java_line(words: &[&[u8]], word: &[u8]) -> Option<&'static str> {
     }
 }
 
-/// Returns what helps if no word of the language begins the line. The word behind it counts if this one is the first.
+/// Returns what helps at the word in the place of a row's or a directive's, if it is none. `words` are those of its line.
 fn helps_at_word(alloc: Global, text: &[u8], words: &[&[u8]], word: &[u8]) -> Option<&'static str> {
     let behind = match words {
         [first, second, ..] if *first == word => *second,
@@ -139,7 +144,7 @@ fn helps_at_word(alloc: Global, text: &[u8], words: &[&[u8]], word: &[u8]) -> Op
     }
 }
 
-/// What helps at a sign that other languages have in a word of a line whose statement begins with this word.
+/// What helps at a comma or a quotation mark in a word of a line; `first` is its row's or directive's word.
 fn helps_at_sign(first: &[u8], word: &[u8]) -> Option<&'static str> {
     if word.ends_with(b",") && first == b".thread".as_slice() {
         Some(AT_THREAD)
@@ -152,22 +157,22 @@ fn helps_at_sign(first: &[u8], word: &[u8]) -> Option<&'static str> {
     }
 }
 
+/// Whether a line of a text has an instruction.
 fn has_row(text: &[u8]) -> bool {
     text.split(|byte| *byte == b'\n')
         .any(|line| shape_of(first_word(line)).is_some())
 }
 
+/// What helps if one of these words has a `=`.
 fn helps_at_equals(words: &[&[u8]]) -> Option<&'static str> {
-    if have(words, b'=') {
-        Some(AT_EQUALS)
-    } else {
-        None
-    }
+    have(words, b'=').then_some(AT_EQUALS)
 }
 
-/// What helps if a line whose statement begins with this word has too few or too many operands.
+/// What helps if a line has too few or too many operands; `first` is its row's or directive's word.
 fn helps_at_count(first: &[u8], words: &[&[u8]]) -> Option<&'static str> {
-    if first == b".thread".as_slice() {
+    if first == b".thread".as_slice() && have(words, b':') {
+        Some(AT_COLON)
+    } else if first == b".thread".as_slice() {
         Some(AT_THREAD)
     } else if first == b".cell".as_slice() {
         Some("a cell has only a name, and begins at 0: `.cell total`")
@@ -187,6 +192,7 @@ fn helps_at_count(first: &[u8], words: &[&[u8]]) -> Option<&'static str> {
     }
 }
 
+/// What helps at a word that is no register: it is a cell or a number, or the line has a `=`.
 fn helps_at_register(text: &[u8], words: &[&[u8]], word: &[u8]) -> Option<&'static str> {
     if declares(text, b".cell", word) {
         Some("`lds r0 c` reads the cell c into r0, and `sts r0 c` writes r0 to it")
@@ -199,6 +205,7 @@ fn helps_at_register(text: &[u8], words: &[&[u8]], word: &[u8]) -> Option<&'stat
     }
 }
 
+/// What helps at a word that can't be a name: a brace, a label with its colon, a number, or other signs.
 fn helps_at_no_name(words: &[&[u8]], word: &[u8]) -> Option<&'static str> {
     let is_in_place_of_name = match words {
         [first, name, ..] => is_directive(*first) && *name == word,
@@ -207,7 +214,7 @@ fn helps_at_no_name(words: &[&[u8]], word: &[u8]) -> Option<&'static str> {
     if word == b"{".as_slice() {
         Some("no braces: `try failed` names the label of the handler, and `endtry` ends it")
     } else if word.ends_with(b":") && words.iter().skip(1).any(|operand| *operand == word) {
-        Some("a label has a colon only in its own line: `.thread ann main`, `main: halt`")
+        Some(AT_COLON)
     } else if is_number(word) && is_in_place_of_name {
         Some("a declaration begins with its name, as in `.phaser p 2`")
     } else if is_in_place_of_name {
@@ -219,6 +226,7 @@ fn helps_at_no_name(words: &[&[u8]], word: &[u8]) -> Option<&'static str> {
     }
 }
 
+/// What helps at a fault of this kind at `word`; `first` is the row's or directive's word of its line.
 fn helps_at_kind(
     text: &[u8],
     kind: AsmFaultKind,
@@ -228,9 +236,15 @@ fn helps_at_kind(
 ) -> Option<&'static str> {
     match kind {
         AsmFaultKind::OperandCount => helps_at_count(first, words),
+        AsmFaultKind::BadRegister if first == b"mov".as_slice() && is_number(word) => Some(
+            "`mov` copies a register: `ldi r0 5` puts a number into one",
+        ),
         AsmFaultKind::BadRegister => helps_at_register(text, words, word),
         AsmFaultKind::BadNumber if matches!(word, [b'0'..=b'9' | b'#' | b'+', ..]) => Some(
             "decimal digits alone, with a `-` before them if the number is below 0: `ldi r0 -16`",
+        ),
+        AsmFaultKind::BadNumber if first.starts_with(b".") && !have(words, b'=') => Some(
+            "a number is written in digits, as in `.phaser p 2`",
         ),
         AsmFaultKind::BadOption if has_comment_sign(word) => Some(AT_COMMENT),
         AsmFaultKind::BadNumber | AsmFaultKind::BadOption => helps_at_equals(words),
@@ -246,7 +260,7 @@ fn helps_at_kind(
     }
 }
 
-/// Returns what helps at this word of a line.
+/// Returns what helps at the wrong `word` of `line`, which is that of this number in `text`. None if its entry says enough.
 pub fn helps_at(
     alloc: Global,
     text: &[u8],

@@ -19,16 +19,16 @@ struct Given<'a> {
     kind: OperandKind,
 }
 
-/// Returns a thing of this kind, with its article.
-pub fn called(kind: OperandKind) -> &'static str {
+/// Returns a thing of this kind with its article, as `a cell`, and a line of a program that gives one its name or has one.
+pub fn called(kind: OperandKind) -> (&'static str, &'static str) {
     match kind {
-        OperandKind::Target => "a label",
-        OperandKind::Phaser => "a phaser",
-        OperandKind::Barrier => "a barrier",
-        OperandKind::Thread => "a thread",
-        OperandKind::Cell => "a cell",
-        OperandKind::Register => "a register",
-        OperandKind::Number => "a number",
+        OperandKind::Target => ("a label", "main: halt"),
+        OperandKind::Phaser => ("a phaser", ".phaser p 2"),
+        OperandKind::Barrier => ("a barrier", ".barrier b 2"),
+        OperandKind::Thread => ("a thread", ".thread ann main"),
+        OperandKind::Cell => ("a cell", ".cell x"),
+        OperandKind::Register => ("a register", "out r0"),
+        OperandKind::Number => ("a number", "ldi r0 5"),
     }
 }
 
@@ -66,7 +66,7 @@ fn name_given(line: &[u8]) -> Option<Given<'_>> {
     })
 }
 
-/// Returns the names that a text gives to things of a kind, or to all that have a line in the state.
+/// Returns the names that a text gives to things of this kind, or without a kind to all that have a line in the state.
 pub fn names_in(
     alloc: Global,
     text: &[u8],
@@ -94,7 +94,7 @@ pub fn first_line(text: &[u8], name: &[u8]) -> Option<u64> {
 /// How many letters a method's name has at least that may be misspelt.
 const LEAST: usize = 5;
 
-/// Returns the row of a method of Java that has a letter of the rows before it, as in `parrive`.
+/// Returns the row of a method of Java behind the first letter of its rows: `parr` for `parrive`.
 fn row_of_method_behind(word: &[u8]) -> Option<&'static str> {
     match word {
         [b'p' | b'c' | b'b', method @ ..] if method.len() >= LEAST => row_of(method),
@@ -102,7 +102,7 @@ fn row_of_method_behind(word: &[u8]) -> Option<&'static str> {
     }
 }
 
-/// Returns the word of the language that is nearest to this one: a row's, a directive's, or the row for a method of Java.
+/// Returns the row's or directive's word that is nearest to this one, or the row for the method of Java that is.
 pub fn nearest_word(alloc: Global, word: &[u8]) -> Result<Nearest<'static>, AllocError> {
     if let Some(row) = row_of_method_behind(word) {
         return Ok(Nearest {
@@ -131,7 +131,7 @@ pub fn nearest_word(alloc: Global, word: &[u8]) -> Result<Nearest<'static>, Allo
     Ok(nearest)
 }
 
-/// Returns the word that asks for an entry, or begins a line of the language, and is nearest to this one.
+/// Returns the word that is nearest to this one, of those that `explain` knows.
 pub fn nearest_question(alloc: Global, word: &[u8]) -> Result<Nearest<'static>, AllocError> {
     let mut nearest = nearest_word(alloc, word)?;
     for table in tables().iter() {
@@ -146,6 +146,7 @@ pub fn nearest_question(alloc: Global, word: &[u8]) -> Result<Nearest<'static>, 
     Ok(nearest)
 }
 
+/// The form of a directive, as `.barrier NAME PARTIES [action L]`.
 fn form_of(directive: &str) -> &'static [u8] {
     word_entry(directive).map_or(b"", |entry| entry.form.as_bytes())
 }
@@ -158,8 +159,7 @@ pub fn has_option(directive: &str, word: &[u8]) -> bool {
             .any(|option| option == word)
 }
 
-/// Returns the option of a directive that is nearest to this word, if another one is near. `action` and `onadvance` mean each other
-/// where only the other one may be said.
+/// Returns the option of a directive that is near to this word. `action` and `onadvance` mean each other where one isn't allowed.
 pub fn nearest_option(
     alloc: Global,
     directive: &str,

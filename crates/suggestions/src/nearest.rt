@@ -1,4 +1,4 @@
-//! The nearest of several names.
+//! The nearest of several names, by how many letters differ. If too many do, a name isn't near at all.
 
 ghost use Rattle.std.specs.Prelude.{◌≡◌, ◌⊎◌, ◌<◌, IfOk, Some};
 
@@ -14,8 +14,8 @@ pub fn in_small_letters(alloc: Global, word: &[u8]) -> Result<Vec<u8>, AllocErro
     Ok(small)
 }
 
-/// How far two names are from each other, in letters that are changed, left out, added, or have changed places. Large and small
-/// letters are the same.
+/// In how many letters two names differ that are changed, left out, added, or have changed places. Large and small letters are
+/// the same. Bytes that are no UTF-8 are as far as can be.
 fn distance(alloc: Global, a: &[u8], b: &[u8]) -> Result<usize, AllocError> {
     let a = in_small_letters(alloc, a)?;
     let b = in_small_letters(alloc, b)?;
@@ -33,7 +33,7 @@ pub struct Nearest<'a> {
 }
 
 impl<'a> Nearest<'a> {
-    /// None so far: to be near a word at all, more than half of its letters have to be right, or one of two.
+    /// None so far. Near is a name with fewer than `far` wrong letters: at most one in two to four, two in more.
     pub fn to(word: &[u8]) -> Nearest<'a> {
         Nearest {
             meant: None,
@@ -41,8 +41,7 @@ impl<'a> Nearest<'a> {
         }
     }
 
-    /// Returns what a name means if the name is nearer to a word than what was found before. Of names that are equally near, the
-    /// first one counts.
+    /// Returns what a name means if it is nearer to a word than the one before, or else that. Of names as near the first counts.
     pub fn or(
         self,
         alloc: Global,
@@ -68,7 +67,7 @@ impl<'a> Nearest<'a> {
 /// How many letters a word has at most that is near only to a name that no other is as near as.
 const SHORT: usize = 3;
 
-/// Returns the nearest of these names.
+/// Returns the nearest of these names. For a word of up to three letters there is none if two are as near.
 pub fn nearest_of<'a>(
     alloc: Global,
     names: &[&'a [u8]],

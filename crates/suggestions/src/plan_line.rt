@@ -8,7 +8,7 @@ use plans::fault::PlanFaultKind;
 use plans::read_plan;
 use std::alloc::{AllocError, Global};
 
-/// Returns the places of the words of a plan's line.
+/// Returns where the words of a plan's line are, up to its comment.
 pub fn word_places(alloc: Global, line: &[u8]) -> Result<Vec<WordPlace>, AllocError> {
     let text = before_comment(line);
     let mut places = Vec::new(alloc);
@@ -25,7 +25,7 @@ pub fn word_places(alloc: Global, line: &[u8]) -> Result<Vec<WordPlace>, AllocEr
     Ok(places)
 }
 
-/// Returns what is wrong with a word of a plan by itself, for threads of these names. A parenthesis alone isn't wrong.
+/// Returns what is wrong with a word of a plan by itself, for threads of these names. None for a parenthesis.
 pub fn fault_of_word(alloc: Global, names: &[&[u8]], word: &[u8]) -> Option<PlanFaultKind>
     requires { length names.now ≤ 64 }
 {

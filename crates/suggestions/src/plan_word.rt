@@ -1,4 +1,4 @@
-//! What a word of a plan may have been meant as, if that is more than its fault says.
+//! What helps at a wrong word of a plan, if that is more than the entry of its fault says (`refusals`).
 
 use crate::java::found_in;
 use crate::nearest::nearest_of;
@@ -16,6 +16,9 @@ const AT_SEED: &str = "`?7`, without a blank, plays any thread that can continue
 
 const AT_COUNTED_DOT: &str = "a dot has no count: `ann*3`, or `( ann. )*3`";
 
+/// What helps at a choice that is written otherwise, as `T0` and `xt0`.
+pub const AT_TURN: &str = "a turn of thread 0 is `t0`, and the expiry of its timed wait `x0`";
+
 /// The bytes of the sign that is three dots.
 const ELLIPSIS: [u8; 3] = [0xe2, 0x80, 0xa6];
 
@@ -24,7 +27,7 @@ pub fn has_comment_sign(word: &[u8]) -> bool {
     word.starts_with(b"#") || word.starts_with(b"//") || word.starts_with(b"/*")
 }
 
-/// What helps if a count, a comma or a comment is wrong, by the byte before the word.
+/// What helps at a word that no plan has, for a comment, a comma or a count; `before` is the byte before it.
 fn helps_at_count(word: &[u8], before: Option<u8>) -> Option<&'static str> {
     let count = word.get(..length_before(b'*', word)).unwrap_or(word);
     if has_comment_sign(word) {
@@ -44,6 +47,7 @@ fn helps_at_count(word: &[u8], before: Option<u8>) -> Option<&'static str> {
     }
 }
 
+/// What helps at a word that no plan has, for its dots.
 fn helps_at_dots(word: &[u8]) -> Option<&'static str> {
     let behind = word.get(length_before(b'.', word).saturating_add(1)..)?;
     if word == b".".as_slice() {
@@ -80,20 +84,14 @@ fn helps_at_star(word: &[u8]) -> Option<&'static str> {
 
 /// Words that people write in plans, and what helps there.
 static NO_NAMES: [(&str, &str); 5] = [
-    (
-        "x",
-        "no blank behind x: `xann` is the expiry of ann's timed wait",
-    ),
-    (
-        "until",
-        "`ann.` plays ann until it waits, has ended or has died",
-    ),
+    ("x", "no blank: `xann` is the expiry of ann's wait"),
+    ("until", "`ann.` plays ann until it waits, ends or dies"),
     ("then and", "put only blanks between the words of a plan"),
     ("seed random", AT_SEED),
     ("all each every", "`..` plays all threads in turn"),
 ];
 
-/// Returns what helps at a word of a plan, by what is wrong with it and the byte before it.
+/// Returns what helps at a wrong word of a plan, by its fault and the byte before it. None if its entry says enough.
 pub fn helps_at(kind: PlanFaultKind, word: &[u8], before: Option<u8>) -> Option<&'static str> {
     match kind {
         PlanFaultKind::BadWord if word.starts_with(&ELLIPSIS) => Some(
@@ -104,7 +102,7 @@ pub fn helps_at(kind: PlanFaultKind, word: &[u8], before: Option<u8>) -> Option<
         PlanFaultKind::BadSeed if word == b"?".as_slice() => Some(AT_SEED),
         PlanFaultKind::NotNamed => match word {
             [b'T' | b'X', digits @ ..] | [b'x', b't', digits @ ..] if are_digits(digits) => Some(
-                "a turn of thread 0 is `t0`, and the expiry of its timed wait `x0`",
+                AT_TURN,
             ),
             _ => found_in(&NO_NAMES, word),
         },
@@ -112,8 +110,7 @@ pub fn helps_at(kind: PlanFaultKind, word: &[u8], before: Option<u8>) -> Option<
     }
 }
 
-/// Returns the choice that may have been meant by a word that no thread of these names has: an `x` if it is an expiry, the nearest
-/// name, and the dot or count behind it.
+/// Returns the choice that is near to an unknown one: `x` of an expiry, the nearest of these names, and the dot or count.
 pub fn near_choice(
     alloc: Global,
     names: &[&[u8]],

@@ -8,11 +8,12 @@ use byte_ports::{Failed, Sink};
 use line_reader::label::is_label;
 use refusals::entries::tables;
 use refusals::entry::push_pieces;
+use refusals::explain::{NO_LINE, QUESTIONS};
 use refusals::table::directive::DIRECTIVES;
 use refusals::word::word_entry;
 use std::alloc::{AllocError, Global};
 
-/// The word of the language that has another name, too: in large letters, Java's, or an option of a directive.
+/// The row or directive that is meant by a word in large letters, a method of Java, or an option of a directive.
 fn word_meant(alloc: Global, word: &str) -> Result<Option<&'static str>, AllocError> {
     let small = in_small_letters(alloc, word.as_bytes())?;
     let small = small.as_slice();
@@ -28,7 +29,7 @@ fn word_meant(alloc: Global, word: &str) -> Result<Option<&'static str>, AllocEr
     )
 }
 
-/// The words that ask for the entry of the kind or the exception of this name, or that this word asks for in other letters.
+/// The words that ask for an entry whose kind has this name, as `UnknownWord`, or that ask for it in other letters.
 fn asked_by(name: &str) -> Option<&'static [&'static str]> {
     for table in tables().iter() {
         for entry in table.iter() {
@@ -48,7 +49,7 @@ fn asked_by(name: &str) -> Option<&'static [&'static str]> {
     None
 }
 
-/// Returns the words that ask for what was meant by words that ask for nothing, or none if that isn't known.
+/// Returns the words of an entry that was meant by words that ask for none, or no word if that isn't known.
 pub fn words_sought(alloc: Global, words: &[&str]) -> Result<Vec<&'static str>, AllocError> {
     let meant = match words {
         [word] => word_meant(alloc, *word)?,
@@ -67,20 +68,33 @@ pub fn words_sought(alloc: Global, words: &[&str]) -> Result<Vec<&'static str>, 
     }
 }
 
-/// Writes what is near to a word that asks for nothing.
-pub fn push_near_question<E: Sink>(
+/// Whether a line of `QUESTIONS` begins with this word, behind `explain`, or is that of exceptions, and this is the name of one.
+fn is_about(question: &str, word: &str) -> bool {
+    let asked = question.split_ascii_whitespace().nth(1).unwrap_or("");
+    asked == word || asked == "exception" && word.ends_with("Exception")
+}
+
+/// Writes that no line has these words, and which questions they are near to: lines that begin like them, or the word that is
+/// nearest to a single one, or else all lines.
+pub fn push_near_questions<E: Sink>(
     alloc: Global,
     errors: &mut E,
-    word: &str,
+    words: &[&str],
 ) -> Result<(), Failed> {
-    if word.ends_with("Exception") {
-        return errors.push(b"Near: exception 1 .. exception 5\n");
+    errors.push(NO_LINE)?;
+    let mut is_found = false;
+    for question in QUESTIONS.split('\n') {
+        if words.iter().any(|word| is_about(question, *word)) {
+            push_pieces(errors, &[question.as_bytes(), b"\n"])?;
+            is_found = true;
+        }
     }
-    match nearest_question(alloc, word.as_bytes()) {
-        Ok(nearest) => match nearest.meant {
-            Some(near) => push_pieces(errors, &[b"Near: ", near, b"\n"]),
-            None => Ok(()),
+    match words {
+        _ if is_found => Ok(()),
+        [word] => match nearest_question(alloc, word.as_bytes()).map_or(None, |near| near.meant) {
+            Some(near) => push_pieces(errors, &[b"explain ", near, b"\n"]),
+            None => errors.push(QUESTIONS.as_bytes()),
         },
-        Err(_) => Ok(()),
+        _ => errors.push(QUESTIONS.as_bytes()),
     }
 }

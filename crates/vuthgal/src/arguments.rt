@@ -1,4 +1,4 @@
-//! The arguments of the command line, and why they ask for nothing.
+//! The arguments of the command line, and what is reported if they ask for no command.
 ghost use Rattle.std.specs.Prelude.{IfOk};
 ghost use Rattle.command_line.specs.Request.{IsInRange};
 
@@ -13,6 +13,7 @@ use fault_reports::report::Report;
 use std::alloc::AllocError;
 use std::env::{Env, FillError};
 use std::fs;
+use suggestions::java::found_in;
 use thiserror::Error;
 use workbench::fault::Fault;
 
@@ -25,6 +26,19 @@ const LONGEST_WORD: usize = 131_072;
 /// What helps where a plan or a STATE lacks quotes.
 const QUOTES: &str =
     "help: quote a plan and a STATE that have blanks: `--plan 'ann. bob.' --expect 'ann out 1'`\n";
+
+/// Options that people write, and what there is in their place.
+static OPTIONS: [(&str, &str); 3] = [
+    ("--threads --thread", "help: `race` has `--parties N`\n"),
+    (
+        "--seed",
+        "help: `live` has `--stir SEED`, and `plan` has `--seeds FROM..TO`\n",
+    ),
+    (
+        "-o --output",
+        "help: `> FILE` behind the command writes its output to a file\n",
+    ),
+];
 
 /// The status if the arguments are wrong.
 const WRONG_WORDS: u8 = 2;
@@ -45,14 +59,13 @@ impl From<AllocError> for NoCommand {
     }
 }
 
-/// One word more.
+/// Appends a copy of a word.
 fn push_word(rt: &HostRuntime, words: &mut Vec<String>, word: &str) -> Result<(), AllocError> {
     words.push(String::from_str(rt.alloc(), word)?)?;
     Ok(())
 }
 
-/// Returns the program's name and its words: a word may be no text. The name that it was called by isn't looked at, so the name
-/// of its folder may be any.
+/// Returns the arguments behind a fixed name of the program, whatever it was called by. One that isn't UTF-8 is an error.
 pub fn given(rt: &HostRuntime) -> Result<Vec<String>, NoCommand> {
     let mut words = Vec::new(rt.alloc());
     push_word(rt, &mut words, NAME)?;
@@ -103,7 +116,7 @@ fn push_text(rt: &HostRuntime, text: Result<String, AllocError>) {
     }
 }
 
-/// Whether these words have a plan or a STATE without quotes: another word follows its first.
+/// Whether a plan or a STATE has no quotes: an option for one has two words behind it, or another word ends with a dot.
 fn lack_quotes(words: &[String]) -> bool {
     let mut before = 0;
     for word in words {
@@ -120,7 +133,7 @@ fn lack_quotes(words: &[String]) -> bool {
     false
 }
 
-/// Says what may have been meant: a file is no command, and texts with blanks are quoted.
+/// Says what may have been meant: a file is no command, texts with blanks are quoted, and options have names.
 fn push_way(rt: &HostRuntime, kind: ErrorKind, words: &[String]) {
     let [_, word, ..] = words else {
         return;
@@ -135,6 +148,12 @@ fn push_way(rt: &HostRuntime, kind: ErrorKind, words: &[String]) {
         );
     } else if kind != ErrorKind::InvalidSubcommand && lack_quotes(words) {
         push_text(rt, String::from_str(rt.alloc(), QUOTES));
+    } else if kind == ErrorKind::UnknownArgument {
+        for word in words {
+            if let Some(line) = found_in(&OPTIONS, word.as_bytes()) {
+                return push_text(rt, String::from_str(rt.alloc(), line));
+            }
+        }
     }
 }
 

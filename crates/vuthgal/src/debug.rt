@@ -1,4 +1,4 @@
-//! Sessions of the debugger.
+//! The command `debug`: sessions of a person at a terminal, or of another program.
 ghost use Rattle.workbench.specs.ProgramFile.{IsNamedProgram};
 
 use crate::input::{self, Stream};
@@ -27,8 +27,7 @@ use workbench::done::{Done, as_asked};
 use workbench::ending::flushed;
 use workbench::fault::{Fault, push_counted_line};
 
-/// Carries out commands on an image's program, after runs of choices if there are some. Nothing is kept back: standard output
-/// is flushed at each line's end.
+/// Carries out commands on an image's program, after runs of choices if there are some. Each line is written at once.
 fn session<C: Companion>(
     report: &Report<'_>,
     file: ProgramFile<'_>,
@@ -49,7 +48,7 @@ fn session<C: Companion>(
     ))
 }
 
-/// The commands on standard input, as they are needed.
+/// Returns the lines of standard input, read a block at a time.
 fn commands<'a>(report: &'a Report<'_>) -> Result<BlockSource<ReadPort<Stream<'a>>>, Reported> {
     BlockSource::new(report.alloc(), ReadPort::new(input::standard(report))).map_err(
         |_| report.fault(Fault::Memory),
@@ -155,8 +154,7 @@ fn greet(report: &Report<'_>, program: &Program<'_>) -> Result<(), Reported>
     Ok(())
 }
 
-/// Carries out the commands on standard input on the program in a file, after the choices that the arguments name. A person at
-/// a terminal is guided.
+/// Carries out the commands on standard input on a file's program, after these choices. A person at a terminal is guided.
 pub fn debug(report: &Report<'_>, name: &str, steps: Steps<'_>) -> Result<Done, Reported> {
     let (bytes, steps) = opened(report, Some(name), steps)?;
     let file = ProgramFile::whole(name, bytes.as_slice());

@@ -1,4 +1,4 @@
-//! Whether a run ended as expected.
+//! Whether a run ended as each `--expect STATE` says, and what is reported if it didn't.
 
 ghost use Rattle.std.specs.Prelude.{◌≡◌};
 ghost use Rattle.vuthgal.specs.Expectation.{are_as_expected, done_by};
@@ -6,6 +6,7 @@ ghost use Rattle.vuthgal.specs.Expectation.{are_as_expected, done_by};
 use assembler::Symbols;
 use byte_ports::{Failed, Sink, WritePort};
 use command_line::ports::printable;
+use command_line::request::spaced;
 use fault_reports::report::{Report, Reported};
 use itoa::Buffer;
 use refusals::entry::push_pieces;
@@ -15,7 +16,7 @@ use suggestions::names::{letter_of, names_in};
 use suggestions::nearest::nearest_of;
 use thread_machine::Standing;
 use trace_text::RunEnd;
-use trace_text::form::{end_words, subject_of};
+use trace_text::form::{end_words, subject_of, words_of};
 use trace_text::meeting::{is_end_expected, is_met};
 use trace_text::state_line::{has_died, line_of};
 use workbench::done::Done;
@@ -38,19 +39,15 @@ fn push_subject(text: &mut Vec<u8>, symbols: &Symbols<'_>, name: &[u8]) -> Resul
     text.extend_from_slice(name)
 }
 
-/// Returns what is expected, with numbers instead of names, and one blank between words.
-fn numbered(alloc: Global, symbols: &Symbols<'_>, text: &str) -> Result<Vec<u8>, AllocError> {
-    let mut numbered = Vec::new(alloc);
-    for word in text.split_ascii_whitespace() {
-        if !numbered.is_empty() {
-            numbered.push(b' ')?;
-            numbered.extend_from_slice(word.as_bytes())?;
-        } else if end_words(text.as_bytes()).is_some() {
-            numbered.extend_from_slice(word.as_bytes())?;
-        } else {
-            push_subject(&mut numbered, symbols, word.as_bytes())?;
-        }
+/// Returns a STATE with the word of its object's line instead of a name, as `t0 waits` for `ann waits`, and single blanks.
+fn numbered(alloc: Global, symbols: &Symbols<'_>, state: &str) -> Result<Vec<u8>, AllocError> {
+    let text = spaced(alloc, state)?;
+    if end_words(text.as_slice()).is_some() {
+        return Ok(text);
     }
+    let mut numbered = Vec::new(alloc);
+    push_subject(&mut numbered, symbols, subject_of(text.as_slice()))?;
+    numbered.extend_from_slice(words_of(text.as_slice()))?;
     Ok(numbered)
 }
 
@@ -73,7 +70,7 @@ pub fn expectations(
     Ok(expected)
 }
 
-/// Whether it ended as all of these texts expect.
+/// Whether a run ended as each of these texts expects.
 fn are_as_expected(expected: &[Vec<u8>], end: &RunEnd) -> bool
     ensures { result ≡ are_as_expected expected.now end.now }
 {
@@ -82,7 +79,7 @@ fn are_as_expected(expected: &[Vec<u8>], end: &RunEnd) -> bool
         .all(|text| is_end_expected(end, text.as_slice()))
 }
 
-/// Returns the result of a command whose run ended so.
+/// Returns the result of a command: `Unlike`, with status 1, if its run didn't end as expected.
 pub fn as_expected(expected: &[Vec<u8>], end: &RunEnd) -> Done
     ensures { result ≡ done_by (are_as_expected expected.now end.now) }
 {
@@ -164,8 +161,7 @@ fn hint_at_subject(alloc: Global, program: &[u8], subject: &[u8]) -> Hint {
     }
 }
 
-/// Reports what differs from what was expected at the end of a run, whose order may have a seed: a line for each, and for a person
-/// what helps at the first.
+/// Reports each text that a run's end doesn't meet, in a line, and to a person what helps at the first. An order has a seed.
 pub fn report_unmet(
     report: &Report<'_>,
     program: &[u8],

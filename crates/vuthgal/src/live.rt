@@ -1,4 +1,4 @@
-//! What real threads do: live runs, and a race.
+//! The commands `live` and `race`, which start real threads.
 
 ghost use Rattle.std.specs.Prelude.{◌≤◌, IfSome};
 
@@ -50,7 +50,7 @@ fn played<R: Threads + Wait + Sync>(
     }
 }
 
-/// Plays it so often, and writes how the runs ended.
+/// Plays it `asked.runs` times, and writes how the runs ended.
 fn played_often<R: Threads + Wait + Sync>(
     threads: &R,
     report: &Report<'_>,
@@ -104,7 +104,7 @@ pub fn live<R: Threads + Wait + Sync>(
     }
 }
 
-/// Lets real threads meet at a shared phaser.
+/// Lets so many real threads meet at a shared phaser, so many rounds, and writes its state.
 pub fn race<R: Threads + Wait + Sync>(
     threads: &R,
     report: &Report<'_>,

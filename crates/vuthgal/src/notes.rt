@@ -5,6 +5,7 @@ use command_line::ports::printable;
 use fault_reports::report::Report;
 use std::io::IsTerminal;
 
+/// Writes a text to standard error if it is a terminal.
 fn push_note(rt: &HostRuntime, text: &[u8]) {
     if rt.stderr().is_terminal() {
         let _ = WritePort::new(printable::errors(rt)).push(text);
@@ -18,7 +19,7 @@ pub fn push_waiting(report: &Report<'_>, text: &[u8]) {
     }
 }
 
-/// A plan that is an argument plays nothing, or not all of what may have been meant.
+/// Tells a person if a plan that is an argument plays nothing, or not all of what may have been meant.
 pub fn push_odd_plan(report: &Report<'_>, plan: &str) {
     if plan.trim().is_empty() {
         report.help("the plan is empty: `..` plays all threads in turn");
@@ -31,7 +32,7 @@ pub fn push_odd_plan(report: &Report<'_>, plan: &str) {
     }
 }
 
-/// A page is for a browser.
+/// Tells a person whose terminal the page would go to how to write it to a file.
 pub fn push_page_on_terminal(report: &Report<'_>) {
     if report.rt.stdout().is_terminal() {
         push_note(

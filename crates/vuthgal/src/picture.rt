@@ -1,4 +1,4 @@
-//! Pictures of a run: the page, and the text.
+//! The commands `show` and `draw`, which write a picture of a run: a page, or a text.
 
 use crate::run::{Choices, NO_SCHEDULE, fail};
 use crate::steps::{OpenSteps, opened, planned};
@@ -65,6 +65,7 @@ fn made<P: Picture>(
     }
 }
 
+/// Writes the picture of the program in a file, under the choices that `steps` name.
 fn picture<P: Picture>(
     report: &Report<'_>,
     picture: &P,

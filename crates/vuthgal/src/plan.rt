@@ -1,4 +1,4 @@
-//! The schedules of plans, and how the orders of seeds end.
+//! The command `plan`: it writes the schedule of a plan, or how the orders of seeds end.
 
 ghost use Rattle.std.specs.Prelude.{◌≤◌};
 ghost use Rattle.command_line.specs.Request.{AreInRange};
@@ -39,7 +39,7 @@ fn inputs<'a>(
     Ok((program, name, input::contents(report, name, stream)?))
 }
 
-/// A program's file. A plan is for the text above its line `.run`.
+/// Returns a program's file, of which the text above its line `.run` is the program that a plan is for.
 fn file_of<'a>(name: &'a str, bytes: &'a [u8]) -> ProgramFile<'a> {
     ProgramFile {
         name,
@@ -48,8 +48,7 @@ fn file_of<'a>(name: &'a str, bytes: &'a [u8]) -> ProgramFile<'a> {
     }
 }
 
-/// Writes the schedule that a plan stands for on the program in a file, with the names of the threads if asked for. The plan is
-/// standard input if no other is named.
+/// Writes the schedule of a plan, or of standard input, on the program in a file, with the threads' names if asked for.
 pub fn plan(
     report: &Report<'_>,
     file: &str,

@@ -1,4 +1,4 @@
-//! Runs: a program that is played under a schedule, and what is expected of its end.
+//! The command `run`: it plays a program under a schedule or a plan. How the run ended may be expected.
 
 use crate::expectation::{as_expected, expectations, report_unmet};
 use crate::input::{self, Stream, block_port};
@@ -140,6 +140,7 @@ fn played(
     }
 }
 
+/// Plays a program under the schedule that a plan stands for.
 fn play_plan(
     report: &Report<'_>,
     file: ProgramFile<'_>,
@@ -154,16 +155,13 @@ fn play_plan(
     let mut output = block_port(report)?;
     let answer = run_loaded(report.alloc(), loaded, runs.as_slice(), &mut output);
     let live = if stopped { "" } else { SCHEDULE_ENDS };
-    match passed_on(answer.map_err(|fault| fault_of(fault)), &mut output) {
-        Ok(end) => Ok(ended(report, file.bytes, expected, &end, live)),
-        Err(fault) => Err(fail(report, file, file.name, fault)),
-    }
-}
-
-fn fault_of(fault: PlayFault) -> Fault {
-    match fault {
+    let answer = answer.map_err(|fault| match fault {
         PlayFault::Memory => Fault::Memory,
         PlayFault::Write => Fault::Write,
+    });
+    match passed_on(answer, &mut output) {
+        Ok(end) => Ok(ended(report, file.bytes, expected, &end, live)),
+        Err(fault) => Err(fail(report, file, file.name, fault)),
     }
 }
 

@@ -89,8 +89,7 @@ pub fn names_of<'a>(report: &Report<'_>, program: &Program<'a>) -> Result<Vec<&'
     )
 }
 
-/// Reports why a plan isn't played on the program of this file, whose threads have these names, or where its schedule isn't
-/// written.
+/// Reports why a plan isn't played on this program, whose threads have these names, or its schedule isn't written.
 pub fn fail_at_plan(
     report: &Report<'_>,
     file: ProgramFile<'_>,

@@ -1,4 +1,4 @@
-//! What is written of a program's text, of its image, and of the words of a line.
+//! The commands `asm`, `list` and `explain`, which play nothing.
 
 use crate::input::{self, Stream};
 use crate::run::fail;
@@ -10,12 +10,12 @@ use fault_reports::program::{ProgramFile, fail_to_read};
 use fault_reports::report::{Report, Reported};
 use headline::shown;
 use refusals::entries::tables;
-use refusals::explain::{explain as push_entry, push_no_line};
+use refusals::explain::explain as push_entry;
 use std::alloc::{AllocError, Global};
 use std::fs::{File, OpenOptions};
 use std::io;
 use std::os::unix::fs::MetadataExt;
-use suggestions::sought::{push_near_question, words_sought};
+use suggestions::sought::{push_near_questions, words_sought};
 use workbench::done::{Done, as_asked};
 use workbench::ending::{flushed, passed_on};
 use workbench::fault::Fault;
@@ -92,6 +92,7 @@ pub fn list(report: &Report<'_>, name: &str, has_rows: bool) -> Result<Done, Rep
     as_asked(flushed(answer, &mut output)).map_err(|fault| fail(report, file, name, fault))
 }
 
+/// Returns the words of these texts, one text after another.
 fn words_of<'a>(alloc: Global, texts: &[&'a str]) -> Result<Vec<&'a str>, AllocError> {
     let mut words = Vec::new(alloc);
     for text in texts {
@@ -115,13 +116,15 @@ fn push_explained<W: Sink>(alloc: Global, texts: &[&str], output: &mut W) -> Res
     push_entry(&tables(), sought.as_slice(), output).map_err(|_| Fault::Write)
 }
 
-/// Reports that no line has the words, what can be asked, and what is near to one word.
+/// Reports that no line has the words of these texts, and what can be asked instead.
 fn fail_without_line(report: &Report<'_>, texts: &[&str]) -> Reported {
     let mut errors = WritePort::new(printable::errors(report.rt));
-    let _ = push_no_line(&mut errors);
-    if let [word] = texts {
-        let _ = push_near_question(report.alloc(), &mut errors, *word);
-    }
+    let words = words_of(report.alloc(), texts);
+    let _ = push_near_questions(
+        report.alloc(),
+        &mut errors,
+        words.as_ref().map_or(&[], |words| words.as_slice()),
+    );
     Reported { status: NO_LINE }
 }
 

@@ -1,4 +1,4 @@
-//! Traces that are read: compared with their run, and as the schedule that they have.
+//! The commands `compare` and `choices`, which read a trace.
 
 use crate::input::{self, block_port};
 use crate::run::fail;

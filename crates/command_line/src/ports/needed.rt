@@ -1,4 +1,4 @@
-//! As much of a schedule as a picture needs.
+//! As much of a schedule as a picture needs: nothing behind its fault, or behind one choice too many.
 
 ghost use Rattle.std.specs.Prelude.{◌≡◌, ◌≤◌, ◌+◌, if◌then◌else◌, false, IfOk, IfSome, None, length};
 ghost use Rattle.std.specs.Io.KnownBytes.{ReadConsumes};
@@ -23,7 +23,7 @@ struct Seen {
 }
 
 impl Seen {
-    /// Nothing so far, for a picture of so many choices.
+    /// Nothing so far, for a picture of at most `most` choices.
     fn new(alloc: Global, most: u64) -> Result<Seen, AllocError> {
         Ok(Seen {
             reader: Reader::new(),
@@ -33,7 +33,7 @@ impl Seen {
         })
     }
 
-    /// Returns whether a picture needs nothing after this byte: it makes the schedule's fault, or ends one choice too many.
+    /// Takes a schedule's next byte. Returns whether a picture needs no more: it has a fault, or one choice too many.
     fn is_enough_with(&mut self, byte: u8) -> bool {
         if self.reader.bytes_read() > LONGEST {
             return false;
@@ -69,7 +69,7 @@ pub struct Needed<S> {
 }
 
 impl<S: Drop> Needed<S> {
-    /// Of a schedule, for a picture of so many choices.
+    /// Reads a schedule for a picture of at most `most` choices.
     pub fn new(alloc: Global, source: S, most: u64) -> Result<Needed<S>, AllocError> {
         Ok(Needed {
             source,

@@ -18,7 +18,7 @@ pub struct Printable<W> {
     is_terminal: bool,
 }
 
-/// A writer over standard output.
+/// Returns a writer for standard output over this one, which writes there.
 pub fn output<W>(rt: &HostRuntime, writer: W) -> Printable<W> {
     Printable {
         writer,
@@ -26,7 +26,7 @@ pub fn output<W>(rt: &HostRuntime, writer: W) -> Printable<W> {
     }
 }
 
-/// Standard error.
+/// Returns a writer for standard error.
 pub fn errors(rt: &HostRuntime) -> Printable<Stderr> {
     Printable {
         writer: rt.stderr(),

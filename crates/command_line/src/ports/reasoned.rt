@@ -14,7 +14,7 @@ pub struct Reason {
 }
 
 impl Reason {
-    /// No call has failed.
+    /// No call has failed yet.
     pub fn none() -> Reason {
         Reason {
             code: AtomicI32::new(0),
@@ -44,7 +44,7 @@ pub struct Reasoned<'a, T> {
 }
 
 impl<'a, T> Reasoned<'a, T> {
-    /// Over a reader or a writer.
+    /// Keeps the errors of this reader or writer in `reason`.
     pub fn new(inner: T, reason: &'a Reason) -> Reasoned<'a, T> {
         Reasoned { inner, reason }
     }

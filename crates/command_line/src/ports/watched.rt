@@ -57,15 +57,14 @@ pub fn lines_in(bytes: &[u8]) -> u64 {
     lines.wrapping_add(end as u64)
 }
 
+/// Where the last line of these bytes begins: behind the last LF, or at 0.
 fn last_line(bytes: &[u8]) -> usize {
-    match bytes.iter().rposition(|byte| *byte == b'\n') {
-        Some(end) => end.saturating_add(1),
-        None => 0,
-    }
+    let end = bytes.iter().rposition(|byte| *byte == b'\n');
+    end.map_or(0, |end| end.saturating_add(1))
 }
 
 impl<S> Watched<S> {
-    /// Over a source that has given nothing, and that begins after so many lines.
+    /// Watches a source that has given nothing, and that follows so many lines of its file.
     pub fn new(alloc: Global, source: S, lines: u64) -> Watched<S>
         ensures { result.source ≡ source }
     {
@@ -78,7 +77,7 @@ impl<S> Watched<S> {
         }
     }
 
-    /// Drops all bytes but those of the last line, and of a long line all but the last.
+    /// Drops the kept bytes but for the last line, of which at most 256 bytes stay.
     fn drop_lines(&mut self)
         ensures { self.new.source ≡ self.old.source }
     {
@@ -112,11 +111,7 @@ impl<S> Watched<S> {
 
     /// Returns all bytes that the source gave, if none were dropped.
     pub fn whole(&self) -> Option<&[u8]> {
-        if self.before == 0 {
-            Some(self.kept.as_slice())
-        } else {
-            None
-        }
+        (self.before == 0).then_some(self.kept.as_slice())
     }
 
     /// Returns the line of the byte at this offset, as far as it is kept, and the byte's place in that.

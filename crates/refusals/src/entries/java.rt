@@ -20,7 +20,7 @@ pub static JAVA_TOOLS: [Entry; 4] = [
         means: "a program has no locks, monitors or semaphores",
         helps: "threads wait only at phasers and barriers, as in `paaa r0 p` and `cawait r0 b`",
         example: "none: no row is one of these",
-        more: "docs/LANGUAGE.md, \"Instruction table\"",
+        more: "docs/JAVA.md, \"Calls\"",
     },
     Entry {
         asked: &[

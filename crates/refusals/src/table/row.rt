@@ -41,7 +41,7 @@ fn entry_at(tables: &[&'static [WordEntry]], place: usize) -> Option<WordEntry>
     }
 }
 
-/// Returns the entry for the row of this opcode.
+/// Returns the entry for the row of this opcode, 0 to 41.
 pub fn row_entry(opcode: u8) -> Option<WordEntry>
     ensures { MatchOption result (length table ≤ opcode) (IsRowEntry opcode) }
 {
