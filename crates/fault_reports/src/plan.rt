@@ -115,7 +115,7 @@ pub fn fail(report: &Report<'_>, plan: PlanFile<'_>, names: &[&[u8]], fault: Pla
     report.fail(Unplanned::Plan(fault), plan.name, place, hint)
 }
 
-/// Whether a word plays turns without a count: `ann.`, `..` or `?7`.
+/// Whether a word has no end without a count: `ann.`, `..`, `?7`. So has `?7*50`: the caller looks for a `*`.
 fn is_without_count(word: &[u8]) -> bool {
     word.ends_with(b".") || word.starts_with(b"?")
 }

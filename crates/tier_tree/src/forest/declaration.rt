@@ -21,7 +21,7 @@ use std::alloc::AllocError;
 /// The most phasers of a forest.
 const MOST_PHASERS: usize = 64;
 
-/// A phaser is declared, and registers with its parent.
+/// A phaser is declared, and registers with its parent if it has parties.
 impl Forest {
     /// `new Phaser(parent, parties)`, with the policy that `onAdvance` follows. A root may begin in any phase. A child has to
     /// be declared before anything happens in its parent's tree in the present phase. It begins in that phase, and its `phase`
