@@ -120,11 +120,11 @@ fn push_explained<W: Sink>(alloc: Global, texts: &[&str], output: &mut W) -> Res
 fn fail_without_line(report: &Report<'_>, texts: &[&str]) -> Reported {
     let mut errors = WritePort::new(printable::errors(report.rt));
     let words = words_of(report.alloc(), texts);
-    let _ = push_near_questions(
-        report.alloc(),
-        &mut errors,
-        words.as_ref().map_or(&[], |words| words.as_slice()),
-    );
+    let words = match &words {
+        Ok(words) => words.as_slice(),
+        Err(_) => &[],
+    };
+    let _ = push_near_questions(report.alloc(), &mut errors, words);
     Reported { status: NO_LINE }
 }
 
