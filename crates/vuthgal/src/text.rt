@@ -119,12 +119,8 @@ fn push_explained<W: Sink>(alloc: Global, texts: &[&str], output: &mut W) -> Res
 /// Reports that no line has the words of these texts, and what can be asked instead.
 fn fail_without_line(report: &Report<'_>, texts: &[&str]) -> Reported {
     let mut errors = WritePort::new(printable::errors(report.rt));
-    let words = words_of(report.alloc(), texts);
-    let words = match &words {
-        Ok(words) => words.as_slice(),
-        Err(_) => &[],
-    };
-    let _ = push_near_questions(report.alloc(), &mut errors, words);
+    let words = words_of(report.alloc(), texts).unwrap_or(Vec::new(report.alloc()));
+    let _ = push_near_questions(report.alloc(), &mut errors, words.as_slice());
     Reported { status: NO_LINE }
 }
 
