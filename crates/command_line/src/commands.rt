@@ -269,7 +269,7 @@ static COMMANDS: [Subcommand; 12] = [
     Subcommand {
         name: "explain",
         aliases: &[],
-        about: "Says what an error, a line of a trace or an instruction means",
+        about: "Says what an error, a trace's line or an instruction means",
         words: &[Word(
             "WORD",
             Kind::Several,

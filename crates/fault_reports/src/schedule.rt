@@ -38,7 +38,9 @@ fn helps_at(bytes: &[u8], rest: &[u8], origin: Origin) -> Option<&'static str> {
         Some(AT_TURN)
     } else if byte == b'*' {
         Some("a count follows its star, and no blank is beside the star: `t0*3`")
-    } else if !byte.is_ascii_alphabetic() && !matches!(byte, b'.' | b'?' | b'(' | b')') {
+    } else if matches!(rest, [b't' | b'x'])
+        || !byte.is_ascii_alphabetic() && !matches!(byte, b'.' | b'?' | b'(' | b')')
+    {
         None
     } else if origin == Origin::Beside {
         Some("below `.run` is a schedule of tN and xN; a plan is an option: `--plan 'ann. bob.'`")
