@@ -10,7 +10,7 @@ use Rattle.workbench.specs.Debug.{Exchange, IsBegun, IsDialogue, first_session}
 use Rattle.headline.specs.EndToEnd.{AreLeft, SessionsGiveTheRows, StandAtFirst}
 use Rattle.headline.proofs.Scenes.{stored_alike, world_left}
 
-nothing_done : (world : StoredWorld) → IsHistory (world_of world) [] (first_session world)
+pub nothing_done : (world : StoredWorld) → IsHistory (world_of world) [] (first_session world)
 nothing_done world = record { accepted = refl; machine = refl; older = []; past = refl }
 
 at_first : (runs : Option (List Run)) (world : StoredWorld) (now : Session) (a b : Option (List ℕ))

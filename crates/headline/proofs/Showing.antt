@@ -16,7 +16,7 @@ use Rattle.thread_machine.specs.declared.choice.Choice.{Choice}
 use Rattle.thread_machine.specs.World.{World}
 use Rattle.trace_text.specs.declared.run.RunFault.{RunFault}
 use Rattle.trace_text.specs.declared.run_end.RunEnd.{RunEnd}
-use Rattle.trace_text.specs.Outcome.{ComesTo}
+use Rattle.trace_text.specs.Outcome.{ComesOfChoices, ComesTo}
 use Rattle.trace_text.specs.Start.{Begins}
 use Rattle.trace_text.specs.Trace.{trace_of}
 use Rattle.trace_compare.proofs.OneTrace.{trace-first}
@@ -33,7 +33,7 @@ use Rattle.workbench.specs.Live.{Lives}
 use Rattle.workbench.specs.ProgramFile.{IsProgramFile}
 use Rattle.workbench.specs.RunLine.{program_part, schedule_part}
 use Rattle.headline.specs.Headline.{start}
-use Rattle.headline.specs.EndToEnd.{HasDebuggedFile, HasDebuggedFileAt, HasFoundTheSame, HasShownFile, HasShownLive, HasShownText, ShowsTheRows}
+use Rattle.headline.specs.EndToEnd.{HasDebuggedFile, HasDebuggedFileAt, HasFoundTheSame, HasShownChoices, HasShownFile, HasShownLive, HasShownText, ShowsTheRows}
 
 -- what a text stands for is within the limits of an image
 pub text_image : (text : List ℕ) (image : Image) → StandsFor text image → IsImage image
@@ -139,6 +139,13 @@ file-debugged-at result image trace_before trace_after trace_failed commands_bef
     is debugs in
     λ file is_file.
     (runs, (named, file-debugged (Ok tt) (Some runs) image commands_before commands_after commands_failed before after failed held file is_file))
+
+pub choices-shown : (result : Result RunEnd RunFault) (image : Image) (choices : List Choice) (before after : Option (List ℕ)) (failed : Bool)
+    → ComesOfChoices image choices result before after failed
+    → OnOk result ((file : List ℕ) → IsProgramFile file image → HasShownChoices file choices before after)
+choices-shown (Ok end) image choices before after failed (world, (begins, (ends, appends))) = λ file is.
+    (image, ((is, (file_image file image is, begins.0)), first_trace image world choices before after begins appends))
+choices-shown (Err f) image choices before after failed came = tt
 
 pub live-shown : (result : Result RunEnd Fault) (limit : ℕ) (image : Image) (before after : Option (List ℕ)) (failed : Bool)
     → Lives limit image result before after failed

@@ -90,6 +90,12 @@ HasShownFile file schedule_before schedule_after output_before output_after =
     × (AcceptedFile file image × Consumes schedule_before schedule_after schedule × IsAtEnd schedule_after
     × ShowsTheRows image schedule shown × Appends output_before output_after shown)))
 
+-- `run` with a plan: the trace of the choices that the plan stands for was written. Which choices these are is promised by
+-- `planned_in` (commands/src/plan.rt); it is only tested that the program passes on just these.
+abbrev pub HasShownChoices : (file : List ℕ) → List Choice → (output_before output_after : Option (List ℕ)) → Type 0
+HasShownChoices file choices output_before output_after =
+    (image : Image) × (AcceptedFile file image × Appends output_before output_after (trace_of (start image) choices))
+
 -- `debug`: a session that can take back 4096 choices was held on a file's program, from its first world on, or after runs of
 -- choices. Each line of commands has the reply that it asks for, up to `q` or the end.
 abbrev pub HasDebuggedFile : Option (List Run) → (file : List ℕ) (commands_before commands_after output_before output_after : Option (List ℕ)) → Type 0

@@ -9,9 +9,10 @@ ghost use Rattle.thread_machine.specs.World.{IsFirstOf, World};
 ghost use Rattle.thread_machine.specs.declared.choice.Choice.{Choice};
 ghost use Rattle.trace_compare.specs.Compare.{choices_of_trace, verdict_of};
 ghost use Rattle.trace_compare.specs.declared.comparison.Verdict.TheVariants as verdict;
-ghost use Rattle.trace_text.specs.Outcome.{ComesTo};
+ghost use Rattle.schedule_reader.specs.Schedule.{choices_of};
+ghost use Rattle.trace_text.specs.Outcome.{ComesOfChoices, ComesTo};
 ghost use Rattle.trace_text.specs.Trace.{trace_of};
-ghost use Rattle.headline.specs.EndToEnd.{HasDebuggedFile, HasDebuggedFileAt, HasFoundTheSame, HasShownFile, HasShownLive, HasShownText, SessionsGiveTheRows};
+ghost use Rattle.headline.specs.EndToEnd.{HasDebuggedFile, HasDebuggedFileAt, HasFoundTheSame, HasShownChoices, HasShownFile, HasShownLive, HasShownText, SessionsGiveTheRows};
 ghost use Rattle.headline.specs.Headline.{Accepted, start};
 ghost use Rattle.workbench.specs.Compare.{WritesVerdict};
 ghost use Rattle.workbench.specs.Debug.{Debugs, DebugsAt, GivesFew};
@@ -54,6 +55,21 @@ pub fn run<S: Source, K: Sink>(
         → S.left schedule.old ≡ Some (schedule_part text) → HasShownText text (K.written output.old) (K.written output.new)) }
 {
     run_to_end(alloc, image, schedule, output)
+}
+
+/// Plays the choices of these runs on an image's program, writes the trace, and returns how the run has ended.
+pub fn run_choices<K: Sink>(
+    alloc: Global,
+    image: Image,
+    runs: &[Run],
+    output: &mut K,
+) -> Result<RunEnd, RunFault>
+    ensures outcome { ComesOfChoices image (choices_of runs.now) result
+        (K.written output.old) (K.written output.new) (K.has_failed output.new) }
+    ensures shown { OnOk result ((file : List ℕ) → IsProgramFile file image
+        → HasShownChoices file (choices_of runs.now) (K.written output.old) (K.written output.new)) }
+{
+    trace_text::run_choices(alloc, image, runs, output)
 }
 
 /// Carries out the commands of a session on an image's program, and writes the replies.

@@ -21,3 +21,4 @@ mod loaded;
 
 pub use load_fault::{LoadFault, Place};
 pub use loaded::{Loaded, load};
+pub use named::{Named, named_by};

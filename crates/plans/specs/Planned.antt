@@ -1,5 +1,5 @@
 -- The result of playing a plan: its schedule, and the state of the machine after it.
-use Rattle.std.specs.Prelude.{◌≡◌, All, List}
+use Rattle.std.specs.Prelude.{◌≡◌, ℕ, All, List}
 use Rattle.loader.specs.Program.{Program}
 use Rattle.thread_machine.specs.World.{World, world_of}
 use Rattle.schedule_reader.specs.Joined.{AreJoined}
@@ -26,6 +26,6 @@ pub record Shows (planned : Planned) (progress : Progress) : Type 0 where
 abbrev pub IsPlanAt : World → List Word → Planned → Type 0
 IsPlanAt world words planned = (plan : Plan) → words_of_plan plan ≡ words → Shows planned (plays plan (begun_at world))
 
--- what is planned from a program's first world on
-abbrev pub IsPlanOf : Program → List Word → Planned → Type 0
-IsPlanOf program words planned = (plan : Plan) → words_of_plan plan ≡ words → Shows planned (plays plan (begun program))
+-- what is planned from a program's first world on, of so many choices at most
+abbrev pub IsPlanOf : Program → (most : ℕ) → List Word → Planned → Type 0
+IsPlanOf program most words planned = (plan : Plan) → words_of_plan plan ≡ words → Shows planned (plays plan (begun program most))

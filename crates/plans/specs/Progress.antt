@@ -25,9 +25,9 @@ begun_at world = record {
   stopped = false;
 }
 
--- the same from a program's first world on
-unfoldable pub begun : Program → Progress
-begun program = begun_at (first_world program 1000000000)
+-- before the first of so many choices, from a program's first world on
+unfoldable pub begun : Program → (most : ℕ) → Progress
+begun program most = record (begun_at (first_world program 1000000000)) { left = most }
 
 -- a choice that the program refuses isn't made: there is no such thread
 abbrev pub chosen_by : Option StepFault → Choice → Progress → Progress

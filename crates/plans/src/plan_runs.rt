@@ -1,4 +1,4 @@
-ghost use Rattle.std.specs.Prelude.{IfOk};
+ghost use Rattle.std.specs.Prelude.{◌≤◌, IfOk};
 ghost use Rattle.plans.specs.Planned.{AreRuns, IsPlanAt, IsPlanOf};
 ghost use Rattle.thread_machine.specs.World.{world_of};
 
@@ -9,16 +9,19 @@ use loader::Loaded;
 use std::alloc::{AllocError, Global};
 use thread_machine::Machine;
 
-/// Plays a plan from the beginning of a program. Returns its choices, the machine after them, and whether it was cut off.
+/// Plays a plan of at most `most` choices from the beginning of a program. Returns its choices, the machine after them, and whether
+/// it was cut off.
 pub fn plan_runs(
     alloc: Global,
     program: Loaded,
     words: &WordsFrom<'_>,
+    most: u32,
 ) -> Result<Planned, AllocError>
-    ensures planned { IfOk result (λ planned. IsPlanOf program words.now planned) }
+    requires { most ≤ 1000000 }
+    ensures planned { IfOk result (λ planned. IsPlanOf program most words.now planned) }
     ensures runs { IfOk result (λ planned. AreRuns planned.runs.items) }
 {
-    let mut player = Player::new(alloc, program)?;
+    let mut player = Player::new(alloc, program, most)?;
     player.play_words(alloc, &mut words.again())?;
     Ok(player.into_planned())
 }

@@ -8,6 +8,6 @@ pub struct Planned {
     pub machine: Machine,
     /// The choices, joined where they can be.
     pub runs: Vec<Run>,
-    /// Whether the plan wanted one more choice than 1,000,000.
+    /// Whether the plan wanted one more choice than it may make.
     pub stopped: bool,
 }

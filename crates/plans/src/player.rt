@@ -80,12 +80,14 @@ impl Player {
         }
     }
 
-    /// Returns a player that may make 1,000,000 choices from the beginning of a program on.
+    /// Returns a player that may make `most` choices from the beginning of a program on.
     #[tactic(auto, unfolding(crate::specs::Progress::begun))]
-    pub fn new(alloc: Global, program: Loaded) -> Result<Player, AllocError>
-        ensures { IfOk result (λ player. player ≡ begun program) }
+    pub fn new(alloc: Global, program: Loaded, most: u32) -> Result<Player, AllocError>
+        requires { most ≤ 1000000 }
+        ensures { IfOk result (λ player. player ≡ begun program most) }
     {
-        Ok(Player::at(alloc, Machine::new(alloc, program, MOST_STEPS)?))
+        let machine = Machine::new(alloc, program, MOST_STEPS)?;
+        Ok(Player::with_room(alloc, machine, most))
     }
 
     /// Returns the machine, the choices made, and whether one more was asked for than allowed.

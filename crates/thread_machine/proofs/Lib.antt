@@ -9,3 +9,4 @@ pub mod PhaseEnds
 pub mod DirectCounts
 pub mod SafeEnds
 pub mod Firsts
+pub mod Enabled

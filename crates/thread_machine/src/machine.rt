@@ -1,5 +1,6 @@
 //! The machine: it plays choices, counts them, and takes them back. A `Stage` plays the rows.
-ghost use Rattle.std.specs.Prelude.{◌≡◌, ◌+◌, ◌<◌, ◌≤◌, length, map, IfOk, IfErr, Ok, Err, true, false, Some, None};
+ghost use Rattle.std.specs.Prelude.{◌≡◌, ℕ, ◌+◌, ◌<◌, ◌≤◌, length, map, IfOk, IfErr, Ok, Err, true, false, Some, None};
+ghost use Rattle.cyclic_barrier.specs.ThreadSet.{has};
 ghost use Rattle.machine_scene.specs.Scene.{scene_of, first_scene, starting};
 ghost use Rattle.machine_scene.specs.Outcomes.{is_ready};
 ghost use Rattle.machine_scene.specs.ReadySet.{KnowsReady};
@@ -20,7 +21,7 @@ use crate::fault::StepFault;
 use crate::standing::Standing;
 use crate::undo::Undo;
 use loader::Loaded;
-use machine_scene::{Stage, a_first_scene_is_sound};
+use machine_scene::{Stage, a_first_scene_is_sound, set_at};
 use row_code::DeclaredThread;
 use std::alloc::{AllocError, Global};
 use std::marker::Model;
@@ -333,6 +334,20 @@ impl Machine {
         ensures { result ≡ can_expire thread self.now.program (scene_of self.now.scene) }
     {
         self.stage.can_expire(&self.program, thread as usize)
+    }
+
+    /// Returns the choices that would be steps, and not idle, as two sets with bit t for thread t: turns and expiries.
+    pub fn enabled(&self) -> (u64, u64)
+        ensures turns { (t : ℕ) → has result.0 t ≡ is_ready t self.now.program (scene_of self.now.scene) }
+        ensures expiries { (t : ℕ) → has result.1 t ≡ can_expire t self.now.program (scene_of self.now.scene) }
+    {
+        let mut turns = 0;
+        let mut expiries = 0;
+        for t in 0..self.thread_count() {
+            turns = set_at(turns, t, self.is_ready(t as u8));
+            expiries = set_at(expiries, t, self.can_expire(t as u8));
+        }
+        (turns, expiries)
     }
 
     /// Returns whether every thread has ended or died.

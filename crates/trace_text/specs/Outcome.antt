@@ -11,6 +11,7 @@ use Rattle.schedule_reader.specs.declared.fault.ScheduleFault.TheVariants as sch
 use Rattle.schedule_reader.specs.declared.run.Run.{Run}
 use Rattle.schedule_reader.specs.Schedule.{Schedule, open_schedule, finished_schedule, choices_of}
 use Rattle.thread_machine.specs.World.{World}
+use Rattle.thread_machine.specs.declared.choice.Choice.{Choice}
 use Rattle.trace_text.specs.declared.run.RunFault.{RunFault}
 use Rattle.trace_text.specs.declared.run.RunFault.TheVariants as fault
 use Rattle.trace_text.specs.declared.run_end.RunEnd.{RunEnd}
@@ -73,3 +74,16 @@ ComesTo image (Ok end) schedule_before schedule_after schedule_failed output_bef
     (world : World) × (Begins image world × (schedule_failed ≡ false) × EndsFrom world end schedule_before schedule_after output_before output_after)
 ComesTo image (Err f) schedule_before schedule_after schedule_failed output_before output_after output_failed =
     Stops image f schedule_before schedule_after schedule_failed output_before output_after output_failed
+
+-- an image's run of known choices led to this: to an end, and their trace was written; or the image can't be loaded, for a reason
+-- other than memory; or it was out of memory, and a part of the lines of the choices was written, or nothing; or the output can't
+-- be written
+abbrev pub ComesOfChoices : Image → List Choice → Result RunEnd RunFault → (output_before output_after : Option (List ℕ)) (output_failed : Bool) → Type 0
+ComesOfChoices image choices (Ok end) output_before output_after output_failed =
+    (world : World) × (Begins image world × AreTraced world choices end output_before output_after)
+ComesOfChoices image choices (Err (fault.Load f)) output_before output_after output_failed =
+    IsRefused f image × (is_want_of_memory f ≡ false) × (output_after ≡ output_before)
+ComesOfChoices image choices (Err fault.Memory) output_before output_after output_failed =
+    (output_after ≡ output_before) ⊎ ((world : World) × (Begins image world × AppendsPartOf output_before output_after (lines_of world choices)))
+ComesOfChoices image choices (Err fault.Write) output_before output_after output_failed = IsTrue output_failed
+ComesOfChoices image choices (Err f) output_before output_after output_failed = ⊥

@@ -31,7 +31,7 @@ pub mod trace_line;
 
 pub use line::{event_line, refusal_line};
 pub use line_end::LineEnd;
-pub use loaded::run_loaded;
+pub use loaded::{run_choices, run_loaded};
 pub use play::{PlayFault, Refused, line_of_choice};
 pub use run::{RunFault, run_text, run_to_end};
 pub use run_end::{Refusal, RunEnd};

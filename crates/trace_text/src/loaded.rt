@@ -1,16 +1,19 @@
-//! A loaded program with known choices.
+//! A program with known choices: those of a plan, of a live run, or of a picture.
 ghost use Rattle.std.specs.Prelude.{◌≡◌, IfOk, IsTrue};
 ghost use Rattle.schedule_reader.specs.Schedule.{choices_of};
 ghost use Rattle.thread_machine.specs.World.{first_world, world_of};
+ghost use Rattle.trace_text.specs.Outcome.{ComesOfChoices};
 ghost use Rattle.trace_text.specs.RunText.{AreTraced};
 ghost use Rattle.trace_text.specs.Trace.{AppendsPartOf, lines_of};
 
 use crate::choice_line::ChoiceLine;
 use crate::play::{PlayFault, play_runs};
+use crate::run::RunFault;
 use crate::run_end::{RunEnd, push_end};
-use crate::start::begun;
+use crate::start::{StartFault, begun, first_machine};
 use byte_ports::Sink;
 use loader::Loaded;
+use row_code::Image;
 use schedule_reader::Run;
 use std::alloc::Global;
 use thread_machine::Machine;
@@ -50,5 +53,26 @@ pub fn run_loaded<W: Sink>(
     match begun(alloc, program) {
         Ok(mut machine) => play_known(alloc, &mut machine, runs, output),
         Err(_) => Err(PlayFault::Memory),
+    }
+}
+
+/// Plays `runs` on an image's program up to a refused choice, writes the trace, and returns how the run has ended.
+pub fn run_choices<W: Sink>(
+    alloc: Global,
+    image: Image,
+    runs: &[Run],
+    output: &mut W,
+) -> Result<RunEnd, RunFault>
+    ensures { ComesOfChoices image (choices_of runs.now) result (W.written output.old) (W.written output.new) (W.has_failed output.new) }
+{
+    let mut machine = match first_machine(alloc, image) {
+        Ok(machine) => machine,
+        Err(StartFault::Load(fault)) => return Err(RunFault::Load(fault)),
+        Err(StartFault::Memory) => return Err(RunFault::Memory),
+    };
+    match play_known(alloc, &mut machine, runs, output) {
+        Ok(end) => Ok(end),
+        Err(PlayFault::Memory) => Err(RunFault::Memory),
+        Err(PlayFault::Write) => Err(RunFault::Write),
     }
 }

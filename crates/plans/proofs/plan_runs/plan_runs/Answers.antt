@@ -6,7 +6,7 @@ use Rattle.plans.proofs.plan_runs.plan_runs.Goals as goal
 
 pub returns-clause-planned : goal.returns-clause-planned
 returns-clause-planned c = λ plan whole.
-    let all : c.play_words.new.self ≡ plays plan (begun c.args.program) =
+    let all : c.play_words.new.self ≡ plays plan (begun c.args.program c.args.most) =
     pass_played c.again.result _ _ c.in_ok-player.player c.play_words.new.self plan c.in_ok-play_words.ensures.played (c.again.ensures ∙ sym whole)
     ∙ ap (plays plan) c.in_ok-player.ensures in
     record {
