@@ -1,11 +1,11 @@
 -- What a line is kept as: a row where there is room for one, and a directive, which is no code.
-use Rattle.std.proofs.Common.{◌≡◌, ℕ, Bool, true, false, List, Option, None, Ok, Err, refl, sym, arith}
+use Rattle.std.proofs.Common.{◌≡◌, ℕ, ◌+◌, Bool, true, false, List, length, Option, None, Ok, Err, refl, sym, arith}
 use Rattle.line_reader.specs.declared.asm_fault.AsmFaultKind.TheVariants as fault
 use Rattle.line_reader.specs.declared.statement.Line.{Line}
 use Rattle.line_reader.specs.declared.statement.Statement.{Statement}
 use Rattle.line_reader.specs.declared.statement.Statement.TheVariants as statement
 use Rattle.line_reader.specs.declared.symbolic_row.SymbolicRow.{SymbolicRow}
-use Rattle.line_reader.specs.Reading.{directive_at, is_directive, row_at}
+use Rattle.line_reader.specs.Reading.{directive_at, fault_at, is_directive, row_at}
 use Rattle.line_reader.specs.Symbols.{Name}
 use Rattle.assembler.specs.Reading.{directive_behind, row_behind}
 use Rattle.assembler.specs.Statements.{Follows, has_room, is_code}
@@ -20,7 +20,7 @@ row_taken before label word words row false read room is = absurd (cc)
 
 pub row_refused : (before : List (Line Name)) (label : Option Name) (word : List ℕ) (words : List (List ℕ)) (row : SymbolicRow Name)
     (room : Bool) → Ok row ≡ row_at word words → room ≡ has_room before (statement.Row label row) → room ≡ false →
-    Err fault.TooMany ≡ row_behind before label word words
+    Err (fault_at (length words + 1) fault.TooMany) ≡ row_behind before label word words
 unfolding row_behind
 row_refused before label word words row false read room is = rw (sym read, sym room) refl
 row_refused before label word words row true read room is = absurd (cc)

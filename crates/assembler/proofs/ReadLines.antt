@@ -5,6 +5,7 @@ use Rattle.std.proofs.lemmas.List.{append-nil, take-append-drop}
 use Rattle.row_code.specs.declared.image.Image.{Image}
 use Rattle.line_reader.specs.declared.asm_fault.AsmFault.{AsmFault}
 use Rattle.line_reader.specs.declared.asm_fault.AsmFaultKind.{AsmFaultKind}
+use Rattle.line_reader.specs.declared.asm_fault.WordFault.{WordFault}
 use Rattle.line_reader.specs.declared.statement.Line.{Line}
 use Rattle.line_reader.specs.declared.statement.Statement.{Statement}
 use Rattle.line_reader.specs.Words.{lines_of}
@@ -31,7 +32,7 @@ bound : {A B C : Type 0} (r : Result A AsmFault) (f : A → Result B AsmFault) (
 bound r f y e then = grind arith
 
 -- a line that did not fail says nothing, or adds what it says
-stepped : {B C : Type 0} (before : List (Line Name)) (n : ℕ) (r : Result (Option (Statement Name)) AsmFaultKind)
+stepped : {B C : Type 0} (before : List (Line Name)) (n : ℕ) (r : Result (Option (Statement Name)) WordFault)
     (f : List (Line Name) → Result B AsmFault) (y : B) → (behind before n r >>= f) ≡ Ok y →
     (r ≡ Ok None → f before ≡ Ok y → C) →
     ((said : Statement Name) → r ≡ Ok (Some said) → f (before ++ (record { number = n; statement = said } ∷ [])) ≡ Ok y → C) → C

@@ -1,22 +1,23 @@
 -- Lines behind others: what is read is said, and what is said is read.
-use Rattle.std.proofs.Common.{◌≡◌, ℕ, suc, ◌-◌, Bool, true, false, not, ◌&&◌, List, [], ◌∷◌, ◌++◌, length, take, codes, bytes_eq, find, Option, Some, None, Ok, refl, sym, ap, subst, ◌∙◌, arith}
+use Rattle.std.proofs.Common.{◌≡◌, ℕ, suc, ◌+◌, ◌-◌, Bool, true, false, not, ◌&&◌, List, [], ◌∷◌, ◌++◌, length, map, take, codes, bytes_eq, find, Option, Some, None, Ok, refl, sym, ap, subst, ◌∙◌, arith}
 use Rattle.std.specs.List.{list_all}
 use Rattle.std.proofs.lemmas.Bool.{eqb-true, ltb-false, le-ltb}
-use Rattle.std.proofs.lemmas.List.{take_at, length-append}
+use Rattle.std.proofs.lemmas.List.{take_at, length-append, length-map}
 use Rattle.instruction_table.specs.Table.{Entry, table, entry_named}
 use Rattle.line_reader.specs.declared.asm_fault.AsmFaultKind.TheVariants as fault
 use Rattle.line_reader.specs.declared.symbolic_row.SymbolicRow.{SymbolicRow}
 use Rattle.line_reader.specs.declared.statement.Line.{Line}
 use Rattle.line_reader.specs.declared.statement.Statement.{Statement}
 use Rattle.line_reader.specs.declared.statement.Statement.TheVariants as statement
+use Rattle.line_reader.specs.Seen.{Borrowed, name_seen}
 use Rattle.line_reader.specs.Words.{words_of}
 use Rattle.line_reader.specs.Names.{is_name}
 use Rattle.line_reader.specs.Symbols.{Name}
 use Rattle.line_reader.specs.Spelling.{SpellRow, SpellsLabel, Spell, IsLine, Says, SaysNothing}
 use Rattle.assembler.specs.Statements.{is_new, has_room, Follows}
-use Rattle.line_reader.specs.Reading.{line_words, name_at, is_directive, directive_at, is_label, before_last}
+use Rattle.line_reader.specs.Reading.{fault_at, line_words, name_at, is_directive, directive_at, is_label, before_last}
 use Rattle.assembler.specs.Reading.{directive_behind, row_behind, labelled_behind, statement_behind, words_behind, line_behind}
-use Rattle.line_reader.proofs.Steps.{bound, ok_is, check_ok, by_test, passed, not_true, both_true, or_right, is_bytes}
+use Rattle.line_reader.proofs.Steps.{bound, bound_at, ok_is, check_ok, by_test, passed, not_true, both_true, or_right, is_bytes}
 use Rattle.line_reader.proofs.SpelledNumbers.{name_takes, name_again}
 use Rattle.line_reader.proofs.SpelledOperands.{find_passes, row_takes, row_again}
 use Rattle.line_reader.proofs.SpelledDirectives.{phaser_again, barrier_again, thread_again, cell_again, directive_takes}
@@ -85,7 +86,7 @@ labelled_takes : (before : List (Line Name)) (name : Name) (word : List ℕ) (wo
 unfolding labelled_behind
 labelled_takes before name word [] s label new e = grind (arith, ok_is)
 labelled_takes before name word (first ∷ words) s label new e =
-    let plain = passed (is_directive first) fault.MisplacedDirective (row_behind before (Some name) first words) s e in
+    let plain = passed (is_directive first) (fault_at (length words + 1) fault.MisplacedDirective) (row_behind before (Some name) first words) s e in
     let row = row_behind_takes before (Some name) first words s new plain.1 in
     subst (λ (q : Statement Name). Spell (word ∷ first ∷ words) q × Follows before q) row.1
     ((word, first ∷ words, refl, label, row.2), row.3)
@@ -96,8 +97,8 @@ unfolding statement_behind
 statement_takes before word words s e =
     by_test (is_label word)
     (λ is.
-    bound (name_at (before_last word)) _ s (rw is at e) (λ name named e.
-    let new = check_ok (is_new before (Some name)) fault.NameTwice _ s e in
+    bound_at (length words + 1) (name_at (before_last word)) _ s (rw is at e) (λ name named e.
+    let new = check_ok (is_new before (Some name)) (fault_at (length words + 1) fault.NameTwice) _ s e in
     let name-is = name_takes (before_last word) name named in
     let spelled : word ≡ name ++ codes ":" = label_spelled word is ∙ ap (λ (w : List ℕ). w ++ codes ":") name-is.0 in
     labelled_takes before name word words s (spelled, name-is.1) new.0 new.1))
@@ -194,10 +195,16 @@ words_taken : (text : List ℕ) (words : List (List ℕ)) → line_words text �
 unfolding line_words
 words_taken text words e = grind (arith, check_ok, ltb-false, not_true, ok_is)
 
+-- the words of a line are as many as were read of it
+pub words_counted : (text : List ℕ) (words : List Borrowed) → line_words text ≡ Ok (map name_seen words) →
+    length words ≡ length (words_of text)
+words_counted text words read =
+    sym (length-map words name_seen) ∙ sym (ap length (words_taken text (map name_seen words) read).1)
+
 pub line_takes : (before : List (Line Name)) (text : List ℕ) (o : Option (Statement Name)) →
     line_behind before text ≡ Ok o → LineSays before text o
 unfolding line_behind
-line_takes before text o e = grind (arith, bound, words_taken, said_by, words_take)
+line_takes before text o e = grind (arith, bound_at, words_taken, said_by, words_take)
 
 line_words_again : (text : List ℕ) → IsLine text → line_words text ≡ Ok (words_of text)
 unfolding line_words

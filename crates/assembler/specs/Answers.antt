@@ -1,9 +1,10 @@
 -- How the result of a call is compared with the result of the definitions. Any call may be out of memory instead.
-use Rattle.std.specs.Prelude.{ℕ, Bool, true, false, Result, Ok, Err}
+use Rattle.std.specs.Prelude.{◌≡◌, ◌⊎◌, ℕ, Bool, true, false, Result, Ok, Err}
 use Rattle.row_code.specs.Answers.{Answers, FailsUnless}
 use Rattle.line_reader.specs.declared.asm_fault.AsmFault.{AsmFault}
 use Rattle.line_reader.specs.declared.asm_fault.AsmFaultKind.{AsmFaultKind}
 use Rattle.line_reader.specs.declared.asm_fault.WordFault.{WordFault}
+use Rattle.line_reader.specs.Reading.{fault_at}
 use Rattle.assembler.specs.declared.placed.PlacedFault.{PlacedFault}
 use Rattle.line_reader.specs.declared.asm_fault.AsmFaultKind.TheVariants as fault
 
@@ -33,3 +34,7 @@ unplaced (Err e) = Err e.fault
 -- the same, whatever the place of the fault
 abbrev pub AnswersPlaced : {X Y : Type 0} → (X → Y) → Result X PlacedFault → Result Y AsmFault → Type 0
 AnswersPlaced view answered read = AnswersAt view (unplaced answered) read
+
+-- the fault of a word is the one that is read, or out of memory, which is at no word
+abbrev pub IsWrong : {Y : Type 0} → WordFault → Result Y WordFault → Type 0
+IsWrong wrong read = (wrong ≡ fault_at 0 fault.Memory) ⊎ (read ≡ Err wrong)

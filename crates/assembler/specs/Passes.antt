@@ -2,8 +2,8 @@
 use Rattle.std.specs.Prelude.{ℕ, ◌+◌, not, List, [], ◌∷◌, ◌++◌, find, Option, Some, None, Result, Ok, Err}
 use Rattle.row_code.specs.declared.image.Image.{Image}
 use Rattle.line_reader.specs.declared.asm_fault.AsmFault.{AsmFault}
-use Rattle.line_reader.specs.declared.asm_fault.AsmFaultKind.{AsmFaultKind}
 use Rattle.line_reader.specs.declared.asm_fault.AsmFaultKind.TheVariants as fault
+use Rattle.line_reader.specs.declared.asm_fault.WordFault.{WordFault}
 use Rattle.line_reader.specs.declared.statement.Line.{Line}
 use Rattle.line_reader.specs.declared.statement.Statement.{Statement}
 use Rattle.line_reader.specs.Words.{lines_of}
@@ -13,11 +13,11 @@ use Rattle.row_code.specs.Answers.{◌>>=◌}
 use Rattle.assembler.specs.Reading.{line_behind}
 
 -- the lines before, and then what the line of this number says
-abbrev pub behind : List (Line Name) → ℕ → Result (Option (Statement Name)) AsmFaultKind →
+abbrev pub behind : List (Line Name) → ℕ → Result (Option (Statement Name)) WordFault →
     Result (List (Line Name)) AsmFault
 behind before n (Ok None) = Ok before
 behind before n (Ok (Some said)) = Ok (before ++ (record { number = n; statement = said } ∷ []))
-behind before n (Err kind) = Err (record { line = n; kind = kind })
+behind before n (Err wrong) = Err (record { line = n; kind = wrong.kind })
 
 -- the first pass: the lines before, and then what the lines from this number on say; or the fault of the first line that has
 -- one

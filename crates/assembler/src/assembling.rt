@@ -4,6 +4,7 @@ ghost use Rattle.row_code.specs.declared.image.Image.{Image};
 ghost use Rattle.assembler.specs.Answers.{AnswersAt, AnswersPlaced};
 ghost use Rattle.assembler.specs.Meaning.{StandsFor};
 ghost use Rattle.assembler.specs.Passes.{assembled};
+ghost use Rattle.assembler.specs.Placed.{IsPlacedIn};
 ghost use Rattle.assembler.specs.Symbols.{symbols_in};
 ghost use Rattle.line_reader.specs.Words.{lines_of};
 ghost use Rattle.line_reader.specs.declared.asm_fault.AsmFaultKind.TheVariants as fault;
@@ -50,6 +51,10 @@ pub fn assemble_placed(alloc: Global, text: &[u8]) -> Result<Image, PlacedFault>
     ensures only { (image : Image) → StandsFor text.now image →
         AnswersPlaced (λ answered. answered) result (Ok image) }
     ensures exact { AnswersPlaced (λ image. image) result (assembled text.now) }
+
+    // Where the fault is: at the word that is wrong.
+    ensures place { IfErr result (IsPlacedIn text.now) }
+
     ensures memory { IfErr result (λ e. e.fault.kind ≡ fault.Memory
         → (1 ≤ e.fault.line) × (e.fault.line ≤ max (length (lines_of text.now)) 1)) }
 {
@@ -66,6 +71,7 @@ pub fn assemble_named(alloc: Global, text: &[u8]) -> Result<(Image, Symbols<'_>)
     ensures found { IfOk result (λ both. StandsFor text.now both.0) }
     ensures symbols { IfOk result (λ both. symbols_in text.now ≡ Ok both.1) }
     ensures exact { AnswersPlaced (λ both. both.0) result (assembled text.now) }
+    ensures place { IfErr result (IsPlacedIn text.now) }
     ensures memory { IfErr result (λ e. e.fault.kind ≡ fault.Memory
         → (1 ≤ e.fault.line) × (e.fault.line ≤ max (length (lines_of text.now)) 1)) }
 {

@@ -1,13 +1,14 @@
 //! From a text to its draft: each line is read after the lines before it, and added.
-ghost use Rattle.std.specs.Prelude.{◌≡◌, ◌<◌, ◌≤◌, [], ◌∷◌, IfErr, IfOk, IsErr, Ok, OnOk, false, length, map, true};
-ghost use Rattle.line_reader.specs.Reading.{is_directive, is_label};
-ghost use Rattle.assembler.specs.Answers.{AnswersAt, AnswersPlaced, at_line};
+ghost use Rattle.std.specs.Prelude.{◌≡◌, ◌≢◌, ◌<◌, ◌≤◌, [], ◌∷◌, IfErr, IfOk, IsErr, Ok, OnOk, false, length, map, true};
+ghost use Rattle.line_reader.specs.Reading.{fault_at, is_directive, is_label};
+ghost use Rattle.assembler.specs.Answers.{AnswersAt, AnswersPlaced, IsWrong, at_line};
 ghost use Rattle.line_reader.specs.declared.asm_fault.AsmFaultKind.TheVariants as fault;
 ghost use Rattle.assembler.specs.Passes.{behind, lines_read};
+ghost use Rattle.assembler.specs.Placed.{IsPlacedIn};
 ghost use Rattle.assembler.specs.Reading.{line_behind, words_behind};
 ghost use Rattle.line_reader.specs.FirstLine.{first_line};
 ghost use Rattle.line_reader.specs.Seen.{name_seen};
-ghost use Rattle.line_reader.specs.Words.{lines_of};
+ghost use Rattle.line_reader.specs.Words.{lines_of, words_of};
 
 use crate::draft::Draft;
 use crate::kept_line::KeptLine;
@@ -24,7 +25,7 @@ use std::alloc::{AllocError, Global};
 #[inline(always)]
 fn pushed(added: Result<(), AllocError>) -> Result<(), WordFault>
     ensures ok { OnOk result (added ≡ Ok tt) }
-    ensures err { IfErr result (λ refused. (refused.kind ≡ fault.Memory) × IsErr added) }
+    ensures err { IfErr result (λ refused. (refused ≡ fault_at 0 fault.Memory) × IsErr added) }
 {
     match added {
         Ok(()) => Ok(()),
@@ -42,8 +43,10 @@ fn add_labelled<'a>(
     words: &[&'a [u8]],
 ) -> Result<(), WordFault>
     requires { is_label word.now ≡ true }
-    ensures { AnswersAt (λ _. draft.new) (at_line number result)
+    ensures read { AnswersAt (λ _. draft.new) (at_line number result)
         (behind draft.old number (words_behind draft.old (word.now ∷ map name_seen words.now))) }
+    ensures wrong { IfErr result (λ e. IsWrong e
+        (words_behind draft.old (word.now ∷ map name_seen words.now))) }
 {
     let line = label_behind(&*draft, number, word, words)?;
     pushed(draft.push(line))
@@ -60,8 +63,10 @@ fn add_directive<'a>(
 ) -> Result<(), WordFault>
     requires label { is_label word.now ≡ false }
     requires directive { is_directive word.now ≡ true }
-    ensures { AnswersAt (λ _. draft.new) (at_line number result)
+    ensures read { AnswersAt (λ _. draft.new) (at_line number result)
         (behind draft.old number (words_behind draft.old (word.now ∷ map name_seen words.now))) }
+    ensures wrong { IfErr result (λ e. IsWrong e
+        (words_behind draft.old (word.now ∷ map name_seen words.now))) }
 {
     let said = directive_behind(&*draft, word, words)?;
     pushed(draft.push_directive(number, said))
@@ -78,8 +83,10 @@ fn add_row<'a>(
 ) -> Result<(), WordFault>
     requires label { is_label word.now ≡ false }
     requires directive { is_directive word.now ≡ false }
-    ensures { AnswersAt (λ _. draft.new) (at_line number result)
+    ensures read { AnswersAt (λ _. draft.new) (at_line number result)
         (behind draft.old number (words_behind draft.old (word.now ∷ map name_seen words.now))) }
+    ensures wrong { IfErr result (λ e. IsWrong e
+        (words_behind draft.old (word.now ∷ map name_seen words.now))) }
 {
     let row = row_behind(&*draft, word, words)?;
     pushed(draft.push(KeptLine::Row(number, row)))
@@ -89,8 +96,9 @@ fn add_row<'a>(
 #[inline(always)]
 #[tactic(auto, unfolding(crate::specs::Reading::words_behind))]
 fn add_words<'a>(draft: &mut Draft<'a>, number: u64, words: &[&'a [u8]]) -> Result<(), WordFault>
-    ensures { AnswersAt (λ _. draft.new) (at_line number result)
+    ensures read { AnswersAt (λ _. draft.new) (at_line number result)
         (behind draft.old number (words_behind draft.old (map name_seen words.now))) }
+    ensures wrong { IfErr result (λ e. IsWrong e (words_behind draft.old (map name_seen words.now))) }
 {
     match words {
         [] => Ok(()),
@@ -108,7 +116,7 @@ fn add_words<'a>(draft: &mut Draft<'a>, number: u64, words: &[&'a [u8]]) -> Resu
 
 /// Adds the first line of a text, which has this number. Returns the text after it. The line's words are left in `words`.
 #[inline(always)]
-#[tactic(auto, unfolding(crate::specs::Reading::line_behind))]
+#[tactic(auto, unfolding(crate::specs::Reading::line_behind), using(crate::proofs::SpelledLines::words_counted))]
 fn read_line<'a>(
     draft: &mut Draft<'a>,
     words: &mut Vec<&'a [u8]>,
@@ -118,6 +126,9 @@ fn read_line<'a>(
     requires { 0 < length text.now }
     ensures read { AnswersAt (λ _. draft.new) (at_line number result)
         (behind draft.old number (line_behind draft.old (first_line text.now))) }
+    ensures wrong { IfErr result (λ e. IsWrong e (line_behind draft.old (first_line text.now))) }
+    ensures words { IfErr result (λ e. e.left ≢ 0
+        → length words.new.items ≡ length (words_of (first_line text.now))) }
     ensures lines { IfOk result (λ after. lines_of text.now ≡ first_line text.now ∷ lines_of after.now) }
     ensures shorter { IfOk result (λ after. length after.now < length text.now) }
 {
@@ -131,6 +142,7 @@ pub fn lines_read(alloc: Global, text: &[u8]) -> Result<(Draft<'_>, u64), Placed
     ensures read { AnswersPlaced (λ x. x.0) result (lines_read 1 [] (lines_of text.now)) }
     ensures lines { IfOk result (λ x. x.1 ≡ length (lines_of text.now)) }
     ensures line { IfErr result (λ e. (1 ≤ e.fault.line) × (e.fault.line ≤ length (lines_of text.now))) }
+    ensures place { IfErr result (IsPlacedIn text.now) }
 {
     let mut draft = Draft::new(alloc, NameHash::new(text));
     let mut words = Vec::new(alloc);

@@ -1,6 +1,6 @@
 //! How a line is read after the lines before it: which names are new, what has room, and where a directive may be.
 ghost use Rattle.std.specs.Prelude.{◌≡◌, IfOk, Option, false, map, option_map, true};
-ghost use Rattle.line_reader.specs.Seen.{seen_in, name_seen, statement_seen};
+ghost use Rattle.line_reader.specs.Seen.{seen, name_seen, statement_seen};
 ghost use Rattle.line_reader.specs.Reading.{before_last, is_label};
 ghost use Rattle.line_reader.specs.Symbols.{Name};
 ghost use Rattle.line_reader.specs.declared.statement.Statement.TheVariants as statement;
@@ -36,22 +36,19 @@ pub fn directive_behind<'a>(
     word: &[u8],
     words: &[&'a [u8]],
 ) -> Result<Statement<&'a [u8]>, WordFault>
-    ensures said { seen_in statement_seen result
+    ensures said { seen statement_seen result
         ≡ directive_behind draft.now word.now (map name_seen words.now) }
     ensures directive { IfOk result (λ said. is_code (statement_seen said) ≡ false) }
 {
     if draft.has_code() {
-        return Err(WordFault::at(
-            words.len().saturating_add(1),
-            AsmFaultKind::MisplacedDirective,
-        ));
+        return Err(WordFault::at(words.len() + 1, AsmFaultKind::MisplacedDirective));
     }
     let said = directive_at(word, words)?;
     if !is_new(draft, name_in(&said)) {
         return Err(WordFault::at(words.len(), AsmFaultKind::NameTwice));
     }
     if !draft.has_room(&said) {
-        return Err(WordFault::at(words.len().saturating_add(1), AsmFaultKind::TooMany));
+        return Err(WordFault::at(words.len() + 1, AsmFaultKind::TooMany));
     }
     Ok(said)
 }
@@ -64,12 +61,12 @@ pub fn row_behind<'a>(
     word: &[u8],
     words: &[&'a [u8]],
 ) -> Result<KeptRow<'a>, WordFault>
-    ensures { (label : Option Name) → seen_in (λ row. statement.Row label (row_kept row)) result
+    ensures { (label : Option Name) → seen (λ row. statement.Row label (row_kept row)) result
         ≡ row_behind draft.now label word.now (map name_seen words.now) }
 {
     let row = row_at(word, words)?;
     if !draft.has_room_for_row() {
-        return Err(WordFault::at(words.len().saturating_add(1), AsmFaultKind::TooMany));
+        return Err(WordFault::at(words.len() + 1, AsmFaultKind::TooMany));
     }
     Ok(row)
 }
@@ -82,7 +79,7 @@ fn labelled_behind<'a>(
     label: &'a [u8],
     words: &[&'a [u8]],
 ) -> Result<KeptLine<'a>, WordFault>
-    ensures said { seen_in statement_kept result
+    ensures said { seen statement_kept result
         ≡ labelled_behind draft.now label.now (map name_seen words.now) }
     ensures number { IfOk result (λ line. number_kept line ≡ number) }
 {
@@ -107,11 +104,11 @@ pub fn label_behind<'a>(
     words: &[&'a [u8]],
 ) -> Result<KeptLine<'a>, WordFault>
     requires { is_label word.now ≡ true }
-    ensures said { seen_in statement_kept result
+    ensures said { seen statement_kept result
         ≡ statement_behind draft.now word.now (map name_seen words.now) }
     ensures number { IfOk result (λ line. number_kept line ≡ number) }
 {
-    let left = words.len().saturating_add(1);
+    let left = words.len() + 1;
     let label = read_at(left, name_at(before_last(word)))?;
     if draft.is_given(label) {
         return Err(WordFault::at(left, AsmFaultKind::NameTwice));

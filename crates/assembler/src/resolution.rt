@@ -1,10 +1,11 @@
-ghost use Rattle.std.specs.Prelude.{◌≡◌, map, IfErr};
+ghost use Rattle.std.specs.Prelude.{◌≡◌, ◌⊎◌, map, IfErr};
 ghost use Rattle.row_code.specs.Image.{IsImage};
 ghost use Rattle.line_reader.specs.declared.asm_fault.AsmFaultKind.TheVariants as fault;
 ghost use Rattle.assembler.specs.Answers.{AnswersPlaced};
 ghost use Rattle.assembler.specs.Meaning.{image_of};
 ghost use Rattle.assembler.specs.Passes.{first_unknown, looked_up};
 ghost use Rattle.assembler.specs.KeptLine.{line_kept};
+ghost use Rattle.assembler.specs.Placed.{IsMemory, IsUnknownPlaced};
 
 use crate::draft::Draft;
 use crate::kept_line::KeptLine;
@@ -30,6 +31,7 @@ fn parts_of<'a>(
     ensures found { AnswersPlaced (λ parts. parts) result
         (looked_up draft.now (first_unknown draft.now)) }
     ensures memory { IfErr result (λ e. e.fault.kind ≡ fault.Memory → e.fault.line ≡ last) }
+    ensures place { IfErr result (λ e. IsMemory e ⊎ IsUnknownPlaced draft.now text.now e) }
 {
     let mut parts = Parts::new(alloc);
     for line in lines {
@@ -52,6 +54,7 @@ pub fn image_of(alloc: Global, draft: &Draft, text: &[u8], last: u64) -> Result<
     ensures found { AnswersPlaced (λ image. image) result
         (looked_up draft.now (first_unknown draft.now)) }
     ensures memory { IfErr result (λ e. e.fault.kind ≡ fault.Memory → e.fault.line ≡ last) }
+    ensures place { IfErr result (λ e. IsMemory e ⊎ IsUnknownPlaced draft.now text.now e) }
 {
     let parts = parts_of(alloc, draft, draft.lines(), text, last)?;
     Ok(parts.into_image())

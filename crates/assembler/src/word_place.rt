@@ -1,9 +1,10 @@
 //! Where a word is in its line.
-ghost use Rattle.std.specs.Prelude.{◌≡◌, ◌-◌, ◌<◌, ◌≤◌, ◌++◌, IfSome, Some, drop, length, slice_get, take};
-ghost use Rattle.std.specs.List.{position};
+ghost use Rattle.std.specs.Prelude.{◌≡◌, ◌+◌, ◌-◌, ◌<◌, ◌≤◌, ◌++◌, IfSome, Some, drop, length, option_map, slice_get, take, ℕ};
+ghost use Rattle.std.specs.List.{position, slice_split};
 ghost use Rattle.line_reader.specs.FirstLine.{word_alone};
+ghost use Rattle.line_reader.specs.Seen.{name_seen};
 ghost use Rattle.line_reader.specs.Words.{is_blank, lines_of, words_in};
-ghost use Rattle.assembler.specs.Placed.{IsWordAt};
+ghost use Rattle.assembler.specs.Placed.{IsWordAt, places_from, places_in, with_piece};
 
 use line_reader::first_line::first_line;
 use line_reader::words::is_blank;
@@ -17,7 +18,8 @@ pub struct WordPlace {
 
 /// Returns the line of this number, from 1, if there is one.
 pub fn line_at(text: &[u8], number: u64) -> Option<&[u8]>
-    ensures { IfSome result (λ line. slice_get (lines_of text.now) (number - 1) ≡ Some line.now) }
+    ensures line { IfSome result (λ line. slice_get (lines_of text.now) (number - 1) ≡ Some line.now) }
+    ensures found { 1 ≤ number → option_map name_seen result ≡ slice_get (lines_of text.now) (number - 1) }
 {
     let mut rest = text;
     let mut left = number.checked_sub(1)?;
@@ -43,6 +45,9 @@ fn place_of_blank(bytes: &[u8]) -> Option<usize>
 fn first_piece(text: &[u8]) -> (&[u8], &[u8])
     requires { 0 < length text.now }
     ensures words { words_in text.now ≡ word_alone result.0.now ++ words_in result.1.now }
+    ensures places { (begin : ℕ) → places_from begin (slice_split is_blank text.now)
+        ≡ with_piece begin (length result.0.now) (places_from
+        (begin + (length text.now - length result.1.now)) (slice_split is_blank result.1.now)) }
     ensures piece { result.0.now ≡ take (length result.0.now) text.now }
     ensures after { result.1.now ≡ drop (length text.now - length result.1.now) text.now }
     ensures within { length result.0.now ≤ length text.now }
@@ -56,7 +61,8 @@ fn first_piece(text: &[u8]) -> (&[u8], &[u8])
 
 /// Returns the place of the word of this number, from 0, in a line without its comment, if there are so many.
 pub fn place_of_word(text: &[u8], number: usize) -> Option<WordPlace>
-    ensures { IfSome result (IsWordAt text.now number) }
+    ensures place { result ≡ slice_get (places_in text.now) number }
+    ensures word { IfSome result (IsWordAt text.now number) }
 {
     let mut at = 0usize;
     let mut left = number;
@@ -78,7 +84,10 @@ pub fn place_of_word(text: &[u8], number: usize) -> Option<WordPlace>
 
 /// Returns the place of the last word equal to `word` in a line without its comment, if there is one. It tries each number
 /// that a word can have, from the highest on: a line has at most as many words as bytes.
-pub fn last_place_of(text: &[u8], word: &[u8]) -> Option<WordPlace> {
+pub fn last_place_of(text: &[u8], word: &[u8]) -> Option<WordPlace>
+    ensures { IfSome result (λ place. (number : ℕ) × IsWordAt text.now number place
+        × (Some word.now ≡ slice_get (words_in text.now) number)) }
+{
     for number in (0..text.len()).rev() {
         if let Some(place) = place_of_word(text, number) {
             if text.get(place.at..place.at.saturating_add(place.length)) == Some(word) {

@@ -1,2 +1,4 @@
-pub mod Input
 pub mod Request
+pub mod Input
+pub mod Needed
+pub mod Shown

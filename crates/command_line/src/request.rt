@@ -1,6 +1,8 @@
 //! What the arguments of a command line ask for.
-ghost use Rattle.std.specs.Prelude.{◌≤◌, ◌+◌, IfOk, IfSome};
-ghost use Rattle.command_line.specs.Request.{AreInRange, IsInRange};
+ghost use Rattle.std.specs.Prelude.{◌≡◌, ◌≤◌, ◌+◌, IfOk, IfSome, Some, codes, option_map};
+ghost use Rattle.std.specs.Str.Parse.{digits_value};
+ghost use Rattle.clap.specs.Words.{subcommand_rows_of};
+ghost use Rattle.command_line.specs.Request.{AreInRange, AreOrders, AreSteps, AreWords, Asks, AsksBy, IsFlag, IsInRange, IsNumber, IsRun, given, rows_in, word_of};
 
 use crate::commands::program;
 use clap::error::ErrorKind;
@@ -143,9 +145,18 @@ const SEEDS: &str =
 
 const EARLY: &str = "--expect STATE goes after the command's name";
 
+/// The word in a place, if it is given.
+fn word_given<'a>(matches: &ArgMatches<'a>, place: &str) -> Option<&'a str>
+    ensures { option_map (λ word. word.now) result ≡ given place.now (rows_in matches.now) }
+{
+    matches.get_str(place)
+}
+
 /// The word in a place that `clap` has made sure of.
-fn word<'a>(matches: &ArgMatches<'a>, place: &str) -> &'a str {
-    matches.get_str(place).unwrap_or("")
+fn word<'a>(matches: &ArgMatches<'a>, place: &str) -> &'a str
+    ensures { result.now ≡ word_of place.now (rows_in matches.now) }
+{
+    word_given(matches, place).unwrap_or("")
 }
 
 /// The words in a place that takes several.
@@ -153,18 +164,23 @@ fn words<'a>(
     alloc: Global,
     matches: &ArgMatches<'a>,
     place: &str,
-) -> Result<Vec<&'a str>, AllocError> {
+) -> Result<Vec<&'a str>, AllocError>
+    ensures { IfOk result (AreWords place.now (rows_in matches.now)) }
+{
     Vec::from_slice(alloc, matches.get_strs(place).unwrap_or(&[]))
 }
 
 /// Whether a flag is given.
-fn is_set(matches: &ArgMatches<'_>, flag: &str) -> bool {
-    matches.get_str(flag) == Some("true")
+fn is_set(matches: &ArgMatches<'_>, flag: &str) -> bool
+    ensures { IsFlag (given flag.now (rows_in matches.now)) result }
+{
+    matches!(word_given(matches, flag), Some("true"))
 }
 
 /// The number from `least` to `most` that one to ten digits spell.
 fn number(text: &str, least: u32, most: u32) -> Option<u32>
-    ensures { IfSome result (λ n. (least ≤ n) × (n ≤ most)) }
+    ensures range { IfSome result (λ n. (least ≤ n) × (n ≤ most)) }
+    ensures spelled { IfSome result (λ n. n ≡ digits_value 10 text.now) }
 {
     if text.len() > 10 || text.starts_with("+") {
         return None;
@@ -176,15 +192,16 @@ fn number(text: &str, least: u32, most: u32) -> Option<u32>
 }
 
 /// The number of an option that may be left out. `clap` has refused what isn't from `least` to `most`.
-fn given(
+fn number_given(
     matches: &ArgMatches<'_>,
     option: &str,
     least: u32,
     most: u32,
 ) -> Result<Option<u32>, Refusal>
-    ensures { IfOk result (λ given. IfSome given (λ n. (least ≤ n) × (n ≤ most))) }
+    ensures range { IfOk result (λ number. IfSome number (λ n. (least ≤ n) × (n ≤ most))) }
+    ensures asked { IfOk result (IsNumber (given option.now (rows_in matches.now))) }
 {
-    let Some(digits) = matches.get_str(option) else {
+    let Some(digits) = word_given(matches, option) else {
         return Ok(None);
     };
     match number(digits, least, most) {
@@ -195,9 +212,10 @@ fn given(
 
 /// The number of an option that has to be there.
 fn needed(matches: &ArgMatches<'_>, option: &str, least: u32, most: u32) -> Result<u32, Refusal>
-    ensures { IfOk result (λ n. (least ≤ n) × (n ≤ most)) }
+    ensures range { IfOk result (λ n. (least ≤ n) × (n ≤ most)) }
+    ensures asked { IfOk result (λ n. IsNumber (given option.now (rows_in matches.now)) (Some n)) }
 {
-    match given(matches, option, least, most)? {
+    match number_given(matches, option, least, most)? {
         Some(number) => Ok(number),
         None => Err(Refusal::Wrong(NUMBER)),
     }
@@ -216,7 +234,9 @@ pub fn spaced(alloc: Global, text: &str) -> Result<Vec<u8>, AllocError> {
 }
 
 /// Returns each `--expect STATE`, or the refusal of one that expects nothing. It may have any blanks between its words.
-fn expected<'a>(alloc: Global, matches: &ArgMatches<'a>) -> Result<Vec<&'a str>, Refusal> {
+fn expected<'a>(alloc: Global, matches: &ArgMatches<'a>) -> Result<Vec<&'a str>, Refusal>
+    ensures { IfOk result (AreWords (codes "expect") (rows_in matches.now)) }
+{
     let states = words(alloc, matches, "expect")?;
     for state in states.iter() {
         if !is_expectation(spaced(alloc, *state)?.as_slice()) {
@@ -227,14 +247,16 @@ fn expected<'a>(alloc: Global, matches: &ArgMatches<'a>) -> Result<Vec<&'a str>,
 }
 
 /// The choices that are named, as a schedule, by `--at`, `--plan` or `--plan-file`.
-fn chosen_steps<'a>(matches: &ArgMatches<'a>) -> Steps<'a> {
-    if let Some(file) = matches.get_str("SCHEDULE") {
+fn chosen_steps<'a>(matches: &ArgMatches<'a>) -> Steps<'a>
+    ensures { AreSteps (rows_in matches.now) result }
+{
+    if let Some(file) = word_given(matches, "SCHEDULE") {
         Steps::Named(file)
-    } else if let Some(trace) = matches.get_str("at") {
+    } else if let Some(trace) = word_given(matches, "at") {
         Steps::Trace(trace)
-    } else if let Some(plan) = matches.get_str("plan") {
+    } else if let Some(plan) = word_given(matches, "plan") {
         Steps::Plan(plan)
-    } else if let Some(file) = matches.get_str("plan-file") {
+    } else if let Some(file) = word_given(matches, "plan-file") {
         Steps::PlanFile(file)
     } else {
         Steps::Beside
@@ -257,15 +279,16 @@ fn seeds_in(text: &str) -> Option<Seeds>
 
 /// The orders that `plan --seeds` asks for, or None without this option.
 fn given_orders<'a>(alloc: Global, matches: &ArgMatches<'a>) -> Result<Option<Orders<'a>>, Refusal>
-    ensures { IfOk result (λ orders. IfSome orders AreInRange) }
+    ensures range { IfOk result (λ orders. IfSome orders AreInRange) }
+    ensures asked { IfOk result (AreOrders (rows_in matches.now)) }
 {
-    let Some(text) = matches.get_str("seeds") else {
+    let Some(text) = word_given(matches, "seeds") else {
         return Ok(None);
     };
     let Some(seeds) = seeds_in(text) else {
         return Err(Refusal::Wrong(SEEDS));
     };
-    let limit = given(matches, "limit", 1, 1_000_000)?;
+    let limit = number_given(matches, "limit", 1, 1_000_000)?;
     let expected = expected(alloc, matches)?;
     Ok(Some(Orders {
         seeds,
@@ -276,11 +299,12 @@ fn given_orders<'a>(alloc: Global, matches: &ArgMatches<'a>) -> Result<Option<Or
 
 /// The request of `live`, whose numbers are in their ranges.
 fn live<'a>(alloc: Global, matches: &ArgMatches<'a>) -> Result<Request<'a>, Refusal>
-    ensures { IfOk result IsInRange }
+    ensures range { IfOk result IsInRange }
+    ensures asked { IfOk result (AsksBy (codes "live") (rows_in matches.now)) }
 {
     let limit = needed(matches, "limit", 1, 1_000_000_000)?;
-    let seed = given(matches, "stir", 0, 4_294_967_295)?;
-    let runs = given(matches, "runs", 1, 100_000)?;
+    let seed = number_given(matches, "stir", 0, 4_294_967_295)?;
+    let runs = number_given(matches, "runs", 1, 100_000)?;
     let expected = expected(alloc, matches)?;
     Ok(Request::Live {
         file: word(matches, "FILE"),
@@ -293,7 +317,8 @@ fn live<'a>(alloc: Global, matches: &ArgMatches<'a>) -> Result<Request<'a>, Refu
 
 /// The request of `race`, whose numbers are in their ranges.
 fn race<'a>(matches: &ArgMatches<'a>) -> Result<Request<'a>, Refusal>
-    ensures { IfOk result IsInRange }
+    ensures range { IfOk result IsInRange }
+    ensures asked { IfOk result (AsksBy (codes "race") (rows_in matches.now)) }
 {
     let parties = needed(matches, "parties", 1, 16)?;
     let rounds = needed(matches, "rounds", 1, 1_000_000)?;
@@ -305,7 +330,8 @@ fn race<'a>(matches: &ArgMatches<'a>) -> Result<Request<'a>, Refusal>
 
 /// The request of `draw`, whose width is in its range.
 fn draw<'a>(matches: &ArgMatches<'a>) -> Result<Request<'a>, Refusal>
-    ensures { IfOk result IsInRange }
+    ensures range { IfOk result IsInRange }
+    ensures asked { IfOk result (AsksBy (codes "draw") (rows_in matches.now)) }
 {
     let width = needed(matches, "width", 60, 1000)?;
     Ok(Request::Draw {
@@ -321,7 +347,8 @@ fn run<'a>(
     file: Option<&'a str>,
     matches: &ArgMatches<'a>,
 ) -> Result<Request<'a>, Refusal>
-    ensures { IfOk result IsInRange }
+    ensures range { IfOk result IsInRange }
+    ensures asked { IfOk result (IsRun file.entry (rows_in matches.now)) }
 {
     let expected = expected(alloc, matches)?;
     Ok(Request::Run {
@@ -337,7 +364,8 @@ fn request_by<'a>(
     command: &str,
     matches: &ArgMatches<'a>,
 ) -> Result<Request<'a>, Refusal>
-    ensures { IfOk result IsInRange }
+    ensures range { IfOk result IsInRange }
+    ensures asked { IfOk result (AsksBy command.now (rows_in matches.now)) }
 {
     let file = word(matches, "FILE");
     match command {
@@ -372,7 +400,7 @@ fn request_by<'a>(
         }),
         "plan" => Ok(Request::Plan {
             file,
-            plan: matches.get_str("PLAN"),
+            plan: word_given(matches, "PLAN"),
             has_names: is_set(matches, "names"),
             orders: given_orders(alloc, matches)?,
         }),
@@ -384,12 +412,13 @@ fn request_by<'a>(
 
 /// The request of the command, or without one a run of standard input. `--expect` before a command is refused.
 fn request_of<'a>(alloc: Global, matches: &ArgMatches<'a>) -> Result<Request<'a>, Refusal>
-    ensures { IfOk result IsInRange }
+    ensures range { IfOk result IsInRange }
+    ensures asked { IfOk result (Asks (rows_in matches.now) (subcommand_rows_of matches.now)) }
 {
     let Some((command, of_command)) = matches.subcommand() else {
         return run(alloc, None, matches);
     };
-    if matches.get_str("expect").is_some() {
+    if word_given(matches, "expect").is_some() {
         return Err(Refusal::Wrong(EARLY));
     }
     request_by(alloc, command, of_command)
@@ -418,7 +447,10 @@ pub fn no_text(alloc: Global, version: &str) -> Error {
         Ok(program) => program,
         Err(memory) => return Error::from(memory),
     };
-    match program.error(ErrorKind::ValueValidation, "an argument isn't UTF-8") {
+    match program.error(
+        ErrorKind::ValueValidation,
+        "invalid UTF-8 was detected in one or more arguments",
+    ) {
         Ok(error) => error,
         Err(memory) => Error::from(memory),
     }

@@ -45,18 +45,18 @@ pub few_names : (symbols : SymbolTable) (names : List (Bor (List ℕ))) (count :
 few_names symbols names count are few = grind (arith, length-map, length-map-range_with_len)
 
 -- a plan that is read is played
-pub plan_played : (names : List (List ℕ)) (plan : List ℕ) (program : Loaded) (planned : Planned) (words taken : List Word)
-    → words_in_plan names plan ≡ Ok words → IsPlan words → taken ≡ words → IsPlanOf program taken planned
-    → (progress : Progress) × (Plays program names plan progress × Shows planned progress)
-plan_played names plan program planned words taken read whole also shows = grind arith
+pub plan_played : (most : ℕ) (names : List (List ℕ)) (plan : List ℕ) (program : Loaded) (planned : Planned) (words taken : List Word)
+    → words_in_plan names plan ≡ Ok words → IsPlan words → taken ≡ words → IsPlanOf program most taken planned
+    → (progress : Progress) × (Plays program most names plan progress × Shows planned progress)
+plan_played most names plan program planned words taken read whole also shows = grind arith
 
 -- what a plan comes to on a loaded program, it comes to on the program
-pub comes_of_plan : (program : Program) (image : Image) (loaded : Loaded) (names seen : List (Bor (List ℕ))) (plan : List ℕ)
+pub comes_of_plan : (most : ℕ) (program : Program) (image : Image) (loaded : Loaded) (names seen : List (Bor (List ℕ))) (plan : List ℕ)
     (answer : Result Planned Unplanned) → image ≡ program.image → seen ≡ names → IsProgramOf image loaded
     → HasThreads image program.names (map name_seen names)
-    → IfOk answer (λ planned. (progress : Progress) × (Plays loaded (map name_seen seen) plan progress × Shows planned progress))
-    → IfOk answer (λ planned. (progress : Progress) × (ComesOfPlan program plan progress × Shows planned progress))
-comes_of_plan program image loaded names seen plan (Ok planned) is same of has p = (
+    → IfOk answer (λ planned. (progress : Progress) × (Plays loaded most (map name_seen seen) plan progress × Shows planned progress))
+    → IfOk answer (λ planned. (progress : Progress) × (ComesOfPlan program most plan progress × Shows planned progress))
+comes_of_plan most program image loaded names seen plan (Ok planned) is same of has p = (
   p.0,
   (
     (
@@ -66,34 +66,34 @@ comes_of_plan program image loaded names seen plan (Ok planned) is same of has p
         (
           subst (λ i. HasThreads i program.names (map name_seen names)) is has,
           subst (λ i. IsProgramOf i loaded) is of,
-          subst (λ (ns : List (Bor (List ℕ))). Plays loaded (map name_seen ns) plan p.0) same p.1.0,
+          subst (λ (ns : List (Bor (List ℕ))). Plays loaded most (map name_seen ns) plan p.0) same p.1.0,
         ),
       ),
     ),
     p.1.1,
   ),
 )
-comes_of_plan program image loaded names seen plan (Err reason) is same of has p = tt
+comes_of_plan most program image loaded names seen plan (Err reason) is same of has p = tt
 
 -- it is written
-pub plan_written : (answer : Result Bool Unplanned) (planned : Planned) (program : Program) (plan : List ℕ) (old new : Option (List ℕ))
-    → (progress : Progress) × (ComesOfPlan program plan progress × Shows planned progress)
+pub plan_written : (most : ℕ) (answer : Result Bool Unplanned) (planned : Planned) (program : Program) (plan : List ℕ) (old new : Option (List ℕ))
+    → (progress : Progress) × (ComesOfPlan program most plan progress × Shows planned progress)
     → AreRuns planned.runs.items → IfOk answer (λ stopped. stopped ≡ planned.stopped)
     → IfOk answer (λ _. Appends old new (schedule_line planned.runs.items))
-    → IfOk answer (λ stopped. HasPlanned stopped program plan old new)
-plan_written (Ok stopped) planned program plan old new (progress, (comes, shows)) are told appends =
+    → IfOk answer (λ stopped. HasPlanned stopped program most plan old new)
+plan_written most (Ok stopped) planned program plan old new (progress, (comes, shows)) are told appends =
     (schedule_line planned.runs.items, (progress, (comes, (planned.runs.items, (are, shows.choices, refl, told ∙ shows.stopped)), appends)))
-plan_written (Err reason) planned program plan old new p are told appends = tt
+plan_written most (Err reason) planned program plan old new p are told appends = tt
 
 -- it is written with the names of the threads
-pub named_written : (answer : Result Bool Unplanned) (planned : Planned) (program : Program) (names seen : List (Bor (List ℕ))) (plan : List ℕ) (old new : Option (List ℕ))
-    → (progress : Progress) × (ComesOfPlan program plan progress × Shows planned progress)
+pub named_written : (most : ℕ) (answer : Result Bool Unplanned) (planned : Planned) (program : Program) (names seen : List (Bor (List ℕ))) (plan : List ℕ) (old new : Option (List ℕ))
+    → (progress : Progress) × (ComesOfPlan program most plan progress × Shows planned progress)
     → HasThreads program.image program.names (map name_seen names) → seen ≡ names → AreRuns planned.runs.items
     → IfOk answer (λ stopped. stopped ≡ planned.stopped)
     → IfOk answer (λ _. Appends old new (line_by (Some (map name_seen seen)) planned.runs.items))
-    → IfOk answer (λ stopped. HasNamedPlanned stopped program plan old new)
-named_written (Err reason) planned program names seen plan old new p has same are told appends = tt
-named_written (Ok stopped) planned program names seen plan old new (progress, (comes, shows)) has same are told appends =
+    → IfOk answer (λ stopped. HasNamedPlanned stopped program most plan old new)
+named_written most (Err reason) planned program names seen plan old new p has same are told appends = tt
+named_written most (Ok stopped) planned program names seen plan old new (progress, (comes, shows)) has same are told appends =
     let line = line_by (Some (map name_seen seen)) planned.runs.items in (
       map name_seen seen,
       (

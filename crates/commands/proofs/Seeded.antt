@@ -61,15 +61,15 @@ judged expected run state unlike is told =
 -- what is played of a copy of a program, by a text that is the plan's, is played of the program by the plan
 pub copy_played : (program copy : Loaded) (names : List (List ℕ)) (plan text : List ℕ) (answer : Result Planned Unplanned)
     → copy ≡ program → text ≡ plan
-    → IfOk answer (λ planned. (progress : Progress) × (Plays copy names text progress × Shows planned progress))
-    → IfOk answer (λ planned. (progress : Progress) × (Plays program names plan progress × Shows planned progress))
+    → IfOk answer (λ planned. (progress : Progress) × (Plays copy 1000000 names text progress × Shows planned progress))
+    → IfOk answer (λ planned. (progress : Progress) × (Plays program 1000000 names plan progress × Shows planned progress))
 copy_played program copy names plan text answer is also played =
-    subst (λ t. IfOk answer (λ planned. (progress : Progress) × (Plays program names t progress × Shows planned progress))) also
-    (subst (λ p. IfOk answer (λ planned. (progress : Progress) × (Plays p names text progress × Shows planned progress))) is played)
+    subst (λ t. IfOk answer (λ planned. (progress : Progress) × (Plays program 1000000 names t progress × Shows planned progress))) also
+    (subst (λ p. IfOk answer (λ planned. (progress : Progress) × (Plays p 1000000 names text progress × Shows planned progress))) is played)
 
 -- what the plan of a seed comes to is a run of it
 pub seed_played : (program : Loaded) (names : List (List ℕ)) (plan : List ℕ) (limit : Option ℕ) (seed : ℕ) (planned : Planned) (run : Ended)
-    → (progress : Progress) × (Plays program names (plan_by plan limit seed) progress × Shows planned progress)
+    → (progress : Progress) × (Plays program 1000000 names (plan_by plan limit seed) progress × Shows planned progress)
     → AreRuns planned.runs.items → IsEndOf planned seed run → IsEndBy program names plan limit seed run
 seed_played program names plan limit seed planned run (progress, (plays, shows)) are (seeded, schedule, standing, state) = (
   progress,

@@ -35,15 +35,15 @@ thread_names symbols count = map (thread_name symbols) (range_with_len 0 count)
 abbrev pub HasThreads : Image → SymbolTable → List (List ℕ) → Type 0
 HasThreads image symbols names = (first_fault image ≡ None) × (names ≡ thread_names symbols (length image.threads))
 
--- how far the plan in a text comes on a loaded program whose threads have these names
-abbrev pub Plays : Loaded → (names : List (List ℕ)) → (plan : List ℕ) → Progress → Type 0
-Plays loaded names plan progress =
-    (steps : Plan) × ((words_in_plan names plan ≡ Ok (words_of_plan steps)) × (progress ≡ plays steps (begun loaded)))
+-- how far the plan in a text comes, by so many choices at most, on a loaded program whose threads have these names
+abbrev pub Plays : Loaded → (most : ℕ) → (names : List (List ℕ)) → (plan : List ℕ) → Progress → Type 0
+Plays loaded most names plan progress =
+    (steps : Plan) × ((words_in_plan names plan ≡ Ok (words_of_plan steps)) × (progress ≡ plays steps (begun loaded most)))
 
-abbrev pub ComesOfPlan : Program → (plan : List ℕ) → Progress → Type 0
-ComesOfPlan program plan progress =
+abbrev pub ComesOfPlan : Program → (most : ℕ) → (plan : List ℕ) → Progress → Type 0
+ComesOfPlan program most plan progress =
     (loaded : Loaded) × ((names : List (List ℕ)) × (HasThreads program.image program.names names
-    × IsProgramOf program.image loaded × Plays loaded names plan progress))
+    × IsProgramOf program.image loaded × Plays loaded most names plan progress))
 
 -- what is written is the schedule of the choices that were made, as one line, and the result says whether the plan needed one
 -- more
@@ -70,13 +70,13 @@ HasNoSchedule (why.Plan f) program plan =
 HasNoSchedule (why.Fault f) program plan = IsUnloadedFor f program.image
 
 -- the schedule was written
-abbrev pub HasPlanned : (stopped : Bool) → Program → (plan : List ℕ) → (output_before output_after : Option (List ℕ)) → Type 0
-HasPlanned stopped program plan output_before output_after =
-    (text : List ℕ) × ((progress : Progress) × (ComesOfPlan program plan progress × Writes text stopped progress
+abbrev pub HasPlanned : (stopped : Bool) → Program → (most : ℕ) → (plan : List ℕ) → (output_before output_after : Option (List ℕ)) → Type 0
+HasPlanned stopped program most plan output_before output_after =
+    (text : List ℕ) × ((progress : Progress) × (ComesOfPlan program most plan progress × Writes text stopped progress
     × Appends output_before output_after text))
 
 -- it was written with the names of the threads
-abbrev pub HasNamedPlanned : (stopped : Bool) → Program → (plan : List ℕ) → (output_before output_after : Option (List ℕ)) → Type 0
-HasNamedPlanned stopped program plan output_before output_after =
+abbrev pub HasNamedPlanned : (stopped : Bool) → Program → (most : ℕ) → (plan : List ℕ) → (output_before output_after : Option (List ℕ)) → Type 0
+HasNamedPlanned stopped program most plan output_before output_after =
     (names : List (List ℕ)) × ((text : List ℕ) × ((progress : Progress) × (HasThreads program.image program.names names
-    × ComesOfPlan program plan progress × WritesNamed names text stopped progress × Appends output_before output_after text)))
+    × ComesOfPlan program most plan progress × WritesNamed names text stopped progress × Appends output_before output_after text)))

@@ -38,7 +38,7 @@ plan_by plan limit seed = plan ++ (codes "\n?" ++ (decimal seed ++ limit_mark li
 -- a run is what the plan of a seed leads to: the schedule of its choices, and the word for the program after them
 abbrev pub IsEndBy : Loaded → (names : List (List ℕ)) → (plan : List ℕ) → (limit : Option ℕ) → (seed : ℕ) → Ended → Type 0
 IsEndBy program names plan limit seed run =
-    (progress : Progress) × ((runs : List Run) × (Plays program names (plan_by plan limit seed) progress × AreRuns runs
+    (progress : Progress) × ((runs : List Run) × (Plays program 1000000 names (plan_by plan limit seed) progress × AreRuns runs
     × (choices_of runs ≡ progress.choices) × (run.seed ≡ Some seed) × (run.schedule ≡ schedule_text runs)
     × (standing_at run.ending ≡ standing_of progress.world) × (run.state ≡ end_text run.ending progress.world)))
 

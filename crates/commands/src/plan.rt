@@ -31,6 +31,9 @@ use std::alloc::{AllocError, Global};
 use workbench::Program;
 use workbench::fault::Fault;
 
+/// The most choices that a plan makes.
+pub const MOST_CHOICES: u32 = 1_000_000;
+
 /// Returns the name of a thread, or an empty one if it has none.
 fn thread_name<'a>(symbols: &Symbols<'a>, thread: u32) -> &'a [u8]
     ensures { result.now ≡ thread_name symbols.now thread }
@@ -101,15 +104,18 @@ fn plan_words(alloc: Global, plan: &[u8], names: &[&[u8]]) -> Result<Words, Unpl
     }
 }
 
-/// Plays a plan on a loaded program whose threads have these names. Returns its runs of choices, and the machine after them.
+/// Plays a plan of at most `most` choices on a loaded program whose threads have these names. Returns its runs of choices, and the
+/// machine after them.
 pub(crate) fn planned_on(
     alloc: Global,
     program: Loaded,
     names: &[&[u8]],
     plan: &[u8],
+    most: u32,
 ) -> Result<Planned, Unplanned>
-    requires { length names.now ≤ 64 }
-    ensures planned { IfOk result (λ planned. (progress : Progress) × (Plays program (map name_seen names.now) plan.now progress
+    requires names { length names.now ≤ 64 }
+    requires most { most ≤ 1000000 }
+    ensures planned { IfOk result (λ planned. (progress : Progress) × (Plays program most (map name_seen names.now) plan.now progress
         × Shows planned progress)) }
     ensures runs { IfOk result (λ planned. AreRuns planned.runs.items) }
     ensures refused { (f : PlanFault) → result ≡ Err (Unplanned.Plan f)
@@ -120,15 +126,15 @@ pub(crate) fn planned_on(
         Ok(words) => words,
         Err(reason) => return Err(reason),
     };
-    match plan_runs(alloc, program, &words.all()) {
+    match plan_runs(alloc, program, &words.all(), most) {
         Ok(planned) => Ok(planned),
         Err(_) => Err(Unplanned::Fault(Fault::Memory)),
     }
 }
 
-/// Plays a plan on a copy of a program. Returns its runs of choices, and the machine after them.
+/// Plays a plan of at most 1,000,000 choices on a copy of a program. Returns its runs of choices, and the machine after them.
 pub fn planned_in(alloc: Global, program: &Program<'_>, plan: &[u8]) -> Result<Planned, Unplanned>
-    ensures planned { IfOk result (λ planned. (progress : Progress) × (ComesOfPlan program.now plan.now progress
+    ensures planned { IfOk result (λ planned. (progress : Progress) × (ComesOfPlan program.now 1000000 plan.now progress
         × Shows planned progress)) }
     ensures runs { IfOk result (λ planned. AreRuns planned.runs.items) }
     ensures refused { IfErr result (λ reason. unplanned_status reason ≡ 3 → HasNoSchedule reason program.now plan.now) }
@@ -139,10 +145,10 @@ pub fn planned_in(alloc: Global, program: &Program<'_>, plan: &[u8]) -> Result<P
         return Err(Unplanned::Fault(Fault::Memory));
     };
     let (loaded, names) = loaded_program(alloc, image, &program.names)?;
-    planned_on(alloc, loaded, names.as_slice(), plan)
+    planned_on(alloc, loaded, names.as_slice(), plan, MOST_CHOICES)
 }
 
-/// Writes a plan's choices as a line, with `names` if given. Returns whether the plan was cut off at 1,000,000 choices.
+/// Writes a plan's choices as a line, with `names` if given. Returns whether the plan was cut off.
 fn push_planned<K: Sink>(
     alloc: Global,
     planned: &Planned,
@@ -167,13 +173,15 @@ fn push_planned<K: Sink>(
     Ok(planned.stopped)
 }
 
-/// Plays a plan on a program, which it uses up. Returns its runs of choices, and the names of the threads.
+/// Plays a plan of at most `most` choices on a program, which it uses up. Returns its runs of choices, and the names of the threads.
 fn planned_of<'a>(
     alloc: Global,
     program: Program<'a>,
     plan: &[u8],
+    most: u32,
 ) -> Result<(Planned, Vec<&'a [u8]>), Unplanned>
-    ensures planned { IfOk result (λ both. (progress : Progress) × (ComesOfPlan program.entry plan.now progress
+    requires { most ≤ 1000000 }
+    ensures planned { IfOk result (λ both. (progress : Progress) × (ComesOfPlan program.entry most plan.now progress
         × Shows both.0 progress)) }
     ensures runs { IfOk result (λ both. AreRuns both.0.runs.items) }
     ensures names { IfOk result (λ both. HasThreads program.entry.image program.entry.names (map name_seen both.1.items)) }
@@ -183,46 +191,50 @@ fn planned_of<'a>(
         × (result ≢ Err (why.Fault Fault.Spawn)) }
 {
     let (loaded, names) = loaded_program(alloc, program.image, &program.names)?;
-    match planned_on(alloc, loaded, names.as_slice(), plan) {
+    match planned_on(alloc, loaded, names.as_slice(), plan, most) {
         Ok(planned) => Ok((planned, names)),
         Err(reason) => Err(reason),
     }
 }
 
 /// Writes the schedule that a plan stands for on a program, as one line. The line is complete before anything is written.
-/// Returns whether the plan needed more than 1,000,000 choices. Then the choices so far are written.
+/// Returns whether the plan needed more than `most` choices. Then the choices so far are written.
 pub fn plan<K: Sink>(
     alloc: Global,
     program: Program<'_>,
     plan: &[u8],
+    most: u32,
     output: &mut K,
 ) -> Result<bool, Unplanned>
-    ensures done { IfOk result (λ stopped. HasPlanned stopped program.entry plan.now (K.written output.old) (K.written output.new)) }
+    requires { most ≤ 1000000 }
+    ensures done { IfOk result (λ stopped. HasPlanned stopped program.entry most plan.now (K.written output.old) (K.written output.new)) }
     ensures refused { IfErr result (λ reason. unplanned_status reason ≡ 3 → HasNoSchedule reason program.entry plan.now) }
     ensures unwritten { IfErr result (λ reason. reason ≢ why.Fault Fault.Write
         → K.written output.new ≡ K.written output.old) }
     ensures other { (result ≢ Err (why.Fault Fault.Read)) × (result ≢ Err (why.Fault Fault.Spawn)) }
     ensures write { result ≡ Err (why.Fault Fault.Write) → IsTrue (K.has_failed output.new) }
 {
-    let (planned, _names) = planned_of(alloc, program, plan)?;
+    let (planned, _names) = planned_of(alloc, program, plan, most)?;
     push_planned(alloc, &planned, None, output)
 }
 
 /// Writes the schedule that a plan stands for as one line with names for numbers, which is a plan, too. Returns whether the
-/// plan needed more than 1,000,000 choices. Then the choices so far are written.
+/// plan needed more than `most` choices. Then the choices so far are written.
 pub fn plan_with_names<K: Sink>(
     alloc: Global,
     program: Program<'_>,
     plan: &[u8],
+    most: u32,
     output: &mut K,
 ) -> Result<bool, Unplanned>
-    ensures done { IfOk result (λ stopped. HasNamedPlanned stopped program.entry plan.now (K.written output.old) (K.written output.new)) }
+    requires { most ≤ 1000000 }
+    ensures done { IfOk result (λ stopped. HasNamedPlanned stopped program.entry most plan.now (K.written output.old) (K.written output.new)) }
     ensures refused { IfErr result (λ reason. unplanned_status reason ≡ 3 → HasNoSchedule reason program.entry plan.now) }
     ensures unwritten { IfErr result (λ reason. reason ≢ why.Fault Fault.Write
         → K.written output.new ≡ K.written output.old) }
     ensures other { (result ≢ Err (why.Fault Fault.Read)) × (result ≢ Err (why.Fault Fault.Spawn)) }
     ensures write { result ≡ Err (why.Fault Fault.Write) → IsTrue (K.has_failed output.new) }
 {
-    let (planned, names) = planned_of(alloc, program, plan)?;
+    let (planned, names) = planned_of(alloc, program, plan, most)?;
     push_planned(alloc, &planned, Some(names.as_slice()), output)
 }

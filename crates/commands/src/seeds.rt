@@ -20,7 +20,7 @@ ghost use Rattle.commands.specs.declared.unplanned.Unplanned.TheVariants as why;
 
 use crate::end_state::EndState;
 use crate::outcomes::{Outcomes, add, sort};
-use crate::plan::{loaded_program, planned_on};
+use crate::plan::{MOST_CHOICES, loaded_program, planned_on};
 use crate::report::push_report;
 use crate::unplanned::Unplanned;
 use byte_ports::Sink;
@@ -129,7 +129,7 @@ fn planned_by_seed(
     seed: u64,
 ) -> Result<Planned, Unplanned>
     requires { length names.now ≤ 64 }
-    ensures planned { IfOk result (λ planned. (progress : Progress) × (Plays program.now (map name_seen names.now)
+    ensures planned { IfOk result (λ planned. (progress : Progress) × (Plays program.now 1000000 (map name_seen names.now)
         (plan_by plan.now limit seed) progress × Shows planned progress)) }
     ensures runs { IfOk result (λ planned. AreRuns planned.runs.items) }
     ensures refused { (f : PlanFault) → result ≡ Err (Unplanned.Plan f)
@@ -142,7 +142,7 @@ fn planned_by_seed(
     let Ok(program) = program.copy(alloc) else {
         return Err(Unplanned::Fault(Fault::Memory));
     };
-    planned_on(alloc, program, names, text.as_slice())
+    planned_on(alloc, program, names, text.as_slice(), MOST_CHOICES)
 }
 
 /// Counts the state in which a seed's run ended. Returns the run if that isn't as expected, or else `None`.

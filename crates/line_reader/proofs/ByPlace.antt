@@ -1,10 +1,10 @@
 -- The operands of a row by their places, and one after the other: the same.
-use Rattle.std.proofs.Common.{◌≡◌, ℕ, ◌≤◌, List, [], ◌∷◌, length, map, Result, Ok, Err, refl, arith}
+use Rattle.std.proofs.Common.{◌≡◌, ℕ, ◌+◌, ◌≤◌, List, [], ◌∷◌, length, map, Result, Ok, Err, refl, arith}
 use Rattle.std.specs.Prelude.{option_map}
 use Rattle.std.specs.List.{slice_get}
 use Rattle.std.proofs.lemmas.Option.{slice_get-map}
 use Rattle.instruction_table.specs.declared.shape.OperandKind.{OperandKind}
-use Rattle.line_reader.specs.declared.asm_fault.AsmFaultKind.{AsmFaultKind}
+use Rattle.line_reader.specs.declared.asm_fault.WordFault.{WordFault}
 use Rattle.line_reader.specs.declared.asm_fault.AsmFaultKind.TheVariants as fault
 use Rattle.line_reader.specs.declared.symbolic_row.Operand.{Operand}
 use Rattle.line_reader.specs.declared.symbolic_row.Operand.TheVariants as operand
@@ -12,21 +12,21 @@ use Rattle.line_reader.specs.declared.symbolic_row.SymbolicRow.{SymbolicRow}
 use Rattle.line_reader.specs.Symbols.{Name}
 use Rattle.line_reader.specs.Spelling.{with_operands}
 use Rattle.row_code.specs.Answers.{◌>>=◌}
-use Rattle.line_reader.specs.Reading.{operand_at, row_of_kinds}
+use Rattle.line_reader.specs.Reading.{fault_at, operand_at, read_at, row_of_kinds}
 use Rattle.line_reader.specs.Seen.{Borrowed, name_seen}
 
 abbrev Read : Type 0
-Read = Result (Operand Name) AsmFaultKind
+Read = Result (Operand Name) WordFault
 
 abbrev RowRead : Type 0
-RowRead = Result (SymbolicRow Name) AsmFaultKind
+RowRead = Result (SymbolicRow Name) WordFault
 
 -- operands of these kinds, one after the other
-unfoldable pub operands_at : List OperandKind → List (List ℕ) → Result (List (Operand Name)) AsmFaultKind
+unfoldable pub operands_at : List OperandKind → List (List ℕ) → Result (List (Operand Name)) WordFault
 operands_at [] words = Ok []
-operands_at (k ∷ kinds) [] = Err fault.OperandCount
+operands_at (k ∷ kinds) [] = Err (fault_at 1 fault.OperandCount)
 operands_at (k ∷ kinds) (word ∷ words) = do
-  first ← operand_at k word
+  first ← read_at (length words + 1) (operand_at k word)
   others ← operands_at kinds words
   Ok (first ∷ others)
 
@@ -35,10 +35,10 @@ operands_at (k ∷ kinds) (word ∷ words) = do
 abbrev row : ℕ → Operand Name → Operand Name → Operand Name → Operand Name → RowRead
 row opcode a b c d = Ok (record { opcode = opcode; first = a; second = b; third = c; fourth = d })
 
-abbrev pub rowed : ℕ → Result (List (Operand Name)) AsmFaultKind → RowRead
+abbrev pub rowed : ℕ → Result (List (Operand Name)) WordFault → RowRead
 rowed opcode os = os >>= (λ operands. Ok (with_operands opcode operands))
 
-abbrev before : Read → Result (List (Operand Name)) AsmFaultKind → Result (List (Operand Name)) AsmFaultKind
+abbrev before : Read → Result (List (Operand Name)) WordFault → Result (List (Operand Name)) WordFault
 before a os = a >>= (λ first. os >>= (λ others. Ok (first ∷ others)))
 
 abbrev none : Operand Name
@@ -55,8 +55,8 @@ pub by_place : (opcode : ℕ) (kinds : List OperandKind) (words : List (List ℕ
     length words ≡ length kinds → rowed opcode (operands_at kinds words) ≡ row_of_kinds opcode kinds words
 unfolding row_of_kinds operands_at
 by_place opcode [] [] short same = refl
-by_place opcode (j ∷ []) (v ∷ []) short same = one opcode (operand_at j v)
-by_place opcode (j ∷ k ∷ []) (v ∷ w ∷ []) short same = two opcode (operand_at j v) (operand_at k w)
+by_place opcode (j ∷ []) (v ∷ []) short same = one opcode (read_at 1 (operand_at j v))
+by_place opcode (j ∷ k ∷ []) (v ∷ w ∷ []) short same = two opcode (read_at 2 (operand_at j v)) (read_at 1 (operand_at k w))
 by_place opcode (j ∷ k ∷ l ∷ []) (v ∷ w ∷ x ∷ []) short same = grind arith
 by_place opcode (j ∷ k ∷ l ∷ m ∷ []) (v ∷ w ∷ x ∷ y ∷ []) short same = grind arith
 by_place opcode _ words short same = grind arith

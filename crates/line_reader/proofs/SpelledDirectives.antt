@@ -1,7 +1,8 @@
 -- Directives and their options: what is read is spelled so, and what is spelled so is read.
-use Rattle.std.proofs.Common.{◌≡◌, inl, inr, ℕ, ℤ, pos, true, List, [], ◌∷◌, ◌++◌, codes, bytes_eq, Option, Some, None, Result, Ok, refl, sym, ap, subst, ◌∙◌, arith}
+use Rattle.std.proofs.Common.{◌≡◌, inl, inr, ℕ, ◌+◌, ℤ, length, pos, true, List, [], ◌∷◌, ◌++◌, codes, bytes_eq, Option, Some, None, Result, Ok, refl, sym, ap, subst, ◌∙◌, arith}
 use Rattle.std.proofs.lemmas.List.{append-nil}
 use Rattle.line_reader.specs.declared.asm_fault.AsmFaultKind.{AsmFaultKind}
+use Rattle.line_reader.specs.declared.asm_fault.WordFault.{WordFault}
 use Rattle.line_reader.specs.declared.reference.Reference.{Reference}
 use Rattle.line_reader.specs.declared.symbolic_phaser.SymbolicPolicy.{SymbolicPolicy}
 use Rattle.line_reader.specs.declared.symbolic_phaser.SymbolicPolicy.TheVariants as policy
@@ -15,7 +16,7 @@ use Rattle.line_reader.specs.Symbols.{Name}
 use Rattle.line_reader.specs.Spelling.{greatest_int, greatest_number, SpellsReference, SpellsParties, SpellReference, SpellFirstPhase, SpellPolicy, Spell}
 use Rattle.row_code.specs.Answers.{◌>>=◌}
 use Rattle.line_reader.specs.Reading.{name_at, number_at, count_at, reference_at, argument_at, reference_option_at, first_phase_at, policy_at, end_at, phaser_at, barrier_at, thread_at, cell_at, is_directive, directive_at}
-use Rattle.line_reader.proofs.Steps.{bind_ok, bound, done, ok_is, by_test, is_bytes}
+use Rattle.line_reader.proofs.Steps.{bind_ok, bound, bound_at, done, ok_is, by_test, is_bytes, read_ok}
 use Rattle.line_reader.proofs.SpelledNumbers.{name_takes, name_again, number_takes, number_again, count_takes, count_again, reference_takes, reference_again}
 
 -- some words in front are spelled so, and the others are still to be read
@@ -26,11 +27,11 @@ Front spell words x = (front : List (List ℕ)) × (words ≡ front ++ x.1) × s
 argument_takes : {A : Type 0} (read : List ℕ → Result A AsmFaultKind) (words : List (List ℕ)) (x : A × List (List ℕ)) →
     argument_at read words ≡ Ok x → (word : List ℕ) × (words ≡ word ∷ x.1) × (read word ≡ Ok x.0)
 argument_takes read [] x e = absurd (cc)
-argument_takes {A} read (word ∷ rest) x e = grind (arith, bind_ok, ok_is)
+argument_takes {A} read (word ∷ rest) x e = grind (arith, bind_ok, ok_is, read_ok)
 
 -- what was read is this, of these words in front
 front_is : {A : Type 0} (spell : List (List ℕ) → A → Type 0) (words front : List (List ℕ)) (x y : A × List (List ℕ)) →
-    done x ≡ done y → words ≡ front ++ x.1 → spell front x.0 → Front spell words y
+    done {A = A × List (List ℕ)} {E = WordFault} x ≡ done y → words ≡ front ++ x.1 → spell front x.0 → Front spell words y
 front_is {A} spell words front x y e whole spelled = grind arith
 
 -- an option with its argument
@@ -63,10 +64,10 @@ pub reference_option_again : (option : List ℕ) (high : ℕ) → bytes_eq optio
 unfolding reference_option_at
 reference_option_again option high same words rest reference s none = grind (arith, reference_again)
 
-abbrev parent_at : List (List ℕ) → Result (Option (Reference Name) × List (List ℕ)) AsmFaultKind
+abbrev parent_at : List (List ℕ) → Result (Option (Reference Name) × List (List ℕ)) WordFault
 parent_at words = reference_option_at (codes "parent") 63 words
 
-abbrev action_at : List (List ℕ) → Result (Option (Reference Name) × List (List ℕ)) AsmFaultKind
+abbrev action_at : List (List ℕ) → Result (Option (Reference Name) × List (List ℕ)) WordFault
 action_at words = reference_option_at (codes "action") greatest_number words
 
 pub first_phase_takes : (words : List (List ℕ)) (x : ℤ × List (List ℕ)) → first_phase_at words ≡ Ok x →
@@ -185,8 +186,8 @@ pub phaser_takes : (words : List (List ℕ)) (p : SymbolicPhaser Name) → phase
     Spell (codes ".phaser" ∷ words) (statement.Phaser p)
 unfolding phaser_at
 phaser_takes (name ∷ parties ∷ options) p e =
-    bound (name_at name) _ p e (λ n named e.
-    bound (count_at 65535 parties) _ p e (λ count counted e.
+    bound_at (length options + 2) (name_at name) _ p e (λ n named e.
+    bound_at (length options + 1) (count_at 65535 parties) _ p e (λ count counted e.
     bound (parent_at options) _ p e (λ parent parent-is e.
     bound (first_phase_at parent.1) _ p e (λ phase phase-is e.
     bound (policy_at phase.1) _ p e (λ policy policy-is e.
@@ -236,8 +237,8 @@ pub barrier_takes : (words : List (List ℕ)) (b : SymbolicBarrier Name) → bar
     Spell (codes ".barrier" ∷ words) (statement.Barrier b)
 unfolding barrier_at
 barrier_takes (name ∷ parties ∷ options) b e =
-    bound (name_at name) _ b e (λ n named e.
-    bound (count_at 65535 parties) _ b e (λ count counted e.
+    bound_at (length options + 2) (name_at name) _ b e (λ n named e.
+    bound_at (length options + 1) (count_at 65535 parties) _ b e (λ count counted e.
     bound (action_at options) _ b e (λ action action-is e.
     bound (end_at action.1) _ b e (λ end end-is e.
     let made : SymbolicBarrier Name = record { name = n; parties = count; action = action.0 } in
@@ -258,8 +259,8 @@ pub thread_takes : (words : List (List ℕ)) (t : SymbolicThread Name) → threa
     Spell (codes ".thread" ∷ words) (statement.Thread t)
 unfolding thread_at
 thread_takes (name ∷ row ∷ []) t e =
-    bound (name_at name) _ t e (λ n named e.
-    bound (reference_at greatest_number row) _ t e (λ first first-is e.
+    bound_at 2 (name_at name) _ t e (λ n named e.
+    bound_at 1 (reference_at greatest_number row) _ t e (λ first first-is e.
     let named = name_takes name n named in
     subst (λ (q : SymbolicThread Name). Spell (codes ".thread" ∷ name ∷ row ∷ []) (statement.Thread q))
     (ok_is (record { name = n; first_row = first }) t e) (
@@ -283,13 +284,13 @@ pub cell_takes : (words : List (List ℕ)) (name : Name) → cell_at words ≡ O
     Spell (codes ".cell" ∷ words) (statement.Cell name)
 unfolding cell_at
 cell_takes (first ∷ []) name e =
-    let named = name_takes first name e in
+    let named = name_takes first name (read_ok 1 (name_at first) name e) in
     (ap (λ (n : List ℕ). codes ".cell" ∷ n ∷ []) named.0, named.1)
 cell_takes _ name e = absurd (cc)
 
 cell_behind : (name : Name) → is_name name ≡ true → cell_at (name ∷ []) ≡ Ok name
 unfolding cell_at
-cell_behind name named = name_again name named
+cell_behind name named = rw (name_again name named) refl
 
 pub cell_again : (word : List ℕ) (words : List (List ℕ)) (name : Name) → Spell (word ∷ words) (statement.Cell name) →
     (word ≡ codes ".cell") × (cell_at words ≡ Ok name)
@@ -319,7 +320,7 @@ directive_takes word words said known e =
     spelled word words (codes ".cell") (statement.Cell a.0) said is a.2 (cell_takes words a.0 a.1))))
   where
     spelled : (word : List ℕ) (words : List (List ℕ)) (directive : List ℕ) (made said : Statement Name) →
-        bytes_eq word directive ≡ true → done made ≡ done said → Spell (directive ∷ words) made → Spell (word ∷ words) said
+        bytes_eq word directive ≡ true → done {A = Statement Name} {E = WordFault} made ≡ done said → Spell (directive ∷ words) made → Spell (word ∷ words) said
     spelled word words directive made said is e s =
         subst (λ (q : Statement Name). Spell (word ∷ words) q) (ok_is made said e)
         (subst (λ (w : List ℕ). Spell (w ∷ words) made) (sym (is_bytes word directive is)) s)

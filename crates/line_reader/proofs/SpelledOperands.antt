@@ -1,5 +1,5 @@
 -- Registers, operands and rows: what is read is spelled so, and what is spelled so is read.
-use Rattle.std.proofs.Common.{◌≡◌, ℕ, Bool, true, ◌==◌, List, [], ◌∷◌, length, bytes_eq, find, Option, Some, Ok, refl, sym, ap, subst, ◌∙◌, arith, nat_lt, ltb-true, ◌≤◌}
+use Rattle.std.proofs.Common.{◌≡◌, ℕ, ◌+◌, Bool, true, ◌==◌, List, [], ◌∷◌, length, bytes_eq, find, Option, Some, Ok, refl, sym, ap, subst, ◌∙◌, arith, nat_lt, ltb-true, ◌≤◌}
 use Rattle.std.specs.List.{list_all}
 use Rattle.std.proofs.lemmas.Bool.{and_parts, eqb-true}
 use Rattle.std.proofs.lemmas.Bool.Decides.{Decides-eqb}
@@ -7,16 +7,15 @@ use Rattle.instruction_table.specs.declared.register.Reg.{Reg}
 use Rattle.instruction_table.specs.declared.shape.OperandKind.{OperandKind}
 use Rattle.instruction_table.specs.declared.shape.OperandKind.TheVariants as kind
 use Rattle.instruction_table.specs.Table.{Entry, table, entry_named}
-use Rattle.line_reader.specs.declared.asm_fault.AsmFaultKind.{AsmFaultKind}
 use Rattle.line_reader.specs.declared.asm_fault.AsmFaultKind.TheVariants as fault
 use Rattle.line_reader.specs.declared.symbolic_row.Operand.{Operand}
 use Rattle.line_reader.specs.declared.symbolic_row.Operand.TheVariants as operand
 use Rattle.line_reader.specs.declared.symbolic_row.SymbolicRow.{SymbolicRow}
 use Rattle.line_reader.specs.Symbols.{Name}
 use Rattle.line_reader.specs.Spelling.{least_int, greatest_int, register_word, SpellsOperand, SpellOperands, SpellRow}
-use Rattle.line_reader.specs.Reading.{found_or, number_at, register_at, operand_at, row_at}
+use Rattle.line_reader.specs.Reading.{fault_at, found_or, number_at, register_at, operand_at, read_at, row_at}
 use Rattle.line_reader.proofs.ByPlace.{operands_at, rowed, by_place}
-use Rattle.line_reader.proofs.Steps.{bind_ok, bound, ok_is, check_ok, by_test, is_bytes}
+use Rattle.line_reader.proofs.Steps.{bind_ok, bound, ok_is, check_ok, by_test, is_bytes, read_ok}
 use Rattle.line_reader.proofs.SpelledNumbers.{number_takes, number_again, reference_takes, reference_again}
 
 abbrev found : {A : Type 0} → A → Option A
@@ -33,7 +32,7 @@ find_passes {A} test (first ∷ xs) x e =
     (λ is. subst (λ (y : A). test y ≡ true) (some_is first x (rw is at e)) is)
     (λ is-not. find_passes test xs x (rw is-not at e))
 
-found_takes : {A : Type 0} (fault : AsmFaultKind) (o : Option A) (x : A) → found_or fault o ≡ Ok x → o ≡ Some x
+found_takes : {A E : Type 0} (fault : E) (o : Option A) (x : A) → found_or fault o ≡ Ok x → o ≡ Some x
 found_takes fault o x e = grind arith
 
 pub register_takes : (word : List ℕ) (reg : Reg) → register_at word ≡ Ok reg → word ≡ register_word reg
@@ -72,11 +71,11 @@ pub operands_take : (kinds : List OperandKind) (words : List (List ℕ)) (os : L
     length words ≡ length kinds → operands_at kinds words ≡ Ok os → SpellOperands kinds words os
 unfolding operands_at
 operands_take (k ∷ kinds) (word ∷ words) os len e =
-    let a = bind_ok (operand_at k word) _ os e in
+    let a = bind_ok (read_at (length words + 1) (operand_at k word)) _ os e in
     let b = bind_ok (operands_at kinds words) _ os a.2 in
     subst (λ (ps : List (Operand Name)). SpellOperands (k ∷ kinds) (word ∷ words) ps) (ok_is _ _ b.2)
-    (operand_takes k word a.0 a.1, operands_take kinds words b.0 (omega (arith, len)) b.1)
-operands_take kinds words os len e = grind (arith, ok_is, bind_ok, operands_at, operand_takes)
+    (operand_takes k word a.0 (read_ok (length words + 1) (operand_at k word) a.0 a.1), operands_take kinds words b.0 (omega (arith, len)) b.1)
+operands_take kinds words os len e = grind (arith, ok_is, bind_ok, read_ok, operands_at, operand_takes)
 
 pub operands_again : (kinds : List OperandKind) (words : List (List ℕ)) (os : List (Operand Name)) →
     SpellOperands kinds words os → operands_at kinds words ≡ Ok os
@@ -113,9 +112,9 @@ pub row_takes : (word : List ℕ) (words : List (List ℕ)) (row : SymbolicRow N
     SpellRow (word ∷ words) row
 unfolding row_at
 row_takes word words row e =
-    bound (found_or fault.UnknownWord (entry_named table word)) _ row e (λ entry found e.
-    let named = found_takes fault.UnknownWord _ entry found in
-    let counted = check_ok (length words == length entry.operands) fault.OperandCount _ row e in
+    bound (found_or (fault_at (length words + 1) fault.UnknownWord) (entry_named table word)) _ row e (λ entry found e.
+    let named = found_takes (fault_at (length words + 1) fault.UnknownWord) _ entry found in
+    let counted = check_ok (length words == length entry.operands) (fault_at (length words + 1) fault.OperandCount) _ row e in
     let same = eqb-true _ _ counted.0 in
     let read : rowed entry.opcode (operands_at entry.operands words) ≡ Ok row =
     by_place entry.opcode entry.operands words (four_at_most word entry named) same ∙ counted.1 in

@@ -1,6 +1,7 @@
 -- How the words of a line are read, and which fault they have. The checks are made in the order in which they are written
--- here. The first check that fails gives the fault.
-use Rattle.std.specs.Prelude.{ℕ, ◌-◌, ◌==◌, ◌||◌, not, nat_lt, int_lt, if◌then◌else◌, Bool, true, false, ℤ, pos, negsuc, List, [], ◌∷◌, length, take, codes, bytes_eq, find, Option, Some, None, Result, Ok, Err}
+-- here. The first check that fails gives the fault. A fault of several words also says which of them is wrong: it counts the
+-- words that are left in the line from this one on.
+use Rattle.std.specs.Prelude.{ℕ, ◌+◌, ◌-◌, min, ◌==◌, ◌||◌, not, nat_lt, int_lt, if◌then◌else◌, Bool, true, false, ℤ, pos, negsuc, List, [], ◌∷◌, length, take, codes, bytes_eq, find, Option, Some, None, Result, Ok, Err}
 use Rattle.std.specs.List.{list_all, slice_get}
 use Rattle.instruction_table.specs.declared.register.Reg.{Reg}
 use Rattle.instruction_table.specs.declared.register.Reg.TheVariants.{R0, R1, R2, R3, R4, R5, R6, R7}
@@ -10,6 +11,7 @@ use Rattle.instruction_table.specs.Table.{table, entry_named}
 use Rattle.row_code.specs.Answers.{◌>>=◌}
 use Rattle.line_reader.specs.declared.asm_fault.AsmFaultKind.{AsmFaultKind}
 use Rattle.line_reader.specs.declared.asm_fault.AsmFaultKind.TheVariants as fault
+use Rattle.line_reader.specs.declared.asm_fault.WordFault.{WordFault}
 use Rattle.line_reader.specs.declared.reference.Reference.{Reference}
 use Rattle.line_reader.specs.declared.reference.Reference.TheVariants.{Named, Numbered}
 use Rattle.line_reader.specs.declared.symbolic_row.Operand.{Operand}
@@ -29,9 +31,18 @@ use Rattle.line_reader.specs.Symbols.{Name}
 use Rattle.line_reader.specs.Spelling.{least_int, greatest_int, greatest_number, register_word}
 
 -- nothing if a check succeeds, and otherwise its fault
-abbrev pub check : Bool → AsmFaultKind → Result (Unit {0}) AsmFaultKind
-check true kind = Ok tt
-check false kind = Err kind
+abbrev pub check : {E : Type 0} → Bool → E → Result (Unit {0}) E
+check true wrong = Ok tt
+check false wrong = Err wrong
+
+-- a fault of the word from which on so many words are left; a line has at most 128
+abbrev pub fault_at : ℕ → AsmFaultKind → WordFault
+fault_at left kind = record { kind = kind; left = min left 255 }
+
+-- what is read of that word
+abbrev pub read_at : {A : Type 0} → ℕ → Result A AsmFaultKind → Result A WordFault
+read_at left (Ok x) = Ok x
+read_at left (Err kind) = Err (fault_at left kind)
 
 -- the words of a line; before them its bytes are checked, those of its comment too, and then its length
 unfoldable pub line_words : List ℕ → Result (List (List ℕ)) AsmFaultKind
@@ -73,9 +84,9 @@ abbrev pub registers : List Reg
 registers = R0 ∷ R1 ∷ R2 ∷ R3 ∷ R4 ∷ R5 ∷ R6 ∷ R7 ∷ []
 
 -- what was found
-abbrev pub found_or : {A : Type 0} → AsmFaultKind → Option A → Result A AsmFaultKind
-found_or kind (Some x) = Ok x
-found_or kind None = Err kind
+abbrev pub found_or : {A E : Type 0} → E → Option A → Result A E
+found_or wrong (Some x) = Ok x
+found_or wrong None = Err wrong
 
 -- the register that is spelled so
 unfoldable pub register_at : List ℕ → Result Reg AsmFaultKind
@@ -91,19 +102,20 @@ operand_at k word =
     reference_at greatest_number word >>= (λ reference. Ok (operand.Object k reference))
 
 -- the operand at a place, if there is a kind and a word for it
-abbrev pub operand_or_absent : Option OperandKind → Option (List ℕ) →
-    Result (Operand Name) AsmFaultKind
-operand_or_absent (Some k) (Some word) = operand_at k word
-operand_or_absent _ _ = Ok operand.Absent
+abbrev pub operand_or_absent : ℕ → Option OperandKind → Option (List ℕ) →
+    Result (Operand Name) WordFault
+operand_or_absent left (Some k) (Some word) = read_at left (operand_at k word)
+operand_or_absent left _ _ = Ok operand.Absent
 
 abbrev pub operand_there : List OperandKind → List (List ℕ) → ℕ →
-    Result (Operand Name) AsmFaultKind
-operand_there kinds words place = operand_or_absent (slice_get kinds place) (slice_get words place)
+    Result (Operand Name) WordFault
+operand_there kinds words place =
+    operand_or_absent (length words - place) (slice_get kinds place) (slice_get words place)
 
 -- a row of an opcode, with operands of these kinds, from left to right; that there are as many words
 -- as kinds was checked before
 unfoldable pub row_of_kinds : ℕ → List OperandKind → List (List ℕ) →
-    Result (SymbolicRow Name) AsmFaultKind
+    Result (SymbolicRow Name) WordFault
 row_of_kinds opcode kinds words = do
   first ← operand_there kinds words 0
   second ← operand_there kinds words 1
@@ -117,36 +129,37 @@ row_of_kinds opcode kinds words = do
     fourth = fourth;
   })
 
--- a row from its word and its operands
-unfoldable pub row_at : List ℕ → List (List ℕ) → Result (SymbolicRow Name) AsmFaultKind
+-- a row from its word and its operands: if there are too few or too many, its word is wrong
+unfoldable pub row_at : List ℕ → List (List ℕ) → Result (SymbolicRow Name) WordFault
 row_at word words = do
-  entry ← found_or fault.UnknownWord (entry_named table word)
-  counted ← check (length words == length entry.operands) fault.OperandCount
+  entry ← found_or (fault_at (length words + 1) fault.UnknownWord) (entry_named table word)
+  counted ← check (length words == length entry.operands) (fault_at (length words + 1) fault.OperandCount)
   row_of_kinds entry.opcode entry.operands words
 
--- an option of a directive: its argument is the next word, whatever it is; the words after it are still to be read
+-- an option of a directive: its argument is the next word, whatever it is; the words after it are still to be read. If there
+-- is none, the option is wrong, which is the last word
 abbrev pub argument_at : {A : Type 0} → (List ℕ → Result A AsmFaultKind) → List (List ℕ) →
-    Result (A × List (List ℕ)) AsmFaultKind
-argument_at read [] = Err fault.OperandCount
-argument_at read (word ∷ rest) = read word >>= (λ x. Ok (x, rest))
+    Result (A × List (List ℕ)) WordFault
+argument_at read [] = Err (fault_at 1 fault.OperandCount)
+argument_at read (word ∷ rest) = read_at (length rest + 1) (read word) >>= (λ x. Ok (x, rest))
 
 -- an option with a row or an object as its argument, if it comes next
 unfoldable pub reference_option_at : List ℕ → ℕ → List (List ℕ) →
-    Result (Option (Reference Name) × List (List ℕ)) AsmFaultKind
+    Result (Option (Reference Name) × List (List ℕ)) WordFault
 reference_option_at option high [] = Ok (None, [])
 reference_option_at option high (word ∷ rest) =
     if bytes_eq word option
     then argument_at (reference_at high) rest >>= (λ x. Ok (Some x.0, x.1))
     else Ok (None, word ∷ rest)
 
-unfoldable pub first_phase_at : List (List ℕ) → Result (ℤ × List (List ℕ)) AsmFaultKind
+unfoldable pub first_phase_at : List (List ℕ) → Result (ℤ × List (List ℕ)) WordFault
 first_phase_at [] = Ok (pos 0, [])
 first_phase_at (word ∷ rest) =
     if bytes_eq word (codes "phase") then argument_at (number_at (pos 0) greatest_int) rest
     else Ok (pos 0, word ∷ rest)
 
 unfoldable pub policy_at : List (List ℕ) →
-    Result (SymbolicPolicy Name × List (List ℕ)) AsmFaultKind
+    Result (SymbolicPolicy Name × List (List ℕ)) WordFault
 policy_at [] = Ok (policy.Default, [])
 policy_at (word ∷ rest) =
     if bytes_eq word (codes "never") then Ok (policy.Never, rest)
@@ -157,12 +170,12 @@ policy_at (word ∷ rest) =
     else Ok (policy.Default, word ∷ rest)))
 
 -- no word is left; any other word isn't allowed here
-abbrev pub end_at : List (List ℕ) → Result (Unit {0}) AsmFaultKind
+abbrev pub end_at : List (List ℕ) → Result (Unit {0}) WordFault
 end_at [] = Ok tt
-end_at (word ∷ rest) = Err fault.BadOption
+end_at (word ∷ rest) = Err (fault_at (length rest + 1) fault.BadOption)
 
 -- a phaser with its name, its parties and the words after them
-abbrev pub phaser_with : Name → ℕ → List (List ℕ) → Result (SymbolicPhaser Name) AsmFaultKind
+abbrev pub phaser_with : Name → ℕ → List (List ℕ) → Result (SymbolicPhaser Name) WordFault
 phaser_with name parties options = do
   parent ← reference_option_at (codes "parent") 63 options
   phase ← first_phase_at parent.1
@@ -176,33 +189,33 @@ phaser_with name parties options = do
     policy = policy.0;
   })
 
--- the operands of each directive
-unfoldable pub phaser_at : List (List ℕ) → Result (SymbolicPhaser Name) AsmFaultKind
+-- the operands of each directive: if there are too few or too many, its own word is wrong
+unfoldable pub phaser_at : List (List ℕ) → Result (SymbolicPhaser Name) WordFault
 phaser_at (name ∷ parties ∷ options) = do
-  name ← name_at name
-  parties ← count_at 65535 parties
+  name ← read_at (length options + 2) (name_at name)
+  parties ← read_at (length options + 1) (count_at 65535 parties)
   phaser_with name parties options
-phaser_at _ = Err fault.OperandCount
+phaser_at words = Err (fault_at (length words + 1) fault.OperandCount)
 
-unfoldable pub barrier_at : List (List ℕ) → Result (SymbolicBarrier Name) AsmFaultKind
+unfoldable pub barrier_at : List (List ℕ) → Result (SymbolicBarrier Name) WordFault
 barrier_at (name ∷ parties ∷ options) = do
-  name ← name_at name
-  parties ← count_at 65535 parties
+  name ← read_at (length options + 2) (name_at name)
+  parties ← read_at (length options + 1) (count_at 65535 parties)
   action ← reference_option_at (codes "action") greatest_number options
   end ← end_at action.1
   Ok (record { name = name; parties = parties; action = action.0 })
-barrier_at _ = Err fault.OperandCount
+barrier_at words = Err (fault_at (length words + 1) fault.OperandCount)
 
-unfoldable pub thread_at : List (List ℕ) → Result (SymbolicThread Name) AsmFaultKind
+unfoldable pub thread_at : List (List ℕ) → Result (SymbolicThread Name) WordFault
 thread_at (name ∷ row ∷ []) = do
-  name ← name_at name
-  row ← reference_at greatest_number row
+  name ← read_at 2 (name_at name)
+  row ← read_at 1 (reference_at greatest_number row)
   Ok (record { name = name; first_row = row })
-thread_at _ = Err fault.OperandCount
+thread_at words = Err (fault_at (length words + 1) fault.OperandCount)
 
-unfoldable pub cell_at : List (List ℕ) → Result Name AsmFaultKind
-cell_at (name ∷ []) = name_at name
-cell_at _ = Err fault.OperandCount
+unfoldable pub cell_at : List (List ℕ) → Result Name WordFault
+cell_at (name ∷ []) = read_at 1 (name_at name)
+cell_at words = Err (fault_at (length words + 1) fault.OperandCount)
 
 -- the words of the directives
 abbrev pub is_directive : List ℕ → Bool
@@ -211,7 +224,7 @@ is_directive word =
     || bytes_eq word (codes ".thread") || bytes_eq word (codes ".cell")
 
 -- a directive from its word and its operands
-unfoldable pub directive_at : List ℕ → List (List ℕ) → Result (Statement Name) AsmFaultKind
+unfoldable pub directive_at : List ℕ → List (List ℕ) → Result (Statement Name) WordFault
 directive_at word words =
     if bytes_eq word (codes ".phaser") then phaser_at words >>= (λ p. Ok (statement.Phaser p))
     else (if bytes_eq word (codes ".barrier")

@@ -14,8 +14,6 @@ use Rattle.line_reader.specs.declared.symbolic_barrier.SymbolicBarrier.{Symbolic
 use Rattle.line_reader.specs.declared.symbolic_thread.SymbolicThread.{SymbolicThread}
 use Rattle.line_reader.specs.declared.statement.Statement.{Statement}
 use Rattle.line_reader.specs.declared.statement.Statement.TheVariants as statement
-use Rattle.line_reader.specs.declared.asm_fault.AsmFaultKind.{AsmFaultKind}
-use Rattle.line_reader.specs.declared.asm_fault.WordFault.{WordFault}
 use Rattle.line_reader.specs.Symbols.{Name}
 
 abbrev pub Borrowed : Type 0
@@ -77,15 +75,6 @@ statement_seen (statement.Label name) = statement.Label name.now
 statement_seen (statement.Row label row) = statement.Row (option_map name_seen label) (row_seen row)
 
 -- the result of a call that needs no memory, with its names as bytes
-abbrev pub seen : {X Y : Type 0} → (X → Y) → Result X AsmFaultKind → Result Y AsmFaultKind
+abbrev pub seen : {X Y E : Type 0} → (X → Y) → Result X E → Result Y E
 seen view (Ok x) = Ok (view x)
-seen view (Err kind) = Err kind
-
--- the same of a call that reads several words, without the place of its fault
-abbrev pub seen_in : {X Y : Type 0} → (X → Y) → Result X WordFault → Result Y AsmFaultKind
-seen_in view (Ok x) = Ok (view x)
-seen_in view (Err fault) = Err fault.kind
-
-abbrev pub seen_word : {X : Type 0} → Result X WordFault → Result X AsmFaultKind
-seen_word (Ok x) = Ok x
-seen_word (Err fault) = Err fault.kind
+seen view (Err wrong) = Err wrong

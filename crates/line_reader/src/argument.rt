@@ -1,6 +1,6 @@
 //! The options of a directive. Each function takes the words of the line that are left, and returns those left after it.
 ghost use Rattle.std.specs.Prelude.{◌≡◌, map, option_map, pos};
-ghost use Rattle.line_reader.specs.Seen.{seen_in, seen_word, name_seen, reference_seen};
+ghost use Rattle.line_reader.specs.Seen.{seen, name_seen, reference_seen};
 ghost use Rattle.line_reader.specs.Reading.{argument_at, end_at, number_at, reference_at, reference_option_at};
 ghost use Rattle.line_reader.specs.Spelling.{greatest_int};
 
@@ -18,7 +18,7 @@ pub fn reference_argument<'a, 'w>(
     high: u16,
     words: &'w [&'a [u8]],
 ) -> Result<(Reference<&'a [u8]>, &'w [&'a [u8]]), WordFault>
-    ensures { seen_in (λ x. (reference_seen x.0, map name_seen x.1.now)) result
+    ensures { seen (λ x. (reference_seen x.0, map name_seen x.1.now)) result
         ≡ argument_at (reference_at high) (map name_seen words.now) }
 {
     match words {
@@ -35,7 +35,7 @@ pub fn reference_option_at<'a, 'w>(
     high: u16,
     words: &'w [&'a [u8]],
 ) -> Result<(Option<Reference<&'a [u8]>>, &'w [&'a [u8]]), WordFault>
-    ensures { seen_in (λ x. (option_map reference_seen x.0, map name_seen x.1.now)) result
+    ensures { seen (λ x. (option_map reference_seen x.0, map name_seen x.1.now)) result
         ≡ reference_option_at option.now high (map name_seen words.now) }
 {
     match words {
@@ -52,7 +52,7 @@ pub fn reference_option_at<'a, 'w>(
 
 /// Reads an option's argument: a phase, 0 to 2147483647. If no word is left, the option has the fault `OperandCount`.
 pub fn phase_argument<'a, 'w>(words: &'w [&'a [u8]]) -> Result<(i32, &'w [&'a [u8]]), WordFault>
-    ensures { seen_in (λ x. (x.0, map name_seen x.1.now)) result
+    ensures { seen (λ x. (x.0, map name_seen x.1.now)) result
         ≡ argument_at (number_at (pos 0) greatest_int) (map name_seen words.now) }
 {
     match words {
@@ -63,7 +63,7 @@ pub fn phase_argument<'a, 'w>(words: &'w [&'a [u8]]) -> Result<(i32, &'w [&'a [u
 
 /// Checks that no word is left. Otherwise the first is `BadOption`: a fault's place is the count of the words from it on.
 pub fn end_at(words: &[&[u8]]) -> Result<(), WordFault>
-    ensures { seen_word result ≡ end_at (map name_seen words.now) }
+    ensures { result ≡ end_at (map name_seen words.now) }
 {
     match words {
         [] => Ok(()),

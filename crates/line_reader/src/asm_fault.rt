@@ -1,6 +1,6 @@
-ghost use Rattle.std.specs.Prelude.{◌≡◌, ◌≤◌, IfErr};
+ghost use Rattle.std.specs.Prelude.{◌≡◌};
 ghost use Rattle.line_reader.specs.FaultNumber.{asm_number};
-ghost use Rattle.line_reader.specs.Seen.{seen_word};
+ghost use Rattle.line_reader.specs.Reading.{fault_at, read_at};
 ghost use Rattle.line_reader.specs.declared.asm_fault.AsmFaultKind.TheVariants.{Memory};
 
 use std::alloc::{AllocError, AllocFailed};
@@ -80,8 +80,7 @@ impl WordFault {
     /// Returns the fault of a word. `left` counts the words of the line from this one on, at most 128.
     #[inline(always)]
     pub fn at(left: usize, kind: AsmFaultKind) -> WordFault
-        ensures kind { result.kind ≡ kind }
-        ensures left { left ≤ 255 → result.left ≡ left }
+        ensures { result ≡ fault_at left kind }
     {
         WordFault {
             kind,
@@ -93,8 +92,7 @@ impl WordFault {
 /// Returns what was read of a word, or the word's fault with its place: `left` counts the words from this one on.
 #[inline(always)]
 pub fn read_at<T>(left: usize, read: Result<T, AsmFaultKind>) -> Result<T, WordFault>
-    ensures word { seen_word result ≡ read }
-    ensures left { IfErr result (λ fault. left ≤ 255 → fault.left ≡ left) }
+    ensures { result ≡ read_at left read }
 {
     match read {
         Ok(read) => Ok(read),

@@ -1,6 +1,6 @@
 //! Directives: `.phaser`, `.barrier`, `.thread` and `.cell`.
 ghost use Rattle.std.specs.Prelude.{◌≡◌, map};
-ghost use Rattle.line_reader.specs.Seen.{seen_in, name_seen, statement_seen};
+ghost use Rattle.line_reader.specs.Seen.{seen, name_seen, statement_seen};
 ghost use Rattle.line_reader.specs.Reading.{cell_at, directive_at, is_directive};
 
 use crate::asm_fault::{AsmFaultKind, WordFault, read_at};
@@ -30,18 +30,18 @@ pub fn is_directive(word: &[u8]) -> bool
 /// Reads the words after `.cell`: one name. With no word or more than one, `.cell` has the fault `OperandCount`.
 #[tactic(auto, unfolding(crate::specs::Reading::cell_at))]
 fn cell_at<'a>(words: &[&'a [u8]]) -> Result<&'a [u8], WordFault>
-    ensures { seen_in name_seen result ≡ cell_at (map name_seen words.now) }
+    ensures { seen name_seen result ≡ cell_at (map name_seen words.now) }
 {
     match words {
         [name] => read_at(words.len(), name_at(*name)),
-        _ => Err(WordFault::at(words.len().saturating_add(1), AsmFaultKind::OperandCount)),
+        _ => Err(WordFault::at(words.len() + 1, AsmFaultKind::OperandCount)),
     }
 }
 
 /// Reads the directive that `word` begins, with the words after it. A word that is none of the first three is `.cell`.
 #[tactic(auto, unfolding(crate::specs::Reading::directive_at))]
 pub fn directive_at<'a>(word: &[u8], words: &[&'a [u8]]) -> Result<Statement<&'a [u8]>, WordFault>
-    ensures { seen_in statement_seen result ≡ directive_at word.now (map name_seen words.now) }
+    ensures { seen statement_seen result ≡ directive_at word.now (map name_seen words.now) }
 {
     if is_word(word, ".phaser") {
         Ok(Statement::Phaser(phaser_at(words)?))

@@ -1,7 +1,7 @@
 //! Rows as they are stored until their names are looked up.
-ghost use Rattle.std.specs.Prelude.{◌≡◌, ◌<◌, [], ◌∷◌, IfOk, IfSome, length, false, map, true};
+ghost use Rattle.std.specs.Prelude.{◌≡◌, [], ◌∷◌, IfOk, length, false, map, true};
 ghost use Rattle.line_reader.specs.Reading.{operand_at, operand_there, register_at, row_at, row_of_kinds};
-ghost use Rattle.line_reader.specs.Seen.{name_seen, seen, seen_in};
+ghost use Rattle.line_reader.specs.Seen.{name_seen, seen};
 ghost use Rattle.line_reader.specs.KeptRow.{is_other, is_other_there, is_register, one_other, operand_kept, row_kept};
 
 use crate::asm_fault::{AsmFaultKind, WordFault, read_at};
@@ -130,7 +130,7 @@ fn operand_there<'a>(
     words: &[&'a [u8]],
     place: usize,
 ) -> Result<KeptOperand, WordFault>
-    ensures read { seen_in (operand_kept held.new) result
+    ensures read { seen (operand_kept held.new) result
         ≡ operand_there kinds.now (map name_seen words.now) place }
     ensures register { is_other_there kinds.now place ≡ false → held.new ≡ held.old }
     ensures place { is_other_there kinds.now place ≡ false
@@ -157,7 +157,7 @@ fn row_of_kinds<'a>(
     words: &[&'a [u8]],
 ) -> Result<KeptRow<'a>, WordFault>
     requires { one_other kinds.now ≡ true }
-    ensures { seen_in row_kept result ≡ row_of_kinds opcode kinds.now (map name_seen words.now) }
+    ensures { seen row_kept result ≡ row_of_kinds opcode kinds.now (map name_seen words.now) }
 {
     let mut held = Held {
         name: &[],
@@ -183,29 +183,14 @@ fn row_of_kinds<'a>(
 #[inline(always)]
 #[tactic(auto, unfolding(crate::specs::Reading::row_at))]
 pub fn row_at<'a>(word: &[u8], words: &[&'a [u8]]) -> Result<KeptRow<'a>, WordFault>
-    ensures { seen_in row_kept result ≡ row_at word.now (map name_seen words.now) }
+    ensures { seen row_kept result ≡ row_at word.now (map name_seen words.now) }
 {
     let Some(opcode) = opcode_named(word) else {
-        return Err(WordFault::at(words.len().saturating_add(1), AsmFaultKind::UnknownWord));
+        return Err(WordFault::at(words.len() + 1, AsmFaultKind::UnknownWord));
     };
     let kinds = operands_of(opcode);
     if words.len() != kinds.len() {
-        return Err(WordFault::at(words.len().saturating_add(1), AsmFaultKind::OperandCount));
+        return Err(WordFault::at(words.len() + 1, AsmFaultKind::OperandCount));
     }
     row_of_kinds(opcode, kinds, words)
-}
-
-impl<'a> KeptRow<'a> {
-    /// Returns the place, from 0, of the operand that is a name, and the kind of what it names, if there is one.
-    pub fn named(&self) -> Option<(usize, OperandKind)>
-        ensures { IfSome result (λ named. named.0 < 4) }
-    {
-        let places = [self.first, self.second, self.third, self.fourth];
-        for (place, operand) in places.iter().enumerate() {
-            if let KeptOperand::Named(kind) = *operand {
-                return Some((place, kind));
-            }
-        }
-        None
-    }
 }

@@ -1,5 +1,5 @@
 ghost use Rattle.std.specs.Prelude.{◌≡◌, map};
-ghost use Rattle.line_reader.specs.Seen.{seen_in, barrier_seen, name_seen};
+ghost use Rattle.line_reader.specs.Seen.{seen, barrier_seen, name_seen};
 ghost use Rattle.line_reader.specs.Reading.{barrier_at};
 
 use crate::argument::{end_at, reference_option_at};
@@ -19,13 +19,13 @@ pub struct SymbolicBarrier<N> {
 /// Reads the words after `.barrier`: a name, the parties, and perhaps `action` with a row. Fewer than two are `OperandCount`.
 #[tactic(auto, unfolding(crate::specs::Reading::barrier_at))]
 pub fn barrier_at<'a>(words: &[&'a [u8]]) -> Result<SymbolicBarrier<&'a [u8]>, WordFault>
-    ensures { seen_in barrier_seen result ≡ barrier_at (map name_seen words.now) }
+    ensures { seen barrier_seen result ≡ barrier_at (map name_seen words.now) }
 {
     let [name, parties, options @ ..] = words else {
-        return Err(WordFault::at(words.len().saturating_add(1), AsmFaultKind::OperandCount));
+        return Err(WordFault::at(words.len() + 1, AsmFaultKind::OperandCount));
     };
     let name = read_at(words.len(), name_at(*name))?;
-    let parties = read_at(words.len().saturating_sub(1), count_at(u16::MAX, *parties))?;
+    let parties = read_at(words.len() - 1, count_at(u16::MAX, *parties))?;
     let (action, rest) = reference_option_at("action", u16::MAX, options)?;
     end_at(rest)?;
     Ok(SymbolicBarrier {

@@ -1,5 +1,5 @@
 ghost use Rattle.std.specs.Prelude.{◌≡◌, map};
-ghost use Rattle.line_reader.specs.Seen.{seen_in, name_seen, phaser_seen, policy_seen};
+ghost use Rattle.line_reader.specs.Seen.{seen, name_seen, phaser_seen, policy_seen};
 ghost use Rattle.line_reader.specs.Reading.{first_phase_at, phaser_at, phaser_with, policy_at};
 
 use crate::argument::{end_at, phase_argument, reference_argument, reference_option_at};
@@ -36,7 +36,7 @@ pub(crate) const LAST_PHASER: u16 = 63;
 pub(crate) fn first_phase_at<'a, 'w>(
     words: &'w [&'a [u8]],
 ) -> Result<(i32, &'w [&'a [u8]]), WordFault>
-    ensures { seen_in (λ x. (x.0, map name_seen x.1.now)) result
+    ensures { seen (λ x. (x.0, map name_seen x.1.now)) result
         ≡ first_phase_at (map name_seen words.now) }
 {
     match words {
@@ -55,7 +55,7 @@ pub(crate) fn first_phase_at<'a, 'w>(
 pub(crate) fn policy_at<'a, 'w>(
     words: &'w [&'a [u8]],
 ) -> Result<(SymbolicPolicy<&'a [u8]>, &'w [&'a [u8]]), WordFault>
-    ensures { seen_in (λ x. (policy_seen x.0, map name_seen x.1.now)) result
+    ensures { seen (λ x. (policy_seen x.0, map name_seen x.1.now)) result
         ≡ policy_at (map name_seen words.now) }
 {
     match words {
@@ -83,7 +83,7 @@ fn phaser_with<'a>(
     parties: u16,
     options: &[&'a [u8]],
 ) -> Result<SymbolicPhaser<&'a [u8]>, WordFault>
-    ensures { seen_in phaser_seen result
+    ensures { seen phaser_seen result
         ≡ phaser_with name.now parties (map name_seen options.now) }
 {
     let (parent, rest) = reference_option_at("parent", LAST_PHASER, options)?;
@@ -102,12 +102,12 @@ fn phaser_with<'a>(
 /// Reads the words after `.phaser`: a name, the parties, and perhaps options. Fewer than two words are `OperandCount`.
 #[tactic(auto, unfolding(crate::specs::Reading::phaser_at))]
 pub fn phaser_at<'a>(words: &[&'a [u8]]) -> Result<SymbolicPhaser<&'a [u8]>, WordFault>
-    ensures { seen_in phaser_seen result ≡ phaser_at (map name_seen words.now) }
+    ensures { seen phaser_seen result ≡ phaser_at (map name_seen words.now) }
 {
     let [name, parties, options @ ..] = words else {
-        return Err(WordFault::at(words.len().saturating_add(1), AsmFaultKind::OperandCount));
+        return Err(WordFault::at(words.len() + 1, AsmFaultKind::OperandCount));
     };
     let name = read_at(words.len(), name_at(*name))?;
-    let parties = read_at(words.len().saturating_sub(1), count_at(u16::MAX, *parties))?;
+    let parties = read_at(words.len() - 1, count_at(u16::MAX, *parties))?;
     phaser_with(name, parties, options)
 }

@@ -1,6 +1,7 @@
 //! What the program reads: the file that an argument names, or standard input. What is read whole is read once.
 
 ghost use Rattle.std.specs.Prelude.{IfOk};
+ghost use Rattle.assembler.specs.Meaning.{StandsFor};
 ghost use Rattle.workbench.specs.ProgramFile.{IsNamedProgram};
 
 use crate::notes;
@@ -15,7 +16,7 @@ use std::io::{Stdin, Stdout};
 use workbench::Program;
 use workbench::fault::Fault;
 use workbench::input::read_all;
-use workbench::program::program_in;
+use workbench::program::{program_in, program_of_text};
 
 /// A stream that the program reads.
 pub type Stream<'a> = InputOf<'a, Reasoned<'a, File>, Reasoned<'a, Stdin>>;
@@ -69,6 +70,16 @@ pub fn program<'a>(report: &Report<'_>, file: ProgramFile<'a>) -> Result<Program
     ensures { IfOk result (λ program. IsNamedProgram program.bytes.now program.image program.names) }
 {
     match program_in(report.alloc(), file.text) {
+        Ok(program) => Ok(program),
+        Err(fault) => Err(fail_to_read(report, file, fault)),
+    }
+}
+
+/// Returns the program of a text, also if it begins as an image does.
+pub fn text<'a>(report: &Report<'_>, file: ProgramFile<'a>) -> Result<Program<'a>, Reported>
+    ensures { IfOk result (λ program. StandsFor program.bytes.now program.image) }
+{
+    match program_of_text(report.alloc(), file.text) {
         Ok(program) => Ok(program),
         Err(fault) => Err(fail_to_read(report, file, fault)),
     }

@@ -2,4 +2,4 @@
 
 /// The version, the kit whose logic proves it, and the sum of the sources but for this file.
 pub const VERSION: &str =
-    "1.3.0\nkit rattle-kit-13b logic dac8208d650f15bf\nsources e3f610f4115cc11e8b9bd291c2fb2522dc3f97c8278b35fbfc2d36f85ef2453f";
+    "2.0.0\nkit rattle-kit-13f logic dac8208d650f15bf\nsources a7c81490c9814ac116777372eb3d66dc5bc8bc05fb3658c759d2d8858543cdd1";

@@ -8,6 +8,7 @@ use crate::input::{self, block_port};
 use crate::steps::{fail_at_plan, names_of};
 use byte_ports::WritePort;
 use command_line::request::Orders;
+use commands::plan::{MOST_CHOICES, plan_with_names};
 use commands::seeds::{Seeds, Unlike, report_seeds};
 use commands::unplanned::Unplanned;
 use commands::write_picture::parts_of;
@@ -63,9 +64,21 @@ pub fn plan(
     let names = names_of(report, &program)?;
     let mut output = WritePort::new(report.kept(report.rt.stdout()));
     let planned = if has_names {
-        commands::plan::plan_with_names(report.alloc(), program, plan.bytes, &mut output)
+        plan_with_names(
+            report.alloc(),
+            program,
+            plan.bytes,
+            MOST_CHOICES,
+            &mut output,
+        )
     } else {
-        commands::plan::plan(report.alloc(), program, plan.bytes, &mut output)
+        commands::plan::plan(
+            report.alloc(),
+            program,
+            plan.bytes,
+            MOST_CHOICES,
+            &mut output,
+        )
     };
     let is_stopped = planned.map_err(|why| fail_at_plan(
         report,

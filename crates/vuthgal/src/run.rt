@@ -13,15 +13,15 @@ use fault_reports::program::{ProgramFile, fail_to_load};
 use fault_reports::report::{Report, Reported};
 use fault_reports::schedule::{self, Origin};
 use headline::shown;
-use loader::load;
 use plans::planned::Planned;
 use row_code::Image;
 use thread_machine::{Standing, StepFault};
-use trace_text::{PlayFault, RunEnd, run_loaded};
+use trace_text::RunEnd;
 use workbench::Program;
 use workbench::done::Done;
 use workbench::ending::passed_on;
 use workbench::fault::Fault;
+use workbench::run_line::split_at_run;
 
 /// What `live` means if the schedule ended the run.
 const SCHEDULE_ENDS: &str =
@@ -149,23 +149,17 @@ fn play_plan(
     expected: &[Vec<u8>],
 ) -> Result<Done, Reported> {
     let Planned { runs, stopped, .. } = planned(report, file, &program, plan)?;
-    let loaded = load(report.alloc(), program.image).map_err(|fault| fail_to_load(
-        report, file, fault,
-    ))?;
     let mut output = block_port(report)?;
-    let answer = run_loaded(report.alloc(), loaded, runs.as_slice(), &mut output);
+    let answer = shown::run_choices(report.alloc(), program.image, runs.as_slice(), &mut output);
     let live = if stopped { "" } else { SCHEDULE_ENDS };
-    let answer = answer.map_err(|fault| match fault {
-        PlayFault::Memory => Fault::Memory,
-        PlayFault::Write => Fault::Write,
-    });
-    match passed_on(answer, &mut output) {
+    match passed_on(answer.map_err(|fault| Fault::of_run(fault)), &mut output) {
         Ok(end) => Ok(ended(report, file.bytes, expected, &end, live)),
         Err(fault) => Err(fail(report, file, file.name, fault)),
     }
 }
 
-/// Plays the program in a file, or on standard input with its schedule, if no file is named.
+/// Plays the program in a file, or on standard input with its schedule, if no file is named. Standard input is always a text: only
+/// a file may be an image.
 pub fn run<'a>(
     report: &'a Report<'_>,
     name: Option<&'a str>,
@@ -179,13 +173,19 @@ pub fn run<'a>(
         );
     }
     let (bytes, steps) = opened(report, name, steps)?;
-    let (text, beside) = steps.parts(bytes.as_slice());
+    let (text, beside) = match name {
+        Some(_) => steps.parts(bytes.as_slice()),
+        None => split_at_run(bytes.as_slice()),
+    };
     let file = ProgramFile {
         name: name.unwrap_or(STANDARD_INPUT),
         bytes: bytes.as_slice(),
         text,
     };
-    let program = input::program(report, file)?;
+    let program = match name {
+        Some(_) => input::program(report, file)?,
+        None => input::text(report, file)?,
+    };
     let expected = expectations(report, &program.names, expected)?;
     let expected = expected.as_slice();
     match steps {

@@ -1,8 +1,9 @@
 //! As much of a schedule as a picture needs: nothing behind its fault, or behind one choice too many.
 
-ghost use Rattle.std.specs.Prelude.{◌≡◌, ◌≤◌, ◌+◌, if◌then◌else◌, false, IfOk, IfSome, None, length};
+ghost use Rattle.std.specs.Prelude.{◌≡◌, ◌≤◌, ◌+◌, if◌then◌else◌, false, IfOk, IfSome, IsFalse, IsTrue, None, Ok, length, take};
 ghost use Rattle.std.specs.Io.KnownBytes.{ReadConsumes};
 ghost use Rattle.byte_ports.specs.Port.{FailsForGood};
+ghost use Rattle.command_line.specs.Needed.{BeginWith};
 
 use byte_ports::{Failed, Source};
 use schedule_reader::{Reader, Run};
@@ -70,7 +71,9 @@ pub struct Needed<S> {
 
 impl<S: Drop> Needed<S> {
     /// Reads a schedule for a picture of at most `most` choices.
-    pub fn new(alloc: Global, source: S, most: u64) -> Result<Needed<S>, AllocError> {
+    pub fn new(alloc: Global, source: S, most: u64) -> Result<Needed<S>, AllocError>
+        ensures { IfOk result (λ needed. (needed.source ≡ source) × IsFalse needed.is_over) }
+    {
         Ok(Needed {
             source,
             seen: Seen::new(alloc, most)?,
@@ -79,13 +82,15 @@ impl<S: Drop> Needed<S> {
     }
 
     /// Returns the schedule.
-    pub fn source(&self) -> &S {
+    pub fn source(&self) -> &S
+        ensures { result.now ≡ self.now.source }
+    {
         &self.source
     }
 }
 
 impl<S: Source> Source for Needed<S> {
-    // What it leaves of its source is unknown.
+    // Where it ends is unknown. What it gives is a front of what its source gives (`front`, `whole`).
     ghost left = { λ _. None };
 
     ghost has_failed = { λ s. if s.is_over then false else S.has_failed s.source };
@@ -97,6 +102,10 @@ impl<S: Source> Source for Needed<S> {
             (if self.new.is_over then false else S.has_failed self.new.source) result }
         ensures bound { IfOk result (λ n. n ≤ length buffer.new) }
         ensures bytes { ReadConsumes None None result buffer.new }
+        ensures front { IfOk result (λ n. BeginWith (S.left self.old.source) (take n buffer.new)) }
+        ensures whole { IsFalse self.new.is_over → ReadConsumes (S.left self.old.source)
+            (S.left self.new.source) result buffer.new }
+        ensures over { IsTrue self.old.is_over → result ≡ Ok 0 }
         ensures reads { S.reads self.new.source ≤ S.reads self.old.source + 1 }
     {
         if self.is_over {

@@ -2,7 +2,8 @@
 
 ghost use Rattle.std.specs.Io.{WritesAtMost};
 ghost use Rattle.std.specs.Io.KnownBytes.{WriteAppends};
-ghost use Rattle.std.specs.Prelude.{None, if◌then◌else◌};
+ghost use Rattle.std.specs.Prelude.{◌≡◌, IsTrue, None, if◌then◌else◌, length, map, min, take};
+ghost use Rattle.command_line.specs.Shown.{IsShown, shown_for};
 
 use std::io;
 use std::io::{IsTerminal, Stderr, Write};
@@ -19,7 +20,9 @@ pub struct Printable<W> {
 }
 
 /// Returns a writer for standard output over this one, which writes there.
-pub fn output<W>(rt: &HostRuntime, writer: W) -> Printable<W> {
+pub fn output<W>(rt: &HostRuntime, writer: W) -> Printable<W>
+    ensures { result.writer ≡ writer }
+{
     Printable {
         writer,
         is_terminal: rt.stdout().is_terminal(),
@@ -35,12 +38,28 @@ pub fn errors(rt: &HostRuntime) -> Printable<Stderr> {
 }
 
 /// The byte that a terminal is shown in place of one.
-fn shown(byte: u8) -> u8 {
+fn shown(byte: u8) -> u8
+    ensures byte { result ≡ shown_for byte }
+    ensures shown { IsShown result }
+{
     match byte {
         b'\n' | b' '..=b'~' => byte,
         b'\t' => b' ',
         _ => b'?',
     }
+}
+
+/// Puts what a terminal is shown for these bytes at the start of `piece`, as much as there is room for. Returns how much.
+fn put_shown(bytes: &[u8], piece: &mut [u8]) -> usize
+    ensures count { result ≡ min (length bytes.now) (length piece.old) }
+    ensures room { length piece.new ≡ length piece.old }
+    ensures shown { take result piece.new ≡ map shown_for (take result bytes.now) }
+{
+    let count = bytes.len().min(piece.len());
+    for at in 0..count {
+        piece[at] = shown(bytes[at]);
+    }
+    count
 }
 
 impl<W: Write> Write for Printable<W> {
@@ -51,15 +70,15 @@ impl<W: Write> Write for Printable<W> {
         ensures bound { WritesAtMost result bytes.now }
         ensures bytes { WriteAppends (if self.old.is_terminal then None else W.contents self.old.writer)
             (if self.new.is_terminal then None else W.contents self.new.writer) result bytes.now }
+        ensures terminal { IsTrue self.old.is_terminal → WriteAppends (W.contents self.old.writer)
+            (W.contents self.new.writer) result (map shown_for bytes.now) }
+        ensures stays { self.new.is_terminal ≡ self.old.is_terminal }
     {
         if !self.is_terminal {
             return self.writer.write(bytes);
         }
         let mut piece = [b'?'; PIECE];
-        let count = bytes.len().min(PIECE);
-        for (at, byte) in bytes[..count].iter().enumerate() {
-            piece[at] = shown(*byte);
-        }
+        let count = put_shown(bytes, &mut piece);
         self.writer.write(&piece[..count])
     }
 

@@ -1,6 +1,6 @@
 //! A source whose end is kept, so that the place of a fault is known although nothing is read twice.
 
-ghost use Rattle.std.specs.Prelude.{◌≡◌, ◌≤◌, ◌+◌, IfOk, length};
+ghost use Rattle.std.specs.Prelude.{◌≡◌, ◌==◌, ◌≤◌, ◌+◌, IfOk, count_by, length};
 ghost use Rattle.std.specs.Io.KnownBytes.{ReadConsumes};
 ghost use Rattle.byte_ports.specs.Port.{FailsForGood};
 
@@ -38,23 +38,29 @@ pub struct Watched<S> {
     of_line: u64,
 }
 
-/// An LF in each byte of a word.
-const ENDS: u64 = 0x0a0a_0a0a_0a0a_0a0a;
+/// How many bytes are counted at once: so few that a byte can count their lines, which is why many are compared at once.
+const PIECE: usize = 128;
 
-/// All bits of each byte but its highest.
-const LOW: u64 = 0x7f7f_7f7f_7f7f_7f7f;
-
-/// Returns how many lines end in these bytes. It looks at eight bytes at once: of these, each that is an LF leaves one zero.
-pub fn lines_in(bytes: &[u8]) -> u64 {
-    let (words, rest) = bytes.as_chunks::<8>();
-    let mut lines = 0u64;
-    for word in words {
-        let differs = u64::from_le_bytes(*word) ^ ENDS;
-        let others = ((differs & LOW) + LOW) | differs | LOW;
-        lines = lines.wrapping_add(others.count_zeros() as u64);
+/// Returns how many lines end in at most 255 bytes.
+fn lines_in_piece(bytes: &[u8]) -> u8
+    requires { length bytes.now ≤ 255 }
+    ensures { result ≡ count_by (λ byte. byte == 10) bytes.now }
+{
+    let mut lines = 0u8;
+    for byte in bytes {
+        lines = lines.wrapping_add(u8::from(*byte == b'\n'));
     }
-    let end = rest.iter().filter(|byte| **byte == b'\n').count();
-    lines.wrapping_add(end as u64)
+    lines
+}
+
+/// Returns how many lines end in these bytes.
+pub fn lines_in(bytes: &[u8]) -> u64 {
+    let (pieces, rest) = bytes.as_chunks::<PIECE>();
+    let mut lines = u64::from(lines_in_piece(rest));
+    for piece in pieces {
+        lines = lines.wrapping_add(u64::from(lines_in_piece(piece)));
+    }
+    lines
 }
 
 /// Where the last line of these bytes begins: behind the last LF, or at 0.
@@ -94,7 +100,9 @@ impl<S> Watched<S> {
             of_line
         };
         self.before = self.before.saturating_add(begin as u64);
-        self.kept.drain(..begin);
+        let left = self.kept.len().saturating_sub(begin);
+        self.kept.copy_within(begin.., 0);
+        self.kept.truncate(left);
     }
 
     /// Keeps these bytes, and as many of those before as there is room for, if there is memory.

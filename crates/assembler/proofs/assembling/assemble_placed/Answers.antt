@@ -3,6 +3,7 @@ use Rattle.row_code.specs.Image.{IsImage}
 use Rattle.line_reader.specs.Words.{lines_of}
 use Rattle.assembler.specs.Meaning.{StandsFor, image_of}
 use Rattle.assembler.specs.Answers.{unplaced}
+use Rattle.assembler.proofs.FirstPass.{placed_name}
 use Rattle.assembler.proofs.ImageRanges.{said_image}
 use Rattle.assembler.proofs.ReadLines.{answers_stand, fault_answered, lines_take, looked_up_answered, stands_answered, unplaced_ok}
 use Rattle.assembler.proofs.assembling.assemble_placed.Goals as goal
@@ -31,3 +32,7 @@ returns-clause-only c =
 pub returns-clause-exact : goal.returns-clause-exact
 returns-clause-exact c =
     looked_up_answered c.args.text.now c.in-Ok.read.0 (unplaced c.image_of.result) c.in-Ok.ensures.read c.image_of.ensures.found
+
+pub returns-clause-place : goal.returns-clause-place
+returns-clause-place c =
+    placed_name c.args.text.now c.in-Ok.read.0 c.image_of.result c.in-Ok.ensures.read c.image_of.ensures.place

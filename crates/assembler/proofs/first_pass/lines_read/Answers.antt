@@ -1,11 +1,11 @@
-use Rattle.std.proofs.Common.{◌∙◌, ◌+◌, ◌≤◌, [], length, Ok, sym, ap, subst, refl, arith}
+use Rattle.std.proofs.Common.{rules, ◌≡◌, ◌∙◌, ◌+◌, ◌≤◌, [], length, Ok, sym, ap, subst, refl, arith}
 use Rattle.line_reader.specs.declared.asm_fault.AsmFault.{AsmFault}
 use Rattle.assembler.specs.Answers.{FailsAt}
 use Rattle.line_reader.specs.FirstLine.{after_line, first_line}
 use Rattle.line_reader.specs.Words.{lines_of}
 use Rattle.assembler.specs.Passes.{lines_read, behind}
 use Rattle.assembler.specs.Reading.{line_behind}
-use Rattle.assembler.proofs.FirstPass.{next_line, no_lines, one_left, none_left, one_more, one_less, all_read, some_text}
+use Rattle.assembler.proofs.FirstPass.{placed_word, next_line, no_lines, one_left, none_left, one_more, one_less, all_read, some_text}
 use Rattle.assembler.proofs.ReadLines.{fails_then}
 use Rattle.line_reader.proofs.FirstLines.{lines_first}
 use Rattle.assembler.proofs.first_pass.lines_read.Goals as goal
@@ -35,7 +35,17 @@ returns-in-Err-clause-read c =
     subst (λ r. FailsAt fault.kind fault r) (sym next)
     (fails_then fault.kind fault (behind draft (k + 1) (line_behind draft line))
     (λ lines. lines_read (k + 1 + 1) lines more) c.in-Err.ensures.read) in
-    subst (λ (f : AsmFault). FailsAt f.kind f (lines_read 1 [] (lines_of c.args.text.now))) (sym c.placed.ensures) told
+    subst (λ (f : AsmFault). FailsAt f.kind f (lines_read 1 [] (lines_of c.args.text.now))) (sym c.placed.ensures.fault) told
+
+pub returns-in-Err-clause-place : goal.returns-in-Err-clause-place
+returns-in-Err-clause-place c =
+    let before = c.loop-rest.invariant in
+    let rest = c.loop-rest.rest.now in
+    let many : c.len.result ≡ length c.read_line.new.words.items = search rules in
+    placed_word c.args.text.now c.loop-rest.number c.len.result c.loop-rest.draft (first_line rest) (lines_of (after_line rest))
+    c.in-Err.fault c.placed.result before.met (sym before.left ∙ lines_first rest (some_text rest c.loop-rest-test.ensures))
+    c.in-Err.ensures.wrong (λ some. many ∙ c.in-Err.ensures.words some) c.placed.ensures.fault
+    (λ line there. c.placed.ensures.place line (omega arith) there)
 
 pub returns-in-Err-clause-line : goal.returns-in-Err-clause-line
 returns-in-Err-clause-line c =
@@ -43,7 +53,7 @@ returns-in-Err-clause-line c =
     let rest = c.loop-rest.rest.now in
     let within = one_left (lines_of c.args.text.now) c.loop-rest.number (first_line rest) (lines_of (after_line rest))
     (sym before.left ∙ lines_first rest (some_text rest c.loop-rest-test.ensures)) in
-    subst (λ (f : AsmFault). (1 ≤ f.line) × (f.line ≤ length (lines_of c.args.text.now))) (sym c.placed.ensures)
+    subst (λ (f : AsmFault). (1 ≤ f.line) × (f.line ≤ length (lines_of c.args.text.now))) (sym c.placed.ensures.fault)
     (omega arith, omega (arith, within))
 
 pub loop-rest-preserved : goal.loop-rest-preserved
