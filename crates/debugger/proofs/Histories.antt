@@ -4,7 +4,7 @@ use Rattle.thread_machine.specs.World.{World, StoredWorld, world_of}
 use Rattle.thread_machine.specs.declared.choice.Choice.{Choice}
 use Rattle.thread_machine.specs.declared.fault.StepFault.{StepFault}
 use Rattle.thread_machine.specs.Step.{played, refusal_of}
-use Rattle.thread_machine.specs.Execution.{Execution, execution, execution_by, extended, extended_by}
+use Rattle.thread_machine.specs.Execution.{Execution, execution, execution_by, extended_by}
 use Rattle.thread_machine.proofs.Executions.{execution-snoc}
 use Rattle.debugger.specs.Session.{Session, went_back, back_to, world_after, worlds_before, IsHistory}
 use Rattle.debugger.specs.Moves.{IsSessionStep}

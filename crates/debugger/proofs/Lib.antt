@@ -7,3 +7,5 @@ pub mod Unmarked
 pub mod PlayedRuns
 pub mod Replies
 pub mod Standings
+pub mod Again
+pub mod Letters

@@ -1,5 +1,5 @@
 -- What a command makes of the choices that stand.
-use Rattle.std.proofs.Common.{◌≡◌, ◌∙◌, ◌-◌, ℕ, List, [], ◌∷◌, ◌++◌, Option, Some, None, length, take, refl, ap, sym, subst, arith, append-nil, append_assoc, length-append}
+use Rattle.std.proofs.Common.{◌≡◌, ◌∙◌, ℕ, List, [], ◌∷◌, ◌++◌, Option, Some, None, length, take, refl, ap, sym, subst, arith, append-nil, append_assoc}
 use Rattle.std.proofs.Math.Seq.{take-append_seam}
 use Rattle.thread_machine.specs.declared.choice.Choice.{Choice}
 use Rattle.thread_machine.specs.declared.fault.StepFault.{StepFault}
@@ -8,8 +8,8 @@ use Rattle.thread_machine.specs.Step.{refusal_of}
 use Rattle.schedule_reader.specs.Schedule.{choices_of}
 use Rattle.debugger.specs.declared.stop.Stop.{Stop}
 use Rattle.debugger.specs.declared.stop.Stop.TheVariants as stop
-use Rattle.debugger.specs.Session.{Session, IsHistory, went_back, back_to}
-use Rattle.debugger.specs.Moves.{IsSessionStep, AreSteps}
+use Rattle.debugger.specs.Session.{Session, IsHistory, back_to}
+use Rattle.debugger.specs.Moves.{AreSteps}
 use Rattle.debugger.specs.Go.{Stops}
 use Rattle.debugger.specs.Command.{Order, Step, Go, Back, Break, Clear, Print, Quit, Unknown}
 use Rattle.debugger.specs.Reply.{Replies, IsStepUnless}

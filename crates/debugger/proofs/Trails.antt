@@ -1,5 +1,5 @@
 -- What the kept records give back.
-use Rattle.std.proofs.Common.{◌≡◌, ◌∙◌, ℕ, zero, suc, Bool, List, [], ◌∷◌, take, drop, refl, ap, sym, subst, arith}
+use Rattle.std.proofs.Common.{◌≡◌, ◌∙◌, ℕ, zero, suc, Bool, List, [], ◌∷◌, length, take, drop, refl, ap, sym, subst, arith}
 use Rattle.std.specs.Prelude.{Option, Some, None, slice_get}
 use Rattle.machine_scene.specs.Undo.{Note}
 use Rattle.thread_machine.specs.World.{StoredWorld}
@@ -11,6 +11,10 @@ past-take : (n : ℕ) (world : StoredWorld) (notes : List (Option Note)) → pas
 past-take zero world notes = refl
 past-take (suc n) world [] = refl
 past-take (suc n) world (note ∷ notes) = ap (λ worlds. undone note world ∷ worlds) (past-take n (undone note world) notes)
+
+pub past_length : (world : StoredWorld) (notes : List (Option Note)) → length (past_of world notes) ≡ length notes
+past_length world [] = refl
+past_length world (note ∷ notes) = ap suc (past_length (undone note world) notes)
 
 trail-take : (n : ℕ) (world : StoredWorld) (notes : List (Option Note)) → IsTrail world notes → IsTrail world (take n notes)
 trail-take zero world notes trail = tt

@@ -1,5 +1,5 @@
 -- Which command a line of the debugger is.
-use Rattle.std.specs.Prelude.{ℕ, ◌==◌, ◌&&◌, ◌||◌, not, nat_le, if◌then◌else◌, Bool, true, false, List, [], ◌∷◌, length, take, drop, Option, Some, None}
+use Rattle.std.specs.Prelude.{ℕ, ◌==◌, ◌&&◌, not, nat_le, if◌then◌else◌, Bool, true, false, List, [], ◌∷◌, length, take, drop, Option, Some, None}
 use Rattle.std.specs.List.{position_or_len, list_all, list_any}
 use Rattle.std.specs.Char.{is_ascii_digit}
 use Rattle.std.specs.Str.Parse.{digits_value}
@@ -98,9 +98,14 @@ order_by letter rest =
 abbrev pub line_order : List ℕ → Order
 line_order line = order_by (letter_of (word_of line)) (rest_of line)
 
--- a line of `g` or of `s`
-abbrev pub has_choices : List ℕ → Bool
-has_choices line = (letter_of (word_of line) == 103) || (letter_of (word_of line) == 115)
+-- a line of `g`
+abbrev pub is_go : List ℕ → Bool
+is_go line = letter_of (word_of line) == 103
+
+-- `g` with two runs or more: they are read into a list
+abbrev pub has_list : Order → Bool
+has_list (Go (run ∷ next ∷ runs)) = true
+has_list _ = false
 
 -- only `q` ends the session
 abbrev pub goes_on : Order → Bool

@@ -17,7 +17,7 @@ use Rattle.debugger.specs.declared.stop.Stop.TheVariants as stop
 use Rattle.debugger.specs.Session.{Session, went_back}
 use Rattle.debugger.specs.Moves.{IsSessionStep}
 use Rattle.debugger.specs.Go.{Stops}
-use Rattle.debugger.specs.Command.{Order, Step, Go, Back, Break, Clear, Print, Quit, Unknown, has_choices, line_order}
+use Rattle.debugger.specs.Command.{Order, Step, Go, Back, Break, Clear, Print, Quit, Unknown, has_list, line_order}
 
 -- a word, a number and the end of the line
 abbrev pub number_line : List ℕ → ℕ → List ℕ
@@ -71,9 +71,9 @@ wants_memory session (Step choice) = puts_out (world_of session.machine) choice
 wants_memory session Print = true
 wants_memory session _ = false
 
--- what a line may be out of memory for: its choices are read into memory, or what it asks for wants some
+-- what a line may be out of memory for: a list of runs, where `g` has two or more, or what it asks for wants some
 abbrev pub NeedsMemory : Session → List ℕ → Type 0
-NeedsMemory session line = (has_choices line ≡ true) ⊎ (wants_memory session (line_order line) ≡ true)
+NeedsMemory session line = (has_list (line_order line) ≡ true) ⊎ (wants_memory session (line_order line) ≡ true)
 
 -- a command was carried out, and its reply was written; or it was carried out, and the output has failed; or it was not, since
 -- it is out of memory, and nothing was written

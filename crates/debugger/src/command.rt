@@ -1,12 +1,14 @@
 // Reads a line of a session: its first word, which is one letter, and what follows it.
-ghost use Rattle.std.specs.Prelude.{◌≡◌, OnErr, true, false, ◌==◌, ◌+◌, ◌≤◌, ◌<◌, ◌∷◌, [], IfOk, IfSome, length};
+ghost use Rattle.std.specs.Prelude.{◌≡◌, List, Option, OnErr, true, false, ◌==◌, ◌+◌, ◌≤◌, ◌<◌, ◌∷◌, [], IfOk, IfSome, length};
 ghost use Rattle.std.specs.List.{list_all, list_any, position, position_or_len};
 ghost use Rattle.std.specs.Option.{option_map};
+ghost use Rattle.schedule_reader.specs.Few.{few_of};
 ghost use Rattle.schedule_reader.specs.Schedule.{choice_of, is_blank, run_of};
-ghost use Rattle.debugger.specs.Command.{Break, Clear, Go, alone, by_row, go_by, goes_on, has_choices, is_letter, is_row, letter_of, line_order, order_of, rest_of, row_in, runs_in, step_by, word_of};
+ghost use Rattle.schedule_reader.specs.declared.run.Run.{Run};
+ghost use Rattle.debugger.specs.Command.{Break, Clear, Go, alone, by_row, go_by, goes_on, is_go, is_letter, is_row, letter_of, line_order, order_of, rest_of, row_in, runs_in, step_by, word_of};
 
 use line_reader::number::{are_digits, digits_value};
-use schedule_reader::{Run, ScheduleFault, is_blank, read_schedule};
+use schedule_reader::{Few, Run, ScheduleFault, few_runs, is_blank, read_schedule};
 use std::alloc::{AllocError, Global};
 use thread_machine::Choice;
 
@@ -121,6 +123,17 @@ fn has_star(rest: &[u8]) -> bool
     rest.iter().any(|byte| *byte == b'*')
 }
 
+/// Returns how few runs these tokens name, or `None` if they have a fault. It needs no memory.
+fn few_in(tokens: &[u8]) -> Option<Few>
+    requires { length tokens.now < 9223372036854775807 }
+    ensures { result ≡ option_map few_of (runs_in tokens.now) }
+{
+    match few_runs(tokens) {
+        Ok(few) => Some(few),
+        Err(_) => None,
+    }
+}
+
 /// Returns the runs that these tokens name, or `None` if they have a fault.
 fn runs_in(alloc: Global, tokens: &[u8]) -> Result<Option<Vec<Run>>, AllocError>
     requires { length tokens.now < 9223372036854775807 }
@@ -144,15 +157,12 @@ fn go_of(runs: Option<Vec<Run>>) -> Command
 }
 
 /// Returns the command `s` if there is one choice and no star, or else `Unknown`.
-fn step_of(runs: Option<Vec<Run>>, tokens: &[u8]) -> Command
-    ensures { order_of result ≡ step_by (option_map (λ r. r.items) runs) tokens.now }
+fn step_of(few: Option<Few>, tokens: &[u8]) -> Command
+    ensures { (runs : Option (List Run)) → few ≡ option_map few_of runs → order_of result ≡ step_by runs tokens.now }
 {
-    match runs {
-        Some(runs) => match runs.as_slice() {
-            [run] if !has_star(tokens) => Command::Step(run.choice),
-            _ => Command::Unknown,
-        },
-        None => Command::Unknown,
+    match few {
+        Some(Few::One(run)) if !has_star(tokens) => Command::Step(run.choice),
+        _ => Command::Unknown,
     }
 }
 
@@ -241,14 +251,23 @@ pub fn lone_turn(line: &[u8]) -> Option<Run>
     }
 }
 
-/// Returns the command that a line stands for. Fails if it is out of memory for runs of `s` or `g`.
+/// Returns how few runs a line of `g` names, or `None` if they have a fault. It needs no memory.
+pub fn few_of_go(line: &[u8]) -> Option<Few>
+    requires { is_go line.now ≡ true }
+    ensures { result ≡ option_map few_of (runs_in (rest_of line.now)) }
+{
+    let (_, rest) = split_word(line);
+    few_in(rest)
+}
+
+/// Returns the command that a line stands for. Fails if it is out of memory for runs of `g`.
 pub fn command_of(alloc: Global, line: &[u8]) -> Result<Command, AllocError>
     ensures order { IfOk result (λ command. order_of command ≡ line_order line.now) }
-    ensures choices { OnErr result (has_choices line.now ≡ true) }
+    ensures memory { OnErr result (is_go line.now ≡ true) }
 {
     let (word, rest) = split_word(line);
     Ok(match letter_of(word) {
-        b's' => step_of(runs_in(alloc, rest)?, rest),
+        b's' => step_of(few_in(rest), rest),
         b'g' => go_of(runs_in(alloc, rest)?),
         b'k' => break_of(row_in(rest)),
         b'c' => clear_of(row_in(rest)),

@@ -33,6 +33,16 @@ impl Marks {
         })
     }
 
+    /// Returns a copy of the marks. Fails if it is out of memory.
+    pub fn copy(&self, alloc: Global) -> Result<Marks, AllocError>
+        ensures { IfOk result (λ copy. copy ≡ self.now) }
+    {
+        Ok(Marks {
+            rows: Vec::from_slice(alloc, self.rows.as_slice())?,
+            are_there: self.are_there,
+        })
+    }
+
     /// Sets the breakpoint at a row, or clears it if `is_break` is false. Returns false if there is no such row.
     #[tactic(auto, using(crate::proofs::Unmarked::none_cleared))]
     pub fn put(&mut self, row: usize, is_break: bool) -> bool

@@ -1,10 +1,13 @@
 // The choices that a session has played and not taken back.
-ghost use Rattle.std.specs.Prelude.{◌≡◌, ◌≤◌, ◌<◌, ◌+◌, ◌-◌, ◌++◌, ◌∷◌, [], All, None, OnOk, Some, length, replicate, take};
-ghost use Rattle.schedule_reader.specs.Schedule.{IsRun, choices_of};
+ghost use Rattle.std.specs.Prelude.{◌≡◌, ◌↔◌, ◌≤◌, ◌<◌, ◌-◌, ◌++◌, ◌∷◌, [], true, All, IfOk, OnOk, length, min, replicate, take};
+ghost use Rattle.std.specs.Vec.{vec_len, vec_capacity};
+ghost use Rattle.schedule_reader.specs.Joined.{AreJoined};
+ghost use Rattle.schedule_reader.specs.Schedule.{IsRun, choices_of, run_of};
 
 use schedule_reader::Run;
 use std::alloc::{AllocError, Global};
 use std::marker::Model;
+use thread_machine::Choice;
 
 /// How often a run names its choice at most.
 const MOST_TIMES: u32 = 1_000_000_000;
@@ -16,32 +19,37 @@ pub struct Played {
 }
 
 impl Model for Played {
-    ghost use Rattle.std.specs.Prelude.{◌<◌, All, List};
+    ghost use Rattle.std.specs.Prelude.{◌<◌, ◌≤◌, All, List};
+    ghost use Rattle.schedule_reader.specs.Joined.{AreJoined};
     ghost use Rattle.schedule_reader.specs.declared.run.Run.{Run};
 
     ghost Value = { List Run };
 
     ghost view = { λ played. played.runs.items };
 
-    ghost invariant = { λ played. All (λ run. 0 < run.times) played.runs.items };
+    ghost invariant = { λ played. All (λ run. (0 < run.times) × (run.times ≤ 1000000000)) played.runs.items
+        × AreJoined played.runs.items };
 }
 
-/// Returns both runs as one if they have the same choice, at most 1,000,000,000 times, or `None`.
-fn joined(last: Run, run: Run) -> Option<Run>
-    ensures one { (both : Run) → result ≡ Some both → (both.choice ≡ run.choice) × (last.choice ≡ run.choice)
-        × (both.times ≡ last.times + run.times) × (both.times ≤ 1000000000) }
-    ensures apart { result ≡ None → last.choice ≡ run.choice → 1000000000 < last.times + run.times }
+/// Returns whether two choices are the same.
+fn is_same(one: Choice, other: Choice) -> bool
+    ensures { (result ≡ true) ↔ (one ≡ other) }
 {
-    let is_one = last.choice.thread == run.choice.thread && last.choice.expiry == run.choice.expiry;
-    let times = last.times.saturating_add(run.times);
-    if is_one && times <= MOST_TIMES {
-        Some(Run {
-            choice: run.choice,
-            times,
-        })
-    } else {
-        None
-    }
+    one.thread == other.thread && one.expiry == other.expiry
+}
+
+/// Appends a run of this choice, with as many of these times as a token can say. Returns how many.
+fn push_own(runs: &mut Vec<Run>, choice: Choice, times: u32) -> u32
+    requires { vec_len runs.old < vec_capacity runs.old }
+    ensures runs { runs.new.items ≡ runs.old.items ++ run_of choice result ∷ [] }
+    ensures some { result ≡ min times 1000000000 }
+{
+    let some = times.min(MOST_TIMES);
+    runs.push_reserved(Run {
+        choice,
+        times: some,
+    });
+    some
 }
 
 impl Played {
@@ -54,31 +62,45 @@ impl Played {
         }
     }
 
-    /// Returns the choices as runs, in order.
+    /// Returns the choices as runs, in order. A choice that is repeated is one run, as far as a token can say it.
     pub fn runs(&self) -> &[Run]
-        ensures { result.now ≡ self.now }
+        ensures runs { result.now ≡ self.now }
+        ensures joined { AreJoined result.now }
     {
         self.runs.as_slice()
+    }
+
+    /// Appends a choice, some of so many times: as many as its run has room for. Returns how many.
+    fn push_some(&mut self, choice: Choice, times: u32) -> Result<u32, AllocError>
+        requires { 0 < times }
+        ensures choices { IfOk result (λ some. choices_of self.new ≡ choices_of self.old ++ replicate some choice) }
+        ensures some { IfOk result (λ some. (0 < some) × (some ≤ times)) }
+        ensures runs { choice.thread ≤ 63 → All IsRun self.old → All IsRun self.new }
+    {
+        self.runs.reserve(1)?;
+        let Some(last) = self.runs.pop() else {
+            return Ok(push_own(&mut self.runs, choice, times));
+        };
+        if is_same(last.choice, choice) && last.times < MOST_TIMES {
+            let some = times.min(MOST_TIMES - last.times);
+            self.runs.push_reserved(Run {
+                choice,
+                times: last.times + some,
+            });
+            return Ok(some);
+        }
+        self.runs.push_reserved(last);
+        Ok(push_own(&mut self.runs, choice, times))
     }
 
     /// Appends the choices of a run, which may be none. If they repeat the last choice, they are joined to its run.
     fn push(&mut self, run: Run) -> Result<(), AllocError>
         ensures choices { OnOk result (choices_of self.new ≡ choices_of self.old ++ replicate run.times run.choice) }
-        ensures runs { run.choice.thread ≤ 63 → run.times ≤ 1000000000 → All IsRun self.old → All IsRun self.new }
+        ensures runs { run.choice.thread ≤ 63 → All IsRun self.old → All IsRun self.new }
     {
-        if run.times == 0 {
-            return Ok(());
-        }
-        let Some(last) = self.runs.pop() else {
-            self.runs.push(run)?;
-            return Ok(());
-        };
-        match joined(last, run) {
-            Some(both) => self.runs.push_reserved(both),
-            None => {
-                self.runs.push_reserved(last);
-                self.runs.push(run)?;
-            }
+        let mut left = run.times;
+        while left > 0 {
+            left -= self.push_some(run.choice, left)?;
         }
         Ok(())
     }

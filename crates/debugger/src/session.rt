@@ -11,6 +11,7 @@ use std::alloc::{AllocError, Global};
 use std::marker::Model;
 use thread_machine::{Choice, Event, Machine, StepFault, Undo};
 
+mod again;
 mod go;
 mod reply;
 
@@ -81,6 +82,18 @@ impl Debugger {
             }),
             Err(failed) => Err(failed),
         }
+    }
+
+    /// Returns a debugger of the same machine with the same breakpoints. It can't take back the choices before.
+    pub fn copy(&self) -> Result<Debugger, AllocError>
+        ensures { IfOk result (λ copy. copy ≡ record self.now { past = [] }) }
+    {
+        Ok(Debugger {
+            played: self.played.copy(self.alloc)?,
+            undos: self.undos.emptied(self.alloc)?,
+            marks: self.marks.copy(self.alloc)?,
+            alloc: self.alloc,
+        })
     }
 
     pub fn machine(&self) -> &Machine

@@ -35,12 +35,28 @@ impl Undos {
         })
     }
 
+    /// Makes an empty ring with the same room.
+    pub fn emptied(&self, alloc: Global) -> Result<Undos, AllocError>
+        ensures { IfOk result (λ undos. undos ≡ record self.now { notes = [] }) }
+    {
+        Ok(Undos {
+            kept: HeapCircularBuffer::with_capacity(alloc, self.kept.capacity())?,
+        })
+    }
+
     /// Keeps what undoes one more choice. If the ring is full, what undoes the oldest is lost.
     #[inline(always)]
     pub fn push(&mut self, undo: Undo)
         ensures { self.new ≡ with_note undo self.old }
     {
         let _ = self.kept.push_front(undo);
+    }
+
+    /// Returns how many choices can be undone.
+    pub fn len(&self) -> usize
+        ensures { result ≡ length self.now.notes }
+    {
+        self.kept.len()
     }
 
     /// Returns what undoes the last choice, or `None` if that isn't kept.

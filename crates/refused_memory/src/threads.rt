@@ -179,7 +179,10 @@ fn running<R: Threads + Wait + Sync>(rt: &R, trial: Trial) -> Answer {
     };
     match trial.end(run_live(rt, trial.begin(), program, 1000, &NoGate)) {
         Ok(run) => Answer::Right.provided(is_its(trial.alloc, run)),
-        Err(LiveFault::Memory(left)) => Answer::Memory.provided(is_left(trial.alloc, left)),
+        Err(LiveFault::Memory(left)) => Answer::Memory.provided(is_left(
+            trial.alloc,
+            left.into_schedule(),
+        )),
         Err(LiveFault::Spawn) => Answer::Memory,
     }
 }

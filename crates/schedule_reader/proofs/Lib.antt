@@ -5,3 +5,4 @@ pub mod Turns
 pub mod Runs
 pub mod Records
 pub mod ReadAtOnce
+pub mod Fews

@@ -5,3 +5,4 @@ pub mod Text
 pub mod Record
 pub mod FaultNumber
 pub mod Joined
+pub mod Few

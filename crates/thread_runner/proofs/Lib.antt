@@ -1,3 +1,4 @@
 pub mod Threads
 pub mod Choosing
 pub mod Replays
+pub mod Sleeping

@@ -35,11 +35,11 @@ pub record IsRecordOf (first : World) (text : List ℕ) (world : World) : Type 0
 
 -- out of memory, it left all choices of this record, and perhaps more behind them
 abbrev pub HasKept : Recording → LiveFault → Type 0
-HasKept recording (fault.Memory schedule) =
-    (more : List Choice) × (choices_of (finished_schedule schedule.items).runs ≡ recording.choices ++ more)
+HasKept recording (fault.Memory left) =
+    (more : List Choice) × (choices_of (finished_schedule left).runs ≡ recording.choices ++ more)
 HasKept recording fault.Spawn = Unit {0}
 
 -- what a run that was broken off left: out of memory, the record of what was played until then
 abbrev pub HasLeft : World → LiveFault → Type 0
-HasLeft first (fault.Memory schedule) = (world : World) × IsRecordOf first schedule.items world
+HasLeft first (fault.Memory left) = (world : World) × IsRecordOf first left world
 HasLeft first fault.Spawn = Unit {0}

@@ -1,3 +1,5 @@
+use crate::left_record::LeftRecord;
+
 /// Why a step was not taken. Nothing has changed.
 #[derive(Clone, Copy, Debug, PartialEq, Eq)]
 pub enum TakeFault {
@@ -12,8 +14,8 @@ pub enum TakeFault {
 /// Why a live run was broken off. Every worker that was started has ended.
 #[derive(Drop)]
 pub enum LiveFault {
-    /// Out of memory. The schedule has what was played until then. It is empty if there was no memory for a machine.
-    Memory(Vec<u8>),
+    /// Out of memory, with what was played until then.
+    Memory(LeftRecord),
     /// A thread couldn't be started.
     Spawn,
 }

@@ -11,8 +11,10 @@ mod fault;
 mod gate;
 mod journaled;
 mod law;
+mod left_record;
 mod live;
 mod runner;
+mod sleepers;
 
 pub use ending::Ending;
 pub use fault::{LiveFault, TakeFault};
@@ -21,4 +23,5 @@ pub use journaled::Journaled;
 pub use law::{
     a_run_goes_on_or_is_over, no_time_passes_while_a_thread_is_ready, some_worker_does_not_wait,
 };
+pub use left_record::LeftRecord;
 pub use runner::{LiveRun, run_live};

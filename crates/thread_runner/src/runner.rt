@@ -13,6 +13,7 @@ use crate::ending::Ending;
 use crate::fault::LiveFault;
 use crate::gate::Gate;
 use crate::journaled::Journaled;
+use crate::left_record::{LeftRecord, first_record};
 use crate::live::{Break, Live, Origin};
 use loader::Loaded;
 use std::alloc::Global;
@@ -32,10 +33,10 @@ pub struct LiveRun {
     pub ending: Ending,
 }
 
-/// The worker of a thread. It passes the gate, takes the lock, waits until it has something to do, makes its thread's choice,
-/// and wakes the others if one that waits needn't any more. No wake-up is lost: what is under the lock says whether a worker
-/// waits, and only `turn` and `refuse` change it. Before it sleeps, a worker is noted among the sleepers, until it finds that
-/// it needn't wait. After each turn every sleeper is asked again, and all are notified if one needn't wait.
+/// The worker of a thread. It passes the gate, takes the lock, waits until it has something to do, and makes its thread's
+/// choice. No wake-up is lost: what is under the lock says whether a worker waits. Before it sleeps, a worker is noted among
+/// the sleepers, until it finds that it needn't wait, or all are woken. Whoever changes what is under the lock can give the
+/// lock back only when each sleeper has to wait (`woken`), so it wakes them if one needn't.
 fn work<O: Origin, R: Wait, G: Gate>(
     rt: &R,
     lock: &Mutex<Live<O>>,
@@ -54,15 +55,13 @@ fn work<O: Origin, R: Wait, G: Gate>(
             lock.lock(rt),
             |live| -> bool
                 requires { thread < length O.first.scene.threads }
-                ensures waits { (result ≡ waits live.old.broken (recorded_world live.old.journaled) thread)
-                    × (live.new.journaled ≡ live.old.journaled) × (live.new.broken ≡ live.old.broken) }
-                ensures noted { has live.new.sleepers thread ≡ result }
+                ensures waits { (result ≡ waits live.old.state.broken (recorded_world live.old.state.journaled) thread)
+                    × (live.new.state.journaled ≡ live.old.state.journaled)
+                    × (live.new.state.broken ≡ live.old.state.broken) }
+                ensures noted { has live.new.state.sleepers thread ≡ result }
             { live.falls_asleep(thread) },
         );
-        let goes_on = live.turn(thread);
-        if live.some_wakes() {
-            changed.notify_all();
-        }
+        let goes_on = live.turn(thread, changed);
         drop(live);
         if !goes_on {
             return;
@@ -70,19 +69,10 @@ fn work<O: Origin, R: Wait, G: Gate>(
     }
 }
 
-/// Wakes all workers of a run that is broken off, so that they stop. `live` only shows that it is.
-fn stop_all<O: Origin>(live: &Live<O>, changed: &Condvar)
-    requires broken { is_some live.now.broken ≡ true }
-{
-    let _ = live;
-    changed.notify_all();
-}
-
 /// Breaks the run off because a thread couldn't be started: all workers stop.
 fn refuse<O: Origin, R: Wait>(rt: &R, lock: &Mutex<Live<O>>, changed: &Condvar) {
     let mut live = lock.lock(rt);
-    live.refuse();
-    stop_all(&live, changed);
+    live.refuse(changed);
     drop(live);
 }
 
@@ -143,8 +133,7 @@ fn out_of_memory(journaled: Journaled) -> LiveFault
     ensures kept { HasKept journaled result }
     ensures spawn { result ≢ LiveFault.Spawn }
 {
-    let (schedule, _) = journaled.into_parts();
-    LiveFault::Memory(schedule)
+    LiveFault::Memory(LeftRecord::of(journaled))
 }
 
 /// Returns the record of a run whose workers have all ended, and how it ended, or why it was broken off.
@@ -152,12 +141,12 @@ fn end<O: Origin>(live: Live<O>) -> Result<(Journaled, Ending), LiveFault>
     ensures first { IfOk result (λ both. both.0.first ≡ O.first) }
     ensures ending { IfOk result (λ both. ending_of (recorded_world both.0) ≡ Some both.1) }
     ensures left { IfErr result (HasLeft O.first) }
-    ensures kept { IfErr result (HasKept live.journaled) }
-    ensures spawn { (result ≡ Err LiveFault.Spawn) ↔ (live.broken ≡ Some Break.Spawn) }
+    ensures kept { IfErr result (HasKept live.state.journaled) }
+    ensures spawn { (result ≡ Err LiveFault.Spawn) ↔ (live.state.broken ≡ Some Break.Spawn) }
 {
-    match live.broken {
-        None => play_on(live.journaled),
-        Some(Break::Memory) => Err(out_of_memory(live.journaled)),
+    match live.state.broken {
+        None => play_on(live.state.journaled),
+        Some(Break::Memory) => Err(out_of_memory(live.state.journaled)),
         Some(Break::Spawn) => Err(LiveFault::Spawn),
     }
 }
@@ -178,18 +167,6 @@ fn run_of<O: Origin + Send + Sync, R: Threads + Wait + Sync, G: Gate + Sync>(
     let changed = Condvar::new();
     start(rt, &lock, &changed, gate, count);
     end(lock.into_inner())
-}
-
-/// Makes the record of a machine before its first choice. Out of memory, the fault has an empty schedule.
-fn first_record(alloc: Global, program: Loaded, limit: u32) -> Result<Journaled, LiveFault>
-    requires { limit ≤ 1000000000 }
-    ensures first { IfOk result (λ journaled. journaled.first ≡ first_world program limit) }
-    ensures left { IfErr result (HasLeft (first_world program limit)) }
-{
-    match Journaled::new(alloc, program, limit) {
-        Ok(journaled) => Ok(journaled),
-        Err(_) => Err(LiveFault::Memory(Vec::new(alloc))),
-    }
 }
 
 /// Plays the run of this record by `run_of`. `Brand` names its origin, which only contracts use.
@@ -235,7 +212,10 @@ pub fn run_live<R: Threads + Wait + Sync, G: Gate + Sync>(
     ensures ending { IfOk result (λ run. ending_of (world_of run.machine) ≡ Some run.ending) }
     ensures left { IfErr result (HasLeft (first_world program limit)) }
 {
-    let journaled = first_record(alloc, program, limit)?;
+    let journaled = match first_record(alloc, program, limit) {
+        Ok(journaled) => journaled,
+        Err(left) => return Err(LiveFault::Memory(left)),
+    };
     match recorded(rt, journaled, gate) {
         Ok((journaled, ending)) => Ok(ended(journaled, ending)),
         Err(fault) => Err(fault),

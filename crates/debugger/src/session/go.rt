@@ -1,5 +1,5 @@
 // Plays several choices at once, up to a breakpoint or a refusal.
-ghost use Rattle.std.specs.Prelude.{◌≡◌, ◌≤◌, ◌-◌, ◌∷◌, [], ◌++◌, ℕ, List, replicate};
+ghost use Rattle.std.specs.Prelude.{◌≡◌, ◌≤◌, ◌-◌, ◌∷◌, [], ◌++◌, ℕ, List, replicate, take};
 ghost use Rattle.machine_scene.specs.Scene.{scene_of, thread_at};
 ghost use Rattle.schedule_reader.specs.Schedule.{choices_of};
 ghost use Rattle.thread_machine.specs.declared.choice.Choice.{Choice};
@@ -29,6 +29,15 @@ impl Debugger {
     {
         let before = self.machine().choices();
         let went = self.go_runs(runs);
+        self.stop_of(went, before)
+    }
+
+    /// Plays the first `most` of the choices, or all if there are fewer, and stops where `go` would stop.
+    pub fn go_first(&mut self, runs: &[Run], most: u64) -> Stop
+        ensures { Stops self.old (take most (choices_of runs.now)) result self.new }
+    {
+        let before = self.machine().choices();
+        let went = self.go_some(runs, most);
         self.stop_of(went, before)
     }
 
@@ -70,6 +79,26 @@ impl Debugger {
         for run in runs {
             match self.go_run(*run) {
                 Went::On => {}
+                Went::Break => return Went::Break,
+                Went::Fault(fault) => return Went::Fault(fault),
+            }
+        }
+        Went::On
+    }
+
+    /// Plays the first `most` choices of runs in order, up to a break or a refusal.
+    fn go_some(&mut self, runs: &[Run], most: u64) -> Went
+        ensures { Goes self.old (take most (choices_of runs.now)) result self.new }
+    {
+        let mut left = most;
+        for run in runs {
+            let times = left.min(u64::from(run.times));
+            let some = Run {
+                choice: run.choice,
+                times: times as u32,
+            };
+            match self.go_run(some) {
+                Went::On => left -= times,
                 Went::Break => return Went::Break,
                 Went::Fault(fault) => return Went::Fault(fault),
             }

@@ -3,15 +3,15 @@ ghost use Rattle.std.specs.Prelude.{◌≡◌, ◌+◌, ◌≤◌, ◌∷◌, []
 ghost use Rattle.std.specs.Fmt.{decimal};
 ghost use Rattle.std.specs.Io.KnownBytes.{Appends};
 ghost use Rattle.debugger.specs.declared.stop.Stop.{Stop};
-ghost use Rattle.debugger.specs.Command.{Back, Break, Clear, Go, Print, Step, Unknown, goes_on, line_order, order_of};
+ghost use Rattle.debugger.specs.Command.{Back, Break, Clear, Go, Print, Step, Unknown, goes_on, has_list, is_go, line_order, order_of};
 ghost use Rattle.debugger.specs.Reply.{IsCarriedOut, NeedsMemory, number_line, stop_text, wants_memory};
 
-use crate::command::{Command, command_of, lone_turn};
+use crate::command::{Command, command_of, few_of_go, lone_turn};
 use crate::number_line::{ROOM, put_number_line};
 use crate::session::Debugger;
 use crate::stop::Stop;
 use byte_ports::{Failed, Sink};
-use schedule_reader::Run;
+use schedule_reader::{Few, Run};
 use std::alloc::AllocError;
 use thread_machine::{Choice, StepFault, Undo};
 use trace_text::line::{put_event, put_refusal};
@@ -236,6 +236,25 @@ impl Debugger {
         }
     }
 
+    /// Carries out a line of `g` if there is no memory for a list of its runs. It needs a list only for two runs or more.
+    fn go_without_list<W: Sink>(
+        &mut self,
+        line: &[u8],
+        output: &mut W,
+    ) -> Result<bool, CommandFault>
+        requires { is_go line.now ≡ true }
+        ensures outcome { IsCarriedOut (has_list (line_order line.now) ≡ true) result self.old (line_order line.now) self.new
+            (W.written output.old) (W.written output.new) (W.has_failed output.new) }
+        ensures goes_on { IfOk result (λ more. more ≡ goes_on (line_order line.now)) }
+    {
+        match few_of_go(line) {
+            None => going_on(self.unknown_command(output)),
+            Some(Few::Nothing) => going_on(self.go_command(&[], output)),
+            Some(Few::One(run)) => going_on(self.go_command(&[run], output)),
+            Some(Few::More) => Err(CommandFault::Memory),
+        }
+    }
+
     /// Carries out the command of a line and writes its reply. Returns false after `q`. After `Write` the command was
     /// carried out, and a part of its reply may be written. After `Memory` nothing was done or written.
     pub fn command<W: Sink>(&mut self, line: &[u8], output: &mut W) -> Result<bool, CommandFault>
@@ -247,7 +266,9 @@ impl Debugger {
             self.go_command(&[run], output)?;
             return Ok(true);
         }
-        let command = command_of(self.alloc, line)?;
-        self.carry_out(&command, output)
+        match command_of(self.alloc, line) {
+            Ok(command) => self.carry_out(&command, output),
+            Err(_) => self.go_without_list(line, output),
+        }
     }
 }

@@ -1,7 +1,8 @@
-use Rattle.std.proofs.Common.{◌≡◌, ◌∙◌, ◌-◌, ◌++◌, ◌∷◌, [], List, All, ap, sym, subst, arith, rules, length, take}
+use Rattle.std.proofs.Common.{◌≡◌, ◌∙◌, ◌-◌, ◌++◌, ◌∷◌, [], List, All, ap, refl, sym, subst, arith, rules, length, take}
 use Rattle.schedule_reader.specs.declared.run.Run.{Run}
+use Rattle.schedule_reader.specs.Joined.{AreJoined}
 use Rattle.schedule_reader.specs.Schedule.{IsRun, choices_of}
-use Rattle.debugger.proofs.PlayedRuns.{all_but, all_last, all_with, choices-less, choices-push}
+use Rattle.debugger.proofs.PlayedRuns.{IsCounted, all_but, all_last, all_with, choices-less, choices-push, joined_front, joined_last}
 use Rattle.debugger.proofs.played.Played.pop.Goals as goal
 
 pub returns-then-last-gt1-clause-choices : goal.returns-then-last-gt1-clause-choices
@@ -20,7 +21,29 @@ returns-then-last-gt1-clause-runs c = λ are.
     let last = c.in-Some.last in
     let all : c.args.self.now ≡ front ++ last ∷ [] = search rules in
     let those = subst (All IsRun) all are in
-    let is = all_last front last those in
+    let is = all_last IsRun front last those in
     subst (All IsRun) (sym c.push_reserved.ensures.items)
-    (all_with front (record { choice = last.choice; times = last.times - 1 }) (all_but front last those)
+    (all_with IsRun front (record { choice = last.choice; times = last.times - 1 }) (all_but IsRun front last those)
     (record { thread = is.thread; some = omega (arith, c.if-last-gt1.true); few = omega (arith, is.few) }))
+
+pub invariant_of-self-then-last-gt1 : goal.invariant_of-self-then-last-gt1
+invariant_of-self-then-last-gt1 c =
+    let front = c.pop.new.self.items in
+    let last = c.in-Some.last in
+    let all : c.self.inside.runs.items ≡ front ++ last ∷ [] = search rules in
+    let counted = subst (All IsCounted) all c.self.invariant.0 in
+    let less : Run = record { choice = last.choice; times = last.times - 1 } in (
+      subst (All IsCounted) (sym c.push_reserved.ensures.items)
+          (all_with IsCounted front less (all_but IsCounted front last counted)
+          (omega (arith, c.if-last-gt1.true), omega (arith, (all_last IsCounted front last counted).1))),
+      subst AreJoined (sym c.push_reserved.ensures.items) (joined_last front last less refl (subst AreJoined all c.self.invariant.1)),
+    )
+
+pub invariant_of-self-else-last-gt1 : goal.invariant_of-self-else-last-gt1
+invariant_of-self-else-last-gt1 c =
+    let front = c.pop.new.self.items in
+    let last = c.in-Some.last in
+    let all : c.self.inside.runs.items ≡ front ++ last ∷ [] = search rules in (
+      all_but IsCounted front last (subst (All IsCounted) all c.self.invariant.0),
+      joined_front front last (subst AreJoined all c.self.invariant.1),
+    )

@@ -1,4 +1,4 @@
-use Rattle.std.proofs.Common.{◌∙◌, ap, arith, false}
+use Rattle.std.proofs.Common.{◌∙◌, ap, false}
 use Rattle.std.specs.Prelude.{min, slice_index_or}
 use Rattle.schedule_reader.specs.declared.run.Run.{Run}
 use Rattle.trace_text.proofs.Plays.{choices_of-drop}
@@ -16,5 +16,5 @@ loop-run-preserved c =
           c.loop-run.invariant.choices c.in_ok-push.ensures.choices;
       runs = λ are mine.
           let is = are c.loop-run.run-index none c.loop-run-test.true in
-          c.push.ensures.runs is.thread (omega (arith, c.min-times.ensures, c.from.ensures, is.few)) (c.loop-run.invariant.runs are mine);
+          c.push.ensures.runs is.thread (c.loop-run.invariant.runs are mine);
     }

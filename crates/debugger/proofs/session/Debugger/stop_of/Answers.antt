@@ -1,4 +1,4 @@
-use Rattle.std.proofs.Common.{◌≡◌, ◌∙◌, ◌-◌, ap, arith, subst}
+use Rattle.std.proofs.Common.{◌∙◌, ◌-◌, ap, arith, subst}
 use Rattle.thread_machine.specs.World.{StoredWorld}
 use Rattle.debugger.specs.Goes.{Goes}
 use Rattle.debugger.proofs.Goes.{stops_end, stops_break, stops_fault}

@@ -2,7 +2,7 @@ use Rattle.std.proofs.Common.{ℕ, List, sym, subst}
 use Rattle.thread_machine.specs.World.{first_world}
 use Rattle.thread_runner.specs.Replay.{IsRecordOf}
 use Rattle.thread_runner.proofs.Replays.{nothing_recorded}
-use Rattle.thread_runner.proofs.runner.first_record.Goals as goal
+use Rattle.thread_runner.proofs.left_record.first_record.Goals as goal
 
 pub returns-in-Err-clause-left : goal.returns-in-Err-clause-left
 returns-in-Err-clause-left c =
