@@ -5,13 +5,13 @@
  *
  * Inputs. An input is bytes and their count. PROGRAM holds a program text or an image, which begins with "PBW1" or "PBW2"; the
  * other inputs are texts. LANGUAGE.md, TRACES.md and FORMATS.md describe them; bin/install puts them into share/doc/vuthgal/docs.
- * A program that is played again and again is best assembled once: a call with its image takes a third to a half of the time.
+ * A program that is played again and again is best assembled once: a call with its image takes some two thirds of the time.
  *
  * Bounds. A call returns 5 if an input has more bytes than this:
  *   a program, a text, a plan, and the schedule of a picture    16,777,216
  *   the words that vuthgal_explain gets                         65,536
- *   a trace, a schedule that is run, commands                   1,000,000,000 are read, a piece at a time
- * A command of a session has no bound.
+ *   the commands of vuthgal_debug                               1,000,000,000
+ * A trace, a schedule that is run, and a command of a session have no bound that memory reaches.
  *
  * Output. A call writes to your memory as snprintf does: it writes as many bytes as fit ROOM, and sets *LENGTH to the count of
  * all. If *LENGTH is more than ROOM, the bytes end at ROOM, and the rest is as usual: call again with more room.
@@ -51,11 +51,11 @@ extern "C" {
 #endif
 
 /* The version of this header, as 10000 * major + 100 * minor + patch. vuthgal_version_number returns that of the library. */
-#define VUTHGAL_VERSION 10300
+#define VUTHGAL_VERSION 20000
 
 /* What a call returns. */
 #define VUTHGAL_DONE 0
-/* compare: the trace differs, or isn't one; choices: it isn't one; plan: stopped at 1,000,000 choices */
+/* compare: the trace differs, or isn't one; choices: it isn't one; plan: it needs more choices; back: none is kept */
 #define VUTHGAL_UNLIKE 1
 /* explain: no line has these words */
 #define VUTHGAL_NO_LINE 2
@@ -67,6 +67,17 @@ extern "C" {
 #define VUTHGAL_TOO_LONG 5
 /* A session is closed. */
 #define VUTHGAL_CLOSED 6
+/* A session has no such thread. */
+#define VUTHGAL_NO_THREAD 7
+/* A session has done all its steps: 1,000,000,000 steps, or 1,000,000,000,000 choices. */
+#define VUTHGAL_LIMIT 8
+
+/* The most bytes of a program, a text, a plan, and the schedule of a picture; of the words of vuthgal_explain; and of the commands of
+   vuthgal_debug. How many choices a session can take back. */
+#define VUTHGAL_MOST_BYTES 16777216
+#define VUTHGAL_MOST_WORDS 65536
+#define VUTHGAL_MOST_COMMANDS 1000000000
+#define VUTHGAL_KEPT 4096
 
 /* Room for the line of every call but vuthgal_explain. */
 #define VUTHGAL_LINE 96
@@ -106,11 +117,23 @@ uint8_t vuthgal_choices(const uint8_t *trace, size_t trace_length,
                         uint8_t *output, size_t output_room, size_t *output_length,
                         uint8_t *line, size_t line_room, size_t *line_length);
 
-/* Writes the schedule that a plan stands for, as `vuthgal plan FILE PLAN`. */
+/* Writes the schedule that a plan stands for, as `vuthgal plan FILE PLAN`. If NAMES isn't 0, threads have their names, as
+   `--names` writes them: then the schedule is a plan, too. A schedule is a plan, so this also writes a schedule by names. A plan makes
+   at most MOST choices, and at most 1,000,000. If it needs more, the status is 1, and the output has the first ones. */
 uint8_t vuthgal_plan(const uint8_t *program, size_t program_length,
-                     const uint8_t *plan, size_t plan_length,
+                     const uint8_t *plan, size_t plan_length, uint32_t most, uint8_t names,
                      uint8_t *output, size_t output_room, size_t *output_length,
                      uint8_t *line, size_t line_room, size_t *line_length);
+
+/* Plays a plan, and then an order by each of COUNT seeds from FIRST on, as `vuthgal plan FILE PLAN --seeds FROM..TO`: at most 100,000
+   seeds. An order has at most LIMIT choices, or 1,000,000 if LIMIT is 0. The output has a line for each state in which a run ended,
+   the most frequent first: how often; `all`, `stuck` or `live`; and the seed and the schedule of the first such run, by names if NAMES
+   isn't 0. */
+uint8_t vuthgal_seeds(const uint8_t *program, size_t program_length,
+                      const uint8_t *plan, size_t plan_length,
+                      uint32_t first, uint32_t count, uint32_t limit, uint8_t names,
+                      uint8_t *output, size_t output_room, size_t *output_length,
+                      uint8_t *line, size_t line_room, size_t *line_length);
 
 /* Shows a run, as `vuthgal show FILE SCHEDULE`. The output is a page for a browser, in ASCII, which needs no network. */
 uint8_t vuthgal_show(const uint8_t *program, size_t program_length,
@@ -137,14 +160,120 @@ uint8_t vuthgal_explain(const uint8_t *words, size_t words_length,
                         uint8_t *output, size_t output_room, size_t *output_length,
                         uint8_t *line, size_t line_room, size_t *line_length);
 
+/* Says whether a state is as an expectation says, as `vuthgal run --expect` decides it of a run without a refused choice. STATE is the
+   text of a state, as the command `p` replies it and a trace ends with it. EXPECTATION is `all`, `ended`, `stuck`, `live`, or words of
+   a line of the state, as `t0 waits`. Returns 0, or 1 if the state isn't so, or 3 if that is no expectation. It allocates nothing. */
+uint8_t vuthgal_expect(const uint8_t *state, size_t state_length,
+                       const uint8_t *expectation, size_t expectation_length);
+
 /* A session: a program that is played command by command, as `vuthgal debug` plays it. Each step takes as long as the first. It
-   begins as VUTHGAL_SESSION, which is closed. Only the calls look into it. It may be moved, but of two copies only one may be used. */
+   begins as VUTHGAL_SESSION, which is closed. Only the calls look into it. It may be moved. The bytes of a handle are no copy of its
+   session: of two handles with the same bytes only one may be used. */
 typedef struct {
   void *at;
   uint64_t is_open;
 } vuthgal_session;
 
+#if defined(__cplusplus) && __cplusplus >= 201103L
+#define VUTHGAL_SESSION { nullptr, 0 }
+#else
 #define VUTHGAL_SESSION { 0, 0 }
+#endif
+
+/* A state: how many choices were made, and how many of them were steps; how many threads, phasers and barriers there are; and
+   VUTHGAL_LIVE, VUTHGAL_STUCK or VUTHGAL_ALL. */
+typedef struct {
+  uint64_t choices;
+  uint32_t steps;
+  uint8_t threads;
+  uint8_t phasers;
+  uint8_t barriers;
+  uint8_t standing;
+} vuthgal_state;
+
+/* What vuthgal_state says of a run: some choice can still do something; or none can, and some thread hasn't ended; or all threads have
+   ended or died. */
+#define VUTHGAL_LIVE 0
+#define VUTHGAL_STUCK 1
+#define VUTHGAL_ALL 2
+
+/* No phaser, barrier or thread. */
+#define VUTHGAL_NONE 65535
+
+/* A thread. */
+typedef struct {
+  int32_t registers[8];
+  int32_t value;       /* the exception that it throws or died of; the phase that it awaits; the index of its arrival at a barrier */
+  uint16_t row;        /* the row that it is at */
+  uint16_t object;     /* the phaser or barrier at which it waits, or VUTHGAL_NONE */
+  uint16_t outputs;    /* how many values it put out */
+  uint8_t entries;     /* how many entries its stack has */
+  uint8_t status;      /* VUTHGAL_RUNS .. VUTHGAL_DIED */
+  uint8_t interrupted; /* 1 or 0 */
+} vuthgal_thread;
+
+#define VUTHGAL_RUNS 0
+#define VUTHGAL_THROWS 1
+#define VUTHGAL_AWAITS_PHASE 2
+#define VUTHGAL_AWAITS_BARRIER 3
+#define VUTHGAL_ENDED 4
+#define VUTHGAL_DIED 5
+
+/* A phaser. */
+typedef struct {
+  int32_t phase;      /* getPhase: negative once it is terminated */
+  uint16_t parties;   /* getRegisteredParties */
+  uint16_t arrived;   /* getArrivedParties */
+  uint16_t unarrived; /* getUnarrivedParties */
+  uint16_t parent;    /* the number of its parent, or VUTHGAL_NONE */
+} vuthgal_phaser;
+
+/* A barrier. */
+typedef struct {
+  uint16_t parties; /* getParties */
+  uint16_t waiting; /* getNumberWaiting */
+  uint16_t runner;  /* the thread that runs its action, or VUTHGAL_NONE */
+  uint8_t broken;   /* isBroken: 1 or 0 */
+} vuthgal_barrier;
+
+/* An entry of a thread's stack. */
+typedef struct {
+  uint16_t number; /* the row to return to, or of the handler; the root of a routine; the barrier of an action */
+  uint8_t kind;    /* VUTHGAL_CALL .. VUTHGAL_ACTION */
+} vuthgal_entry;
+
+#define VUTHGAL_CALL 0
+#define VUTHGAL_HANDLER 1
+#define VUTHGAL_ROUTINE 2
+#define VUTHGAL_ACTION 3
+
+/* What a choice did: the line of a trace. */
+typedef struct {
+  uint64_t number; /* the number of the choice, from 1 */
+  int32_t value;   /* the result, the value put out, or the exception, by WHAT */
+  int32_t view;    /* the phase of the root after VUTHGAL_PHASE_ENDED, negative once it is terminated */
+  uint16_t row;    /* the row that its thread was at */
+  uint16_t object; /* the root or the barrier of MARK, or VUTHGAL_NONE */
+  uint8_t what;    /* VUTHGAL_IDLE .. VUTHGAL_ENDS */
+  uint8_t mark;    /* VUTHGAL_NO_MARK .. VUTHGAL_BROKE */
+} vuthgal_event;
+
+#define VUTHGAL_IDLE 0
+#define VUTHGAL_OK 1
+#define VUTHGAL_RESULT 2
+#define VUTHGAL_OUT 3
+#define VUTHGAL_WAITS 4
+#define VUTHGAL_THROW 5
+#define VUTHGAL_ENTERS 6
+#define VUTHGAL_UNWINDS 7
+#define VUTHGAL_CATCHES 8
+#define VUTHGAL_DIES 9
+#define VUTHGAL_ENDS 10
+
+#define VUTHGAL_NO_MARK 0
+#define VUTHGAL_PHASE_ENDED 1
+#define VUTHGAL_TRIPPED 2
+#define VUTHGAL_BROKE 3
 
 /* Opens a session of a program. If one was open there, it is closed first. The session is open if and only if this returns 0. */
 uint8_t vuthgal_session_open(vuthgal_session *session, const uint8_t *program, size_t program_length,
@@ -157,8 +286,53 @@ uint8_t vuthgal_session_open(vuthgal_session *session, const uint8_t *program, s
 uint8_t vuthgal_session_command(vuthgal_session *session, const uint8_t *command, size_t command_length,
                                 uint8_t *output, size_t output_room, size_t *output_length);
 
-/* Writes the reply to the last command again. It allocates nothing, and changes nothing. */
+/* Writes the reply to the last command again. After a command that returned 4 this is still the reply to the one before. The calls
+   without a text, such as vuthgal_session_step, keep the reply. It allocates nothing, and changes nothing. */
 uint8_t vuthgal_session_reply(vuthgal_session *session, uint8_t *output, size_t output_room, size_t *output_length);
+
+/* Plays a choice: the turn of THREAD, or, where EXPIRY isn't 0, the time-out of its wait. *EVENT gets what it did, as the line of
+   a trace says it. This is the command `s` without a text. With 4, 6, 7 and 8 nothing has changed, and *EVENT hasn't either. */
+uint8_t vuthgal_session_step(vuthgal_session *session, uint8_t thread, uint8_t expiry, vuthgal_event *event);
+
+/* Takes back the last choice: the command `b`. Returns 0, or 1 if none is kept: a session keeps 4,096. It allocates nothing. */
+uint8_t vuthgal_session_back(vuthgal_session *session);
+
+/* Says who may go. Bit t of *TURNS is set if the turn of thread t would do something now, and bit t of *EXPIRIES if the time-out of
+   its wait would. Every other choice would be idle. At the limit of steps, a choice whose bit is set is refused with 8. It allocates
+   nothing, and changes nothing but the two words, which are 0 if the session is closed. */
+uint8_t vuthgal_session_enabled(vuthgal_session *session, uint64_t *turns, uint64_t *expiries);
+
+/* Looks at the state: *STATE gets the counts, and each array the things of its kind in order of their numbers, as many as fit. What
+   is behind them isn't written. ROOM is counted in elements: 64 threads, 64 phasers, 64 barriers and 32 cells are always enough. It
+   allocates nothing. With 6 nothing is written. */
+uint8_t vuthgal_session_look(vuthgal_session *session, vuthgal_state *state,
+                             vuthgal_thread *threads, size_t threads_room,
+                             vuthgal_phaser *phasers, size_t phasers_room,
+                             vuthgal_barrier *barriers, size_t barriers_room,
+                             int32_t *cells, size_t cells_room);
+
+/* Writes the entries of a thread's stack, the lowest first, as many as fit, and sets *COUNT to the count of all: at most 64. It
+   allocates nothing. With 6 and 7 nothing is written. */
+uint8_t vuthgal_session_stack(vuthgal_session *session, uint8_t thread,
+                              vuthgal_entry *entries, size_t entries_room, size_t *count);
+
+/* Writes the values that a thread put out, the first one first, as many as fit, and sets *COUNT to the count of all: at most 4,096.
+   It allocates nothing. With 6 and 7 nothing is written. */
+uint8_t vuthgal_session_outputs(vuthgal_session *session, uint8_t thread,
+                                int32_t *values, size_t values_room, size_t *count);
+
+/* Makes TO a session in the state of FROM, with its breakpoints, which goes on alone. A session that was open at TO is closed. The
+   copy has no reply, and none of the past: it can take back only what is played in it. With 4 and 6 TO is as before. FROM and TO are
+   two different handles. */
+uint8_t vuthgal_session_copy(vuthgal_session *from, vuthgal_session *to);
+
+/* Writes the schedule of another run, which makes this choice in the present state: its thread goes on until it waits or ends, for at
+   most 100 turns. A thread that isn't there makes no choice. Then those choices of REST follow that still do something: REST is the
+   schedule with which the run itself would go on, at most 2,000 choices. Then all threads take turns. There are at most MOST choices,
+   and at most 1,000,000. The session doesn't change. With 3 REST is refused, and the output is empty. */
+uint8_t vuthgal_session_other(vuthgal_session *session, uint8_t thread, uint8_t expiry, uint32_t most,
+                              const uint8_t *rest, size_t rest_length,
+                              uint8_t *output, size_t output_room, size_t *output_length);
 
 /* Closes a session, and frees what it holds. One that is closed stays so. */
 void vuthgal_session_close(vuthgal_session *session);

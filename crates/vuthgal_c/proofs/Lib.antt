@@ -2,3 +2,6 @@ mod ProgramPlans
 mod Words
 mod Faults
 pub mod Values
+mod Conversations
+mod Filled
+mod Events

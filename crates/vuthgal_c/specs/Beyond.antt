@@ -1,9 +1,13 @@
 -- What the calls promise whose commands are in `commands`: plans, pictures, and schedules of traces.
-use Rattle.std.specs.Prelude.{◌≡◌, ◌≢◌, ◌⊎◌, ◌<◌, ℕ, Bool, true, false, IsTrue, List, [], length, Option, Some, Result, Ok, Err, IfOk, IfErr, OnOk, is_none, codes}
+use Rattle.std.specs.Prelude.{◌≡◌, ◌≢◌, ◌⊎◌, ◌<◌, ◌==◌, ℕ, Bool, true, false, not, if◌then◌else◌, min, IsTrue, List, [], ◌++◌, length, Option, Some, None, Result, Ok, Err, IfOk, IfErr, OnOk, is_none, codes}
+use Rattle.std.specs.Fmt.{decimal}
 use Rattle.std.specs.Io.KnownBytes.{Appends}
 use Rattle.commands.specs.Picture.{HaveNoPicture}
 use Rattle.commands.specs.Pictures.{HasWritten, program_of}
-use Rattle.commands.specs.Planning.{HasNoSchedule, HasPlanned}
+use Rattle.commands.specs.Planning.{HasNamedPlanned, HasNoSchedule, HasPlanned}
+use Rattle.commands.specs.Seeds.{HaveNoReport, HasReportedSeeds}
+use Rattle.commands.specs.declared.seeds.Seeds.{Seeds}
+use Rattle.commands.specs.declared.seeds.Unlike.{Unlike}
 use Rattle.commands.specs.Unplanned.{unplanned_line, unplanned_status}
 use Rattle.commands.specs.declared.unplanned.Unplanned.{Unplanned}
 use Rattle.commands.specs.declared.unplanned.Unplanned.TheVariants as why
@@ -13,7 +17,7 @@ use Rattle.workbench.specs.declared.fault.PictureKind.{PictureKind}
 use Rattle.workbench.specs.declared.program.Program.{Program}
 use Rattle.workbench.specs.Done.{as_asked}
 use Rattle.workbench.specs.Fault.{status_of}
-use Rattle.workbench.specs.Input.{GivesTooMuch, most_bytes}
+use Rattle.workbench.specs.Input.{most_bytes}
 use Rattle.workbench.specs.ProgramFile.{IsNamedProgram, IsNoProgramFor}
 use Rattle.commands.specs.Choices.{HasToldChoices}
 use Rattle.trace_compare.specs.Naming.{Naming}
@@ -56,30 +60,78 @@ IsUnplannedFor reason file steps =
     ((f : Fault) × ((reason ≡ why.Fault f) × IsNoProgramFor f (program_of file)))
     ⊎ ((program : Program) × (IsProgramIn (program_of file) program × HasNoSchedule reason program steps))
 
+-- the schedule of a plan was written, with the names of the threads or with their numbers
+abbrev pub HasPlannedBy : (has_names stopped : Bool) → Program → (most : ℕ) → (plan : List ℕ) → (output_before output_after : Option (List ℕ)) → Type 0
+HasPlannedBy true stopped program most plan output_before output_after = HasNamedPlanned stopped program most plan output_before output_after
+HasPlannedBy false stopped program most plan output_before output_after = HasPlanned stopped program most plan output_before output_after
+
 -- the schedule of a plan was written; or why not, and then nothing was, unless the output failed
-pub record PlansSteps (file steps : List ℕ) (answer : Result Bool Unplanned) (output_before output_after : Option (List ℕ))
+pub record PlansSteps (file steps : List ℕ) (most : ℕ) (has_names : Bool) (answer : Result Bool Unplanned) (output_before output_after : Option (List ℕ))
     (output_failed : Bool) : Type 0 where
   pub done : IfOk answer (λ stopped. (program : Program) × (IsProgramIn (program_of file) program
-      × HasPlanned stopped program steps output_before output_after))
+      × HasPlannedBy has_names stopped program most steps output_before output_after))
   pub refused : IfErr answer (λ reason. unplanned_status reason ≡ 3 → IsUnplannedFor reason file steps)
   pub unwritten : IfErr answer (λ reason. reason ≢ why.Fault fault.Write → output_after ≡ output_before)
   pub read : answer ≡ Err (why.Fault fault.Read) → IsTooMuch file steps
   pub write : answer ≡ Err (why.Fault fault.Write) → IsTrue output_failed
   pub spawn : answer ≢ Err (why.Fault fault.Spawn)
 
+-- where a plan was stopped
+abbrev pub stopped_line : (most : ℕ) → List ℕ
+stopped_line most = codes "stopped at " ++ (decimal most ++ codes " choices\n")
+
 -- the status of a plan's result, and its line, which also says where the plan was stopped
-abbrev pub SettlesPlan : Result Bool Unplanned → (status : ℕ) (line_failed : Bool) (line_before line_after : Option (List ℕ)) → Type 0
-SettlesPlan (Ok false) status line_failed line_before line_after = (status ≡ 0) × (line_after ≡ line_before)
-SettlesPlan (Ok true) status line_failed line_before line_after =
-    (status ≡ 1) × (IsTrue line_failed ⊎ Appends line_before line_after (codes "stopped at 1000000 choices\n"))
-SettlesPlan (Err reason) status line_failed line_before line_after =
+abbrev pub SettlesPlan : (most : ℕ) → Result Bool Unplanned → (status : ℕ) (line_failed : Bool) (line_before line_after : Option (List ℕ)) → Type 0
+SettlesPlan most (Ok false) status line_failed line_before line_after = (status ≡ 0) × (line_after ≡ line_before)
+SettlesPlan most (Ok true) status line_failed line_before line_after =
+    (status ≡ 1) × (IsTrue line_failed ⊎ Appends line_before line_after (stopped_line most))
+SettlesPlan most (Err reason) status line_failed line_before line_after =
     (status ≡ unplanned_status reason) × (IsTrue line_failed ⊎ Appends line_before line_after (unplanned_line reason))
 
-abbrev pub Plans : (file steps : List ℕ) (status : ℕ) (schedule line : List ℕ) → Type 0
-Plans file steps status schedule line =
-    (answer : Result Bool Unplanned) × (PlansSteps file steps answer (Some []) (Some schedule) false
-    × SettlesPlan answer status false (Some []) (Some line)
+abbrev pub Plans : (file steps : List ℕ) (most : ℕ) (has_names : Bool) (status : ℕ) (schedule line : List ℕ) → Type 0
+Plans file steps most has_names status schedule line =
+    (answer : Result Bool Unplanned) × (PlansSteps file steps most has_names answer (Some []) (Some schedule) false
+    × SettlesPlan most answer status false (Some []) (Some line)
     × (IsTooMuch file steps → answer ≡ Err (why.Fault fault.Read)))
+
+-- the seeds that a caller asks for: at most 100,000, and a limit of choices, unless that is 0
+abbrev pub limit_of : ℕ → Option ℕ
+limit_of limit = if limit == 0 then None else Some (min limit 1000000)
+
+abbrev pub AreAsked : (first count limit names : ℕ) → Seeds → Type 0
+AreAsked first count limit names seeds =
+    (seeds.first ≡ first) × (seeds.count ≡ min count 100000) × (seeds.limit ≡ limit_of limit) × (seeds.expected.now ≡ [])
+    × (seeds.has_names ≡ not (names == 0))
+
+-- why seeds are refused on a program: the file holds none; or the program, or the plan of one of them, has this fault
+abbrev pub IsUnreportedFor : Unplanned → (file steps : List ℕ) → Seeds → Type 0
+IsUnreportedFor reason file steps seeds =
+    ((f : Fault) × ((reason ≡ why.Fault f) × IsNoProgramFor f (program_of file)))
+    ⊎ ((program : Program) × (IsProgramIn (program_of file) program × HaveNoReport reason program steps seeds))
+
+-- what the orders of seeds lead to was written; or why not, and then nothing was, unless the output failed
+pub record ReportsSeeds (file steps : List ℕ) (seeds : Seeds) (answer : Result (Unit {0}) Unplanned) (output_before output_after : Option (List ℕ))
+    (output_failed : Bool) : Type 0 where
+  pub done : OnOk answer ((program : Program) × (IsProgramIn (program_of file) program
+      × ((unlike : Option Unlike) × HasReportedSeeds program steps seeds unlike output_before output_after)))
+  pub refused : IfErr answer (λ reason. unplanned_status reason ≡ 3 → IsUnreportedFor reason file steps seeds)
+  pub unwritten : IfErr answer (λ reason. reason ≢ why.Fault fault.Write → output_after ≡ output_before)
+  pub read : answer ≡ Err (why.Fault fault.Read) → IsTooMuch file steps
+  pub write : answer ≡ Err (why.Fault fault.Write) → IsTrue output_failed
+  pub spawn : answer ≢ Err (why.Fault fault.Spawn)
+
+-- the status of the seeds' result, and its line
+abbrev pub SettlesSeeds : Result (Unit {0}) Unplanned → (status : ℕ) (line_failed : Bool) (line_before line_after : Option (List ℕ)) → Type 0
+SettlesSeeds (Ok done) status line_failed line_before line_after = (status ≡ 0) × (line_after ≡ line_before)
+SettlesSeeds (Err reason) status line_failed line_before line_after =
+    (status ≡ unplanned_status reason) × (IsTrue line_failed ⊎ Appends line_before line_after (unplanned_line reason))
+
+abbrev pub Reports : (file steps : List ℕ) → (Seeds → Type 0) → (status : ℕ) (report line : List ℕ) → Type 0
+Reports file steps AreThese status report line =
+    (seeds : Seeds) × ((answer : Result (Unit {0}) Unplanned) × (AreThese seeds
+    × ReportsSeeds file steps seeds answer (Some []) (Some report) false
+    × SettlesSeeds answer status false (Some []) (Some line)
+    × (IsTooMuch file steps → answer ≡ Err (why.Fault fault.Read))))
 
 -- why a program and a schedule are refused a picture: the file holds no program; or they have none
 abbrev pub IsUnmadeFor : PictureKind → Fault → (file schedule : List ℕ) → Type 0
@@ -93,8 +145,7 @@ pub record MakesPicture (IsPicture : Program → List ℕ → List ℕ → Type 
       × HasWritten (IsPicture program schedule) output_before output_after))
   pub refused : IfErr answer (λ f. status_of f ≡ 3 → IsUnmadeFor kind f file schedule)
   pub unwritten : IfErr answer (λ f. f ≢ fault.Write → output_after ≡ output_before)
-  pub read : answer ≡ Err fault.Read
-      → (most_bytes < length file) ⊎ ((left : Option (List ℕ)) × GivesTooMuch (Some schedule) left)
+  pub read : answer ≡ Err fault.Read → IsTooMuch file schedule
   pub write : answer ≡ Err fault.Write → IsTrue output_failed
   pub spawn : answer ≢ Err fault.Spawn
 
@@ -102,4 +153,4 @@ abbrev pub Makes : (IsPicture : Program → List ℕ → List ℕ → Type 0) �
     (status : ℕ) (picture line : List ℕ) → Type 0
 Makes IsPicture kind file schedule status picture line =
     (answer : Result (Unit {0}) Fault) × (MakesPicture IsPicture kind file schedule answer (Some []) (Some picture) false
-    × Settles as_asked answer status line × (most_bytes < length file → answer ≡ Err fault.Read))
+    × Settles as_asked answer status line × (IsTooMuch file schedule → answer ≡ Err fault.Read))

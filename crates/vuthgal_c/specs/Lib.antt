@@ -6,4 +6,7 @@ pub mod Beyond
 pub mod Explaining
 pub mod Keep
 pub mod Room
+pub mod Looks
 pub mod Sessions
+pub mod Conversation
+pub mod Expecting

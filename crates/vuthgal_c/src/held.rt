@@ -1,14 +1,20 @@
 //! A debugger and its last reply.
-ghost use Rattle.std.specs.Prelude.{◌≡◌, ◌++◌, List, ℕ, [], Some, Err, true, false, OnOk};
+ghost use Rattle.std.specs.Prelude.{◌≡◌, ◌≢◌, ◌<◌, ◌++◌, List, ℕ, [], Some, Err, true, false, IfErr, IfOk, OnErr, OnOk, length};
 ghost use Rattle.std.specs.Io.KnownBytes.{Appends};
 ghost use Rattle.debugger.specs.Command.{line_order};
+ghost use Rattle.debugger.specs.Go.{Refuses};
 ghost use Rattle.debugger.specs.Reply.{Replies};
-ghost use Rattle.vuthgal_c.specs.Sessions.{HasLongReply};
+ghost use Rattle.debugger.specs.Session.{went_back};
+ghost use Rattle.machine_scene.specs.Scene.{scene_of, thread_at};
+ghost use Rattle.thread_machine.specs.World.{world_of};
+ghost use Rattle.vuthgal_c.specs.Sessions.{HasLongReply, HasStepped, copy_of};
 
+use crate::look::{EventLook, event_look};
 use crate::session_sink::SessionSink;
 use debugger::Debugger;
-use std::alloc::Global;
+use std::alloc::{AllocError, Global};
 use std::marker::Model;
+use thread_machine::{Choice, Machine, StepFault};
 
 /// A debugger and the reply to its last command.
 #[derive(Drop)]
@@ -45,6 +51,17 @@ fn is_answered(debugger: &mut Debugger, command: &[u8], shown: &mut SessionSink)
     }
 }
 
+/// Returns the row that a thread is at, or 0 if there is no such thread.
+fn row_of(machine: &Machine, thread: u8) -> u16
+    ensures { thread < length machine.now.scene.threads → result ≡ (thread_at (scene_of machine.now.scene) thread).pc }
+{
+    if usize::from(thread) < machine.thread_count() {
+        machine.pc(thread)
+    } else {
+        0
+    }
+}
+
 impl Held {
     /// Returns a session with this debugger and an empty reply.
     pub fn new(alloc: Global, debugger: Debugger) -> Held
@@ -54,6 +71,42 @@ impl Held {
             debugger,
             reply: Vec::new(alloc),
         }
+    }
+
+    /// Returns a session in the same state, without a reply or a past.
+    pub fn copy(&self, alloc: Global) -> Result<Held, AllocError>
+        ensures { IfOk result (λ copy. copy ≡ copy_of self.now) }
+    {
+        Ok(Held::new(alloc, self.debugger.copy()?))
+    }
+
+    /// Returns the machine.
+    pub fn machine(&self) -> &Machine
+        ensures { result.now ≡ self.now.debugger.machine }
+    {
+        self.debugger.machine()
+    }
+
+    /// Plays a choice. Returns what it did. If it is refused, nothing changes.
+    pub fn step(&mut self, choice: Choice) -> Result<EventLook, StepFault>
+        ensures done { IfOk result (λ event. HasStepped self.old choice self.new event) }
+        ensures refused { IfErr result (λ fault. Refuses (world_of self.old.debugger.machine) choice fault) }
+        ensures same { OnErr result (self.new ≡ self.old) }
+    {
+        let row = row_of(self.machine(), choice.thread);
+        match self.debugger.step(choice) {
+            Ok(event) => Ok(event_look(self.machine().choices(), row, event)),
+            Err(fault) => Err(fault),
+        }
+    }
+
+    /// Takes back the last choice. Returns false if none is kept.
+    pub fn back(&mut self) -> bool
+        ensures session { self.new ≡ record self.old { debugger = went_back self.old.debugger } }
+        ensures kept { result ≡ false → self.old.debugger.past ≡ [] }
+        ensures some { result ≡ true → self.old.debugger.past ≢ [] }
+    {
+        self.debugger.back().is_ok()
     }
 
     /// Returns the reply to the last command.

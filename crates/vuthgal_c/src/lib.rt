@@ -22,15 +22,24 @@ mod keeping;
 mod loose;
 mod session_sink;
 
+// Its state and its events as numbers.
+pub mod look;
+mod looking;
+
 // The calls.
 pub mod choices;
 pub mod debugging;
+pub mod expecting;
 pub mod explaining;
+pub mod law;
+pub mod looks;
 mod origin;
+pub mod other;
 pub mod planning;
 pub mod playing;
 pub mod sessions;
 pub mod showing;
+pub mod stepping;
 pub mod texts;
 pub mod traces;
 pub mod version;

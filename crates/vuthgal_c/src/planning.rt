@@ -1,46 +1,96 @@
-//! The schedules of plans.
-ghost use Rattle.std.specs.Prelude.{◌≡◌, [], Err, Some, false};
-ghost use Rattle.vuthgal_c.specs.Beyond.{IsTooMuch, Plans, PlansSteps, SettlesPlan};
+//! The schedules of plans, and what the orders of seeds lead to.
+ghost use Rattle.std.specs.Prelude.{◌≡◌, ◌≢◌, ◌==◌, ◌≤◌, ◌++◌, [], Err, IfErr, IfOk, IsTrue, OnErr, OnOk, Option, Some, codes, false, min, not};
+ghost use Rattle.std.specs.Fmt.{decimal};
+ghost use Rattle.std.specs.Io.KnownBytes.{Appends};
+ghost use Rattle.vuthgal_c.specs.Beyond.{AreAsked, HasPlannedBy, IsTooMuch, Plans, PlansSteps, Reports, ReportsSeeds, SettlesPlan, SettlesSeeds, stopped_line};
 ghost use Rattle.vuthgal_c.specs.Shows.{Shows};
+ghost use Rattle.commands.specs.Planning.{HasNoSchedule};
+ghost use Rattle.commands.specs.Seeds.{HasReportedSeeds, HaveNoReport};
+ghost use Rattle.commands.specs.Unplanned.{unplanned_status};
+ghost use Rattle.commands.specs.declared.seeds.Unlike.{Unlike};
 ghost use Rattle.commands.specs.declared.unplanned.Unplanned.{Unplanned};
 ghost use Rattle.workbench.specs.declared.fault.Fault.{Fault};
 
 use crate::files::{is_within, whole_program};
 use crate::reply::Reply;
-use byte_ports::Sink;
-use commands::plan::plan;
+use byte_ports::{Failed, Sink};
+use commands::plan::{MOST_CHOICES, plan, plan_with_names};
+use commands::seeds::{Seeds, report_seeds};
 use commands::unplanned::Unplanned;
 use commands::write_picture::parts_of;
+use itoa::Buffer;
 use std::alloc::Global;
+use workbench::Program;
 use workbench::fault::Fault;
 
-/// Writes a plan's schedule on a file's program. Returns whether it needs over 1,000,000 choices. Too long an input is `Read`.
+/// The most seeds in one call.
+const MOST_SEEDS: u32 = 100_000;
+
+/// Writes a plan's schedule on a program, of at most `most` choices, with the threads' names if asked for. Returns whether it needs
+/// more.
+fn push_plan<K: Sink>(
+    alloc: Global,
+    program: Program<'_>,
+    steps: &[u8],
+    most: u32,
+    has_names: bool,
+    output: &mut K,
+) -> Result<bool, Unplanned>
+    requires { most ≤ 1000000 }
+    ensures done { IfOk result (λ stopped. HasPlannedBy has_names stopped program.entry most steps.now (K.written output.old) (K.written output.new)) }
+    ensures refused { IfErr result (λ reason. unplanned_status reason ≡ 3 → HasNoSchedule reason program.entry steps.now) }
+    ensures unwritten { IfErr result (λ reason. reason ≢ Unplanned.Fault Fault.Write → K.written output.new ≡ K.written output.old) }
+    ensures other { (result ≢ Err (Unplanned.Fault Fault.Read)) × (result ≢ Err (Unplanned.Fault Fault.Spawn)) }
+    ensures write { result ≡ Err (Unplanned.Fault Fault.Write) → IsTrue (K.has_failed output.new) }
+{
+    if has_names {
+        plan_with_names(alloc, program, steps, most, output)
+    } else {
+        plan(alloc, program, steps, most, output)
+    }
+}
+
+/// Writes a plan's schedule on a file's program, of at most `most` choices, with the threads' names if asked for. Returns whether it
+/// needs more. Too long an input is `Read`.
 fn planned<K: Sink>(
     alloc: Global,
     file: &[u8],
     steps: &[u8],
+    most: u32,
+    has_names: bool,
     output: &mut K,
 ) -> Result<bool, Unplanned>
-    ensures plans { PlansSteps file.now steps.now result (K.written output.old) (K.written output.new) (K.has_failed output.new) }
+    requires { most ≤ 1000000 }
+    ensures plans { PlansSteps file.now steps.now most has_names result (K.written output.old) (K.written output.new) (K.has_failed output.new) }
     ensures limit { IsTooMuch file.now steps.now → result ≡ Err (Unplanned.Fault Fault.Read) }
 {
     if !is_within(file) || !is_within(steps) {
         return Err(Unplanned::Fault(Fault::Read));
     }
     match whole_program(alloc, parts_of(file).0) {
-        Ok(program) => plan(alloc, program, steps, output),
+        Ok(program) => push_plan(alloc, program, steps, most, has_names, output),
         Err(fault) => Err(Unplanned::Fault(fault)),
     }
 }
 
+/// Writes the line of a plan that was stopped at so many choices.
+fn push_stopped<E: Sink>(line: &mut E, most: u32) -> Result<(), Failed>
+    ensures bytes { OnOk result (Appends (E.written line.old) (E.written line.new) (stopped_line most)) }
+    ensures failed { OnErr result (IsTrue (E.has_failed line.new)) }
+{
+    line.push(b"stopped at ")?;
+    line.push(Buffer::new().format(most).as_bytes())?;
+    line.push(b" choices\n")
+}
+
 /// Returns the status: 0, or 1 with a line if the plan was cut off (`Ok(true)`), or the fault's, whose line goes to `line`.
-fn settled<E: Sink>(answer: Result<bool, Unplanned>, line: &mut E) -> u8
-    ensures { SettlesPlan answer result (E.has_failed line.new) (E.written line.old) (E.written line.new) }
+fn settled<E: Sink>(answer: Result<bool, Unplanned>, most: u32, line: &mut E) -> u8
+    ensures { SettlesPlan most answer result (E.has_failed line.new) (E.written line.old) (E.written line.new) }
 {
     match answer {
         Ok(false) => 0,
         Ok(true) => {
-            let _ = line.push(b"stopped at 1000000 choices\n");
+            let _ = push_stopped(line, most);
             1
         }
         Err(why) => {
@@ -50,21 +100,124 @@ fn settled<E: Sink>(answer: Result<bool, Unplanned>, line: &mut E) -> u8
     }
 }
 
-/// Writes the schedule of `plan` to `output` and a fault to `line`, as far as they fit, and their lengths. Returns the status.
+/// Writes the schedule of `plan`, of at most `most` choices and at most 1,000,000, to `output` and a fault to `line`, as far as they
+/// fit, and their lengths. If `names` isn't 0, threads have their names, so that the schedule is a plan. Returns the status.
 #[unsafe(no_mangle)]
 pub extern "C" fn vuthgal_plan(
     alloc: Global,
     program: &[u8],
     plan: &[u8],
+    most: u32,
+    names: u8,
     output: &mut [u8],
     output_length: &mut usize,
     line: &mut [u8],
     line_length: &mut usize,
 ) -> u8
-    ensures { Shows (Plans program.now plan.now) result output.old output.new output_length.new line.old line.new line_length.new }
+    ensures { Shows (Plans program.now plan.now (min most 1000000) (not (names == 0))) result output.old output.new output_length.new line.old line.new line_length.new }
 {
     let mut reply = Reply::new(alloc, output.len(), line.len());
-    let answer = planned(alloc, program, plan, &mut reply.shown);
-    let status = settled(answer, &mut reply.told);
+    let most = most.min(MOST_CHOICES);
+    let answer = planned(alloc, program, plan, most, names != 0, &mut reply.shown);
+    let status = settled(answer, most, &mut reply.told);
+    reply.hand(status, output, output_length, line, line_length)
+}
+
+/// Returns the seeds that a caller asks for.
+fn asked(first: u32, count: u32, limit: u32, names: u8) -> Seeds<'static>
+    ensures { AreAsked first count limit names result }
+{
+    Seeds {
+        first,
+        count: count.min(MOST_SEEDS),
+        limit: if limit == 0 {
+            None
+        } else {
+            Some(limit.min(MOST_CHOICES))
+        },
+        expected: &[],
+        has_names: names != 0,
+    }
+}
+
+/// Writes what the orders of these seeds lead to on a program.
+fn push_report<K: Sink>(
+    alloc: Global,
+    program: Program<'_>,
+    steps: &[u8],
+    seeds: &Seeds<'_>,
+    output: &mut K,
+) -> Result<(), Unplanned>
+    requires { seeds.now.count ≤ 100000 }
+    ensures done { OnOk result ((unlike : Option Unlike) × HasReportedSeeds program.entry steps.now seeds.now unlike
+        (K.written output.old) (K.written output.new)) }
+    ensures refused { IfErr result (λ reason. unplanned_status reason ≡ 3 → HaveNoReport reason program.entry steps.now seeds.now) }
+    ensures unwritten { IfErr result (λ reason. reason ≢ Unplanned.Fault Fault.Write → K.written output.new ≡ K.written output.old) }
+    ensures other { (result ≢ Err (Unplanned.Fault Fault.Read)) × (result ≢ Err (Unplanned.Fault Fault.Spawn)) }
+    ensures write { result ≡ Err (Unplanned.Fault Fault.Write) → IsTrue (K.has_failed output.new) }
+{
+    match report_seeds(alloc, program, steps, seeds, output) {
+        Ok(_) => Ok(()),
+        Err(why) => Err(why),
+    }
+}
+
+/// Writes what the orders of these seeds lead to on a file's program. Too long an input is `Read`.
+fn reported<K: Sink>(
+    alloc: Global,
+    file: &[u8],
+    steps: &[u8],
+    seeds: &Seeds<'_>,
+    output: &mut K,
+) -> Result<(), Unplanned>
+    requires { seeds.now.count ≤ 100000 }
+    ensures reports { ReportsSeeds file.now steps.now seeds.now result (K.written output.old) (K.written output.new) (K.has_failed output.new) }
+    ensures limit { IsTooMuch file.now steps.now → result ≡ Err (Unplanned.Fault Fault.Read) }
+{
+    if !is_within(file) || !is_within(steps) {
+        return Err(Unplanned::Fault(Fault::Read));
+    }
+    match whole_program(alloc, parts_of(file).0) {
+        Ok(program) => push_report(alloc, program, steps, seeds, output),
+        Err(fault) => Err(Unplanned::Fault(fault)),
+    }
+}
+
+/// Returns the status: 0, or the fault's, whose line goes to `line`.
+fn settled_seeds<E: Sink>(answer: Result<(), Unplanned>, line: &mut E) -> u8
+    ensures { SettlesSeeds answer result (E.has_failed line.new) (E.written line.old) (E.written line.new) }
+{
+    match answer {
+        Ok(()) => 0,
+        Err(why) => {
+            let _ = why.tell(line);
+            why.status()
+        }
+    }
+}
+
+/// Plays `plan` and then an order by each of `count` seeds, at most 100,000, from `first` on: of at most `limit` choices, if that isn't
+/// 0. Writes a line for each state that a run ended in to `output` and a fault to `line`, as far as they fit, and their lengths.
+/// Returns the status.
+#[unsafe(no_mangle)]
+pub extern "C" fn vuthgal_seeds(
+    alloc: Global,
+    program: &[u8],
+    plan: &[u8],
+    first: u32,
+    count: u32,
+    limit: u32,
+    names: u8,
+    output: &mut [u8],
+    output_length: &mut usize,
+    line: &mut [u8],
+    line_length: &mut usize,
+) -> u8
+    ensures { Shows (Reports program.now plan.now (AreAsked first count limit names)) result output.old output.new output_length.new line.old line.new line_length.new }
+{
+    let seeds = asked(first, count, limit, names);
+    let mut reply = Reply::new(alloc, output.len(), line.len());
+    let answer = reported(alloc, program, plan, &seeds, &mut reply.shown);
+    let status = settled_seeds(answer, &mut reply.told);
     reply.hand(status, output, output_length, line, line_length)
 }

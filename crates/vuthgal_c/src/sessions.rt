@@ -1,9 +1,8 @@
 //! Sessions that go on from call to call.
-ghost use Rattle.std.specs.Prelude.{◌≡◌, ◌≤◌, ◌++◌, ℕ, List, None, IfOk, IfErr, OnOk, length};
+ghost use Rattle.std.specs.Prelude.{◌≡◌, ◌++◌, ℕ, List, None, IfOk, IfErr};
 ghost use Rattle.workbench.specs.Fault.{line_of};
-ghost use Rattle.workbench.specs.Input.{most_bytes};
 ghost use Rattle.vuthgal_c.specs.Shows.{Holds};
-ghost use Rattle.vuthgal_c.specs.Sessions.{Answers, HasNone, IsFirstOf, Opens, Repeats};
+ghost use Rattle.vuthgal_c.specs.Sessions.{Answers, Copies, HasNone, IsFirstOf, Opens, Repeats, copy_of};
 
 use crate::counting_sink::CountingSink;
 use crate::files::is_within;
@@ -11,23 +10,22 @@ use crate::handing::{NO_MEMORY, hand_all, hand_over};
 use crate::handle::Handle;
 use crate::held::{Held, Unanswered};
 use crate::keeping::{put, take};
-use std::alloc::Global;
+use std::alloc::{AllocError, Global};
 use workbench::debug::first_debugger;
 use workbench::fault::Fault;
 use workbench::program::program_in;
 
 /// The status where a handle has no session.
-const CLOSED: u8 = 6;
+pub const CLOSED: u8 = 6;
 
-/// Returns a session of the program in a file, before its first command. A file of more than 16,777,216 bytes is `Read`.
+/// The line where a program is too long.
+const TOO_LONG: &[u8] = b"read\n";
+
+/// Returns a session of the program in a file, before its first command.
 fn held_of(alloc: Global, file: &[u8]) -> Result<Held, Fault>
     ensures first { IfOk result (λ held. IsFirstOf file.now held) }
-    ensures limit { OnOk result (length file.now ≤ most_bytes) }
     ensures none { IfErr result (λ fault. HasNone file.now fault) }
 {
-    if !is_within(file) {
-        return Err(Fault::Read);
-    }
     let image = match program_in(alloc, file) {
         Ok(program) => program.image,
         Err(fault) => return Err(fault),
@@ -41,7 +39,6 @@ fn held_of(alloc: Global, file: &[u8]) -> Result<Held, Fault>
 /// Returns a session of the program in a file, before its first command, in a block of its own, which a handle can hold.
 fn boxed(alloc: Global, file: &[u8]) -> Result<Box<Held>, Fault>
     ensures first { IfOk result (λ held. IsFirstOf file.now held.value) }
-    ensures limit { OnOk result (length file.now ≤ most_bytes) }
     ensures none { IfErr result (λ fault. HasNone file.now fault) }
 {
     let held = match held_of(alloc, file) {
@@ -77,6 +74,10 @@ pub extern "C" fn vuthgal_session_open(
         × Opens program.now session.new.session result told) }
 {
     let _ = take(alloc, session);
+    if !is_within(program) {
+        hand_all(TOO_LONG, line, line_length);
+        return 5;
+    }
     let fault = match boxed(alloc, program) {
         Ok(held) => {
             put(alloc, session, held);
@@ -150,6 +151,41 @@ pub extern "C" fn vuthgal_session_reply(
     hand_all(held.reply(), output, output_length);
     put(alloc, session, held);
     0
+}
+
+/// Returns a copy of a session in a block of its own.
+fn boxed_copy(alloc: Global, held: &Held) -> Result<Box<Held>, AllocError>
+    ensures { IfOk result (λ copy. copy.value ≡ copy_of held.now) }
+{
+    let copy = match held.copy(alloc) {
+        Ok(copy) => copy,
+        Err(refused) => return Err(refused),
+    };
+    match Box::new(alloc, copy) {
+        Ok(copy) => Ok(copy),
+        Err(_) => Err(AllocError),
+    }
+}
+
+/// Makes `to` a session in the state of `from`, and closes the one that was there. Returns 0, or 6 if `from` isn't open, or 4 if
+/// it is out of memory: then `to` is as before.
+#[unsafe(no_mangle)]
+pub extern "C" fn vuthgal_session_copy(alloc: Global, from: &mut Handle, to: &mut Handle) -> u8
+    ensures to { Copies from.old.session to.old.session to.new.session result }
+    ensures from { from.new.session ≡ from.old.session }
+{
+    let Some(held) = take(alloc, from) else {
+        return CLOSED;
+    };
+    let copied = boxed_copy(alloc, &held);
+    put(alloc, from, held);
+    match copied {
+        Ok(copy) => {
+            put(alloc, to, copy);
+            0
+        }
+        Err(_) => 4,
+    }
 }
 
 /// Closes a session, if it is open, and frees all that it has.

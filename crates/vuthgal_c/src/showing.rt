@@ -1,12 +1,11 @@
 //! Pictures of a run.
-ghost use Rattle.std.specs.Prelude.{◌≡◌, ◌<◌, [], Err, Some, false, length};
+ghost use Rattle.std.specs.Prelude.{◌≡◌, [], Err, Some, false};
 ghost use Rattle.commands.specs.Drawing.{IsDrawingIn};
 ghost use Rattle.commands.specs.Page.{IsPageIn};
-ghost use Rattle.vuthgal_c.specs.Beyond.{Makes, MakesPicture};
+ghost use Rattle.vuthgal_c.specs.Beyond.{IsTooMuch, Makes, MakesPicture};
 ghost use Rattle.vuthgal_c.specs.Shows.{Shows};
 ghost use Rattle.pictures.specs.declared.others.OtherRuns.TheVariants as others;
 ghost use Rattle.workbench.specs.declared.fault.Fault.{Fault};
-ghost use Rattle.workbench.specs.Input.{most_bytes};
 ghost use Rattle.workbench.specs.declared.fault.PictureKind.TheVariants as picture;
 
 use crate::files::{is_within, whole_program};
@@ -22,7 +21,7 @@ use workbench::done::settled_as_asked;
 use workbench::fault::Fault;
 use workbench::slice_source::SliceSource;
 
-/// Writes the picture of the program in a file under a schedule. A file of more than 16,777,216 bytes is `Read`.
+/// Writes the picture of the program in a file under a schedule. If one of them has more than 16,777,216 bytes, it is `Read`.
 fn made<P: Picture, K: Sink>(
     alloc: Global,
     picture: &P,
@@ -32,9 +31,9 @@ fn made<P: Picture, K: Sink>(
 ) -> Result<(), Fault>
     ensures made { MakesPicture (P.is_picture picture.now) P.kind file.now schedule.now result
         (K.written output.old) (K.written output.new) (K.has_failed output.new) }
-    ensures limit { most_bytes < length file.now → result ≡ Err Fault.Read }
+    ensures limit { IsTooMuch file.now schedule.now → result ≡ Err Fault.Read }
 {
-    if !is_within(file) {
+    if !is_within(file) || !is_within(schedule) {
         return Err(Fault::Read);
     }
     let mut schedule = SliceSource::new(schedule);

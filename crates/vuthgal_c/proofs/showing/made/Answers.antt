@@ -2,7 +2,7 @@ use Rattle.std.proofs.Common.{rules, ℕ, List, Some, inl, inr, refl, subst, ◌
 use Rattle.std.proofs.lemmas.Bool.{false≢true}
 use Rattle.commands.specs.Pictures.{HasWritten}
 use Rattle.workbench.specs.Input.{GivesTooMuch}
-use Rattle.vuthgal_c.proofs.Faults.{all_given, err_again}
+use Rattle.vuthgal_c.proofs.Faults.{all_given, err_again, too_much}
 use Rattle.vuthgal_c.proofs.showing.made.Goals as goal
 
 -- the schedule was read to its end
@@ -26,7 +26,7 @@ returns-in-Ok-make-clause-made g c =
       spawn = search rules;
     }
 
--- the source is in memory: its bytes can't be read only where there are too many
+-- the source is in memory, and not too long: that it can't be read would be no fault of its own
 pub returns-in-Err-make-clause-made : goal.returns-in-Err-make-clause-made
 returns-in-Err-make-clause-made g c = record {
   done = search rules;
@@ -34,10 +34,7 @@ returns-in-Err-make-clause-made g c = record {
   unwritten = search rules;
   read = λ e. elim (c.make.ensures.read (err_again _ _ _ _ refl c.in-Err-make.is e)) [
     | inl failed ↦ absurd (false≢true failed)
-    | inr much ↦ inr (
-      Some c.make.new.schedule,
-      subst (λ (s : List ℕ). GivesTooMuch (Some s) (Some c.make.new.schedule)) c.new-schedule.ensures much,
-    )
+    | inr much ↦ inr (too_much _ _ (subst (λ (s : List ℕ). GivesTooMuch (Some s) (Some c.make.new.schedule)) c.new-schedule.ensures much))
   ];
   write = λ e. c.make.ensures.write (err_again _ _ _ _ refl c.in-Err-make.is e);
   spawn = search rules;

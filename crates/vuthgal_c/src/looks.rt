@@ -1,0 +1,100 @@
+//! The state of a session as numbers, in the rooms of its caller.
+ghost use Rattle.std.specs.Prelude.{◌≡◌, length};
+ghost use Rattle.vuthgal_c.specs.Looks.{BarriersAreSeen, CellsAreSeen, OutputsAreSeen, PhasersAreSeen, StackIsSeen, ThreadsAreSeen, state_look};
+ghost use Rattle.vuthgal_c.specs.Sessions.{Sees, SeesThread};
+
+use crate::handle::Handle;
+use crate::keeping::{put, take};
+use crate::look::{BarrierLook, EntryLook, PhaserLook, StateLook, ThreadLook};
+use crate::looking::{
+    see_barriers, see_cells, see_outputs, see_phasers, see_stack, see_threads, state_look,
+};
+use crate::sessions::CLOSED;
+use std::alloc::Global;
+
+/// The status where a session has no such thread.
+const NO_THREAD: u8 = 7;
+
+/// Looks at the state: `state` gets its counts, and each room its threads, phasers, barriers and cells, as many as fit. Returns 0,
+/// or 6 if no session is open, and then nothing is written. It allocates nothing.
+#[unsafe(no_mangle)]
+pub extern "C" fn vuthgal_session_look(
+    alloc: Global,
+    session: &mut Handle,
+    state: &mut StateLook,
+    threads: &mut [ThreadLook],
+    phasers: &mut [PhaserLook],
+    barriers: &mut [BarrierLook],
+    cells: &mut [i32],
+) -> u8
+    ensures state { Sees session.old.session result (λ world before after. after ≡ state_look world) state.old state.new }
+    ensures threads { Sees session.old.session result ThreadsAreSeen threads.old threads.new }
+    ensures phasers { Sees session.old.session result PhasersAreSeen phasers.old phasers.new }
+    ensures barriers { Sees session.old.session result BarriersAreSeen barriers.old barriers.new }
+    ensures cells { Sees session.old.session result CellsAreSeen cells.old cells.new }
+    ensures session { session.new.session ≡ session.old.session }
+{
+    let Some(held) = take(alloc, session) else {
+        return CLOSED;
+    };
+    let machine = held.machine();
+    *state = state_look(machine);
+    see_threads(machine, threads);
+    see_phasers(machine, phasers);
+    see_barriers(machine, barriers);
+    see_cells(machine, cells);
+    put(alloc, session, held);
+    0
+}
+
+/// Writes the entries of a thread's stack from the bottom, as many as fit, and their count. Returns 0, or 6 if no session is open,
+/// or 7 if it has no such thread: then nothing is written. It allocates nothing.
+#[unsafe(no_mangle)]
+pub extern "C" fn vuthgal_session_stack(
+    alloc: Global,
+    session: &mut Handle,
+    thread: u8,
+    entries: &mut [EntryLook],
+    count: &mut usize,
+) -> u8
+    ensures stack { SeesThread session.old.session thread result StackIsSeen (λ of. length of.stack) entries.old entries.new count.old count.new }
+    ensures session { session.new.session ≡ session.old.session }
+{
+    let Some(held) = take(alloc, session) else {
+        return CLOSED;
+    };
+    let machine = held.machine();
+    let is_there = usize::from(thread) < machine.thread_count();
+    if is_there {
+        *count = machine.depth(thread);
+        see_stack(machine, thread, entries);
+    }
+    put(alloc, session, held);
+    if is_there { 0 } else { NO_THREAD }
+}
+
+/// Writes the values that a thread put out, as many as fit, and their count. Returns 0, or 6 if no session is open, or 7 if it has
+/// no such thread: then nothing is written. It allocates nothing.
+#[unsafe(no_mangle)]
+pub extern "C" fn vuthgal_session_outputs(
+    alloc: Global,
+    session: &mut Handle,
+    thread: u8,
+    values: &mut [i32],
+    count: &mut usize,
+) -> u8
+    ensures outputs { SeesThread session.old.session thread result OutputsAreSeen (λ of. length of.output) values.old values.new count.old count.new }
+    ensures session { session.new.session ≡ session.old.session }
+{
+    let Some(held) = take(alloc, session) else {
+        return CLOSED;
+    };
+    let machine = held.machine();
+    let is_there = usize::from(thread) < machine.thread_count();
+    if is_there {
+        *count = machine.output(thread).len();
+        see_outputs(machine, thread, values);
+    }
+    put(alloc, session, held);
+    if is_there { 0 } else { NO_THREAD }
+}
