@@ -2,8 +2,10 @@
 these name in turn, in whichever crate it stands; the clauses of the public functions; and the types of the code that both
 name, less their private fields. The other lines of specs/ are the steps of proofs, what private types and fields stand for,
 and what contracts hand from call to call (docs/abstract.txt; abstract.py says when that is so). A line counts that says
-something: no comment, no import, no blank. Made of it is docs/headline.txt; wrong is a line of abstract.txt that isn't so."""
+something: no comment, no import, no blank. Made of it is docs/headline.sum, the sum of the text for the headline; wrong is a line of
+abstract.txt that isn't so."""
 import functools
+import hashlib
 import re
 import sys
 
@@ -11,7 +13,7 @@ import abstract
 from marks import TOP
 
 NAME = r"[A-Za-z_][\w-]*"
-HEADLINE = TOP / "docs" / "headline.txt"
+HEADLINE = TOP / "docs" / "headline.sum"
 
 
 class Definition:
@@ -289,7 +291,9 @@ def reading(crate, definitions):
 
 
 def made():
-    return {HEADLINE: f"Made by `bin/made headline`: the definitions that the headline rests on.\n\n{reading('headline', all_definitions())}"}
+    text = reading("headline", all_definitions())
+    told = hashlib.sha256(text.encode()).hexdigest()
+    return {HEADLINE: f"{told}  {text.count(chr(10))} lines, as docs/believed --read headline prints them\n"}
 
 
 def wrong():

@@ -1,0 +1,156 @@
+// The program: one view that is read and edited. Threads stand in the margin at their rows, the row of this choice is
+// marked, and a mistake is underlined at its word, with the help below it. It is a text area over its own coloured
+// copy, in one scroller.
+import { DIRECTIVES, KINDS } from "./language.js";
+import { byId, fill, h } from "./elements.js";
+import { hueOf, javaText, threadName } from "./names.js";
+
+const OPTIONS = /^(parent|phase|never|until|onadvance|action)$/;
+
+function kindOf(word) {
+  if (word.endsWith(":")) return "label";
+  if (DIRECTIVES.includes(word)) return "directive";
+  if (KINDS[word]) return "word";
+  if (OPTIONS.test(word)) return "option";
+  return /^(r[0-7]|-?\d+)$/.test(word) ? "register" : "object";
+}
+function coloured(line) {
+  const cut = line.indexOf(";");
+  const code = cut < 0 ? line : line.slice(0, cut);
+  const parts = code.split(/(\s+)/).map(part => (part.trim() ? h("span.code-" + kindOf(part), {}, part) : part));
+  const talk = cut < 0 ? null : h("span.code-" + (line[cut + 1] === "?" ? "asked" : "talk"), {}, line.slice(cut));
+  return [...parts, talk];
+}
+
+// changed(text), planned(text): what was typed
+export function makeProgram(changed, planned) {
+  const margin = h("div.code-margin", { "aria-hidden": "true" });
+  const copy = h("pre.code-copy", { "aria-hidden": "true" });
+  const marks = h("div.code-marks", { "aria-hidden": "true" });
+  const bubble = h("div.code-bubble", { role: "status", "aria-live": "polite", id: "mistake", hidden: true });
+  const plainly = { spellcheck: "false", autocapitalize: "off", autocomplete: "off" };
+  const text = h("textarea.code-typed", {
+    ...plainly,
+    wrap: "off",
+    "aria-label": "Program. It is played again as you type",
+    "aria-describedby": "mistake",
+    oninput: () => {
+      grow();
+      paint();
+      changed(text.value);
+    }
+  });
+  const sheet = h("div.code-sheet", {}, margin, h("div.code-over", {}, marks, copy, text, bubble));
+  const scroll = h("div.scroll.code-scroll", {}, sheet);
+  const plan = h("input.plan-typed", {
+    ...plainly,
+    type: "text",
+    id: "plan",
+    "aria-describedby": "planhelp",
+    title: "ann. is ann until she waits or ends, ann is one turn, .. is all until the end, ?7 a random order",
+    oninput: () => planned(plan.value)
+  });
+  const help = h("span.plan-help", { role: "status", id: "planhelp" });
+  fill(byId("code"), scroll, h("div.plan", {}, h("label", { for: "plan" }, "Plan"), plan, help));
+  let shown = null;
+
+  function grow() {
+    const lines = text.value.split("\n");
+    sheet.style.setProperty("--lines", lines.length + 1);
+    sheet.style.setProperty("--columns", lines.reduce((most, line) => Math.max(most, line.length), 20) + 2);
+  }
+  function paint() {
+    fill(copy, text.value.split("\n").map((line, n) => h("span", {}, coloured(line), javaOf(n), "\n")));
+  }
+  // Java's words behind a row, where they are asked for
+  function javaOf(line) {
+    if (!shown || !shown.isJava || shown.mistake) return null;
+    const row = shown.tree.program.lineOf.indexOf(line);
+    return row < 0
+      ? null
+      : h("span.code-java", {}, "  " + javaText(shown.tree.program, shown.tree.program.rows[row]));
+  }
+  // what: the state, with `moment` and `event`, the choice that led there
+  function show(what, moment, event) {
+    const isOther = text.value !== what.text;
+    const wasJava = shown && shown.isJava;
+    const isMended = Boolean(shown && shown.mistake) !== Boolean(what.mistake);
+    shown = what;
+    if (isOther) {
+      text.value = what.text;
+      scroll.scrollTop = 0;
+    }
+    if (plan !== document.activeElement && plan.value !== what.plan) plan.value = what.plan;
+    if (isOther || !copy.firstChild || wasJava !== what.isJava || (what.isJava && isMended)) {
+      grow();
+      paint();
+    }
+    showPlaces(moment, event);
+    showMistake(what.mistake);
+  }
+  function showPlaces(moment, event) {
+    fill(margin);
+    fill(marks);
+    if (shown.mistake && shown.mistake.isProgram) return;
+    const { program } = shown.tree;
+    const at = new Map();
+    moment.state.threads.forEach((thread, t) => {
+      if (/ended|died/.test(thread.status)) return;
+      const line = program.lineOf[thread.row];
+      at.set(line, [...(at.get(line) || []), t]);
+    });
+    const sign = (t, list) => {
+      const room = list.length > 2 ? 1 : list.length > 1 ? 2 : 4;
+      return h("i.place." + hueOf(t), { title: threadName(program, t) }, threadName(program, t).slice(0, room));
+    };
+    const places = ([line, list]) => {
+      const more = list.length > 3 ? h("i.place", {}, "+" + (list.length - 3)) : null;
+      return h("span.places", { vars: { "--line": line } }, list.slice(0, 3).map(t => sign(t, list)), more);
+    };
+    fill(margin, [...at].map(places));
+    const line = event && event.row >= 0 ? program.lineOf[event.row] : -1;
+    if (line < 0) return;
+    fill(marks, h("span.code-now", { vars: { "--line": line } }));
+    // behind the frame's own layout
+    if (document.activeElement !== text) requestAnimationFrame(() => bringIn(line));
+  }
+  function bringIn(line) {
+    const high = text.offsetHeight / (text.value.split("\n").length + 1);
+    const top = line * high;
+    const isIn = top >= scroll.scrollTop && top + high * 2 <= scroll.scrollTop + scroll.clientHeight;
+    if (!isIn) scroll.scrollTop = Math.max(0, top - scroll.clientHeight / 2);
+  }
+  function showMistake(mistake) {
+    const isPlan = Boolean(mistake) && !mistake.isProgram;
+    bubble.hidden = !mistake || isPlan;
+    text.setAttribute("aria-invalid", String(!bubble.hidden));
+    plan.setAttribute("aria-invalid", String(isPlan));
+    help.textContent = isPlan ? mistake.means + "." + (mistake.helps ? " " + mistake.helps + "." : "") : "";
+    if (bubble.hidden) return;
+    const line = mistake.line === null ? 0 : mistake.line - 1;
+    marks.append(h("span.code-bad", { vars: { "--line": line } }));
+    if (mistake.word) {
+      const [from, to] = mistake.word;
+      marks.append(
+        h("span.code-wave", { vars: { "--line": line, "--from": from, "--wide": Math.max(1, to - from) } })
+      );
+    }
+    bubble.style.setProperty("--line", line);
+    const where = mistake.line === null ? "" : "Line " + mistake.line + ": ";
+    const mend = h("button.code-mend", { type: "button", onclick: () => mended(mistake) }, mistake.near);
+    const helps = mistake.near ? [" Did you mean ", mend, "?"] : mistake.helps ? " " + mistake.helps + "." : "";
+    fill(bubble, h("b", {}, where, mistake.means + "."), helps);
+  }
+  // puts in the word that was probably meant
+  function mended(mistake) {
+    const lines = text.value.split("\n");
+    const line = lines[mistake.line - 1];
+    lines[mistake.line - 1] = line.slice(0, mistake.word[0]) + mistake.near + line.slice(mistake.word[1]);
+    text.value = lines.join("\n");
+    grow();
+    paint();
+    changed(text.value);
+    text.focus();
+  }
+  return { show, focus: () => text.focus() };
+}

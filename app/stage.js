@@ -1,0 +1,106 @@
+// The stage: the sentence of this choice, the steps, and the names of those who may go next. Each has one place and
+// one height, so nothing moves while one steps.
+import { endKind, endText, outputText } from "./ending.js";
+import { byId, fill, h, shown } from "./elements.js";
+import { hueOf, threadName } from "./names.js";
+import { reasonOf } from "./reason.js";
+import { lengthOf, momentOf } from "./run.js";
+import { sentenceOf, wouldText } from "./sentence.js";
+import { isVeiled, runOf } from "./state.js";
+
+const eventOf = (moment, token) => (token[0] === "x" ? moment.late : moment.next)[Number(token.slice(1))];
+
+// What the sentence says: { badge, kind, parts, reason, verdict }.
+function saidOf(state) {
+  const { tree, at, mistake, difference } = state;
+  const run = runOf(state);
+  const { program } = tree;
+  if (difference) return { badge: "!", kind: "wrong", parts: [difference] };
+  if (mistake) {
+    const where = mistake.isProgram
+      ? "The program has a mistake" + (mistake.line ? " in line " + mistake.line : "")
+      : "The plan has a mistake";
+    return { badge: "!", kind: "wrong", parts: [where + ". The run below is the last that could be played."] };
+  }
+  const moment = momentOf(tree, run.id, at);
+  const tried = state.preview && eventOf(moment, state.preview);
+  if (tried) return {
+    badge: "?",
+    kind: "would",
+    parts: ["If it\u2019s next: ", ...wouldText(program, tried, moment)]
+  };
+  const { word } = moment.state;
+  const kind = { stuck: "stuck", all: "ended" }[word] || "";
+  const verdict = { stuck: " Stuck: no thread can ever go on.", all: " All threads are over." }[word] || "";
+  if (!at) return {
+    badge: 0,
+    kind,
+    verdict,
+    parts: [program.about || "Each thread is at its first row. Who goes first?"]
+  };
+  const parts = sentenceOf(program, run.events[at - 1], momentOf(tree, run.id, at - 1), moment);
+  const reason = isVeiled(state) ? "" : reasonOf(tree, run.id, at);
+  return { badge: at, kind, verdict, parts, reason };
+}
+function drawSaid(state) {
+  const { badge, kind, parts, verdict, reason } = saidOf(state);
+  byId("said").dataset.kind = kind;
+  const end = verdict ? h("strong.said-verdict", {}, verdict) : null;
+  const why = reason ? h("span.said-reason", {}, " " + reason) : null;
+  fill(
+    byId("said"),
+    h("span.said-badge", {}, badge),
+    h("span.said-text", {}, shown(state.tree.program, parts), why, end)
+  );
+}
+function drawNext(state, act) {
+  const { tree, at } = state;
+  const run = runOf(state);
+  const { program } = tree;
+  const moment = momentOf(tree, run.id, at);
+  const own = state.isHidden || isVeiled(state) || state.mode === "quiz" ? "" : run.choices[at];
+  const all = [...Object.values(moment.next), ...Object.values(moment.late)];
+  // the same names again keep their elements, and with them the focus
+  const key = [program.text.length, at, run.id, own, ...all.map(one => one.token)].join(" ");
+  if (byId("next").dataset.key === key) return;
+  const hadFocus = byId("next").contains(document.activeElement);
+  byId("next").dataset.key = key;
+  const chip = (event, k) => {
+    const isOwn = event.token === own;
+    const kinds = ".chip." + hueOf(event.thread) + (event.isLate ? ".chip-late" : "") + (isOwn ? ".chip-own" : "");
+    const given = {
+      type: "button",
+      "data-token": event.token,
+      title: (isOwn ? "The run goes on so" : "Another run") + (k < 9 ? " (key " + (k + 1) + ")" : ""),
+      onclick: () => act.choose(event.token),
+      onpointerenter: () => act.tryOut(event.token),
+      onpointerleave: () => act.tryOut(""),
+      onfocus: () => act.tryOut(event.token),
+      onblur: () => act.tryOut("")
+    };
+    const name = threadName(program, event.thread);
+    if (event.isLate) given["aria-label"] = "the time-out of " + name;
+    return h("button" + kinds, given, (event.isLate ? "\u23F1\uFE0E " : "") + name);
+  };
+  const label = all.length ? "Next:" : moment.state.word === "stuck" ? "Nobody may go" : "All are over";
+  fill(byId("next"), h("span.next-label", {}, label), all.map(chip));
+  if (hadFocus) (byId("next").querySelector(".chip-own, .chip") || byId("forth")).focus();
+}
+
+// act: { choose(token), tryOut(token) }
+export function drawStage(state, act) {
+  const { tree, at } = state;
+  const run = runOf(state);
+  drawSaid(state);
+  const isCut = state.isCut && run.parent < 0;
+  const all = state.isHidden ? "" : " of " + lengthOf(run) + (isCut ? "\u2026" : "");
+  fill(byId("where"), h("b", {}, at), all);
+  byId("where").title = isCut ? "The plan goes on; the first " + lengthOf(run) + " choices are shown" : "";
+  drawNext(state, act);
+  byId("first").disabled = byId("back").disabled = at === 0;
+  byId("forth").disabled = byId("last").disabled = at === lengthOf(run);
+  const kind = endKind(run.end);
+  const isQuiet = state.isHidden || state.mode === "quiz";
+  const end = "Run " + (run.id + 1) + (kind === "open" ? " stays open" : ": " + endText(tree.program, run.end));
+  fill(byId("ends"), isQuiet ? "" : h("span.end.end-" + kind, { title: outputText(tree.program, run.end) }, end));
+}

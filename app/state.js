@@ -1,0 +1,243 @@
+// The app's state, a value, and all that changes it: each function here is given a state and gives the next one. What
+// is drawn is a function of it (app.js). Nothing here touches the page, so a test makes and changes states without a
+// browser.
+import { endKind } from "./ending.js";
+import { lessonOf } from "./lessons.js";
+import { walkTo, addressOf } from "./link.js";
+import { Refused } from "./machine.js";
+import { mistakeOf } from "./mistake.js";
+import { choicesOfPlan, readablePlan } from "./plan.js";
+import { questionsOf } from "./questions.js";
+import { depthOf, firstAlone, forkRun, graftRun, inOrder, lengthOf, openProgram, plantTree } from "./run.js";
+
+export const OWN = {
+  group: "Yours",
+  name: "own",
+  title: "My own program",
+  plan: "..",
+  program:
+    "; My own: two threads meet.\n.phaser meet 2\n.thread ann main\n.thread bob main\n" +
+    "main: paaa r0 meet ; arriveAndAwaitAdvance\n      out r0\n      halt\n"
+};
+
+export function firstState() {
+  return {
+    item: null,
+    text: "",
+    plan: "..",
+    tree: null,
+    id: 0,
+    at: 0,
+    isCut: false,
+    mistake: null,
+    mode: "explore",
+    tab: "picture",
+    pane: "time",
+    // a thread or a phaser that was clicked: { thread } or { phaser }
+    selected: null,
+    // a choice that is tried: its token
+    preview: "",
+    orders: null,
+    isJava: false,
+    isHidden: false,
+    isFolded: false,
+    isAlone: false,
+    hasLetters: true,
+    other: null,
+    zoom: 1,
+    lesson: null,
+    quiz: null,
+    challenge: null,
+    // what a trace in this file says otherwise than the machine
+    difference: null
+  };
+}
+
+export const runOf = state => state.tree.runs[state.id];
+export const otherOf = state => (
+  state.other === null || state.other === state.id ? null : state.tree.runs[state.other] || null
+);
+
+// ---- a program and its plan
+function planted(state, program, text, plan, { choices, isCut }) {
+  const tree = plantTree(program, choices);
+  const next = { ...state, text, plan, tree, id: 0, isCut, mistake: null, orders: null };
+  return { ...next, selected: null, preview: "", other: null, challenge: null };
+}
+// What a text and a plan make of a state: the same place of the new program, where it still is; of what is refused,
+// the state before with the mistake. `played`, { choices, isCut }, saves playing the plan where a worker did.
+export function edited(state, text, plan, played) {
+  const isSamePlan = state.tree && plan === state.plan;
+  const place = isSamePlan ? addressOf(state.tree, runOf(state), state.at) : String(state.at);
+  let next;
+  try {
+    const program = openProgram(text);
+    next = planted(state, program, text, plan, played || choicesOfPlan(text, plan));
+  } catch (fault) {
+    if (!(fault instanceof Refused)) throw fault;
+    return { ...state, text, plan, mistake: mistakeOf(fault, text) };
+  }
+  const { tree, run, at } = walkTo(next.tree, place);
+  next = { ...next, tree, id: run.id, at };
+  return state.mode === "lesson" && state.lesson ? { ...next, lesson: begunLesson(next) } : next;
+}
+const begunLesson = state => ({
+  lesson: lessonOf(state.item.name, state.tree.program, state.tree.runs[0]),
+  step: -1,
+  isOpen: false,
+  votes: {}
+});
+
+// A program from the menu, a link or a file, from its start: { group, name, title, program, plan }.
+export function opened(state, item, mode, played) {
+  const fresh = { ...state, item, at: 0, id: 0, tree: null, difference: null, mode: "explore", quiz: null };
+  let next = edited(fresh, item.program, item.plan, played);
+  if (!next.tree) {
+    // what can't be played has no run: an own program stands in its place, and its mistake is told
+    const stand = edited(fresh, OWN.program, OWN.plan);
+    return { ...stand, text: item.program, plan: item.plan, mistake: next.mistake };
+  }
+  if (!next.mistake) next = { ...next, plan: readablePlan(next.tree.program, runOf(next), next.plan) };
+  next = { ...next, lesson: begunLesson(next) };
+  return inMode(next, mode || "explore");
+}
+export const startedAgain = state => opened(state, state.item, state.mode);
+
+// ---- places
+export function at(state, i) {
+  return { ...state, at: Math.max(0, Math.min(lengthOf(runOf(state)), i)), preview: "" };
+}
+export function walked(state, id, i) {
+  const other = state.other === id ? state.id : state.other;
+  return at({ ...state, id, other }, i);
+}
+// A choice: forward where the run makes it, and another run where it doesn't.
+export function forked(state, i, token) {
+  const { tree, run } = forkRun(state.tree, state.id, i, token);
+  const isOn = runOf(state).choices[i] === token;
+  return at({ ...state, tree, id: isOn ? state.id : run.id }, i + 1);
+}
+export function addressed(state, address) {
+  const { tree, run, at: i } = walkTo(state.tree, address);
+  return at({ ...state, tree, id: run.id }, i);
+}
+export function ordered(state, outcome) {
+  const { tree, run } = graftRun(state.tree, outcome.choices);
+  const from = run.parent < 0 ? 0 : run.fork + 1;
+  return at({ ...state, tree, id: run.id }, Math.min(from, lengthOf(run)));
+}
+export function backToFork(state) {
+  const run = runOf(state);
+  return run.parent < 0 ? state : walked(state, run.parent, Math.min(run.fork, state.at));
+}
+// The run before or behind this one in the tree.
+export function besideInTree(state, by) {
+  const list = inOrder(state.tree).map(one => one.run);
+  const run = list[list.findIndex(one => one.id === state.id) + by];
+  if (!run) return state;
+  return walked(state, run.id, Math.max(state.at, run.parent < 0 ? 0 : run.fork + 1));
+}
+// The run that is shown becomes the first, and its schedule the plan.
+export function madeFirst(state) {
+  const run = runOf(state);
+  if (run.parent < 0) return state;
+  const plan = readablePlan(state.tree.program, run, run.choices.join(" "));
+  return at(planted(state, state.tree.program, state.text, plan, { choices: run.choices, isCut: false }), state.at);
+}
+export function firstOnly(state) {
+  const run = runOf(state);
+  const i = run.parent < 0 ? state.at : Math.min(state.at, run.fork);
+  return at({ ...state, tree: firstAlone(state.tree), id: 0, other: null }, i);
+}
+export function sideBySide(state) {
+  if (state.other !== null) return { ...state, other: null };
+  if (state.tree.runs.length < 2) return state;
+  const run = runOf(state);
+  return { ...state, other: run.parent >= 0 ? run.parent : state.tree.runs.length - 1 };
+}
+
+// ---- what is selected, tried and shown
+export function selectedThread(state, thread) {
+  const isSame = state.selected && state.selected.thread === thread;
+  return { ...state, selected: isSame ? null : { thread }, tab: isSame ? state.tab : "picture" };
+}
+export function selectedPhaser(state, phaser) {
+  const isSame = state.selected && state.selected.phaser === phaser;
+  return { ...state, selected: isSame ? null : { phaser } };
+}
+
+// ---- lessons, quiz, challenge
+export function inMode(state, mode) {
+  const next = { ...state, mode, pane: "time", preview: "", quiz: null, challenge: null };
+  if (mode === "quiz") return quizOf(next);
+  if (mode === "challenge") {
+    const isStuck = endKind(state.tree.runs[0].end) === "stuck";
+    return { ...at({ ...next, id: 0 }, 0), other: null, challenge: { goal: isStuck ? "ended" : "stuck" } };
+  }
+  return next;
+}
+// A quiz about the first run; it begins when the outcomes of random orders are there.
+export function quizOf(state) {
+  const next = at({ ...state, id: 0, other: null, tab: "picture" }, 0);
+  if (!state.orders) return { ...next, quiz: null };
+  const list = questionsOf(state.tree, state.tree.runs[0], state.orders.all);
+  const quiz = { list, k: 0, chosen: null, isOpen: false, right: 0, answered: 0 };
+  return at({ ...next, quiz }, list.length ? list[0].at : 0);
+}
+export function withOrders(state, orders) {
+  const next = { ...state, orders };
+  return state.mode === "quiz" && !state.quiz ? quizOf(next) : next;
+}
+export function answered(state, option) {
+  const { quiz } = state;
+  const question = quiz.list[quiz.k];
+  if (!question || quiz.chosen !== null) return state;
+  const right = quiz.right + (option === question.right ? 1 : 0);
+  return at({ ...state, quiz: { ...quiz, chosen: option, right, answered: quiz.answered + 1 } }, question.leads);
+}
+// The answer to a question of the teacher's own is shown, not counted.
+export function shownOwn(state) {
+  const question = state.quiz.list[state.quiz.k];
+  return at({ ...state, quiz: { ...state.quiz, isOpen: true } }, question.leads);
+}
+export function nextQuestion(state) {
+  const { quiz } = state;
+  const question = quiz.list[quiz.k + 1];
+  const next = { ...state, quiz: { ...quiz, k: quiz.k + 1, chosen: null, isOpen: false } };
+  return question ? at({ ...next, id: 0 }, question.at) : next;
+}
+// Whether the answer to a question would be given away by what is shown.
+export function isVeiled(state) {
+  const { quiz } = state;
+  if (state.mode !== "quiz") return false;
+  return !quiz || (Boolean(quiz.list[quiz.k]) && quiz.chosen === null && !quiz.isOpen);
+}
+// Whether later choices are hidden: in a quiz until its end, since they are the answers to what is asked next.
+export function isLaterHidden(state) {
+  const { quiz } = state;
+  return state.isHidden || (state.mode === "quiz" && (!quiz || Boolean(quiz.list[quiz.k])));
+}
+export function lessonStep(state, by) {
+  const { lesson } = state.lesson;
+  const step = Math.max(-1, Math.min(lesson.steps.length, state.lesson.step + by));
+  const place = lesson.steps[step] ? lesson.steps[step].at : 0;
+  return at({ ...state, id: 0, lesson: { ...state.lesson, step, isOpen: false, votes: {} } }, place);
+}
+export function lessonAnswer(state) {
+  const one = state.lesson.lesson.steps[state.lesson.step];
+  if (!one) return state;
+  const next = { ...state, lesson: { ...state.lesson, isOpen: true } };
+  return one.next ? at(next, one.at + 1) : next;
+}
+export function voted(state, thread, by) {
+  const count = Math.max(0, (state.lesson.votes[thread] || 0) + by);
+  return { ...state, lesson: { ...state.lesson, votes: { ...state.lesson.votes, [thread]: count } } };
+}
+// { goal, changes, isDone }: only the class's own changes count, not those of the plan
+export function challengeOf(state) {
+  const { goal } = state.challenge;
+  const run = runOf(state);
+  const changes = depthOf(state.tree, run);
+  const isDone = changes > 0 && state.at === lengthOf(run) && endKind(run.end) === goal;
+  return { goal, changes, isDone };
+}

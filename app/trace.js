@@ -1,0 +1,81 @@
+// What the machine's texts say of a run: the line of a choice, the text of a state. It is given texts, and gives
+// values; it plays nothing.
+
+const EVENT = new RegExp(
+  "^(\\d+ )?([tx])(\\d+) (\\d+|-) (idle|ok|wait|enter|unwind|end|none|limit|(=|out|throw|catch|die) (-?\\d+))" +
+    "(?: ([+-])([pb])(\\d+)(?: (-?\\d+))?)?$"
+);
+
+// { token, isLate, thread, row, what, value, mark: { kind: "+p" | "+b" | "-b", on, view } }
+export function readEvent(line) {
+  const m = EVENT.exec(line);
+  if (!m) throw new Error("no line of a choice: " + line);
+  return {
+    token: m[2] + m[3],
+    isLate: m[2] === "x",
+    thread: Number(m[3]),
+    row: m[4] === "-" ? -1 : Number(m[4]),
+    what: m[6] || m[5],
+    value: m[7] === undefined ? null : Number(m[7]),
+    mark: m[8] ? { kind: m[8] + m[9], on: Number(m[10]), view: m[11] === undefined ? null : Number(m[11]) } : null
+  };
+}
+
+// The lines of a trace above its state, and the state.
+export function readTrace(trace) {
+  const cut = trace.startsWith("state ") ? 0 : trace.indexOf("\nstate ") + 1;
+  const lines = trace.slice(0, cut).split("\n");
+  lines.pop();
+  return { events: lines.map(readEvent), end: readState(trace.slice(cut)) };
+}
+
+function readThread(words) {
+  const stack = words.indexOf("stack");
+  const out = words.indexOf("out");
+  const [status, code] = words[2].split(":");
+  return {
+    row: Number(words[1]),
+    status,
+    code: code === undefined ? null : Number(code),
+    isInterrupted: words[3] === "1",
+    registers: words.slice(5, 13).map(Number),
+    stack: words.slice(stack + 1, out),
+    out: words.slice(out + 1).map(Number)
+  };
+}
+
+// `key` is the text without the numbers of choices and steps: two states with one key are alike.
+export function readState(text) {
+  const key = text.replace(/^state \d+ \d+/, "");
+  const state = { threads: [], phasers: [], barriers: [], cells: {}, word: "", key };
+  for (const line of text.trimEnd().split("\n")) {
+    const words = line.split(" ");
+    const [, first, second, third, fourth] = words;
+    if (words[0] === "state") state.word = third;
+    else if (words[0][0] === "t") state.threads.push(readThread(words));
+    else if (words[0][0] === "p") {
+      state.phasers.push({
+        view: Number(first),
+        parties: Number(second),
+        arrived: Number(third),
+        missing: Number(fourth)
+      });
+    } else if (words[0][0] === "b") state.barriers.push({ waiting: Number(first), isBroken: second === "1" });
+    else state.cells[Number(words[0].slice(1))] = Number(first);
+  }
+  return state;
+}
+
+// What a thread does in a moment: over, dead, throws, held (runs, but can't go on), waits, free (waits, but may go
+// on) or runs.
+export function doingOf(moment, t) {
+  const { status } = moment.state.threads[t];
+  if (status === "ended") return "over";
+  if (status === "died") return "dead";
+  if (status === "throws") return "throws";
+  if (status === "waits") return moment.next[t] ? "free" : "waits";
+  return moment.next[t] ? "runs" : "held";
+}
+
+// Whether a run got into a choice that the machine refuses; then the run ends before it.
+export const isRefused = event => event.what === "none" || event.what === "limit";

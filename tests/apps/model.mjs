@@ -1,0 +1,527 @@
+// Looks at the app's rooms without a browser: runs, forks, moments, sentences, links and states, against the program
+// and against what its documents say.
+//   node tests/apps/model.mjs PROGRAM
+import { spawnSync } from "node:child_process";
+import { mkdtempSync, readdirSync, readFileSync, rmSync, writeFileSync } from "node:fs";
+import { tmpdir } from "node:os";
+import assert from "node:assert/strict";
+import { arrivalsOf } from "../../app/arrivals.js";
+import { endKind, endText } from "../../app/ending.js";
+import { lessonOf, LESSONS } from "../../app/lessons.js";
+import { addressOf, linkOf, readLink, walkTo } from "../../app/link.js";
+import { Refused, startMachine } from "../../app/machine.js";
+import { mistakeOf } from "../../app/mistake.js";
+import { plain } from "../../app/names.js";
+import { outcomesOf } from "../../app/outcomes.js";
+import { choicesOfPlan, MOST, planOf } from "../../app/plan.js";
+import { questionsOf } from "../../app/questions.js";
+import { arrivalsText, reasonOf } from "../../app/reason.js";
+import { closeTree, forkRun, graftRun, lengthOf, momentOf, openProgram, plantTree } from "../../app/run.js";
+import { choicesOf, scheduleOf } from "../../app/schedule.js";
+import { sentenceOf } from "../../app/sentence.js";
+import * as change from "../../app/state.js";
+import { whyOf } from "../../app/why.js";
+import { pageWith, readProgramFile, runInFile } from "../../app/file.js";
+import { done, look } from "./counting.mjs";
+import { programOf, randomOf } from "./programs.mjs";
+
+const TOP = new URL("../../", import.meta.url);
+const PROGRAM = process.argv[2];
+const read = path => readFileSync(new URL(path, TOP), "utf8");
+const filesIn = folder => readdirSync(new URL(folder, TOP)).filter(name => name.endsWith(".asm"));
+const namesIn = folder => filesIn(folder).map(name => name.slice(0, -4));
+await startMachine(readFileSync(new URL("web/vuthgal.wasm", TOP)));
+
+const room = mkdtempSync(tmpdir() + "/model-");
+process.on("exit", () => rmSync(room, { recursive: true }));
+
+// What the program writes of a text and a plan in files: the words FILE and PLAN name them.
+function program(words, text, plan = "") {
+  writeFileSync(room + "/program.txt", text);
+  writeFileSync(room + "/plan.txt", plan);
+  const named = words.map(word => ({ FILE: room + "/program.txt", PLAN: room + "/plan.txt" })[word] || word);
+  const told = spawnSync(PROGRAM, named, { encoding: "utf8", maxBuffer: 1 << 28 });
+  return { status: told.status, output: told.stdout, line: told.stderr };
+}
+const bothOf = (text, choices) => text + "\n.run\n" + scheduleOf(choices) + "\n";
+const played = (text, choices) => program(["run", "FILE"], bothOf(text, choices)).output;
+// one session at a time: that of the tree before is closed, and opens again if it is asked
+let before = null;
+function treeOf(text, plan = "..") {
+  closeTree(before);
+  before = plantTree(openProgram(text), choicesOfPlan(text, plan).choices);
+  return before;
+}
+const lesson = name => (
+  { text: read(`examples/lessons/${name}.asm`), plan: read(`examples/lessons/${name}.schedule`) }
+);
+const at = (tree, run, i) => momentOf(tree, run.id, i);
+
+// the run's lines and its end, as the program plays its choices
+function sameRun(tree, run, text) {
+  const lines = played(text, run.choices).trimEnd().split("\n");
+  const cut = lines.findIndex(line => line.startsWith("state "));
+  assert.equal(cut, lengthOf(run), "another count of choices");
+  lines.slice(0, cut).forEach((line, k) => {
+    const event = run.events[k];
+    assert.ok(line.startsWith(`${k + 1} ${event.token} `), line);
+  });
+  assert.ok(lines[cut].endsWith(run.end.word), `${lines[cut]} isn't ${run.end.word}`);
+}
+// the state of a moment, as the program has it
+function sameMoment(tree, run, i, text) {
+  const told = played(text, run.choices.slice(0, i));
+  const state = told.slice(told.startsWith("state ") ? 0 : told.indexOf("\nstate ") + 1);
+  const moment = at(tree, run, i);
+  assert.equal("state" + moment.state.key, state.replace(/^state \d+ \d+/, "state"), `at ${i}`);
+}
+// what each choice would do in a moment, as the program does it
+function sameNext(tree, run, i, text) {
+  const moment = at(tree, run, i);
+  const before = run.choices.slice(0, i);
+  moment.state.threads.forEach((_, t) => {
+    const [line] = played(text, [...before, "t" + t]).split("\n").slice(i);
+    const what = line.split(" ")[3];
+    assert.equal(Boolean(moment.next[t]), !/^(idle|none|limit)$/.test(what), `t${t} at ${i}: ${line}`);
+    if (moment.next[t]) assert.equal(moment.next[t].what, what);
+  });
+}
+
+// ---- runs, moments and forks
+for (const folder of ["examples/lessons/", "examples/"]) {
+  for (const name of namesIn(folder)) {
+    const text = read(folder + name + ".asm");
+    const plan = read(folder + name + ".schedule");
+    await look(`the run of ${name}`, () => {
+      const tree = treeOf(text, plan);
+      sameRun(tree, tree.runs[0], text);
+      for (let i = 0; i <= lengthOf(tree.runs[0]); i++) sameMoment(tree, tree.runs[0], i, text);
+      sameNext(tree, tree.runs[0], Math.min(3, lengthOf(tree.runs[0])), text);
+    });
+  }
+}
+// a fork at a moment drawn by chance, of a choice that isn't the run's own
+function forkByChance(tree, run, random) {
+  for (let tries = 0; tries < 30; tries++) {
+    const i = random(lengthOf(run) + 1);
+    const moment = at(tree, run, i);
+    const all = [...Object.values(moment.next), ...Object.values(moment.late)].map(event => event.token);
+    const token = all.length ? all[random(all.length)] : "";
+    if (token && token !== run.choices[i]) return forkRun(tree, run.id, i, token);
+  }
+  return null;
+}
+for (const name of Object.keys(LESSONS)) {
+  await look(`forks four deep of ${name}`, () => {
+    const { text, plan } = lesson(name);
+    for (let seed = 1; seed <= 5; seed++) {
+      let tree = treeOf(text, plan);
+      let run = tree.runs[0];
+      for (let depth = 0; depth < 4; depth++) {
+        const forked = forkByChance(tree, run, randomOf(seed * 10 + depth));
+        if (!forked) break;
+        const kept = tree.runs.length;
+        assert.ok(forked.tree !== tree || tree.runs.includes(forked.run), "a tree was changed");
+        assert.equal(tree.runs.length, kept, "a tree was changed");
+        ({ tree, run } = forked);
+        sameRun(tree, run, text);
+        sameMoment(tree, run, lengthOf(run), text);
+        const again = walkTo(treeOf(text, plan), addressOf(tree, run, 3));
+        assert.deepEqual(again.run.choices, run.choices, "its address leads elsewhere");
+      }
+    }
+  });
+}
+// The other runs that a page of `vuthgal show` holds are by the same rule.
+await look("the rule of other runs is that of pages", () => {
+  let count = 0;
+  for (const name of Object.keys(LESSONS)) {
+    const { text, plan } = lesson(name);
+    const page = program(["show", "FILE"], text + "\n.run\n" + plan).output;
+    const others = page.slice(page.indexOf('<pre id="others">')).split(/^other /m).slice(1);
+    const tree = treeOf(text, plan);
+    for (const told of others) {
+      const own = [...told.matchAll(/^([tx]\d+) \d+$/gm)].map(m => m[1]);
+      const i = Number(told.split("\n")[0]);
+      if (!own.length) continue;
+      assert.deepEqual(forkRun(tree, 0, i, own[0]).run.choices.slice(i), own, `${name} at ${i}`);
+      count++;
+    }
+  }
+  assert.ok(count > 20, `only ${count} runs were compared`);
+});
+
+// ---- 300 random programs, with random clicks
+for (let group = 0; group < 10; group++) {
+  await look(`random programs ${group * 30 + 1} to ${group * 30 + 30}`, () => {
+    for (let seed = group * 30 + 1; seed <= group * 30 + 30; seed++) {
+      const text = programOf(seed);
+      try {
+        const random = randomOf(seed);
+        let tree = treeOf(text, "?" + seed + "*200");
+        let run = tree.runs[0];
+        sameRun(tree, run, text);
+        const forked = forkByChance(tree, run, random);
+        if (forked) ({ tree, run } = forked);
+        sameRun(tree, run, text);
+        const i = random(lengthOf(run) + 1);
+        sameMoment(tree, run, i, text);
+        sameNext(tree, run, i, text);
+      } catch (fault) {
+        throw new Error(`program ${seed}: ${fault.message}\n${text}`);
+      }
+    }
+  });
+}
+
+// ---- why: who could release a thread, and that nobody could
+await look("who releases a thread was among those who could", () => {
+  let count = 0;
+  for (let seed = 1; seed <= 120; seed++) {
+    const text = programOf(seed);
+    const tree = treeOf(text, "?" + seed + "*120");
+    const [run] = tree.runs;
+    for (let i = 0; i < lengthOf(run); i++) {
+      const [before, after] = [at(tree, run, i), at(tree, run, i + 1)];
+      const { thread, what } = run.events[i];
+      before.state.threads.forEach((one, t) => {
+        if (t === thread || one.status !== "waits" || before.next[t] || !after.next[t] || what === "idle") return;
+        const why = whyOf(tree.program, before, t);
+        // one whose wait is over, and who throws at its turn, breaks a barrier; it stands among those who wait there
+        const isOfWait = before.state.threads[thread].status === "waits";
+        if (isOfWait) return;
+        assert.ok(
+          why.could.includes(thread),
+          `program ${seed} at ${i}: t${thread} released t${t}, and wasn't told\n${text}`
+        );
+        count++;
+      });
+    }
+  }
+  assert.ok(count > 30, `only ${count} were released`);
+});
+await look("who waits for ever by the sentence is never released", () => {
+  let count = 0;
+  for (let seed = 1; seed <= 120; seed++) {
+    const text = programOf(seed);
+    const tree = treeOf(text, "?" + seed + "*120");
+    const [run] = tree.runs;
+    for (let i = 0; i < lengthOf(run); i++) {
+      const moment = at(tree, run, i);
+      moment.state.threads.forEach((one, t) => {
+        if (one.status !== "waits" || whyOf(tree.program, moment, t).kind !== "stuck") return;
+        count++;
+        for (let order = 1; order <= 5; order++) {
+          const before = scheduleOf(run.choices.slice(0, i));
+          const end = treeOf(text, before + " ?" + order + "*200").runs[0].end.threads[t];
+          assert.ok(
+            end.status === "waits" && end.row === one.row,
+            `program ${seed} at ${i}: t${t} was released\n${text}`
+          );
+        }
+      });
+    }
+  }
+  assert.ok(count > 30, `only ${count} waited for ever`);
+});
+await look("the lost meeting, sentence by sentence", () => {
+  const { text, plan } = lesson("lost-meeting");
+  const tree = treeOf(text, plan);
+  const [run] = tree.runs;
+  const why = (i, t) => plain(tree.program, whyOf(tree.program, at(tree, run, i), t).text);
+  assert.equal(
+    why(1, 0),
+    "ann waits at meet for the end of phase 0: one arrival is missing. " +
+      "bob (meet.arriveAndAwaitAdvance()) or cem (meet.arrive()) could release it."
+  );
+  const stuck = "bob waits at meet for the end of phase 1: one arrival is missing. Nobody is left who could";
+  assert.ok(why(8, 1).startsWith(stuck), why(8, 1));
+  assert.equal(reasonOf(tree, 0, 2), "0 is the phase in which it arrived.");
+  assert.match(reasonOf(tree, 0, 4), /^1 is the phase of meet now/);
+  const said = plain(tree.program, sentenceOf(tree.program, run.events[1], at(tree, run, 1), at(tree, run, 2)));
+  assert.equal(said, "cem calls meet.arrive(), which returns 0. Phase 0 of meet ends, phase 1 begins.");
+  const stray = plain(tree.program, arrivalsText(tree, run, 2, 0));
+  assert.match(stray, /ann and cem.*If one of them was surplus, nobody can know which\.$/);
+  assert.deepEqual(arrivalsOf(tree, 0, 8).arrived[0].map(one => one.thread), [1]);
+});
+await look("an exception's number is explained only where its row throws it", () => {
+  const text = ".thread a m\nm: ldi r1 8\nthrow r1\n";
+  const tree = treeOf(text, "a a");
+  const said = plain(
+    tree.program,
+    sentenceOf(tree.program, tree.runs[0].events[1], at(tree, tree.runs[0], 1), at(tree, tree.runs[0], 2))
+  );
+  assert.doesNotMatch(said, /full/);
+  assert.match(said, /throws 8/);
+});
+
+// ---- plans, endings, outcomes
+await look("a run as a plan is the same run", () => {
+  for (const name of Object.keys(LESSONS)) {
+    const { text, plan } = lesson(name);
+    const [run] = treeOf(text, plan).runs;
+    const again = program(
+      ["plan", "FILE", "PLAN"],
+      text,
+      planOf(openProgram(text), run.events, Infinity)
+    ).output.trim();
+    assert.deepEqual(choicesOf(again), run.choices, name);
+  }
+});
+await look("a plan for ever is cut", () => {
+  const text = ".thread a m\nm: jmp m\n";
+  for (const plan of ["..", "?7", "(a)*1000000", "a*1000000", "t0*1000000000"]) {
+    const { choices, isCut } = choicesOfPlan(text, plan);
+    assert.equal(choices.length, MOST, plan);
+    assert.ok(isCut, plan);
+  }
+});
+await look("outcomes are told apart by what was put out", () => {
+  const { text } = lesson("broken-barrier");
+  const { all, tried } = outcomesOf(text, 100);
+  assert.equal(all.reduce((sum, one) => sum + one.count, 0), tried);
+  assert.ok(all.length > 2, `${all.length} outcomes`);
+  assert.ok(all.every(one => endKind(one.end) === "ended"));
+  const seeds = program(["plan", "FILE", "--seeds", "1..100"], text);
+  assert.equal(seeds.status, 0);
+});
+await look("a run ends with one word", () => {
+  const { text, plan } = lesson("lost-meeting");
+  const { program: model, runs } = treeOf(text, plan);
+  assert.equal(endText(model, runs[0].end), "stuck: bob waits for ever");
+});
+
+// ---- quiz
+await look("no question gives its answer away", () => {
+  for (const name of Object.keys(LESSONS)) {
+    const { text, plan } = lesson(name);
+    const tree = treeOf(text, plan);
+    const outcomes = outcomesOf(text, 100).all;
+    const questions = questionsOf(tree, tree.runs[0], outcomes);
+    for (const one of questions) {
+      assert.ok(one.options.length > 1, "a question with one answer");
+      assert.ok(one.options.includes(one.right), "the right answer isn't offered");
+      assert.equal(new Set(one.options).size, one.options.length);
+      assert.ok(plain(tree.program, one.why()).length > 10);
+    }
+    const end = questions.find(one => one.leads === lengthOf(tree.runs[0]) && one.at === 0);
+    if (end) assert.match(plain(tree.program, end.ask), /^The order is \S+/);
+  }
+});
+await look("the teacher's own questions are asked once, in their order", () => {
+  const text = lesson("lost-meeting").text.replace(/paaa r0 meet.*/, "paaa r0 meet ;? Whom does this thread meet?");
+  const tree = treeOf(text, "ann. cem. ann. bob.");
+  const own = questionsOf(tree, tree.runs[0], outcomesOf(text, 20).all).filter(one => one.own);
+  assert.deepEqual(
+    own.map(one => [plain(tree.program, one.ask), one.at, one.leads]),
+    [["Whom does this thread meet?", 0, 1]]
+  );
+  assert.deepEqual(
+    lessonOf("mine", tree.program, tree.runs[0]).steps.map(one => one.ask),
+    ["Whom does this thread meet?"]
+  );
+});
+await look("lessons ask at choices that their runs have", () => {
+  for (const [name, { steps }] of Object.entries(LESSONS)) {
+    const { text, plan } = lesson(name);
+    const tree = treeOf(text, plan);
+    for (const step of steps) {
+      assert.ok(step.at <= lengthOf(tree.runs[0]), `${name}: ${step.ask}`);
+      if (step.fork) assert.ok(forkRun(tree, 0, ...step.fork).run.id > 0, `${name}: ${step.ask}`);
+      if (step.votes) assert.ok(
+        Object.keys(at(tree, tree.runs[0], step.at).next).length > 1,
+        `${name}: no vote at ${step.at}`
+      );
+    }
+  }
+});
+
+// ---- the state
+const first = name => {
+  const { text, plan } = lesson(name);
+  return change.opened(change.firstState(), { group: "Lessons", name, title: name, program: text, plan }, "explore");
+};
+await look("a state is never changed", () => {
+  const state = first("lost-meeting");
+  const copy = { ...state };
+  const next = change.forked(state, 1, "t1");
+  assert.deepEqual(state, copy);
+  assert.equal(next.tree.runs.length, 2);
+  assert.equal(state.tree.runs.length, 1);
+  assert.deepEqual(change.backToFork(next).at, 1);
+});
+await look("a challenge counts the class's own changes", () => {
+  const stuck = change.inMode(first("lost-meeting"), "challenge");
+  assert.deepEqual(change.challengeOf(stuck), { goal: "ended", changes: 0, isDone: false });
+  const atEnd = change.at(stuck, 99);
+  assert.equal(change.challengeOf(atEnd).isDone, false);
+  const forked = change.at(change.forked(stuck, 1, "t1"), 99);
+  assert.deepEqual(change.challengeOf(forked), { goal: "ended", changes: 1, isDone: true });
+});
+await look("what is refused keeps the run before, with help", () => {
+  const state = first("lost-meeting");
+  const text = state.text.replace("paaa r0 meet", "paaa r0, meet");
+  const next = change.edited(state, text, state.plan);
+  assert.equal(next.tree, state.tree);
+  assert.match(next.mistake.means, /commas/);
+  const line = text.split("\n")[next.mistake.line - 1];
+  assert.equal(line.slice(...next.mistake.word), "r0,");
+  assert.equal(change.edited(next, state.text, state.plan).mistake, null);
+  const plan = change.edited(state, state.text, "nobody.");
+  assert.equal(plan.mistake.isProgram, false);
+});
+await look("start again restores program, plan and place", () => {
+  const state = first("lost-meeting");
+  const changed = change.edited(change.at(state, 4), state.text + "; more\n", "..");
+  const again = change.startedAgain(changed);
+  assert.deepEqual([again.text, again.plan, again.at, again.id], [state.text, state.plan, 0, 0]);
+});
+await look("a typed change keeps the place", () => {
+  const state = change.at(change.forked(first("lost-meeting"), 1, "t1"), 3);
+  const next = change.edited(state, state.text + "; a comment\n", state.plan);
+  assert.deepEqual([next.id, next.at], [1, 3]);
+});
+await look("a run becomes the first", () => {
+  const state = change.forked(first("lost-meeting"), 1, "t1");
+  const next = change.madeFirst(state);
+  assert.deepEqual(next.tree.runs[0].choices, change.runOf(state).choices);
+  assert.equal(next.tree.runs.length, 1);
+});
+await look("a run of an outcome forks where it leaves the others", () => {
+  const { text, plan } = lesson("lost-meeting");
+  const tree = treeOf(text, plan);
+  const choices = ["t1", ...tree.runs[0].choices];
+  const { run } = graftRun(tree, choices);
+  assert.deepEqual([run.parent, run.fork], [0, 0]);
+});
+
+// ---- mistakes, as the terminal tells them
+const MISTAKES = [
+  ["arriv r0 p", "arriv", "parr"],
+  ["arriveAndAwaitAdvance r0 p", "arriveAndAwaitAdvance", "paaa"],
+  ["register r0 p", "register", "preg"],
+  ["paaa r9 p", "r9", ""],
+  ["paaa r0 nobody", "nobody", ""],
+  ["ldi r0 x", "x", ""]
+];
+for (const [row, word, near] of MISTAKES) {
+  await look(`the word of ${row}`, () => {
+    const text = ".phaser p 1\n.thread a m\nm: halt\n" + row + "\n";
+    try {
+      openProgram(text);
+    } catch (fault) {
+      assert.ok(fault instanceof Refused);
+      const mistake = mistakeOf(fault, text);
+      assert.equal(text.split("\n")[mistake.line - 1].slice(...mistake.word), word);
+      assert.equal(mistake.near, near);
+      return;
+    }
+    throw new Error("it was accepted");
+  });
+}
+
+// ---- links and files
+await look("a link holds program, plan, place and mode", async () => {
+  const { text, plan } = lesson("lost-meeting");
+  const hash = await linkOf({ text, plan, name: "lost-meeting", address: "2t1.9", mode: "challenge" });
+  assert.deepEqual(await readLink(hash), { text, plan, name: "lost-meeting", address: "2t1.9", mode: "challenge" });
+  assert.deepEqual(await readLink("#2t1.9"), { address: "2t1.9" });
+  assert.deepEqual(await readLink("#7"), { address: "7" });
+  assert.equal(await readLink(""), null);
+});
+await look("8 KB of program fit into a link", async () => {
+  const random = randomOf(5);
+  const text = Array.from({ length: 800 }, () => "ldi r" + random(8) + " " + random(100000)).join("\n");
+  assert.ok(text.length > 8192);
+  const hash = await linkOf({ text, plan: "..", name: "long", address: "0", mode: "explore" });
+  assert.equal((await readLink(hash)).text, text);
+  assert.ok(hash.length < 60000, `${hash.length}`);
+});
+for (
+  const hash of [
+    "#x",
+    "#e/0/AAAA",
+    "#e/0/",
+    "#q/<b>/abc",
+    "#e/1t1/x",
+    "#e/0/!!!!",
+    "#__proto__/0/x",
+    "#constructor/0/" + (await linkOf({ text: "", plan: "", name: "", address: "0", mode: "explore" })).split("/")[2],
+    "#e/99999999999999999999/x"
+  ]
+) {
+  await look(`a broken link ${hash} is told`, () => assert.rejects(readLink(hash)));
+}
+await look("a link that holds a text without end is refused", async () => {
+  const hash = await linkOf(
+    { text: "; ".repeat(2000000), plan: "..", name: "x", address: "0", mode: "explore" }
+  ).catch(() => "#e/0/");
+  await assert.rejects(readLink(hash));
+});
+await look("a file with a run is read as it was written", () => {
+  const texts = { name: "</script><b>", title: "<i>&", program: "; </script> & \u2028\n" };
+  const run = { ...texts, plan: "..", schedule: "t0", trace: "x\n", address: "0" };
+  const page = '<p>$&</p><script type="application/json" id="run"></script>';
+  const whole = pageWith(page, run);
+  assert.equal(whole.match(/<\/script>/g).length, 1);
+  assert.deepEqual(runInFile(/id="run">([^]*?)<\/script>/.exec(whole)[1]), run);
+  assert.equal(runInFile(""), null);
+});
+await look("a program's file may hold its schedule", () => {
+  assert.deepEqual(readProgramFile("halt\n.run\nt0*2\n"), { program: "halt\n", plan: "t0*2" });
+  assert.deepEqual(readProgramFile("halt\n"), { program: "halt\n", plan: ".." });
+});
+
+// ---- colours: contrast as WCAG 2.2 AA asks for
+await look("text has a contrast of 4.5", () => {
+  const css = read("app/style/tokens.css");
+  const blocks = [
+    css.slice(css.indexOf(":root {"), css.indexOf("@media")),
+    css.slice(css.indexOf(':root[data-theme="dark"]'))
+  ];
+  const light = hex => {
+    const part = k => parseInt(hex.slice(1 + 2 * k, 3 + 2 * k), 16) / 255;
+    const linear = [0, 1, 2].map(part).map(v => (v <= 0.03928 ? v / 12.92 : ((v + 0.055) / 1.055) ** 2.4));
+    return 0.2126 * linear[0] + 0.7152 * linear[1] + 0.0722 * linear[2];
+  };
+  const mixed = (a, b, share) =>
+    "#" + [1, 3, 5].map(
+      k => Math.round(
+        parseInt(a.slice(k, k + 2), 16) * share + parseInt(b.slice(k, k + 2), 16) * (1 - share)
+      ).toString(16).padStart(2, "0")
+    ).join("");
+  for (const block of blocks) {
+    const colours = Object.fromEntries([...block.matchAll(/--([a-z0-9-]+): (#[0-9a-f]{6});/g)].map(m => [m[1], m[2]]));
+    const hues = [0, 1, 2, 3, 4, 5, 6, 7].map(n => colours["hue" + n]);
+    const { paper, pane, ink, soft, later, red, go, now } = colours;
+    const pairs = [
+      [ink, pane],
+      [ink, paper],
+      [soft, pane],
+      [soft, paper],
+      [soft, colours.hover],
+      [later, pane],
+      [red, pane],
+      [go, pane]
+    ];
+    pairs.push(
+      [colours["now-ink"], now],
+      [red, colours["red-soft"]],
+      [go, colours["go-soft"]],
+      [pane, red],
+      [pane, go],
+      [pane, ink]
+    );
+    for (const hue of hues) {
+      pairs.push([hue, pane], [pane, hue], [hue, mixed(hue, pane, 0.09)], [mixed(hue, pane, 0.9), pane]);
+      pairs.push([hue, mixed(now, pane, 0.62)]);
+    }
+    for (const [text, ground] of pairs) {
+      const [a, b] = [light(text), light(ground)].sort((x, y) => y - x);
+      const contrast = (a + 0.05) / (b + 0.05);
+      assert.ok(contrast >= 4.5, `${text} on ${ground}: ${contrast.toFixed(2)}`);
+    }
+  }
+});
+
+done();
