@@ -1,4 +1,6 @@
 // Package vuthgal plays programs of threads that call phasers and barriers: libvuthgal's calls, in this process.
+//
+// A program is the bytes of a text or of an image, and not the path of a file. Each error is a *Fault.
 package vuthgal
 
 // #cgo pkg-config: vuthgal
@@ -6,17 +8,10 @@ package vuthgal
 import "C"
 
 import (
+	"strconv"
 	"strings"
 	"unsafe"
 )
-
-// Fault is what ends a call that doesn't do as it was asked: the program's status, and the line of it.
-type Fault struct {
-	Status int
-	Line   string
-}
-
-func (f *Fault) Error() string { return f.Line }
 
 var nowhere byte
 
@@ -28,55 +23,163 @@ func at(bytes []byte) *C.uint8_t {
 	return (*C.uint8_t)(unsafe.Pointer(&bytes[0]))
 }
 
-// words are what a status without a line says.
-var words = map[int]string{4: "memory", 5: "read", 6: "the session is closed"}
+func size(bytes []byte) C.size_t { return C.size_t(len(bytes)) }
 
-func fault(status C.uint8_t, line []byte) error {
-	told := strings.TrimSpace(string(line))
-	if told == "" {
-		told = words[int(status)]
-	}
-	return &Fault{int(status), told}
+// rooms are where a call writes its output and its line, with their lengths.
+type rooms struct {
+	output, line             []byte
+	outputLength, lineLength C.size_t
 }
 
-// call is a call that writes an output and a line.
-type call func(output *C.uint8_t, room C.size_t, length *C.size_t, line *C.uint8_t, lineRoom C.size_t, lineLength *C.size_t) C.uint8_t
-
-// called makes a call, and makes it again if its output has no room.
-func called(call call) ([]byte, C.uint8_t, []byte) {
-	line := make([]byte, C.VUTHGAL_LINE)
-	for room := 1 << 12; ; {
-		output := make([]byte, room)
-		var length, lineLength C.size_t
-		status := call(at(output), C.size_t(room), &length, at(line), C.size_t(len(line)), &lineLength)
-		if int(length) <= room {
-			if int(lineLength) < len(line) {
-				line = line[:lineLength]
+// called makes a call, and makes it again if its output has no room. It returns the output, and whether the status is 1.
+func called(call func(r *rooms) C.uint8_t) (output []byte, unlike bool, err error) {
+	for r := (&rooms{output: make([]byte, 1<<12), line: make([]byte, C.VUTHGAL_LINE)}); ; {
+		status := call(r)
+		if int(r.outputLength) <= len(r.output) {
+			if int(r.lineLength) < len(r.line) {
+				r.line = r.line[:r.lineLength]
 			}
-			return output[:length], status, line
+			return r.output[:r.outputLength], status == C.VUTHGAL_UNLIKE, fault(status, r.line)
 		}
-		room = int(length)
+		r.output = make([]byte, r.outputLength)
 	}
 }
 
-// Run plays a program, a text or an image, under a schedule, and returns the trace.
+// Run plays a program under a schedule, and returns the trace; with a fault of the schedule, the lines before it.
 func Run(program, schedule []byte) (string, error) {
-	output, status, line := called(func(o *C.uint8_t, r C.size_t, n *C.size_t, l *C.uint8_t, lr C.size_t, ln *C.size_t) C.uint8_t {
-		return C.vuthgal_run(at(program), C.size_t(len(program)), at(schedule), C.size_t(len(schedule)), o, r, n, l, lr, ln)
+	output, _, err := called(func(r *rooms) C.uint8_t {
+		return C.vuthgal_run(at(program), size(program), at(schedule), size(schedule),
+			at(r.output), size(r.output), &r.outputLength, at(r.line), size(r.line), &r.lineLength)
 	})
-	if status != 0 {
-		return string(output), fault(status, line)
-	}
-	return string(output), nil
+	return string(output), err
 }
 
-// Plan returns the schedule that a plan stands for, and whether the plan was stopped at 1,000,000 choices.
-func Plan(program, plan []byte) (schedule string, stopped bool, err error) {
-	output, status, line := called(func(o *C.uint8_t, r C.size_t, n *C.size_t, l *C.uint8_t, lr C.size_t, ln *C.size_t) C.uint8_t {
-		return C.vuthgal_plan(at(program), C.size_t(len(program)), at(plan), C.size_t(len(plan)), o, r, n, l, lr, ln)
+// RunText plays a program's text under the schedule behind its line `.run`, and returns the trace.
+func RunText(text []byte) (string, error) {
+	output, _, err := called(func(r *rooms) C.uint8_t {
+		return C.vuthgal_both(at(text), size(text),
+			at(r.output), size(r.output), &r.outputLength, at(r.line), size(r.line), &r.lineLength)
 	})
-	if status > 1 {
-		return "", false, fault(status, line)
+	return string(output), err
+}
+
+// Assemble returns the image of a program's text.
+func Assemble(text []byte) ([]byte, error) {
+	output, _, err := called(func(r *rooms) C.uint8_t {
+		return C.vuthgal_asm(at(text), size(text),
+			at(r.output), size(r.output), &r.outputLength, at(r.line), size(r.line), &r.lineLength)
+	})
+	return output, err
+}
+
+// List returns the canonical text of a program.
+func List(program []byte) (string, error) {
+	output, _, err := called(func(r *rooms) C.uint8_t {
+		return C.vuthgal_list(at(program), size(program),
+			at(r.output), size(r.output), &r.outputLength, at(r.line), size(r.line), &r.lineLength)
+	})
+	return string(output), err
+}
+
+// verdict is the fault that a line such as `differs 3` tells, nil of `same`.
+func verdict(told string) error {
+	words := strings.Fields(told)
+	if len(words) == 1 && words[0] == "same" {
+		return nil
 	}
-	return strings.TrimSpace(string(output)), status == 1, nil
+	line, err := strconv.Atoi(words[len(words)-1])
+	switch {
+	case err == nil && words[0] == "differs":
+		return &Fault{Status: Differs, Line: "line " + strconv.Itoa(line), At: line}
+	case err == nil && words[0] == "not":
+		return &Fault{Status: NotATrace, Line: "line " + strconv.Itoa(line), At: line}
+	}
+	return &Fault{Status: Unknown, Line: told}
+}
+
+// Compare compares a trace with the run that it names. The fault is Differs or NotATrace, with the line.
+func Compare(program, trace []byte) error {
+	output, _, err := called(func(r *rooms) C.uint8_t {
+		return C.vuthgal_compare(at(program), size(program), at(trace), size(trace),
+			at(r.output), size(r.output), &r.outputLength, at(r.line), size(r.line), &r.lineLength)
+	})
+	if err != nil {
+		return err
+	}
+	return verdict(string(output))
+}
+
+// Choices returns the schedule of a trace; if it is none, NotATrace and the schedule of the lines before the first that is no line.
+func Choices(trace []byte) (string, error) {
+	output, unlike, err := called(func(r *rooms) C.uint8_t {
+		return C.vuthgal_choices(at(trace), size(trace),
+			at(r.output), size(r.output), &r.outputLength, at(r.line), size(r.line), &r.lineLength)
+	})
+	lines := strings.Split(strings.TrimSuffix(string(output), "\n"), "\n")
+	if unlike {
+		last := len(lines) - 1
+		return strings.Join(lines[:last], ""), verdict(lines[last])
+	}
+	return lines[0], err
+}
+
+// Page returns the page that shows a run, for a browser.
+func Page(program, schedule []byte) (string, error) {
+	output, _, err := called(func(r *rooms) C.uint8_t {
+		return C.vuthgal_show(at(program), size(program), at(schedule), size(schedule),
+			at(r.output), size(r.output), &r.outputLength, at(r.line), size(r.line), &r.lineLength)
+	})
+	return string(output), err
+}
+
+// Draw returns a run drawn as text, in lines of at most width bytes, from 60 to 1000.
+func Draw(program, schedule []byte, width int) (string, error) {
+	if width < 60 || width > 1000 {
+		return "", malformed("width " + strconv.Itoa(width))
+	}
+	output, _, err := called(func(r *rooms) C.uint8_t {
+		return C.vuthgal_draw(at(program), size(program), at(schedule), size(schedule), C.uint16_t(width),
+			at(r.output), size(r.output), &r.outputLength, at(r.line), size(r.line), &r.lineLength)
+	})
+	return string(output), err
+}
+
+// Debug returns the replies of the debugger to lines of commands.
+func Debug(program, commands []byte) (string, error) {
+	output, _, err := called(func(r *rooms) C.uint8_t {
+		return C.vuthgal_debug(at(program), size(program), at(commands), size(commands),
+			at(r.output), size(r.output), &r.outputLength, at(r.line), size(r.line), &r.lineLength)
+	})
+	return string(output), err
+}
+
+// Explain says what the words of a line mean; without words, what can be asked. The fault is NoLine if no line has them.
+func Explain(words string) (string, error) {
+	text := []byte(words)
+	output, _, err := called(func(r *rooms) C.uint8_t {
+		return C.vuthgal_explain(at(text), size(text),
+			at(r.output), size(r.output), &r.outputLength, at(r.line), size(r.line), &r.lineLength)
+	})
+	return string(output), err
+}
+
+// Expect says whether a state is as an expectation says, as `vuthgal run --expect` decides it: `all`, `ended`, `stuck`, `live`, or
+// words of a line of the state, as `t0 waits`.
+func Expect(state State, expectation string) (bool, error) {
+	text, words := []byte(state.String()), []byte(expectation)
+	switch C.vuthgal_expect(at(text), size(text), at(words), size(words)) {
+	case C.VUTHGAL_DONE:
+		return true, nil
+	case C.VUTHGAL_UNLIKE:
+		return false, nil
+	}
+	return false, malformed(expectation)
+}
+
+// Version returns the version of the library, the kit that proved it, and the sum of its sources, a line each.
+func Version() string {
+	output := make([]byte, 512)
+	var length C.size_t
+	C.vuthgal_version(at(output), size(output), &length)
+	return string(output[:length])
 }

@@ -20,6 +20,14 @@ def _library():
     raise SystemExit("there is no lib/libvuthgal.so.1: bin/program --library builds it")
 
 
+def _app():
+    """The app in one file: that of the clone, or that of the source archive."""
+    for path in (HERE.parent / "vuthgal.html", HERE / "vuthgal.html"):
+        if path.is_file():
+            return path.read_bytes()
+    raise SystemExit("there is no vuthgal.html: bin/made app makes it")
+
+
 def _version():
     """The newest version in the changelog of the clone, or that of the source archive."""
     changes = HERE.parent / "CHANGELOG.md"
@@ -33,7 +41,7 @@ def _version():
 def _sources():
     """The modules: names and contents."""
     for path in sorted((HERE / "src").rglob("*")):
-        if path.suffix in (".py", ".typed", ".html", ".css", ".js"):
+        if path.suffix in (".py", ".typed"):
             yield path.relative_to(HERE / "src").as_posix(), path.read_bytes()
 
 
@@ -48,6 +56,7 @@ def _metadata(version):
         f"Metadata-Version: 2.1\nName: vuthgal\nVersion: {version}\n"
         "Summary: Vuthgal's commands as functions: plays programs of threads that call phasers and barriers\n"
         "Requires-Python: >=3.8\nClassifier: Operating System :: POSIX :: Linux\nClassifier: Typing :: Typed\n"
+        "Description-Content-Type: text/markdown\n\n" + (HERE / "README.md").read_text(encoding="utf-8")
     )
 
 
@@ -80,7 +89,10 @@ def _written(directory, files):
     info = f"vuthgal-{version}.dist-info"
     files[f"{info}/METADATA"] = _metadata(version).encode()
     files[f"{info}/WHEEL"] = _wheel().encode()
-    files[f"{info}/entry_points.txt"] = b"[console_scripts]\nvuthgal-playground = vuthgal.playground:main\n"
+    files[f"{info}/entry_points.txt"] = (
+        b"[console_scripts]\nvuthgal-check = vuthgal.check.command:main\nvuthgal-playground = vuthgal._playground:main\n\n"
+        b"[pytest11]\nvuthgal = vuthgal_pytest\n"
+    )
     record = []
     for name, content in files.items():
         digest = base64.urlsafe_b64encode(hashlib.sha256(content).digest()).rstrip(b"=").decode()
@@ -97,7 +109,7 @@ def _written(directory, files):
 
 
 def build_wheel(wheel_directory, config_settings=None, metadata_directory=None):
-    return _written(wheel_directory, {**dict(_sources()), "vuthgal/libvuthgal.so.1": _library()})
+    return _written(wheel_directory, {**dict(_sources()), "vuthgal/libvuthgal.so.1": _library(), "vuthgal/vuthgal.html": _app()})
 
 
 def build_editable(wheel_directory, config_settings=None, metadata_directory=None):
@@ -107,9 +119,10 @@ def build_editable(wheel_directory, config_settings=None, metadata_directory=Non
 def build_sdist(sdist_directory, config_settings=None):
     name = f"vuthgal-{_version()}"
     files = {f"src/{path}": content for path, content in _sources()}
-    for path in ("backend.py", "pyproject.toml"):
+    for path in ("backend.py", "pyproject.toml", "README.md"):
         files[path] = (HERE / path).read_bytes()
     files["libvuthgal.so.1"] = _library()
+    files["vuthgal.html"] = _app()
     files["PKG-INFO"] = _metadata(_version()).encode()
     held = io.BytesIO()
     with tarfile.open(fileobj=held, mode="w", format=tarfile.PAX_FORMAT) as archive:

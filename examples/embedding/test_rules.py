@@ -60,19 +60,20 @@ class PortStandsAsVuthgalDoes(RuleBasedStateMachine):
         self.callers.call(caller, getattr(self.port, call), *words)
         self.ends(caller, thread, event)
         for caller, thread in list(self.waiting.items()):
-            self.ends(caller, thread, self.session.step(thread))
+            if f"t{self.session.threads.index(thread)}" in self.session.enabled():
+                self.ends(caller, thread, self.session.step(thread))
+            else:
+                assert self.callers.waits(caller), f"{thread} returns {self.callers.outcome(caller)}, and should wait"
 
     def ends(self, caller, thread, event):
         """The caller's call comes to what the session's step came to."""
-        if event.what in ("wait", "idle"):
+        if event.what is vuthgal.What.WAIT:
             self.waiting[caller] = thread
             assert self.callers.waits(caller), f"{thread} returns {self.callers.outcome(caller)}, and should wait"
-            if event.what == "idle":
-                self.session.back()
             return
         self.waiting.pop(caller, None)
         what, value = self.callers.outcome(caller)
-        if event.what == "throw":
+        if event.what is vuthgal.What.THROW:
             assert isinstance(value, phaser_port.IllegalState)
             self.session.back()
         else:

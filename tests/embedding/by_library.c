@@ -66,7 +66,7 @@ static int call(const char *command, size_t output_room, size_t line_room) {
   if (strcmp(command, "list") == 0) return vuthgal_list(a.bytes, a.length, OUT);
   if (strcmp(command, "compare") == 0) return vuthgal_compare(a.bytes, a.length, b.bytes, b.length, OUT);
   if (strcmp(command, "choices") == 0) return vuthgal_choices(a.bytes, a.length, OUT);
-  if (strcmp(command, "plan") == 0) return vuthgal_plan(a.bytes, a.length, b.bytes, b.length, OUT);
+  if (strcmp(command, "plan") == 0) return vuthgal_plan(a.bytes, a.length, b.bytes, b.length, 1000000, 0, OUT);
   if (strcmp(command, "show") == 0) return vuthgal_show(a.bytes, a.length, b.bytes, b.length, OUT);
   if (strcmp(command, "draw") == 0) return vuthgal_draw(a.bytes, a.length, b.bytes, b.length, WIDTH, OUT);
   if (strcmp(command, "debug") == 0) return vuthgal_debug(a.bytes, a.length, b.bytes, b.length, OUT);

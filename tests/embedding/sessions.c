@@ -120,6 +120,75 @@ static void rooms(void) {
   CHECK(say(&moved, "s t1", reply, &length) == VUTHGAL_CLOSED);
 }
 
+/* each call that has no text, on a session and on none */
+static void looks(void) {
+  vuthgal_session s = VUTHGAL_SESSION, copy = VUTHGAL_SESSION;
+  vuthgal_event event = {9, 9, 9, 9, 9, 9, 9};
+  vuthgal_state state;
+  vuthgal_thread threads[3], one;
+  vuthgal_phaser phasers[2];
+  vuthgal_entry entries[2];
+  int32_t cells[33], values[2] = {7, 7};
+  uint64_t turns = 9, expiries = 9;
+  size_t count = 9, length;
+  char reply[4096];
+  long at_first = held, n;
+  memset(threads, 7, sizeof threads), memset(phasers, 7, sizeof phasers), memset(cells, 7, sizeof cells);
+  CHECK(vuthgal_session_enabled(&s, &turns, &expiries) == VUTHGAL_CLOSED && !turns && !expiries);
+  CHECK(vuthgal_session_step(&s, 0, 0, &event) == VUTHGAL_CLOSED && event.number == 9);
+  CHECK(vuthgal_session_back(&s) == VUTHGAL_CLOSED);
+  CHECK(vuthgal_session_look(&s, &state, threads, 3, phasers, 2, NULL, 0, cells, 33) == VUTHGAL_CLOSED && threads[0].row == 0x0707);
+  CHECK(vuthgal_session_stack(&s, 0, entries, 2, &count) == VUTHGAL_CLOSED && count == 9);
+  CHECK(vuthgal_session_outputs(&s, 0, values, 2, &count) == VUTHGAL_CLOSED && count == 9);
+  CHECK(vuthgal_session_copy(&s, &copy) == VUTHGAL_CLOSED && !copy.is_open);
+  CHECK(open_it(&s, PROGRAM) == VUTHGAL_DONE);
+  left = 0;
+  CHECK(vuthgal_session_step(&s, 0, 0, &event) == VUTHGAL_DONE);
+  CHECK(event.number == 1 && event.row == 0 && event.what == VUTHGAL_WAITS && event.mark == VUTHGAL_NO_MARK && event.object == VUTHGAL_NONE);
+  CHECK(vuthgal_session_enabled(&s, &turns, &expiries) == VUTHGAL_DONE && turns == 2 && !expiries);
+  CHECK(vuthgal_session_look(&s, &state, threads, 3, phasers, 1, NULL, 0, cells, 33) == VUTHGAL_DONE);
+  CHECK(state.choices == 1 && state.steps == 1 && state.threads == 2 && state.phasers == 1 && state.barriers == 0 && state.standing == VUTHGAL_LIVE);
+  CHECK(threads[0].status == VUTHGAL_AWAITS_PHASE && threads[0].object == 0 && threads[0].value == 0);
+  CHECK(threads[1].status == VUTHGAL_RUNS && threads[1].object == VUTHGAL_NONE && threads[2].row == 0x0707);
+  CHECK(phasers[0].parties == 2 && phasers[0].arrived == 1 && phasers[0].unarrived == 1 && phasers[0].parent == VUTHGAL_NONE);
+  CHECK(phasers[1].parties == 0x0707 && cells[0] == 0 && cells[31] == 0 && cells[32] == 0x07070707);
+  CHECK(vuthgal_session_look(&s, &state, &one, 1, NULL, 0, NULL, 0, NULL, 0) == VUTHGAL_DONE && one.status == VUTHGAL_AWAITS_PHASE);
+  CHECK(vuthgal_session_step(&s, 1, 0, &event) == VUTHGAL_DONE);
+  CHECK(event.what == VUTHGAL_RESULT && event.value == 1 && event.mark == VUTHGAL_PHASE_ENDED && event.object == 0 && event.view == 1);
+  CHECK(vuthgal_session_step(&s, 2, 0, &event) == VUTHGAL_NO_THREAD && event.number == 2);
+  CHECK(vuthgal_session_stack(&s, 2, entries, 2, &count) == VUTHGAL_NO_THREAD && count == 9);
+  CHECK(vuthgal_session_outputs(&s, 255, values, 2, &count) == VUTHGAL_NO_THREAD && count == 9);
+  CHECK(vuthgal_session_stack(&s, 1, entries, 2, &count) == VUTHGAL_DONE && count == 0);
+  CHECK(vuthgal_session_step(&s, 1, 0, &event) == VUTHGAL_MEMORY && event.number == 2);
+  left = -1;
+  CHECK(vuthgal_session_step(&s, 1, 0, &event) == VUTHGAL_DONE && event.what == VUTHGAL_OUT);
+  CHECK(vuthgal_session_outputs(&s, 1, values, 0, &count) == VUTHGAL_DONE && count == 1 && values[0] == 7);
+  CHECK(vuthgal_session_outputs(&s, 1, values, 2, &count) == VUTHGAL_DONE && count == 1 && values[0] == 1 && values[1] == 7);
+  for (n = 0;; n++) {
+    left = n;
+    uint8_t status = vuthgal_session_copy(&s, &copy);
+    int is_granted = left >= 0;
+    left = -1;
+    if (is_granted) { CHECK(status == VUTHGAL_DONE); break; }
+    CHECK(status == VUTHGAL_MEMORY && !copy.is_open);
+  }
+  CHECK(n > 3);
+  CHECK(vuthgal_session_back(&copy) == VUTHGAL_UNLIKE && vuthgal_session_step(&copy, 0, 0, &event) == VUTHGAL_DONE && event.number == 4);
+  CHECK(vuthgal_session_look(&s, &state, NULL, 0, NULL, 0, NULL, 0, NULL, 0) == VUTHGAL_DONE && state.choices == 3);
+  CHECK(vuthgal_session_back(&s) == VUTHGAL_DONE && vuthgal_session_back(&s) == VUTHGAL_DONE && vuthgal_session_back(&s) == VUTHGAL_DONE);
+  CHECK(vuthgal_session_back(&s) == VUTHGAL_UNLIKE);
+  CHECK(vuthgal_session_other(&s, 0, 0, 9, (const uint8_t *)"t0 t1*3", 7, (uint8_t *)reply, 4096, &length) == VUTHGAL_DONE);
+  CHECK(length == 18 && !memcmp(reply, "t0 t1*3 t0 t1 t0*3", 18));
+  CHECK(vuthgal_session_other(&s, 0, 0, 9, (const uint8_t *)"hm", 2, (uint8_t *)reply, 4096, &length) == VUTHGAL_REFUSED && !length);
+  CHECK(vuthgal_expect((const uint8_t *)"state 0 0 live\n", 15, (const uint8_t *)"live", 4) == VUTHGAL_DONE);
+  CHECK(vuthgal_expect((const uint8_t *)"state 0 0 live\n", 15, (const uint8_t *)"all", 3) == VUTHGAL_UNLIKE);
+  CHECK(vuthgal_expect(NULL, 0, (const uint8_t *)"t0", 2) == VUTHGAL_REFUSED);
+  CHECK(vuthgal_session_copy(&s, &copy) == VUTHGAL_DONE);
+  vuthgal_session_close(&s);
+  vuthgal_session_close(&copy);
+  CHECK(held == at_first);
+}
+
 /* the sessions of a thousand threads, which another thread opened, and this one closes */
 static void *one_of_many(void *at) {
   vuthgal_session *s = at;
@@ -148,6 +217,7 @@ static void many(void) {
 int main(void) {
   refused_memory();
   rooms();
+  looks();
   many();
   puts("as the header says");
   return 0;

@@ -15,7 +15,7 @@ func main() {
 	fmt.Print(trace)
 	if err != nil {
 		fmt.Fprintln(os.Stderr, err)
-		os.Exit(err.(*vuthgal.Fault).Status)
+		os.Exit(int(err.(*vuthgal.Fault).Status))
 	}
 	session, err := vuthgal.Open([]byte(program))
 	if err != nil {
@@ -23,6 +23,6 @@ func main() {
 		os.Exit(1)
 	}
 	defer session.Close()
-	event, _ := session.Step(0)
-	fmt.Println(event.Line)
+	line, _ := session.Step(0)
+	fmt.Println(line)
 }

@@ -1,9 +1,9 @@
-"""`python3 -m vuthgal playground`."""
+"""`python3 -m vuthgal check`."""
 import sys
 
-from .playground import main
+from .check.command import main
 
-if sys.argv[1:2] != ["playground"]:
-    print("usage: python3 -m vuthgal playground [FILE|FOLDER]", file=sys.stderr)
+if sys.argv[1:2] != ["check"]:
+    print("usage: python3 -m vuthgal check [OPTION].. FOLDER|RUN..", file=sys.stderr)
     sys.exit(2)
-sys.exit(main(sys.argv[2:]))
+sys.exit(main(sys.argv[2:], "python3 -m vuthgal check"))

@@ -1,13 +1,12 @@
 """The functions."""
 import builtins
 import os
-from pathlib import Path
 from typing import Optional, Union
 
-from ._errors import Differs, NoLine, NotATrace, OutOfMemory, Refused, TooLong
-from ._library import called, version_text
-from ._shown import Drawing, Page, Schedule
-from ._trace import Trace
+from ._errors import Differs, Malformed, NoLine, NotATrace, OutOfMemory, Refused, TooLong
+from ._library import called, expects, version_text
+from ._shown import Drawing, Outcome, Page, Schedule
+from ._trace import State, Trace
 
 #: A text; bytes; or the path of a file that holds them.
 Text = Union[str, bytes, bytearray, memoryview, "os.PathLike[str]"]
@@ -20,7 +19,16 @@ def _bytes(text: Text) -> bytes:
         return text.encode("utf-8")
     if isinstance(text, (bytearray, memoryview)):
         return bytes(text)
-    return Path(text).read_bytes()
+    with open(text, "rb") as file:
+        return file.read()
+
+
+def _program(text: Text) -> bytes:
+    """The bytes of a program. A string is its text: one line that looks like the name of a file is a mistake, since no program has one
+    line. No file is looked for: the string may be that of a stranger."""
+    if isinstance(text, str) and "\n" not in text and (text.endswith((".asm", ".image", ".txt")) or ("/" in text and " " not in text)):
+        raise Malformed(f"a string is the text of a program: the file of this name is pathlib.Path({text!r})")
+    return _bytes(text)
 
 
 def _told(status: int, output: bytes, line: bytes) -> bytes:
@@ -47,23 +55,23 @@ def _two(name: str, first: bytes, second: bytes, *more: int) -> bytes:
 def run(program: Text, schedule: Optional[Text] = None) -> Trace:
     """Plays a program under a schedule, or, with no schedule, a text under that behind its line `.run`."""
     if schedule is None:
-        return Trace(_one("both", _bytes(program)))
-    return Trace(_two("run", _bytes(program), _bytes(schedule)))
+        return Trace(_one("both", _program(program)))
+    return Trace(_two("run", _program(program), _bytes(schedule)))
 
 
 def assemble(text: Text) -> bytes:
     """The image of a program's text."""
-    return _one("asm", _bytes(text))
+    return _one("asm", _program(text))
 
 
 def list(program: Text) -> str:
     """The canonical text of a program."""
-    return _one("list", _bytes(program)).decode("ascii")
+    return _one("list", _program(program)).decode("ascii")
 
 
 def compare(program: Text, trace: Union[Trace, Text]) -> None:
     """Compares a trace with the run that it names. It raises `Differs` where a line differs, `NotATrace` where it is none."""
-    told = _two("compare", _bytes(program), bytes(trace) if isinstance(trace, Trace) else _bytes(trace)).decode("ascii").rstrip()
+    told = _two("compare", _program(program), bytes(trace) if isinstance(trace, Trace) else _bytes(trace)).decode("ascii").rstrip()
     if told != "same":
         which = NotATrace if told.startswith("not") else Differs
         raise which(told, int(told.split()[-1]))
@@ -80,32 +88,49 @@ def choices(trace: Union[Trace, Text]) -> str:
     raise NotATrace(lines[-1], int(lines[-1].split()[-1]), lines[0] if len(lines) > 1 else "")
 
 
-def plan(program: Text, plan: Text) -> Schedule:
-    """The schedule that a plan stands for on a program."""
-    first, second = _bytes(program), _bytes(plan)
-    status, output, line = called("plan", first, len(first), second, len(second))
+def _count(number: int, least: int = 0) -> int:
+    """A count, as the library takes it."""
+    if not least <= number < 1 << 32:
+        raise Malformed(f"no count from {least} to 4294967295: {number}")
+    return number
+
+
+def plan(program: Text, plan: Text, most: int = 1_000_000, names: bool = False) -> Schedule:
+    """The schedule that a plan stands for on a program, of at most `most` choices. With `names` threads have their names: it is a plan,
+    too. A schedule is a plan, so this also writes a schedule by names."""
+    first, second = _program(program), _bytes(plan)
+    status, output, line = called("plan", first, len(first), second, len(second), _count(most), names)
     schedule = Schedule(_told(status, output, line).decode("ascii").rstrip("\n"))
     schedule.stopped = status == 1
     return schedule
 
 
+def seeds(program: Text, plan: Text = "", first: int = 0, count: int = 100, limit: Optional[int] = None, names: bool = False) -> "builtins.list[Outcome]":
+    """What a plan and then an order by each of these seeds leads to, the most frequent outcome first: at most 100,000 seeds, each of at
+    most `limit` choices."""
+    text, steps = _program(program), _bytes(plan)
+    most = 0 if limit is None else _count(limit, 1)
+    output = _told(*called("seeds", text, len(text), steps, len(steps), _count(first), _count(count), most, names))
+    return [Outcome.parse(line) for line in output.decode("ascii").split("\n")[:-1]]
+
+
 def page(program: Text, schedule: Text, height: int = 600) -> Page:
     """The page that shows a run."""
-    return Page(_two("show", _bytes(program), _bytes(schedule)), height)
+    return Page(_two("show", _program(program), _bytes(schedule)), height)
 
 
 def draw(program: Text, schedule: Text, width: int = 80) -> Drawing:
     """A run drawn as text, in lines of at most `width` bytes, from 60 to 1000."""
     if not 60 <= width <= 1000:
-        raise ValueError("the width is from 60 to 1000")
-    return Drawing(_two("draw", _bytes(program), _bytes(schedule), width).decode("utf-8"))
+        raise Malformed("the width is from 60 to 1000")
+    return Drawing(_two("draw", _program(program), _bytes(schedule), width).decode("utf-8"))
 
 
 def debug(program: Text, commands: Union[Text, "builtins.list[str]"]) -> str:
     """The replies of the debugger to lines of commands."""
     if isinstance(commands, builtins.list):
         commands = "".join(f"{command}\n" for command in commands)
-    return _two("debug", _bytes(program), _bytes(commands)).decode("ascii")
+    return _two("debug", _program(program), _bytes(commands)).decode("ascii")
 
 
 def explain(words: str = "") -> str:
@@ -120,3 +145,19 @@ def explain(words: str = "") -> str:
 def version() -> str:
     """The version of the library, the kit that proved it, and the sum of its sources, a line each."""
     return version_text()
+
+
+#: The version of the library, as `2.0.0`.
+__version__ = version_text().split("\n")[0].split(" ")[0]
+
+
+def expect(state: Union[State, Trace, Text], expectation: str) -> bool:
+    """Whether a state is as an expectation says, as `vuthgal run --expect` decides it: `all`, `ended`, `stuck`, `live`, or words of a
+    line of the state, as `t0 waits`. A trace stands for the state at its end."""
+    if isinstance(state, Trace):
+        state = state.state
+    text = str(state).encode("ascii") if isinstance(state, State) else _bytes(state)
+    status = expects(text, expectation.encode("utf-8"))
+    if status == 3:
+        raise Malformed(f"no expectation: {expectation!r}")
+    return status == 0

@@ -6,6 +6,10 @@ class Error(Exception):
     """What each of these is."""
 
 
+class NoLibrary(Error, ImportError):
+    """The library can't be loaded, or is another one. The package can't be imported then: it is an `ImportError`."""
+
+
 class Refused(Error, ValueError):
     """An input is refused. `str()` is the line of it, and what it means."""
 
@@ -81,7 +85,7 @@ class TooLong(Error, ValueError):
 
 
 class Malformed(Error, ValueError):
-    """A text is no line, no state or no trace."""
+    """A text is no command, no schedule, no expectation, no line, no state or no trace; or a number is none that a call takes."""
 
 
 class NoHistory(Error, LookupError):
@@ -90,3 +94,11 @@ class NoHistory(Error, LookupError):
 
 class Closed(Error, ValueError):
     """A session is closed, or another thread uses it."""
+
+
+class NoThread(Error, LookupError):
+    """There is no such thread."""
+
+
+class StepLimit(Error, OverflowError):
+    """A session has done all its steps: 1,000,000,000 of them, or 1,000,000,000,000 choices."""

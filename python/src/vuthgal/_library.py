@@ -1,11 +1,13 @@
 """libvuthgal: where it is, and how it is called."""
 import ctypes
 import os
+import struct
 import threading
-from pathlib import Path
-from typing import Any, List, Tuple
+from typing import Any, List, Optional, Tuple
 
-_HERE = Path(__file__).resolve().parent
+from ._errors import NoLibrary
+
+_HERE = os.path.dirname(os.path.realpath(__file__))
 
 # how many bytes a room for the output has at first, and how many it may have to be kept
 _ROOM = 1 << 16
@@ -15,13 +17,13 @@ _LINE_ROOM = 1 << 12
 
 def _load() -> ctypes.CDLL:
     """The library that VUTHGAL_LIBRARY names, that of this package, that of the clone, or the installed one."""
-    named = os.environ.get("VUTHGAL_LIBRARY")
-    if named:
-        return ctypes.CDLL(named)
-    for path in (_HERE / "libvuthgal.so.1", _HERE.parent.parent.parent / "lib" / "libvuthgal.so.1"):
-        if path.is_file():
-            return ctypes.CDLL(str(path))
-    return ctypes.CDLL("libvuthgal.so.1")
+    clone = os.path.join(os.path.dirname(os.path.dirname(os.path.dirname(_HERE))), "lib")
+    places = (os.path.join(folder, "libvuthgal.so.1") for folder in (_HERE, clone))
+    there = [path for path in places if os.path.isfile(path)]
+    try:
+        return ctypes.CDLL(os.environ.get("VUTHGAL_LIBRARY") or (*there, "libvuthgal.so.1")[0])
+    except OSError as error:
+        raise NoLibrary(f"libvuthgal can't be loaded: {error}") from error
 
 
 _library = _load()
@@ -30,11 +32,18 @@ _out = [ctypes.c_void_p, _size, ctypes.c_void_p]
 _in = [ctypes.c_char_p, _size]
 
 
-def _declared(name: str, inputs: int, extra: Tuple[Any, ...] = ()) -> Any:
-    call = getattr(_library, "vuthgal_" + name)
-    call.argtypes = _in * inputs + [*extra] + _out + _out
-    call.restype = ctypes.c_uint8
+def _call(name: str, inputs: "List[Any]", result: Any = ctypes.c_uint8) -> Any:
+    """A call of the library, by what it gets and what it returns."""
+    try:
+        call = getattr(_library, "vuthgal_" + name)
+    except AttributeError:
+        raise NoLibrary(f"{_library._name} is no libvuthgal, or an older one: it has no vuthgal_{name}") from None
+    call.argtypes, call.restype = inputs, result
     return call
+
+
+def _declared(name: str, inputs: int, extra: Tuple[Any, ...] = ()) -> Any:
+    return _call(name, _in * inputs + [*extra] + _out + _out)
 
 
 _calls = {
@@ -44,7 +53,8 @@ _calls = {
     "list": _declared("list", 1),
     "compare": _declared("compare", 2),
     "choices": _declared("choices", 1),
-    "plan": _declared("plan", 2),
+    "plan": _declared("plan", 2, (ctypes.c_uint32, ctypes.c_uint8)),
+    "seeds": _declared("seeds", 2, (ctypes.c_uint32, ctypes.c_uint32, ctypes.c_uint32, ctypes.c_uint8)),
     "show": _declared("show", 2),
     "draw": _declared("draw", 2, (ctypes.c_uint16,)),
     "debug": _declared("debug", 2),
@@ -59,17 +69,22 @@ class _Handle(ctypes.Structure):
 
 
 _handle = [ctypes.POINTER(_Handle)]
-_open = _library.vuthgal_session_open
-_open.argtypes, _open.restype = _handle + _in + _out, ctypes.c_uint8
-_command = _library.vuthgal_session_command
-_command.argtypes, _command.restype = _handle + _in + _out, ctypes.c_uint8
-_reply = _library.vuthgal_session_reply
-_reply.argtypes, _reply.restype = _handle + _out, ctypes.c_uint8
-_close = _library.vuthgal_session_close
-_close.argtypes, _close.restype = _handle, None
-
-_library.vuthgal_version.argtypes = _out
-_library.vuthgal_version.restype = None
+_at = ctypes.c_void_p
+_byte = ctypes.c_uint8
+_open = _call("session_open", _handle + _in + _out)
+_command = _call("session_command", _handle + _in + _out)
+_reply = _call("session_reply", _handle + _out)
+_close = _call("session_close", _handle, None)
+_step = _call("session_step", _handle + [_byte, _byte, _at])
+_back = _call("session_back", _handle)
+_enabled = _call("session_enabled", _handle + [_at, _at])
+_look = _call("session_look", _handle + [_at] + [_at, _size] * 4)
+_stack = _call("session_stack", _handle + [_byte, _at, _size, _at])
+_outputs = _call("session_outputs", _handle + [_byte, _at, _size, _at])
+_copy = _call("session_copy", _handle * 2)
+_other = _call("session_other", _handle + [_byte, _byte, ctypes.c_uint32] + _in + _out)
+_expect = _call("expect", _in * 2)
+_version = _call("version", _out, None)
 
 
 class _Room:
@@ -151,14 +166,56 @@ def fitted(name: str, *words: object, room: int, line_room: int) -> Tuple[int, b
 def version_text() -> str:
     count = _size()
     output = ctypes.create_string_buffer(512)
-    _library.vuthgal_version(ctypes.addressof(output), 512, ctypes.addressof(count))
+    _version(ctypes.addressof(output), 512, ctypes.addressof(count))
     return output.raw[: count.value].decode()
+
+
+def expects(state: bytes, expectation: bytes) -> int:
+    """0 where a state is as an expectation says, 1 where it isn't, 3 where that is none."""
+    status: int = _expect(state, len(state), expectation, len(expectation))
+    return status
+
+
+# the structs of the header, as bytes: an event, a state, a thread, a phaser, a barrier, an entry of a stack
+_EVENT = struct.Struct("<QiiHHBB2x")
+_STATE = struct.Struct("<QIBBBB")
+_THREAD = struct.Struct("<9i3H3B3x")
+_PHASER = struct.Struct("<i4H")
+_BARRIER = struct.Struct("<3HBx")
+_ENTRY = struct.Struct("<HBx")
+_CELLS = struct.Struct("<32i")
+
+
+class _Rooms:
+    """Rooms for a look at any state, which all sessions of a thread share. Each is bytes, and where they are."""
+
+    __slots__ = ("event", "state", "threads", "phasers", "barriers", "cells", "entries", "values", "places", "words", "word_places")
+
+    def __init__(self) -> None:
+        self.event = ctypes.create_string_buffer(_EVENT.size)
+        self.state = ctypes.create_string_buffer(_STATE.size)
+        self.threads = ctypes.create_string_buffer(64 * _THREAD.size)
+        self.phasers = ctypes.create_string_buffer(64 * _PHASER.size)
+        self.barriers = ctypes.create_string_buffer(64 * _BARRIER.size)
+        self.cells = ctypes.create_string_buffer(_CELLS.size)
+        self.entries = ctypes.create_string_buffer(64 * _ENTRY.size)
+        self.values = (ctypes.c_int32 * 4096)()
+        self.places = (
+            ctypes.addressof(self.state),
+            ctypes.addressof(self.threads), 64,
+            ctypes.addressof(self.phasers), 64,
+            ctypes.addressof(self.barriers), 64,
+            ctypes.addressof(self.cells), 32,
+        )
+        self.words = (ctypes.c_uint64 * 2)()
+        at = ctypes.addressof(self.words)
+        self.word_places = (at, at + 8)
 
 
 class Held:
     """A session that the library holds. One thread may use it at a time."""
 
-    __slots__ = ("_handle", "_at", "_room", "_count", "_places")
+    __slots__ = ("_handle", "_at", "_room", "_count", "_places", "_rooms")
 
     def __init__(self) -> None:
         self._handle = _Handle()
@@ -166,6 +223,12 @@ class Held:
         self._room = ctypes.create_string_buffer(512)
         self._count = _size()
         self._places = (ctypes.addressof(self._room), 512, ctypes.addressof(self._count))
+        self._rooms: Optional[_Rooms] = None
+
+    def rooms(self) -> _Rooms:
+        if self._rooms is None:
+            self._rooms = _Rooms()
+        return self._rooms
 
     @property
     def is_open(self) -> bool:
@@ -185,6 +248,65 @@ class Held:
         room = ctypes.create_string_buffer(count)
         status = _reply(self._at, ctypes.addressof(room), count, ctypes.addressof(self._count))
         return status, room.raw
+
+    def step(self, thread: int, expiry: bool) -> Tuple[int, Tuple[int, ...]]:
+        """The status, and the event: its number, value, view, row, object, what and mark."""
+        event = self.rooms().event
+        status = _step(self._at, thread, expiry, event)
+        return status, _EVENT.unpack(event)
+
+    def back(self) -> int:
+        """The status: 1 where nothing is kept that could be taken back."""
+        status: int = _back(self._at)
+        return status
+
+    def enabled(self) -> Tuple[int, int, int]:
+        """The status, and the two words: whose turn would do something, and whose time-out."""
+        rooms = self.rooms()
+        status = _enabled(self._at, *rooms.word_places)
+        return status, rooms.words[0], rooms.words[1]
+
+    def look(self) -> Tuple[int, Tuple[int, ...], "List[Any]", "List[Any]", "List[Any]", Tuple[int, ...]]:
+        """The status, and the numbers of the state, the threads, the phasers, the barriers and the cells."""
+        rooms = self.rooms()
+        status = _look(self._at, *rooms.places)
+        state = _STATE.unpack(rooms.state)
+        return (
+            status,
+            state,
+            [*_THREAD.iter_unpack(rooms.threads.raw[: state[2] * _THREAD.size])],
+            [*_PHASER.iter_unpack(rooms.phasers.raw[: state[3] * _PHASER.size])],
+            [*_BARRIER.iter_unpack(rooms.barriers.raw[: state[4] * _BARRIER.size])],
+            _CELLS.unpack(rooms.cells),
+        )
+
+    def stack(self, thread: int) -> "List[Any]":
+        """The number and the kind of each entry of a thread's stack."""
+        entries = self.rooms().entries
+        _stack(self._at, thread, entries, 64, ctypes.addressof(self._count))
+        return [*_ENTRY.iter_unpack(entries.raw[: self._count.value * _ENTRY.size])]
+
+    def outputs(self, thread: int) -> "List[int]":
+        """The values that a thread put out."""
+        values = self.rooms().values
+        _outputs(self._at, thread, values, 4096, ctypes.addressof(self._count))
+        return values[: self._count.value]
+
+    def copy_to(self, other: "Held") -> int:
+        """The status."""
+        status: int = _copy(self._at, other._at)
+        return status
+
+    def other(self, thread: int, expiry: bool, most: int, rest: bytes) -> Tuple[int, bytes]:
+        """The status, and the schedule of the other run."""
+        here = ctypes.create_string_buffer(_ROOM)
+        places = (ctypes.addressof(here), _ROOM, ctypes.addressof(self._count))
+        status = _other(self._at, thread, expiry, most, rest, len(rest), *places)
+        if self._count.value > _ROOM:
+            size = self._count.value
+            here = ctypes.create_string_buffer(size)
+            status = _other(self._at, thread, expiry, most, rest, len(rest), ctypes.addressof(here), size, places[2])
+        return status, ctypes.string_at(here, self._count.value)
 
     def close(self) -> None:
         _close(self._at)

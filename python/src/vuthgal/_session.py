@@ -1,15 +1,58 @@
 """A program that is played choice by choice."""
 import threading
+from operator import index
 from types import TracebackType
-from typing import List, Optional, Tuple, Type, Union
+from typing import Any, Hashable, Iterator, List, Optional, Tuple, Type, Union
 
-from ._calls import Text, _bytes, _told
-from ._errors import Closed, NoHistory
+from ._calls import Text, _program, _told
+from ._errors import Closed, Malformed, NoHistory, NoThread, StepLimit
 from ._library import Held
-from ._trace import Line, State
+from ._trace import Barrier, Cells, Line, Phaser, State, Thread, What
 
 #: The number of a thread, or its name in the program's text.
 ThreadName = Union[int, str]
+
+
+_STANDINGS = ("live", "stuck", "all")
+_STATUSES = ("runs", "throws", "waits", "waits", "ended", "died")
+_WHATS = tuple(What)[:11]
+_MARKS = (None, "+p", "+b", "-b")
+_ENTRIES = "CHAX"
+
+
+def _event(thread: int, expiry: bool, event: Tuple[int, ...]) -> Line:
+    """The line of an event: its number, value, view, row, object, what and mark."""
+    number, value, view, row, at, what, mark = event
+    return Line(
+        number,
+        f"{'x' if expiry else 't'}{thread}",
+        thread,
+        row,
+        _WHATS[what],
+        value if what in (2, 3, 5, 8, 9) else None,
+        f"{_MARKS[mark]}{at}" if mark else None,
+        view if mark == 1 else None,
+    )
+
+
+def _thread(number: int, numbers: Tuple[int, ...], stack: List[Any], outputs: List[int]) -> Thread:
+    """A thread of the numbers that a look has of it."""
+    status = numbers[13]
+    return Thread(
+        number,
+        numbers[9],
+        _STATUSES[status],
+        numbers[8] if status in (1, 5) else None,
+        bool(numbers[14]),
+        numbers[:8],
+        tuple(f"{_ENTRIES[kind]}{of}" for of, kind in stack),
+        tuple(outputs),
+    )
+
+
+def _place(numbers: Tuple[int, ...]) -> Optional[str]:
+    """Where a thread of these numbers waits."""
+    return {2: f"p{numbers[10]}", 3: f"b{numbers[10]}"}.get(numbers[13])
 
 
 def _names(program: bytes) -> List[str]:
@@ -25,6 +68,34 @@ def _names(program: bytes) -> List[str]:
     return names
 
 
+class _Use:
+    """The use of a session, for one call. It raises `Closed` where another thread uses it, or it is closed."""
+
+    __slots__ = ("held", "lock")
+
+    def __init__(self, held: Held) -> None:
+        self.held = held
+        self.lock = threading.Lock()
+
+    def __enter__(self) -> Held:
+        if not self.lock.acquire(False):
+            raise Closed("another thread uses the session")
+        if not self.held.is_open:
+            self.lock.release()
+            raise Closed("the session is closed")
+        return self.held
+
+    def __exit__(self, *error: object) -> None:
+        self.lock.release()
+
+
+def _choices(letter: str, word: int) -> Iterator[str]:
+    """The choices of the threads whose bits are set."""
+    while word:
+        yield f"{letter}{(word & -word).bit_length() - 1}"
+        word &= word - 1
+
+
 class Session:
     """A program that is played choice by choice, as `vuthgal debug` plays it: each step takes as long as the first.
 
@@ -35,45 +106,56 @@ class Session:
     One thread may use a session at a time. `close`, or the end of `with`, frees what it holds.
     """
 
-    __slots__ = ("_held", "_lock", "threads")
+    __slots__ = ("_held", "_used", "threads")
 
     def __init__(self, program: Text) -> None:
-        text = _bytes(program)
+        text = _program(program)
         #: the names of the threads, where the program is a text
         self.threads: Tuple[str, ...] = ()
-        self._lock = threading.Lock()
         self._held = Held()
+        self._used = _Use(self._held)
         status, line = self._held.open(text)
         _told(status, b"", line)
         self.threads = tuple(_names(text))
 
     def command(self, line: Union[str, bytes]) -> str:
-        """The reply to a command of the debugger, such as `k 3` or `g t0*3 t1`."""
+        """The reply to a command of the debugger, such as `k 3` or `g t0*3 t1`. It raises `Malformed` where the reply would be `?`."""
         command = line.encode("utf-8") if isinstance(line, str) else line
-        if not self._lock.acquire(False):
-            raise Closed("another thread uses the session")
-        try:
-            status, reply = self._held.command(command)
-        finally:
-            self._lock.release()
-        if status == 6:
-            raise Closed("the session is closed")
+        with self._used as held:
+            status, reply = held.command(command)
+        if reply == b"?\n":
+            raise Malformed(f"no command: {line!r}")
         return _told(status, reply, b"").decode("ascii")
 
     def _number(self, thread: ThreadName) -> int:
-        if isinstance(thread, int):
-            return thread
-        if thread not in self.threads:
-            raise ValueError(f"no thread is named {thread!r}")
-        return self.threads.index(thread)
+        """The number of a thread. It raises `NoThread` where there is none."""
+        if isinstance(thread, str):
+            if thread not in self.threads:
+                raise NoThread(f"no thread is named {thread!r}")
+            return self.threads.index(thread)
+        number = index(thread)
+        if not 0 <= number <= 63:
+            raise NoThread(f"no thread has the number {number}")
+        return number
+
+    def _choose(self, thread: ThreadName, expiry: bool) -> Line:
+        number = self._number(thread)
+        with self._used as held:
+            status, event = held.step(number, expiry)
+        if status == 7:
+            raise NoThread(f"no thread has the number {number}")
+        if status == 8:
+            raise StepLimit("the session has done all its steps")
+        _told(status, b"", b"")
+        return _event(number, expiry, event)
 
     def step(self, thread: ThreadName) -> Line:
-        """Plays a step of a thread. A step that is refused changes nothing: its line says `none` or `limit`."""
-        return Line.parse(self.command(b"s t%d" % self._number(thread))[:-1])
+        """Plays a step of a thread. It raises `NoThread` or `StepLimit` where the step is refused: then nothing changes."""
+        return self._choose(thread, False)
 
     def expire(self, thread: ThreadName) -> Line:
         """Lets the timed wait of a thread expire."""
-        return Line.parse(self.command(b"s x%d" % self._number(thread))[:-1])
+        return self._choose(thread, True)
 
     def go(self, schedule: str) -> str:
         """Plays a schedule: `end N` where all of it was played, `at N` at a breakpoint, `fault N ..` before a refused choice."""
@@ -81,18 +163,86 @@ class Session:
 
     def back(self, count: int = 1) -> None:
         """Takes back the last choices, one after another. The newest 4,096 are kept."""
-        for _ in range(count):
-            if self.command(b"b") == "no history\n":
-                raise NoHistory("no choice is kept that could be taken back")
+        if count < 0:
+            raise Malformed(f"{count} choices can't be taken back")
+        with self._used as held:
+            for _ in range(count):
+                if held.back():
+                    raise NoHistory("no choice is kept that could be taken back")
+
+    def enabled(self) -> "tuple[str, ...]":
+        """The choices that would do something now, as a schedule has them: `t0`, or `x0` where a timed wait can expire."""
+        with self._used as held:
+            _, turns, expiries = held.enabled()
+        return (*_choices("t", turns), *_choices("x", expiries))
+
+    def copy(self) -> "Session":
+        """A second session in the same state, with the same breakpoints, which goes on alone. It has nothing of the past to take
+        back."""
+        other = object.__new__(Session)
+        other.threads = self.threads
+        other._held = Held()
+        other._used = _Use(other._held)
+        with self._used as held:
+            _told(held.copy_to(other._held), b"", b"")
+        return other
+
+    __copy__ = copy
+
+    def __deepcopy__(self, known: object) -> "Session":
+        return self.copy()
+
+    def other(self, thread: ThreadName, rest: str = "", expiry: bool = False, most: int = 1_000_000) -> str:
+        """The schedule of another run, which makes this choice here: its thread goes on until it waits or ends, then come those
+        choices of `rest` that still do something, and then all threads take turns."""
+        if not 0 <= most < 1 << 32:
+            raise Malformed(f"no number of choices: {most}")
+        number = self._number(thread)
+        self.waits_at(number)
+        with self._used as held:
+            status, text = held.other(number, expiry, most, rest.encode("utf-8"))
+        if status == 3:
+            raise Malformed("no schedule, or one of more than 2,000 choices")
+        return _told(status, text, b"").decode("ascii")
+
+    def waits_at(self, thread: ThreadName) -> Optional[str]:
+        """Where a thread waits, as `p0` or `b1`; None where it doesn't."""
+        number = self._number(thread)
+        with self._used as held:
+            _, _, threads, *_ = held.look()
+        if number >= len(threads):
+            raise NoThread(f"no thread has the number {number}")
+        return _place(threads[number])
 
     @property
     def state(self) -> State:
         """How all stand now."""
-        return State.parse(self.command(b"p"))
+        with self._used as held:
+            _, counts, threads, phasers, barriers, cells = held.look()
+            stacks = [held.stack(n) if it[12] else [] for n, it in enumerate(threads)]
+            outputs = [held.outputs(n) if it[11] else [] for n, it in enumerate(threads)]
+        return State(
+            counts[0],
+            counts[1],
+            _STANDINGS[counts[5]],
+            tuple(_thread(n, it, stacks[n], outputs[n]) for n, it in enumerate(threads)),
+            tuple(Phaser(n, *it[:4]) for n, it in enumerate(phasers)),
+            tuple(Barrier(n, it[1], bool(it[3])) for n, it in enumerate(barriers)),
+            Cells(tuple((n, value) for n, value in enumerate(cells) if value)),
+        )
+
+    def fingerprint(self) -> Hashable:
+        """A value for a set of the states that were seen: equal where a look at two sessions of one program finds no difference but the
+        counts of choices and steps. A look doesn't see which registers a routine has saved, nor how a released wait will end."""
+        with self._used as held:
+            _, counts, threads, phasers, barriers, cells = held.look()
+            stacks = tuple(tuple(held.stack(n)) for n, it in enumerate(threads) if it[12])
+            outputs = tuple(tuple(held.outputs(n)) for n, it in enumerate(threads) if it[11])
+            return (counts[5], tuple(threads), tuple(phasers), tuple(barriers), cells, stacks, outputs, held.enabled())
 
     def close(self) -> None:
         """Frees what the session holds. A session that is closed raises `Closed`."""
-        with self._lock:
+        with self._used.lock:
             self._held.close()
 
     def __enter__(self) -> "Session":

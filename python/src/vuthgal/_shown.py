@@ -1,7 +1,6 @@
 """What a notebook shows."""
-import html
-from pathlib import Path
-from typing import Dict, Union
+import os
+from typing import Dict, NamedTuple, Union
 
 
 class Schedule(str):
@@ -9,6 +8,24 @@ class Schedule(str):
 
     #: whether the plan wanted one more choice than 1,000,000
     stopped: bool = False
+
+
+class Outcome(NamedTuple):
+    """A state that runs by seeds ended in."""
+
+    #: how many runs did
+    times: int
+    #: `all`, `stuck` or `live`, with `+died` where a thread died
+    word: str
+    #: the seed of the first such run, as the word of a plan: `?7`
+    seed: str
+    #: its schedule, or a plan with names
+    schedule: str
+
+    @staticmethod
+    def parse(line: str) -> "Outcome":
+        times, word, seed, schedule = (line + " ").split(" ", 3)
+        return Outcome(int(times), word, seed, schedule.rstrip(" "))
 
 
 class Page:
@@ -20,11 +37,14 @@ class Page:
         #: how many pixels high the frame is
         self.height: int = height
 
-    def save(self, path: Union[str, Path]) -> None:
+    def save(self, path: Union[str, "os.PathLike[str]"]) -> None:
         """Writes the page to a file, for a browser."""
-        Path(path).write_text(self.html, encoding="utf-8")
+        with open(path, "w", encoding="utf-8", newline="") as file:
+            file.write(self.html)
 
     def _repr_html_(self) -> str:
+        import html
+
         return (
             f'<iframe srcdoc="{html.escape(self.html, quote=True)}" sandbox="allow-scripts" '
             f'style="width: 100%; height: {self.height}px; border: 0"></iframe>'

@@ -1,21 +1,37 @@
 """For tests: two traces, and where they part."""
-from typing import Optional, Union
+import re
+from typing import List, Optional, Union
 
 from ._calls import Text, _bytes, choices, draw, run
 from ._errors import Error
 from ._trace import Trace
 
 
+def _lines(trace: bytes) -> List[bytes]:
+    """The lines of a trace, each with its LF: only an LF ends a line, and the last line may lack it."""
+    return [line for line in re.split(rb"(?<=\n)", trace) if line]
+
+
+def _shown(lines: List[bytes], at: int) -> str:
+    """A line, with what can't be seen of it."""
+    if at >= len(lines):
+        return "(no line)"
+    text = lines[at].decode("ascii", "backslashreplace")
+    body = text[:-1] if text.endswith("\n") else f"{text} (no LF)"
+    return "".join(sign if sign.isprintable() else repr(sign)[1:-1] for sign in body)
+
+
 def parting(program: Text, wanted: Union[Trace, Text], got: Union[Trace, Text], width: int = 80) -> Optional[str]:
     """None where two traces of a program are the same. Else the first line in which they part, and a drawing of the run up to it."""
-    left, right = ((bytes(it) if isinstance(it, Trace) else _bytes(it)).decode("ascii").splitlines() for it in (wanted, got))
+    left, right = (_lines(bytes(it) if isinstance(it, Trace) else _bytes(it)) for it in (wanted, got))
     if left == right:
         return None
     at = next((n for n, pair in enumerate(zip(left, right)) if pair[0] != pair[1]), min(len(left), len(right)))
     told = [f"the traces part at line {at + 1}:"]
-    told += [f"  {sign} {lines[at]}" if at < len(lines) else f"  {sign} (no line)" for sign, lines in (("-", left), ("+", right))]
+    told += [f"  {sign} {_shown(lines, at)}" for sign, lines in (("-", left), ("+", right))]
     try:
-        drawing: str = draw(program, choices("".join(f"{line}\n" for line in left[: at + 1] if line[0].isdigit()) + "state\n"), width)
+        played = b"".join(line for line in left[: at + 1] if line[:1].isdigit())
+        drawing: str = draw(program, choices(played + b"state\n"), width)
     except Error:
         drawing = ""
     return "\n".join([*told, drawing]).rstrip("\n")

@@ -5,51 +5,34 @@
 //! assert!(trace.starts_with("1 t0 0 = 0 +p0 1\n"));
 //! ```
 //!
-//! A program is the bytes of a text or of an image. docs/README.md lists the formats.
+//! A program is the bytes of a text or of an image, and not the path of a file. docs/README.md of Vuthgal lists the formats.
+//!
+//! Commands with another name here: `asm` is [`assemble`], `show` is [`page`], and `vuthgal` without arguments is [`run_text`].
 
+mod enabled;
+mod fault;
+mod line;
+mod looking;
+mod planning;
 mod session;
+mod state;
 mod trace;
 
-pub use session::Session;
-pub use trace::{Barrier, Line, Malformed, Phaser, State, Thread, Trace};
+pub use enabled::Enabled;
+pub use fault::Fault;
+pub use line::{Choice, Line, Mark, What};
+pub use planning::{plan, plan_within, seeds, Outcome, Planned, Written};
+pub use session::{Fingerprint, Gone, Place, Session};
+pub use state::{Barrier, Entry, Phaser, State, Status, Thread, Word};
+pub use trace::{Malformed, Trace};
 
 use std::cell::RefCell;
-use std::error::Error;
-use std::fmt;
 use vuthgal_sys as sys;
 
-/// What ends a call that doesn't do as it was asked.
-#[derive(Clone, Debug, PartialEq, Eq)]
-#[non_exhaustive]
-pub enum Fault {
-    /// An input is refused: the line of it, and what was written before.
-    Refused { line: String, output: Vec<u8> },
-    /// There is no memory: what stands there is a beginning of the whole.
-    Memory { output: Vec<u8> },
-    /// An input has more than 16,777,216 bytes, or words to explain have more than 65,536.
-    TooLong,
-    /// The session is closed, since there was no memory for a reply.
-    Closed,
-    /// The library returned what none does that this crate knows: a status, or a line.
-    Unknown { answer: String },
-}
-
-impl fmt::Display for Fault {
-    fn fmt(&self, f: &mut fmt::Formatter<'_>) -> fmt::Result {
-        match self {
-            Fault::Refused { line, .. } => match explain(line) {
-                Ok(Some(meaning)) => write!(f, "{line}\n{meaning}"),
-                _ => f.write_str(line),
-            },
-            Fault::Memory { .. } => f.write_str("memory"),
-            Fault::TooLong => f.write_str("an input has more bytes than it may have"),
-            Fault::Closed => f.write_str("the session is closed"),
-            Fault::Unknown { answer } => write!(f, "the library answers `{answer}`"),
-        }
-    }
-}
-
-impl Error for Fault {}
+/// The program of README.md is compiled and run, too.
+#[cfg(doctest)]
+#[doc = include_str!("../README.md")]
+struct Readme;
 
 /// What a comparison comes to. Lines count from 1.
 #[derive(Clone, Copy, Debug, PartialEq, Eq)]
@@ -64,13 +47,6 @@ pub enum Verdict {
 pub struct Choices {
     pub schedule: String,
     pub no_line: Option<u64>,
-}
-
-/// The schedule of a plan, and whether it wanted one more choice than 1,000,000.
-#[derive(Clone, Debug, PartialEq, Eq)]
-pub struct Planned {
-    pub schedule: String,
-    pub stopped: bool,
 }
 
 /// Up to how many bytes for the output a thread keeps for its next call.
@@ -131,11 +107,12 @@ fn text(bytes: Vec<u8>) -> String {
 /// Whether the status is 1, and the output; or the fault.
 fn answer((status, output, line): (u8, Vec<u8>, Vec<u8>)) -> Result<(bool, Vec<u8>), Fault> {
     match status {
-        0 | 1 => Ok((status == 1, output)),
-        3 => Err(Fault::Refused { line: text(line).trim_end().to_owned(), output }),
-        4 => Err(Fault::Memory { output }),
-        5 => Err(Fault::TooLong),
-        6 => Err(Fault::Closed),
+        sys::VUTHGAL_DONE | sys::VUTHGAL_UNLIKE => Ok((status == sys::VUTHGAL_UNLIKE, output)),
+        sys::VUTHGAL_REFUSED => Err(Fault::Refused { line: text(line).trim_end().to_owned(), output }),
+        sys::VUTHGAL_MEMORY => Err(Fault::Memory { output }),
+        sys::VUTHGAL_TOO_LONG => Err(Fault::TooLong),
+        sys::VUTHGAL_CLOSED => Err(Fault::Closed),
+        sys::VUTHGAL_LIMIT => Err(Fault::StepLimit),
         _ => Err(unknown(format!("status {status}"))),
     }
 }
@@ -144,14 +121,17 @@ fn unknown(answer: impl Into<String>) -> Fault {
     Fault::Unknown { answer: answer.into() }
 }
 
+/// A call of these inputs, and of the numbers behind `;`.
 macro_rules! call {
-    ($name:ident, $($input:expr),+ $(; $more:expr)?) => {
+    ($name:ident, $($input:expr),+ $(; $($more:expr),+)?) => {
         // The slices are valid for their lengths, the outputs are the room's own, and nothing overlaps.
-        answer(called(&|output, room, length, line, line_room, line_length| unsafe {
-            sys::$name($($input.as_ptr(), $input.len(),)+ $($more,)? output, room, length, line, line_room, line_length)
+        crate::answer(crate::called(&|output, room, length, line, line_room, line_length| unsafe {
+            vuthgal_sys::$name($($input.as_ptr(), $input.len(),)+ $($($more,)+)? output, room, length, line, line_room, line_length)
         }))
     };
 }
+
+pub(crate) use call;
 
 /// Plays a program under a schedule: the trace.
 pub fn run(program: &[u8], schedule: &[u8]) -> Result<String, Fault> {
@@ -205,10 +185,15 @@ pub fn choices(trace: &[u8]) -> Result<Choices, Fault> {
     Ok(Choices { schedule: lines.concat(), no_line })
 }
 
-/// The schedule that a plan stands for on a program.
-pub fn plan(program: &[u8], plan: &[u8]) -> Result<Planned, Fault> {
-    let (stopped, output) = call!(vuthgal_plan, program, plan)?;
-    Ok(Planned { schedule: text(output).trim_end().to_owned(), stopped })
+/// Whether a state is as an expectation says, as `vuthgal run --expect` decides it: `all`, `ended`, `stuck`, `live`, or words of a line
+/// of the state, as `t0 waits`.
+pub fn expect(state: &State, expectation: &str) -> Result<bool, Fault> {
+    let state = state.to_string();
+    match unsafe { sys::vuthgal_expect(state.as_ptr(), state.len(), expectation.as_ptr(), expectation.len()) } {
+        sys::VUTHGAL_DONE => Ok(true),
+        sys::VUTHGAL_UNLIKE => Ok(false),
+        _ => Err(Fault::Malformed { text: expectation.to_owned() }),
+    }
 }
 
 /// The page that shows a run, for a browser.
@@ -216,7 +201,7 @@ pub fn page(program: &[u8], schedule: &[u8]) -> Result<String, Fault> {
     Ok(text(call!(vuthgal_show, program, schedule)?.1))
 }
 
-/// A run drawn as text, in lines of at most `width` bytes, from 60 to 1000.
+/// A run drawn as text, in lines of at most `width` bytes. What has no room is cut: below 60 little is left to read.
 pub fn draw(program: &[u8], schedule: &[u8], width: u16) -> Result<String, Fault> {
     Ok(text(call!(vuthgal_draw, program, schedule; width)?.1))
 }
@@ -235,7 +220,7 @@ pub fn explain(words: &str) -> Result<Option<String>, Fault> {
 }
 
 fn explained(told: (u8, Vec<u8>, Vec<u8>)) -> Result<Option<String>, Fault> {
-    if told.0 == 2 {
+    if told.0 == sys::VUTHGAL_NO_LINE {
         return Ok(None);
     }
     Ok(Some(text(answer(told)?.1)))

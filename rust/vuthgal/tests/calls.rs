@@ -1,5 +1,6 @@
 //! Each call once, on a program of two threads that meet; the expected texts are those of examples/ and docs/TRACES.md.
-use vuthgal::{Fault, Verdict};
+use std::collections::HashSet;
+use vuthgal::{Choice, Entry, Fault, Gone, Line, Mark, Place, Session, State, Trace, Verdict, What, Word, Written};
 
 const PROGRAM: &[u8] = include_bytes!("../../../examples/meeting.asm");
 const SCHEDULE: &[u8] = include_bytes!("../../../examples/meeting.schedule");
@@ -21,6 +22,8 @@ fn plans_and_names() {
     let planned = vuthgal::plan(PROGRAM, b"a. b. a.").unwrap();
     assert_eq!((planned.schedule.as_str(), planned.stopped), ("t0 t1*3 t0*3", false));
     assert_eq!(vuthgal::choices(TRACE.as_bytes()).unwrap().schedule, "t0 t1 t0*3 t1*2");
+    let some = vuthgal::plan_within(PROGRAM, b"t0 t1*3 t0*9", 5, Written::Names).unwrap();
+    assert_eq!((some.schedule.as_str(), some.stopped), ("a b*3 a", true));
     let none = vuthgal::choices(b"1 t0 0 end\nhm\n").unwrap();
     assert_eq!((none.schedule.as_str(), none.no_line), ("t0", Some(2)));
 }
@@ -44,31 +47,146 @@ fn tells() {
 }
 
 #[test]
+fn seeds_lead_to_ends() {
+    let outcomes = vuthgal::seeds(PROGRAM, b"", 3..43, 0, Written::Names).unwrap();
+    assert_eq!(outcomes.len(), 1);
+    assert_eq!((outcomes[0].times, outcomes[0].word, outcomes[0].died, outcomes[0].seed), (40, Word::All, false, 3));
+    let schedule = vuthgal::plan(PROGRAM, outcomes[0].schedule.as_bytes()).unwrap().schedule;
+    assert!(vuthgal::run(PROGRAM, schedule.as_bytes()).unwrap().contains("state 7 7 all"));
+    assert_eq!(vuthgal::seeds(PROGRAM, b"", 5..5, 0, Written::Numbers), Ok(Vec::new()));
+}
+
+#[test]
+fn what_is_expected() {
+    let state = TRACE.parse::<Trace>().unwrap().state;
+    assert_eq!(vuthgal::expect(&state, "all"), Ok(true));
+    assert_eq!(vuthgal::expect(&state, "t0 waits"), Ok(false));
+    assert_eq!(vuthgal::expect(&state, "hm"), Err(Fault::Malformed { text: "hm".into() }));
+}
+
+fn turn(thread: u8) -> Choice {
+    Choice { thread, expiry: false }
+}
+
+#[test]
 fn a_session_goes_on() {
-    let mut session = vuthgal::Session::open(PROGRAM).unwrap();
-    let whole: vuthgal::Trace = TRACE.parse().unwrap();
+    let mut session = Session::open(PROGRAM).unwrap();
+    let whole: Trace = TRACE.parse().unwrap();
     for line in &whole.lines {
-        assert_eq!(session.step(line.thread).as_ref(), Ok(line));
+        assert_eq!(session.step(line.choice.thread).as_ref(), Ok(line));
     }
-    assert_eq!(session.state().unwrap(), whole.state);
-    assert_eq!(session.step(9).unwrap().what, "none");
+    assert_eq!(session.state().as_ref(), Ok(&whole.state));
     for _ in &whole.lines {
-        assert_eq!(session.back(), Ok(true));
+        assert_eq!(session.back(), Ok(()));
     }
-    assert_eq!(session.back(), Ok(false));
+    assert_eq!(session.back(), Err(Fault::NoHistory));
     assert_eq!(session.state().unwrap().phasers[0].view, 0);
     assert_eq!(session.command("g t0 t1"), Ok("end 2\n".to_owned()));
-    assert!(matches!(vuthgal::Session::open(b"ldi r8 1\n"), Err(Fault::Refused { line, .. }) if line == "refused asm 1 5"));
+    assert!(matches!(Session::open(b"ldi r8 1\n"), Err(Fault::Refused { line, .. }) if line == "refused asm 1 5"));
     std::thread::spawn(move || session.step(0).unwrap()).join().unwrap();
 }
 
 #[test]
+fn what_is_wrong_has_a_name() {
+    let mut session = Session::open(PROGRAM).unwrap();
+    for thread in [2, 9, 63, 64, 255] {
+        let none = Fault::NoThread { thread: format!("t{thread}") };
+        assert_eq!(session.step(thread), Err(none.clone()));
+        assert_eq!(session.waits_at(thread), Err(none.clone()));
+        assert_eq!(session.other(turn(thread), "", 10), Err(none));
+    }
+    assert_eq!(session.expire(9), Err(Fault::NoThread { thread: "x9".into() }));
+    assert_eq!(session.thread("c"), Err(Fault::NoThread { thread: "c".into() }));
+    assert_eq!(session.command("hm"), Err(Fault::Malformed { text: "hm".into() }));
+    assert_eq!(session.go("zz"), Err(Fault::Malformed { text: "g zz".into() }));
+    assert_eq!(session.other(turn(0), "zz", 10), Err(Fault::Malformed { text: "zz".into() }));
+    assert_eq!(session.go("t1 t9"), Ok(Gone::Refused { choices: 1, what: What::None }));
+    assert_eq!(session.command("k 1"), Ok("break 1\n".into()));
+    assert_eq!(session.go("t0*9"), Ok(Gone::Break { choices: 1 }));
+    assert_eq!(session.go("t1*4"), Ok(Gone::Break { choices: 1 }));
+    assert_eq!(session.go("t1*4"), Ok(Gone::End { choices: 4 }));
+    assert_eq!(session.state().unwrap().choices, 7);
+}
+
+#[test]
+fn a_copy_goes_on_alone() {
+    let mut first = Session::open(PROGRAM).unwrap();
+    assert_eq!((first.names(), first.thread("b")), (&["a".to_owned(), "b".to_owned()][..], Ok(1)));
+    assert_eq!(first.enabled().collect::<Vec<_>>(), [turn(0), turn(1)]);
+    first.step(0).unwrap();
+    assert_eq!((first.enabled().len(), first.enabled().contains(turn(0)), first.enabled().contains(turn(1))), (1, false, true));
+    assert_eq!((first.waits_at(0), first.waits_at(1)), (Ok(Some(Place::Phaser(0))), Ok(None)));
+    let mut second = first.copy().unwrap();
+    assert_eq!((second.state(), second.fingerprint()), (first.state(), first.fingerprint()));
+    assert_eq!(second.back(), Err(Fault::NoHistory));
+    assert_eq!(second.step(1).unwrap().mark, Some(Mark::PhaseEnded { root: 0, view: 1 }));
+    assert_eq!((first.state().unwrap().choices, second.enabled().len()), (1, 2));
+    assert_eq!(first.other(turn(1), "t0*3", 100), Ok("t1*3 t0*3".into()));
+    let mut seen = HashSet::new();
+    assert!(seen.insert(first.fingerprint().unwrap()) && seen.insert(second.fingerprint().unwrap()));
+    second.back().unwrap();
+    assert!(!seen.insert(second.fingerprint().unwrap()));
+}
+
+#[test]
+fn a_timed_wait_can_expire() {
+    let mut session = Session::open(include_bytes!("../../../examples/timed-wait.asm")).unwrap();
+    let expiry = (0..20).find_map(|_| session.enabled().find(|it| it.expiry).or_else(|| session.step(0).map(|_| None).unwrap()));
+    let line = session.play(expiry.unwrap()).unwrap();
+    assert_eq!((line.what, line.choice.to_string()), (What::Throw, "x0".into()));
+}
+
+/// Each value prints as the trace has it, and a state that is looked at is the one that is read.
+#[test]
+fn values_are_those_of_each_trace() {
+    let mut seen = 0;
+    for folder in ["", "lessons/", "tutorial/"] {
+        for file in std::fs::read_dir(format!("../../examples/{folder}")).unwrap() {
+            let file = file.unwrap().path();
+            if file.extension().map_or(true, |it| it != "trace") {
+                continue;
+            }
+            let text = std::fs::read_to_string(&file).unwrap();
+            let trace: Trace = text.parse().unwrap();
+            assert_eq!(trace.to_string(), text);
+            let program = match std::fs::read(file.with_extension("asm")) {
+                Ok(program) => program,
+                Err(_) => continue,
+            };
+            let mut session = Session::open(&program).unwrap();
+            for line in &trace.lines {
+                match session.play(line.choice) {
+                    Ok(played) => assert_eq!(&played, line),
+                    Err(fault) => assert_eq!((line.what, fault), (What::None, Fault::NoThread { thread: line.choice.to_string() })),
+                }
+            }
+            assert_eq!(session.state().unwrap(), trace.state);
+            assert_eq!(session.enabled().len() == 0, trace.state.word != Word::Live);
+            seen += 1;
+        }
+    }
+    assert!(seen >= 10, "{seen}");
+}
+
+#[test]
 fn a_trace_is_read() {
-    let trace: vuthgal::Trace = TRACE.parse().unwrap();
-    assert_eq!((trace.lines[1].mark.as_deref(), trace.lines[1].view, trace.lines[1].value), (Some("+p0"), Some(1), Some(1)));
-    assert_eq!((trace.state.word.as_str(), trace.state.phasers[0].parties, trace.state.threads[0].out[0]), ("all", 2, 1));
-    for text in ["", "1 t0 0 = 0\n", "state 1\n", "state 1 1 all\nt0 0\n", "hm\nstate 1 1 all\n"] {
-        assert!(text.parse::<vuthgal::Trace>().is_err(), "{text}");
+    let trace: Trace = TRACE.parse().unwrap();
+    assert_eq!((trace.lines[1].mark, trace.lines[1].view()), (Some(Mark::PhaseEnded { root: 0, view: 1 }), Some(1)));
+    assert_eq!((trace.lines[1].what, trace.lines[1].value), (What::Result, Some(1)));
+    assert_eq!((trace.state.word, trace.state.phasers[0].parties, trace.state.threads[0].out[0]), (Word::All, 2, 1));
+    for text in ["", "1 t0 0 = 0\n", "state 1\n", "state 1 1 all\nt0 0\n", "hm\nstate 1 1 all\n", "\nstate 1 1 all\n"] {
+        assert!(text.parse::<Trace>().is_err(), "{text}");
+    }
+    for text in ["01 t0 0 end", "1 t05 0 wait", "1 t0 0 wait ", "1 t0 0 hm", "1 t0 0 ok +b0 1", "1 t0 0 end\n", "?", ""] {
+        assert!(text.parse::<Line>().is_err(), "{text}");
+    }
+    let stack: Vec<Entry> = ["C5", "H7", "A0", "X2"].iter().map(|it| it.parse().unwrap()).collect();
+    assert_eq!((stack[0], stack[3]), (Entry::Call { row: 5 }, Entry::Action { barrier: 2 }));
+    assert!(["", "C", "Z1", "\u{e9}1"].iter().all(|it| it.parse::<Entry>().is_err()));
+    let cells = "state 1 1 live\nt0 0 runs 0 regs 0 0 0 0 0 0 0 0 stack A0 out\nb0 1 0\nc3 -7\n";
+    assert_eq!(cells.parse::<State>().unwrap().cells[&3], -7);
+    for text in [cells.replace("-7", "-7 "), cells.replace("c3", "c03"), cells.replace("b0 1 0", "b0 1 2"), cells.trim().to_owned()] {
+        assert!(text.parse::<State>().is_err(), "{text}");
     }
 }
 

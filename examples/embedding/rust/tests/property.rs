@@ -69,7 +69,7 @@ fn agrees(case: &Case, leaves: Leaves) -> bool {
     let trace = traced(case);
     let told = trace.lines().map(|line| line.splitn(4, ' ').nth(3).unwrap_or(""));
     let answered = answers.iter().zip(told).all(|(answer, line)| {
-        line.strip_prefix(answer.as_str()).is_some_and(|mark| mark.is_empty() || mark.starts_with(" +"))
+        line.strip_prefix(answer.as_str()).map_or(false, |mark| mark.is_empty() || mark.starts_with(" +"))
     });
     answered && trace.lines().last().unwrap().starts_with(&stands)
 }

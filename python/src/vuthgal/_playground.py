@@ -1,0 +1,108 @@
+"""The app, vuthgal.html, with a program in it: for a notebook, or as a file that a browser opens. No server runs, and the library isn't
+called: the app plays the program itself."""
+import argparse
+import html
+import json
+import re
+import tempfile
+import webbrowser
+from pathlib import Path
+from typing import Dict, List, Optional, Sequence, Union
+
+HERE = Path(__file__).resolve().parent
+# beside the package, or in the clone to which it belongs
+PLACES = (HERE / "vuthgal.html", HERE.parents[2] / "vuthgal.html")
+MOST = 4_000_000
+
+
+def _app() -> str:
+    for path in PLACES:
+        if path.is_file():
+            return path.read_text(encoding="utf-8")
+    raise FileNotFoundError("vuthgal.html isn't here: bin/made app makes it")
+
+
+def _filled(page: str, name: str, value: object) -> str:
+    """The page with a value in its place of this name, as data that no browser runs."""
+    text = json.dumps(value).replace("<", "\\u003c").replace(">", "\\u003e").replace("&", "\\u0026")
+    place = re.compile(f'(<script type="application/json" id="{name}">)[^<]*(</script>)')
+    return place.sub(lambda found: found[1] + text + found[2], page, count=1)
+
+
+def _read(path: Path) -> Dict[str, str]:
+    """A program's file: its text and its plan, which is behind its line `.run`, or in a file beside it."""
+    if path.stat().st_size > MOST:
+        raise ValueError(f"{path} has more than {MOST} bytes")
+    run, behind = "", ""
+    program = path.read_text(encoding="utf-8", errors="replace")
+    found = re.search(r"^[ \t]*\.run[ \t\r]*(?:;.*)?$\n?", program, re.M)
+    if found:
+        program, run = program[: found.start()], program[found.end():]
+    for suffix in (".plan", ".schedule"):
+        if path.with_suffix(suffix).is_file() and not run:
+            behind = path.with_suffix(suffix).read_text(encoding="utf-8", errors="replace")
+            break
+    return {"name": path.stem, "title": path.stem, "program": program, "plan": " ".join((run or behind or "..").split())}
+
+
+class Playground:
+    """The app with a program in it. A notebook shows it in a frame of its own."""
+
+    def __init__(self, text: str, height: int) -> None:
+        #: the page
+        self.html: str = text
+        #: how many pixels high the frame is
+        self.height: int = height
+
+    def save(self, path: Union[str, Path]) -> None:
+        """Writes the page to a file, for a browser."""
+        Path(path).write_text(self.html, encoding="utf-8")
+
+    def _repr_html_(self) -> str:
+        return (
+            f'<iframe srcdoc="{html.escape(self.html, quote=True)}" sandbox="allow-scripts allow-modals allow-downloads" '
+            f'style="width: 100%; height: {self.height}px; border: 0"></iframe>'
+        )
+
+    def __repr__(self) -> str:
+        return f"<Playground of {len(self.html)} characters>"
+
+
+def playground(program: Union[str, Path, None] = None, plan: Optional[str] = None, *, height: int = 720) -> Playground:
+    """The app with a program in it, or with the examples alone. A path names a file, or a folder whose programs are in the menu."""
+    page = _app()
+    if isinstance(program, Path) and program.is_dir():
+        items = [{"group": program.name, **_read(path)} for path in sorted(program.rglob("*.asm"))]
+        if not items:
+            raise FileNotFoundError(f"{program} has no program: a file whose name ends with .asm")
+        return Playground(_filled(page, "programs", items), height)
+    if program is not None:
+        read = _read(program) if isinstance(program, Path) else {"name": "program", "title": "", "program": program, "plan": ".."}
+        page = _filled(page, "run", {**read, "plan": plan or read["plan"]})
+    return Playground(page, height)
+
+
+def main(words: Optional[Sequence[str]] = None) -> int:
+    """The command vuthgal-playground."""
+    parser = argparse.ArgumentParser(prog="vuthgal-playground", description="Opens a browser with the app and a program in it.")
+    parser.add_argument("file", nargs="?", type=Path, metavar="FILE|FOLDER", help="a program, or a folder of programs")
+    parser.add_argument("--plan", help="who goes, such as 'ann. bob ..'")
+    parser.add_argument("-o", "--output", type=Path, help="writes the page to this file, and opens no browser")
+    given = parser.parse_args(words)
+    try:
+        if given.file is not None and not given.file.exists():
+            raise FileNotFoundError(f"{given.file} isn't there")
+        page = playground(given.file, given.plan)
+        if given.output:
+            page.save(given.output)
+            return 0
+        path = Path(tempfile.mkdtemp(prefix="vuthgal-")) / f"{given.file.stem if given.file else 'vuthgal'}.html"
+        page.save(path)
+    except (OSError, ValueError) as fault:
+        parser.exit(5, f"vuthgal-playground: {fault}\n")
+    if not webbrowser.open(path.as_uri()):
+        print(f"no browser was found; open {path}")
+    return 0
+
+
+__all__: List[str] = ["Playground", "main", "playground"]
