@@ -30,6 +30,7 @@ final class BurstByLists {
     /** When the last step of each thread ended. */
     private final Map<Integer, Long> ended = new HashMap<>();
     private int numbers;
+    private long went;
     private int running;
 
     BurstByLists(Burst burst, Stage stage) {
@@ -74,6 +75,7 @@ final class BurstByLists {
         for (int thread = 0; thread < burst.threads().size(); thread++) {
             give(thread, burst.threads().get(thread));
         }
+        went = System.nanoTime();
         go();
     }
 
@@ -140,6 +142,12 @@ final class BurstByLists {
         if (!history.hasOpen() && !given.isEmpty()) {
             throw new Hangs("thread " + name(given.keySet().iterator().next()) + " is in no call, and doesn't end its list");
         }
+    }
+
+    /** By the port's clock: that of this JVM may be another, but both began with the first call. */
+    long now() {
+        long first = history.entries().stream().mapToLong(BurstEntry::beganAt).min().orElse(0);
+        return first + System.nanoTime() - went;
     }
 
     private void step(int thread, Deque<Given> list, BurstLine line) {

@@ -16,6 +16,8 @@ final class BurstHistory {
     private final Queue<Entered> asked = new ConcurrentLinkedQueue<>();
     /** What this thread has begun, where it makes the calls itself. */
     private final ThreadLocal<BurstEntry> begun = new ThreadLocal<>();
+    private long givenUpAt;
+    private List<String> seen = List.of();
 
     /** {@code timed}: its clock is that of the real side, in nanoseconds, and it is told what began and ended when. */
     BurstHistory(Burst burst, boolean timed) {
@@ -29,6 +31,22 @@ final class BurstHistory {
 
     Burst burst() {
         return burst;
+    }
+
+    /** Some wait for ever. {@code now} is of the clock of {@code beganAt}, and {@code lines} tell what the real side is like. */
+    void giveUp(long now, List<String> lines) {
+        givenUpAt = now;
+        seen = List.copyOf(lines);
+    }
+
+    /** How long a call without an answer had gone on when it was given up, in nanoseconds. */
+    long waited(BurstEntry entry) {
+        return givenUpAt - entry.beganAt();
+    }
+
+    /** What the real side was like when it was given up, in some lines. */
+    List<String> seen() {
+        return seen;
     }
 
     BurstEntry begin(int thread, BurstStep step) {

@@ -2,8 +2,11 @@ package kit.player;
 
 import java.util.ArrayList;
 import java.util.List;
+import java.util.Map;
 import java.util.Set;
+import java.util.TreeMap;
 import java.util.function.Consumer;
+import java.util.regex.Pattern;
 import java.util.stream.Collectors;
 
 /** A kind of burst: its name, how one of it is put together, and what happens in it, in a sentence. */
@@ -33,6 +36,25 @@ record BurstKind(String name, Consumer<BurstMaker> maker, String words) {
     private static final Set<String> WITHOUT_POINTS = Set.of("time-at-the-advance", "time-that-runs-out", "time-among-pokes",
         "the-longest-time", "a-crowd-at-a-phase", "time-at-the-trip", "time-during-the-action", "the-longest-time-at-a-barrier",
         "a-crowd-at-a-barrier", "time-that-breaks");
+
+    /** For a symptom, a part of the names of the kinds that look for it. */
+    private static final Map<String, Pattern> SYMPTOMS = new TreeMap<>(Map.of(
+        "action", Pattern.compile("action|^trips$"),
+        "hang", Pattern.compile("meetings|^trips$|crowd|barg|alone$|alone-at|wait-against|two-who|at-an-empty|at-once"),
+        "interrupt", Pattern.compile("interrupt"),
+        "reset", Pattern.compile("reset|broken|break|barging$|looks-at-a-barrier"),
+        "time", Pattern.compile("time"),
+        "tree", Pattern.compile("tree|child")));
+
+    static Set<String> symptoms() {
+        return SYMPTOMS.keySet();
+    }
+
+    /** The names of the kinds for one of these symptoms. */
+    static Set<String> like(String symptom) {
+        return ALL.stream().map(BurstKind::name).filter(name -> SYMPTOMS.get(symptom).matcher(name).find())
+            .collect(Collectors.toSet());
+    }
 
     boolean needsPoints() {
         return !WITHOUT_POINTS.contains(name);

@@ -3,6 +3,7 @@ package kit.player;
 import java.io.IOException;
 import java.nio.file.Files;
 import java.nio.file.Path;
+import java.util.ArrayList;
 import java.util.Arrays;
 import java.util.LinkedHashMap;
 import java.util.List;
@@ -73,6 +74,17 @@ final class BurstKit {
             new Told(2, await, 1, Long.MAX_VALUE, null), new Told(1, await, 3, Long.MAX_VALUE, null));
         checkSays(bothLost, "  no order explains these alone, whatever the other 1 did:\n    thread 2: awaitAdvance 0 0 has no answer\n"
             + "  with these made, whatever they answer:\n    thread 0: arrive 0\n    thread 1: arrive 0\n");
+        checkSays(bothLost, " s  awaitAdvance 0 0, after arrive 0 = 0\n    thread 2 ");
+        List<Told> many = new ArrayList<>(List.of(new Told(0, arrive, 1, 2, Answer.value(0)),
+            new Told(1, look, 99, 100, Answer.value(7))));
+        for (int time = 3; time < 99; time += 2) {
+            many.add(new Told(1, look, time, time + 1, Answer.value(0)));
+        }
+        String folded = report(many.toArray(Told[]::new));
+        checkSays(folded, "    0..1 thread 0: arrive 0 = 0\n    2..97 thread 1: getPhase 0 = 0, 48 times\n    98..99 thread 1: ");
+        checkSays(folded, " order:\n    thread 0: arrive 0 = 0\n    thread 1: getPhase 0 = 0, 48 times\n  no order explains");
+        checkSays(Excerpt.lines("a\n".repeat(61), "; kept"), "a\n  .. 2 more lines; kept\na\n");
+        checkSays(Excerpt.lines("a\n".repeat(60), "; kept") + "end", "a\n".repeat(60) + "end");
         String right = report(new Told(0, arrive, 1, 2, Answer.value(0)), new Told(2, await, 1, Long.MAX_VALUE, null));
         part.take("a wait that has to be", !right.contains("no order explains these"), right);
         checkLongOne(arrive);

@@ -24,13 +24,15 @@ final class BurstPlayer {
 
     private final Stage stage;
     private final long bound;
+    private final boolean leaves;
     /** The wait that is a poke; null where there is none. */
     private Call poke;
 
-    /** What takes longer than {@code bound}, in nanoseconds, is taken to wait for ever. */
-    BurstPlayer(Stage stage, long bound) {
+    /** What takes longer than {@code bound}, in nanoseconds, is taken to wait for ever; {@code leaves}: a port that hangs is left. */
+    BurstPlayer(Stage stage, long bound, boolean leaves) {
         this.stage = stage;
         this.bound = bound;
+        this.leaves = leaves;
     }
 
     /** Its history; calls that wait for ever have no answer in it. Unplayable where the real side can't make the objects. */
@@ -53,7 +55,7 @@ final class BurstPlayer {
         if (!through) {
             stage.askSoFar();
             lists.takeSoFar();
-            stage.abandon();
+            giveUp(lists.history(), lists.now());
         }
         return lists.history();
     }
@@ -115,9 +117,19 @@ final class BurstPlayer {
         }
         start(runners);
         if (!follow(burst, history, events, threads) || !look(burst, history, runners)) {
-            stage.abandon();
+            giveUp(history, System.nanoTime());
         }
         return history;
+    }
+
+    private void giveUp(BurstHistory history, long now) {
+        List<String> seen = new ArrayList<>(stage.seen());
+        String left = leaves ? stage.leave() : null;
+        if (left != null) {
+            seen.add(left);
+        }
+        stage.abandon();
+        history.giveUp(now, seen);
     }
 
     private void build(Burst burst, BurstHistory history) {

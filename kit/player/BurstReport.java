@@ -2,6 +2,7 @@ package kit.player;
 
 import java.util.ArrayList;
 import java.util.Collections;
+import java.util.Comparator;
 import java.util.List;
 import java.util.Locale;
 
@@ -9,6 +10,9 @@ import java.util.Locale;
 final class BurstReport {
     /** How the first line of a kept burst begins; the seed and the round follow. */
     static final String HEAD = "burst";
+
+    /** From so many on, repeated calls are one line. */
+    private static final int MANY = 3;
 
     private final BurstHistory history;
     private final BurstJudge.Finding finding;
@@ -28,10 +32,11 @@ final class BurstReport {
         Burst burst = history.burst();
         line(head(burst));
         line("  " + finding.words());
+        waits();
         objects(burst);
         line("  in the order in which they began, each with its begin and its end"
             + (history.isTimed() ? ", in nanoseconds:" : ":"));
-        history.entries().forEach(this::entry);
+        entries();
         List<Entered> left = new ArrayList<>(history.asked());
         history.entries().forEach(entry -> entry.asked().forEach(left::remove));
         left.forEach(where -> line("    " + asked(where)));
@@ -44,13 +49,28 @@ final class BurstReport {
         return text.toString();
     }
 
+    /** Who has no answer, for how long, and what it did before. */
+    private void waits() {
+        List<BurstEntry> open = history.entries().stream()
+            .filter(entry -> entry.isOpen() && (history.isTimed() || !entry.step().interrupts()))
+            .sorted(Comparator.comparingInt(BurstEntry::thread)).toList();
+        for (BurstEntry entry : open) {
+            String before = history.entries().stream().filter(other -> !other.isOpen() && other.thread() == entry.thread())
+                .reduce((first, second) -> second).map(last -> ", after " + withoutThread(last.words())).orElse("");
+            line(String.format(Locale.ROOT, "    thread %-3d%6.1f s  %s%s", entry.thread(), history.waited(entry) / 1e9,
+                withoutThread(call(entry)), before));
+        }
+        history.seen().forEach(words -> line("  " + words));
+    }
+
     private void core() {
         BurstCore core = BurstCore.of(history);
         if (core == null) {
             return;
         }
         String alone = core.isWhole() ? "alone" : "alone, or fewer of them";
-        line("  no order explains these " + alone + ", whatever the other " + core.others() + " did:");
+        line("  no order explains these " + alone
+            + (core.others() == 0 ? ":" : ", whatever the other " + core.others() + " did:"));
         core.judged().forEach(entry -> line("    " + entry.words()));
         if (!core.needed().isEmpty()) {
             line("  with these made, whatever they answer:");
@@ -66,7 +86,11 @@ final class BurstReport {
     }
 
     private static String call(BurstEntry entry) {
-        return "thread " + entry.thread() + ": " + entry.request().words();
+        return entry.step().interrupts() ? entry.words() : "thread " + entry.thread() + ": " + entry.request().words();
+    }
+
+    private static String withoutThread(String words) {
+        return words.replaceFirst("^thread \\d+: ", "");
     }
 
     private void objects(Burst burst) {
@@ -89,9 +113,37 @@ final class BurstReport {
         return "onAdvance of phaser " + where.object() + " was asked: phase " + where.phase() + ", parties " + where.parties();
     }
 
-    private void entry(BurstEntry entry) {
-        line("    " + at(entry.begin()) + ".." + (entry.isOpen() ? "" : at(entry.end())) + " " + entry.words()
-            + (entry.entered().isEmpty() ? "" : ", ran the action"));
+    /** Each, or, of one that a thread repeats, the first begin and the last end. */
+    private void entries() {
+        List<BurstEntry> entries = history.entries();
+        int next;
+        for (int from = 0; from < entries.size(); from = next) {
+            BurstEntry entry = entries.get(from);
+            next = from + 1;
+            while (next < entries.size() && isRepeated(entry, entries.get(next))) {
+                next++;
+            }
+            if (next - from < MANY) {
+                entries.subList(from, next).forEach(each -> entry(each, each, ""));
+            } else {
+                entry(entry, entries.get(next - 1), times(next - from));
+            }
+        }
+    }
+
+    /** Whether nothing but the time is another. */
+    private static boolean isRepeated(BurstEntry entry, BurstEntry next) {
+        return entry.thread() == next.thread() && entry.words().equals(next.words()) && !entry.isOpen() && !next.isOpen()
+            && entry.entered().equals(next.entered()) && entry.asked().equals(next.asked());
+    }
+
+    private static String times(int count) {
+        return ", " + count + " times";
+    }
+
+    private void entry(BurstEntry entry, BurstEntry last, String times) {
+        line("    " + at(entry.begin()) + ".." + (last.isOpen() ? "" : at(last.end())) + " " + entry.words()
+            + (entry.entered().isEmpty() ? "" : ", ran the action") + times);
         entry.asked().forEach(where -> line("      in it " + asked(where)));
     }
 
@@ -109,15 +161,32 @@ final class BurstReport {
         List<BurstEntry> order = new ArrayList<>(LegalHistory.orderBefore(history, first));
         Collections.reverse(order);
         List<BurstEntry> told = new ArrayList<>();
+        List<String> lines = new ArrayList<>();
         for (int at = 0; at < order.size(); at++) {
             BurstEntry entry = order.get(at);
             boolean toldBefore = told.contains(entry);
             if (!toldBefore || order.lastIndexOf(entry) == at) {
-                line("    " + entry.words() + part(entry, first, Collections.frequency(order, entry) > 1, toldBefore));
+                lines.add("    " + entry.words() + part(entry, first, Collections.frequency(order, entry) > 1, toldBefore));
             }
             told.add(entry);
         }
+        folded(lines);
         line("  no order explains, with these, " + first.words());
+    }
+
+    private void folded(List<String> lines) {
+        int next;
+        for (int from = 0; from < lines.size(); from = next) {
+            next = from + 1;
+            while (next < lines.size() && lines.get(next).equals(lines.get(from))) {
+                next++;
+            }
+            if (next - from < MANY) {
+                lines.subList(from, next).forEach(this::line);
+            } else {
+                line(lines.get(from) + times(next - from));
+            }
+        }
     }
 
     /** A wait is two parts of an order; of one that hasn't ended before {@code first} did only its beginning may be there. */

@@ -45,7 +45,7 @@ final class Bursts {
 
     /** {@code keep} is null where nothing is kept. */
     Bursts(List<Stage> stages, long bound, Path keep, PrintStream to) {
-        places = stages.stream().map(stage -> new Place(stage, new BurstPlayer(stage, bound))).toList();
+        places = stages.stream().map(stage -> new Place(stage, new BurstPlayer(stage, bound, keep != null))).toList();
         this.keep = keep;
         this.to = to;
     }
@@ -196,7 +196,7 @@ final class Bursts {
     private synchronized void tellFailure(Burst burst, String text, String more) throws IOException {
         count.fails(burst, text);
         Progress.clear();
-        to.print(text);
+        to.print(Excerpt.lines(text, keep == null ? "; --keep FOLDER writes them" : ""));
         if (keep == null) {
             to.println("again: --burst " + BurstOrder.TRIES_OF_ONE + " --seed " + burst.seed() + " --round " + burst.round() + more);
         } else {

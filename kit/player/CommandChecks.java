@@ -12,8 +12,11 @@ import java.util.ArrayList;
 import java.util.Collections;
 import java.util.List;
 import java.util.Map;
+import java.util.Optional;
 import java.util.Set;
 import java.util.concurrent.TimeUnit;
+import java.util.regex.Matcher;
+import java.util.regex.Pattern;
 import java.util.stream.Stream;
 
 /** Whether the command {@code kit/play} says the right words, and leaves nothing behind, where it can't simply play. */
@@ -88,6 +91,8 @@ final class CommandChecks {
             new Check(0, "20 bursts of 2 kinds, ", "--burst", "20", "--kind", "trips,barging"),
             new Check(0, " % of the calls ran beside another thread's, in ", "--burst", "20"),
             new Check(0, " bursts of ", "--for", "1", "--burst", "1000000000"),
+            new Check(0, "6 bursts of 3 kinds, ", "--burst", "6", "--like", "action"),
+            new Check(2, "--like wants one of action, hang, ", "--burst", "6", "--like", "noise"),
             new Check(0, "round 5 didn't fail in 3 tries\n", "--burst", "3", "--round", "5"),
             new Check(1, "the port doesn't answer: case", "--port", "exec sleep 600", one),
             new Check(1, "burst 1 0 meetings\n  the port has ended before its first answer",
@@ -266,11 +271,27 @@ final class CommandChecks {
         String port = faults(python);
         checkSoon(right(python), wrong(python) + "ignores_interrupts.py",
             folder("reset") + "/a-timed-wait.txt");
+        checkLeft(wrong(python) + "ignores_interrupts.py");
         checkStop(port);
         checkEnd(port, "TERM");
         if (!ignoresInterrupts()) {
             checkEnd(port, "INT");
         }
+    }
+
+    /** A port that hangs is left where bursts are kept: it lives on when the player has ended, and each wait is told. */
+    private void checkLeft(String port) throws IOException, InterruptedException {
+        Path told = Files.createTempFile("vuthgal", ".told");
+        Process player = start(told, "--burst", "1", "--kind", "an-interrupt-alone", "--patience", "0.1", "--keep",
+            Files.createTempDirectory("vuthgal").toString(), "--port", port);
+        boolean ended = player.waitFor(LONGEST_SECONDS, TimeUnit.SECONDS);
+        String text = Files.readString(told, StandardCharsets.ISO_8859_1);
+        Matcher left = Pattern.compile("\n    thread 0 +[0-9.]+ s  awaitAdvanceInterruptibly 0 0\n"
+            + "  process \\d+: \\d+ threads sleep: [\\d ]+\n.*: process (\\d+); kill it").matcher(text);
+        Optional<ProcessHandle> process = left.find() ? ProcessHandle.of(Long.parseLong(left.group(1))) : Optional.empty();
+        part.take("a port that hangs is left", ended && process.filter(CommandChecks::lives).isPresent(), text);
+        process.ifPresent(ProcessHandle::destroyForcibly);
+        Files.delete(told);
     }
 
     /** What hangs before the first case is told within ten seconds; later only where the right port is slow, too. */

@@ -3,12 +3,14 @@ package kit.player;
 import java.io.IOException;
 import java.util.HashSet;
 import java.util.List;
+import java.util.Locale;
 import java.util.Set;
 
 /** The processes of ports that live now. None of them outlives the player, however that is ended. */
 final class LivingPorts {
     private static final Set<Process> LIVING = new HashSet<>();
     private static boolean ending;
+    private static boolean left;
 
     static {
         Runtime.getRuntime().addShutdownHook(new Thread(LivingPorts::killAll, "end of the ports"));
@@ -37,6 +39,24 @@ final class LivingPorts {
         process.destroyForcibly();
         below.forEach(ProcessHandle::destroyForcibly);
         LIVING.remove(process);
+    }
+
+    /**
+     * Leaves a process to live on for an hour at most: since a port ends with its input, another process holds that open. False
+     * where one was left before, or this one can't be.
+     */
+    static synchronized boolean leave(Process process) {
+        if (left) {
+            return false;
+        }
+        try {
+            String holder = "exec timeout 3600 tail --pid=%1$d -f /dev/null > /proc/%1$d/fd/0 2> /dev/null";
+            new ProcessBuilder("bash", "-c", String.format(Locale.ROOT, holder, process.pid())).start();
+            left = LIVING.remove(process);
+        } catch (IOException none) {
+            return false;
+        }
+        return left;
     }
 
     private static synchronized void killAll() {

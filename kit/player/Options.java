@@ -34,13 +34,14 @@ final class Options {
           --for SECONDS      plays bursts for so long, and no more than ROUNDS where these are given
           --burst FILE       plays a burst that was kept until it fails, 20000 times at most
           --kind NAME[,NAME] plays bursts of these kinds alone; goes with no --round and no --burst FILE
+          --like SYMPTOM     the same with the kinds for a symptom: action, hang, interrupt, reset, time, tree
           --kinds            lists the kinds of bursts, with a sentence each
           --points N         starts a port that has points with the seeds 1 to N, each for its share of the bursts;
                              FIRST..LAST names others
           --round R          plays the burst of round R alone until it fails, ROUNDS times at most
           --seed S           other scenarios, or other bursts; by default 1
           --keep FOLDER      writes each scenario that differs there, as NAME.txt and NAME.trace, and each burst that
-                             fails, as KIND-SEED-ROUND.burst
+                             fails, as KIND-SEED-ROUND.burst; leaves the first port in which a wait hangs, and tells its process
           --report FILE      writes all verdicts as JUnit XML
           --patience FACTOR  waits so many times as long, 0.1 to 100, before a thread counts as blocked and a call as hanging
           --first-try        plays nothing again that differs
@@ -106,6 +107,7 @@ final class Options {
                 case "--for" -> seconds = number(word, at, 1, MOST_SECONDS);
                 case "--round" -> round = number(word, at, 0, MOST_ROUNDS);
                 case "--kind" -> kinds = kinds(argument(word, at));
+                case "--like" -> kinds = like(argument(word, at));
                 case "--kinds" -> listsKinds = true;
                 case "--points" -> points = points(argument(word, at));
                 case "--patience" -> patience = factor(word, at);
@@ -167,6 +169,13 @@ final class Options {
             }
         }
         return kinds;
+    }
+
+    private static Set<String> like(String symptom) throws Wrong {
+        if (!BurstKind.symptoms().contains(symptom)) {
+            throw new Wrong("--like wants one of " + String.join(", ", BurstKind.symptoms()) + ", and not " + symptom);
+        }
+        return BurstKind.like(symptom);
     }
 
     private static PointSeeds points(String word) throws Wrong {

@@ -236,6 +236,17 @@ final class PortProcess {
         LivingPorts.kill(process);
     }
 
+    /** The states of its threads, a line for each of its processes. */
+    List<String> states() {
+        return new Tasks(process).states();
+    }
+
+    /** It isn't killed, unless one was left before; says so, or answers null. */
+    String leave() {
+        return LivingPorts.leave(process) ? "this port is left for an hour, to a debugger: process "
+            + new Tasks(process).largest() + "; kill it when you have looked" : null;
+    }
+
     private void read() {
         breakdown = readToTheEnd();
         replies.add(new Reply(null));

@@ -129,6 +129,18 @@ final class PortStage implements Stage {
     }
 
     @Override
+    public List<String> seen() {
+        return process.states();
+    }
+
+    @Override
+    public String leave() {
+        String left = process.leave();
+        process = left == null ? process : null;
+        return left;
+    }
+
+    @Override
     public Patience[] patience() {
         return Patience.OF_PORT;
     }

@@ -78,7 +78,7 @@ final class ReplayChecks {
         checks.add(() -> soak(1, wrong + "spins.py action 0.001", 0, dearest("calls during an action")));
         if (!lockFree.isEmpty()) {
             checks.add(() -> soak(1, "FAULT=permit-is-kept " + lockFree, WAITS, dearest("waits after a release"),
-                " 0.0 bytes a wait are left, resident\n"));
+                "all too late: less than "));
             checks.add(() -> soak(1, "FAULT=freed-while-queued " + lockFree, WAITS, "behind waits that are late, "));
         }
         checks.add(() -> soak(2, python + " " + kit.resolve("faults/port.py") + " ok 'say okay\\n'", WAITS,
@@ -100,7 +100,7 @@ final class ReplayChecks {
             new Check(1, "`< 0 = 0`: ['0 = 7'] came", faults + "'0 = 0' 'say 0 = 7\\n'", "phase-numbers"),
             new Check(1, "waiting/for-the-present-phase differs, at line ", faults + "'1 = 0' 'also 0 = 1\\n'", "waiting"),
             new Check(0, " left out: no it makes no barrier\n", faults + "without barrier", "tiers action"),
-            new Check(2, "0 same, 0 different, 363 left out\n", faults + "without case", ""),
+            new Check(2, "0 same, 0 different, 367 left out\n", faults + "without case", ""),
             new Check(2, "kit/replay [--patience FACTOR] COMMAND [FILE..]", "--none", ""));
     }
 

@@ -39,6 +39,16 @@ interface Stage {
     /** Some thread didn't come out of its call: whatever is needed so that the next case meets fresh threads. */
     void abandon();
 
+    /** What the system shows of its threads, in some lines. */
+    default List<String> seen() {
+        return List.of();
+    }
+
+    /** Leaves its process to a debugger, and says so; null where none is left. */
+    default String leave() {
+        return null;
+    }
+
     /** Whether its threads are threads of this JVM, which run a call's watcher themselves. */
     default boolean isHere() {
         return false;

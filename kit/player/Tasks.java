@@ -9,10 +9,13 @@ import java.nio.file.DirectoryStream;
 import java.nio.file.Files;
 import java.nio.file.Path;
 import java.util.ArrayList;
+import java.util.Comparator;
 import java.util.HashMap;
 import java.util.List;
 import java.util.Map;
+import java.util.TreeMap;
 import java.util.concurrent.locks.LockSupport;
+import java.util.stream.Collectors;
 import java.util.stream.Stream;
 
 /** The threads of a process and of those below it, as the system shows them. */
@@ -141,11 +144,48 @@ final class Tasks {
         return first.values().stream().allMatch(Seen::sleeps) && look().equals(first);
     }
 
+    /** A line for each process: what its threads do, by their numbers in the system. */
+    List<String> states() {
+        List<String> lines = new ArrayList<>();
+        for (Path folder : folders) {
+            Map<String, List<String>> numbers = new TreeMap<>();
+            for (String task : tasks(folder)) {
+                numbers.computeIfAbsent(state(folder.resolve(task)), fresh -> new ArrayList<>()).add(task);
+            }
+            if (!numbers.isEmpty()) {
+                lines.add("process " + folder.getParent().getFileName() + ": " + numbers.entrySet().stream()
+                    .map(each -> each.getValue().size() + " threads " + each.getKey() + ": " + String.join(" ", each.getValue()))
+                    .collect(Collectors.joining("; ")));
+            }
+        }
+        return lines;
+    }
+
+    private static List<String> tasks(Path folder) {
+        String[] tasks = new File(folder.toString()).list();
+        return tasks == null ? List.of() : List.of(tasks);
+    }
+
+    private static String state(Path task) {
+        try {
+            String stat = line(task + "/stat");
+            char state = stat.charAt(stat.lastIndexOf(')') + 2);
+            return state == 'R' ? "run" : state == 'S' ? "sleep" : "have the state " + state;
+        } catch (IOException | RuntimeException gone) {
+            return "have ended";
+        }
+    }
+
+    /** The number of the process that has the most threads. */
+    String largest() {
+        return folders.stream().max(Comparator.comparingInt(folder -> tasks(folder).size()))
+            .map(folder -> folder.getParent().getFileName().toString()).orElseThrow();
+    }
+
     private Map<String, Seen> look() {
         Map<String, Seen> seen = new HashMap<>();
         for (Path folder : folders) {
-            String[] tasks = new File(folder.toString()).list();
-            for (String task : tasks == null ? new String[0] : tasks) {
+            for (String task : tasks(folder)) {
                 look(folder + "/" + task, seen);
             }
         }
