@@ -21,6 +21,8 @@ mod short_copy;
 pub mod source_lines;
 
 // Ports over bytes in memory.
+pub mod came;
+pub mod counting_sink;
 mod fail_at;
 pub mod memory_sink;
 pub mod memory_source;
@@ -32,6 +34,8 @@ pub mod write_port;
 
 pub use block_port::BlockPort;
 pub use block_source::BlockSource;
+pub use came::Came;
+pub use counting_sink::CountingSink;
 pub use failed::Failed;
 pub use interruption::MOST_TRIES;
 pub use memory_sink::MemorySink;

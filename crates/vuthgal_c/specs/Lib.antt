@@ -1,4 +1,3 @@
-pub mod Counting
 pub mod Words
 pub mod Shows
 pub mod Calls

@@ -1,6 +1,6 @@
 -- What a call writes into the two buffers of its caller.
 use Rattle.std.specs.Prelude.{◌≡◌, ◌⊎◌, ◌<◌, ℕ, List, [], ◌++◌, length, take, drop, min, codes}
-use Rattle.vuthgal_c.specs.Counting.{most_counted}
+use Rattle.byte_ports.specs.Counting.{most_counted}
 
 -- a buffer begins with as many of these bytes as it has room for, after them it is as before, and their count is reported
 abbrev pub Holds : (before after : List ℕ) (count : ℕ) → (bytes : List ℕ) → Type 0

@@ -1,9 +1,9 @@
 //! What a command wrote, in the memory of the caller.
 ghost use Rattle.std.specs.Prelude.{◌≡◌, ◌≤◌, ℕ, List, length, min};
-ghost use Rattle.vuthgal_c.specs.Counting.{AreFirst, most_counted};
+ghost use Rattle.byte_ports.specs.Counting.{AreFirst, most_counted};
 ghost use Rattle.vuthgal_c.specs.Shows.{Holds};
 
-use crate::counting_sink::CountingSink;
+use byte_ports::CountingSink;
 
 /// The line where there is no memory.
 pub const NO_MEMORY: &[u8] = b"memory\n";

@@ -6,9 +6,7 @@
 //! call. It is in memory that belongs to its handle, and the caller closes it. `include/vuthgal.h` declares the calls.
 #![tactic(auto)]
 
-// A sink that counts all bytes, and how its bytes are passed to the caller.
-pub mod came;
-pub mod counting_sink;
+// How what a call writes is passed to the caller.
 pub mod handing;
 pub mod reply;
 

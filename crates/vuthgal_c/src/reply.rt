@@ -2,8 +2,8 @@
 ghost use Rattle.std.specs.Prelude.{◌≡◌, []};
 ghost use Rattle.vuthgal_c.specs.Shows.{HandsOver};
 
-use crate::counting_sink::CountingSink;
 use crate::handing::{NO_MEMORY, hand_all, hand_over};
+use byte_ports::CountingSink;
 use std::alloc::Global;
 
 /// The output of a call, and its line.

@@ -6,8 +6,7 @@ ghost use Rattle.std.specs.Vec.{vec_capacity};
 ghost use Rattle.byte_ports.specs.Port.{FailsForGood};
 ghost use Rattle.vuthgal_c.specs.Room.{HasKept, reply_room};
 
-use crate::came::Came;
-use byte_ports::{Failed, Sink};
+use byte_ports::{Came, Failed, Sink};
 use std::alloc::{AllocError, Global};
 use std::marker::Model;
 

@@ -4,12 +4,12 @@ ghost use Rattle.workbench.specs.Fault.{line_of};
 ghost use Rattle.vuthgal_c.specs.Shows.{Holds};
 ghost use Rattle.vuthgal_c.specs.Sessions.{Answers, Copies, HasNone, IsFirstOf, Opens, Repeats, copy_of};
 
-use crate::counting_sink::CountingSink;
 use crate::files::is_within;
 use crate::handing::{NO_MEMORY, hand_all, hand_over};
 use crate::handle::Handle;
 use crate::held::{Held, Unanswered};
 use crate::keeping::{put, take};
+use byte_ports::CountingSink;
 use std::alloc::{AllocError, Global};
 use workbench::debug::first_debugger;
 use workbench::fault::Fault;

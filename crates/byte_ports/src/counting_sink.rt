@@ -2,10 +2,11 @@
 ghost use Rattle.std.specs.Prelude.{◌≡◌, ◌≤◌, ◌↔◌, ◌++◌, [], ℕ, List, Some, IsTrue, false, length, min};
 ghost use Rattle.std.specs.Io.KnownBytes.{Appends};
 ghost use Rattle.byte_ports.specs.Port.{FailsForGood};
-ghost use Rattle.vuthgal_c.specs.Counting.{AreFirst, Tally, most_counted};
+ghost use Rattle.byte_ports.specs.Counting.{AreFirst, Tally, most_counted};
 
 use crate::came::Came;
-use byte_ports::{Failed, Sink};
+use crate::failed::Failed;
+use crate::sink::Sink;
 use std::alloc::Global;
 use std::marker::Model;
 

@@ -29,11 +29,11 @@ use denote.Triple.Entry.{on_entry, alive, Args}
 use denote.Triple.Spec.{Meets, triple_of}
 use denote.Triple.Table.{entered}
 use denote.Triple.Walked.{says, stay_none_ref, stay_none_slice, Stays, walk_of, Walks, ends_at, walked, Goes-none_ref, Goes-none_slice, walk_Meets}
-use Rattle.vuthgal_c.specs.contracts.came.Came.and.Key.{name as key}
-use Rattle.vuthgal_c.specs.contracts.came.Came.and as f
-use Rattle.vuthgal_c.proofs.came.Came.and.Statement as stated
-use Rattle.vuthgal_c.proofs.came.Came.and.Code as code
-use Rattle.vuthgal_c.specs.contracts.came.Came as trail
+use Rattle.byte_ports.specs.contracts.came.Came.and.Key.{name as key}
+use Rattle.byte_ports.specs.contracts.came.Came.and as f
+use Rattle.byte_ports.proofs.came.Came.and.Statement as stated
+use Rattle.byte_ports.proofs.came.Came.and.Code as code
+use Rattle.byte_ports.specs.contracts.came.Came as trail
 
 abbrev stayed : Stays (f.ended).signature.params (f.ended).kept
 stayed = (stay_none_ref (0 ∷ []) tt (plain (λ _. trail.the_row)) yes, (stay_none_slice (1 ∷ []) tt (plain (λ _. u8)) yes, tt))

@@ -21,11 +21,11 @@ use denote.Triple.Entry.{on_entry, alive}
 use denote.Triple.Spec.{Meets, triple_of}
 use denote.Triple.Table.{entered}
 use denote.Triple.Walked.{says, Stays, walk_of, Walks, ends_at, walked, walk_Meets}
-use Rattle.vuthgal_c.specs.contracts.came.Came.none.Key.{name as key}
-use Rattle.vuthgal_c.specs.contracts.came.Came.none as f
-use Rattle.vuthgal_c.proofs.came.Came.none.Statement as stated
-use Rattle.vuthgal_c.proofs.came.Came.none.Code as code
-use Rattle.vuthgal_c.specs.contracts.came.Came as made
+use Rattle.byte_ports.specs.contracts.came.Came.none.Key.{name as key}
+use Rattle.byte_ports.specs.contracts.came.Came.none as f
+use Rattle.byte_ports.proofs.came.Came.none.Statement as stated
+use Rattle.byte_ports.proofs.came.Came.none.Code as code
+use Rattle.byte_ports.specs.contracts.came.Came as made
 
 abbrev stayed : Stays (f.ended).signature.params (f.ended).kept
 stayed = tt
