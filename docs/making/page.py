@@ -1,4 +1,4 @@
-"""Makes crates/pictures/src/fixed.rt of the sources in crates/pictures/page: the parts of a page of `vuthgal show` that are the
+"""Makes crates/page_frame/src/fixed.rt of the sources in crates/page_frame/page: the parts of a page of `vuthgal show` that are the
 same of every run, as constants, and the two sums by which the page's content policy names its style and its script."""
 import base64
 import hashlib
@@ -7,14 +7,14 @@ import sys
 
 from marks import TOP
 
-CRATE = TOP / "crates" / "pictures"
+CRATE = TOP / "crates" / "page_frame"
 WIDTH = 140
 SCRIPTS = ("read", "words", "draw", "paper", "steps")
 CONSTANTS = {
     "HEAD": "What a page begins with, up to the listing.",
     "BEFORE_SOURCE": "What stands between the listing and the program's text.",
-    "BEFORE_RUN": "What stands between the program's text and the run.",
-    "BEFORE_OTHERS": "What stands between the run and the other runs.",
+    "BEFORE_SCHEDULE": "What stands between the program's text and the schedule.",
+    "BEFORE_TRACE": "What stands between the schedule and the trace.",
     "TAIL": "What a page ends with: its script.",
 }
 

@@ -158,17 +158,7 @@ static COMMANDS: [Subcommand; 12] = [
         name: "show",
         aliases: &["page", "html", "view"],
         about: "Writes a page that shows a run",
-        words: &[
-            FILE,
-            SCHEDULE,
-            PLAN,
-            PLAN_FILE,
-            Word(
-                "alone",
-                Kind::Flag,
-                "Leaves out what other choices would lead to",
-            ),
-        ],
+        words: &[FILE, SCHEDULE, PLAN, PLAN_FILE],
     },
     Subcommand {
         name: "draw",

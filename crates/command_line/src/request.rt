@@ -39,7 +39,6 @@ pub enum Request<'a> {
     Show {
         file: &'a str,
         steps: Steps<'a>,
-        is_alone: bool,
     },
     Draw {
         file: &'a str,
@@ -390,7 +389,6 @@ fn request_by<'a>(
         "show" => Ok(Request::Show {
             file,
             steps: chosen_steps(matches),
-            is_alone: is_set(matches, "alone"),
         }),
         "draw" => draw(matches),
         "live" => live(alloc, matches),

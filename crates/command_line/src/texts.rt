@@ -110,13 +110,12 @@ const SHOW: &str = "\
 Writes a page that shows a run: one HTML file that any browser opens, without a
 network.
 
-FILE, SCHEDULE and plans are as in `vuthgal run --help`. A page shows at most
-2000 choices.
+FILE, SCHEDULE and plans are as in `vuthgal run --help`. The trace of a
+page has at most 16777216 bytes.
 
 The page also shows other runs: what would have followed another choice. The
 chosen thread runs until it waits or ends, then the choices of the run follow
-that still do something, then all threads in turn. With `--alone` the page shows
-only the run.
+that still do something, then all threads in turn.
 
 Example: vuthgal show examples/two-threads-meet.txt > meeting.html";
 

@@ -4,7 +4,7 @@ use Rattle.assembler.specs.Symbols.{SymbolTable}
 use Rattle.commands.specs.Drawing.{IsDrawingIn}
 use Rattle.row_code.specs.declared.image.Image.{Image}
 use Rattle.pictures.specs.Picture.{picture}
-use Rattle.pictures.specs.Page.{AreChoicesOf, most_choices}
+use Rattle.pictures.specs.Choices.{AreChoicesOf, most_choices}
 use Rattle.thread_machine.specs.declared.choice.Choice.{Choice}
 use Rattle.thread_machine.specs.World.{World}
 use Rattle.trace_text.specs.Start.{Begins}

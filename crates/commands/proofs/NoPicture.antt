@@ -1,18 +1,17 @@
 -- Why there is no picture, by the fault that was found in the program or the schedule.
-use Rattle.std.proofs.Common.{◌≡◌, ◌⊎◌, ℕ, ◌<◌, List, length, Some, None, Result, Err, arith}
+use Rattle.std.proofs.Common.{◌≡◌, ◌⊎◌, ℕ, List, Some, Result, Err, arith}
 use Rattle.loader.specs.declared.load_fault.LoadFault.{LoadFault}
 use Rattle.workbench.specs.declared.fault.Fault.{Fault}
 use Rattle.workbench.specs.declared.fault.PictureKind.{PictureKind}
 use Rattle.workbench.specs.Fault.{status_of}
 use Rattle.commands.specs.PictureFault.{fault_of}
-use Rattle.commands.specs.Picture.{HaveNoPicture}
+use Rattle.commands.specs.Picture.{HaveNoPicture, IsTooLong}
 use Rattle.row_code.specs.declared.image.Image.{Image}
-use Rattle.pictures.specs.Page.{most_choices}
 use Rattle.pictures.specs.declared.page.PageFault.{PageFault}
 use Rattle.pictures.specs.declared.page.PageFault.TheVariants as none
 use Rattle.schedule_reader.specs.declared.fault.ScheduleFault.{ScheduleFault}
 use Rattle.schedule_reader.specs.declared.fault.ScheduleFault.TheVariants as wrong
-use Rattle.schedule_reader.specs.Schedule.{choices_of, finished_schedule}
+use Rattle.schedule_reader.specs.Schedule.{finished_schedule}
 use Rattle.trace_text.specs.Start.{IsRefused}
 
 pub no_picture : {A : Type 0} (result : Result A PageFault) (fault : PageFault) (told : Fault) (kind : PictureKind) (schedule : List ℕ)
@@ -20,8 +19,7 @@ pub no_picture : {A : Type 0} (result : Result A PageFault) (fault : PageFault) 
     → ((f : LoadFault) → result ≡ Err (none.Load f) → IsRefused f image)
     → ((f : ScheduleFault) → result ≡ Err (none.Schedule f)
     → ((finished_schedule schedule).fault ≡ Some f) × (f ≡ wrong.Memory → ⊥))
-    → (result ≡ Err none.Choices → ((finished_schedule schedule).fault ≡ None)
-    × (most_choices < length (choices_of (finished_schedule schedule).runs)))
+    → (result ≡ Err none.Long → IsTooLong kind image schedule)
     → ((f : LoadFault) → IsRefused f image → (result ≡ Err (none.Load f)) ⊎ (result ≡ Err none.Memory))
     → status_of told ≡ 3 → HaveNoPicture kind told image schedule
 no_picture result fault told kind schedule image is same load faulty many loads three = grind arith

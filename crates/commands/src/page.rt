@@ -3,23 +3,24 @@ ghost use Rattle.std.specs.Prelude.{◌≡◌, ◌≢◌, ◌≤◌, Err, IfErr,
 ghost use Rattle.commands.specs.Page.{IsPageIn, source_of};
 ghost use Rattle.commands.specs.Picture.{HaveNoPicture};
 ghost use Rattle.pictures.specs.Missing.{IsMissingIn};
+ghost use Rattle.pictures.specs.Page.{parts_of};
 ghost use Rattle.workbench.specs.declared.fault.PictureKind.TheVariants as picture;
 ghost use Rattle.workbench.specs.Fault.{status_of};
 ghost use Rattle.workbench.specs.Input.{most_bytes};
 
 use crate::picture::{Picture, fault_of};
+use pictures::frame::Frame;
 use pictures::missing::Shown;
-use pictures::others::OtherRuns;
 use pictures::page::page;
 use row_code::is_image_file;
 use std::alloc::Global;
 use workbench::Program;
 use workbench::fault::{Fault, PictureKind};
 
-/// A page for a browser: the program, its text, the run, and if asked for the runs that other choices lead to.
+/// A page for a browser, with these fixed parts: the program, its text, the schedule and the trace.
 #[derive(Clone, Copy)]
-pub struct Page {
-    pub others: OtherRuns,
+pub struct Page<'a> {
+    pub frame: Frame<'a>,
 }
 
 /// Returns the text of a program as it was written, or nothing if it is an image.
@@ -32,19 +33,19 @@ fn source_of(program: &[u8]) -> &[u8]
 /// Returns the page of a program's run under a schedule, or why there is none.
 fn page_of(
     alloc: Global,
-    others: OtherRuns,
+    frame: Frame<'_>,
     program: Program<'_>,
     schedule: &[u8],
 ) -> Result<Shown, Fault>
     requires { length schedule.now ≤ most_bytes }
-    ensures page { IfOk result (λ shown. IsPageIn others program.entry.image program.entry.bytes.now schedule.now shown.bytes.items) }
+    ensures page { IfOk result (λ shown. IsPageIn (parts_of frame.entry) program.entry.image program.entry.bytes.now schedule.now shown.bytes.items) }
     ensures missing { IfOk result (λ shown. IsMissingIn program.entry.image schedule.now shown.missing) }
     ensures refused { IfErr result (λ fault. status_of fault ≡ 3 → HaveNoPicture picture.Page fault program.entry.image schedule.now) }
     ensures other { (result ≢ Err Fault.Read) × (result ≢ Err Fault.Write) × (result ≢ Err Fault.Spawn) }
 {
     match page(
         alloc,
-        others,
+        frame,
         program.image,
         source_of(program.bytes),
         schedule,
@@ -54,15 +55,16 @@ fn page_of(
     }
 }
 
-impl Picture for Page {
+impl<'a> Picture for Page<'a> {
     ghost use Rattle.workbench.specs.declared.fault.PictureKind.TheVariants as picture;
     ghost use Rattle.commands.specs.Page.{IsPageIn};
+    ghost use Rattle.pictures.specs.Page.{parts_of};
 
-    ghost is_picture = { λ self program schedule page. IsPageIn self.others program.image program.bytes.now schedule page };
+    ghost is_picture = { λ self program schedule page. IsPageIn (parts_of self.frame) program.image program.bytes.now schedule page };
 
     ghost kind = { picture.Page };
 
     fn of(&self, alloc: Global, program: Program<'_>, schedule: &[u8]) -> Result<Shown, Fault> {
-        page_of(alloc, self.others, program, schedule)
+        page_of(alloc, self.frame, program, schedule)
     }
 }

@@ -39,7 +39,7 @@ pub fn fault_of(fault: PageFault, kind: PictureKind) -> Fault
     match fault {
         PageFault::Load(fault) => Fault::Load(fault),
         PageFault::Schedule(fault) => Fault::Schedule(fault),
-        PageFault::Choices => Fault::TooLong(kind),
+        PageFault::Long => Fault::TooLong(kind),
         PageFault::Memory => Fault::Memory,
     }
 }

@@ -3,8 +3,4 @@ mod Awaited
 pub mod Cells
 pub mod Drawings
 mod Escapes
-mod Knowns
-mod Tellings
-mod Forks
-mod Showings
-mod WhatIfs
+mod Missings

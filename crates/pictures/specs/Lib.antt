@@ -3,8 +3,6 @@ pub mod Caption
 pub mod Turn
 pub mod Picture
 pub mod Drawing
-pub mod Others
-pub mod Knowing
+pub mod Choices
 pub mod Page
-pub mod Showing
 pub mod Missing

@@ -1,11 +1,14 @@
 -- The choice that ended a run because there is no such thread, and its place from 1.
 use Rattle.std.specs.Prelude.{◌≡◌, ℕ, ◌+◌, nat_lt, if◌then◌else◌, List, length, Option, Some, None, slice_get}
-use Rattle.pictures.specs.Page.{AreChoicesOf}
+use Rattle.pictures.specs.Choices.{AreChoicesOf}
 use Rattle.row_code.specs.declared.image.Image.{Image}
 use Rattle.thread_machine.specs.declared.choice.Choice.{Choice}
 use Rattle.thread_machine.specs.Execution.{execution}
 use Rattle.thread_machine.specs.World.{World}
 use Rattle.trace_text.specs.Start.{Begins}
+use Rattle.thread_machine.specs.declared.fault.StepFault.{StepFault}
+use Rattle.thread_machine.specs.declared.fault.StepFault.TheVariants as fault
+use Rattle.trace_text.specs.declared.run_end.Refusal.{Refusal}
 
 -- this is the next choice in a world
 abbrev pub missing_by : World → Option Choice → Option (ℕ × Choice)
@@ -26,3 +29,13 @@ abbrev pub IsMissingIn : Image → (schedule : List ℕ) → Option (ℕ × Choi
 IsMissingIn image schedule missing =
     (world : World) × ((choices : List Choice) × (Begins image world × AreChoicesOf schedule choices
     × (missing ≡ missing_in world choices)))
+
+-- the refused choice, and its place, if there is no such thread
+abbrev pub told_by : StepFault → ℕ → Choice → Option (ℕ × Choice)
+told_by fault.NoSuchThread number choice = Some (number, choice)
+told_by _ number choice = None
+
+-- the same of the refusal that ended a run
+abbrev pub missing_told : Option Refusal → Option (ℕ × Choice)
+missing_told None = None
+missing_told (Some refusal) = told_by refusal.why refusal.number refusal.choice

@@ -1,8 +1,9 @@
 ghost use Rattle.std.specs.Prelude.{◌≡◌};
-ghost use Rattle.pictures.specs.Missing.{missing_at};
+ghost use Rattle.pictures.specs.Missing.{missing_at, missing_told};
 ghost use Rattle.thread_machine.specs.World.{world_of};
 
-use thread_machine::{Choice, Machine};
+use thread_machine::{Choice, Machine, StepFault};
+use trace_text::RunEnd;
 
 /// The bytes of a page or a picture, and whether a thread that doesn't exist ended its run.
 #[derive(Drop)]
@@ -22,4 +23,16 @@ pub fn missing(machine: &Machine, choices: &[Choice]) -> Option<(u64, Choice)>
         return None;
     }
     Some((made.saturating_add(1), choice))
+}
+
+/// Returns the refused choice that ended a run, and its place from 1, if its thread doesn't exist.
+pub(crate) fn missing_told(end: &RunEnd) -> Option<(u64, Choice)>
+    ensures { result ≡ missing_told end.now.refused }
+{
+    match &end.refused {
+        Some(refusal) if refusal.why == StepFault::NoSuchThread => {
+            Some((refusal.number, refusal.choice))
+        }
+        _ => None,
+    }
 }

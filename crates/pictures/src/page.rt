@@ -1,42 +1,42 @@
-// Puts a page together: its fixed parts, the listing, the source, the run and the other runs.
-ghost use Rattle.std.specs.Prelude.{◌≡◌, ◌≢◌, ◌++◌, ◌<◌, ◌⊎◌, false, length, List, IfOk, OnOk, Err, Some, None};
+// Puts a page together: its fixed parts, and between them the listing, the source, the schedule and the trace.
+ghost use Rattle.std.specs.Prelude.{◌≡◌, ◌≢◌, ◌<◌, ◌≤◌, ◌⊎◌, All, length, IfErr, IfOk, OnOk, Err, Some, None, false};
 ghost use Rattle.loader.specs.declared.load_fault.LoadFault.{LoadFault};
-ghost use Rattle.pictures.specs.Page.{AreChoicesOf, IsPageFrom, IsPageIn, IsPageOf, escaped, fixed_parts, moment, moments, most_choices, page_text, parts_of, run_shown};
+ghost use Rattle.loader.specs.Fault.{first_fault};
+ghost use Rattle.loader.specs.Program.{IsProgramOf};
 ghost use Rattle.pictures.specs.Missing.{IsMissingIn, missing_in};
-ghost use Rattle.pictures.specs.Others.{others_text};
-ghost use Rattle.pictures.specs.Showing.{Shows};
+ghost use Rattle.pictures.specs.Page.{HasLongTrace, IsPageIn, most_trace, page_text, parts_of};
 ghost use Rattle.schedule_reader.specs.declared.fault.ScheduleFault.{ScheduleFault};
-ghost use Rattle.schedule_reader.specs.Schedule.{choices_of, finished_schedule};
-ghost use Rattle.thread_machine.specs.declared.choice.Choice.{Choice};
-ghost use Rattle.thread_machine.specs.Execution.{execution};
-ghost use Rattle.thread_machine.specs.World.{world_of};
+ghost use Rattle.schedule_reader.specs.Schedule.{IsRun, choices_of, finished_schedule};
+ghost use Rattle.schedule_reader.specs.Text.{schedule_text};
+ghost use Rattle.thread_machine.specs.World.{first_world};
 ghost use Rattle.trace_text.specs.Start.{IsRefused, is_want_of_memory};
+ghost use Rattle.trace_text.specs.Trace.{trace_of};
 
-use crate::choices::choices_in;
+use crate::choices::runs_in;
 use crate::escape::add_escaped;
-use crate::fixed::{BEFORE_OTHERS, BEFORE_RUN, BEFORE_SOURCE, HEAD, TAIL};
 use crate::frame::Frame;
-use crate::missing::{Shown, missing};
-use crate::moment;
-use crate::others::{OtherRuns, others_text};
+use crate::missing::{Shown, missing_told};
+use byte_ports::CountingSink;
 use line_reader::disassemble;
-use loader::LoadFault;
+use loader::{LoadFault, Loaded, load};
 use row_code::Image;
-use schedule_reader::ScheduleFault;
+use schedule_reader::{Run, ScheduleFault, write_schedule};
 use std::alloc::{AllocError, Global};
-use thread_machine::{Choice, Machine};
-use trace_text::start::{StartFault, first_machine};
-use trace_text::{LineEnd, line_of_choice};
+use thread_machine::Choice;
+use trace_text::run_loaded;
 
-/// Why no page is made.
+/// The most bytes of a page's trace.
+const MOST_TRACE: usize = 16_777_216;
+
+/// Why no picture is made.
 #[derive(Clone, Copy, Debug, PartialEq, Eq)]
 pub enum PageFault {
     /// The image can't be loaded. The fault is never `Memory`.
     Load(LoadFault),
     /// The schedule has a fault, which is never `Memory`.
     Schedule(ScheduleFault),
-    /// The schedule has more than 2,000 choices.
-    Choices,
+    /// A drawing would have more than 2,000 choices, or a page a trace of more than 16,777,216 bytes.
+    Long,
     /// Out of memory.
     Memory,
 }
@@ -52,214 +52,144 @@ impl From<AllocError> for PageFault {
     }
 }
 
-/// Appends the text of a machine, escaped. The machine is the same afterwards.
-fn add_moment(alloc: Global, page: &mut Vec<u8>, machine: &mut Machine) -> Result<(), AllocError>
-    ensures text { OnOk result (page.new.items ≡ page.old.items ++ escaped (moment (world_of machine.old))) }
-    ensures machine { machine.new ≡ machine.old }
+/// Loads an image's program, or returns why it can't be loaded.
+fn loaded(alloc: Global, image: Image) -> Result<Loaded, PageFault>
+    ensures program { IfOk result (λ program. IsProgramOf image program) }
+    ensures none { OnOk result (first_fault image ≡ None) }
+    ensures load { (fault : LoadFault) → result ≡ Err (PageFault.Load fault)
+        → IsRefused fault image × (is_want_of_memory fault ≡ false) }
+    ensures refused { (fault : LoadFault) → IsRefused fault image
+        → (result ≡ Err (PageFault.Load fault)) ⊎ (result ≡ Err PageFault.Memory) }
+    ensures others { ((fault : ScheduleFault) → result ≢ Err (PageFault.Schedule fault)) × (result ≢ Err PageFault.Long) }
 {
-    let text = moment::moment(alloc, machine)?;
-    add_escaped(page, text.as_slice())
-}
-
-/// Plays a choice, and appends its line and the text of the machine after it. Returns whether the choice was accepted.
-fn add_choice(
-    alloc: Global,
-    page: &mut Vec<u8>,
-    machine: &mut Machine,
-    choice: Choice,
-) -> Result<bool, AllocError>
-    ensures { IfOk result (λ accepted. Shows (world_of machine.old) (world_of machine.new) choice accepted
-        page.old.items page.new.items) }
-{
-    let mut line = LineEnd::new();
-    let accepted = line_of_choice(machine, choice, &mut line)?;
-    add_escaped(page, line.as_slice())?;
-    if accepted {
-        add_moment(alloc, page, machine)?;
+    match load(alloc, image) {
+        Ok(program) => Ok(program),
+        Err(LoadFault::Memory) => Err(PageFault::Memory),
+        Err(fault) => Err(PageFault::Load(fault)),
     }
-    Ok(accepted)
 }
 
-/// Plays the choices up to the first that is refused, and appends the line of each and the text of the machine after it.
-fn add_choices(
-    alloc: Global,
-    page: &mut Vec<u8>,
-    machine: &mut Machine,
-    choices: &[Choice],
-) -> Result<(), AllocError>
-    ensures text { OnOk result (page.new.items ≡ page.old.items ++ escaped (moments (world_of machine.old) choices.now)) }
-    ensures world { OnOk result (world_of machine.new ≡ (execution (world_of machine.old) choices.now).world) }
+/// A trace, and the choice of a thread that doesn't exist, with its place, if that ended the run.
+#[derive(Drop)]
+struct Traced {
+    text: CountingSink,
+    missing: Option<(u64, Choice)>,
+}
+
+/// Plays these runs on a program, and keeps their trace, but only its first 16,777,216 bytes.
+fn trace_of_runs(alloc: Global, program: Loaded, runs: &[Run]) -> Result<Traced, AllocError>
+    ensures text { IfOk result (λ traced. traced.text.written ≡ trace_of (first_world program 1000000000) (choices_of runs.now)) }
+    ensures missing { IfOk result (λ traced. traced.missing
+        ≡ missing_in (first_world program 1000000000) (choices_of runs.now)) }
 {
-    for choice in choices {
-        if !add_choice(alloc, page, machine, *choice)? {
-            return Ok(());
-        }
+    let mut text = CountingSink::new(alloc, MOST_TRACE);
+    let end = match run_loaded(alloc, program, runs, &mut text) {
+        Ok(end) => end,
+        Err(_) => return Err(AllocError),
+    };
+    let missing = missing_told(&end);
+    Ok(Traced { text, missing })
+}
+
+/// Returns a trace as a whole, or `Long` if it has more than 16,777,216 bytes.
+fn whole(text: &CountingSink) -> Result<&[u8], PageFault>
+    ensures whole { IfOk result (λ trace. (trace.now ≡ text.now.written) × (length text.now.written ≤ most_trace)) }
+    ensures long { result ≡ Err PageFault.Long → most_trace < length text.now.written }
+    ensures others { IfErr result (λ fault. (fault ≡ PageFault.Long) ⊎ (fault ≡ PageFault.Memory)) }
+{
+    if text.count() > MOST_TRACE {
+        return Err(PageFault::Long);
     }
-    Ok(())
+    if !text.has_kept(MOST_TRACE) {
+        return Err(PageFault::Memory);
+    }
+    Ok(text.kept())
 }
 
-/// Appends the text of a machine, and the run that begins there.
-fn add_run(
-    alloc: Global,
-    page: &mut Vec<u8>,
-    machine: &mut Machine,
-    choices: &[Choice],
-) -> Result<(), AllocError>
-    ensures text { OnOk result (page.new.items ≡ page.old.items ++ escaped (run_shown (world_of machine.old) choices.now)) }
-    ensures world { OnOk result (world_of machine.new ≡ (execution (world_of machine.old) choices.now).world) }
-{
-    add_moment(alloc, page, machine)?;
-    add_choices(alloc, page, machine, choices)
-}
-
-/// Plays the choices, and returns a page: the parts of `frame`, and between them `listing`, `source`, the run and `others`.
+/// Returns a page: the parts of `frame`, and between them these four texts.
 fn page_in(
     alloc: Global,
     frame: Frame,
     listing: &[u8],
     source: &[u8],
-    others: &[u8],
-    machine: &mut Machine,
-    choices: &[Choice],
+    schedule: &[u8],
+    trace: &[u8],
 ) -> Result<Vec<u8>, AllocError>
-    ensures page { IfOk result (λ page. page.items ≡ page_text (parts_of frame.entry)
-        listing.now source.now (run_shown (world_of machine.old) choices.now) others.now) }
-    ensures world { OnOk result (world_of machine.new ≡ (execution (world_of machine.old) choices.now).world) }
+    ensures { IfOk result (λ page. page.items ≡ page_text (parts_of frame.entry)
+        listing.now source.now schedule.now trace.now) }
 {
     let mut page = Vec::new(alloc);
     page.extend_from_slice(frame.head)?;
     add_escaped(&mut page, listing)?;
     page.extend_from_slice(frame.before_source)?;
     add_escaped(&mut page, source)?;
-    page.extend_from_slice(frame.before_run)?;
-    add_run(alloc, &mut page, machine, choices)?;
-    page.extend_from_slice(frame.before_others)?;
-    add_escaped(&mut page, others)?;
+    page.extend_from_slice(frame.before_schedule)?;
+    add_escaped(&mut page, schedule)?;
+    page.extend_from_slice(frame.before_trace)?;
+    add_escaped(&mut page, trace)?;
     page.extend_from_slice(frame.tail)?;
     Ok(page)
 }
 
-/// Returns the page of the run that begins at this machine under a schedule, with these fixed parts and texts. `others` says
-/// whether it has other runs.
-fn show_run(
+/// Returns the page of a program under these runs, with this listing and source.
+fn show_runs(
     alloc: Global,
     frame: Frame,
-    others: OtherRuns,
     listing: &[u8],
     source: &[u8],
-    machine: &mut Machine,
-    schedule: &[u8],
+    program: Loaded,
+    runs: &[Run],
 ) -> Result<Shown, PageFault>
-    requires { length schedule.now < 9223372036854775807 }
-    ensures page { IfOk result (λ shown. IsPageFrom (parts_of frame.entry) others listing.now (world_of machine.old)
-        source.now schedule.now shown.bytes.items) }
-    ensures missing { IfOk result (λ shown. (choices : List Choice) × (AreChoicesOf schedule.now choices
-        × (shown.missing ≡ missing_in (world_of machine.old) choices))) }
-    ensures load { (fault : LoadFault) → result ≢ Err (PageFault.Load fault) }
-    ensures schedule { (fault : ScheduleFault) → result ≡ Err (PageFault.Schedule fault)
-        → ((finished_schedule schedule.now).fault ≡ Some fault) × (fault ≢ ScheduleFault.Memory) }
-    ensures many { result ≡ Err PageFault.Choices → ((finished_schedule schedule.now).fault ≡ None)
-        × (most_choices < length (choices_of (finished_schedule schedule.now).runs)) }
+    requires { All IsRun runs.now }
+    ensures page { IfOk result (λ shown. (length (trace_of (first_world program 1000000000) (choices_of runs.now)) ≤ most_trace)
+        × (shown.bytes.items ≡ page_text (parts_of frame.entry) listing.now source.now (schedule_text runs.now)
+        (trace_of (first_world program 1000000000) (choices_of runs.now)))) }
+    ensures missing { IfOk result (λ shown. shown.missing
+        ≡ missing_in (first_world program 1000000000) (choices_of runs.now)) }
+    ensures long { result ≡ Err PageFault.Long
+        → most_trace < length (trace_of (first_world program 1000000000) (choices_of runs.now)) }
+    ensures others { IfErr result (λ fault. (fault ≡ PageFault.Long) ⊎ (fault ≡ PageFault.Memory)) }
 {
-    let choices = choices_in(alloc, schedule)?;
-    let others = others_text(alloc, others, machine, choices.as_slice())?;
-    let page = page_in(
-        alloc,
-        frame,
-        listing,
-        source,
-        others.as_slice(),
-        machine,
-        choices.as_slice(),
-    )?;
-    Ok(Shown {
-        bytes: page,
-        missing: missing(machine, choices.as_slice()),
-    })
+    let schedule = write_schedule(alloc, runs)?;
+    let Traced { text, missing } = trace_of_runs(alloc, program, runs)?;
+    let trace = whole(&text)?;
+    let bytes = page_in(alloc, frame, listing, source, schedule.as_bytes(), trace)?;
+    Ok(Shown { bytes, missing })
 }
 
-/// Returns the page's fault if an image can't become a machine: `Load`, or out of memory.
-fn fault_of(fault: StartFault) -> PageFault
-    ensures load { (told : LoadFault) → result ≡ PageFault.Load told → fault ≡ StartFault.Load told }
-    ensures others { ((told : ScheduleFault) → result ≢ PageFault.Schedule told) × (result ≢ PageFault.Choices) }
-{
-    match fault {
-        StartFault::Load(fault) => PageFault::Load(fault),
-        StartFault::Memory => PageFault::Memory,
-    }
-}
-
-/// Returns the page of a program, its source and its run, with these fixed parts.
-fn page_with(
+/// Returns the page of a program with these fixed parts: its source, which may be empty, its schedule and its trace.
+pub fn page(
     alloc: Global,
     frame: Frame,
-    others: OtherRuns,
     image: Image,
     source: &[u8],
     schedule: &[u8],
 ) -> Result<Shown, PageFault>
     requires { length schedule.now < 9223372036854775807 }
-    ensures page { IfOk result (λ shown. IsPageIn (parts_of frame.entry) others image
-        source.now schedule.now shown.bytes.items) }
+    ensures page { IfOk result (λ shown. IsPageIn (parts_of frame.entry) image source.now schedule.now shown.bytes.items) }
     ensures missing { IfOk result (λ shown. IsMissingIn image schedule.now shown.missing) }
     ensures load { (fault : LoadFault) → result ≡ Err (PageFault.Load fault)
         → IsRefused fault image × (is_want_of_memory fault ≡ false) }
     ensures schedule { (fault : ScheduleFault) → result ≡ Err (PageFault.Schedule fault)
         → ((finished_schedule schedule.now).fault ≡ Some fault) × (fault ≢ ScheduleFault.Memory) }
-    ensures many { result ≡ Err PageFault.Choices → ((finished_schedule schedule.now).fault ≡ None)
-        × (most_choices < length (choices_of (finished_schedule schedule.now).runs)) }
+    ensures long { result ≡ Err PageFault.Long → HasLongTrace image schedule.now }
     ensures refused { (fault : LoadFault) → IsRefused fault image
         → (result ≡ Err (PageFault.Load fault)) ⊎ (result ≡ Err PageFault.Memory) }
 {
     let Ok(listing) = disassemble(alloc, &image) else {
         return Err(PageFault::Memory);
     };
-    match first_machine(alloc, image) {
-        Ok(mut machine) => show_run(
-            alloc,
-            frame,
-            others,
-            listing.as_slice(),
-            source,
-            &mut machine,
-            schedule,
-        ),
-        Err(fault) => Err(fault_of(fault)),
-    }
-}
-
-/// Returns the fixed parts of a page, which are made from `page/`.
-fn frame() -> Frame<'static>
-    ensures { parts_of result ≡ fixed_parts }
-{
-    Frame {
-        head: HEAD,
-        before_source: BEFORE_SOURCE,
-        before_run: BEFORE_RUN,
-        before_others: BEFORE_OTHERS,
-        tail: TAIL,
-    }
-}
-
-/// Returns the page of a program: its source, which may be empty, its run and its other runs.
-pub fn page(
-    alloc: Global,
-    others: OtherRuns,
-    image: Image,
-    source: &[u8],
-    schedule: &[u8],
-) -> Result<Shown, PageFault>
-    requires { length schedule.now < 9223372036854775807 }
-    ensures page { IfOk result (λ shown. IsPageOf others image source.now schedule.now shown.bytes.items) }
-    ensures missing { IfOk result (λ shown. IsMissingIn image schedule.now shown.missing) }
-    ensures load { (fault : LoadFault) → result ≡ Err (PageFault.Load fault)
-        → IsRefused fault image × (is_want_of_memory fault ≡ false) }
-    ensures schedule { (fault : ScheduleFault) → result ≡ Err (PageFault.Schedule fault)
-        → ((finished_schedule schedule.now).fault ≡ Some fault) × (fault ≢ ScheduleFault.Memory) }
-    ensures many { result ≡ Err PageFault.Choices → ((finished_schedule schedule.now).fault ≡ None)
-        × (most_choices < length (choices_of (finished_schedule schedule.now).runs)) }
-    ensures refused { (fault : LoadFault) → IsRefused fault image
-        → (result ≡ Err (PageFault.Load fault)) ⊎ (result ≡ Err PageFault.Memory) }
-{
-    page_with(alloc, frame(), others, image, source, schedule)
+    let program = match loaded(alloc, image) {
+        Ok(program) => program,
+        Err(fault) => return Err(fault),
+    };
+    let runs = runs_in(alloc, schedule)?;
+    show_runs(
+        alloc,
+        frame,
+        listing.as_slice(),
+        source,
+        program,
+        runs.as_slice(),
+    )
 }

@@ -55,11 +55,7 @@ fn main(rt: HostRuntime) -> ExitCode {
         } => trace::compare(&report, file, trace, is_shown),
         Request::Choices { trace } => trace::choices(&report, trace),
         Request::Debug { file, steps } => debug::debug(&report, file, steps),
-        Request::Show {
-            file,
-            steps,
-            is_alone,
-        } => picture::show(&report, file, steps, is_alone),
+        Request::Show { file, steps } => picture::show(&report, file, steps),
         Request::Draw { file, steps, width } => picture::draw(&report, file, steps, width),
         Request::Live {
             file,

@@ -15,18 +15,19 @@ use fault_reports::plan::PlanFile;
 use fault_reports::program::ProgramFile;
 use fault_reports::report::{Report, Reported};
 use fault_reports::schedule::{self, Origin};
+use page_frame::frame;
 use pictures::choices::MOST_CHOICES;
-use pictures::others::OtherRuns;
 use schedule_reader::write_schedule;
 use workbench::Program;
 use workbench::done::Done;
 use workbench::ending::flushed;
 use workbench::fault::Fault;
 
-/// Writes the picture of a program under a schedule. It is written at once, so nothing is kept back.
+/// Writes the picture, of at most `shown` choices, of a program under a schedule. It is written at once, so nothing is kept back.
 fn made<P: Picture>(
     report: &Report<'_>,
     picture: &P,
+    shown: u64,
     file: ProgramFile<'_>,
     program: Program<'_>,
     choices: Choices<'_>,
@@ -35,7 +36,7 @@ fn made<P: Picture>(
     // Below `.run` the whole schedule was read, so its fault is told even behind too many choices.
     let most = match origin {
         Origin::Beside => u64::MAX,
-        _ => MOST_CHOICES as u64,
+        _ => shown,
     };
     let source = ReadPort::new(choices.stream);
     let watched = Watched::new(report.alloc(), source, choices.lines);
@@ -65,10 +66,11 @@ fn made<P: Picture>(
     }
 }
 
-/// Writes the picture of the program in a file, under the choices that `steps` name.
+/// Writes the picture, of at most `shown` choices, of the program in a file, under the choices that `steps` name.
 fn picture<P: Picture>(
     report: &Report<'_>,
     picture: &P,
+    shown: u64,
     name: &str,
     steps: Steps<'_>,
 ) -> Result<Done, Reported> {
@@ -83,11 +85,11 @@ fn picture<P: Picture>(
     match steps {
         OpenSteps::Beside => {
             let choices = Choices::beside(file, beside);
-            made(report, picture, file, program, choices)
+            made(report, picture, shown, file, program, choices)
         }
         OpenSteps::Named(name, stream) => {
             let choices = Choices::named(name, stream);
-            made(report, picture, file, program, choices)
+            made(report, picture, shown, file, program, choices)
         }
         OpenSteps::Plan(name, plan) => {
             let bytes = plan.as_slice();
@@ -96,25 +98,15 @@ fn picture<P: Picture>(
                 |_| report.fault(Fault::Memory),
             )?;
             let choices = Choices::planned(name, schedule.as_bytes());
-            made(report, picture, file, program, choices)
+            made(report, picture, shown, file, program, choices)
         }
     }
 }
 
 /// Writes the page of the program in a file.
-pub fn show(
-    report: &Report<'_>,
-    name: &str,
-    steps: Steps<'_>,
-    is_alone: bool,
-) -> Result<Done, Reported> {
+pub fn show(report: &Report<'_>, name: &str, steps: Steps<'_>) -> Result<Done, Reported> {
     notes::push_page_on_terminal(report);
-    let others = if is_alone {
-        OtherRuns::LeftOut
-    } else {
-        OtherRuns::Told
-    };
-    picture(report, &Page { others }, name, steps)
+    picture(report, &Page { frame: frame() }, u64::MAX, name, steps)
 }
 
 /// Draws the run of the program in a file, in lines of at most so many bytes.
@@ -124,5 +116,5 @@ pub fn draw(
     steps: Steps<'_>,
     width: u16,
 ) -> Result<Done, Reported> {
-    picture(report, &Drawing { width }, name, steps)
+    picture(report, &Drawing { width }, MOST_CHOICES as u64, name, steps)
 }

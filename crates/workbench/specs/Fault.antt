@@ -78,9 +78,9 @@ abbrev pub refusal_line : List ℕ → Option ℕ → List ℕ → List ℕ
 refusal_line word (Some number) place = word ++ (decimal number ++ (place ++ codes "\n"))
 refusal_line word None place = codes "memory\n"
 
--- the line of more choices than a picture shows
+-- the line of a schedule that is too long for a picture
 abbrev pub too_long : PictureKind → List ℕ
-too_long picture.Page = codes "refused show 2000\n"
+too_long picture.Page = codes "refused show 16777216\n"
 too_long picture.Drawing = codes "refused draw 2000\n"
 
 -- the line on standard error

@@ -22,12 +22,13 @@ pub enum PictureKind {
 }
 
 impl PictureKind {
-    /// Returns the line for a schedule with more choices than such a picture shows.
+    /// Returns the line for a schedule that is too long for such a picture: with the most bytes of a page's trace, or the most
+    /// choices of a drawing.
     fn too_long(self) -> &'static [u8]
         ensures { result.now ≡ too_long self }
     {
         match self {
-            PictureKind::Page => b"refused show 2000\n",
+            PictureKind::Page => b"refused show 16777216\n",
             PictureKind::Drawing => b"refused draw 2000\n",
         }
     }
@@ -44,7 +45,7 @@ pub enum Fault {
     Load(LoadFault),
     /// The schedule has this fault.
     Schedule(ScheduleFault),
-    /// The schedule has more choices than a picture shows.
+    /// The schedule is too long for a picture.
     TooLong(PictureKind),
     /// Out of memory.
     Memory,

@@ -3,11 +3,11 @@ use crate::entry::Entry;
 /// A picture that would be too long.
 pub static TOO_LONG: [Entry; 2] = [
     Entry {
-        asked: &[&["show"], &["show", "2000"]],
-        told: "refused show 2000",
-        means: "the schedule has more choices than a page shows",
-        helps: "a schedule of at most 2000 choices; in a plan a count, as in `..*200`",
-        example: "printf '.thread t #0\\nhalt\\n.run\\nt0*2001\\n' > a.txt; vuthgal show a.txt",
+        asked: &[&["show"], &["show", "16777216"]],
+        told: "refused show 16777216",
+        means: "the trace of the run has more bytes than a page holds",
+        helps: "a shorter schedule; in a plan a count, as in `..*200`",
+        example: "printf '.thread t #0\\nhalt\\n.run\\nt0*2000000\\n' > a.txt; vuthgal show a.txt",
         more: "docs/TRACES.md, \"Page\"",
     },
     Entry {

@@ -1,5 +1,5 @@
 use Rattle.std.proofs.Common.{◌≡◌, ◌≤◌, ◌++◌, drop, length}
-use Rattle.pictures.specs.Page.{most_choices}
+use Rattle.pictures.specs.Choices.{most_choices}
 use Rattle.schedule_reader.specs.Schedule.{choices_of}
 use Rattle.pictures.proofs.choices.choices_of.Given as goal
 

@@ -14,9 +14,9 @@ joined a b d e f g h i j p0 p1 p2 p3 p4 p5 p6 p7 p8 p9 is0 is1 is2 is3 is4 is5 i
     (in_front p5 p6 p9 g _ is6 (in_front p6 p7 p9 h _ is7 (in_front p7 p8 p9 i j is8 is9)))))))
     ∙ ap (λ text. text ++ (a ++ (b ++ (d ++ (e ++ (f ++ (g ++ (h ++ (i ++ j))))))))) is0
 
-pub returns-clause-page : goal.returns-clause-page
-returns-clause-page c =
+pub returns : goal.returns
+returns c =
     joined _ _ _ _ _ _ _ _ _ _ _ _ _ _ _ _ _ _ _ c.new-page.ensures.items c.in_ok-extend_from_slice.ensures.items
     c.in_ok-add_escaped.ensures c.in_ok-extend_from_slice-2.ensures.items c.in_ok-add_escaped-2.ensures
-    c.in_ok-extend_from_slice-3.ensures.items c.in_ok-add_run.ensures.text c.in_ok-extend_from_slice-4.ensures.items
-    c.in_ok-add_escaped-3.ensures c.in_ok-extend_from_slice-5.ensures.items
+    c.in_ok-extend_from_slice-3.ensures.items c.in_ok-add_escaped-3.ensures c.in_ok-extend_from_slice-4.ensures.items
+    c.in_ok-add_escaped-4.ensures c.in_ok-extend_from_slice-5.ensures.items

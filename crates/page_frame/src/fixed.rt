@@ -246,14 +246,14 @@ h3>\n<pre id=\"listing\">\n";
 pub const BEFORE_SOURCE: &[u8] = b"\
 </pre>\n<h3>Program, as it was written</h3>\n<pre id=\"source\">\n";
 
-/// What stands between the program's text and the run.
+/// What stands between the program's text and the schedule.
 #[rattlefmt::skip]
-pub const BEFORE_RUN: &[u8] = b"\
+pub const BEFORE_SCHEDULE: &[u8] = b"\
 </pre>\n<h3>The first run</h3>\n<pre id=\"run\">\n";
 
-/// What stands between the run and the other runs.
+/// What stands between the schedule and the trace.
 #[rattlefmt::skip]
-pub const BEFORE_OTHERS: &[u8] = b"\
+pub const BEFORE_TRACE: &[u8] = b"\
 </pre>\n<h3>Other runs</h3>\n<pre id=\"others\">\n";
 
 /// What a page ends with: its script.

@@ -1,6 +1,0 @@
-use Rattle.std.proofs.Common.{◌≡◌, ◌++◌, drop}
-use Rattle.schedule_reader.specs.Schedule.{choices_of}
-use Rattle.pictures.proofs.others.choices_of.Given as goal
-
-abbrev pub invariant-loop-run : goal.invariant-loop-run
-invariant-loop-run l = l.choices.items ++ choices_of (drop l.run-index l.runs) ≡ choices_of l.runs
