@@ -31,6 +31,7 @@ returns-clause-page c =
         (
           begins,
           c.in_ok-runs.ensures.runs,
+          c.in_ok-runs.ensures.few,
           subst (λ (rs : List Run). length (trace_of world (choices_of rs)) ≤ 16777216) same is.0,
           is.1 ∙ ap (λ l. page_text parts l source (schedule_text c.as_slice-2.result.now) (trace_of world (choices_of c.as_slice-2.result.now))) listed
               ∙ ap (λ (rs : List Run). page_text parts (canonical image) source (schedule_text rs) (trace_of world (choices_of rs))) same,
@@ -68,6 +69,7 @@ returns-clause-long c = λ is.
         (
           begins,
           c.in_ok-runs.ensures.runs,
+          c.in_ok-runs.ensures.few,
           subst (λ (rs : List Run). 16777216 < length (trace_of world (choices_of rs))) same (c.show_runs.ensures.long is),
         ),
       ),
