@@ -27,8 +27,10 @@ mod looking;
 // The calls.
 pub mod choices;
 pub mod debugging;
+pub mod drawing;
 pub mod expecting;
 pub mod explaining;
+pub mod going;
 pub mod law;
 pub mod looks;
 mod origin;
@@ -36,7 +38,6 @@ pub mod other;
 pub mod planning;
 pub mod playing;
 pub mod sessions;
-pub mod showing;
 pub mod stepping;
 pub mod texts;
 pub mod traces;
