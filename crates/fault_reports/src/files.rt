@@ -3,8 +3,8 @@
 use crate::report::{Report, Reported};
 use commands::unplanned::Unplanned;
 use std::io;
-use suggestions::file_name::near_file;
-use suggestions::hint::{Hint, help, near};
+use suggestions::file_name::{near_file, programs_in};
+use suggestions::hint::{Hint, help, help_by_names, near};
 use workbench::fault::Fault;
 
 /// The name of standard input, as it is shown.
@@ -19,6 +19,9 @@ const AT_MINUS: &[u8] =
 
 /// The system's number for a pipe that nobody reads.
 const BROKEN_PIPE: i32 = 32;
+
+/// The system's number for a folder that is read as a file.
+const IS_A_FOLDER: i32 = 21;
 
 /// What helps if no file of this name can be opened: it is `-`, a page or a plan, or near to a file's name.
 fn hint_at_name(rt: &HostRuntime, name: &str) -> Hint {
@@ -40,6 +43,21 @@ fn hint_at_name(rt: &HostRuntime, name: &str) -> Hint {
         Some(file) => near(alloc, file.as_bytes()),
         None => Ok(None),
     }
+}
+
+/// What helps if a file can't be read: a folder's programs.
+fn hint_at_read(rt: &HostRuntime, name: &str, error: &io::Error) -> Hint {
+    if error.raw_os_error() != Some(IS_A_FOLDER) {
+        return Ok(None);
+    }
+    let Some(programs) = programs_in(rt, name) else {
+        return Ok(None);
+    };
+    let mut names = Vec::new(rt.alloc());
+    for program in programs.iter() {
+        names.push(program.as_bytes())?;
+    }
+    help_by_names(rt.alloc(), b"this is a folder; its programs are ", names.as_slice())
 }
 
 /// Reports a fault of a file with the system's reason.
@@ -85,7 +103,13 @@ pub fn fail_for_one_file(report: &Report<'_>, name: &str) -> Reported {
 /// Reports a fault of a command that read the file `input` and wrote `output`. If the system has no reason, a read was too long.
 pub fn fail(report: &Report<'_>, input: &str, output: &str, fault: Fault) -> Reported {
     match (fault, report.reason.error()) {
-        (Fault::Read, Some(error)) => fail_by(report, fault, input, &error, Ok(None)),
+        (Fault::Read, Some(error)) => fail_by(
+            report,
+            fault,
+            input,
+            &error,
+            hint_at_read(report.rt, input, &error),
+        ),
         (Fault::Read, None) => report.fail_for(
             fault,
             input,

@@ -21,12 +21,6 @@ pub struct Place<'a> {
     pub part: Option<WordPlace>,
 }
 
-/// Returns the bytes of a part of a line, or none if the line ends before it.
-pub fn word_at(line: &[u8], part: WordPlace) -> &[u8] {
-    line.get(part.at..part.at.saturating_add(part.length))
-        .unwrap_or(&[])
-}
-
 /// Writes bytes of an input, each that is none of printable ASCII as `?`, and a tab as a blank.
 pub fn push_shown<E: Sink>(errors: &mut E, bytes: &[u8]) -> Result<(), Failed> {
     for byte in bytes.iter() {

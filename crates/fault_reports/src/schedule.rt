@@ -7,49 +7,9 @@ use command_line::ports::watched::Watched;
 use commands::unplanned::Unplanned;
 use line_reader::words::{is_blank, length_before};
 use schedule_reader::ScheduleFault;
-use suggestions::file_kind::{helps_at_encoding, is_trace, is_whole_program};
 use suggestions::hint::help_if_any;
-use suggestions::plan_word::AT_TURN;
+use suggestions::schedule_fault::{Origin, helps_in_schedule};
 use workbench::fault::Fault;
-
-/// Where a schedule is from.
-#[derive(Clone, Copy, PartialEq, Eq)]
-pub enum Origin {
-    /// Below the line `.run` of the program's file.
-    Beside,
-    File,
-    Standard,
-    /// A plan stands for it.
-    Plan,
-}
-
-/// What helps if a schedule is refused at the first byte of the `rest` of its line, if that is more than its entry says.
-fn helps_at(bytes: &[u8], rest: &[u8], origin: Origin) -> Option<&'static str> {
-    let byte = rest.first().copied().unwrap_or(0);
-    if let Some(helps) = helps_at_encoding(bytes) {
-        Some(helps)
-    } else if is_whole_program(bytes) {
-        Some("this is a program: a schedule is a list of turns such as `t0 t1*3`")
-    } else if is_trace(bytes) {
-        Some("this looks like a trace: `vuthgal choices TRACE` writes its schedule")
-    } else if byte == b';' {
-        Some("a schedule can't have comments; a program text can, above its line `.run`")
-    } else if matches!(rest, [b't' | b'T' | b'X', b'0'..=b'9', ..]) {
-        Some(AT_TURN)
-    } else if byte == b'*' {
-        Some("a count follows its star, and no blank is beside the star: `t0*3`")
-    } else if matches!(rest, [b't' | b'x'])
-        || !byte.is_ascii_alphabetic() && !matches!(byte, b'.' | b'?' | b'(' | b')')
-    {
-        None
-    } else if origin == Origin::Beside {
-        Some("below `.run` is a schedule of tN and xN; a plan is an option: `--plan 'ann. bob.'`")
-    } else if origin == Origin::Standard {
-        Some("a schedule has tN and xN; `--plan-file /dev/stdin` plays the plan on standard input")
-    } else {
-        Some("a schedule has tN and xN; a plan has names and `?SEED`: `--plan-file FILE` plays one")
-    }
-}
 
 /// Reports why a schedule is refused.
 pub fn fail<S>(
@@ -67,11 +27,7 @@ pub fn fail<S>(
     };
     let line = place.map_or(b"".as_slice(), |place| place.line.bytes);
     let at = place.and_then(|place| place.part).map_or(0, |part| part.at);
-    // At the line's end the byte before it counts: there a star lacks its count.
-    let rest = line
-        .get(at.min(line.len().saturating_sub(1))..)
-        .unwrap_or(&[]);
-    let helps = helps_at(watched.whole().unwrap_or(&[]), rest, origin);
+    let helps = helps_in_schedule(watched.whole().unwrap_or(&[]), line, at, origin);
     report.fail(
         Unplanned::Fault(Fault::Schedule(fault)),
         name,

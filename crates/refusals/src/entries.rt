@@ -65,11 +65,11 @@ use crate::entries::load::{LOAD_DECLARED, LOAD_PLACE, LOAD_ROW};
 use crate::entries::plan::{PLAN_PARENTHESES, PLAN_WORD};
 use crate::entries::schedule::SCHEDULE;
 use crate::entries::status::STATUS;
-use crate::entries::term::{TERM_OF_PROGRAM, TERM_OF_RUN};
+use crate::entries::term::{TERM_OF_PROGRAM, TERM_OF_RUN, TERM_OF_STATE};
 use crate::entry::Entry;
 
 /// The tables. Of several entries that words ask for it is the first.
-pub fn tables() -> [&'static [Entry]; 28] {
+pub fn tables() -> [&'static [Entry]; 29] {
     [
         &ASM_LINE,
         &ASM_OPERAND,
@@ -97,6 +97,7 @@ pub fn tables() -> [&'static [Entry]; 28] {
         &EVENT_AT_END,
         &TERM_OF_RUN,
         &TERM_OF_PROGRAM,
+        &TERM_OF_STATE,
         &JAVA_TOOLS,
         &JAVA_WAITS,
     ]

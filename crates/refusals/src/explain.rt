@@ -26,7 +26,7 @@ explain expected, stopped           what `--expect` and `plan` say with status 1
 explain none, limit                 a choice that is refused, in a trace
 explain all, stuck, live            how a run ends
 explain idle, wait, die, ..         what a choice did, as its line in a trace says
-explain trace, state, plan, ..      what the program reads and writes
+explain trace, state, p0, plan, ..  what the program reads and writes
 explain ?, no history               replies of `debug`
 explain status 0 .. status 5        an exit status
 explain exception 1 .. exception 8  an exception, or by name: TimeoutException

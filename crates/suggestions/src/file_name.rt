@@ -1,4 +1,4 @@
-//! Which file has a name that is near to one that can't be opened.
+//! Which file has a name that is near to one that can't be opened, and which programs a folder has.
 
 use std::alloc::{AllocError, Global};
 use std::fs;
@@ -82,4 +82,17 @@ pub fn near_file(rt: &HostRuntime, path: &str) -> Option<String> {
     let near = nearest.name?;
     let near = near.as_str();
     format!(in rt.alloc(); "{folder}{near}").ok()
+}
+
+/// Returns the names of a folder's programs in alphabetical order. None if it can't be read, or there is no memory.
+pub fn programs_in(rt: &HostRuntime, folder: &str) -> Option<Vec<String>> {
+    let mut names = Vec::new(rt.alloc());
+    for entry in fs::read_dir(rt, folder).ok()? {
+        let entry = entry.ok()?;
+        if is_of_program(entry.file_name()) {
+            names.push(String::from_str(rt.alloc(), entry.file_name()).ok()?).ok()?;
+        }
+    }
+    names.sort_unstable();
+    Some(names)
 }

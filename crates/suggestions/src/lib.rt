@@ -21,5 +21,10 @@ pub mod meant;
 pub mod plan_line;
 pub mod plan_word;
 
+// What helps at a fault.
+pub mod plan_fault;
+pub mod program_fault;
+pub mod schedule_fault;
+
 // What is asked for.
 pub mod sought;

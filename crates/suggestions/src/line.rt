@@ -1,5 +1,6 @@
 //! The words of a line of a program's text.
 
+use assembler::word_place::WordPlace;
 use line_reader::label::is_label;
 use line_reader::words::{before_comment, is_blank};
 use std::alloc::{AllocError, Global};
@@ -30,4 +31,10 @@ pub fn first_word(line: &[u8]) -> &[u8] {
         Some(_) => word(line, 1).unwrap_or(&[]),
         None => &[],
     }
+}
+
+/// Returns the bytes of a part of a line, or none if the line ends before it.
+pub fn word_at(line: &[u8], part: WordPlace) -> &[u8] {
+    line.get(part.at..part.at.saturating_add(part.length))
+        .unwrap_or(&[])
 }

@@ -123,6 +123,8 @@ fn helps_at_word(alloc: Global, text: &[u8], words: &[&[u8]], word: &[u8]) -> Op
         )
     } else if word == b".run".as_slice() {
         Some("`.run` is alone in its line, and the schedule is below it")
+    } else if word == b"run".as_slice() && words.len() == 1 {
+        Some("the line between a program and its schedule is `.run`, with a dot")
     } else if has_comment_sign(word) {
         Some(AT_COMMENT)
     } else if word.ends_with(b".") {
@@ -192,6 +194,37 @@ fn helps_at_count(first: &[u8], words: &[&[u8]]) -> Option<&'static str> {
     }
 }
 
+/// Whether a word is written nearly as a register: `r8`, `R0`, `r12`.
+fn is_like_register(word: &[u8]) -> bool {
+    match word {
+        [b'r' | b'R', digits @ ..] => !digits.is_empty()
+            && digits.iter().all(|byte| byte.is_ascii_digit()),
+        _ => false,
+    }
+}
+
+/// Whether a word stands behind this one in a line.
+fn is_behind(words: &[&[u8]], before: &[u8], word: &[u8]) -> bool {
+    words
+        .windows(2)
+        .any(|pair| matches!(pair, [first, second] if *first == before && *second == word))
+}
+
+/// What helps at a number that is out of range: the range. `first` is the row's or directive's word of its line.
+fn helps_at_range(first: &[u8], words: &[&[u8]], word: &[u8]) -> &'static str {
+    if word.starts_with(b"#") {
+        "behind # there is a number from 0 to 65535"
+    } else if first == b"ldi".as_slice() {
+        "`ldi` takes -2147483648 to 2147483647"
+    } else if is_behind(words, b"phase", word) {
+        "a phase is 0 to 2147483647"
+    } else if is_behind(words, b"until", word) {
+        "`until` takes a phase, 0 to 2147483647"
+    } else {
+        "PARTIES is 0 to 65535"
+    }
+}
+
 /// What helps at a word that is no register: it is a cell or a number, or the line has a `=`.
 fn helps_at_register(text: &[u8], words: &[&[u8]], word: &[u8]) -> Option<&'static str> {
     if declares(text, b".cell", word) {
@@ -200,6 +233,8 @@ fn helps_at_register(text: &[u8], words: &[&[u8]], word: &[u8]) -> Option<&'stat
         Some(AT_EQUALS)
     } else if is_number(word) {
         Some("put the number into a register first, as in `ldi r1 1`")
+    } else if is_like_register(word) {
+        Some("the registers are r0 to r7: a small r and one digit")
     } else {
         None
     }
@@ -240,6 +275,7 @@ fn helps_at_kind(
             "`mov` copies a register: `ldi r0 5` puts a number into one",
         ),
         AsmFaultKind::BadRegister => helps_at_register(text, words, word),
+        AsmFaultKind::OutOfRange => Some(helps_at_range(first, words, word)),
         AsmFaultKind::BadNumber if matches!(word, [b'0'..=b'9' | b'#' | b'+', ..]) => Some(
             "decimal digits alone, with a `-` before them if the number is below 0: `ldi r0 -16`",
         ),

@@ -2,7 +2,7 @@
 
 use crate::java::{METHODS, method_in, row_of};
 use crate::line::word;
-use crate::nearest::Nearest;
+use crate::nearest::{Nearest, SHORT};
 use instruction_table::OperandKind;
 use line_reader::directive::is_directive;
 use line_reader::label::{before_last, is_label};
@@ -131,9 +131,13 @@ pub fn nearest_word(alloc: Global, word: &[u8]) -> Result<Nearest<'static>, Allo
     Ok(nearest)
 }
 
-/// Returns the word that is nearest to this one, of those that `explain` knows.
+/// Returns the word that is nearest to this one, of those that `explain` knows. A word of up to three letters, as `foo`, is near
+/// only to one of the language: of the others one differs from nearly each in a single letter.
 pub fn nearest_question(alloc: Global, word: &[u8]) -> Result<Nearest<'static>, AllocError> {
     let mut nearest = nearest_word(alloc, word)?;
+    if word.len() <= SHORT {
+        return Ok(nearest);
+    }
     for table in tables().iter() {
         for entry in table.iter() {
             for asked in entry.asked.iter() {

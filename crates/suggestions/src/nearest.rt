@@ -14,9 +14,15 @@ pub fn in_small_letters(alloc: Global, word: &[u8]) -> Result<Vec<u8>, AllocErro
     Ok(small)
 }
 
+/// In how many letters two names differ at least if neither is near to the other.
+const FAR: usize = 3;
+
 /// In how many letters two names differ that are changed, left out, added, or have changed places. Large and small letters are
-/// the same. Bytes that are no UTF-8 are as far as can be.
+/// the same. Bytes that are no UTF-8 are as far as can be, and so is a name that is longer or shorter by as much as none near is.
 fn distance(alloc: Global, a: &[u8], b: &[u8]) -> Result<usize, AllocError> {
+    if a.len().abs_diff(b.len()) >= FAR {
+        return Ok(usize::MAX);
+    }
     let a = in_small_letters(alloc, a)?;
     let b = in_small_letters(alloc, b)?;
     match (str::from_utf8(a.as_slice()), str::from_utf8(b.as_slice())) {
@@ -37,7 +43,7 @@ impl<'a> Nearest<'a> {
     pub fn to(word: &[u8]) -> Nearest<'a> {
         Nearest {
             meant: None,
-            far: word.len().div_ceil(2).min(3).max(word.len().min(2)),
+            far: word.len().div_ceil(2).min(FAR).max(word.len().min(2)),
         }
     }
 
@@ -65,7 +71,7 @@ impl<'a> Nearest<'a> {
 }
 
 /// How many letters a word has at most that is near only to a name that no other is as near as.
-const SHORT: usize = 3;
+pub const SHORT: usize = 3;
 
 /// Returns the nearest of these names. For a word of up to three letters there is none if two are as near.
 pub fn nearest_of<'a>(

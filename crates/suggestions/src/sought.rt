@@ -29,6 +29,47 @@ fn word_meant(alloc: Global, word: &str) -> Result<Option<&'static str>, AllocEr
     )
 }
 
+/// Whether these words are the sentence of an entry, behind the name of its kind if it has one.
+fn are_sentence(means: &str, words: &[&str]) -> bool {
+    let mut said = means.split_once(": ").map_or(means, |(_, sentence)| sentence).split_ascii_whitespace();
+    for word in words {
+        if said.next() != Some(*word) {
+            return false;
+        }
+    }
+    said.next().is_none()
+}
+
+/// The words that ask for an entry whose sentence a failure at a terminal has: these.
+fn asked_by_sentence(words: &[&str]) -> Option<&'static [&'static str]> {
+    for table in tables().iter() {
+        for entry in table.iter() {
+            if are_sentence(entry.means, words) {
+                return entry.asked.first().copied();
+            }
+        }
+    }
+    None
+}
+
+/// The word that asks for what a line of the state, or a mark in a trace, is about: `p0` for any phaser, `+b0` for a barrier.
+fn numbered_word(word: &str) -> Option<&'static str> {
+    let letters = word.trim_end_matches(|letter: char| letter.is_ascii_digit());
+    if letters.len() == word.len() {
+        return None;
+    }
+    match letters {
+        "p" => Some("p0"),
+        "b" => Some("b0"),
+        "c" => Some("c0"),
+        "+p" => Some("+p0"),
+        "+b" => Some("+b0"),
+        "-b" => Some("-b0"),
+        "t" | "x" => Some("schedule"),
+        _ => None,
+    }
+}
+
 /// The words that ask for an entry whose kind has this name, as `UnknownWord`, or that ask for it in other letters.
 fn asked_by(name: &str) -> Option<&'static [&'static str]> {
     for table in tables().iter() {
@@ -61,10 +102,19 @@ pub fn words_sought(alloc: Global, words: &[&str]) -> Result<Vec<&'static str>, 
     };
     match meant {
         Some(meant) => Vec::from_slice(alloc, &[meant]),
-        None => match words {
-            [word] => Vec::from_slice(alloc, asked_by(*word).unwrap_or(&[])),
-            _ => Ok(Vec::new(alloc)),
-        },
+        None => {
+            let asked = match words {
+                [word] => asked_by(*word),
+                _ => None,
+            };
+            if let Some(asked) = asked.or(asked_by_sentence(words)) {
+                return Vec::from_slice(alloc, asked);
+            }
+            match words.first().map_or(None, |word| numbered_word(*word)) {
+                Some(word) => Vec::from_slice(alloc, &[word]),
+                None => Ok(Vec::new(alloc)),
+            }
+        }
     }
 }
 
@@ -74,27 +124,33 @@ fn is_about(question: &str, word: &str) -> bool {
     asked == word || asked == "exception" && word.ends_with("Exception")
 }
 
+/// What is written in place of the questions if none is near.
+const ALL: &[u8] = b"explain                             all that you can ask\n";
+
+/// How many near questions are written at most, so that all is five lines.
+const MOST_LINES: usize = 3;
+
 /// Writes that no line has these words, and which questions they are near to: lines that begin like them, or the word that is
-/// nearest to a single one, or else all lines.
+/// nearest to a single one, or else how to see all.
 pub fn push_near_questions<E: Sink>(
     alloc: Global,
     errors: &mut E,
     words: &[&str],
 ) -> Result<(), Failed> {
     errors.push(NO_LINE)?;
-    let mut is_found = false;
+    let mut found: usize = 0;
     for question in QUESTIONS.split('\n') {
-        if words.iter().any(|word| is_about(question, *word)) {
+        if found < MOST_LINES && words.iter().any(|word| is_about(question, *word)) {
             push_pieces(errors, &[question.as_bytes(), b"\n"])?;
-            is_found = true;
+            found += 1;
         }
     }
     match words {
-        _ if is_found => Ok(()),
+        _ if found > 0 => Ok(()),
         [word] => match nearest_question(alloc, word.as_bytes()).map_or(None, |near| near.meant) {
             Some(near) => push_pieces(errors, &[b"explain ", near, b"\n"]),
-            None => errors.push(QUESTIONS.as_bytes()),
+            None => errors.push(ALL),
         },
-        _ => errors.push(QUESTIONS.as_bytes()),
+        _ => errors.push(ALL),
     }
 }

@@ -35,7 +35,7 @@ static OPTIONS: [(&str, &str); 3] = [
         "help: `live` has `--stir SEED`, and `plan` has `--seeds FROM..TO`\n",
     ),
     (
-        "-o --output",
+        "-o --out --output",
         "help: `> FILE` behind the command writes its output to a file\n",
     ),
 ];
@@ -116,7 +116,20 @@ fn push_text(rt: &HostRuntime, text: Result<String, AllocError>) {
     }
 }
 
-/// Whether a plan or a STATE has no quotes: an option for one has two words behind it, or another word ends with a dot.
+/// A text without its blank lines: a failure has at most five lines.
+fn without_blank_lines(rt: &HostRuntime, text: &str) -> Result<String, AllocError> {
+    let mut lines = String::new(rt.alloc());
+    for line in text.split('\n') {
+        if !line.trim_ascii().is_empty() {
+            lines.push_str(line)?;
+            lines.push('\n')?;
+        }
+    }
+    Ok(lines)
+}
+
+/// Whether a plan or a STATE has no quotes: an option for one has two words behind it, or a word ends with a dot that isn't
+/// behind an option.
 fn lack_quotes(words: &[String]) -> bool {
     let mut before = 0;
     for word in words {
@@ -127,6 +140,7 @@ fn lack_quotes(words: &[String]) -> bool {
         before = match word {
             "--plan" | "--expect" => 1,
             _ if before == 1 => 2,
+            _ if word.starts_with("-") => 3,
             _ => 0,
         };
     }
@@ -167,7 +181,7 @@ impl NoCommand {
         };
         match (text, self) {
             (Ok(text), NoCommand::Words(error)) if error.use_stderr() => {
-                push_text(rt, Ok(text));
+                push_text(rt, without_blank_lines(rt, text.as_str()));
                 push_way(rt, error.kind(), words);
                 WRONG_WORDS
             }

@@ -85,3 +85,39 @@ pub static TERM_OF_PROGRAM: [Entry; 4] = [
         more: "docs/LANGUAGE.md, \"Instruction table\"",
     },
 ];
+
+/// The lines of a state behind those of its threads, and the signs of a drawing.
+pub static TERM_OF_STATE: [Entry; 4] = [
+    Entry {
+        asked: &[&["p0"]],
+        told: "p0 PHASE PARTIES ARRIVED UNARRIVED",
+        means: "a phaser in a state: what `getPhase` returns, and its parties, how many have arrived and how many haven't",
+        helps: "a negative PHASE is that of a phaser that has terminated",
+        example: "printf '.phaser p 2\\n.thread t #0\\nparr r0 p\\nhalt\\n.run\\nt0\\n' | vuthgal",
+        more: "docs/TRACES.md, \"Trace text\"",
+    },
+    Entry {
+        asked: &[&["b0"]],
+        told: "b0 WAITING BROKEN",
+        means: "a barrier in a state: how many threads have arrived in this generation, and whether it is broken, 0 or 1",
+        helps: "a broken barrier throws at each wait, until `creset` resets it",
+        example: "printf '.barrier b 2\\n.thread t #0\\ncawait r0 b\\nhalt\\n.run\\nt0\\n' | vuthgal",
+        more: "docs/TRACES.md, \"Trace text\"",
+    },
+    Entry {
+        asked: &[&["c0"]],
+        told: "c0 VALUE",
+        means: "a cell in a state: its value; a cell that is 0 has no line",
+        helps: "`lds a C` reads a cell and `sts a C` writes it",
+        example: "printf '.cell c\\n.thread t #0\\nldi r0 5\\nsts r0 c\\nhalt\\n.run\\nt0*2\\n' | vuthgal",
+        more: "docs/TRACES.md, \"Trace text\"",
+    },
+    Entry {
+        asked: &[&["|"], &["#"], &[":"], &["!"], &["signs"], &["sign"]],
+        told: "| # : !",
+        means: "in a drawing, a thread at another's turn: `|` runs, `#` waits, `:` waits and can go on, `!` throws",
+        helps: "a thread that has ended or died has no sign",
+        example: "printf '.thread t #0\\nhalt\\n.run\\nt0\\n' > a.txt; vuthgal draw a.txt",
+        more: "docs/TRACES.md, \"Picture\"",
+    },
+];
