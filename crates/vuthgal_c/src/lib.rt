@@ -24,6 +24,9 @@ mod session_sink;
 pub mod look;
 mod looking;
 
+// Where an input is refused.
+pub mod place;
+
 // The calls.
 pub mod choices;
 pub mod debugging;
@@ -33,6 +36,7 @@ pub mod explaining;
 pub mod going;
 pub mod law;
 pub mod looks;
+pub mod mistake;
 mod origin;
 pub mod other;
 pub mod planning;
