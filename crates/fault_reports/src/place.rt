@@ -6,7 +6,6 @@ use assembler::word_place::{WordPlace, line_at};
 use byte_ports::{Failed, Sink};
 use command_line::ports::watched::{Line, Watched};
 use itoa::Buffer;
-use line_reader::words::{before_comment, is_blank};
 
 /// How many bytes of a line are shown.
 const WIDTH: usize = 72;
@@ -47,17 +46,6 @@ fn window(line: &[u8], place: WordPlace) -> usize
         .min(line.len().saturating_sub(WIDTH))
 }
 
-/// Returns what a line without its comment says behind its label, without the blanks round it.
-fn statement(line: &[u8], behind_label: usize) -> Option<WordPlace> {
-    let said = line.get(behind_label..)?;
-    let at = said.iter().position(|byte| !is_blank(*byte))?;
-    let last = said.iter().rposition(|byte| !is_blank(*byte))?;
-    Some(WordPlace {
-        at: behind_label.saturating_add(at),
-        length: last.saturating_add(1).saturating_sub(at),
-    })
-}
-
 impl<'a> Place<'a> {
     /// Returns the place of a part of the line of this number, from 1, of a text. None if it has fewer lines.
     pub fn in_text(text: &'a [u8], number: u64, part: Option<WordPlace>) -> Option<Place<'a>> {
@@ -69,14 +57,6 @@ impl<'a> Place<'a> {
             },
             part,
         })
-    }
-
-    /// Returns the place of a line's row or directive with its operands, without label, comment and outer blanks.
-    pub fn of_statement(text: &'a [u8], number: u64) -> Option<Place<'a>> {
-        let line = before_comment(line_at(text, number)?);
-        let colon = line.iter().position(|byte| *byte == b':');
-        let label = colon.map_or(0, |at| at.saturating_add(1));
-        Place::in_text(text, number, statement(line, label))
     }
 
     /// Returns the place of the byte at this offset of what is watched, if it is still known.

@@ -22,6 +22,7 @@ pub mod plan_line;
 pub mod plan_word;
 
 // What helps at a fault.
+pub mod load_fault;
 pub mod plan_fault;
 pub mod program_fault;
 pub mod schedule_fault;
