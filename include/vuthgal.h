@@ -33,7 +33,7 @@
  * Signals and fork. A call blocks no signal and handles none. As malloc, no call may be made in a handler of a signal, nor in a
  * forked child of a process that has threads. Otherwise a forked child has a copy of each session, and closes it for itself.
  *
- * Machine. x86-64 Linux, and a processor of level x86-64-v2 (SSE4.2, POPCNT; from about 2009 on). libvuthgal.so.1 needs glibc 2.14 or
+ * Machine. x86-64 Linux, and a processor of level x86-64-v2 (SSE4.2, POPCNT; from about 2009 on). libvuthgal.so.2 needs glibc 2.14 or
  * later. Where it is loaded on an older processor, it writes a line to standard error and ends the process with status 1; the archive
  * libvuthgal.a has no such check.
  *
@@ -55,7 +55,8 @@ extern "C" {
 
 /* What a call returns. */
 #define VUTHGAL_DONE 0
-/* compare: the trace differs, or isn't one; choices: it isn't one; plan: it needs more choices; back: none is kept */
+/* compare: the trace differs, or isn't one; choices: it isn't one; plan: it needs more choices; back: none is kept; go_to: fewer were
+   played */
 #define VUTHGAL_UNLIKE 1
 /* explain: no line has these words */
 #define VUTHGAL_NO_LINE 2
@@ -83,6 +84,18 @@ extern "C" {
 #define VUTHGAL_LINE 96
 /* Room for the reply of a session to each command but `p`. */
 #define VUTHGAL_REPLY 192
+
+/* A part of a line of an input. */
+typedef struct {
+  uint64_t line;   /* the number of the line, from 1; 0 if no line is to blame, as in an image */
+  uint64_t column; /* the first byte of the part, from 1; 0 if the whole line is meant */
+  uint64_t length; /* how many bytes the part has */
+  uint8_t input;   /* VUTHGAL_PROGRAM, VUTHGAL_PLAN or VUTHGAL_SCHEDULE */
+} vuthgal_place;
+
+#define VUTHGAL_PROGRAM 0
+#define VUTHGAL_PLAN 1
+#define VUTHGAL_SCHEDULE 2
 
 /* Plays a program under a schedule, as `vuthgal run FILE SCHEDULE`. The output is the trace. */
 uint8_t vuthgal_run(const uint8_t *program, size_t program_length,
@@ -135,18 +148,22 @@ uint8_t vuthgal_seeds(const uint8_t *program, size_t program_length,
                       uint8_t *output, size_t output_room, size_t *output_length,
                       uint8_t *line, size_t line_room, size_t *line_length);
 
-/* Shows a run, as `vuthgal show FILE SCHEDULE`. The output is a page for a browser, in ASCII, which needs no network. */
-uint8_t vuthgal_show(const uint8_t *program, size_t program_length,
-                     const uint8_t *schedule, size_t schedule_length,
-                     uint8_t *output, size_t output_room, size_t *output_length,
-                     uint8_t *line, size_t line_room, size_t *line_length);
-
 /* Draws a run, as `vuthgal draw FILE SCHEDULE --width WIDTH`. The output is text, in lines of at most WIDTH bytes. The program
    takes a WIDTH from 60 to 1000. The call takes any, and cuts what has no room, so that less leaves little to read. */
 uint8_t vuthgal_draw(const uint8_t *program, size_t program_length,
                      const uint8_t *schedule, size_t schedule_length, uint16_t width,
                      uint8_t *output, size_t output_room, size_t *output_length,
                      uint8_t *line, size_t line_room, size_t *line_length);
+
+/* Says where a program, a plan or a schedule is refused, and what helps, as the program shows it at a terminal. INPUT is a plan or a
+   schedule of this program, by KIND. If KIND is VUTHGAL_PROGRAM, only the program is looked at. The program comes first. With 3, LINE is
+   the line of the refusal, *PLACE gets the word that makes it, and the output is the line `near: ..` or `help: ..` with its line feed,
+   or empty if nothing is known to help. With any other status each field of *PLACE is 0, and the output is empty. */
+uint8_t vuthgal_mistake(const uint8_t *program, size_t program_length,
+                        uint8_t kind, const uint8_t *input, size_t input_length,
+                        vuthgal_place *place,
+                        uint8_t *output, size_t output_room, size_t *output_length,
+                        uint8_t *line, size_t line_room, size_t *line_length);
 
 /* Carries out lines of commands on a program, as `vuthgal debug FILE < COMMANDS`. The output is the replies. */
 uint8_t vuthgal_debug(const uint8_t *program, size_t program_length,
@@ -297,6 +314,12 @@ uint8_t vuthgal_session_step(vuthgal_session *session, uint8_t thread, uint8_t e
 /* Takes back the last choice: the command `b`. Returns 0, or 1 if none is kept: a session keeps 4,096. It allocates nothing. */
 uint8_t vuthgal_session_back(vuthgal_session *session);
 
+/* Goes to the state after the first NUMBER choices of PLAYED, the schedule of what was played from the beginning on. The state is made
+   anew: the program begins again, and plays these choices without a stop at breakpoints. So it may be more than 4,096 choices back, and
+   it takes as long as these choices. Breakpoints and reply stay. With 1 PLAYED has fewer choices, with 3 it is no schedule, and with
+   7 or 8 one of these choices is refused. With any status but 0 nothing changes. */
+uint8_t vuthgal_session_go_to(vuthgal_session *session, const uint8_t *played, size_t played_length, uint64_t number);
+
 /* Says who may go. Bit t of *TURNS is set if the turn of thread t would do something now, and bit t of *EXPIRIES if the time-out of
    its wait would. Every other choice would be idle. At the limit of steps, a choice whose bit is set is refused with 8. It allocates
    nothing, and changes nothing but the two words, which are 0 if the session is closed. */
@@ -327,9 +350,9 @@ uint8_t vuthgal_session_outputs(vuthgal_session *session, uint8_t thread,
 uint8_t vuthgal_session_copy(vuthgal_session *from, vuthgal_session *to);
 
 /* Writes the schedule of another run, which makes this choice in the present state: its thread goes on until it waits or ends, for at
-   most 100 turns. A thread that isn't there makes no choice. Then those choices of REST follow that still do something: REST is the
-   schedule with which the run itself would go on, at most 2,000 choices. Then all threads take turns. There are at most MOST choices,
-   and at most 1,000,000. The session doesn't change. With 3 REST is refused, and the output is empty. */
+   most 100 turns. Then those choices of REST follow that still do something: REST is the schedule with which the run itself would go
+   on, at most 2,000 choices. Then all threads take turns. There are at most MOST choices, and at most 1,000,000. The session doesn't
+   change. With 3 REST is refused. With any status but 0 the output is empty. */
 uint8_t vuthgal_session_other(vuthgal_session *session, uint8_t thread, uint8_t expiry, uint32_t most,
                               const uint8_t *rest, size_t rest_length,
                               uint8_t *output, size_t output_room, size_t *output_length);

@@ -1,4 +1,4 @@
-/* What libvuthgal.so.1 does as it is loaded: on a processor below x86-64-v2, whose instructions the library needs, it says so and ends
+/* What libvuthgal.so.2 does as it is loaded: on a processor below x86-64-v2, whose instructions the library needs, it says so and ends
    the process with status 1. Without this the first call would end it by a signal. bin/program links it. */
 #include <cpuid.h>
 #include <unistd.h>

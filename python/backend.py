@@ -1,4 +1,4 @@
-"""Builds the wheel and the source archive of this package, as PEP 517 and PEP 660 have it. Both hold libvuthgal.so.1, and the same
+"""Builds the wheel and the source archive of this package, as PEP 517 and PEP 660 have it. Both hold libvuthgal.so.2, and the same
 files make the same bytes. It needs the standard library alone."""
 import base64
 import gzip
@@ -14,10 +14,10 @@ HERE = Path(__file__).resolve().parent
 
 def _library():
     """The library: that of the clone, or that of the source archive."""
-    for path in (HERE.parent / "lib" / "libvuthgal.so.1", HERE / "libvuthgal.so.1"):
+    for path in (HERE.parent / "lib" / "libvuthgal.so.2", HERE / "libvuthgal.so.2"):
         if path.is_file():
             return path.read_bytes()
-    raise SystemExit("there is no lib/libvuthgal.so.1: bin/program --library builds it")
+    raise SystemExit("there is no lib/libvuthgal.so.2: bin/program --library builds it")
 
 
 def _app():
@@ -109,7 +109,7 @@ def _written(directory, files):
 
 
 def build_wheel(wheel_directory, config_settings=None, metadata_directory=None):
-    return _written(wheel_directory, {**dict(_sources()), "vuthgal/libvuthgal.so.1": _library(), "vuthgal/vuthgal.html": _app()})
+    return _written(wheel_directory, {**dict(_sources()), "vuthgal/libvuthgal.so.2": _library(), "vuthgal/vuthgal.html": _app()})
 
 
 def build_editable(wheel_directory, config_settings=None, metadata_directory=None):
@@ -121,7 +121,7 @@ def build_sdist(sdist_directory, config_settings=None):
     files = {f"src/{path}": content for path, content in _sources()}
     for path in ("backend.py", "pyproject.toml", "README.md"):
         files[path] = (HERE / path).read_bytes()
-    files["libvuthgal.so.1"] = _library()
+    files["libvuthgal.so.2"] = _library()
     files["vuthgal.html"] = _app()
     files["PKG-INFO"] = _metadata(_version()).encode()
     held = io.BytesIO()

@@ -2,7 +2,7 @@
 """Calls of the library that are made by chance, by Node and by the native library: each status, output, line, and what each session
 answers have to be the same. The inputs are examples, changed examples, and those of tests/fuzzing. Before the last line stands how
 many calls of each name and status there were. The last line is `N passed, N failed`, of kinds of calls.
-    tests/node/calls.py SECONDS [SEED] [LIBRARY]    by default a seed of its own, and lib/libvuthgal.so.1"""
+    tests/node/calls.py SECONDS [SEED] [LIBRARY]    by default a seed of its own, and lib/libvuthgal.so.2"""
 import base64
 import collections
 import ctypes
@@ -249,4 +249,4 @@ if __name__ == "__main__":
     if not sys.argv[1:]:
         sys.exit(__doc__)
     seed = int(sys.argv[2]) if sys.argv[2:] else random.randrange(1 << 32)
-    sys.exit(main(float(sys.argv[1]), seed, sys.argv[3] if sys.argv[3:] else TOP / "lib/libvuthgal.so.1"))
+    sys.exit(main(float(sys.argv[1]), seed, sys.argv[3] if sys.argv[3:] else TOP / "lib/libvuthgal.so.2"))

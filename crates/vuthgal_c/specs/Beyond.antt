@@ -1,7 +1,8 @@
--- What the calls promise whose commands are in `commands`: plans, pictures, and schedules of traces.
+-- What the calls promise whose commands are in `commands`: plans, drawings, and schedules of traces.
 use Rattle.std.specs.Prelude.{◌≡◌, ◌≢◌, ◌⊎◌, ◌<◌, ◌==◌, ℕ, Bool, true, false, not, if◌then◌else◌, min, IsTrue, List, [], ◌++◌, length, Option, Some, None, Result, Ok, Err, IfOk, IfErr, OnOk, is_none, codes}
 use Rattle.std.specs.Fmt.{decimal}
 use Rattle.std.specs.Io.KnownBytes.{Appends}
+use Rattle.commands.specs.Drawing.{IsDrawingIn}
 use Rattle.commands.specs.Picture.{HaveNoPicture}
 use Rattle.commands.specs.Pictures.{HasWritten, program_of}
 use Rattle.commands.specs.Planning.{HasNamedPlanned, HasNoSchedule, HasPlanned}
@@ -13,7 +14,7 @@ use Rattle.commands.specs.declared.unplanned.Unplanned.{Unplanned}
 use Rattle.commands.specs.declared.unplanned.Unplanned.TheVariants as why
 use Rattle.workbench.specs.declared.fault.Fault.{Fault}
 use Rattle.workbench.specs.declared.fault.Fault.TheVariants as fault
-use Rattle.workbench.specs.declared.fault.PictureKind.{PictureKind}
+use Rattle.workbench.specs.declared.fault.PictureKind.TheVariants as picture
 use Rattle.workbench.specs.declared.program.Program.{Program}
 use Rattle.workbench.specs.Done.{as_asked}
 use Rattle.workbench.specs.Fault.{status_of}
@@ -133,24 +134,23 @@ Reports file steps AreThese status report line =
     × SettlesSeeds answer status false (Some []) (Some line)
     × (IsTooMuch file steps → answer ≡ Err (why.Fault fault.Read))))
 
--- why a program and a schedule are refused a picture: the file holds no program; or they have none
-abbrev pub IsUnmadeFor : PictureKind → Fault → (file schedule : List ℕ) → Type 0
-IsUnmadeFor kind f file schedule =
-    IsNoProgramFor f file ⊎ ((program : Program) × (IsProgramIn file program × HaveNoPicture kind f program.image schedule))
+-- why a program and a schedule have no drawing: the file holds no program; or they have none
+abbrev pub IsUndrawnFor : Fault → (file schedule : List ℕ) → Type 0
+IsUndrawnFor f file schedule =
+    IsNoProgramFor f file ⊎ ((program : Program) × (IsProgramIn file program × HaveNoPicture picture.Drawing f program.image schedule))
 
--- the picture of a program and a schedule was written; or why not, and then nothing was, unless the output failed
-pub record MakesPicture (IsPicture : Program → List ℕ → List ℕ → Type 0) (kind : PictureKind) (file schedule : List ℕ)
-    (answer : Result (Unit {0}) Fault) (output_before output_after : Option (List ℕ)) (output_failed : Bool) : Type 0 where
+-- the drawing of a program and a schedule was written; or why not, and then nothing was, unless the output failed
+pub record DrawsRun (width : ℕ) (file schedule : List ℕ) (answer : Result (Unit {0}) Fault) (output_before output_after : Option (List ℕ))
+    (output_failed : Bool) : Type 0 where
   pub done : OnOk answer ((program : Program) × (IsProgramIn file program
-      × HasWritten (IsPicture program schedule) output_before output_after))
-  pub refused : IfErr answer (λ f. status_of f ≡ 3 → IsUnmadeFor kind f file schedule)
+      × HasWritten (IsDrawingIn width program.image program.names schedule) output_before output_after))
+  pub refused : IfErr answer (λ f. status_of f ≡ 3 → IsUndrawnFor f file schedule)
   pub unwritten : IfErr answer (λ f. f ≢ fault.Write → output_after ≡ output_before)
   pub read : answer ≡ Err fault.Read → IsTooMuch file schedule
   pub write : answer ≡ Err fault.Write → IsTrue output_failed
   pub spawn : answer ≢ Err fault.Spawn
 
-abbrev pub Makes : (IsPicture : Program → List ℕ → List ℕ → Type 0) → PictureKind → (file schedule : List ℕ)
-    (status : ℕ) (picture line : List ℕ) → Type 0
-Makes IsPicture kind file schedule status picture line =
-    (answer : Result (Unit {0}) Fault) × (MakesPicture IsPicture kind file schedule answer (Some []) (Some picture) false
+abbrev pub Draws : (width : ℕ) (file schedule : List ℕ) → (status : ℕ) (drawing line : List ℕ) → Type 0
+Draws width file schedule status drawing line =
+    (answer : Result (Unit {0}) Fault) × (DrawsRun width file schedule answer (Some []) (Some drawing) false
     × Settles as_asked answer status line × (IsTooMuch file schedule → answer ≡ Err fault.Read))

@@ -9,3 +9,5 @@ pub mod Looks
 pub mod Sessions
 pub mod Conversation
 pub mod Expecting
+pub mod Places
+pub mod Mistakes

@@ -205,6 +205,12 @@ abbrev pub StackIsSeen : ThreadState → (before after : List EntryLook) → Typ
 StackIsSeen thread =
     IsFilled (λ n. entry_look (entry_of (slice_index_or thread.stack n (frame.Call 0)))) (length thread.stack)
 
+abbrev pub stack_count : ThreadState → ℕ
+stack_count thread = length thread.stack
+
 -- the values that a thread put out
 abbrev pub OutputsAreSeen : ThreadState → (before after : List ℤ) → Type 0
 OutputsAreSeen thread = IsFilled (λ n. slice_index_or thread.output n (pos 0)) (length thread.output)
+
+abbrev pub output_count : ThreadState → ℕ
+output_count thread = length thread.output

@@ -1,5 +1,5 @@
-//! A debugger and its last reply.
-ghost use Rattle.std.specs.Prelude.{◌≡◌, ◌≢◌, ◌<◌, ◌++◌, List, ℕ, [], Some, Err, true, false, IfErr, IfOk, OnErr, OnOk, length};
+//! A debugger, its last reply, and its program.
+ghost use Rattle.std.specs.Prelude.{◌≡◌, ◌≢◌, ◌<◌, ◌++◌, List, ℕ, [], Some, Err, true, false, IfErr, IfOk, OnErr, OnOk, length, take};
 ghost use Rattle.std.specs.Io.KnownBytes.{Appends};
 ghost use Rattle.debugger.specs.Command.{line_order};
 ghost use Rattle.debugger.specs.Go.{Refuses};
@@ -7,20 +7,25 @@ ghost use Rattle.debugger.specs.Reply.{Replies};
 ghost use Rattle.debugger.specs.Session.{went_back};
 ghost use Rattle.machine_scene.specs.Scene.{scene_of, thread_at};
 ghost use Rattle.thread_machine.specs.World.{world_of};
-ghost use Rattle.vuthgal_c.specs.Sessions.{HasLongReply, HasStepped, copy_of};
+ghost use Rattle.schedule_reader.specs.Schedule.{choices_of};
+ghost use Rattle.vuthgal_c.specs.Sessions.{HasLongReply, HasStepped, IsAgain, IsRefusedAgain, copy_of};
 
 use crate::look::{EventLook, event_look};
 use crate::session_sink::SessionSink;
 use debugger::Debugger;
+use row_code::Image;
+use schedule_reader::Run;
 use std::alloc::{AllocError, Global};
 use std::marker::Model;
 use thread_machine::{Choice, Machine, StepFault};
+use trace_text::start::first_machine;
 
-/// A debugger and the reply to its last command.
+/// A debugger, the reply to its last command, and the program that it plays.
 #[derive(Drop)]
 pub struct Held {
     debugger: Debugger,
     reply: Vec<u8>,
+    image: Image,
 }
 
 impl Model for Held {
@@ -28,7 +33,7 @@ impl Model for Held {
 
     ghost Value = { Kept };
 
-    ghost view = { λ held. record { debugger = held.debugger; reply = held.reply.items } };
+    ghost view = { λ held. record { debugger = held.debugger; reply = held.reply.items; image = held.image } };
 }
 
 /// How a command ends where it has no reply, since there is no memory.
@@ -63,13 +68,14 @@ fn row_of(machine: &Machine, thread: u8) -> u16
 }
 
 impl Held {
-    /// Returns a session with this debugger and an empty reply.
-    pub fn new(alloc: Global, debugger: Debugger) -> Held
-        ensures { result ≡ record { debugger = debugger; reply = [] } }
+    /// Returns a session with this debugger, of this program, and an empty reply.
+    pub fn new(alloc: Global, debugger: Debugger, image: Image) -> Held
+        ensures { result ≡ record { debugger = debugger; reply = []; image = image } }
     {
         Held {
             debugger,
             reply: Vec::new(alloc),
+            image,
         }
     }
 
@@ -77,7 +83,8 @@ impl Held {
     pub fn copy(&self, alloc: Global) -> Result<Held, AllocError>
         ensures { IfOk result (λ copy. copy ≡ copy_of self.now) }
     {
-        Ok(Held::new(alloc, self.debugger.copy()?))
+        let image = self.image.copy(alloc)?;
+        Ok(Held::new(alloc, self.debugger.copy()?, image))
     }
 
     /// Returns the machine.
@@ -109,6 +116,24 @@ impl Held {
         self.debugger.back().is_ok()
     }
 
+    /// Goes to the state after the first `number` choices of runs, which are played again from the beginning. The breakpoints and the
+    /// reply stay. If one of these choices is refused, nothing changes.
+    pub fn go_to(&mut self, alloc: Global, runs: &[Run], number: u64) -> Result<(), StepFault>
+        ensures there { OnOk result (IsAgain self.old (take number (choices_of runs.now)) self.new) }
+        ensures refused { IfErr result (λ fault. fault ≢ StepFault.Memory
+            → IsRefusedAgain self.old (take number (choices_of runs.now))) }
+        ensures same { OnErr result (self.new ≡ self.old) }
+    {
+        let Ok(image) = self.image.copy(alloc) else {
+            return Err(StepFault::Memory);
+        };
+        let Ok(first) = first_machine(alloc, image) else {
+            return Err(StepFault::Memory);
+        };
+        self.debugger = self.debugger.again(first, runs, number)?;
+        Ok(())
+    }
+
     /// Returns the reply to the last command.
     pub fn reply(&self) -> &[u8]
         ensures { result.now ≡ self.now.reply }
@@ -119,6 +144,7 @@ impl Held {
     /// Carries out a command, a line without its LF, and keeps the reply. If there is no memory, it says whether this was done.
     pub fn command(&mut self, alloc: Global, line: &[u8]) -> Result<(), Unanswered>
         ensures done { OnOk result (Replies self.old.debugger (line_order line.now) self.new.debugger self.new.reply) }
+        ensures image { OnOk result (self.new.image ≡ self.old.image) }
         ensures none { result ≡ Err Unanswered.NotCarriedOut → self.new ≡ self.old }
         ensures lost { result ≡ Err Unanswered.ReplyLost → HasLongReply self.old.debugger line.now }
     {

@@ -24,19 +24,24 @@ mod session_sink;
 pub mod look;
 mod looking;
 
+// Where an input is refused.
+pub mod place;
+
 // The calls.
 pub mod choices;
 pub mod debugging;
+pub mod drawing;
 pub mod expecting;
 pub mod explaining;
+pub mod going;
 pub mod law;
 pub mod looks;
+pub mod mistake;
 mod origin;
 pub mod other;
 pub mod planning;
 pub mod playing;
 pub mod sessions;
-pub mod showing;
 pub mod stepping;
 pub mod texts;
 pub mod traces;

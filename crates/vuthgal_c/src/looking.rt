@@ -1,9 +1,10 @@
 //! Looks at the state of a machine: its counts, its threads, phasers, barriers and cells.
-ghost use Rattle.std.specs.Prelude.{◌≡◌, ◌<◌, length};
+ghost use Rattle.std.specs.Prelude.{◌≡◌, ◌<◌, List, length, nat_lt, ℕ};
 ghost use Rattle.machine_scene.specs.Scene.{scene_of, thread_at, barrier_at};
 ghost use Rattle.thread_machine.specs.World.{world_of};
 ghost use Rattle.tier_tree.specs.Forest.{phaser_at};
 ghost use Rattle.tier_tree.specs.Stored.{phasers_of};
+ghost use Rattle.thread_state.specs.Thread.{ThreadState};
 ghost use Rattle.vuthgal_c.specs.Looks.{BarriersAreSeen, CellsAreSeen, OutputsAreSeen, PhasersAreSeen, StackIsSeen, ThreadsAreSeen, barrier_look, phaser_look, state_look, thread_look};
 
 use crate::look::{
@@ -127,7 +128,7 @@ pub fn see_cells(machine: &Machine, room: &mut [i32])
 }
 
 /// Fills a caller's room with the entries of a thread's stack from the bottom, as many as fit.
-pub fn see_stack(machine: &Machine, thread: u8, room: &mut [EntryLook])
+fn see_stack(machine: &Machine, thread: u8, room: &mut [EntryLook])
     requires { thread < length machine.now.scene.threads }
     ensures { StackIsSeen (thread_at (scene_of machine.now.scene) thread) room.old room.new }
 {
@@ -137,12 +138,72 @@ pub fn see_stack(machine: &Machine, thread: u8, room: &mut [EntryLook])
 }
 
 /// Fills a caller's room with the values that a thread put out, as many as fit.
-pub fn see_outputs(machine: &Machine, thread: u8, room: &mut [i32])
+fn see_outputs(machine: &Machine, thread: u8, room: &mut [i32])
     requires { thread < length machine.now.scene.threads }
     ensures { OutputsAreSeen (thread_at (scene_of machine.now.scene) thread) room.old room.new }
 {
     let values = machine.output(thread);
     for number in 0..values.len().min(room.len()) {
         room[number] = values[number];
+    }
+}
+
+/// Returns whether a machine has a thread of this number.
+pub fn has_thread(machine: &Machine, thread: u8) -> bool
+    ensures { result ≡ nat_lt thread (length machine.now.scene.threads) }
+{
+    usize::from(thread) < machine.thread_count()
+}
+
+/// An element of a list that each thread has, as a caller sees it.
+pub trait OfThread: Copy {
+    // These are the first elements of a thread's list, as many as fit.
+    ghost are_seen: { ThreadState → List Self → List Self → Type 0 };
+
+    // How many elements it has.
+    ghost count_of: { ThreadState → ℕ };
+
+    /// Returns how many elements a thread's list has.
+    fn count(machine: &Machine, thread: u8) -> usize
+        requires { thread < length machine.now.scene.threads }
+        ensures { result ≡ count_of (thread_at (scene_of machine.now.scene) thread) };
+
+    /// Fills a caller's room with the elements of a thread's list, as many as fit.
+    fn see(machine: &Machine, thread: u8, room: &mut [Self])
+        requires { thread < length machine.now.scene.threads }
+        ensures { are_seen (thread_at (scene_of machine.now.scene) thread) room.old room.new };
+}
+
+/// The entries of its stack, from the bottom.
+impl OfThread for EntryLook {
+    ghost use Rattle.vuthgal_c.specs.Looks.{StackIsSeen, stack_count};
+
+    ghost are_seen = { StackIsSeen };
+
+    ghost count_of = { stack_count };
+
+    fn count(machine: &Machine, thread: u8) -> usize {
+        machine.depth(thread)
+    }
+
+    fn see(machine: &Machine, thread: u8, room: &mut [EntryLook]) {
+        see_stack(machine, thread, room);
+    }
+}
+
+/// The values that it put out.
+impl OfThread for i32 {
+    ghost use Rattle.vuthgal_c.specs.Looks.{OutputsAreSeen, output_count};
+
+    ghost are_seen = { OutputsAreSeen };
+
+    ghost count_of = { output_count };
+
+    fn count(machine: &Machine, thread: u8) -> usize {
+        machine.output(thread).len()
+    }
+
+    fn see(machine: &Machine, thread: u8, room: &mut [i32]) {
+        see_outputs(machine, thread, room);
     }
 }

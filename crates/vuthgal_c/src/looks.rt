@@ -1,19 +1,16 @@
 //! The state of a session as numbers, in the rooms of its caller.
-ghost use Rattle.std.specs.Prelude.{◌≡◌, length};
-ghost use Rattle.vuthgal_c.specs.Looks.{BarriersAreSeen, CellsAreSeen, OutputsAreSeen, PhasersAreSeen, StackIsSeen, ThreadsAreSeen, state_look};
+ghost use Rattle.std.specs.Prelude.{◌≡◌};
+ghost use Rattle.vuthgal_c.specs.Looks.{BarriersAreSeen, CellsAreSeen, OutputsAreSeen, PhasersAreSeen, StackIsSeen, ThreadsAreSeen, output_count, stack_count, state_look};
 ghost use Rattle.vuthgal_c.specs.Sessions.{Sees, SeesThread};
 
 use crate::handle::Handle;
 use crate::keeping::{put, take};
 use crate::look::{BarrierLook, EntryLook, PhaserLook, StateLook, ThreadLook};
 use crate::looking::{
-    see_barriers, see_cells, see_outputs, see_phasers, see_stack, see_threads, state_look,
+    OfThread, has_thread, see_barriers, see_cells, see_phasers, see_threads, state_look,
 };
-use crate::sessions::CLOSED;
+use crate::sessions::{CLOSED, NO_THREAD};
 use std::alloc::Global;
-
-/// The status where a session has no such thread.
-const NO_THREAD: u8 = 7;
 
 /// Looks at the state: `state` gets its counts, and each room its threads, phasers, barriers and cells, as many as fit. Returns 0,
 /// or 6 if no session is open, and then nothing is written. It allocates nothing.
@@ -47,6 +44,31 @@ pub extern "C" fn vuthgal_session_look(
     0
 }
 
+/// Writes a list of a thread's, as much as fits, and its length. Returns 0, or 6 if no session is open, or 7 if it has no such
+/// thread: then nothing is written.
+fn see_thread<L: OfThread>(
+    alloc: Global,
+    session: &mut Handle,
+    thread: u8,
+    room: &mut [L],
+    count: &mut usize,
+) -> u8
+    ensures seen { SeesThread session.old.session thread result L.are_seen L.count_of room.old room.new count.old count.new }
+    ensures session { session.new.session ≡ session.old.session }
+{
+    let Some(held) = take(alloc, session) else {
+        return CLOSED;
+    };
+    let machine = held.machine();
+    let is_there = has_thread(machine, thread);
+    if is_there {
+        *count = L::count(machine, thread);
+        L::see(machine, thread, room);
+    }
+    put(alloc, session, held);
+    if is_there { 0 } else { NO_THREAD }
+}
+
 /// Writes the entries of a thread's stack from the bottom, as many as fit, and their count. Returns 0, or 6 if no session is open,
 /// or 7 if it has no such thread: then nothing is written. It allocates nothing.
 #[unsafe(no_mangle)]
@@ -57,20 +79,10 @@ pub extern "C" fn vuthgal_session_stack(
     entries: &mut [EntryLook],
     count: &mut usize,
 ) -> u8
-    ensures stack { SeesThread session.old.session thread result StackIsSeen (λ of. length of.stack) entries.old entries.new count.old count.new }
+    ensures stack { SeesThread session.old.session thread result StackIsSeen stack_count entries.old entries.new count.old count.new }
     ensures session { session.new.session ≡ session.old.session }
 {
-    let Some(held) = take(alloc, session) else {
-        return CLOSED;
-    };
-    let machine = held.machine();
-    let is_there = usize::from(thread) < machine.thread_count();
-    if is_there {
-        *count = machine.depth(thread);
-        see_stack(machine, thread, entries);
-    }
-    put(alloc, session, held);
-    if is_there { 0 } else { NO_THREAD }
+    see_thread(alloc, session, thread, entries, count)
 }
 
 /// Writes the values that a thread put out, as many as fit, and their count. Returns 0, or 6 if no session is open, or 7 if it has
@@ -83,18 +95,8 @@ pub extern "C" fn vuthgal_session_outputs(
     values: &mut [i32],
     count: &mut usize,
 ) -> u8
-    ensures outputs { SeesThread session.old.session thread result OutputsAreSeen (λ of. length of.output) values.old values.new count.old count.new }
+    ensures outputs { SeesThread session.old.session thread result OutputsAreSeen output_count values.old values.new count.old count.new }
     ensures session { session.new.session ≡ session.old.session }
 {
-    let Some(held) = take(alloc, session) else {
-        return CLOSED;
-    };
-    let machine = held.machine();
-    let is_there = usize::from(thread) < machine.thread_count();
-    if is_there {
-        *count = machine.output(thread).len();
-        see_outputs(machine, thread, values);
-    }
-    put(alloc, session, held);
-    if is_there { 0 } else { NO_THREAD }
+    see_thread(alloc, session, thread, values, count)
 }

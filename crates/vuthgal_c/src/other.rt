@@ -1,14 +1,16 @@
 //! The other run that begins with a choice.
-ghost use Rattle.std.specs.Prelude.{◌≡◌, ◌==◌, ℕ, List, Err, IfOk, not};
+ghost use Rattle.std.specs.Prelude.{◌≡◌, ◌==◌, ◌≤◌, ◌<◌, ℕ, List, Err, IfErr, IfOk, length, min, not};
 ghost use Rattle.std.specs.String.{string_bytes};
 ghost use Rattle.thread_machine.specs.World.{world_of};
-ghost use Rattle.vuthgal_c.specs.Sessions.{IsOther, IsRefusedRest, Others};
+ghost use Rattle.vuthgal_c.specs.Sessions.{AreChoicesIn, FollowsOther, HasNoOther, IsOther, IsRefusedRest, Others, no_other_status};
 ghost use Rattle.vuthgal_c.specs.Shows.{Holds};
 
+use crate::files::is_within;
 use crate::handing::hand_all;
 use crate::handle::Handle;
 use crate::keeping::{put, take};
-use crate::sessions::CLOSED;
+use crate::looking::has_thread;
+use crate::sessions::{CLOSED, NO_THREAD};
 use pictures::choices::choices_in;
 use pictures::page::PageFault;
 use plans::others::other_choices;
@@ -18,29 +20,63 @@ use thread_machine::{Choice, Machine};
 
 /// The most choices of another run.
 const MOST: u32 = 1_000_000;
-/// The most bytes of the run's own choices.
-const MOST_BYTES: usize = 16_777_216;
 
 /// Why there is no other run.
+#[derive(Clone, Copy)]
 enum NoOther {
+    /// There is no such thread.
+    Thread,
     /// The run's own choices are too long a text, or can't be read, or are more than 2,000.
     Rest,
     /// Out of memory.
     Memory,
 }
 
-impl From<AllocError> for NoOther {
-    ghost use Rattle.std.specs.Prelude.{◌≡◌};
-    ghost use Rattle.vuthgal_c.specs.declared.other.NoOther.TheVariants.{Memory};
-
-    ghost from_gives = { λ _ fault. fault ≡ Memory };
-
-    fn from(_error: AllocError) -> NoOther {
-        NoOther::Memory
+impl NoOther {
+    /// Returns the status of the call.
+    fn status(self) -> u8
+        ensures { result ≡ no_other_status self }
+    {
+        match self {
+            NoOther::Thread => NO_THREAD,
+            NoOther::Rest => 3,
+            NoOther::Memory => 4,
+        }
     }
 }
 
-/// Returns the schedule of the other run that makes `choice` here, where the run's own choices would be `rest`.
+/// Returns the run's own choices, which are at most 2,000.
+fn own_choices(alloc: Global, rest: &[u8]) -> Result<Vec<Choice>, NoOther>
+    ensures own { IfOk result (λ own. AreChoicesIn rest.now own.items) }
+    ensures refused { result ≡ Err NoOther.Rest → IsRefusedRest rest.now }
+    ensures thread { result ≡ Err NoOther.Thread → ⊥ }
+{
+    if !is_within(rest) {
+        return Err(NoOther::Rest);
+    }
+    match choices_in(alloc, rest) {
+        Ok(own) => Ok(own),
+        Err(PageFault::Memory) => Err(NoOther::Memory),
+        Err(_) => Err(NoOther::Rest),
+    }
+}
+
+/// Returns the schedule of the other run that makes `choice` here, where the run's own choices would be `own`.
+fn schedule_of_other(
+    alloc: Global,
+    machine: &Machine,
+    choice: Choice,
+    most: u32,
+    own: &[Choice],
+) -> Result<String, AllocError>
+    ensures { IfOk result (λ text. FollowsOther (world_of machine.now) choice most own.now (string_bytes text)) }
+{
+    let copy = machine.copy(alloc)?;
+    let planned = other_choices(alloc, copy, most.min(MOST), choice, own)?;
+    write_schedule(alloc, planned.runs.as_slice())
+}
+
+/// Returns the schedule of the other run that makes `choice` here, where the run would go on with `rest`.
 fn other_text(
     alloc: Global,
     machine: &Machine,
@@ -48,25 +84,26 @@ fn other_text(
     most: u32,
     rest: &[u8],
 ) -> Result<String, NoOther>
-    ensures text { IfOk result (λ text. IsOther (world_of machine.now) choice most rest.now (string_bytes text)) }
-    ensures refused { result ≡ Err NoOther.Rest → IsRefusedRest rest.now }
+    ensures text { IfOk result (λ text. (choice.thread < length machine.now.scene.threads)
+        × IsOther (world_of machine.now) choice most rest.now (string_bytes text)) }
+    ensures none { IfErr result (λ why. HasNoOther why (world_of machine.now) choice rest.now) }
 {
-    if rest.len() > MOST_BYTES {
-        return Err(NoOther::Rest);
+    if !has_thread(machine, choice.thread) {
+        return Err(NoOther::Thread);
     }
-    let own = match choices_in(alloc, rest) {
+    let own = match own_choices(alloc, rest) {
         Ok(own) => own,
-        Err(PageFault::Schedule(_)) | Err(PageFault::Choices) => return Err(NoOther::Rest),
-        Err(_) => return Err(NoOther::Memory),
+        Err(why) => return Err(why),
     };
-    let copy = machine.copy(alloc)?;
-    let planned = other_choices(alloc, copy, most.min(MOST), choice, own.as_slice())?;
-    let text = write_schedule(alloc, planned.runs.as_slice())?;
-    Ok(text)
+    match schedule_of_other(alloc, machine, choice, most, own.as_slice()) {
+        Ok(text) => Ok(text),
+        Err(_) => Err(NoOther::Memory),
+    }
 }
 
-/// Writes the schedule of the other run that makes `choice` at this session's state, where its own run would go on with `rest`: at
-/// most `most` choices. Returns 0, or 6 if no session is open, 3 if `rest` is refused, or 4 if it is out of memory.
+/// Writes the schedule of the other run that makes a choice at this session's state, where its own run would go on with `rest`: at
+/// most `most` choices. Returns 0, or 6 if no session is open, 7 if it has no such thread, 3 if `rest` is refused, or 4 if it is
+/// out of memory.
 #[unsafe(no_mangle)]
 pub extern "C" fn vuthgal_session_other(
     alloc: Global,
@@ -97,13 +134,9 @@ pub extern "C" fn vuthgal_session_other(
             hand_all(text.as_bytes(), output, output_length);
             0
         }
-        Err(NoOther::Rest) => {
+        Err(why) => {
             hand_all(b"", output, output_length);
-            3
-        }
-        Err(NoOther::Memory) => {
-            hand_all(b"", output, output_length);
-            4
+            why.status()
         }
     }
 }

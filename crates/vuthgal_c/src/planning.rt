@@ -183,8 +183,8 @@ fn reported<K: Sink>(
     }
 }
 
-/// Returns the status: 0, or the fault's, whose line goes to `line`.
-fn settled_seeds<E: Sink>(answer: Result<(), Unplanned>, line: &mut E) -> u8
+/// Returns the status: 0, or that of the fault, whose line goes to `line`.
+pub fn settled_done<E: Sink>(answer: Result<(), Unplanned>, line: &mut E) -> u8
     ensures { SettlesSeeds answer result (E.has_failed line.new) (E.written line.old) (E.written line.new) }
 {
     match answer {
@@ -218,6 +218,6 @@ pub extern "C" fn vuthgal_seeds(
     let seeds = asked(first, count, limit, names);
     let mut reply = Reply::new(alloc, output.len(), line.len());
     let answer = reported(alloc, program, plan, &seeds, &mut reply.shown);
-    let status = settled_seeds(answer, &mut reply.told);
+    let status = settled_done(answer, &mut reply.told);
     reply.hand(status, output, output_length, line, line_length)
 }

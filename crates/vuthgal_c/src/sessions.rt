@@ -18,6 +18,9 @@ use workbench::program::program_in;
 /// The status where a handle has no session.
 pub const CLOSED: u8 = 6;
 
+/// The status where a session has no such thread.
+pub const NO_THREAD: u8 = 7;
+
 /// The line where a program is too long.
 const TOO_LONG: &[u8] = b"read\n";
 
@@ -30,8 +33,11 @@ fn held_of(alloc: Global, file: &[u8]) -> Result<Held, Fault>
         Ok(program) => program.image,
         Err(fault) => return Err(fault),
     };
+    let Ok(kept) = image.copy(alloc) else {
+        return Err(Fault::Memory);
+    };
     match first_debugger(alloc, image) {
-        Ok(debugger) => Ok(Held::new(alloc, debugger)),
+        Ok(debugger) => Ok(Held::new(alloc, debugger, kept)),
         Err(fault) => Err(fault),
     }
 }

@@ -5,16 +5,16 @@ ghost use Rattle.vuthgal_c.specs.Sessions.{Backs, Enables, Steps, refused_status
 use crate::handle::Handle;
 use crate::keeping::{put, take};
 use crate::look::EventLook;
-use crate::sessions::CLOSED;
+use crate::sessions::{CLOSED, NO_THREAD};
 use std::alloc::Global;
 use thread_machine::{Choice, StepFault};
 
 /// Returns the status of a choice that isn't played, by why.
-fn refused_status(fault: StepFault) -> u8
+pub fn refused_status(fault: StepFault) -> u8
     ensures { result ≡ refused_status fault }
 {
     match fault {
-        StepFault::NoSuchThread => 7,
+        StepFault::NoSuchThread => NO_THREAD,
         StepFault::StepLimit => 8,
         StepFault::Memory => 4,
     }

@@ -59,7 +59,7 @@ public class PhaserBesideSession implements AutoCloseable {
     void vuthgal_session_close(Pointer session);
   }
 
-  static final Vuthgal VUTHGAL = Native.load("libvuthgal.so.1", Vuthgal.class);
+  static final Vuthgal VUTHGAL = Native.load("libvuthgal.so.2", Vuthgal.class);
   static final byte OK = 1, RESULT = 2, THROW = 5; // VUTHGAL_OK, VUTHGAL_RESULT, VUTHGAL_THROW
   static final byte RUNS = 0; // VUTHGAL_RUNS
   static final String[] CALLS = {"register", "arrive", "arriveAndDeregister", "forceTermination"};

@@ -18,10 +18,10 @@ _LINE_ROOM = 1 << 12
 def _load() -> ctypes.CDLL:
     """The library that VUTHGAL_LIBRARY names, that of this package, that of the clone, or the installed one."""
     clone = os.path.join(os.path.dirname(os.path.dirname(os.path.dirname(_HERE))), "lib")
-    places = (os.path.join(folder, "libvuthgal.so.1") for folder in (_HERE, clone))
+    places = (os.path.join(folder, "libvuthgal.so.2") for folder in (_HERE, clone))
     there = [path for path in places if os.path.isfile(path)]
     try:
-        return ctypes.CDLL(os.environ.get("VUTHGAL_LIBRARY") or (*there, "libvuthgal.so.1")[0])
+        return ctypes.CDLL(os.environ.get("VUTHGAL_LIBRARY") or (*there, "libvuthgal.so.2")[0])
     except OSError as error:
         raise NoLibrary(f"libvuthgal can't be loaded: {error}") from error
 

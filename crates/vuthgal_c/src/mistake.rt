@@ -1,0 +1,286 @@
+//! Where a program, a plan or a schedule is refused, and what helps.
+ghost use Rattle.std.specs.Prelude.{◌≡◌, ◌≢◌, ◌≤◌, ◌-◌, ◌+◌, Err, IfErr, IfOk, List, OnErr, OnOk, length, map, take, ℕ};
+ghost use Rattle.commands.specs.Planning.{HasThreads};
+ghost use Rattle.commands.specs.Unplanned.{unplanned_status};
+ghost use Rattle.commands.specs.declared.unplanned.Unplanned.TheVariants as why;
+ghost use Rattle.line_reader.specs.Seen.{name_seen};
+ghost use Rattle.workbench.specs.declared.program.Program.{Program};
+ghost use Rattle.workbench.specs.declared.fault.Fault.{Fault};
+ghost use Rattle.vuthgal_c.specs.Beyond.{IsTooMuch};
+ghost use Rattle.vuthgal_c.specs.Mistakes.{IsMistake, IsMistakenAt, IsPlaced, IsProgramOf, IsRight, IsRightInput, Mistakes, kind_of, text_in};
+ghost use Rattle.vuthgal_c.specs.Shows.{Shows};
+
+use crate::files::is_within;
+use crate::place::PlaceLook;
+use crate::planning::settled_done;
+use crate::reply::Reply;
+use assembler::word_place::line_at;
+use byte_ports::{MemorySink, Sink};
+use commands::plan::loaded_program;
+use commands::unplanned::Unplanned;
+use commands::write_picture::parts_of;
+use plans::read_plan;
+use refusals::entry::push_pieces;
+use refusals::question::question_in_line;
+use schedule_reader::{ScheduleFault, read_schedule};
+use std::alloc::Global;
+use suggestions::hint::{Hint, help_if_any};
+use suggestions::plan_fault::{hint_in_plan, place_in_plan};
+use suggestions::program_fault::hint_in_program;
+use suggestions::schedule_fault::{Origin, helps_in_schedule};
+use workbench::Program;
+use workbench::fault::Fault;
+use workbench::program::{program_in, program_of_text};
+use workbench::run_line::split_at_run;
+
+/// Room for the line of a refusal.
+const LONGEST_LINE: usize = 64;
+
+/// The number of a plan, and of a schedule, as a kind of input.
+const PLAN: u8 = 1;
+const SCHEDULE: u8 = 2;
+
+/// What is looked at: a program alone, a plan or a schedule of it, or a text with its schedule.
+#[derive(Clone, Copy, PartialEq, Eq)]
+enum Kind {
+    Program,
+    Plan,
+    Schedule,
+    Text,
+}
+
+/// Returns what is looked at, by its number.
+fn kind_of(number: u8) -> Kind
+    ensures { result ≡ kind_of number }
+{
+    match number {
+        PLAN => Kind::Plan,
+        SCHEDULE => Kind::Schedule,
+        3 => Kind::Text,
+        _ => Kind::Program,
+    }
+}
+
+/// Why something is refused, where, and the line that helps.
+#[derive(Drop)]
+struct Mistake {
+    why: Unplanned,
+    place: PlaceLook,
+    hint: Hint,
+}
+
+impl Mistake {
+    /// Returns a mistake without a place.
+    fn nowhere(fault: Fault) -> Mistake
+        ensures why { result.why ≡ why.Fault fault }
+        ensures place { result.place ≡ no_place }
+    {
+        Mistake {
+            why: Unplanned::Fault(fault),
+            place: PlaceLook::none(),
+            hint: Ok(None),
+        }
+    }
+}
+
+/// Returns the part of a file that is its program.
+fn text_in(kind: Kind, file: &[u8]) -> &[u8]
+    ensures { result.now ≡ text_in kind file.now }
+{
+    match kind {
+        Kind::Program | Kind::Schedule => file,
+        Kind::Plan => parts_of(file).0,
+        Kind::Text => split_at_run(file).0,
+    }
+}
+
+/// Returns the mistake of a file without a program.
+fn no_program(alloc: Global, file: &[u8], text: &[u8], fault: Fault) -> Mistake
+    ensures why { result.why ≡ why.Fault fault }
+    ensures place { result.place ≡ text_place fault }
+{
+    match fault {
+        Fault::Asm(placed) => Mistake {
+            why: Unplanned::Fault(fault),
+            place: PlaceLook::of_word(placed.fault.line, placed.at, 0),
+            hint: hint_in_program(alloc, file, text, placed),
+        },
+        _ => Mistake::nowhere(fault),
+    }
+}
+
+/// Returns the program of a file.
+fn program_of(alloc: Global, kind: Kind, file: &[u8]) -> Result<Program<'_>, Mistake>
+    ensures program { IfOk result (λ program. IsProgramOf kind file.now program) }
+    ensures none { IfErr result (λ mistake. (f : Fault) × ((mistake.why ≡ why.Fault f) × HasNoProgram kind f file.now
+        × (mistake.place ≡ text_place f))) }
+{
+    let text = text_in(kind, file);
+    let program = if kind == Kind::Text {
+        program_of_text(alloc, text)
+    } else {
+        program_in(alloc, text)
+    };
+    match program {
+        Ok(program) => Ok(program),
+        Err(fault) => Err(no_program(alloc, file, text, fault)),
+    }
+}
+
+/// Returns the mistake of a plan for threads of these names, if it has one.
+fn plan_read(alloc: Global, plan: &[u8], names: &[&[u8]]) -> Result<(), Mistake>
+    requires { length names.now ≤ 64 }
+    ensures read { OnOk result (IsRightPlan (map name_seen names.now) plan.now) }
+    ensures mistake { IfErr result (λ mistake. IsWrongPlan mistake.why mistake.place (map name_seen names.now) plan.now) }
+{
+    let fault = match read_plan(alloc, plan, names) {
+        Ok(_) => return Ok(()),
+        Err(fault) => fault,
+    };
+    let part = place_in_plan(alloc, plan, names, fault).unwrap_or(None);
+    Err(Mistake {
+        why: Unplanned::Plan(fault),
+        place: PlaceLook::of_word(fault.line, part, PLAN),
+        hint: hint_in_plan(alloc, plan, names, fault, part),
+    })
+}
+
+/// Returns the offset of a schedule's fault.
+fn offset_of(fault: ScheduleFault) -> u64
+    ensures { result ≡ offset_of fault }
+{
+    match fault {
+        ScheduleFault::Byte(at) | ScheduleFault::Number(at) | ScheduleFault::Repeat(at) => at,
+        ScheduleFault::Memory => 0,
+    }
+}
+
+/// Returns the mistake of a schedule, if it has one. The schedule is the end of `file`.
+fn schedule_read(
+    alloc: Global,
+    file: &[u8],
+    schedule: &[u8],
+    input: u8,
+    origin: Origin,
+) -> Result<(), Mistake>
+    requires { length schedule.now ≤ length file.now }
+    requires { length file.now ≤ 16777216 }
+    ensures read { OnOk result ((finished_schedule schedule.now).fault ≡ None) }
+    ensures mistake { IfErr result (λ mistake. IsWrongSchedule mistake.why mistake.place file.now schedule.now input) }
+{
+    let fault = match read_schedule(alloc, schedule) {
+        Ok(_) => return Ok(()),
+        Err(fault) => fault,
+    };
+    let before = file.len() - schedule.len();
+    let at = before.saturating_add(offset_of(fault) as usize);
+    let place = PlaceLook::behind(file.get(..at).unwrap_or(file), input);
+    let line = line_at(file, place.line).unwrap_or(&[]);
+    let column = place.column.saturating_sub(1) as usize;
+    let helps = helps_in_schedule(schedule, line, column, origin);
+    Err(Mistake {
+        why: Unplanned::Fault(Fault::Schedule(fault)),
+        place,
+        hint: help_if_any(alloc, helps),
+    })
+}
+
+/// Returns what is wrong with what is looked at, if anything is.
+fn looked_at(alloc: Global, kind: Kind, file: &[u8], input: &[u8]) -> Result<(), Mistake>
+    ensures right { OnOk result (IsRight kind file.now input.now) }
+    ensures mistake { IfErr result (λ mistake. unplanned_status mistake.why ≡ 3
+        → IsMistake mistake.why kind file.now input.now × IsMistakenAt mistake.why kind file.now input.now mistake.place) }
+    ensures limit { IsTooMuch file.now input.now → IfErr result (λ mistake. mistake.why ≡ why.Fault Fault.Read) }
+{
+    if !is_within(file) || !is_within(input) {
+        return Err(Mistake::nowhere(Fault::Read));
+    }
+    let Program { image, names, .. } = match program_of(alloc, kind, file) {
+        Ok(program) => program,
+        Err(mistake) => return Err(mistake),
+    };
+    let names = match loaded_program(alloc, image, &names) {
+        Ok((_, names)) => names,
+        Err(fault) => return Err(Mistake::nowhere(fault)),
+    };
+    match kind {
+        Kind::Program => Ok(()),
+        Kind::Plan => plan_read(alloc, input, names.as_slice()),
+        Kind::Schedule => schedule_read(alloc, input, input, SCHEDULE, Origin::File),
+        Kind::Text => schedule_read(alloc, file, split_at_run(file).1, 0, Origin::Beside),
+    }
+}
+
+/// The line with the help that the entry of a refusal has.
+fn entry_hint(alloc: Global, why: Unplanned) -> Hint {
+    let mut line = MemorySink::new(alloc, LONGEST_LINE, None)?;
+    if why.tell(&mut line).is_err() {
+        return Ok(None);
+    }
+    let helps = question_in_line(alloc, line.bytes())?.map_or("", |question| question.entry.helps);
+    help_if_any(alloc, (!helps.is_empty()).then_some(helps))
+}
+
+/// Writes the line that helps at a mistake: that of its word, or else that of the refusal's entry.
+fn push_hint<K: Sink>(alloc: Global, mistake: &Mistake, output: &mut K) {
+    let hint = match &mistake.hint {
+        Ok(Some(line)) => {
+            let _ = push_pieces(output, &[line.as_slice(), b"\n"]);
+            return;
+        }
+        _ => entry_hint(alloc, mistake.why),
+    };
+    if let Ok(Some(line)) = hint {
+        let _ = push_pieces(output, &[line.as_slice(), b"\n"]);
+    }
+}
+
+/// Says where what is looked at is refused, and writes what helps.
+fn told<K: Sink>(
+    alloc: Global,
+    kind: Kind,
+    file: &[u8],
+    input: &[u8],
+    output: &mut K,
+    place: &mut PlaceLook,
+) -> Result<(), Unplanned>
+{
+    *place = PlaceLook::none();
+    match looked_at(alloc, kind, file, input) {
+        Ok(()) => Ok(()),
+        Err(mistake) => {
+            if mistake.why.status() == 3 {
+                push_hint(alloc, &mistake, output);
+                *place = mistake.place;
+            }
+            Err(mistake.why)
+        }
+    }
+}
+
+/// Says where `program`, or `input`, a plan or a schedule of it by `kind`, is refused: `place` gets the word, `output` the line that
+/// helps, and `line` that of the refusal, as far as they fit, and their lengths. Returns the status.
+#[unsafe(no_mangle)]
+pub extern "C" fn vuthgal_mistake(
+    alloc: Global,
+    program: &[u8],
+    kind: u8,
+    input: &[u8],
+    place: &mut PlaceLook,
+    output: &mut [u8],
+    output_length: &mut usize,
+    line: &mut [u8],
+    line_length: &mut usize,
+) -> u8
+    ensures shown { Shows (Mistakes (kind_of kind) program.now input.now) result output.old output.new output_length.new line.old line.new line_length.new }
+    ensures place { IsPlaced (kind_of kind) program.now input.now result place.new }
+{
+    let mut reply = Reply::new(alloc, output.len(), line.len());
+    let answer = told(alloc, kind_of(kind), program, input, &mut reply.shown, place);
+    let status = settled_done(answer, &mut reply.told);
+    let status = reply.hand(status, output, output_length, line, line_length);
+    if status != 3 {
+        *place = PlaceLook::none();
+    }
+    status
+}
