@@ -45,7 +45,7 @@ export function arrivalsOf(tree, id, i) {
   const start = Math.min(Math.floor(i / EVERY), folds.length);
   const fold = start ? copyOf(folds[start - 1]) : emptyOf(tree.program);
   for (let k = start * EVERY; k < i; k++) {
-    step(tree.program, fold, run.events[k]);
+    step(tree.program, fold, run.events.at(k));
     if ((k + 1) % EVERY === 0 && folds.length < (k + 1) / EVERY) folds.push(copyOf(fold));
   }
   return fold;

@@ -17,7 +17,7 @@ const ASKED = [
 
 function lineOf(tree, run, k, columns, isBlank, isJava) {
   const { program } = tree;
-  const event = run.events[k];
+  const event = run.events.at(k);
   const after = momentOf(tree, run.id, k + 1);
   const cell = t => {
     if (event.thread === t) return h("td.is-own", {}, isBlank ? "\u25CF" : tagOf(program, event, isJava));

@@ -3,7 +3,7 @@
 import { nameOf, operandOf, rootOf } from "./language.js";
 import { callOf, phaseOf, spread, strong } from "./names.js";
 import { arrivalsOf } from "./arrivals.js";
-import { momentOf } from "./run.js";
+import { eventTo, momentOf } from "./run.js";
 
 const COUNTS = {
   pparties: "how many parties are registered now",
@@ -73,7 +73,7 @@ function throwReason(program, event, row, before) {
 // Why the choice before moment i got what it got; "" where no sentence follows.
 export function reasonOf(tree, id, i) {
   const { program } = tree;
-  const event = i ? tree.runs[id].events[i - 1] : null;
+  const event = eventTo(tree.runs[id], i);
   if (!event || event.row < 0 || !/^(=|throw)$/.test(event.what)) return "";
   const row = program.rows[event.row];
   const before = momentOf(tree, id, i - 1);
@@ -88,7 +88,7 @@ export function reasonOf(tree, id, i) {
 const BACK = 400;
 export function lastNumberOf(tree, run, i, t) {
   for (let k = i; k > Math.max(0, i - BACK); k--) {
-    const event = run.events[k - 1];
+    const event = eventTo(run, k);
     if (event.thread !== t || !/^(=|throw)$/.test(event.what) || event.row < 0) continue;
     const row = tree.program.rows[event.row];
     if (operandOf(row, "P") < 0 && operandOf(row, "B") < 0) continue;

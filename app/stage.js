@@ -4,7 +4,7 @@ import { endKind, endText, outputText } from "./ending.js";
 import { byId, fill, h, shown } from "./elements.js";
 import { hueOf, threadName } from "./names.js";
 import { reasonOf } from "./reason.js";
-import { lengthOf, momentOf } from "./run.js";
+import { eventTo, lengthOf, momentOf } from "./run.js";
 import { sentenceOf, wouldText } from "./sentence.js";
 import { isVeiled, runOf } from "./state.js";
 
@@ -12,10 +12,9 @@ const eventOf = (moment, token) => (token[0] === "x" ? moment.late : moment.next
 
 // What the sentence says: { badge, kind, parts, reason, verdict }.
 function saidOf(state) {
-  const { tree, at, mistake, difference } = state;
+  const { tree, at, mistake } = state;
   const run = runOf(state);
   const { program } = tree;
-  if (difference) return { badge: "!", kind: "wrong", parts: [difference] };
   if (mistake) {
     const where = mistake.isProgram
       ? "The program has a mistake" + (mistake.line ? " in line " + mistake.line : "")
@@ -38,7 +37,7 @@ function saidOf(state) {
     verdict,
     parts: [program.about || "Each thread is at its first row. Who goes first?"]
   };
-  const parts = sentenceOf(program, run.events[at - 1], momentOf(tree, run.id, at - 1), moment);
+  const parts = sentenceOf(program, eventTo(run, at), momentOf(tree, run.id, at - 1), moment);
   const reason = isVeiled(state) ? "" : reasonOf(tree, run.id, at);
   return { badge: at, kind, verdict, parts, reason };
 }

@@ -373,7 +373,7 @@ await look("what is refused keeps the run before, with help", () => {
 await look("start again restores program, plan and place", () => {
   const state = first("lost-meeting");
   const changed = change.edited(change.at(state, 4), state.text + "; more\n", "..");
-  const again = change.startedAgain(changed);
+  const again = change.opened(changed, changed.item, changed.mode);
   assert.deepEqual([again.text, again.plan, again.at, again.id], [state.text, state.plan, 0, 0]);
 });
 await look("a typed change keeps the place", () => {
