@@ -63,7 +63,7 @@ function sameRun(tree, run, text) {
   const cut = lines.findIndex(line => line.startsWith("state "));
   assert.equal(cut, lengthOf(run), "another count of choices");
   lines.slice(0, cut).forEach((line, k) => {
-    const event = run.events[k];
+    const event = run.events.at(k);
     assert.ok(line.startsWith(`${k + 1} ${event.token} `), line);
   });
   assert.ok(lines[cut].endsWith(run.end.word), `${lines[cut]} isn't ${run.end.word}`);
@@ -183,7 +183,7 @@ await look("who releases a thread was among those who could", () => {
     const [run] = tree.runs;
     for (let i = 0; i < lengthOf(run); i++) {
       const [before, after] = [at(tree, run, i), at(tree, run, i + 1)];
-      const { thread, what } = run.events[i];
+      const { thread, what } = run.events.at(i);
       before.state.threads.forEach((one, t) => {
         if (t === thread || one.status !== "waits" || before.next[t] || !after.next[t] || what === "idle") return;
         const why = whyOf(tree.program, before, t);
@@ -238,7 +238,7 @@ await look("the lost meeting, sentence by sentence", () => {
   assert.ok(why(8, 1).startsWith(stuck), why(8, 1));
   assert.equal(reasonOf(tree, 0, 2), "0 is the phase in which it arrived.");
   assert.match(reasonOf(tree, 0, 4), /^1 is the phase of meet now/);
-  const said = plain(tree.program, sentenceOf(tree.program, run.events[1], at(tree, run, 1), at(tree, run, 2)));
+  const said = plain(tree.program, sentenceOf(tree.program, run.events.at(1), at(tree, run, 1), at(tree, run, 2)));
   assert.equal(said, "cem calls meet.arrive(), which returns 0. Phase 0 of meet ends, phase 1 begins.");
   const stray = plain(tree.program, arrivalsText(tree, run, 2, 0));
   assert.match(stray, /ann and cem.*If one of them was surplus, nobody can know which\.$/);
@@ -249,7 +249,7 @@ await look("an exception's number is explained only where its row throws it", ()
   const tree = treeOf(text, "a a");
   const said = plain(
     tree.program,
-    sentenceOf(tree.program, tree.runs[0].events[1], at(tree, tree.runs[0], 1), at(tree, tree.runs[0], 2))
+    sentenceOf(tree.program, tree.runs[0].events.at(1), at(tree, tree.runs[0], 1), at(tree, tree.runs[0], 2))
   );
   assert.doesNotMatch(said, /full/);
   assert.match(said, /throws 8/);
