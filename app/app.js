@@ -239,8 +239,9 @@ export function makeApp(given) {
       const end = h("span.end.end-" + endKind(one.end), {}, isHidden ? "" : endText(all.program, one.end));
       return other ? [h("b", {}, runName(all, one)), end] : "";
     };
-    timeline.show({ ...common, run, at: state.at, title: head(run) });
+    // before the first one measures itself
     second.element.hidden = !other;
+    timeline.show({ ...common, run, at: state.at, title: head(run) });
     if (other) second.show({ ...common, run: other, at: Math.min(state.at, lengthOf(other)), title: head(other) });
     fill(ends, other && !isHidden ? endsBeside(all.program, run, other) : null);
   }

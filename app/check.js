@@ -33,7 +33,8 @@ export function drawCheck({ check, item, text, plan }) {
   if (!isShown) return;
   byId("check").classList.toggle("is-wrong", Boolean(check.what));
   if (!check.what) {
-    fill(byId("check"), "Played again in this page: its trace is right, " + check.count + " choices.");
+    const choices = check.count + (check.count === 1 ? " choice" : " choices");
+    fill(byId("check"), "The machine in this page has played its " + choices + ": the trace is the same.");
     return;
   }
   const told = "This page isn\u2019t what the machine plays. Line " + check.number + " of its " + check.what + ": ";

@@ -175,6 +175,7 @@ export function makeCommands(app, given) {
     copyPlan: () => copy(planOf(state().tree.program, run().events, Infinity)),
     copySchedule: () => copy(scheduleOf(run().choices)),
     copyCommand,
+    saveTrace: () => save(state().item.name + ".trace", run().trace),
     saveProgram: () => save(state().item.name + ".asm", state().text),
     savePage
   };

@@ -84,6 +84,22 @@ export function reasonOf(tree, id, i) {
   return "";
 }
 
+// What is known once more threads have arrived at a phaser than it ever has parties; "" before that.
+function strayText(tree, id, i, p) {
+  const came = arrivalsOf(tree, id, i).came[p].size;
+  const parties = tree.program.everParties[p];
+  if (came <= parties) return "";
+  return "By now " + came + " threads have arrived at " + nameOf(tree.program, "P", p) + ", and it has only " + parties +
+    " parties: one arrival was a stray. Which one, nobody can know.";
+}
+// The same of the choice before moment i, if it is the one by which that many have arrived.
+export function strayOf(tree, id, i) {
+  const event = eventTo(tree.runs[id], i);
+  const p = event && event.row >= 0 ? operandOf(tree.program.rows[event.row], "P") : -1;
+  const text = p < 0 ? "" : strayText(tree, id, i, p);
+  return text === "" || strayText(tree, id, i - 1, p) === text ? "" : text;
+}
+
 // The number that a thread got last, and why: parts, or null. It looks back over at most so many choices.
 const BACK = 400;
 export function lastNumberOf(tree, run, i, t) {
@@ -122,7 +138,9 @@ export function arrivalsText(tree, run, i, p) {
     arrived[p].length > 1 ? " have arrived. " : " has arrived. "
   );
   if (ended[p].length) said.push("In the phase before it was ", ...namesOf(ended[p]), ". ");
-  if (arrived[p].length || ended[p].length) {
+  const stray = strayText(tree, run.id, i, p);
+  if (stray) said.push("A phaser counts arrivals, and doesn\u2019t ask who arrives. " + stray);
+  else if (arrived[p].length || ended[p].length) {
     said.push(
       "A phaser counts arrivals, and doesn\u2019t ask who arrives. If one of them was surplus, nobody can know which."
     );
