@@ -90,7 +90,7 @@ function strayText(tree, id, i, p) {
   const parties = tree.program.everParties[p];
   if (came <= parties) return "";
   return "By now " + came + " threads have arrived at " + nameOf(tree.program, "P", p) + ", and it has only " + parties +
-    " parties: one arrival was a stray. Which one, nobody can know.";
+    " parties: one arrival was a stray, and nobody can know which.";
 }
 // The same of the choice before moment i, if it is the one by which that many have arrived.
 export function strayOf(tree, id, i) {

@@ -145,7 +145,7 @@ await look("the rule of other runs is the library's", () => {
       for (const { token, thread, isLate } of [...Object.values(next), ...Object.values(late)]) {
         if (token === run.choices[i]) continue;
         const told = session.other(thread, { expires: isLate, rest: scheduleOf(run.choices.slice(i)) });
-        assert.deepEqual(forkRun(tree, 0, i, token).run.choices.slice(i), choicesOf(told), `${name} at ${i}`);
+        assert.deepEqual(forkRun(tree, 0, i, token).run.choices.slice(i), choicesOf(String(told)), `${name} at ${i}`);
         count++;
       }
       if (i < lengthOf(run)) session.go(run.choices[i]);

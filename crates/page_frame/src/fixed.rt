@@ -5,7 +5,7 @@
 pub const HEAD: &[u8] = b"\
 <!doctype html>\n<html lang=\"en\">\n<head>\n<meta charset=\"utf-8\">\n<meta name=\"viewport\" content=\"width=device-width, initial-scale=1\
 \">\n<meta http-equiv=\"Content-Security-Policy\" content=\"default-src 'none'; style-src 'sha256-+E8N6+N1yQPIFgQJiO8aWduuoL5/BOLc4bvdBsZYpG\
-s='; script-src 'sha256-fDQy3hwn9wcCOvwpFFjB2l9A9dK9+216DHrwEG2vVMc=' 'wasm-unsafe-eval'; worker-src blob:; base-uri 'none'; form-action 'no\
+s='; script-src 'sha256-IgSQsIufdEsXZBxa4XMdlCwKxqks72KNmLK7eh/qULo=' 'wasm-unsafe-eval'; worker-src blob:; base-uri 'none'; form-action 'no\
 ne'\">\n<meta name=\"generator\" content=\"vuthgal\">\n<title>Vuthgal</title>\n<style>:root {\n--zoom: 1;\n--paper: #f3f1ea;\n--pane: #fffef\
 b;\n--ink: #1d1b17;\n--soft: #5f5a4f;\n--line: #d9d4c7;\n--hover: #ece8dc;\n--now: #ffe27a;\n--now-ink: #1d1b17;\n--red: #b3201a;\n--red-sof\
 t: #fbe3df;\n--go: #1a7038;\n--go-soft: #ddf1e1;\n--later: #716b5f;\n--focus: #1747c4;\n--hue0: #1d4fc4;\n--hue1: #a0420a;\n--hue2: #7a2aa8;\
@@ -2574,13 +2574,13 @@ isn\\u2019t among those who may go next. He continues before Ann if Cem arrives 
 Eve\\u2019s interrupt and Ann\\u2019s next turn?\",\nanswer: \"The barrier trips, and they put out 2, 1 and 0. Ann\\u2019s interrupted statu\
 s stays set.\",\nfork: [6, \"t2\"],\nvotes: true\n},\n{\nat: 0,\nask: \"What would the three get if Eve interrupted Cem before he arrived?\"\
 ,\nanswer: \"Write intr cem. Cem gets 3 when he calls await, and the others get 4.\"\n},\n{\nat: 9,\nask: \"Which call repairs the barrier, \
-and what does it do to a waiting thread?\",\n";
+and what does it do to a waiting thread?\",";
 
 /// Part 4 of what a page ends with: the app, and the machine in it.
 #[rattlefmt::skip]
 pub const TAIL_4: &[u8] = b"\
-answer:\n\"reset(), which is creset gate. The waiting thread gets BrokenBarrierException. \" +\n\"Later calls use the repaired barrier.\"\n}\
-\n]\n},\n\"two-orders\": {\ntitle: \"Two phasers in different orders\",\naim: \"Two meetings in different orders deadlock in every run. Two \
+\nanswer:\n\"reset(), which is creset gate. The waiting thread gets BrokenBarrierException. \" +\n\"Later calls use the repaired barrier.\"\n\
+}\n]\n},\n\"two-orders\": {\ntitle: \"Two phasers in different orders\",\naim: \"Two meetings in different orders deadlock in every run. Two \
 locks deadlock only in some runs.\",\nlast: \"Meet in the same order everywhere, or arrive first and wait later.\",\nsteps: [\n{\nat: 0,\nas\
 k: \"Is there a plan with which this program ends?\",\nanswer:\n\"No: each thread waits at its first phaser, and the other never arrives the\
 re. \" +\n\"Both runs end in the same state.\",\nfork: [0, \"t1\"],\nvotes: true\n},\n{\nat: 2,\nask: \"With two locks in different orders, \
@@ -2664,7 +2664,7 @@ tree, id, i - 1);\nif (event.what === \"throw\") return throwReason(program, eve
 );\nif (operandOf(row, \"B\") >= 0) return barrierNumber(program, event, row, before);\nreturn \"\";\n}\nfunction strayText(tree, id, i, p) \
 {\nconst came = arrivalsOf(tree, id, i).came[p].size;\nconst parties = tree.program.everParties[p];\nif (came <= parties) return \"\";\nretu\
 rn \"By now \" + came + \" threads have arrived at \" + nameOf(tree.program, \"P\", p) + \", and it has only \" + parties +\n\" parties: one \
-arrival was a stray. Which one, nobody can know.\";\n}\nfunction strayOf(tree, id, i) {\nconst event = eventTo(tree.runs[id], i);\nconst p = \
+arrival was a stray, and nobody can know which.\";\n}\nfunction strayOf(tree, id, i) {\nconst event = eventTo(tree.runs[id], i);\nconst p = \
 event && event.row >= 0 ? operandOf(tree.program.rows[event.row], \"P\") : -1;\nconst text = p < 0 ? \"\" : strayText(tree, id, i, p);\nretu\
 rn text === \"\" || strayText(tree, id, i - 1, p) === text ? \"\" : text;\n}\nconst BACK = 400;\nfunction lastNumberOf(tree, run, i, t) {\nf\
 or (let k = i; k > Math.max(0, i - BACK); k--) {\nconst event = eventTo(run, k);\nif (event.thread !== t || !/^(=|throw)$/.test(event.what) \
