@@ -18,12 +18,14 @@ const ASKED = [
 
 // how phasers, barriers and cells stand, each in a few words
 function standing(program, { phasers, barriers, cells }) {
-  const phaser = ({ view, parties, arrived }, p) => (
-    nameOf(program, "P", p) + (view < 0 ? ": terminated" : ": phase " + phaseOf(view) + ", " + arrived + " of " + parties + " arrived")
-  );
-  const barrier = ({ waiting, isBroken }, b) => (
-    nameOf(program, "B", b) + (isBroken ? ": broken" : ": " + waiting + " of " + program.barriers[b].parties + " wait")
-  );
+  const phaser = ({ view, parties, arrived }, p) => {
+    const stands = view < 0 ? "terminated" : "phase " + phaseOf(view) + ", " + arrived + " of " + parties + " arrived";
+    return nameOf(program, "P", p) + ": " + stands;
+  };
+  const barrier = ({ waiting, isBroken }, b) => {
+    const stands = isBroken ? "broken" : waiting + " of " + program.barriers[b].parties + " wait";
+    return nameOf(program, "B", b) + ": " + stands;
+  };
   const cell = ([c, value]) => nameOf(program, "C", Number(c)) + " = " + value;
   return [...phasers.map(phaser), ...barriers.map(barrier), ...Object.entries(cells).map(cell)];
 }
