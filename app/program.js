@@ -5,6 +5,7 @@ import { DIRECTIVES, KINDS } from "./language.js";
 import { byId, fill, h } from "./elements.js";
 import { hueOf, javaText, threadName } from "./names.js";
 
+const LONG = 20000;
 const OPTIONS = /^(parent|phase|never|until|onadvance|action)$/;
 
 function kindOf(word) {
@@ -80,13 +81,19 @@ export function makeProgram(changed, planned) {
       text.value = what.text;
       scroll.scrollTop = 0;
     }
-    if (plan !== document.activeElement && plan.value !== what.plan) plan.value = what.plan;
+    showPlan(what.plan);
     if (isOther || !copy.firstChild || wasJava !== what.isJava || (what.isJava && isMended)) {
       grow();
       paint();
     }
     showPlaces(moment, event);
     showMistake(what.mistake);
+  }
+  // the schedule of a long run is no text that one reads
+  function showPlan(written) {
+    const isLong = written.length > LONG;
+    plan.placeholder = isLong ? "the schedule of this page" : "";
+    if (plan !== document.activeElement && plan.value !== written) plan.value = isLong ? "" : written;
   }
   function showPlaces(moment, event) {
     fill(margin);
