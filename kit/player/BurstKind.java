@@ -57,6 +57,10 @@ record BurstKind(String name, Consumer<BurstMaker> maker, String words) {
     }
 
     boolean needsPoints() {
+        return needsPoints(name);
+    }
+
+    static boolean needsPoints(String name) {
         return !WITHOUT_POINTS.contains(name);
     }
 
