@@ -376,11 +376,16 @@ final class LegalHistory {
         return isFree(entry) || answer.equals(entry.answer()) || isMeaningless(model, entry);
     }
 
-    /** Counts after a termination are called meaningless in the Java documentation. */
-    private static boolean isMeaningless(Model model, BurstEntry entry) {
+    /**
+     * Counts after a termination are called meaningless in the Java documentation, and those of a tree change step by step: only the
+     * looks in the end are judged.
+     */
+    private boolean isMeaningless(Model model, BurstEntry entry) {
         return switch (entry.request().method()) {
             case GET_REGISTERED_PARTIES, GET_ARRIVED_PARTIES, GET_UNARRIVED_PARTIES ->
-                model.isTerminated(entry.request().object()) && entry.answer().kind() == Answer.Kind.VALUE;
+                (model.isTerminated(entry.request().object())
+                    || entry.thread() != history.burst().looker() && history.burst().isInTree(entry.request().object()))
+                && entry.answer().kind() == Answer.Kind.VALUE;
             default -> false;
         };
     }

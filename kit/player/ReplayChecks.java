@@ -103,7 +103,7 @@ final class ReplayChecks {
             new Check(1, "`< 0 = 0`: ['0 = 7'] came", faults + "'0 = 0' 'say 0 = 7\\n'", "phase-numbers"),
             new Check(1, "waiting/for-the-present-phase differs, at line ", faults + "'1 = 0' 'also 0 = 1\\n'", "waiting"),
             new Check(0, " left out: no it makes no barrier\n", faults + "without barrier", "tiers action"),
-            new Check(2, "0 same, 0 different, 367 left out\n", faults + "without case", ""),
+            new Check(2, "0 same, 0 different, 370 left out\n", faults + "without case", ""),
             new Check(2, "kit/replay [--patience FACTOR] COMMAND [FILE..]", "--none", ""));
     }
 
