@@ -121,7 +121,7 @@ fn add_text(page: &mut Vec<u8>, before: &[u8], text: &[u8]) -> Result<(), AllocE
 
 /// Appends what stands behind the last text.
 fn add_tail(page: &mut Vec<u8>, tail: [&[u8]; 4]) -> Result<(), AllocError>
-    ensures { OnOk result (page.new.items ≡ page.old.items ++ flat_map (λ (piece : Bor (List ℕ)). piece.now) tail) }
+    ensures { OnOk result (page.new.items ≡ page.old.items ++ flat_map (λ (piece : Bor (List ℕ)). piece.now) tail.entry) }
 {
     for piece in tail {
         page.extend_from_slice(piece)?;
