@@ -1,5 +1,5 @@
 -- How many choices are left of runs.
-use Rattle.std.proofs.Common.{◌≡◌, ◌∙◌, ℕ, ◌+◌, ◌<◌, ◌≤◌, List, [], ◌++◌, length, get_or, drop, replicate, ap, arith}
+use Rattle.std.proofs.Common.{◌≡◌, ◌∙◌, ℕ, ◌+◌, ◌<◌, ◌≤◌, List, ◌++◌, length, get_or, drop, replicate, ap, arith}
 use Rattle.std.proofs.lemmas.List.{drop_all, length-append, length-replicate}
 use Rattle.schedule_reader.specs.declared.run.Run.{Run}
 use Rattle.schedule_reader.specs.Schedule.{choices_of}
@@ -22,5 +22,10 @@ pub room : (runs : List Run) (i : ℕ) (d : Run) (made : List Choice) (most : �
     → made ++ choices_of (drop i runs) ≡ choices_of runs → length (choices_of runs) ≤ most
     → length made + (get_or runs i d).times ≤ most
 room runs i d made most there is few =
-    omega (arith, counted runs i d there, length-append made (choices_of (drop i runs)),
-    ap (λ (cs : List Choice). length cs) is, few)
+    omega (
+      arith,
+      counted runs i d there,
+      length-append made (choices_of (drop i runs)),
+      ap (λ (cs : List Choice). length cs) is,
+      few,
+    )
