@@ -119,7 +119,7 @@ export function makeApp(given) {
     await open(item, "explore", isNew);
     if (state.mistake || !run.trace) return;
     const [played] = state.tree.runs;
-    set({ ...state, check: checkOf(run, listProgram(state.text), played.trace, lengthOf(played)) });
+    set({ ...state, check: checkOf(run, listProgram(state.text), played.trace) });
   }
   // undefined where the page plays it itself, or where it is refused
   async function playedInWorker(text, plan, schedule = "") {
