@@ -1,12 +1,18 @@
 """The functions."""
 import builtins
 import os
+import re
 from typing import Optional, Union
 
 from ._errors import Differs, Malformed, NoLine, NotATrace, OutOfMemory, Refused, TooLong
 from ._library import called, expects, version_text
+from ._page import app_text, with_texts
 from ._shown import Drawing, Outcome, Page, Schedule
 from ._trace import State, Trace
+
+#: What a page can hold.
+MOST_CHOICES = 1_000_000
+MOST_TRACE = 16_777_216
 
 #: A text; bytes; or the path of a file that holds them.
 Text = Union[str, bytes, bytearray, memoryview, "os.PathLike[str]"]
@@ -114,9 +120,18 @@ def seeds(program: Text, plan: Text = "", first: int = 0, count: int = 100, limi
     return [Outcome.parse(line) for line in output.decode("ascii").split("\n")[:-1]]
 
 
-def page(program: Text, schedule: Text, height: int = 600) -> Page:
-    """The page that shows a run."""
-    return Page(_two("show", _program(program), _bytes(schedule)), height)
+def page(program: Text, schedule: Text, height: int = 720) -> Page:
+    """The page that shows a run: the app with its program, its schedule and its trace. It raises `TooLong` where a page would hold more
+    choices than 1,000,000, or a longer trace than 16,777,216 bytes."""
+    source, tokens = _program(program), _bytes(schedule)
+    if sum(int(count or 1) for count in re.findall(rb"[tx]\d+(?:\*(\d{1,10}))?", tokens)) > MOST_CHOICES:
+        raise TooLong(f"a page has at most {MOST_CHOICES} choices")
+    trace = bytes(run(source, tokens))
+    if len(trace) > MOST_TRACE:
+        raise TooLong(f"the trace of a page has at most {MOST_TRACE} bytes")
+    text = "" if source.startswith(b"PBW") else source.decode("ascii")
+    page = with_texts(app_text(), listing=list(source), source=text, schedule=choices(trace), trace=trace.decode("ascii"))
+    return Page(page, height)
 
 
 def draw(program: Text, schedule: Text, width: int = 80) -> Drawing:

@@ -31,9 +31,9 @@ class Outcome(NamedTuple):
 class Page:
     """A page that shows a run. A notebook shows it in a frame of its own."""
 
-    def __init__(self, text: bytes, height: int) -> None:
+    def __init__(self, text: str, height: int) -> None:
         #: the page
-        self.html: str = text.decode("utf-8")
+        self.html: str = text
         #: how many pixels high the frame is
         self.height: int = height
 
@@ -46,7 +46,7 @@ class Page:
         import html
 
         return (
-            f'<iframe srcdoc="{html.escape(self.html, quote=True)}" sandbox="allow-scripts" '
+            f'<iframe srcdoc="{html.escape(self.html, quote=True)}" sandbox="allow-scripts allow-modals allow-downloads" '
             f'style="width: 100%; height: {self.height}px; border: 0"></iframe>'
         )
 
