@@ -108,18 +108,21 @@ export function makeApp(given) {
     const { program: text, plan } = item;
     const played = await playedInWorker(text, plan, item.schedule);
     if (played === null) return;
-    set(change.opened(state, item, mode, played), isNew);
+    set(checked(change.opened(state, item, mode, played)), isNew);
     if (state.mode === "quiz") playOrders();
     fitted();
   }
-  // a page's run, from its start; what the machine plays is compared with what stands in the page
-  async function openRun(run, isNew = true, isOfPage = false) {
+  // what the machine played of a page is compared with what stands in it
+  function checked(next) {
+    const { page } = next.item;
+    if (!page || next.mistake) return next;
+    return { ...next, check: checkOf(page, listProgram(next.text), next.tree.runs[0].trace) };
+  }
+  // a page's run is in the menu, too
+  function openRun(run, isNew = true, isOfPage = false) {
     const item = { ...itemOf(run), isOfPage };
     given.menu.unshift(item);
-    await open(item, "explore", isNew);
-    if (state.mistake || !run.trace) return;
-    const [played] = state.tree.runs;
-    set({ ...state, check: checkOf(run, listProgram(state.text), played.trace, lengthOf(played)) });
+    return open(item, "explore", isNew);
   }
   // undefined where the page plays it itself, or where it is refused
   async function playedInWorker(text, plan, schedule = "") {
@@ -130,6 +133,7 @@ export function makeApp(given) {
   // what a worker answers; null if it was stopped; undefined if it refused, so that the page finds the reason itself
   async function inWorker(task, what) {
     working = { task, done: 0 };
+    if (!state.tree) fill(byId("said").lastChild, "The machine plays the run.");
     draw();
     try {
       return await given.work.ask(task, what, done => {

@@ -17,12 +17,12 @@ export function differenceOf(there, here) {
   const lineOf = text => (start > from ? "\u2026" : "") + text.slice(start, start + LINE).split("\n", 1)[0];
   return { number, there: lineOf(there), here: lineOf(here) };
 }
-// page: its texts. listing, trace: the machine's. { what, number, there, here } of the first difference, or { count }
-export function checkOf(page, listing, trace, count) {
+// page: its texts. listing, trace: the machine's. { what, number, there, here } of the first difference, else { what: "" }
+export function checkOf(page, listing, trace) {
   const isOther = page.source && differenceOf(page.listing, listing);
   if (isOther) return { what: "listing", ...isOther };
   const difference = differenceOf(page.trace, trace);
-  return difference ? { what: "trace", ...difference } : { count };
+  return difference ? { what: "trace", ...difference } : { what: "" };
 }
 const shown = line => (line ? h("code", {}, line) : "nothing");
 
@@ -33,8 +33,7 @@ export function drawCheck({ check, item, text, plan }) {
   if (!isShown) return;
   byId("check").classList.toggle("is-wrong", Boolean(check.what));
   if (!check.what) {
-    const choices = check.count + (check.count === 1 ? " choice" : " choices");
-    fill(byId("check"), "The machine in this page has played its " + choices + ": the trace is the same.");
+    fill(byId("check"), "Played again in this page: the trace is the same.");
     return;
   }
   const told = "This page isn\u2019t what the machine plays. Line " + check.number + " of its " + check.what + ": ";

@@ -32,9 +32,10 @@ export function pageWith(page, texts) {
   return NAMES.reduce(put, page);
 }
 // A run in a file as a program of the menu. Of a plan the machine makes the schedule.
-export function itemOf({ name, listing, source, schedule, trace }) {
+export function itemOf(page) {
+  const { name, listing, source, schedule, trace } = page;
   const item = { group: "This file", name, title: name, program: source || listing, plan: schedule };
-  return trace ? { ...item, schedule } : { ...item, plan: schedule || ".." };
+  return trace ? { ...item, schedule, page } : { ...item, plan: schedule || ".." };
 }
 // A file's name without its folder and its ending.
 export const bareName = path => path.split("/").pop().replace(/\.\w+$/, "") || "run";

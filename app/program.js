@@ -6,6 +6,8 @@ import { byId, fill, h } from "./elements.js";
 import { hueOf, javaText, threadName } from "./names.js";
 
 const LONG = 20000;
+// so many threads have room beside a row
+const MARGIN = 2;
 const OPTIONS = /^(parent|phase|never|until|onadvance|action)$/;
 
 function kindOf(word) {
@@ -107,12 +109,14 @@ export function makeProgram(changed, planned) {
       at.set(line, [...(at.get(line) || []), t]);
     });
     const sign = (t, list) => {
-      const room = list.length > 2 ? 1 : list.length > 1 ? 2 : 4;
+      const room = list.length > MARGIN ? 1 : list.length > 1 ? 2 : 4;
       return h("i.place." + hueOf(t), { title: threadName(program, t) }, threadName(program, t).slice(0, room));
     };
     const places = ([line, list]) => {
-      const more = list.length > 3 ? h("i.place", {}, "+" + (list.length - 3)) : null;
-      return h("span.places", { vars: { "--line": line } }, list.slice(0, 3).map(t => sign(t, list)), more);
+      // what has no room in the margin is counted
+      const some = list.length > MARGIN ? list.slice(0, 1) : list;
+      const more = list.length > some.length ? h("i.place", {}, "+" + (list.length - 1)) : null;
+      return h("span.places", { vars: { "--line": line } }, some.map(t => sign(t, list)), more);
     };
     fill(margin, [...at].map(places));
     const line = event && event.row >= 0 ? program.lineOf[event.row] : -1;

@@ -89,8 +89,9 @@ function strayText(tree, id, i, p) {
   const came = arrivalsOf(tree, id, i).came[p].size;
   const parties = tree.program.everParties[p];
   if (came <= parties) return "";
-  return "By now " + came + " threads have arrived at " + nameOf(tree.program, "P", p) + ", and it has only " + parties +
-    " parties: one arrival was a stray, and nobody can know which.";
+  const name = nameOf(tree.program, "P", p);
+  const its = " for its " + parties + (parties === 1 ? " party" : " parties");
+  return came + " threads have arrived at " + name + its + ": one was a stray.";
 }
 // The same of the choice before moment i, if it is the one by which that many have arrived.
 export function strayOf(tree, id, i) {
@@ -139,7 +140,7 @@ export function arrivalsText(tree, run, i, p) {
   );
   if (ended[p].length) said.push("In the phase before it was ", ...namesOf(ended[p]), ". ");
   const stray = strayText(tree, run.id, i, p);
-  if (stray) said.push("A phaser counts arrivals, and doesn\u2019t ask who arrives. " + stray);
+  if (stray) said.push("A phaser counts arrivals, and doesn\u2019t ask who arrives. " + stray + " Nobody can know which.");
   else if (arrived[p].length || ended[p].length) {
     said.push(
       "A phaser counts arrivals, and doesn\u2019t ask who arrives. If one of them was surplus, nobody can know which."

@@ -8,7 +8,7 @@ import re
 from driving import HOSTILE, LESSONS, LOST, ROOM, TOP, filed, page_of, played, same, told
 
 LOST_PLAN = (LESSONS / "lost-meeting.schedule").read_text()
-RIGHT = "The machine in this page has played its "
+RIGHT = "Played again in this page: the trace is the same."
 
 
 def examples():
@@ -39,7 +39,7 @@ def look_at_examples(page):
     for name, program, schedule in examples():
         trace = played(program, schedule)
         page.open(file=filed(name, page_of(program, schedule)))
-        assert page.text("#check").startswith(RIGHT), f"{name}: {page.text('#check')}"
+        same(page.text("#check"), RIGHT, name)
         same(page.state("state.tree.runs[0].trace"), trace, name)
         same(page.state("[state.item.name, state.text]"), [name, program], name)
         same(page.run("document.querySelector('#check').classList.contains('is-wrong') || document.querySelector('#check').hidden"), False, name)
@@ -49,7 +49,7 @@ def look_at_examples(page):
 def look_at_listings(page):
     """A page of an image, which has no text of its own, has the listing"""
     page.open(file=filed("image", page_of(LOST, LOST_PLAN, source="")))
-    assert page.text("#check").startswith(RIGHT), page.text("#check")
+    same(page.text("#check"), RIGHT)
     same(page.state("state.text"), told("list", LOST))
     same(page.run("document.querySelector('.time-name').textContent"), "t0")
 
@@ -95,7 +95,7 @@ def look_at_addresses(page):
         if choices:
             i, token = choices.split()
             same(page.state(f"state.tree.runs[state.id].choices[{i}]"), token, address)
-        assert page.text("#check").startswith(RIGHT), f"{address}: {page.text('#check')}"
+        same(page.text("#check"), RIGHT, address)
     for address in ("#x", "#7t2", "#t2.9", "#<b>"):
         page.open(address, file=file)
         same(page.state("[state.at, state.tree.runs.length]"), [0, 1], address)
@@ -147,7 +147,7 @@ def look_at_long_pages(page):
         if ready < most:
             break
     assert ready < most, f"ready after {ready} ms"
-    same(page.text("#check"), RIGHT + "100000 choices: the trace is the same.")
+    same(page.text("#check"), RIGHT)
     same(page.text("#where"), "73210 of 100000")
     count = page.run("document.querySelectorAll('.time *').length")
     assert count < 700, f"{count} elements"
@@ -175,13 +175,13 @@ def look_at_saved_pages(page):
     page.entry("#more", "Save this page with the run")
     saved = page.run("window.saved.text()")
     page.open(file=filed("saved", saved))
-    assert page.text("#check").startswith(RIGHT), page.text("#check")
+    same(page.text("#check"), RIGHT)
     same(page.state("state.tree.runs[0].choices[1]"), "t1")
     page.open()
     page.click("#pick")
     page.run(f"(() => {{ const all = new DataTransfer(); all.items.add(new File([{json.dumps(saved)}], 'mine.html')); const it = document.querySelector('input[type=file]'); it.files = all.files; it.dispatchEvent(new Event('change')); return true; }})()")
     page.until("window.vuthgal.get().item.name === 'mine'")
-    assert page.text("#check").startswith(RIGHT), page.text("#check")
+    same(page.text("#check"), RIGHT)
 
 
 def look_at_frames(page):
@@ -192,7 +192,7 @@ def look_at_frames(page):
     (ROOM / "frame.html").write_text(f'<!doctype html><iframe sandbox="allow-scripts" style="width: 1200px; height: 700px" srcdoc="{inner}"></iframe>')
     page.on.open(f"file://{ROOM}/frame.html")
     page.on.until("window.vuthgal && window.vuthgal.ready", frame=0)
-    assert page.on.run("document.querySelector('#check').textContent", frame=0).startswith(RIGHT)
+    same(page.on.run("document.querySelector('#check').textContent", frame=0), RIGHT)
     page.on.run("document.querySelector('#last').click()", frame=0)
     same(page.on.run("document.querySelector('#where').textContent", frame=0), "8 of 8")
     page.on.run("document.querySelector('#larger').click()", frame=0)

@@ -54,6 +54,14 @@ pub(crate) fn runs_in(alloc: Global, schedule: &[u8], most: u64) -> Result<Vec<R
     Ok(runs)
 }
 
+/// Appends the choices of a run.
+fn add_run(choices: &mut Vec<Choice>, run: Run) -> Result<(), AllocError>
+    requires { length choices.old.items + run.times ≤ most_choices }
+    ensures { OnOk result (choices.new.items ≡ choices.old.items ++ replicate run.times run.choice) }
+{
+    choices.resize(choices.len() + run.times as usize, run.choice)
+}
+
 /// Returns the choices of these runs.
 fn choices_of(alloc: Global, runs: &[Run]) -> Result<Vec<Choice>, AllocError>
     requires { length (choices_of runs.now) ≤ most_choices }
@@ -61,7 +69,7 @@ fn choices_of(alloc: Global, runs: &[Run]) -> Result<Vec<Choice>, AllocError>
 {
     let mut choices = Vec::new(alloc);
     for run in runs {
-        choices.resize(choices.len() + run.times as usize, run.choice)?;
+        add_run(&mut choices, *run)?;
     }
     Ok(choices)
 }

@@ -120,8 +120,8 @@ fn add_text(page: &mut Vec<u8>, before: &[u8], text: &[u8]) -> Result<(), AllocE
 }
 
 /// Appends what stands behind the last text.
-fn add_tail(page: &mut Vec<u8>, tail: [&[u8]; 4]) -> Result<(), AllocError>
-    ensures { OnOk result (page.new.items ≡ page.old.items ++ flat_map (λ (piece : Bor (List ℕ)). piece.now) tail) }
+fn add_tail(page: &mut Vec<u8>, tail: &[&[u8]]) -> Result<(), AllocError>
+    ensures { OnOk result (page.new.items ≡ page.old.items ++ flat_map (λ (piece : Bor (List ℕ)). piece.now) tail.now) }
 {
     for piece in tail {
         page.extend_from_slice(piece)?;
@@ -146,7 +146,7 @@ fn page_in(
     add_text(&mut page, frame.before_source, source)?;
     add_text(&mut page, frame.before_schedule, schedule)?;
     add_text(&mut page, frame.before_trace, trace)?;
-    add_tail(&mut page, frame.tail)?;
+    add_tail(&mut page, &frame.tail)?;
     Ok(page)
 }
 

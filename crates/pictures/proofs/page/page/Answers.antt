@@ -1,7 +1,6 @@
-use Rattle.std.proofs.Common.{rules, ◌≡◌, ◌∙◌, ◌≤◌, ◌<◌, ℕ, List, length, Err, ap, subst}
+use Rattle.std.proofs.Common.{rules, ◌≡◌, ◌∙◌, ◌≤◌, ◌<◌, List, length, Err, ap, subst}
 use Rattle.std.proofs.lemmas.Result.{IfOk-weaker}
 use Rattle.line_reader.specs.Listing.{canonical}
-use Rattle.loader.specs.Fault.{first_fault}
 use Rattle.schedule_reader.specs.declared.run.Run.{Run}
 use Rattle.schedule_reader.specs.Schedule.{choices_of}
 use Rattle.schedule_reader.specs.Text.{schedule_text}
@@ -69,7 +68,6 @@ returns-clause-long c = λ is.
         (
           begins,
           c.in_ok-runs.ensures.runs,
-          c.in_ok-runs.ensures.few,
           subst (λ (rs : List Run). 16777216 < length (trace_of world (choices_of rs))) same (c.show_runs.ensures.long is),
         ),
       ),

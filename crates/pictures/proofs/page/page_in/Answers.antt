@@ -1,4 +1,5 @@
 use Rattle.std.proofs.Common.{◌≡◌, ◌∙◌, List, ℕ, [], ◌++◌, ap, append_assoc}
+use Rattle.pictures.specs.Page.{escaped, parts_of}
 use Rattle.pictures.proofs.page.page_in.Goals as goal
 
 -- a part and a text more in front of what stands behind them
@@ -17,5 +18,7 @@ joined a b d e f g h i tail p0 p1 p2 p3 p4 p5 is0 is1 is2 is3 is4 is5 =
 
 pub returns : goal.returns
 returns c =
-    joined _ _ _ _ _ _ _ _ _ _ _ _ _ _ _ c.new-page.ensures.items c.in_ok-add_text.ensures c.in_ok-add_text-2.ensures
+    let parts = parts_of c.args.frame in
+    joined parts.head (escaped c.args.listing.now) parts.before_source (escaped c.args.source.now) parts.before_schedule
+    (escaped c.args.schedule.now) parts.before_trace (escaped c.args.trace.now) parts.tail _ _ _ _ _ _ c.new-page.ensures.items c.in_ok-add_text.ensures c.in_ok-add_text-2.ensures
     c.in_ok-add_text-3.ensures c.in_ok-add_text-4.ensures c.in_ok-add_tail.ensures
