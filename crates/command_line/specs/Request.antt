@@ -98,9 +98,8 @@ AsksBy name rows (request.Compare file trace is_shown) = (name ≡ codes "compar
     × IsFlag (given (codes "show") rows) is_shown
 AsksBy name rows (request.Debug file steps) = (name ≡ codes "debug")
     × (file.now ≡ word_of (codes "FILE") rows) × AreSteps rows steps
-AsksBy name rows (request.Show file steps is_alone) = (name ≡ codes "show")
+AsksBy name rows (request.Show file steps) = (name ≡ codes "show")
     × (file.now ≡ word_of (codes "FILE") rows) × AreSteps rows steps
-    × IsFlag (given (codes "alone") rows) is_alone
 AsksBy name rows (request.Draw file steps width) = (name ≡ codes "draw")
     × (file.now ≡ word_of (codes "FILE") rows) × AreSteps rows steps
     × IsNumber (given (codes "width") rows) (Some width)

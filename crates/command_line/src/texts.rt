@@ -110,12 +110,11 @@ const SHOW: &str = "\
 Writes a page that shows a run: one HTML file that any browser opens, without a
 network.
 
-FILE, SCHEDULE and plans are as in `vuthgal run --help`. The trace of a
-page has at most 16777216 bytes.
+FILE, SCHEDULE and plans are as in `vuthgal run --help`. The schedule has at
+most 1000000 choices, and the trace at most 16777216 bytes.
 
-The page also shows other runs: what would have followed another choice. The
-chosen thread runs until it waits or ends, then the choices of the run follow
-that still do something, then all threads in turn.
+The page holds the program, the schedule and the trace. It plays the schedule
+itself and compares the trace. There you can also make other choices.
 
 Example: vuthgal show examples/two-threads-meet.txt > meeting.html";
 

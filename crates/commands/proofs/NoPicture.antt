@@ -3,10 +3,13 @@ use Rattle.std.proofs.Common.{◌≡◌, ◌⊎◌, ℕ, List, Some, Result, Err
 use Rattle.loader.specs.declared.load_fault.LoadFault.{LoadFault}
 use Rattle.workbench.specs.declared.fault.Fault.{Fault}
 use Rattle.workbench.specs.declared.fault.PictureKind.{PictureKind}
+use Rattle.workbench.specs.declared.fault.PictureKind.TheVariants as picture
 use Rattle.workbench.specs.Fault.{status_of}
 use Rattle.commands.specs.PictureFault.{fault_of}
-use Rattle.commands.specs.Picture.{HaveNoPicture, IsTooLong}
+use Rattle.commands.specs.Picture.{HaveNoPicture, most_of}
 use Rattle.row_code.specs.declared.image.Image.{Image}
+use Rattle.pictures.specs.Choices.{HasMoreChoices}
+use Rattle.pictures.specs.Page.{HasLongTrace}
 use Rattle.pictures.specs.declared.page.PageFault.{PageFault}
 use Rattle.pictures.specs.declared.page.PageFault.TheVariants as none
 use Rattle.schedule_reader.specs.declared.fault.ScheduleFault.{ScheduleFault}
@@ -19,7 +22,8 @@ pub no_picture : {A : Type 0} (result : Result A PageFault) (fault : PageFault) 
     → ((f : LoadFault) → result ≡ Err (none.Load f) → IsRefused f image)
     → ((f : ScheduleFault) → result ≡ Err (none.Schedule f)
     → ((finished_schedule schedule).fault ≡ Some f) × (f ≡ wrong.Memory → ⊥))
-    → (result ≡ Err none.Long → IsTooLong kind image schedule)
+    → (result ≡ Err none.Choices → HasMoreChoices (most_of kind) schedule)
+    → (result ≡ Err none.Trace → (kind ≡ picture.Page) × HasLongTrace image schedule)
     → ((f : LoadFault) → IsRefused f image → (result ≡ Err (none.Load f)) ⊎ (result ≡ Err none.Memory))
     → status_of told ≡ 3 → HaveNoPicture kind told image schedule
-no_picture result fault told kind schedule image is same load faulty many loads three = grind arith
+no_picture result fault told kind schedule image is same load faulty many long loads three = grind arith

@@ -11,7 +11,8 @@ use Rattle.workbench.specs.declared.fault.PictureKind.{PictureKind}
 abbrev pub fault_of : PageFault → PictureKind → Fault
 fault_of (page.Load f) kind = fault.Load f
 fault_of (page.Schedule f) kind = fault.Schedule f
-fault_of page.Long kind = fault.TooLong kind
+fault_of page.Choices kind = fault.TooLong kind
+fault_of page.Trace kind = fault.LongTrace
 fault_of page.Memory kind = fault.Memory
 
 abbrev pub start_fault : StartFault → Fault

@@ -39,7 +39,8 @@ pub fn fault_of(fault: PageFault, kind: PictureKind) -> Fault
     match fault {
         PageFault::Load(fault) => Fault::Load(fault),
         PageFault::Schedule(fault) => Fault::Schedule(fault),
-        PageFault::Long => Fault::TooLong(kind),
+        PageFault::Choices => Fault::TooLong(kind),
+        PageFault::Trace => Fault::LongTrace,
         PageFault::Memory => Fault::Memory,
     }
 }

@@ -1,5 +1,7 @@
--- The parts that every page has; `bin/made` makes them of the sources in `page/`.
-use Rattle.page_frame.specs.declared.fixed.TheConstants.{BEFORE_SCHEDULE, BEFORE_SOURCE, BEFORE_TRACE, HEAD, TAIL}
+-- The parts that every page has, which `bin/made page` makes of the app.
+use Rattle.std.specs.Prelude.{ℕ, List, [], ◌∷◌, flat_map}
+use Rattle.std.specs.Borrow.{Bor}
+use Rattle.page_frame.specs.declared.fixed.TheConstants.{BEFORE_SCHEDULE, BEFORE_SOURCE, BEFORE_TRACE, HEAD, TAIL_1, TAIL_2, TAIL_3, TAIL_4}
 use Rattle.pictures.specs.Page.{Parts}
 
 abbrev pub fixed_parts : Parts
@@ -8,5 +10,5 @@ fixed_parts = record {
   before_source = BEFORE_SOURCE.now;
   before_schedule = BEFORE_SCHEDULE.now;
   before_trace = BEFORE_TRACE.now;
-  tail = TAIL.now;
+  tail = flat_map (λ (piece : Bor (List ℕ)). piece.now) (TAIL_1 ∷ TAIL_2 ∷ TAIL_3 ∷ TAIL_4 ∷ []);
 }

@@ -256,9 +256,9 @@ pub const BEFORE_SCHEDULE: &[u8] = b"\
 pub const BEFORE_TRACE: &[u8] = b"\
 </pre>\n<h3>Other runs</h3>\n<pre id=\"others\">\n";
 
-/// What a page ends with: its script.
+/// What stands behind the trace: the first of four pieces.
 #[rattlefmt::skip]
-pub const TAIL: &[u8] = b"\
+pub const TAIL_1: &[u8] = b"\
 </pre>\n</details>\n<script>\n(function () {\n\"use strict\";\n// Draws the text of this page. Nothing here plays a program: each picture is \
 read off the states that the text holds.\n\n// ---- the texts\nconst id = name => document.getElementById(name);\n\nfunction linesOf(name) {\
 \n  const lines = id(name).textContent.split(\"\\n\");\n  need(lines.pop() === \"\", \"the text of \" + name + \" doesn't end with a line\")\
@@ -446,7 +446,11 @@ l (back to row \" + n + \")\" : kind === \"H\" ? \"handler at \" + labelled(n)\n
 , n) : \"action of \" + nameOf(\"B\", n);\n}\n// a phaser whose parties have all arrived has arrived at its parent: the nearest above it tha\
 t still waits for arrivals\nfunction nearestWaiting(p, s) {\n  let at = p, child = -1;\n  while (phasers[at].parent >= 0 && s.phasers[at].pa\
 rties > 0 && s.phasers[at].arrived === s.phasers[at].parties) {\n    child = at;\n    at = phasers[at].parent;\n  }\n  return { phaser: at, \
-child: child };\n}\nfunction countText(row, s) {\n  const p = operandOf(row, \"P\"), b = operandOf(row, \"B\");\n  const of = (n, all, one, \
+child: child };\n}\nfunction countText(row, s) {\n  const p = operandOf(row, \"P\"), b = operandOf(row, \"B\");\n  const of = (n, all, one, ";
+
+/// The second piece.
+#[rattlefmt::skip]
+pub const TAIL_2: &[u8] = b"\
 more) => n + \" of \" + all + (n === 1 ? one : more);\n  if (b >= 0) return of(s.barriers[b].waiting, barriers[b].parties, \" waits at \", \" \
 wait at \") + nameOf(\"B\", b) + \".\";\n  if (s.phasers[p].view < 0) return \"\";\n  if (!s.phasers[p].parties) return nameOf(\"P\", p) + \" \
 has no parties now.\";\n  const near = nearestWaiting(p, s), q = s.phasers[near.phaser];\n  if (near.child >= 0) return nameOf(\"P\", near.c\
@@ -634,7 +638,11 @@ RS));\n  const [who, tag, mark, brief] = widest({ texts: named, kind: \"who in-l
 2, most = isCrowd() ? 1.2 * em : Math.max(2.4 * em, name + .4 * em);\n  const least = em * (isCrowd() ? Math.max(.5, Math.min(.8, 32 / threa\
 ds.length)) : name < 2.6 * em ? Math.max(1.5, name / em) : 1.5);\n  id(\"panes\").style.setProperty(\"--need\", Math.ceil(words + least * th\
 reads.length + 2.4 * em + id(\"map\").offsetWidth) + \"px\");\n  column = Math.floor(Math.max((isCrowd() ? .5 : 1.5) * em, Math.min(most, (t\
-imeBox().clientWidth - words) / threads.length)));\n  return name <= column;\n}\nfunction drawColumns() {\n  const table = id(\"lanes\");\n  \
+imeBox().clientWidth - words) / threads.length)));\n  return name <= column;\n}\nfunction drawColumns() {\n  const table = id(\"lanes\");\n  ";
+
+/// The third piece.
+#[rattlefmt::skip]
+pub const TAIL_3: &[u8] = b"\
 table.textContent = \"\";\n  isNarrowest = isNarrow && !isWide();\n  table.className = (isNarrow ? \"narrow\" : \"\") + (isNarrowest && isWh\
 ole() ? \" folds\" : \"\");\n  table.style.removeProperty(\"--column\");\n  if (!isNarrow) id(\"panes\").style.removeProperty(\"--need\");\n  \
 else {\n    table.classList.toggle(\"brief\", narrowColumn());\n    table.style.setProperty(\"--column\", column + \"px\");\n  }\n  pitch = \
@@ -822,7 +830,11 @@ hich what stands between backquotes is code\nfunction fillTalk(box, text) {\n  b
 view, below its head; or its top, where there is no room for all.\n// What came before it stays in view: where it would be above the middle, \
 and what comes later is hidden, or where it was out of\n// view, it stands in the middle\nfunction scrollTo(box, top, foot, cover, isLate) {\
 \n  const highest = Math.max(0, top - cover - 4), middle = Math.max(0, Math.min(highest, (top + foot - cover - box.clientHeight) / 2));\n  i\
-f (isLate && (id(\"hide\").checked ? middle : top - cover) < box.scrollTop) box.scrollTop = middle;\n  else if (top - cover < box.scrollTop) \
+f (isLate && (id(\"hide\").checked ? middle : top - cover) < box.scrollTop) box.scrollTop = middle;\n  else if (top - cover < box.scrollTop) ";
+
+/// The last piece.
+#[rattlefmt::skip]
+pub const TAIL_4: &[u8] = b"\
 box.scrollTop = highest;\n  else if (foot > box.scrollTop + box.clientHeight) box.scrollTop = Math.min(highest, foot - box.clientHeight + 4)\
 ;\n}\n// the same of an element in it, wherever it is nested\nfunction bring(box, element, cover, more, isLate) {\n  const outer = box.getBo\
 undingClientRect(), inner = element.getBoundingClientRect(), top = inner.top - outer.top - box.clientTop + box.scrollTop;\n  scrollTo(box, t\

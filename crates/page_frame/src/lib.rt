@@ -1,6 +1,6 @@
 //! The fixed parts of the page that `show` writes.
 //!
-//! `bin/made` makes them, `src/fixed.rt`, of the sources in `page/`. No crate that plays a program stands on this one.
+//! `bin/made page` makes them, `src/fixed.rt`, of the app. No crate that plays a program stands on this one.
 #![tactic(auto)]
 
 ghost use Rattle.std.specs.Prelude.{◌≡◌};
@@ -9,7 +9,7 @@ ghost use Rattle.page_frame.specs.Fixed.{fixed_parts};
 
 pub mod fixed;
 
-use fixed::{BEFORE_SCHEDULE, BEFORE_SOURCE, BEFORE_TRACE, HEAD, TAIL};
+use fixed::{BEFORE_SCHEDULE, BEFORE_SOURCE, BEFORE_TRACE, HEAD, TAIL_1, TAIL_2, TAIL_3, TAIL_4};
 use pictures::frame::Frame;
 
 /// Returns the fixed parts of a page.
@@ -21,6 +21,6 @@ pub fn frame() -> Frame<'static>
         before_source: BEFORE_SOURCE,
         before_schedule: BEFORE_SCHEDULE,
         before_trace: BEFORE_TRACE,
-        tail: TAIL,
+        tail: [TAIL_1, TAIL_2, TAIL_3, TAIL_4],
     }
 }

@@ -1,8 +1,9 @@
--- The page of a run: its fixed parts, and the texts between them. These are the program, its text, the schedule, and the trace.
+-- The page of a run: its fixed parts, and between them the program, its text, the schedule, and the trace.
 use Rattle.std.specs.Prelude.{◌≡◌, ◌≤◌, ◌<◌, ℕ, ◌==◌, ◌||◌, not, Bool, if◌then◌else◌, List, [], ◌∷◌, ◌++◌, length, codes, flat_map}
+use Rattle.std.specs.Borrow.{Bor}
 use Rattle.line_reader.specs.Listing.{canonical}
 use Rattle.row_code.specs.declared.image.Image.{Image}
-use Rattle.pictures.specs.Choices.{AreRunsOf}
+use Rattle.pictures.specs.Choices.{AreRunsOf, most_page_choices}
 use Rattle.pictures.specs.declared.frame.Frame.{Frame}
 use Rattle.schedule_reader.specs.declared.run.Run.{Run}
 use Rattle.schedule_reader.specs.Schedule.{choices_of}
@@ -38,7 +39,7 @@ parts_of frame = record {
   before_source = frame.before_source.now;
   before_schedule = frame.before_schedule.now;
   before_trace = frame.before_trace.now;
-  tail = frame.tail.now;
+  tail = flat_map (λ (piece : Bor (List ℕ)). piece.now) frame.tail;
 }
 
 -- the fixed parts, and between them the listing of a program, its text, a schedule, and the trace of its choices
@@ -51,14 +52,15 @@ page_text parts listing source schedule trace =
 abbrev pub most_trace : ℕ
 most_trace = 16777216
 
--- the page of an image's program, with its text, its schedule and its trace, which is what `run` writes
+-- the page of an image's program, with its text, its schedule and its trace, which is what `run` writes; there is room for the
+-- schedule's choices and for the trace
 abbrev pub IsPageIn : Parts → Image → List ℕ → List ℕ → List ℕ → Type 0
 IsPageIn parts image source schedule page =
     (world : World) × ((runs : List Run) × (Begins image world × AreRunsOf schedule runs
-    × (length (trace_of world (choices_of runs)) ≤ most_trace)
+    × (length (choices_of runs) ≤ most_page_choices) × (length (trace_of world (choices_of runs)) ≤ most_trace)
     × (page ≡ page_text parts (canonical image) source (schedule_text runs) (trace_of world (choices_of runs)))))
 
--- the trace of a schedule is longer than a page's may be
+-- a schedule has no fault, and its trace is longer than a page's may be
 abbrev pub HasLongTrace : Image → List ℕ → Type 0
 HasLongTrace image schedule =
     (world : World) × ((runs : List Run) × (Begins image world × AreRunsOf schedule runs

@@ -9,6 +9,6 @@ pub struct Frame<'a> {
     pub before_schedule: &'a [u8],
     /// What stands between the schedule and the trace.
     pub before_trace: &'a [u8],
-    /// What stands after the trace.
-    pub tail: &'a [u8],
+    /// What stands after the trace. It is in pieces, since a constant can't be as long as the whole.
+    pub tail: [&'a [u8]; 4],
 }

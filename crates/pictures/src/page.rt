@@ -1,10 +1,12 @@
 // Puts a page together: its fixed parts, and between them the listing, the source, the schedule and the trace.
-ghost use Rattle.std.specs.Prelude.{◌≡◌, ◌≢◌, ◌<◌, ◌≤◌, ◌⊎◌, All, length, IfErr, IfOk, OnOk, Err, Some, None, false};
+ghost use Rattle.std.specs.Prelude.{◌≡◌, ◌≢◌, ◌<◌, ◌≤◌, ◌⊎◌, ◌++◌, ℕ, List, All, length, flat_map, IfErr, IfOk, OnOk, Err, Some, None, false};
+ghost use Rattle.std.specs.Borrow.{Bor};
 ghost use Rattle.loader.specs.declared.load_fault.LoadFault.{LoadFault};
 ghost use Rattle.loader.specs.Fault.{first_fault};
 ghost use Rattle.loader.specs.Program.{IsProgramOf};
+ghost use Rattle.pictures.specs.Choices.{HasMoreChoices, most_page_choices};
 ghost use Rattle.pictures.specs.Missing.{IsMissingIn, missing_in};
-ghost use Rattle.pictures.specs.Page.{HasLongTrace, IsPageIn, most_trace, page_text, parts_of};
+ghost use Rattle.pictures.specs.Page.{HasLongTrace, IsPageIn, escaped, most_trace, page_text, parts_of};
 ghost use Rattle.schedule_reader.specs.declared.fault.ScheduleFault.{ScheduleFault};
 ghost use Rattle.schedule_reader.specs.Schedule.{IsRun, choices_of, finished_schedule};
 ghost use Rattle.schedule_reader.specs.Text.{schedule_text};
@@ -12,7 +14,7 @@ ghost use Rattle.thread_machine.specs.World.{first_world};
 ghost use Rattle.trace_text.specs.Start.{IsRefused, is_want_of_memory};
 ghost use Rattle.trace_text.specs.Trace.{trace_of};
 
-use crate::choices::runs_in;
+use crate::choices::{MOST_PAGE_CHOICES, runs_in};
 use crate::escape::add_escaped;
 use crate::frame::Frame;
 use crate::missing::{Shown, missing_told};
@@ -35,8 +37,10 @@ pub enum PageFault {
     Load(LoadFault),
     /// The schedule has a fault, which is never `Memory`.
     Schedule(ScheduleFault),
-    /// A drawing would have more than 2,000 choices, or a page a trace of more than 16,777,216 bytes.
-    Long,
+    /// The schedule has more than 2,000 choices for a drawing, or more than 1,000,000 for a page.
+    Choices,
+    /// The trace of a page would have more than 16,777,216 bytes.
+    Trace,
     /// Out of memory.
     Memory,
 }
@@ -60,7 +64,8 @@ fn loaded(alloc: Global, image: Image) -> Result<Loaded, PageFault>
         → IsRefused fault image × (is_want_of_memory fault ≡ false) }
     ensures refused { (fault : LoadFault) → IsRefused fault image
         → (result ≡ Err (PageFault.Load fault)) ⊎ (result ≡ Err PageFault.Memory) }
-    ensures others { ((fault : ScheduleFault) → result ≢ Err (PageFault.Schedule fault)) × (result ≢ Err PageFault.Long) }
+    ensures others { ((fault : ScheduleFault) → result ≢ Err (PageFault.Schedule fault))
+        × (result ≢ Err PageFault.Choices) × (result ≢ Err PageFault.Trace) }
 {
     match load(alloc, image) {
         Ok(program) => Ok(program),
@@ -91,19 +96,37 @@ fn trace_of_runs(alloc: Global, program: Loaded, runs: &[Run]) -> Result<Traced,
     Ok(Traced { text, missing })
 }
 
-/// Returns a trace as a whole, or `Long` if it has more than 16,777,216 bytes.
+/// Returns a trace as a whole, or `Trace` if it has more than 16,777,216 bytes.
 fn whole(text: &CountingSink) -> Result<&[u8], PageFault>
     ensures whole { IfOk result (λ trace. (trace.now ≡ text.now.written) × (length text.now.written ≤ most_trace)) }
-    ensures long { result ≡ Err PageFault.Long → most_trace < length text.now.written }
-    ensures others { IfErr result (λ fault. (fault ≡ PageFault.Long) ⊎ (fault ≡ PageFault.Memory)) }
+    ensures long { result ≡ Err PageFault.Trace → most_trace < length text.now.written }
+    ensures others { IfErr result (λ fault. (fault ≡ PageFault.Trace) ⊎ (fault ≡ PageFault.Memory)) }
 {
     if text.count() > MOST_TRACE {
-        return Err(PageFault::Long);
+        return Err(PageFault::Trace);
     }
     if !text.has_kept(MOST_TRACE) {
         return Err(PageFault::Memory);
     }
     Ok(text.kept())
+}
+
+/// Appends a fixed part, and the text that stands behind it.
+fn add_text(page: &mut Vec<u8>, before: &[u8], text: &[u8]) -> Result<(), AllocError>
+    ensures { OnOk result (page.new.items ≡ page.old.items ++ (before.now ++ escaped text.now)) }
+{
+    page.extend_from_slice(before)?;
+    add_escaped(page, text)
+}
+
+/// Appends what stands behind the last text.
+fn add_tail(page: &mut Vec<u8>, tail: &[&[u8]]) -> Result<(), AllocError>
+    ensures { OnOk result (page.new.items ≡ page.old.items ++ flat_map (λ (piece : Bor (List ℕ)). piece.now) tail.now) }
+{
+    for piece in tail {
+        page.extend_from_slice(piece)?;
+    }
+    Ok(())
 }
 
 /// Returns a page: the parts of `frame`, and between them these four texts.
@@ -119,15 +142,11 @@ fn page_in(
         listing.now source.now schedule.now trace.now) }
 {
     let mut page = Vec::new(alloc);
-    page.extend_from_slice(frame.head)?;
-    add_escaped(&mut page, listing)?;
-    page.extend_from_slice(frame.before_source)?;
-    add_escaped(&mut page, source)?;
-    page.extend_from_slice(frame.before_schedule)?;
-    add_escaped(&mut page, schedule)?;
-    page.extend_from_slice(frame.before_trace)?;
-    add_escaped(&mut page, trace)?;
-    page.extend_from_slice(frame.tail)?;
+    add_text(&mut page, frame.head, listing)?;
+    add_text(&mut page, frame.before_source, source)?;
+    add_text(&mut page, frame.before_schedule, schedule)?;
+    add_text(&mut page, frame.before_trace, trace)?;
+    add_tail(&mut page, &frame.tail)?;
     Ok(page)
 }
 
@@ -146,9 +165,9 @@ fn show_runs(
         (trace_of (first_world program 1000000000) (choices_of runs.now)))) }
     ensures missing { IfOk result (λ shown. shown.missing
         ≡ missing_in (first_world program 1000000000) (choices_of runs.now)) }
-    ensures long { result ≡ Err PageFault.Long
+    ensures long { result ≡ Err PageFault.Trace
         → most_trace < length (trace_of (first_world program 1000000000) (choices_of runs.now)) }
-    ensures others { IfErr result (λ fault. (fault ≡ PageFault.Long) ⊎ (fault ≡ PageFault.Memory)) }
+    ensures others { IfErr result (λ fault. (fault ≡ PageFault.Trace) ⊎ (fault ≡ PageFault.Memory)) }
 {
     let schedule = write_schedule(alloc, runs)?;
     let Traced { text, missing } = trace_of_runs(alloc, program, runs)?;
@@ -172,7 +191,8 @@ pub fn page(
         → IsRefused fault image × (is_want_of_memory fault ≡ false) }
     ensures schedule { (fault : ScheduleFault) → result ≡ Err (PageFault.Schedule fault)
         → ((finished_schedule schedule.now).fault ≡ Some fault) × (fault ≢ ScheduleFault.Memory) }
-    ensures long { result ≡ Err PageFault.Long → HasLongTrace image schedule.now }
+    ensures many { result ≡ Err PageFault.Choices → HasMoreChoices most_page_choices schedule.now }
+    ensures long { result ≡ Err PageFault.Trace → HasLongTrace image schedule.now }
     ensures refused { (fault : LoadFault) → IsRefused fault image
         → (result ≡ Err (PageFault.Load fault)) ⊎ (result ≡ Err PageFault.Memory) }
 {
@@ -183,7 +203,7 @@ pub fn page(
         Ok(program) => program,
         Err(fault) => return Err(fault),
     };
-    let runs = runs_in(alloc, schedule)?;
+    let runs = runs_in(alloc, schedule, MOST_PAGE_CHOICES)?;
     show_runs(
         alloc,
         frame,

@@ -16,7 +16,7 @@ use fault_reports::program::ProgramFile;
 use fault_reports::report::{Report, Reported};
 use fault_reports::schedule;
 use page_frame::frame;
-use pictures::choices::MOST_CHOICES;
+use pictures::choices::{MOST_CHOICES, MOST_PAGE_CHOICES};
 use schedule_reader::write_schedule;
 use suggestions::schedule_fault::Origin;
 use workbench::Program;
@@ -107,7 +107,7 @@ fn picture<P: Picture>(
 /// Writes the page of the program in a file.
 pub fn show(report: &Report<'_>, name: &str, steps: Steps<'_>) -> Result<Done, Reported> {
     notes::push_page_on_terminal(report);
-    picture(report, &Page { frame: frame() }, u64::MAX, name, steps)
+    picture(report, &Page { frame: frame() }, MOST_PAGE_CHOICES, name, steps)
 }
 
 /// Draws the run of the program in a file, in lines of at most so many bytes.
@@ -117,5 +117,5 @@ pub fn draw(
     steps: Steps<'_>,
     width: u16,
 ) -> Result<Done, Reported> {
-    picture(report, &Drawing { width }, MOST_CHOICES as u64, name, steps)
+    picture(report, &Drawing { width }, MOST_CHOICES, name, steps)
 }

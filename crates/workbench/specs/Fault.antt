@@ -32,6 +32,7 @@ refusal_status None = 4
 -- the exit status
 abbrev pub status_of : Fault → ℕ
 status_of (fault.TooLong kind) = 3
+status_of fault.LongTrace = 3
 status_of fault.Memory = 4
 status_of fault.Spawn = 4
 status_of fault.Read = 5
@@ -78,14 +79,15 @@ abbrev pub refusal_line : List ℕ → Option ℕ → List ℕ → List ℕ
 refusal_line word (Some number) place = word ++ (decimal number ++ (place ++ codes "\n"))
 refusal_line word None place = codes "memory\n"
 
--- the line of a schedule that is too long for a picture
+-- the line of a schedule with more choices than a picture has room for
 abbrev pub too_long : PictureKind → List ℕ
-too_long picture.Page = codes "refused show 16777216\n"
+too_long picture.Page = codes "refused show 1000000\n"
 too_long picture.Drawing = codes "refused draw 2000\n"
 
 -- the line on standard error
 abbrev pub line_of : Fault → List ℕ
 line_of (fault.TooLong kind) = too_long kind
+line_of fault.LongTrace = codes "refused show 16777216\n"
 line_of fault.Memory = codes "memory\n"
 line_of fault.Spawn = codes "spawn\n"
 line_of fault.Read = codes "read\n"

@@ -22,13 +22,12 @@ pub enum PictureKind {
 }
 
 impl PictureKind {
-    /// Returns the line for a schedule that is too long for such a picture: with the most bytes of a page's trace, or the most
-    /// choices of a drawing.
+    /// Returns the line for a schedule with more choices than such a picture has room for.
     fn too_long(self) -> &'static [u8]
         ensures { result.now ≡ too_long self }
     {
         match self {
-            PictureKind::Page => b"refused show 16777216\n",
+            PictureKind::Page => b"refused show 1000000\n",
             PictureKind::Drawing => b"refused draw 2000\n",
         }
     }
@@ -45,8 +44,10 @@ pub enum Fault {
     Load(LoadFault),
     /// The schedule has this fault.
     Schedule(ScheduleFault),
-    /// The schedule is too long for a picture.
+    /// The schedule has more choices than a picture has room for.
     TooLong(PictureKind),
+    /// The trace of the run has more bytes than a page has room for.
+    LongTrace,
     /// Out of memory.
     Memory,
     /// A thread couldn't be started.
@@ -204,7 +205,7 @@ impl Fault {
         ensures { result ≡ status_of self }
     {
         match self {
-            Fault::TooLong(_) => 3,
+            Fault::TooLong(_) | Fault::LongTrace => 3,
             Fault::Memory | Fault::Spawn => 4,
             Fault::Read | Fault::Write => 5,
             _ => refusal_status(self.number()),
@@ -219,6 +220,7 @@ impl Fault {
     {
         match self {
             Fault::TooLong(kind) => errors.push(kind.too_long()),
+            Fault::LongTrace => errors.push(b"refused show 16777216\n"),
             Fault::Memory => errors.push(b"memory\n"),
             Fault::Spawn => errors.push(b"spawn\n"),
             Fault::Read => errors.push(b"read\n"),

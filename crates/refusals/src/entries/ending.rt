@@ -1,13 +1,21 @@
 use crate::entry::Entry;
 
 /// A picture that would be too long.
-pub static TOO_LONG: [Entry; 2] = [
+pub static TOO_LONG: [Entry; 3] = [
     Entry {
-        asked: &[&["show"], &["show", "16777216"]],
+        asked: &[&["show"], &["show", "1000000"]],
+        told: "refused show 1000000",
+        means: "the schedule has more choices than a page plays",
+        helps: "a schedule of at most 1000000 choices",
+        example: "printf '.thread t #0\\nhalt\\n.run\\nt0*1000001\\n' > a.txt; vuthgal show a.txt",
+        more: "docs/TRACES.md, \"Page\"",
+    },
+    Entry {
+        asked: &[&["show", "16777216"]],
         told: "refused show 16777216",
-        means: "the trace of the run has more bytes than a page holds",
-        helps: "a shorter schedule; in a plan a count, as in `..*200`",
-        example: "printf '.thread t #0\\nhalt\\n.run\\nt0*2000000\\n' > a.txt; vuthgal show a.txt",
+        means: "the trace of the run has more bytes than a page has room for",
+        helps: "a shorter schedule: a trace of at most 16777216 bytes",
+        example: "printf '.thread t #0\\nhalt\\n.run\\nt0*1000000\\n' > a.txt; vuthgal show a.txt",
         more: "docs/TRACES.md, \"Page\"",
     },
     Entry {

@@ -11,7 +11,8 @@ pub returns-clause-refused : goal.returns-clause-refused
 returns-clause-refused c =
     no_picture c.choices_in.result c.in-Err-choices_in.fault c.fault_of.result kind.Drawing c.args.schedule.now
     c.args.program.image c.in-Err-choices_in.is c.fault_of.ensures
-    (λ f is. absurd (c.choices_in.ensures.load f is)) c.choices_in.ensures.schedule c.choices_in.ensures.many
+    (λ f is. absurd (c.choices_in.ensures.others.0 f is)) c.choices_in.ensures.schedule c.choices_in.ensures.many
+    (λ is. absurd (c.choices_in.ensures.others.1 is))
     (λ f refused. elim (c.first_machine.ensures.refused f refused) [ inl e ↦ absurd (cc (c.in-Ok.is, e)) | inr e ↦ absurd (cc (c.in-Ok.is, e)) ])
 
 pub returns-in-Ok-choices_in-clause-drawing : goal.returns-in-Ok-choices_in-clause-drawing

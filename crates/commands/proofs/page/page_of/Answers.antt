@@ -1,3 +1,4 @@
+use Rattle.std.proofs.Common.{refl}
 use Rattle.workbench.specs.declared.fault.PictureKind.TheVariants as picture
 use Rattle.commands.proofs.NoPicture.{no_picture}
 use Rattle.commands.proofs.Pages.{page_in}
@@ -13,4 +14,4 @@ pub returns-clause-refused : goal.returns-clause-refused
 returns-clause-refused c =
     no_picture c.page.result c.in-Err.fault c.fault_of.result picture.Page c.args.schedule.now c.args.program.image
     c.in-Err.is c.fault_of.ensures (λ f is. (c.page.ensures.load f is).0)
-    c.page.ensures.schedule c.page.ensures.long c.page.ensures.refused
+    c.page.ensures.schedule c.page.ensures.many (λ is. (refl, c.page.ensures.long is)) c.page.ensures.refused

@@ -1,7 +1,6 @@
-use Rattle.std.proofs.Common.{rules, ◌≡◌, ◌∙◌, ◌≤◌, ◌<◌, ℕ, List, length, Err, ap, subst}
+use Rattle.std.proofs.Common.{rules, ◌≡◌, ◌∙◌, ◌≤◌, ◌<◌, List, length, Err, ap, subst}
 use Rattle.std.proofs.lemmas.Result.{IfOk-weaker}
 use Rattle.line_reader.specs.Listing.{canonical}
-use Rattle.loader.specs.Fault.{first_fault}
 use Rattle.schedule_reader.specs.declared.run.Run.{Run}
 use Rattle.schedule_reader.specs.Schedule.{choices_of}
 use Rattle.schedule_reader.specs.Text.{schedule_text}
@@ -31,6 +30,7 @@ returns-clause-page c =
         (
           begins,
           c.in_ok-runs.ensures.runs,
+          c.in_ok-runs.ensures.few,
           subst (λ (rs : List Run). length (trace_of world (choices_of rs)) ≤ 16777216) same is.0,
           is.1 ∙ ap (λ l. page_text parts l source (schedule_text c.as_slice-2.result.now) (trace_of world (choices_of c.as_slice-2.result.now))) listed
               ∙ ap (λ (rs : List Run). page_text parts (canonical image) source (schedule_text rs) (trace_of world (choices_of rs))) same,

@@ -1,22 +1,24 @@
 use Rattle.std.proofs.Common.{◌≡◌, ◌∙◌, List, ℕ, [], ◌++◌, ap, append_assoc}
+use Rattle.pictures.specs.Page.{escaped, parts_of}
 use Rattle.pictures.proofs.page.page_in.Goals as goal
 
--- a part more in front of what stands behind it
-in_front : (before after all one rest : List ℕ) → after ≡ before ++ one → all ≡ after ++ rest → all ≡ before ++ (one ++ rest)
-in_front before after all one rest is so = so ∙ ap (λ text. text ++ rest) is ∙ append_assoc before one rest
+-- a part and a text more in front of what stands behind them
+in_front : (before after all part text rest : List ℕ) → after ≡ before ++ (part ++ text) → all ≡ after ++ rest
+    → all ≡ before ++ (part ++ (text ++ rest))
+in_front before after all part text rest is so =
+    so ∙ ap (λ t. t ++ rest) is ∙ append_assoc before (part ++ text) rest ∙ ap (λ t. before ++ t) (append_assoc part text rest)
 
--- nine parts, one behind the other
-joined : (a b d e f g h i j p0 p1 p2 p3 p4 p5 p6 p7 p8 p9 : List ℕ) → p0 ≡ [] → p1 ≡ p0 ++ a → p2 ≡ p1 ++ b → p3 ≡ p2 ++ d
-    → p4 ≡ p3 ++ e → p5 ≡ p4 ++ f → p6 ≡ p5 ++ g → p7 ≡ p6 ++ h → p8 ≡ p7 ++ i → p9 ≡ p8 ++ j
-    → p9 ≡ a ++ (b ++ (d ++ (e ++ (f ++ (g ++ (h ++ (i ++ j)))))))
-joined a b d e f g h i j p0 p1 p2 p3 p4 p5 p6 p7 p8 p9 is0 is1 is2 is3 is4 is5 is6 is7 is8 is9 =
-    in_front p0 p1 p9 a _ is1 (in_front p1 p2 p9 b _ is2 (in_front p2 p3 p9 d _ is3 (in_front p3 p4 p9 e _ is4 (in_front p4 p5 p9 f _ is5
-    (in_front p5 p6 p9 g _ is6 (in_front p6 p7 p9 h _ is7 (in_front p7 p8 p9 i j is8 is9)))))))
-    ∙ ap (λ text. text ++ (a ++ (b ++ (d ++ (e ++ (f ++ (g ++ (h ++ (i ++ j))))))))) is0
+-- four parts, each with its text, and the rest
+joined : (a b d e f g h i tail p0 p1 p2 p3 p4 p5 : List ℕ) → p0 ≡ [] → p1 ≡ p0 ++ (a ++ b) → p2 ≡ p1 ++ (d ++ e)
+    → p3 ≡ p2 ++ (f ++ g) → p4 ≡ p3 ++ (h ++ i) → p5 ≡ p4 ++ tail
+    → p5 ≡ a ++ (b ++ (d ++ (e ++ (f ++ (g ++ (h ++ (i ++ tail)))))))
+joined a b d e f g h i tail p0 p1 p2 p3 p4 p5 is0 is1 is2 is3 is4 is5 =
+    in_front p0 p1 p5 a b _ is1 (in_front p1 p2 p5 d e _ is2 (in_front p2 p3 p5 f g _ is3 (in_front p3 p4 p5 h i tail is4 is5)))
+    ∙ ap (λ text. text ++ (a ++ (b ++ (d ++ (e ++ (f ++ (g ++ (h ++ (i ++ tail))))))))) is0
 
 pub returns : goal.returns
 returns c =
-    joined _ _ _ _ _ _ _ _ _ _ _ _ _ _ _ _ _ _ _ c.new-page.ensures.items c.in_ok-extend_from_slice.ensures.items
-    c.in_ok-add_escaped.ensures c.in_ok-extend_from_slice-2.ensures.items c.in_ok-add_escaped-2.ensures
-    c.in_ok-extend_from_slice-3.ensures.items c.in_ok-add_escaped-3.ensures c.in_ok-extend_from_slice-4.ensures.items
-    c.in_ok-add_escaped-4.ensures c.in_ok-extend_from_slice-5.ensures.items
+    let parts = parts_of c.args.frame in
+    joined parts.head (escaped c.args.listing.now) parts.before_source (escaped c.args.source.now) parts.before_schedule
+    (escaped c.args.schedule.now) parts.before_trace (escaped c.args.trace.now) parts.tail _ _ _ _ _ _ c.new-page.ensures.items c.in_ok-add_text.ensures c.in_ok-add_text-2.ensures
+    c.in_ok-add_text-3.ensures c.in_ok-add_text-4.ensures c.in_ok-add_tail.ensures

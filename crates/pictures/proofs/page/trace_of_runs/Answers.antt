@@ -1,4 +1,4 @@
-use Rattle.std.proofs.Common.{◌≡◌, ◌∙◌, ap, refl}
+use Rattle.std.proofs.Common.{◌∙◌, ap, refl}
 use Rattle.schedule_reader.specs.Schedule.{choices_of}
 use Rattle.thread_machine.specs.World.{first_world}
 use Rattle.pictures.specs.Missing.{missing_told}
