@@ -8,9 +8,9 @@
  * A program that is played again and again is best assembled once: a call with its image takes some two thirds of the time.
  *
  * Bounds. A call returns 5 if an input has more bytes than this:
- *   a program, a text, a plan, and the schedule of a picture    16,777,216
- *   the words that vuthgal_explain gets                         65,536
- *   the commands of vuthgal_debug                               1,000,000,000
+ *   a program, a text, a plan, and what vuthgal_draw and vuthgal_mistake get    16,777,216
+ *   the words that vuthgal_explain gets                                         65,536
+ *   the commands of vuthgal_debug, and what vuthgal_session_go_to gets          1,000,000,000
  * A trace, a schedule that is run, and a command of a session have no bound that memory reaches.
  *
  * Output. A call writes to your memory as snprintf does: it writes as many bytes as fit ROOM, and sets *LENGTH to the count of
@@ -73,8 +73,8 @@ extern "C" {
 /* A session has done all its steps: 1,000,000,000 steps, or 1,000,000,000,000 choices. */
 #define VUTHGAL_LIMIT 8
 
-/* The most bytes of a program, a text, a plan, and the schedule of a picture; of the words of vuthgal_explain; and of the commands of
-   vuthgal_debug. How many choices a session can take back. */
+/* The most bytes of a program, a text, a plan, and what vuthgal_draw and vuthgal_mistake get; of the words of vuthgal_explain; and of the
+   commands of vuthgal_debug and what vuthgal_session_go_to gets. How many choices a session can take back. */
 #define VUTHGAL_MOST_BYTES 16777216
 #define VUTHGAL_MOST_WORDS 65536
 #define VUTHGAL_MOST_COMMANDS 1000000000
@@ -90,12 +90,14 @@ typedef struct {
   uint64_t line;   /* the number of the line, from 1; 0 if no line is to blame, as in an image */
   uint64_t column; /* the first byte of the part, from 1; 0 if the whole line is meant */
   uint64_t length; /* how many bytes the part has */
-  uint8_t input;   /* VUTHGAL_PROGRAM, VUTHGAL_PLAN or VUTHGAL_SCHEDULE */
+  uint8_t input;   /* VUTHGAL_PROGRAM if it is in the program, or else VUTHGAL_PLAN or VUTHGAL_SCHEDULE */
 } vuthgal_place;
 
+/* What vuthgal_mistake looks at. */
 #define VUTHGAL_PROGRAM 0
 #define VUTHGAL_PLAN 1
 #define VUTHGAL_SCHEDULE 2
+#define VUTHGAL_TEXT 3
 
 /* Plays a program under a schedule, as `vuthgal run FILE SCHEDULE`. The output is the trace. */
 uint8_t vuthgal_run(const uint8_t *program, size_t program_length,
@@ -156,9 +158,10 @@ uint8_t vuthgal_draw(const uint8_t *program, size_t program_length,
                      uint8_t *line, size_t line_room, size_t *line_length);
 
 /* Says where a program, a plan or a schedule is refused, and what helps, as the program shows it at a terminal. INPUT is a plan or a
-   schedule of this program, by KIND. If KIND is VUTHGAL_PROGRAM, only the program is looked at. The program comes first. With 3, LINE is
-   the line of the refusal, *PLACE gets the word that makes it, and the output is the line `near: ..` or `help: ..` with its line feed,
-   or empty if nothing is known to help. With any other status each field of *PLACE is 0, and the output is empty. */
+   schedule of this program, by KIND. With VUTHGAL_PROGRAM only the program is looked at; with VUTHGAL_TEXT it is a text with its schedule
+   behind its line `.run`. The program comes first. With 3, LINE is the line of the refusal, *PLACE gets the word that makes it, and the
+   output is the line `near: ..` or `help: ..` with its line feed, or empty if nothing is known to help. If memory is refused for it, it
+   says less. With any other status each field of *PLACE is 0, and the output is empty. */
 uint8_t vuthgal_mistake(const uint8_t *program, size_t program_length,
                         uint8_t kind, const uint8_t *input, size_t input_length,
                         vuthgal_place *place,
@@ -316,8 +319,8 @@ uint8_t vuthgal_session_back(vuthgal_session *session);
 
 /* Goes to the state after the first NUMBER choices of PLAYED, the schedule of what was played from the beginning on. The state is made
    anew: the program begins again, and plays these choices without a stop at breakpoints. So it may be more than 4,096 choices back, and
-   it takes as long as these choices. Breakpoints and reply stay. With 1 PLAYED has fewer choices, with 3 it is no schedule, and with
-   7 or 8 one of these choices is refused. With any status but 0 nothing changes. */
+   it takes as long as these choices. Breakpoints and reply stay. With 1 PLAYED has fewer choices, with 3 it is no schedule, with 5 it
+   is too long, and with 7 or 8 one of these choices is refused. With any status but 0 nothing changes. */
 uint8_t vuthgal_session_go_to(vuthgal_session *session, const uint8_t *played, size_t played_length, uint64_t number);
 
 /* Says who may go. Bit t of *TURNS is set if the turn of thread t would do something now, and bit t of *EXPIRIES if the time-out of

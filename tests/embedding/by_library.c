@@ -67,7 +67,6 @@ static int call(const char *command, size_t output_room, size_t line_room) {
   if (strcmp(command, "compare") == 0) return vuthgal_compare(a.bytes, a.length, b.bytes, b.length, OUT);
   if (strcmp(command, "choices") == 0) return vuthgal_choices(a.bytes, a.length, OUT);
   if (strcmp(command, "plan") == 0) return vuthgal_plan(a.bytes, a.length, b.bytes, b.length, 1000000, 0, OUT);
-  if (strcmp(command, "show") == 0) return vuthgal_show(a.bytes, a.length, b.bytes, b.length, OUT);
   if (strcmp(command, "draw") == 0) return vuthgal_draw(a.bytes, a.length, b.bytes, b.length, WIDTH, OUT);
   if (strcmp(command, "debug") == 0) return vuthgal_debug(a.bytes, a.length, b.bytes, b.length, OUT);
   return vuthgal_explain(a.bytes, a.length, OUT);
@@ -93,7 +92,7 @@ static const char *inputs_of(int count, char **words) {
     return count == 2 && read_file(words[1], &a) ? words[0] : NULL;
   if (strcmp(words[0], "debug") == 0)
     return count == 2 && input_place() >= 0 && read_file(words[1], &a) && read_all(stdin, &b) ? words[0] : NULL;
-  const char *two[] = {"run", "compare", "plan", "show", "draw"};
+  const char *two[] = {"run", "compare", "plan", "draw"};
   for (size_t i = 0; i < sizeof two / sizeof *two; i++)
     if (strcmp(words[0], two[i]) == 0) return count == 3 && read_file(words[1], &a) && read_file(words[2], &b) ? words[0] : NULL;
   return NULL;

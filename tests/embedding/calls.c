@@ -54,7 +54,6 @@ CALL(list, IN(program))
 CALL(compare, IN(program), IN(trace))
 CALL(choices, IN(trace))
 CALL(plan, IN(program), IN(plan), 1000000, 0)
-CALL(show, IN(program), IN(schedule))
 CALL(draw, IN(program), IN(schedule), 80)
 CALL(debug, IN(program), IN(commands))
 CALL(explain, (const uint8_t *)"refused asm 1 5", 15)
@@ -62,7 +61,7 @@ CALL(explain, (const uint8_t *)"refused asm 1 5", 15)
 typedef uint8_t call(uint8_t *, size_t, size_t *, uint8_t *, size_t, size_t *);
 static const struct { const char *name; call *call; } calls[] = {
   {"run", call_run}, {"both", call_both}, {"asm", call_asm}, {"list", call_list}, {"compare", call_compare},
-  {"choices", call_choices}, {"plan", call_plan}, {"show", call_show}, {"draw", call_draw}, {"debug", call_debug},
+  {"choices", call_choices}, {"plan", call_plan}, {"draw", call_draw}, {"debug", call_debug},
   {"explain", call_explain},
 };
 enum { CALLS = sizeof calls / sizeof *calls };
@@ -135,7 +134,6 @@ static void *at_once(void *unused) {
   (void)unused;
   for (int n = 0; n < 200; n++) {
     for (size_t c = 0; c < CALLS; c++) {
-      if (calls[c].call == call_show && n % 20) continue;
       result r = made(calls[c].call, 1 << 17, 4096);
       if (r.status > 1) say(calls[c].name, "at once", r.status);
       gone(r);

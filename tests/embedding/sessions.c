@@ -180,12 +180,49 @@ static void looks(void) {
   CHECK(vuthgal_session_other(&s, 0, 0, 9, (const uint8_t *)"t0 t1*3", 7, (uint8_t *)reply, 4096, &length) == VUTHGAL_DONE);
   CHECK(length == 18 && !memcmp(reply, "t0 t1*3 t0 t1 t0*3", 18));
   CHECK(vuthgal_session_other(&s, 0, 0, 9, (const uint8_t *)"hm", 2, (uint8_t *)reply, 4096, &length) == VUTHGAL_REFUSED && !length);
+  CHECK(vuthgal_session_other(&s, 2, 0, 9, NULL, 0, (uint8_t *)reply, 4096, &length) == VUTHGAL_NO_THREAD && !length);
   CHECK(vuthgal_expect((const uint8_t *)"state 0 0 live\n", 15, (const uint8_t *)"live", 4) == VUTHGAL_DONE);
   CHECK(vuthgal_expect((const uint8_t *)"state 0 0 live\n", 15, (const uint8_t *)"all", 3) == VUTHGAL_UNLIKE);
   CHECK(vuthgal_expect(NULL, 0, (const uint8_t *)"t0", 2) == VUTHGAL_REFUSED);
   CHECK(vuthgal_session_copy(&s, &copy) == VUTHGAL_DONE);
   vuthgal_session_close(&s);
   vuthgal_session_close(&copy);
+  CHECK(held == at_first);
+}
+
+static uint8_t go_to(vuthgal_session *s, const char *played, uint64_t number) {
+  return vuthgal_session_go_to(s, (const uint8_t *)played, strlen(played), number);
+}
+
+/* any choice that was played, also one that can't be taken back any more; breakpoints and reply stay, and nothing else changes */
+static void go_back(void) {
+  static const char PLAYED[] = "t0 t1 t0*2 t1*9000";
+  vuthgal_session s = VUTHGAL_SESSION;
+  char before[4096], reply[4096];
+  size_t length, n;
+  long at_first = held;
+  uint8_t status;
+  CHECK(go_to(&s, PLAYED, 0) == VUTHGAL_CLOSED && open_it(&s, PROGRAM) == VUTHGAL_DONE);
+  CHECK(say(&s, "g t0 t1 t0*2 t1*9000", reply, &length) == VUTHGAL_DONE && !strcmp(reply, "end 9004\n"));
+  CHECK(say(&s, "k 1", reply, &length) == VUTHGAL_DONE && say(&s, "p", before, &length) == VUTHGAL_DONE);
+  CHECK(go_to(&s, PLAYED, 9005) == VUTHGAL_UNLIKE && go_to(&s, "t0 hm", 1) == VUTHGAL_REFUSED);
+  CHECK(go_to(&s, "t0 t2", 2) == VUTHGAL_NO_THREAD && go_to(&s, "t0 t2", UINT64_MAX) == VUTHGAL_UNLIKE);
+  CHECK(vuthgal_session_reply(&s, (uint8_t *)reply, 4096, &length) == VUTHGAL_DONE && !memcmp(reply, before, length));
+  for (n = 0;; n++) {
+    left = (long)n;
+    status = go_to(&s, PLAYED, 2);
+    int is_granted = left >= 0;
+    left = -1;
+    if (is_granted) break;
+    CHECK(status == VUTHGAL_MEMORY && say(&s, "p", reply, &length) == VUTHGAL_DONE && !strcmp(reply, before));
+  }
+  CHECK(status == VUTHGAL_DONE && n > 5);
+  CHECK(vuthgal_session_reply(&s, (uint8_t *)reply, 4096, &length) == VUTHGAL_DONE && !memcmp(reply, before, length));
+  CHECK(say(&s, "s t0", reply, &length) == VUTHGAL_DONE && !strcmp(reply, "3 t0 0 = 1\n"));
+  CHECK(go_to(&s, PLAYED, 9004) == VUTHGAL_DONE && say(&s, "p", reply, &length) == VUTHGAL_DONE && !strcmp(reply, before));
+  CHECK(vuthgal_session_back(&s) == VUTHGAL_DONE && go_to(&s, "", 0) == VUTHGAL_DONE && vuthgal_session_back(&s) == VUTHGAL_UNLIKE);
+  CHECK(say(&s, "g t0 t1 t0*2", reply, &length) == VUTHGAL_DONE && !strcmp(reply, "at 2\n"));
+  vuthgal_session_close(&s);
   CHECK(held == at_first);
 }
 
@@ -218,6 +255,7 @@ int main(void) {
   refused_memory();
   rooms();
   looks();
+  go_back();
   many();
   puts("as the header says");
   return 0;

@@ -4,4 +4,5 @@ mod Faults
 pub mod Values
 mod Conversations
 mod Filled
+mod Behind
 mod Events

@@ -49,10 +49,14 @@ abbrev pub schedule_in : Kind → (file input : List ℕ) → List ℕ
 schedule_in kind.Text file input = schedule_part file
 schedule_in k file input = input
 
--- nothing is wrong with what is looked at, for threads of these names
+-- a plan has no fault, for threads of these names
+abbrev pub IsRightPlan : (names : List (List ℕ)) → (plan : List ℕ) → Type 0
+IsRightPlan names plan = (words : Words) × (words_in_plan names plan ≡ Ok words)
+
+-- nothing is wrong with what is looked at
 abbrev pub IsRightInput : Kind → (names : List (List ℕ)) → (file input : List ℕ) → Type 0
 IsRightInput kind.Program names file input = Unit {0}
-IsRightInput kind.Plan names file input = (words : Words) × (words_in_plan names input ≡ Ok words)
+IsRightInput kind.Plan names file input = IsRightPlan names input
 IsRightInput k names file input = (finished_schedule (schedule_in k file input)).fault ≡ None
 
 abbrev pub IsRight : Kind → (file input : List ℕ) → Type 0
@@ -76,18 +80,41 @@ offset_of (schedule.Number at) = at
 offset_of (schedule.Repeat at) = at
 offset_of schedule.Memory = 0
 
+-- the place of the word of a text that makes its fault; another fault of a program has none
+abbrev pub text_place : Fault → PlaceLook
+text_place (fault.Asm f) = word_place f.fault.line f.at 0
+text_place _ = no_place
+
+-- that of a program that isn't loaded is in its text
+abbrev pub IsPlacedLoad : Fault → PlaceLook → Type 0
+IsPlacedLoad (fault.Load f) place = place.input ≡ 0
+IsPlacedLoad _ place = place ≡ no_place
+
+-- a plan has this fault, and its line; and a schedule, which is the end of a file, and its byte
+abbrev pub IsWrongPlan : Unplanned → PlaceLook → (names : List (List ℕ)) → (plan : List ℕ) → Type 0
+IsWrongPlan (why.Plan f) place names plan = (unplanned_status (why.Plan f) ≡ 3 → words_in_plan names plan ≡ Err f)
+    × (place.line ≡ f.line) × (place.input ≡ 1)
+IsWrongPlan (why.Fault f) place names plan = ⊥
+
+abbrev pub IsWrongSchedule : Unplanned → PlaceLook → (file schedule : List ℕ) → (input : ℕ) → Type 0
+IsWrongSchedule (why.Fault (fault.Schedule f)) place file schedule input =
+    (unplanned_status (why.Fault (fault.Schedule f)) ≡ 3 → (finished_schedule schedule).fault ≡ Some f)
+    × IsByteAt (take (length file - length schedule + offset_of f) file) input place
+IsWrongSchedule _ place file schedule input = ⊥
+
 -- where the schedule is: behind the line `.run` of the file, or the other input
 abbrev pub IsAtOffset : Kind → (file input : List ℕ) → (offset : ℕ) → PlaceLook → Type 0
 IsAtOffset kind.Text file input offset place =
     IsByteAt (take (length file - length (schedule_part file) + offset) file) 0 place
-IsAtOffset k file input offset place = IsByteAt (take offset input) 2 place
+IsAtOffset k file input offset place = IsByteAt (take (length input - length input + offset) input) 2 place
 
--- where it is refused: at the word of a text that makes the fault; in a line of the plan; at a byte of the schedule; or nowhere
+-- where it is refused: at the word of a text that makes the fault; in a line of the plan; at a byte of the schedule; at a row or a
+-- declaration of a text that isn't loaded; or nowhere
 abbrev pub IsMistakenAt : Unplanned → Kind → (file input : List ℕ) → PlaceLook → Type 0
 IsMistakenAt (why.Plan f) k file input place = (place.line ≡ f.line) × (place.input ≡ 1)
-IsMistakenAt (why.Fault (fault.Asm f)) k file input place = place ≡ word_place f.fault.line f.at 0
 IsMistakenAt (why.Fault (fault.Schedule f)) k file input place = IsAtOffset k file input (offset_of f) place
-IsMistakenAt (why.Fault f) k file input place = place ≡ no_place
+IsMistakenAt (why.Fault (fault.Load f)) k file input place = place.input ≡ 0
+IsMistakenAt (why.Fault f) k file input place = place ≡ text_place f
 
 -- what is looked at is refused for a reason and at a place; or it is right; or too long, or out of memory
 abbrev pub Refuses : Kind → (file input : List ℕ) → Unplanned → PlaceLook → Type 0

@@ -1,13 +1,13 @@
 //! Where a program, a plan or a schedule is refused, and what helps.
-ghost use Rattle.std.specs.Prelude.{◌≡◌, ◌≢◌, ◌≤◌, ◌-◌, ◌+◌, Err, IfErr, IfOk, List, OnErr, OnOk, length, map, take, ℕ};
-ghost use Rattle.commands.specs.Planning.{HasThreads};
+ghost use Rattle.std.specs.Prelude.{◌≡◌, ◌≢◌, ◌≤◌, Err, IfErr, IfOk, None, OnOk, length, map};
 ghost use Rattle.commands.specs.Unplanned.{unplanned_status};
 ghost use Rattle.commands.specs.declared.unplanned.Unplanned.TheVariants as why;
 ghost use Rattle.line_reader.specs.Seen.{name_seen};
-ghost use Rattle.workbench.specs.declared.program.Program.{Program};
+ghost use Rattle.schedule_reader.specs.Schedule.{finished_schedule};
 ghost use Rattle.workbench.specs.declared.fault.Fault.{Fault};
 ghost use Rattle.vuthgal_c.specs.Beyond.{IsTooMuch};
-ghost use Rattle.vuthgal_c.specs.Mistakes.{IsMistake, IsMistakenAt, IsPlaced, IsProgramOf, IsRight, IsRightInput, Mistakes, kind_of, text_in};
+ghost use Rattle.vuthgal_c.specs.Mistakes.{HasNoProgram, IsPlaced, IsPlacedLoad, IsProgramOf, IsRight, IsRightPlan, IsWrongPlan, IsWrongSchedule, Mistakes, Refuses, kind_of, offset_of, text_in, text_place};
+ghost use Rattle.vuthgal_c.specs.Places.{no_place};
 ghost use Rattle.vuthgal_c.specs.Shows.{Shows};
 
 use crate::files::is_within;
@@ -25,6 +25,7 @@ use refusals::question::question_in_line;
 use schedule_reader::{ScheduleFault, read_schedule};
 use std::alloc::Global;
 use suggestions::hint::{Hint, help_if_any};
+use suggestions::load_fault::{hint_at_load, place_of_load};
 use suggestions::plan_fault::{hint_in_plan, place_in_plan};
 use suggestions::program_fault::hint_in_program;
 use suggestions::schedule_fault::{Origin, helps_in_schedule};
@@ -109,6 +110,25 @@ fn no_program(alloc: Global, file: &[u8], text: &[u8], fault: Fault) -> Mistake
     }
 }
 
+/// Returns the mistake of a program that isn't loaded.
+fn not_loaded(alloc: Global, file: &[u8], text: &[u8], fault: Fault) -> Mistake
+    ensures why { result.why ≡ why.Fault fault }
+    ensures place { IsPlacedLoad fault result.place }
+{
+    let Fault::Load(load) = fault else {
+        return Mistake::nowhere(fault);
+    };
+    let place = match place_of_load(alloc, text, load) {
+        Some((line, part)) => PlaceLook::of_word(line, part, 0),
+        None => PlaceLook::none(),
+    };
+    Mistake {
+        why: Unplanned::Fault(fault),
+        place,
+        hint: hint_at_load(alloc, file, text, load),
+    }
+}
+
 /// Returns the program of a file.
 fn program_of(alloc: Global, kind: Kind, file: &[u8]) -> Result<Program<'_>, Mistake>
     ensures program { IfOk result (λ program. IsProgramOf kind file.now program) }
@@ -163,8 +183,8 @@ fn schedule_read(
     input: u8,
     origin: Origin,
 ) -> Result<(), Mistake>
-    requires { length schedule.now ≤ length file.now }
-    requires { length file.now ≤ 16777216 }
+    requires part { length schedule.now ≤ length file.now }
+    requires few { length file.now ≤ 16777216 }
     ensures read { OnOk result ((finished_schedule schedule.now).fault ≡ None) }
     ensures mistake { IfErr result (λ mistake. IsWrongSchedule mistake.why mistake.place file.now schedule.now input) }
 {
@@ -189,7 +209,7 @@ fn schedule_read(
 fn looked_at(alloc: Global, kind: Kind, file: &[u8], input: &[u8]) -> Result<(), Mistake>
     ensures right { OnOk result (IsRight kind file.now input.now) }
     ensures mistake { IfErr result (λ mistake. unplanned_status mistake.why ≡ 3
-        → IsMistake mistake.why kind file.now input.now × IsMistakenAt mistake.why kind file.now input.now mistake.place) }
+        → Refuses kind file.now input.now mistake.why mistake.place) }
     ensures limit { IsTooMuch file.now input.now → IfErr result (λ mistake. mistake.why ≡ why.Fault Fault.Read) }
 {
     if !is_within(file) || !is_within(input) {
@@ -201,7 +221,7 @@ fn looked_at(alloc: Global, kind: Kind, file: &[u8], input: &[u8]) -> Result<(),
     };
     let names = match loaded_program(alloc, image, &names) {
         Ok((_, names)) => names,
-        Err(fault) => return Err(Mistake::nowhere(fault)),
+        Err(fault) => return Err(not_loaded(alloc, file, text_in(kind, file), fault)),
     };
     match kind {
         Kind::Program => Ok(()),
@@ -244,6 +264,13 @@ fn told<K: Sink>(
     output: &mut K,
     place: &mut PlaceLook,
 ) -> Result<(), Unplanned>
+    ensures right { OnOk result (IsRight kind file.now input.now) }
+    ensures mistake { IfErr result (λ reason. unplanned_status reason ≡ 3 → Refuses kind file.now input.now reason place.new) }
+    ensures none { IfErr result (λ reason. unplanned_status reason ≢ 3 → place.new ≡ no_place) }
+    ensures nothing { OnOk result (place.new ≡ no_place) }
+    ensures limit { IsTooMuch file.now input.now → result ≡ Err (why.Fault Fault.Read) }
+    ensures unwritten { OnOk result (K.written output.new ≡ K.written output.old) }
+    ensures silent { IfErr result (λ reason. unplanned_status reason ≢ 3 → K.written output.new ≡ K.written output.old) }
 {
     *place = PlaceLook::none();
     match looked_at(alloc, kind, file, input) {
