@@ -91,7 +91,6 @@ final class CommandChecks {
             new Check(0, "20 bursts of 2 kinds, ", "--burst", "20", "--kind", "trips,barging"),
             new Check(0, " % of the calls ran beside another thread's, in ", "--burst", "20"),
             new Check(3, "\ntoo few: at a load of ", "--for", "1", "--burst", "1000000000"),
-            new Check(0, " bursts of 1 kind, ", "--for", "2", "--kind", "trips"),
             new Check(0, "6 bursts of 3 kinds, ", "--burst", "6", "--like", "action"),
             new Check(2, "--like wants one of action, hang, ", "--burst", "6", "--like", "noise"),
             new Check(0, "round 5 didn't fail in 3 tries\n", "--burst", "3", "--round", "5"),
