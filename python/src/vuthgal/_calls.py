@@ -5,9 +5,9 @@ import re
 from typing import Optional, Union
 
 from ._errors import Differs, Malformed, NoLine, NotATrace, OutOfMemory, Refused, TooLong
-from ._library import called, expects, version_text
+from ._library import called, expects, mistaken, version_text
 from ._page import app_text, with_texts
-from ._shown import Drawing, Outcome, Page, Schedule
+from ._shown import INPUTS, Drawing, Mistake, Outcome, Page, Schedule
 from ._trace import State, Trace
 
 #: What a page can hold.
@@ -155,6 +155,23 @@ def explain(words: str = "") -> str:
     if status == 2:
         raise NoLine(words, line.decode("utf-8"))
     return _told(status, output, line).decode("utf-8")
+
+
+def mistake(program: Text, plan: Optional[Text] = None, schedule: Optional[Text] = None) -> Optional[Mistake]:
+    """Where a program is refused, or a plan or a schedule of it, and what helps, as the program shows it at a terminal. None if nothing is
+    wrong. Without a plan and a schedule, a text with a line `.run` has its schedule behind that."""
+    text = _program(program)
+    if plan is not None:
+        kind, steps = 1, _bytes(plan)
+    elif schedule is not None:
+        kind, steps = 2, _bytes(schedule)
+    else:
+        kind, steps = 3 if re.search(rb"^\.run\s*$", text, re.M) else 0, b""
+    status, hint, line, place = mistaken(text, kind, steps)
+    if status != 3:
+        _told(status, b"", line)
+        return None
+    return Mistake(line.decode("ascii").rstrip("\n"), INPUTS[place[3]], place[0] or None, place[1] or None, place[2], hint.decode("ascii").rstrip("\n"))
 
 
 def version() -> str:

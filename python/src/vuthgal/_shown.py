@@ -1,6 +1,9 @@
 """What a notebook shows."""
 import os
-from typing import Dict, NamedTuple, Union
+from typing import Dict, NamedTuple, Optional, Union
+
+#: The inputs that can be refused, by their numbers in the library.
+INPUTS = ("program", "plan", "schedule")
 
 
 class Schedule(str):
@@ -26,6 +29,23 @@ class Outcome(NamedTuple):
     def parse(line: str) -> "Outcome":
         times, word, seed, schedule = (line + " ").split(" ", 3)
         return Outcome(int(times), word, seed, schedule.rstrip(" "))
+
+
+class Mistake(NamedTuple):
+    """Where an input is refused, and what helps."""
+
+    #: the line of the refusal, as the program writes it
+    told: str
+    #: which input it is in: program, plan or schedule
+    input: str
+    #: the line of that input, from 1; None where no line is to blame
+    line: Optional[int]
+    #: the first byte of the wrong word, from 1; None where the whole line is meant
+    column: Optional[int]
+    #: how many bytes the word has
+    length: int
+    #: `near: ..` or `help: ..`; empty where nothing is known to help
+    hint: str
 
 
 class Page:
