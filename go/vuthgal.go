@@ -242,7 +242,7 @@ func Expect(state State, expectation string) (bool, error) {
 	return false, malformed(expectation)
 }
 
-// Version returns the version of the library, the kit that proved it, and the sum of its sources, a line each.
+// Version returns the version of the library, and the sum of its sources, a line each.
 func Version() string {
 	output := make([]byte, 512)
 	var length C.size_t

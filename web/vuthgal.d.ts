@@ -86,7 +86,7 @@ export interface Vuthgal {
    * are.
    */
   call(name: CallName, inputs: readonly Text[], ...more: number[]): Told;
-  /** Three lines: the version of the library, the kit that proved it, and the sum of its sources. */
+  /** Two lines: the version of the library, and the sum of its sources. */
   readonly version: string;
   /** How many bytes the memory has. It grows, and no call makes it smaller. */
   readonly memory: number;

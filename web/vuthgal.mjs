@@ -184,7 +184,7 @@ class Vuthgal {
     return Session.of(this.#library, (told) => this.#answer(told), program);
   }
 
-  /** The version of the library, the kit that proved it, and the sum of its sources. */
+  /** The version of the library, and the sum of its sources. */
   get version() {
     return this.#library.version();
   }

@@ -175,7 +175,7 @@ def mistake(program: Text, plan: Optional[Text] = None, schedule: Optional[Text]
 
 
 def version() -> str:
-    """The version of the library, the kit that proved it, and the sum of its sources, a line each."""
+    """The version of the library, and the sum of its sources, a line each."""
     return version_text()
 
 

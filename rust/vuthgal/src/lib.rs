@@ -300,7 +300,7 @@ fn explained(told: (u8, Vec<u8>, Vec<u8>)) -> Result<Option<String>, Fault> {
     Ok(Some(text(answer(told)?.1)))
 }
 
-/// The version of the library, the kit that proved it, and the sum of its sources, a line each.
+/// The version of the library, and the sum of its sources, a line each.
 pub fn version() -> String {
     let mut output = [0; 512];
     let mut length = 0;

@@ -44,7 +44,7 @@ fn tells() {
     assert!(refused.to_string().contains("BadRegister"));
     assert!(vuthgal::explain("memory").unwrap().is_some());
     assert_eq!(vuthgal::explain("hm hm"), Ok(None));
-    assert_eq!(vuthgal::version().lines().count(), 3);
+    assert_eq!(vuthgal::version().lines().count(), 2);
 }
 
 #[test]
