@@ -144,9 +144,7 @@ export function arrivalsText(tree, run, i, p) {
   const stray = strayText(tree, run.id, i, p);
   if (stray) said.push(COUNTED + stray + " Nobody can know which.");
   else if (arrived[p].length || ended[p].length) {
-    said.push(
-      COUNTED + "If one of them was surplus, nobody can know which."
-    );
+    said.push(COUNTED + "If one of them was surplus, nobody can know which.");
   }
   return said;
 }
