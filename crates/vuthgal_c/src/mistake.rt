@@ -39,6 +39,7 @@ const LONGEST_LINE: usize = 64;
 
 /// The number of a plan, and of a schedule, as a kind of input.
 const PLAN: u8 = 1;
+
 const SCHEDULE: u8 = 2;
 
 /// What is looked at: a program alone, a plan or a schedule of it, or a text with its schedule.
@@ -325,7 +326,14 @@ pub extern "C" fn vuthgal_mistake(
     ensures place { IsPlaced (kind_of kind) program.now input.now result place.new }
 {
     let mut reply = Reply::new(alloc, output.len(), line.len());
-    let answer = told(alloc, kind_of(kind), program, input, &mut reply.shown, place);
+    let answer = told(
+        alloc,
+        kind_of(kind),
+        program,
+        input,
+        &mut reply.shown,
+        place,
+    );
     let status = settled_done(answer, &mut reply.told);
     let status = reply.hand(status, output, output_length, line, line_length);
     if status != 3 {
