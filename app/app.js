@@ -1,20 +1,23 @@
 // The app: it keeps the one state, draws it, and changes it by what is clicked. All that is decided is in state.js;
 // here stands what touches the page, its address and its past.
 import { endsBeside } from "./beside.js";
+import { checkOf, drawCheck } from "./check.js";
 import { endKind, endText } from "./ending.js";
 import { button, byId, fill, h } from "./elements.js";
 import { makeCommands } from "./commands.js";
+import { itemOf } from "./file.js";
 import { lessonCard } from "./lesson.js";
 import { addressOf, linkOf, MOST_LINK, readLink } from "./link.js";
 import { makeSheet } from "./menu.js";
 import { ordersOf } from "./orders.js";
 import { SEEDS } from "./outcomes.js";
+import { listProgram } from "./machine.js";
 import { isHeavy } from "./plan.js";
 import { makeProgram } from "./program.js";
 import { challengeCard, quizCard } from "./quiz.js";
-import { closeTree, momentOf, lengthOf } from "./run.js";
+import { closeTree, eventTo, momentOf, lengthOf } from "./run.js";
 import { makeScene } from "./scene.js";
-import { commonOf } from "./schedule.js";
+import { choicesOf, commonOf } from "./schedule.js";
 import { drawStage } from "./stage.js";
 import * as change from "./state.js";
 import { makeTimeline } from "./timeline.js";
@@ -96,22 +99,41 @@ export function makeApp(given) {
   // plays a text and a plan; a plan that may take long, in the worker
   async function edit(text, plan) {
     const isQuiz = state.mode === "quiz";
-    const played = isHeavy(plan) ? await inWorker("plan", { text, plan }) : undefined;
+    const played = await playedInWorker(text, plan, change.scheduleIn(state.item, plan));
     if (played === null) return;
     set(change.edited(state, text, plan, played));
     if (isQuiz && !state.mistake) setMode("quiz");
   }
   async function open(item, mode, isNew = true) {
     const { program: text, plan } = item;
-    const played = isHeavy(plan) ? await inWorker("plan", { text, plan }) : undefined;
+    const played = await playedInWorker(text, plan, item.schedule);
     if (played === null) return;
-    set(change.opened(state, item, mode, played), isNew);
+    set(checked(change.opened(state, item, mode, played)), isNew);
     if (state.mode === "quiz") playOrders();
     fitted();
+  }
+  // what the machine played of a page is compared with what stands in it
+  function checked(next) {
+    const { page } = next.item;
+    if (!page || next.mistake) return next;
+    return { ...next, check: checkOf(page, listProgram(next.text), next.tree.runs[0].trace) };
+  }
+  // a page's run is in the menu, too
+  function openRun(run, isNew = true, isOfPage = false) {
+    const item = { ...itemOf(run), isOfPage };
+    given.menu.unshift(item);
+    return open(item, "explore", isNew);
+  }
+  // undefined where the page plays it itself, or where it is refused
+  async function playedInWorker(text, plan, schedule = "") {
+    if (!isHeavy(schedule || plan)) return undefined;
+    const played = await inWorker("plan", { text, plan, schedule });
+    return played && { ...played, choices: choicesOf(played.schedule) };
   }
   // what a worker answers; null if it was stopped; undefined if it refused, so that the page finds the reason itself
   async function inWorker(task, what) {
     working = { task, done: 0 };
+    if (!state.tree) fill(byId("said").lastChild, "The machine plays the run.");
     draw();
     try {
       return await given.work.ask(task, what, done => {
@@ -181,7 +203,7 @@ export function makeApp(given) {
     const run = change.runOf(state);
     const { program: model } = state.tree;
     const now = moment(at);
-    const event = at ? run.events[at - 1] : null;
+    const event = eventTo(run, at);
     const title = model.title || state.item.title;
     Object.assign(document.body.dataset, { mode: state.mode, tab: state.tab, pane: state.pane });
     document.body.classList.toggle("is-refused", Boolean(state.mistake));
@@ -196,6 +218,7 @@ export function makeApp(given) {
     // the picture first: it measures where things are before anything else has moved
     if (state.tab === "picture") scene.show({ tree: state.tree, run, at, moment: now, selected: state.selected });
     drawStage(state, { choose, tryOut: token => tryOut(token) });
+    drawCheck(state);
     program.show(state, now, event);
     drawTime(run);
     if (state.tab === "values") fill(values, valuesOf(model, now, at ? moment(at - 1) : null));
@@ -220,8 +243,9 @@ export function makeApp(given) {
       const end = h("span.end.end-" + endKind(one.end), {}, isHidden ? "" : endText(all.program, one.end));
       return other ? [h("b", {}, runName(all, one)), end] : "";
     };
-    timeline.show({ ...common, run, at: state.at, title: head(run) });
+    // before the first one measures itself
     second.element.hidden = !other;
+    timeline.show({ ...common, run, at: state.at, title: head(run) });
     if (other) second.show({ ...common, run: other, at: Math.min(state.at, lengthOf(other)), title: head(other) });
     fill(ends, other && !isHidden ? endsBeside(all.program, run, other) : null);
   }
@@ -280,7 +304,13 @@ export function makeApp(given) {
   const linkNow = () => {
     const { text } = state.tree.program;
     const address = addressOf(state.tree, change.runOf(state), state.at);
+    // what stands in this file needs no other name
+    if (isOfPage()) return "#" + address;
     return linkOf({ text, plan: state.plan, name: state.item.name, address, mode: state.mode });
+  };
+  const isOfPage = () => {
+    const { item, mode, text, plan } = state;
+    return item.isOfPage && mode === "explore" && text === item.program && plan === item.plan;
   };
   async function keepLink() {
     if (!state.tree || state.mistake) return;
@@ -336,6 +366,7 @@ export function makeApp(given) {
     get: () => state,
     set,
     open,
+    openRun,
     edit,
     openLink,
     setTab,

@@ -6,11 +6,13 @@ import { ownerOf } from "./run.js";
 const EVERY = 256;
 
 const copyOf = fold => ({
+  came: fold.came.map(all => new Set(all)),
   waits: new Map(fold.waits),
   arrived: fold.arrived.map(list => list.slice()),
   ended: fold.ended.map(list => list.slice())
 });
 const emptyOf = program => ({
+  came: program.phasers.map(() => new Set()),
   waits: new Map(),
   arrived: program.phasers.map(() => []),
   ended: program.phasers.map(() => [])
@@ -28,7 +30,11 @@ function step(program, fold, event) {
   if (event.what === "idle" || event.row < 0) return;
   const row = program.rows[event.row];
   const isOfWait = fold.waits.delete(event.thread);
-  if (isArrival(row, event, isOfWait)) fold.arrived[operandOf(row, "P")].push({ thread: event.thread, row: event.row });
+  if (isArrival(row, event, isOfWait)) {
+    const p = operandOf(row, "P");
+    fold.arrived[p].push({ thread: event.thread, row: event.row });
+    fold.came[p].add(event.thread);
+  }
   if (event.what === "wait") fold.waits.set(event.thread, event.row);
   if (!event.mark || event.mark.kind !== "+p") return;
   program.phasers.forEach((_, q) => {
@@ -38,14 +44,15 @@ function step(program, fold, event) {
   });
 }
 
-// { arrived: for each phaser, who arrived in this phase, as { thread, row }; ended: the same of the phase before }
+// { arrived: for each phaser, who arrived in this phase, as { thread, row }; ended: the same of the phase before;
+// came: which threads ever arrived there }
 export function arrivalsOf(tree, id, i) {
   const run = ownerOf(tree, id, i);
   const { folds } = run.kept;
   const start = Math.min(Math.floor(i / EVERY), folds.length);
   const fold = start ? copyOf(folds[start - 1]) : emptyOf(tree.program);
   for (let k = start * EVERY; k < i; k++) {
-    step(tree.program, fold, run.events[k]);
+    step(tree.program, fold, run.events.at(k));
     if ((k + 1) % EVERY === 0 && folds.length < (k + 1) / EVERY) folds.push(copyOf(fold));
   }
   return fold;

@@ -2,9 +2,9 @@
 // along, or a print.
 import { MOST_LINK } from "./link.js";
 import { button, byId, fill } from "./elements.js";
-import { pageWith, readProgramFile, runInFile, save } from "./file.js";
+import { bareName, pageWith, readProgramFile, runIn, save } from "./file.js";
 import { listenToKeys } from "./keys.js";
-import { playRun } from "./machine.js";
+import { listProgram } from "./machine.js";
 import { copySheet, mainMenu, programsMenu } from "./menu.js";
 import { drawPaper } from "./paper.js";
 import { planOf } from "./plan.js";
@@ -89,19 +89,10 @@ export function makeCommands(app, given) {
     return copy(link);
   }
   function savePage() {
-    const { tree, item, plan, at } = state();
-    if (state().mistake) return app.note("The program is refused now, so there is no run to save. Mend it first.");
-    const schedule = scheduleOf(run().choices);
-    const saved = {
-      name: item.name,
-      title: tree.program.title,
-      program: tree.program.text,
-      plan: run().parent < 0 ? plan : planOf(tree.program, run().events, Infinity),
-      schedule,
-      trace: playRun(tree.program.text, schedule),
-      address: String(at)
-    };
-    return save(item.name + ".html", pageWith(given.page, saved), "text/html");
+    const { text: source } = state().tree.program;
+    const { choices, trace } = run();
+    const texts = { listing: listProgram(source), source, schedule: scheduleOf(choices), trace };
+    return save(state().item.name + ".html", pageWith(given.page, texts), "text/html");
   }
   function copyCommand() {
     const plan = planOf(state().tree.program, run().events, Infinity);
@@ -129,9 +120,8 @@ export function makeCommands(app, given) {
   // ---- programs
   function startAgain() {
     const { text, plan, item } = state();
-    const isChanged = text !== item.program;
-    app.set(change.startedAgain(state()), true);
-    if (isChanged) app.note("As it was at first. ", button("Undo", () => app.edit(text, plan)));
+    app.open(item, state().mode);
+    if (text !== item.program) app.note("As it was at first. ", button("Undo", () => app.edit(text, plan)));
   }
   function openOwn() {
     const { own } = stored();
@@ -146,19 +136,12 @@ export function makeCommands(app, given) {
   }
   async function openFile(file) {
     const text = await file.text();
-    const place = /<script type="application\/json" id="run">([^]*?)<\/script>/.exec(text);
-    const name = file.name.replace(/\.\w+$/, "");
-    try {
-      const saved = place && runInFile(place[1]);
-      if (place && !saved) return app.note("There is no run in this page.");
-      const item = saved ? { ...saved, plan: saved.schedule || saved.plan } : readProgramFile(text);
-      return app.open(
-        { group: "Yours", name, title: file.name, program: item.program, plan: item.plan || ".." },
-        "explore"
-      );
-    } catch (_) {
-      return app.note("This file can\u2019t be read.");
+    const name = bareName(file.name);
+    if (/\.html?$/i.test(file.name)) {
+      const found = runIn(new DOMParser().parseFromString(text, "text/html"), name);
+      return found ? app.openRun(found) : app.note("There is no run in this page.");
     }
+    return app.open({ group: "Yours", name, title: file.name, ...readProgramFile(text) }, "explore");
   }
 
   // ---- the menus
@@ -192,6 +175,7 @@ export function makeCommands(app, given) {
     copyPlan: () => copy(planOf(state().tree.program, run().events, Infinity)),
     copySchedule: () => copy(scheduleOf(run().choices)),
     copyCommand,
+    saveTrace: () => save(state().item.name + ".trace", run().trace),
     saveProgram: () => save(state().item.name + ".asm", state().text),
     savePage
   };

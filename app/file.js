@@ -1,33 +1,45 @@
-// The whole app as a file with a run in it, and the run that stands in this file. Texts are data in a `script` that
-// no browser runs, so that no policy has to allow them. It reads the page's own text once, before anything is drawn.
+// The whole app as a file with a run in it, and the run that stands in a file: four texts, each in an element that a
+// browser shows only where it runs no script. It is given texts and documents; it draws nothing.
 
-// As it was made: the page's text before the app drew into it.
-export function readPage() {
-  return "<!doctype html>\n" + document.documentElement.outerHTML + "\n";
+// the elements in which the texts of a page stand
+const NAMES = ["listing", "source", "schedule", "trace"];
+
+// CR LF, as a text area has it
+const unixText = text => text.replace(/\r\n/g, "\n").replace(/\r/g, " ");
+
+// What stands in a document of this app: { name, listing, source, schedule, trace }; null where it has no program. A
+// text without a trace is a plan.
+export function runIn(page, name) {
+  const [listing, source, schedule, trace] = NAMES.map(one => page.getElementById(one)?.textContent || "");
+  return listing || source ? { name, listing, source: unixText(source), schedule, trace } : null;
 }
-const codeOf = sign => "\\u" + sign.charCodeAt(0).toString(16).padStart(4, "0");
-const escaped = value => JSON.stringify(value).replace(/[<>&\u2028\u2029]/g, codeOf);
-const PLACE = /(<script type="application\/json" id="run">)[^]*?(<\/script>)/;
+// The page as it was made, without its texts, which needn't be in the page any more.
+export function takePage() {
+  for (const name of NAMES) document.getElementById(name).textContent = "";
+  const page = "<!doctype html>\n" + document.documentElement.outerHTML + "\n";
+  document.getElementById("texts").remove();
+  return page;
+}
+const ESCAPED = { "&": "&amp;", "<": "&lt;", ">": "&gt;", "\r": "&#13;" };
+const escaped = text => text.replace(/[&<>\r]/g, sign => ESCAPED[sign]);
 
-// run: { name, title, program, plan, schedule, trace, address }
-export const pageWith = (page, run) => page.replace(PLACE, (_, before, behind) => before + escaped(run) + behind);
-
-// The run that was put into this file, or null.
-export function runInFile(text) {
-  if (!text.trim()) return null;
-  const run = JSON.parse(text);
-  if (!run || typeof run.program !== "string") return null;
-  const textOf = value => (typeof value === "string" ? value : "");
-  return {
-    name: textOf(run.name) || "run",
-    title: textOf(run.title),
-    program: run.program,
-    plan: textOf(run.plan),
-    schedule: textOf(run.schedule),
-    trace: textOf(run.trace),
-    address: textOf(run.address)
+// The page with other texts in it.
+export function pageWith(page, texts) {
+  const put = (made, name) => {
+    const [begin, end] = [`<pre id="${name}">`, "</pre>"];
+    return made.replace(begin + end, () => begin + "\n" + escaped(texts[name]) + end);
   };
+  return NAMES.reduce(put, page);
 }
+// A run in a file as a program of the menu. Of a plan the machine makes the schedule.
+export function itemOf(page) {
+  const { name, listing, source, schedule, trace } = page;
+  const item = { group: "This file", name, title: name, program: source || listing, plan: schedule };
+  return trace ? { ...item, schedule, page } : { ...item, plan: schedule || ".." };
+}
+// A file's name without its folder and its ending.
+export const bareName = path => path.split("/").pop().replace(/\.\w+$/, "") || "run";
+
 export function save(name, text, type = "text/plain") {
   const link = document.createElement("a");
   link.href = URL.createObjectURL(new Blob([text], { type }));

@@ -67,8 +67,9 @@ function readListing(listing) {
   for (const line of listing.trimEnd().split("\n")) {
     const words = wordsOf(line);
     const behind = word => (words.includes(word) ? Number(words[words.indexOf(word) + 1].slice(1)) : -1);
-    if (words[0] === ".phaser") read.phasers.push({ parent: behind("parent"), routine: behind("onadvance") });
-    else if (words[0] === ".barrier") read.barriers.push({ parties: Number(words[2]), action: behind("action") });
+    if (words[0] === ".phaser") {
+      read.phasers.push({ parties: Number(words[2]), parent: behind("parent"), routine: behind("onadvance") });
+    } else if (words[0] === ".barrier") read.barriers.push({ parties: Number(words[2]), action: behind("action") });
     else if (words[0] === ".thread") read.threads.push({ row: Number(words[2].slice(1)) });
     else read.rows.push({ word: words[0], kinds: KINDS[words[0]][0], operands: words.slice(1) });
   }
@@ -106,8 +107,13 @@ export function readProgram(text, listing) {
   const isName = cut && names.T.some(name => cut[2].startsWith(name));
   program.title = cut ? cut[1] : about.slice(0, 60);
   program.about = cut ? (isName ? cut[2] : cut[2].replace(/^[a-z]/, sign => sign.toUpperCase())) : "";
+  // where no row and no child registers another party, the text tells how many there are ever
+  const registers = p => program.rows.some(row => /^(preg|pbulk)$/.test(row.word) && operandOf(row, "P") === p);
   program.children = program.phasers.map(
     (_, p) => program.phasers.flatMap((one, n) => (one.parent === p ? [n] : []))
+  );
+  program.everParties = program.phasers.map(
+    ({ parties }, p) => (program.children[p].length || registers(p) ? Infinity : parties)
   );
   return program;
 }

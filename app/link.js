@@ -19,11 +19,11 @@ export function addressOf(tree, run, at) {
 }
 const ADDRESS = /^(\d{1,7}[tx]\d{1,2}\.)*\d{1,7}$/;
 
-// Where an address leads: { tree, run, at, isWhole }. It stops at the last fork that there is.
+// Where an address leads: { tree, run, at, isWhole }. It stops where the first fork would be that there isn't.
 export function walkTo(tree, address) {
   let run = tree.runs[0];
   const parts = address.split(".");
-  const at = Number(parts.pop()) || 0;
+  let at = Number(parts.pop()) || 0;
   let isWhole = true;
   for (const part of parts) {
     const m = /^(\d+)([tx]\d+)$/.exec(part);
@@ -33,6 +33,7 @@ export function walkTo(tree, address) {
       ({ tree, run } = forkRun(tree, run.id, i, m[2]));
     } catch (_) {
       isWhole = false;
+      at = i;
       break;
     }
   }

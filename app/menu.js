@@ -150,6 +150,7 @@ export function mainMenu(sheet, state, settings, act) {
       entry("Copy the schedule", act.copySchedule),
       entry("Copy the command", act.copyCommand),
       entry("Save the program", act.saveProgram),
+      entry("Save the trace", act.saveTrace),
       entry("Save this page with the run", act.savePage),
       h("p.sheet-key", {}, settings.version)
     ),

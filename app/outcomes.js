@@ -20,7 +20,8 @@ export function outcomesOf(text, seeds, told = () => {}) {
   for (let seed = 1; seed <= seeds; seed++) {
     const plan = "?" + seed + "*" + LONGEST;
     const { choices } = choicesOfPlan(program.text, plan);
-    const { events, end } = readTrace(playRun(program.text, scheduleOf(choices)));
+    const { events: read, end } = readTrace(playRun(program.text, scheduleOf(choices)));
+    const events = [...read];
     const key = outcomeKey(end);
     const one = found.get(key) || { key, count: 0, plan, end, choices, events };
     found.set(key, one);

@@ -2,7 +2,8 @@
 // on, with lines to write on). It is drawn into the page when something is printed, and printed alone.
 import { endText, outputText } from "./ending.js";
 import { fill, h } from "./elements.js";
-import { plain, threadName } from "./names.js";
+import { nameOf } from "./language.js";
+import { phaseOf, plain, threadName } from "./names.js";
 import { planOf } from "./plan.js";
 import { lengthOf, momentOf } from "./run.js";
 import { sentenceOf, tagOf } from "./sentence.js";
@@ -15,16 +16,37 @@ const ASKED = [
   "Before which choice could another have gone, so that it ends otherwise? Who, and how does it end then?"
 ];
 
+// how phasers, barriers and cells stand, each in a few words
+function standing(program, { phasers, barriers, cells }) {
+  const phaser = ({ view, parties, arrived }, p) => {
+    const stands = view < 0 ? "terminated" : "phase " + phaseOf(view) + ", " + arrived + " of " + parties + " arrived";
+    return nameOf(program, "P", p) + ": " + stands;
+  };
+  const barrier = ({ waiting, isBroken }, b) => {
+    const stands = isBroken ? "broken" : waiting + " of " + program.barriers[b].parties + " wait";
+    return nameOf(program, "B", b) + ": " + stands;
+  };
+  const cell = ([c, value]) => nameOf(program, "C", Number(c)) + " = " + value;
+  return [...phasers.map(phaser), ...barriers.map(barrier), ...Object.entries(cells).map(cell)];
+}
+function changedText(program, before, after) {
+  const was = standing(program, before.state);
+  return standing(program, after.state).filter(text => !was.includes(text)).join("; ");
+}
+
 function lineOf(tree, run, k, columns, isBlank, isJava) {
   const { program } = tree;
-  const event = run.events[k];
+  const event = run.events.at(k);
   const after = momentOf(tree, run.id, k + 1);
   const cell = t => {
     if (event.thread === t) return h("td.is-own", {}, isBlank ? "\u25CF" : tagOf(program, event, isJava));
     return h("td", {}, after.state.threads[t].status === "waits" && !isBlank ? "\u2502" : "");
   };
-  const said = isBlank ? "" : plain(program, sentenceOf(program, event, momentOf(tree, run.id, k), after));
-  return h("tr", {}, h("td.paper-number", {}, k + 1), columns.map(cell), h("td", {}, said));
+  const before = momentOf(tree, run.id, k);
+  const said = isBlank ? "" : plain(program, sentenceOf(program, event, before, after));
+  const changed = isBlank ? "" : changedText(program, before, after);
+  const words = [said, changed ? h("small", {}, changed) : null];
+  return h("tr", {}, h("td.paper-number", {}, k + 1), columns.map(cell), h("td", {}, words));
 }
 // what: { tree, run, at, isJava, title, asked }. At the end, a worksheet is about the whole run.
 export function drawPaper(paper, { tree, run, at, isJava, title, asked }, isSheet) {

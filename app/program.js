@@ -5,6 +5,9 @@ import { DIRECTIVES, KINDS } from "./language.js";
 import { byId, fill, h } from "./elements.js";
 import { hueOf, javaText, threadName } from "./names.js";
 
+const LONG = 20000;
+// so many threads have room beside a row
+const MARGIN = 2;
 const OPTIONS = /^(parent|phase|never|until|onadvance|action)$/;
 
 function kindOf(word) {
@@ -80,13 +83,19 @@ export function makeProgram(changed, planned) {
       text.value = what.text;
       scroll.scrollTop = 0;
     }
-    if (plan !== document.activeElement && plan.value !== what.plan) plan.value = what.plan;
+    showPlan(what.plan);
     if (isOther || !copy.firstChild || wasJava !== what.isJava || (what.isJava && isMended)) {
       grow();
       paint();
     }
     showPlaces(moment, event);
     showMistake(what.mistake);
+  }
+  // the schedule of a long run is no text that one reads
+  function showPlan(written) {
+    const isLong = written.length > LONG;
+    plan.placeholder = isLong ? "the schedule of this page" : "";
+    if (plan !== document.activeElement && plan.value !== written) plan.value = isLong ? "" : written;
   }
   function showPlaces(moment, event) {
     fill(margin);
@@ -100,12 +109,14 @@ export function makeProgram(changed, planned) {
       at.set(line, [...(at.get(line) || []), t]);
     });
     const sign = (t, list) => {
-      const room = list.length > 2 ? 1 : list.length > 1 ? 2 : 4;
+      const room = list.length > MARGIN ? 1 : list.length > 1 ? 2 : 4;
       return h("i.place." + hueOf(t), { title: threadName(program, t) }, threadName(program, t).slice(0, room));
     };
     const places = ([line, list]) => {
-      const more = list.length > 3 ? h("i.place", {}, "+" + (list.length - 3)) : null;
-      return h("span.places", { vars: { "--line": line } }, list.slice(0, 3).map(t => sign(t, list)), more);
+      // what has no room in the margin is counted
+      const some = list.length > MARGIN ? list.slice(0, 1) : list;
+      const more = list.length > some.length ? h("i.place", {}, "+" + (list.length - 1)) : null;
+      return h("span.places", { vars: { "--line": line } }, some.map(t => sign(t, list)), more);
     };
     fill(margin, [...at].map(places));
     const line = event && event.row >= 0 ? program.lineOf[event.row] : -1;

@@ -4,7 +4,7 @@ import { callOf, listed, plain, rowText, strong, threadName, thrown } from "./na
 import { endText, outputText } from "./ending.js";
 import { planOf } from "./plan.js";
 import { reasonOf } from "./reason.js";
-import { lengthOf, momentOf } from "./run.js";
+import { eventTo, lengthOf, momentOf } from "./run.js";
 import { whyOf } from "./why.js";
 
 const LONGEST = 200;
@@ -63,7 +63,7 @@ function optionsOf(right, others, seed) {
 function reasonAt(tree, run, i) {
   const reason = reasonOf(tree, run.id, i);
   if (reason) return [reason];
-  const { what, thread } = run.events[i - 1];
+  const { what, thread } = eventTo(run, i);
   if (what !== "wait") return ["The line below says what happened."];
   // where it waits, and what is missing; who could bring it stands in the picture
   const { text } = whyOf(tree.program, momentOf(tree, run.id, i), thread);
@@ -72,7 +72,7 @@ function reasonAt(tree, run, i) {
 
 function callQuestion(tree, run, i, happened) {
   const { program } = tree;
-  const event = run.events[i];
+  const event = run.events.at(i);
   const row = program.rows[event.row];
   if (event.row < 0 || PLAIN.test(event.what) || !ASKED.test(row.word)) return null;
   const thread = momentOf(tree, run.id, i).state.threads[event.thread];
@@ -92,7 +92,7 @@ function callQuestion(tree, run, i, happened) {
 // who may go: wrong are the answers of moments near by
 function whoQuestion(tree, run, i) {
   const { program } = tree;
-  const event = run.events[i];
+  const event = run.events.at(i);
   if (event.what !== "wait" && !event.mark) return null;
   const say = k => {
     const names = Object.keys(momentOf(tree, run.id, k).next).map(t => threadName(program, Number(t)));
@@ -114,7 +114,7 @@ function whoQuestion(tree, run, i) {
 }
 function ownQuestions(tree, run, i) {
   const { program } = tree;
-  const { row } = run.events[i];
+  const { row } = run.events.at(i);
   const isFirst = run.events.findIndex(event => event.row === row && event.what !== "idle") === i;
   if (!isFirst) return [];
   const asked = program.questions.filter(one => one.row === row);

@@ -3,7 +3,7 @@
 import { nameOf, operandOf, rootOf } from "./language.js";
 import { callOf, phaseOf, spread, strong } from "./names.js";
 import { arrivalsOf } from "./arrivals.js";
-import { momentOf } from "./run.js";
+import { eventTo, momentOf } from "./run.js";
 
 const COUNTS = {
   pparties: "how many parties are registered now",
@@ -73,7 +73,7 @@ function throwReason(program, event, row, before) {
 // Why the choice before moment i got what it got; "" where no sentence follows.
 export function reasonOf(tree, id, i) {
   const { program } = tree;
-  const event = i ? tree.runs[id].events[i - 1] : null;
+  const event = eventTo(tree.runs[id], i);
   if (!event || event.row < 0 || !/^(=|throw)$/.test(event.what)) return "";
   const row = program.rows[event.row];
   const before = momentOf(tree, id, i - 1);
@@ -84,11 +84,28 @@ export function reasonOf(tree, id, i) {
   return "";
 }
 
+// What is known once more threads have arrived at a phaser than it ever has parties; "" before that.
+function strayText(tree, id, i, p) {
+  const came = arrivalsOf(tree, id, i).came[p].size;
+  const parties = tree.program.everParties[p];
+  if (came <= parties) return "";
+  const name = nameOf(tree.program, "P", p);
+  const its = " for its " + parties + (parties === 1 ? " party" : " parties");
+  return came + " threads have arrived at " + name + its + ": one was a stray.";
+}
+// The same of the choice before moment i, if it is the one by which that many have arrived.
+export function strayOf(tree, id, i) {
+  const event = eventTo(tree.runs[id], i);
+  const p = event && event.row >= 0 ? operandOf(tree.program.rows[event.row], "P") : -1;
+  const text = p < 0 ? "" : strayText(tree, id, i, p);
+  return text === "" || strayText(tree, id, i - 1, p) === text ? "" : text;
+}
+
 // The number that a thread got last, and why: parts, or null. It looks back over at most so many choices.
 const BACK = 400;
 export function lastNumberOf(tree, run, i, t) {
   for (let k = i; k > Math.max(0, i - BACK); k--) {
-    const event = run.events[k - 1];
+    const event = eventTo(run, k);
     if (event.thread !== t || !/^(=|throw)$/.test(event.what) || event.row < 0) continue;
     const row = tree.program.rows[event.row];
     if (operandOf(row, "P") < 0 && operandOf(row, "B") < 0) continue;
@@ -122,7 +139,9 @@ export function arrivalsText(tree, run, i, p) {
     arrived[p].length > 1 ? " have arrived. " : " has arrived. "
   );
   if (ended[p].length) said.push("In the phase before it was ", ...namesOf(ended[p]), ". ");
-  if (arrived[p].length || ended[p].length) {
+  const stray = strayText(tree, run.id, i, p);
+  if (stray) said.push("A phaser counts arrivals, and doesn\u2019t ask who arrives. " + stray + " Nobody can know which.");
+  else if (arrived[p].length || ended[p].length) {
     said.push(
       "A phaser counts arrivals, and doesn\u2019t ask who arrives. If one of them was surplus, nobody can know which."
     );

@@ -3,10 +3,10 @@
 // when they are asked for.
 import { listProgram, planSchedule, playRun } from "./machine.js";
 import { readProgram } from "./language.js";
-import { MOST } from "./plan.js";
+import { LONGEST } from "./plan.js";
 import { makePlayer } from "./player.js";
 import { choicesOf, commonOf, scheduleOf } from "./schedule.js";
-import { isRefused, readTrace } from "./trace.js";
+import { readTrace } from "./trace.js";
 
 const MORE = 100;
 const KEPT = 3000;
@@ -14,20 +14,22 @@ const KEPT = 3000;
 // A program that the machine accepts; a refusal is thrown.
 export const openProgram = text => readProgram(text, listProgram(text));
 
-function makeRun(tree, parent, fork, choices) {
-  const { events, end } = readTrace(playRun(tree.program.text, scheduleOf(choices)));
-  const refused = events.length && isRefused(events[events.length - 1]) ? events.pop() : null;
-  const played = choices.slice(0, events.length);
+// trace: the machine's of these choices, where it was played already
+function makeRun(tree, parent, fork, choices, trace = playRun(tree.program.text, scheduleOf(choices))) {
+  const { events, refused, end } = readTrace(trace);
+  const played = choices.length === events.length ? choices : choices.slice(0, events.length);
   const kept = { moments: new Map(), folds: [] };
-  return { id: tree.runs.length, parent, fork, choices: played, events, end, refused, kept };
+  return { id: tree.runs.length, parent, fork, choices: played, trace, events, end, refused, kept };
 }
 const withRun = (tree, run) => ({ tree: { ...tree, runs: [...tree.runs, run] }, run });
 
-export function plantTree(program, choices) {
+export function plantTree(program, choices, trace) {
   const tree = { program, runs: [], player: makePlayer(program) };
-  return withRun(tree, makeRun(tree, -1, 0, choices)).tree;
+  return withRun(tree, makeRun(tree, -1, 0, choices, trace)).tree;
 }
 export const lengthOf = run => run.choices.length;
+// The choice that leads to moment i, or null at the start.
+export const eventTo = (run, i) => run.events.at(i - 1) || null;
 
 // The run to which a moment belongs: runs share those before their fork.
 export function ownerOf(tree, id, i) {
@@ -47,18 +49,18 @@ function turnsOf(text, before, token) {
   const again = Array(99).fill("t" + token.slice(1));
   const { events } = readTrace(playRun(text, scheduleOf([...before, token, ...again])));
   const made = [];
-  for (const event of events.slice(before.length)) {
-    if (event.what === "idle" || isRefused(event)) break;
-    made.push(event.token);
-    if (/^(wait|end|die)$/.test(event.what)) break;
+  for (let k = before.length; k < events.length && !events.isIdle(k); k++) {
+    made.push(events.token(k));
+    if (/^(wait|end|die)$/.test(events.at(k).what)) break;
   }
   return made;
 }
 // those of a run's own choices that do something behind others
 function restOf(text, before, rest) {
   const { events } = readTrace(playRun(text, scheduleOf([...before, ...rest])));
-  const own = events.slice(before.length).filter(event => event.what !== "idle" && !isRefused(event));
-  return own.map(event => event.token);
+  const own = [];
+  for (let k = before.length; k < events.length; k++) if (!events.isIdle(k)) own.push(events.token(k));
+  return own;
 }
 // Another run: the chosen thread goes on until it waits or is over, then what the run still does of its own, then all
 // in turn.
@@ -69,7 +71,7 @@ export function forkRun(tree, id, i, token) {
   const { text } = tree.program;
   const before = owner.choices.slice(0, i);
   const rest = owner.choices.slice(i);
-  const most = Math.min(rest.length + MORE, MOST - i);
+  const most = Math.min(rest.length + MORE, LONGEST - i);
   let made = turnsOf(text, before, token).slice(0, most);
   if (!made.length) throw new Error("this choice would do nothing here");
   made = [...made, ...restOf(text, [...before, ...made], rest)].slice(0, most);

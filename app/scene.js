@@ -6,6 +6,7 @@ import { fill, fly, h, pulse, s, shown } from "./elements.js";
 import { nameOf, operandOf, rootOf } from "./language.js";
 import { hueOf, phaseOf, threadName } from "./names.js";
 import { arrivalsText, lastNumberOf } from "./reason.js";
+import { eventTo } from "./run.js";
 import { doingOf } from "./trace.js";
 import { whyOf, whysOf } from "./why.js";
 
@@ -33,7 +34,7 @@ export function makeScene(act) {
       before.at + 1 === what.at;
     fly(space, () => draw(what));
     drawEdges(space, edges);
-    if (isStep) move(space, what.tree.program, what.run.events[what.at - 1]);
+    if (isStep) move(space, what.tree.program, eventTo(what.run, what.at));
   }
   function draw(what) {
     const { program } = what.tree;

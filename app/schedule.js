@@ -3,9 +3,13 @@
 // The choices of a schedule, but no more than one above `most`, so that its reader knows that there are more.
 export function choicesOf(schedule, most = Infinity) {
   const out = [];
+  // one text for all choices of a thread
+  const known = new Map();
   for (const word of schedule.split(/\s+/)) {
     if (!word) continue;
-    const [token, count] = word.split("*");
+    const [name, count] = word.split("*");
+    const token = known.get(name) || name;
+    known.set(name, token);
     for (let n = Math.min(Number(count || 1), most + 1 - out.length); n > 0; n--) out.push(token);
     if (out.length > most) break;
   }

@@ -37,8 +37,9 @@ function countText(program, row, state) {
     p = program.phasers[p].parent;
   }
   const one = state.phasers[p];
-  if (one.view < 0 || !one.parties) return "";
   const name = nameOf(program, "P", p);
+  if (one.view < 0) return "";
+  if (!one.parties) return name + " has no parties now.";
   if (child < 0) return one.arrived + " of " + one.parties + " parties of " + name + " have arrived.";
   return nameOf(program, "P", child) + " is complete and arrives at " + name + ": " + one.arrived + " of " +
     one.parties + ".";
@@ -148,10 +149,32 @@ export function eventText(program, event, before) {
       return throwText(program, event, row, thread, who, call);
   }
 }
+const BRANCHES = { beq: ["equal", "not equal"], bne: ["not equal", "equal"], blt: ["less", "not less"] };
+
+// where a branch led, or, with no state behind it, where it would lead; "" where there is none
+function branchText(program, event, after) {
+  const row = program.rows[event.row];
+  if (event.what !== "ok" || !row || !BRANCHES[row.word]) return "";
+  const target = operandOf(row, "L");
+  const [is, isNot] = BRANCHES[row.word];
+  const there = "it goes on at " + labelOf(program, target);
+  if (target === event.row + 1) return "Either way it goes on below.";
+  if (!after) return "If " + is + ", " + there + ", else below.";
+  const isThere = after.threads[event.thread].row === target;
+  const they = row.word === "blt" ? "The first is " : "They are ";
+  return they + (isThere ? is + ": " + there : isNot + ": it goes on below") + ".";
+}
+// What the machine refused, behind the last choice that it played.
+export function refusedText({ what, thread }, number) {
+  const why = what === "none" ? "there is no thread " + thread : "no more choices or steps are allowed";
+  return "Choice " + number + " is refused: " + why + ". The run stops here.";
+}
 // The whole sentence on a choice, with what it ended, or how many have arrived.
 export function sentenceOf(program, event, before, after) {
   const said = eventText(program, event, before.state);
   const row = program.rows[event.row];
+  const branch = branchText(program, event, after.state);
+  if (branch) return [...said, " " + branch];
   if (event.mark) return [...said, " ", strong(markText(program, event.mark, before.state))];
   const isCall = row && before.state.threads[event.thread].status !== "waits";
   const arrived = event.what === "wait" || (event.what === "=" && event.value >= 0 && row && ARRIVES.has(row.word));
@@ -159,7 +182,10 @@ export function sentenceOf(program, event, before, after) {
   return count ? [...said, " " + count] : said;
 }
 export function wouldText(program, event, moment) {
-  const said = eventText(program, event, moment.state);
+  const [first, ...rest] = eventText(program, event, moment.state);
+  const branch = branchText(program, event);
+  const said = [typeof first === "string" ? first[0].toLowerCase() + first.slice(1) : first, ...rest];
+  if (branch) return [...said, " " + branch];
   return event.mark ? [...said, " ", strong(markText(program, event.mark, moment.state))] : said;
 }
 
@@ -170,6 +196,7 @@ export function tagOf(program, event, isJava) {
   const call = row ? KINDS[row.word][1] : "";
   let head = row ? row.word + (hasSeveral(program) && object ? " " + object : "") : "";
   if (row && row.word === "intr") head = rowText(program, row);
+  if (row && row.kinds.includes("C")) head += " " + nameOf(program, "C", operandOf(row, "C"));
   if (call && isJava) {
     const name = call.split("(")[0].replace("@", () => threadName(program, operandOf(row, "T")));
     head = (hasSeveral(program) && object ? object + "." : "") + name;

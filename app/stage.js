@@ -3,19 +3,18 @@
 import { endKind, endText, outputText } from "./ending.js";
 import { byId, fill, h, shown } from "./elements.js";
 import { hueOf, threadName } from "./names.js";
-import { reasonOf } from "./reason.js";
-import { lengthOf, momentOf } from "./run.js";
-import { sentenceOf, wouldText } from "./sentence.js";
+import { reasonOf, strayOf } from "./reason.js";
+import { eventTo, lengthOf, momentOf } from "./run.js";
+import { refusedText, sentenceOf, wouldText } from "./sentence.js";
 import { isVeiled, runOf } from "./state.js";
 
 const eventOf = (moment, token) => (token[0] === "x" ? moment.late : moment.next)[Number(token.slice(1))];
 
 // What the sentence says: { badge, kind, parts, reason, verdict }.
 function saidOf(state) {
-  const { tree, at, mistake, difference } = state;
+  const { tree, at, mistake } = state;
   const run = runOf(state);
   const { program } = tree;
-  if (difference) return { badge: "!", kind: "wrong", parts: [difference] };
   if (mistake) {
     const where = mistake.isProgram
       ? "The program has a mistake" + (mistake.line ? " in line " + mistake.line : "")
@@ -31,15 +30,18 @@ function saidOf(state) {
   };
   const { word } = moment.state;
   const kind = { stuck: "stuck", all: "ended" }[word] || "";
-  const verdict = { stuck: " Stuck: no thread can ever go on.", all: " All threads are over." }[word] || "";
+  const end = { stuck: " Stuck: no thread can ever go on.", all: " All threads are over." }[word] || "";
+  const isRefused = run.refused && at === lengthOf(run);
+  const verdict = isRefused ? " " + refusedText(run.refused, at + 1) : end;
   if (!at) return {
     badge: 0,
     kind,
     verdict,
     parts: [program.about || "Each thread is at its first row. Who goes first?"]
   };
-  const parts = sentenceOf(program, run.events[at - 1], momentOf(tree, run.id, at - 1), moment);
-  const reason = isVeiled(state) ? "" : reasonOf(tree, run.id, at);
+  const parts = sentenceOf(program, eventTo(run, at), momentOf(tree, run.id, at - 1), moment);
+  const reasons = isVeiled(state) ? [] : [reasonOf(tree, run.id, at), strayOf(tree, run.id, at)];
+  const reason = reasons.filter(Boolean).join(" ");
   return { badge: at, kind, verdict, parts, reason };
 }
 function drawSaid(state) {
@@ -50,7 +52,7 @@ function drawSaid(state) {
   fill(
     byId("said"),
     h("span.said-badge", {}, badge),
-    h("span.said-text", {}, shown(state.tree.program, parts), why, end)
+    h("span.said-text", {}, shown(state.tree.program, parts), end, why)
   );
 }
 function drawNext(state, act) {

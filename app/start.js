@@ -1,10 +1,9 @@
 // Begins. In a worker, the script waits for work. In a page, the machine is unpacked, and the app opens what the
 // address names, or the run that stands in this file, or the first lesson.
 import { makeApp } from "./app.js";
-import { readPage, runInFile } from "./file.js";
+import { bareName, runIn, takePage } from "./file.js";
 import { byId } from "./elements.js";
-import { playRun, startMachine, versionOf } from "./machine.js";
-import * as change from "./state.js";
+import { startMachine, versionOf } from "./machine.js";
 import { makeWork, startWorker } from "./work.js";
 
 async function unpacked(text) {
@@ -20,42 +19,15 @@ function spawn() {
   return worker;
 }
 
-// What a run's trace says otherwise than the machine: a sentence, or null.
-function differenceText(run) {
-  if (!run.trace) return null;
-  const played = playRun(run.program, run.schedule);
-  if (played === run.trace) return null;
-  const [theirs, ours] = [run.trace, played].map(text => text.split("\n"));
-  let k = 0;
-  while (theirs[k] === ours[k]) k++;
-  const line = text => (text === undefined || text === "" ? "nothing" : "\u201C" + text.slice(0, 60) + "\u201D");
-  return "The run in this file isn\u2019t the machine\u2019s. Line " + (k + 1) + " of its trace is " +
-    line(theirs[k]) + ", and the machine plays " + line(ours[k]) + ".";
-}
-async function openRun(app, run, menu) {
-  const item = {
-    group: "This file",
-    name: run.name,
-    title: run.title || run.name,
-    program: run.program,
-    plan: run.schedule || run.plan || ".."
-  };
-  menu.unshift(item);
-  await app.open(item, "explore", false);
-  if (app.get().mistake) return;
-  // the plan as it was written, where its schedule stands beside it
-  const plan = run.schedule && run.plan ? run.plan : app.get().plan;
-  const address = run.address && /^[\dtx.]+$/.test(run.address) ? run.address : "0";
-  app.set({ ...change.addressed(app.get(), address), plan, difference: differenceText(run) });
-}
 async function startPage() {
-  const page = readPage();
+  // a frame without an address of its own has no name
+  const run = runIn(document, location.protocol === "about:" ? "run" : bareName(decodeURI(location.pathname)));
+  const page = takePage();
   const menu = JSON.parse(byId("programs").textContent);
-  const run = runInFile(byId("run").textContent);
   const bytes = await unpacked(byId("machine").textContent);
   await startMachine(bytes);
   const app = makeApp({ menu, work: makeWork(spawn, bytes), page, version: versionOf() });
-  if (run) await openRun(app, run, menu);
+  if (run) await app.openRun(run, false, true);
   const isOpen = await app.openLink();
   if (!isOpen && !run) await app.open(menu[0], "explore", false);
   // for tests that drive the page

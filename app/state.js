@@ -6,7 +6,7 @@ import { lessonOf } from "./lessons.js";
 import { walkTo, addressOf } from "./link.js";
 import { Refused } from "./machine.js";
 import { mistakeOf } from "./mistake.js";
-import { choicesOfPlan, readablePlan } from "./plan.js";
+import { playedPlan, readablePlan } from "./plan.js";
 import { questionsOf } from "./questions.js";
 import { depthOf, firstAlone, forkRun, graftRun, inOrder, lengthOf, openProgram, plantTree } from "./run.js";
 
@@ -48,8 +48,8 @@ export function firstState() {
     lesson: null,
     quiz: null,
     challenge: null,
-    // what a trace in this file says otherwise than the machine
-    difference: null
+    // whether what stands in a page is what the machine plays: what checkOf gave
+    check: null
   };
 }
 
@@ -59,20 +59,23 @@ export const otherOf = state => (
 );
 
 // ---- a program and its plan
-function planted(state, program, text, plan, { choices, isCut }) {
-  const tree = plantTree(program, choices);
+function planted(state, program, text, plan, { choices, isCut, trace }) {
+  const tree = plantTree(program, choices, trace);
   const next = { ...state, text, plan, tree, id: 0, isCut, mistake: null, orders: null };
   return { ...next, selected: null, preview: "", other: null, challenge: null };
 }
+// The schedule of a page's run, for which its plan stands; "" where there is none.
+export const scheduleIn = (item, plan) => (item && plan === item.plan && item.schedule) || "";
+
 // What a text and a plan make of a state: the same place of the new program, where it still is; of what is refused,
-// the state before with the mistake. `played`, { choices, isCut }, saves playing the plan where a worker did.
+// the state before with the mistake. `played`, what playedPlan gives, saves playing the plan where a worker did.
 export function edited(state, text, plan, played) {
   const isSamePlan = state.tree && plan === state.plan;
   const place = isSamePlan ? addressOf(state.tree, runOf(state), state.at) : String(state.at);
   let next;
   try {
     const program = openProgram(text);
-    next = planted(state, program, text, plan, played || choicesOfPlan(text, plan));
+    next = planted(state, program, text, plan, played || playedPlan(text, plan, scheduleIn(state.item, plan)));
   } catch (fault) {
     if (!(fault instanceof Refused)) throw fault;
     return { ...state, text, plan, mistake: mistakeOf(fault, text) };
@@ -88,9 +91,10 @@ const begunLesson = state => ({
   votes: {}
 });
 
-// A program from the menu, a link or a file, from its start: { group, name, title, program, plan }.
+// A program from the menu, a link or a file, from its start: { group, name, title, program, plan }, and of a page's
+// run its schedule.
 export function opened(state, item, mode, played) {
-  const fresh = { ...state, item, at: 0, id: 0, tree: null, difference: null, mode: "explore", quiz: null };
+  const fresh = { ...state, item, at: 0, id: 0, tree: null, check: null, mode: "explore", quiz: null };
   let next = edited(fresh, item.program, item.plan, played);
   if (!next.tree) {
     // what can't be played has no run: an own program stands in its place, and its mistake is told
@@ -98,10 +102,10 @@ export function opened(state, item, mode, played) {
     return { ...stand, text: item.program, plan: item.plan, mistake: next.mistake };
   }
   if (!next.mistake) next = { ...next, plan: readablePlan(next.tree.program, runOf(next), next.plan) };
+  if (item.schedule) next = { ...next, item: { ...item, plan: next.plan } };
   next = { ...next, lesson: begunLesson(next) };
   return inMode(next, mode || "explore");
 }
-export const startedAgain = state => opened(state, state.item, state.mode);
 
 // ---- places
 export function at(state, i) {

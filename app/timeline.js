@@ -1,13 +1,16 @@
 // The timeline: a column for each thread, a row for each choice. Only the rows and columns in view are in the page,
-// so a run of 20,000 choices and 64 threads scrolls. What threads do between the rows is asked of the machine for the
-// rows in view, some milliseconds a frame. For a screen reader it is a table.
+// so a run of a million choices and 64 threads scrolls. What threads do between the rows is asked of the machine for
+// the rows in view, some milliseconds a frame. For a screen reader it is a table.
 import { fill, h } from "./elements.js";
 import { hueOf, threadName } from "./names.js";
-import { hasMoment, lengthOf, momentOf } from "./run.js";
+import { eventTo, hasMoment, lengthOf, momentOf } from "./run.js";
 import { shortMark, tagOf } from "./sentence.js";
 import { doingOf } from "./trace.js";
 
 const BUDGET = 8;
+// browsers scroll no higher boxes than those of so many rows: of a longer run the rows near this choice are there
+const ROOM = 100000;
+const EDGE = 1000;
 const AROUND = 6;
 const DOING = {
   runs: "runs",
@@ -35,7 +38,10 @@ export function makeTimeline(go, select) {
   const head = h("p.time-head");
   const element = h("div.time", {}, head, scroll);
   let shown = null;
+  // the choices that have rows, or null if all have; how many rows there would be, and the first that is there
   let rows = null;
+  let whole = 0;
+  let origin = 0;
   let size = { row: 30, number: 50, column: 80, rem: 16 };
   // what is in view, kept so that no row asks the page for it: such a question lays the whole page out anew
   let view = { top: 0, left: 0, height: 0, width: 0 };
@@ -60,20 +66,20 @@ export function makeTimeline(go, select) {
   const bodyHeight = () => (count() + 0.6) * size.row;
 
   // ---- which choice a row shows: all, or all but those that did nothing
-  const count = () => (rows ? rows.length : (shown.isHidden ? shown.at : lengthOf(shown.run)) + 1);
-  const choiceAt = k => (rows ? rows[k] : k);
-  const rowOf = i => {
-    if (!rows) return i;
-    const k = rows.findIndex(one => one >= i);
-    return k < 0 ? rows.length - 1 : k;
-  };
+  const count = () => Math.min(ROOM, whole - origin);
+  const choiceAt = k => (rows ? rows[origin + k] : origin + k);
+  const rowOf = i => (rows ? rows.indexOf(i) : i) - origin;
   function fold() {
     const { run, at, isFolded, isHidden } = shown;
-    if (!isFolded) return null;
     const last = isHidden ? at : lengthOf(run);
-    const out = [];
-    for (let i = 0; i <= last; i++) if (!i || i === at || run.events[i - 1].what !== "idle") out.push(i);
-    return out;
+    rows = isFolded ? [] : null;
+    if (isFolded) for (let i = 0; i <= last; i++) if (!i || i === at || !run.events.isIdle(i - 1)) rows.push(i);
+    whole = rows ? rows.length : last + 1;
+    const here = rows ? rows.indexOf(at) : at;
+    const most = Math.max(0, whole - ROOM);
+    const isBelow = here < origin + EDGE && origin > 0;
+    const isAbove = here > origin + ROOM - EDGE && origin < most;
+    if (isBelow || isAbove || origin > most) origin = Math.max(0, Math.min(most, here - ROOM / 2));
   }
   function measure() {
     size.rem = parseFloat(getComputedStyle(document.documentElement).fontSize);
@@ -101,11 +107,12 @@ export function makeTimeline(go, select) {
     const isOther = isNew || shown.run !== what.run || shown.tree.program !== what.tree.program;
     const isMoved = isOther || shown.at !== what.at;
     shown = what;
-    rows = fold();
+    fold();
     if (isNew) measure();
     else if (isOther) divide();
-    fill(head, what.title || "");
-    head.hidden = !what.title;
+    const part = whole > count() ? "Choices " + choiceAt(0) + " to " + choiceAt(count() - 1) + " stand here." : "";
+    fill(head, what.title || "", part);
+    head.hidden = !what.title && !part;
     body.style.height = bodyHeight() + "px";
     if (isMoved) follow();
     draw(true);
@@ -115,7 +122,7 @@ export function makeTimeline(go, select) {
     const room = view.height - 2.3 * size.rem;
     let { top, left } = view;
     if (place < top + size.row || place + size.row * 2.5 > top + room) top = place - room * 0.55;
-    const event = shown.run.events[shown.at - 1];
+    const event = eventTo(shown.run, shown.at);
     const column = event ? placeOf(event.thread) : 0;
     const isOut = column < left + size.number || column + size.column * 2 > left + view.width;
     if (event && size.isWide && isOut) left = column - view.width / 2;
@@ -205,7 +212,7 @@ export function makeTimeline(go, select) {
     fill(lines, list);
   }
   function lineOf(k, i) {
-    const event = shown.run.events[i - 1];
+    const event = eventTo(shown.run, i);
     const isHere = i === shown.at;
     const kinds = (
       isHere ? ".is-here" : i > shown.at ? ".is-later" : ""

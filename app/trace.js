@@ -21,12 +21,49 @@ export function readEvent(line) {
   };
 }
 
-// The lines of a trace above its state, and the state.
+// The choices of a trace. A line is read when it is asked for, so that a run of a million choices opens at once.
+class Events {
+  #text;
+  // where each line begins, and where the last one ends
+  #places;
+
+  constructor(text) {
+    const places = [];
+    for (let at = 0; at < text.length; at = text.indexOf("\n", at) + 1) places.push(at);
+    this.length = places.length;
+    this.#text = text;
+    this.#places = Uint32Array.from([...places, text.length]);
+  }
+  #line(i) {
+    return this.#text.slice(this.#places[i], this.#places[i + 1] - 1);
+  }
+  at(i) {
+    return i >= 0 && i < this.length ? readEvent(this.#line(i)) : undefined;
+  }
+  token(i) {
+    const [, token] = this.#line(i).split(" ", 2);
+    return token;
+  }
+  isIdle(i) {
+    return this.#text.endsWith(" idle", this.#places[i + 1] - 1);
+  }
+  *[Symbol.iterator]() {
+    for (let i = 0; i < this.length; i++) yield this.at(i);
+  }
+  findIndex(test) {
+    for (let i = 0; i < this.length; i++) if (test(this.at(i))) return i;
+    return -1;
+  }
+}
+
+// The choices of a trace; the last one apart, if the machine refused it; and the state at the end.
 export function readTrace(trace) {
-  const cut = trace.startsWith("state ") ? 0 : trace.indexOf("\nstate ") + 1;
-  const lines = trace.slice(0, cut).split("\n");
-  lines.pop();
-  return { events: lines.map(readEvent), end: readState(trace.slice(cut)) };
+  const cut = trace.startsWith("state ") ? 0 : trace.lastIndexOf("\nstate ") + 1;
+  const events = new Events(trace.slice(0, cut));
+  const last = events.at(events.length - 1);
+  const refused = last && isRefused(last) ? last : null;
+  if (refused) events.length--;
+  return { events, refused, end: readState(trace.slice(cut)) };
 }
 
 function readThread(words) {

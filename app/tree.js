@@ -7,8 +7,8 @@ import { inOrder, lengthOf } from "./run.js";
 
 export function runName(tree, run) {
   if (run.parent < 0) return "Run 1";
-  const event = run.events[run.fork];
-  const old = tree.runs[run.parent].events[run.fork];
+  const event = run.events.at(run.fork);
+  const old = tree.runs[run.parent].events.at(run.fork);
   if (!event) return "Run " + (run.id + 1);
   const name = threadName(tree.program, event.thread) + (event.isLate ? "\u2019s time-out" : "");
   return "Run " + (run.id + 1) + ": at " + run.fork + " " + name + (
@@ -29,7 +29,7 @@ export function makeTree(walk) {
       const isHere = one === run;
       const begins = one.parent < 0 ? 0 : one.fork;
       const kind = endKind(one.end);
-      const event = one.events[one.fork];
+      const event = one.events.at(one.fork);
       const first = Math.min(begins + (one.parent < 0 ? 0 : 1), lengthOf(one));
       const name = {
         type: "button",

@@ -2,12 +2,15 @@
 // one stops the one before. The worker runs this same script; it is given the machine's bytes once.
 import { startMachine } from "./machine.js";
 import { outcomesOf } from "./outcomes.js";
-import { choicesOfPlan } from "./plan.js";
+import { playedPlan } from "./plan.js";
+import { scheduleOf } from "./schedule.js";
 
 // ---- in the worker
+// a list of a million words takes long from one thread to another, and a text doesn't
+const packed = ({ choices, isCut, trace }) => ({ schedule: scheduleOf(choices), isCut, trace });
 const TASKS = {
   orders: ({ text, seeds }, told) => outcomesOf(text, seeds, told),
-  plan: ({ text, plan }) => choicesOfPlan(text, plan)
+  plan: ({ text, plan, schedule }) => packed(playedPlan(text, plan, schedule))
 };
 
 export function startWorker() {

@@ -143,6 +143,25 @@ func (s *Session) Back() error {
 	return fault(status, nil)
 }
 
+// GoTo goes to the state after the first choices of played, the schedule of what was played from the beginning on. They are played anew,
+// so they may be more than 4,096 back. With a fault nothing changes: Malformed if it is no schedule, or has fewer choices.
+func (s *Session) GoTo(played string, number int) error {
+	if number < 0 {
+		return malformed("choice " + strconv.Itoa(number))
+	}
+	s.mutex.Lock()
+	defer s.mutex.Unlock()
+	words := []byte(played)
+	switch status := C.vuthgal_session_go_to(&s.handle, at(words), size(words), C.uint64_t(number)); status {
+	case C.VUTHGAL_UNLIKE, C.VUTHGAL_REFUSED:
+		return malformed(played)
+	case C.VUTHGAL_NO_THREAD:
+		return &Fault{Status: NoThread, Line: played}
+	default:
+		return fault(status, nil)
+	}
+}
+
 // enabled are the two words of the library.
 func (s *Session) enabled() (turns, expiries uint64) {
 	var words [2]C.uint64_t

@@ -123,13 +123,79 @@ func Choices(trace []byte) (string, error) {
 	return lines[0], err
 }
 
-// Page returns the page that shows a run, for a browser.
-func Page(program, schedule []byte) (string, error) {
+// Input says what FindMistake looks at besides the program.
+type Input uint8
+
+const (
+	// InProgram looks at the program alone.
+	InProgram Input = C.VUTHGAL_PROGRAM
+	// InPlan looks at a plan for it.
+	InPlan Input = C.VUTHGAL_PLAN
+	// InSchedule looks at a schedule for it.
+	InSchedule Input = C.VUTHGAL_SCHEDULE
+	// InText looks at the program's text with its schedule behind its line `.run`.
+	InText Input = C.VUTHGAL_TEXT
+)
+
+// Mistake is where an input is refused, and what helps.
+type Mistake struct {
+	// Told is the line of the refusal, as the program writes it.
+	Told string
+	// Input is InProgram, or else InPlan or InSchedule.
+	Input Input
+	// Line is that of the input, from 1; Column the first byte of the wrong word, from 1. They are 0 if there is none.
+	Line, Column, Length int
+	// Hint is `near: ..` or `help: ..`, or empty.
+	Hint string
+}
+
+// FindMistake says where a program is refused, or the steps that input says, and what helps, as a terminal shows it. It is nil if nothing
+// is wrong.
+func FindMistake(program []byte, input Input, steps []byte) (*Mistake, error) {
+	var place C.vuthgal_place
+	var told string
 	output, _, err := called(func(r *rooms) C.uint8_t {
-		return C.vuthgal_show(at(program), size(program), at(schedule), size(schedule),
+		status := C.vuthgal_mistake(at(program), size(program), C.uint8_t(input), at(steps), size(steps), &place,
 			at(r.output), size(r.output), &r.outputLength, at(r.line), size(r.line), &r.lineLength)
+		if status == C.VUTHGAL_REFUSED {
+			told = strings.TrimSpace(string(r.line[:r.lineLength]))
+		}
+		return status
 	})
-	return string(output), err
+	if told == "" {
+		return nil, err
+	}
+	hint := strings.TrimSpace(string(output))
+	return &Mistake{told, Input(place.input), int(place.line), int(place.column), int(place.length), hint}, nil
+}
+
+// escaped has the signs of a page in the place of those of a text.
+var escaped = strings.NewReplacer("&", "&amp;", "<", "&lt;", ">", "&gt;", "\r", "&#13;")
+
+// Page returns the page that shows a run: app, the text of vuthgal.html, with the program, its schedule and its trace in it. The machine
+// in the page plays it again.
+func Page(program, schedule []byte, app string) (string, error) {
+	trace, err := Run(program, schedule)
+	if err != nil {
+		return "", err
+	}
+	listing, err := List(program)
+	if err != nil {
+		return "", err
+	}
+	played, err := Choices([]byte(trace))
+	if err != nil {
+		return "", err
+	}
+	source := string(program)
+	if strings.HasPrefix(source, "PBW1") || strings.HasPrefix(source, "PBW2") {
+		source = ""
+	}
+	for _, it := range [][2]string{{"listing", listing}, {"source", source}, {"schedule", played + "\n"}, {"trace", trace}} {
+		begin := `<pre id="` + it[0] + `">`
+		app = strings.Replace(app, begin+"</pre>", begin+"\n"+escaped.Replace(it[1])+"</pre>", 1)
+	}
+	return app, nil
 }
 
 // Draw returns a run drawn as text, in lines of at most width bytes, from 60 to 1000.
@@ -176,7 +242,7 @@ func Expect(state State, expectation string) (bool, error) {
 	return false, malformed(expectation)
 }
 
-// Version returns the version of the library, the kit that proved it, and the sum of its sources, a line each.
+// Version returns the version of the library, and the sum of its sources, a line each.
 func Version() string {
 	output := make([]byte, 512)
 	var length C.size_t

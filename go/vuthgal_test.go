@@ -54,7 +54,7 @@ func TestCalls(t *testing.T) {
 	same(t, strings.HasPrefix(done(List(image))(t), ".phaser p0 2\n"), true)
 	same(t, done(Choices(trace))(t), "t0 t1 t0*3 t1*2")
 	same(t, Compare(program, trace), nil)
-	same(t, strings.HasPrefix(done(Page(program, schedule))(t), "<!"), true)
+	same(t, strings.HasSuffix(done(Page(program, schedule, `<pre id="trace"></pre>`))(t), "</pre>"), true)
 	same(t, strings.HasPrefix(done(Draw(program, schedule, 80))(t), "choice  a"), true)
 	same(t, done(Debug(program, []byte("k 1\ng t0 t1 t0 t0\nb\nq\n")))(t), "break 1\nat 2\nback 1\n")
 	same(t, strings.Contains(done(Explain("memory"))(t), "memory"), true)
@@ -149,6 +149,16 @@ func TestTraces(t *testing.T) {
 	}
 }
 
+func TestMistakes(t *testing.T) {
+	program := read(t, "meeting.asm")
+	same(t, done(FindMistake(program, InProgram, nil))(t) == nil, true)
+	same(t, *done(FindMistake([]byte("ldi r8 1\n"), InProgram, nil))(t),
+		Mistake{"refused asm 1 5", InProgram, 1, 5, 2, "help: the registers are r0 to r7: a small r and one digit"})
+	same(t, *done(FindMistake(program, InPlan, []byte("aa.")))(t), Mistake{"refused plan 1 2", InPlan, 1, 1, 3, "near: a."})
+	same(t, *done(FindMistake(program, InSchedule, []byte("t0\nt1;")))(t),
+		Mistake{"refused schedule 0 5", InSchedule, 2, 3, 1, "help: a schedule can't have comments; a program text can, above its line `.run`"})
+}
+
 func TestSession(t *testing.T) {
 	session := done(Open(read(t, "meeting.asm")))(t)
 	same(t, session.Threads, []string{"a", "b"})
@@ -172,6 +182,17 @@ func TestSession(t *testing.T) {
 	same(t, done(Expect(done(copied.State())(t), "all"))(t), false)
 	_, err := Expect(State{}, "hm")
 	fails(t, err, Malformed)
+
+	same(t, session.GoTo("t0 t1 t0", 2), nil)
+	same(t, done(session.State())(t).Choices, uint64(2))
+	same(t, session.GoTo("t0 t1 t0", 0), nil)
+	same(t, done(session.State())(t).Choices, uint64(0))
+	same(t, session.GoTo("t0", 1), nil)
+	fails(t, session.GoTo("t0", 2), Malformed)
+	fails(t, session.GoTo("zz", 0), Malformed)
+	fails(t, session.GoTo("t9", 1), NoThread)
+	fails(t, session.GoTo("t0", -1), Malformed)
+	same(t, done(session.State())(t).Choices, uint64(1))
 
 	same(t, done(session.Command("k 1"))(t), "break 1\n")
 	same(t, done(session.Go("t1 t9"))(t), Gone{"at", 1, ""})

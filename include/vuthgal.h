@@ -363,7 +363,7 @@ uint8_t vuthgal_session_other(vuthgal_session *session, uint8_t thread, uint8_t 
 /* Closes a session, and frees what it holds. One that is closed stays so. */
 void vuthgal_session_close(vuthgal_session *session);
 
-/* Writes three lines: the version, the kit that proved the library, and the sum of its sources. */
+/* Writes two lines: the version, and the sum of the sources. lib/vuthgal.sums has the same sum, and the kit that proved them. */
 void vuthgal_version(uint8_t *output, size_t output_room, size_t *output_length);
 
 /* Returns the version of the library as VUTHGAL_VERSION has it. */

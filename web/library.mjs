@@ -13,6 +13,9 @@ const ROOM = 1 << 16;
 const KEPT_ROOM = 1 << 24;
 const LINE_ROOM = 1 << 12;
 
+/** The inputs that can be refused, by their numbers. */
+const INPUTS = ["program", "plan", "schedule"];
+
 /** How many bytes a command of a session has room for, and a reply that is never asked for twice. */
 const COMMAND_ROOM = 512;
 const REPLY_ROOM = 512;
@@ -143,10 +146,12 @@ export class Library {
 
   /**
    * A call that takes `first`, the inputs, `more`, a room for the output and, if `hasLine`, one for the line: the
-   * status, the output and the line. It is made again if the output didn't fit.
+   * status, the output and the line. It is made again if the output didn't fit. `arrange` puts the words of the inputs
+   * into the call's own order.
    */
-  called(name, inputs, { first = [], more = [], hasLine = true } = {}) {
-    return this.with(inputs, (words) => {
+  called(name, inputs, { first = [], more = [], hasLine = true, arrange = (words) => words } = {}) {
+    return this.with(inputs, (taken) => {
+      const words = arrange(taken);
       const line = hasLine ? this.#line.words : [];
       const ask = (room) => this.call(name, ...first, ...words, ...more, ...room.words, ...line);
       let room = this.#outputRoom(ROOM);
@@ -159,6 +164,16 @@ export class Library {
       if (room.size > KEPT_ROOM) this.freeRoom();
       return told;
     });
+  }
+
+  /** What `vuthgal_mistake` answers, and the place that it fills. */
+  mistaken(program, kind, input) {
+    const { at, word } = this.struct;
+    const arrange = ([where, length, ...rest]) => [where, length, kind, ...rest, word];
+    const told = this.called("mistake", [program, input], { arrange });
+    const [line, column, length] = [0, 8, 16].map((offset) => this.number(at + offset));
+    const place = { input: INPUTS[this.view.getUint8(at + 24)], line: line || null, column: column || null, length };
+    return { ...told, place };
   }
 
   /** What `vuthgal_version` writes. */

@@ -7,9 +7,10 @@
  *
  * In this room: the commands. `streams.mjs` reads and writes, `arguments.mjs` reads what was asked.
  */
-import { readFileSync } from "node:fs";
+import { existsSync, readFileSync } from "node:fs";
 import { asked, Usage, VERSION } from "./arguments.mjs";
-import { bytesOf } from "./bytes.mjs";
+import { bytesOf, textOf } from "./bytes.mjs";
+import { choicesIn, MOST_CHOICES, MOST_TRACE } from "./page.mjs";
 import { Ended, opened, openedToWrite, STANDARD_INPUT, write, writeLine, writeTo } from "./streams.mjs";
 import { load, OutOfMemory } from "./vuthgal.mjs";
 
@@ -125,6 +126,19 @@ function opening(program) {
   }
 }
 
+/** Writes the app with a run in it. The app stands beside this file, or above it. */
+function show([file, schedule], options) {
+  const [program, tokens] = steps(file, schedule, options);
+  if (choicesIn(textOf(tokens)) > MOST_CHOICES) throw new Ended(3, `refused show ${MOST_CHOICES}\n`);
+  const { status, output, line } = vuthgal.call("run", [program, tokens]);
+  if (status !== 0) throw new Ended(status, line);
+  if (output.length > MOST_TRACE) throw new Ended(3, `refused show ${MOST_TRACE}\n`);
+  const places = ["vuthgal.html", "../vuthgal.html"].map((name) => new URL(name, import.meta.url));
+  const app = readFileSync(places.find((place) => existsSync(place)) ?? places[0], "latin1");
+  write(bytesOf(vuthgal.page(program, tokens, app)));
+  return 0;
+}
+
 const COMMANDS = {
   run,
   asm,
@@ -133,7 +147,7 @@ const COMMANDS = {
   debug,
   list: ([file]) => told("list", [opened(file, false).read()]),
   choices: ([trace]) => told("choices", [opened(trace).read()]),
-  show: ([file, schedule], options) => told("show", steps(file, schedule, options)),
+  show,
   draw: ([file, schedule], options) => told("draw", steps(file, schedule, options), Number(options.width ?? 80)),
   explain: (words) => told("explain", [words.join(" ")]),
 };

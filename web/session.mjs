@@ -9,6 +9,7 @@ import { Line, Schedule, State, Went } from "./values.mjs";
 
 /** What a call returns where it has nothing to say. */
 const NONE_KEPT = 1;
+const FEWER = 1;
 const NOT_READ = 3;
 const NO_THREAD = 7;
 const LIMIT = 8;
@@ -110,6 +111,19 @@ export class Session {
       if (status === NONE_KEPT) throw new NoHistory();
       this.#check(status);
     }
+  }
+
+  /**
+   * Goes to the state after the first choices of `played`, the schedule of what was played from the beginning on. They
+   * are played anew, so they may be more than 4,096 back. If it throws, nothing changes.
+   */
+  goTo(played, number) {
+    const status = this.#library.with([bytesOf(String(played))], (words) =>
+      this.#library.call("session_go_to", this.#open(), ...words, BigInt(number)),
+    );
+    if (status === FEWER) throw new RangeError(`fewer than ${number} choices were played`);
+    if (status === NOT_READ) throw new RangeError(`no schedule: ${played}`);
+    this.#check(status);
   }
 
   /** The threads whose turn would do something now, and those whose wait would expire. */

@@ -58,8 +58,16 @@ export interface Vuthgal {
     program: Text,
     options?: { plan?: Text; first?: number; count?: number; limit?: number; names?: boolean },
   ): Ending[];
-  /** The page that shows a run, for a browser. */
-  page(program: Text, schedule: Text): string;
+  /**
+   * The page that shows a run, for a browser: `app`, which is the text of `vuthgal.html`, with the program, the schedule
+   * and the trace in it. It throws `TooLong` above 1,000,000 choices and 16,777,216 bytes of trace.
+   */
+  page(program: Text, schedule: Text, app: string): string;
+  /**
+   * Where a program is refused, or a plan or a schedule of it, and what helps, as a terminal shows it; null if nothing
+   * is wrong. Without `plan` and `schedule`, a text with a line `.run` has its schedule behind that.
+   */
+  mistake(program: Text, input?: { plan?: Text; schedule?: Text }): Mistake | null;
   /** A run drawn as text, in lines of at most `width` bytes, from 60 to 1000; 80 by default. */
   draw(program: Text, schedule: Text, options?: { width?: number }): string;
   /**
@@ -78,14 +86,30 @@ export interface Vuthgal {
    * are.
    */
   call(name: CallName, inputs: readonly Text[], ...more: number[]): Told;
-  /** Three lines: the version of the library, the kit that proved it, and the sum of its sources. */
+  /** Two lines: the version of the library, and the sum of its sources. */
   readonly version: string;
   /** How many bytes the memory has. It grows, and no call makes it smaller. */
   readonly memory: number;
 }
 
 export type CallName =
-  | "run" | "both" | "asm" | "list" | "compare" | "choices" | "plan" | "seeds" | "show" | "draw" | "debug" | "explain";
+  | "run" | "both" | "asm" | "list" | "compare" | "choices" | "plan" | "seeds" | "draw" | "debug" | "explain";
+
+/** Where an input is refused, and what helps. */
+export interface Mistake {
+  /** The line of the refusal, as the program writes it. */
+  readonly told: string;
+  /** Which input it is in. */
+  readonly input: "program" | "plan" | "schedule";
+  /** The line of that input, from 1; null if no line is to blame. */
+  readonly line: number | null;
+  /** The first byte of the wrong word, from 1; null if the whole line is meant. */
+  readonly column: number | null;
+  /** How many bytes the word has. */
+  readonly length: number;
+  /** `near: ..` or `help: ..`; empty if nothing is known to help. */
+  readonly hint: string;
+}
 
 /** What a call of the header came to. */
 export interface Told {
@@ -117,6 +141,11 @@ export class Session {
   go(schedule: string | Schedule): Went;
   /** Takes back the last choices, one after another. The newest 4,096 are kept; it throws `NoHistory` if none is. */
   back(count?: number): void;
+  /**
+   * Goes to the state after the first `number` choices of `played`, the schedule of what was played from the beginning
+   * on. They are played anew, so they may be more than 4,096 back. If it throws, nothing changes.
+   */
+  goTo(played: string | Schedule, number: number): void;
   /** How all stand now, by numbers. */
   look(): Look;
   /** The entries of a thread's stack, from the bottom: `C5`, `H7`, `A0`, `X2`. */

@@ -13,6 +13,7 @@
 import { bytesOf, textOf } from "./bytes.mjs";
 import { Closed, Differs, Fault, NoLine, NotATrace, OutOfMemory, Refused, TooLong } from "./faults.mjs";
 import { Library } from "./library.mjs";
+import { choicesIn, MOST_CHOICES, MOST_TRACE, pageWith } from "./page.mjs";
 import { Session } from "./session.mjs";
 import { Ending, Line, Schedule, State, Trace, Went } from "./values.mjs";
 
@@ -123,9 +124,31 @@ class Vuthgal {
     return told.split("\n").slice(0, -1).map((line) => new Ending(line));
   }
 
-  /** The page that shows a run. */
-  page(program, schedule) {
-    return this.#text("show", [program, schedule]);
+  /** The page that shows a run: `app`, which is the text of `vuthgal.html`, with its program, schedule and trace in it. */
+  page(program, schedule, app) {
+    if (choicesIn(textOf(bytesOf(schedule))) > MOST_CHOICES) throw new TooLong();
+    const trace = this.#text("run", [program, schedule]);
+    if (trace.length > MOST_TRACE) throw new TooLong();
+    const source = textOf(bytesOf(program));
+    return pageWith(app, {
+      listing: this.list(program),
+      source: /^PBW[12]/.test(source) ? "" : source,
+      schedule: `${this.choices(trace)}\n`,
+      trace,
+    });
+  }
+
+  /**
+   * Where a program is refused, or a plan or a schedule of it, and what helps, as a terminal shows it; null if nothing
+   * is wrong.
+   */
+  mistake(program, { plan, schedule } = {}) {
+    const text = bytesOf(program);
+    const isWhole = plan === undefined && schedule === undefined && /^\.run\s*$/m.test(textOf(text));
+    const kind = plan !== undefined ? 1 : schedule !== undefined ? 2 : isWhole ? 3 : 0;
+    const told = this.#library.mistaken(text, kind, bytesOf(plan ?? schedule ?? ""));
+    if (told.status !== 3) return this.#answer(told) && null;
+    return { told: told.line.trimEnd(), ...told.place, hint: textOf(told.output).trimEnd() };
   }
 
   /** A run drawn as text, in lines of at most `width` bytes. */
@@ -161,7 +184,7 @@ class Vuthgal {
     return Session.of(this.#library, (told) => this.#answer(told), program);
   }
 
-  /** The version of the library, the kit that proved it, and the sum of its sources. */
+  /** The version of the library, and the sum of its sources. */
   get version() {
     return this.#library.version();
   }

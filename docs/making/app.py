@@ -1,4 +1,5 @@
-"""Makes vuthgal.html of the sources in app/: one file that holds the app, the machine (web/) and the examples.
+"""Makes vuthgal.html of the sources in app/: one file that holds the app, the machine (web/) and the examples, and has places for
+the four texts of a run. A page of `vuthgal show` is this file with texts in it (docs/making/page.py).
 
 The modules of app/ and web/ are ordinary ones, with imports. In the one file each is a function with a scope of its own, in the order
 of their imports, so that names in two modules may be alike. A browser refuses imports from file://, an import map can't hold what a
@@ -14,7 +15,6 @@ import sys
 from marks import TOP
 
 APP = TOP / "app"
-MOST = 500_000
 STYLES = ("tokens", "frame", "card", "stage", "program", "timeline", "scene", "tables", "runs", "sheet", "small", "print")
 LESSONS = ("lost-meeting", "broken-barrier", "two-orders", "late-team")
 GROUPS = {"Lessons": "lessons", "Tutorial": "tutorial", "Examples": ".", "From Java": "java"}
@@ -94,7 +94,8 @@ def sum_of(text):
     return base64.b64encode(hashlib.sha256(text.encode()).digest()).decode()
 
 
-def page():
+def parts():
+    """What stands before, between and behind the texts of a run."""
     style = "".join(re.sub(r"/\*.*?\*/\n|^[ \t]+", "", (APP / "style" / f"{it}.css").read_text(), flags=re.M | re.S) for it in STYLES)
     # as a script that is no module, since a browser starts no module in a worker from file://
     script = '"use strict";\n' + module(APP / "start.js", {}).replace("import.meta.url", "self.location.href")
@@ -103,13 +104,11 @@ def page():
     packed = gzip.compress((TOP / "web" / "vuthgal.wasm").read_bytes(), 9, mtime=0)
     made = {
         "STYLE": style, "STYLE-SUM": sum_of(style), "SCRIPT": script, "SCRIPT-SUM": sum_of(script),
-        "RUN": "", "PROGRAMS": data(programs()), "MACHINE": base64.b64encode(packed).decode(),
+        "PROGRAMS": data(programs()), "MACHINE": base64.b64encode(packed).decode(),
     }
-    text = re.sub(r"@@([A-Z-]+)@@", lambda found: made[found.group(1)], (APP / "index.html").read_text())
-    if len(text.encode()) > MOST:
-        sys.exit(f"vuthgal.html would have {len(text.encode())} bytes, and at most {MOST} are allowed")
-    return text
+    between = (APP / "index.html").read_text().split("@@TEXT@@")
+    return [re.sub(r"@@([A-Z-]+)@@", lambda found: made[found.group(1)], it) for it in between]
 
 
 def made():
-    return {TOP / "vuthgal.html": page()}
+    return {TOP / "vuthgal.html": "".join(parts())}

@@ -1,40 +1,21 @@
-"""Makes crates/page_frame/src/fixed.rt of the sources in crates/page_frame/page: the parts of a page of `vuthgal show` that are the
-same of every run, as constants, and the two sums by which the page's content policy names its style and its script."""
-import base64
-import hashlib
+"""Makes crates/page_frame/src/fixed.rt of the app: what a page of `vuthgal show` has before, between and behind its texts, as constants.
+The page is vuthgal.html with these texts in their places (docs/making/app.py)."""
 import re
 import sys
 
+import app
 from marks import TOP
 
-CRATE = TOP / "crates" / "page_frame"
 WIDTH = 140
-SCRIPTS = ("read", "words", "draw", "paper", "steps")
-CONSTANTS = {
+# the compiler takes no larger constant
+MOST = 130_000
+BEFORE = {
     "HEAD": "What a page begins with, up to the listing.",
     "BEFORE_SOURCE": "What stands between the listing and the program's text.",
     "BEFORE_SCHEDULE": "What stands between the program's text and the schedule.",
     "BEFORE_TRACE": "What stands between the schedule and the trace.",
-    "TAIL": "What a page ends with: its script.",
 }
-
-
-def source(name):
-    return (CRATE / "page" / name).read_text()
-
-
-def sum_of(text):
-    """A text's SHA-256 as a content policy names it: what stands between the lines of two tags."""
-    return base64.b64encode(hashlib.sha256(f"\n{text}\n".encode()).digest()).decode()
-
-
-def page():
-    """The page, in which each of the four texts is left as `@@TEXT@@`."""
-    style = source("page.css").rstrip("\n")
-    script = "".join(source(f"{it}.js") for it in SCRIPTS).rstrip("\n")
-    script = f'(function () {{\n"use strict";\n{script}\n}})();'
-    made = {"@@STYLE-SUM@@": sum_of(style), "@@SCRIPT-SUM@@": sum_of(script), "@@STYLE@@": style, "@@SCRIPT@@": script}
-    return re.sub("|".join(made), lambda found: made[found.group()], source("page.html"))
+TAILS = 4
 
 
 def packed(text):
@@ -49,16 +30,27 @@ def packed(text):
     return "\\\n".join(lines + [line])
 
 
-def constant(name, text):
-    return f'\n/// {CONSTANTS[name]}\n#[rattlefmt::skip]\npub const {name}: &[u8] = b"\\\n{packed(text)}";\n'
+def divided(tail):
+    """The tail in parts of about one size, none of which begins with a space."""
+    places = [len(tail) * number // TAILS for number in range(TAILS + 1)]
+    for number in range(1, TAILS):
+        while tail[places[number]] == " ":
+            places[number] += 1
+    return [tail[begin:end] for begin, end in zip(places, places[1:])]
+
+
+def constant(name, about, text):
+    if re.search(r"[^ -~\n]", text) or len(text) > MOST:
+        sys.exit(f"the page's {name} holds a byte that isn't ASCII, or more than {MOST} bytes: it has {len(text)}")
+    return f'\n/// {about}\n#[rattlefmt::skip]\npub const {name}: &[u8] = b"\\\n{packed(text)}";\n'
 
 
 def made():
-    text = page()
-    if re.search(r"[^ -~\n]", text):
-        sys.exit("the page holds a byte that isn't ASCII")
-    parts = text.split("@@TEXT@@")
-    if len(parts) != len(CONSTANTS):
-        sys.exit(f"the page has {len(parts) - 1} places for its texts, and not {len(CONSTANTS) - 1}")
-    head = "// The parts of a page that are the same of every run, made by bin/made of the sources in page/.\n"
-    return {CRATE / "src" / "fixed.rt": head + "".join(map(constant, CONSTANTS, parts))}
+    *before, tail = app.parts()
+    if len(before) != len(BEFORE):
+        sys.exit(f"the app has {len(before)} places for the texts of a page, and not {len(BEFORE)}")
+    text = "// The parts of a page that are the same of every run, made by bin/made of the app.\n"
+    text += "".join(constant(name, about, it) for (name, about), it in zip(BEFORE.items(), before))
+    for number, part in enumerate(divided(tail), 1):
+        text += constant(f"TAIL_{number}", f"Part {number} of what a page ends with: the app, and the machine in it.", part)
+    return {TOP / "crates" / "page_frame" / "src" / "fixed.rt": text}

@@ -33,6 +33,11 @@ record Burst(String kind, long seed, long round, List<Phaser> phasers, List<Barr
         return parent < 0 ? phaser : root(parent);
     }
 
+    /** Whether it has a parent or children. */
+    boolean isInTree(int phaser) {
+        return phasers.get(phaser).parent() >= 0 || phasers.stream().anyMatch(other -> other.parent() == phaser);
+    }
+
     /** A model of its objects, for its threads and the looker behind them. */
     Model model() {
         Model model = new Model(threads.size() + 1);

@@ -12,43 +12,74 @@ import java.util.Set;
  * away that may be needed: where no order explains what is left, none explains the whole.
  */
 final class BurstCore {
-    private static final int MOST_POINTS = 20_000;
-    private static final long LONGEST = 5_000_000_000L;
+    /** For one search of an order, and for all of them, in nanoseconds. */
+    private static final long LONGEST_SEARCH = 1_000_000_000L;
+    private static final long LONGEST = 12_000_000_000L;
+    /** So many other answers are told. */
+    private static final int MOST_REMEDIES = 4;
 
     private final BurstHistory history;
     private final boolean waiting;
-    private final long limit = System.nanoTime() + (long) (LONGEST * Load.factor());
+    private final long until;
+    private final long limit;
+    private final long longestSearch;
     private final Set<BurstEntry> answers = new HashSet<>();
     private final Set<BurstEntry> calls = new HashSet<>();
     private final List<BurstEntry> entries;
     private boolean whole;
 
-    private BurstCore(BurstHistory history) {
+    /** {@code until}: the end of the first answer that no order explains, where that is known; what ends later plays no part. */
+    private BurstCore(BurstHistory history, long until, long limit) {
         this.history = history;
+        this.until = until;
+        this.limit = limit;
         waiting = history.hasOpen();
         entries = history.entries();
+        longestSearch = (long) (LONGEST_SEARCH * Load.factor());
+        entries.stream().filter(entry -> !waiting && entry.end() > until).forEach(calls::add);
     }
 
-    /** The core of a burst that fails; null where some order explains it, or where the search would take too long. */
+    /** The core of a burst that fails, the smaller of two; null where some order explains it, or where the search took too long. */
     static BurstCore of(BurstHistory history) {
-        BurstCore core = new BurstCore(history);
-        if (!core.isImpossible(Set.of(), Set.of())) {
+        BurstEntry first = history.hasOpen() ? null : LegalHistory.firstUnexplained(history);
+        long until = first == null ? LegalHistory.ALL : first.end();
+        long now = System.nanoTime();
+        long longest = (long) (LONGEST * Load.factor());
+        BurstCore core = new BurstCore(history, until, now + longest);
+        if (first == null && !core.isImpossible()) {
             return null;
         }
-        core.reduce();
-        return core;
+        core.reduce(true);
+        BurstCore other = new BurstCore(history, until, now + 2 * longest);
+        other.reduce(false);
+        return other.whole && other.size() < core.size() ? other : core;
     }
 
-    /** Whether the answers that are judged have no order. */
-    private boolean isImpossible(Set<BurstEntry> freeAnswers, Set<BurstEntry> freeCalls) {
-        return LegalHistory.outcome(history, new LegalHistory.Freedom(freeAnswers, freeCalls, waiting, MOST_POINTS))
+    private int size() {
+        return entries.size() - calls.size();
+    }
+
+    /** Whether what is judged has no order. */
+    private boolean isImpossible() {
+        long end = Math.min(limit, System.nanoTime() + longestSearch);
+        return LegalHistory.outcome(history, until, new LegalHistory.Freedom(answers, calls, waiting, end))
             == LegalHistory.Outcome.NO_ORDER;
     }
 
-    /** The latest first, by ever smaller parts. */
-    private void reduce() {
+    /** Whole threads at first, and then, by ever smaller parts, what is left. */
+    private void reduce(boolean latestFirst) {
+        for (int thread = history.burst().looker(); thread >= 0; thread--) {
+            int it = latestFirst ? thread : history.burst().looker() - thread;
+            List<BurstEntry> all = entries.stream().filter(entry -> entry.thread() == it && !calls.contains(entry)).toList();
+            if (all.stream().noneMatch(BurstEntry::isOpen)) {
+                frees(all, calls);
+            }
+        }
         List<BurstEntry> left = new ArrayList<>(entries);
-        Collections.reverse(left);
+        left.removeAll(calls);
+        if (latestFirst) {
+            Collections.reverse(left);
+        }
         for (int size = (left.size() + 1) / 2; size > 0; size = size == 1 ? 0 : (size + 1) / 2) {
             for (int from = 0; from < left.size() && isInTime();) {
                 List<BurstEntry> part = List.copyOf(left.subList(from, Math.min(from + size, left.size())));
@@ -74,10 +105,10 @@ final class BurstCore {
     /** Judges these no more, where that leaves it without an order. */
     private boolean frees(List<BurstEntry> part, Set<BurstEntry> among) {
         among.addAll(part);
-        if (isImpossible(answers, calls)) {
+        if (!part.isEmpty() && isImpossible()) {
             return true;
         }
-        among.removeAll(part);
+        part.forEach(among::remove);
         return false;
     }
 
@@ -101,24 +132,28 @@ final class BurstCore {
         return calls.size();
     }
 
-    /** The one answer that would have to be another. Only what is judged comes into question: without it there is no order. */
-    BurstRemedy remedy() {
+    /**
+     * Each answer that alone would have to be another, the latest first, some at most; empty where none would do, and null where
+     * that isn't known. Only what is judged comes into question: without it there is no order.
+     */
+    List<BurstRemedy> remedies() {
         if (waiting) {
-            return BurstRemedy.UNKNOWN;
+            return null;
         }
         boolean sure = true;
+        List<BurstRemedy> found = new ArrayList<>();
         List<BurstEntry> latestFirst = new ArrayList<>(judged());
         Collections.reverse(latestFirst);
         for (BurstEntry entry : latestFirst) {
-            if (entry.step().interrupts()) {
+            if (entry.step().interrupts() || found.size() == MOST_REMEDIES) {
                 continue;
             }
-            LegalHistory.Other other = LegalHistory.otherAnswer(history, entry, MOST_POINTS);
+            LegalHistory.Other other = LegalHistory.otherAnswer(history, entry, System.nanoTime() + longestSearch);
             if (other.outcome() == LegalHistory.Outcome.ORDER) {
-                return new BurstRemedy(BurstRemedy.Kind.ANSWER, entry, other.answer());
+                found.add(new BurstRemedy(entry, other.answer()));
             }
-            sure = sure && other.outcome() == LegalHistory.Outcome.NO_ORDER && isInTime();
+            sure = sure && other.outcome() != LegalHistory.Outcome.UNKNOWN;
         }
-        return sure ? BurstRemedy.NONE : BurstRemedy.UNKNOWN;
+        return found.isEmpty() && !sure ? null : found;
     }
 }

@@ -1,12 +1,14 @@
 package kit.player;
 
 import java.io.PrintStream;
+import java.util.Comparator;
 import java.util.HashSet;
 import java.util.IntSummaryStatistics;
 import java.util.Locale;
 import java.util.Map;
 import java.util.Set;
 import java.util.TreeMap;
+import java.util.stream.Collectors;
 
 /** What came of the bursts of a run, in numbers. Those who play at once share it. */
 final class BurstCount {
@@ -18,12 +20,17 @@ final class BurstCount {
     private static final int ROUNDS_OF_OVERTAKING = 5_000;
     private static final long SECOND = 1_000_000_000L;
     /** With points most faults take up to so many bursts of a kind. */
-    private static final int ENOUGH_WITH_POINTS = 100;
+    private static final int ENOUGH = 60;
+    /** So many kinds are named that had the fewest. */
+    private static final int FEWEST = 3;
 
     private final long begun = System.nanoTime();
     private final BurstSuite suite = new BurstSuite();
     /** How many bursts each had. */
     private final Map<String, Integer> kindsPlayed = new TreeMap<>();
+    /** How many of these were with points. */
+    private final Map<String, Integer> kindsWithPoints = new TreeMap<>();
+    private boolean tooFew;
     private final Set<String> kindsLeftOut = new HashSet<>();
     private final Map<String, Integer> whyLeftOut = new TreeMap<>();
     private final BurstOverlap overlap = new BurstOverlap();
@@ -66,10 +73,13 @@ final class BurstCount {
     }
 
     /** A burst was played, with so many calls and interrupts. */
-    synchronized void played(Burst burst, int count, long nanoseconds) {
+    synchronized void played(Burst burst, long points, int count, long nanoseconds) {
         rounds++;
         calls += count;
         kindsPlayed.merge(burst.kind(), 1, Integer::sum);
+        if (points != PointSeeds.OFF) {
+            kindsWithPoints.merge(burst.kind(), 1, Integer::sum);
+        }
         suite.played(burst.kind(), nanoseconds);
     }
 
@@ -111,43 +121,64 @@ final class BurstCount {
         return suite.nanoseconds(kind);
     }
 
-    /** In some lines; {@code round} is the one that was played again and again, or negative. */
-    synchronized void tell(long round, boolean withPoints, PrintStream to) {
+    /** In some lines. */
+    synchronized void tell(BurstOrder order, PrintStream to) {
         whyLeftOut.forEach((why, kinds) -> to.println(kinds + " kinds left out: " + why));
         if (rounds == 0) {
             to.println("nothing was compared");
         }
+        boolean one = order.playsOneRound();
         String kinds = kindsPlayed.size() == 1 ? " kind, " : " kinds, ";
         to.println(rounds + (asked > rounds ? " of " + asked : "") + " bursts of " + kindsPlayed.size() + kinds + calls
             + " calls and interrupts, " + seconds() + ": " + findings + " found"
-            + (findings == 0 || round >= 0 ? "" : ", the first at try " + firstTry + ", in round " + firstFound + ", after " + firstAfter)
+            + (findings == 0 || one ? "" : ", the first at try " + firstTry + ", in round " + firstFound + ", after " + firstAfter)
             + (overtaken == 0 ? "" : "; an interrupt won over the end of a phase " + overtaken + " times"));
         overlap.tell(to);
-        if (kindsPlayed.size() > 1) {
-            to.println(eachHad(withPoints));
-        }
-        if (round >= 0) {
-            to.println("round " + round + (findings == 0 ? " didn't fail in " + rounds + " tries" : " failed at try " + firstTry));
+        tellEach(order, to);
+        if (one) {
+            to.println("round " + order.round() + (findings == 0 ? " didn't fail in " + rounds + " tries" : " failed at try " + firstTry));
         }
     }
 
-    /** Points matter little in some kinds: these may have fewer. */
-    private String eachHad(boolean withPoints) {
-        IntSummaryStatistics each = BurstKind.ALL.stream()
-            .filter(kind -> kindsPlayed.containsKey(kind.name()) && (!withPoints || kind.needsPoints()))
-            .mapToInt(kind -> kindsPlayed.get(kind.name())).summaryStatistics();
-        return each.getCount() + " kinds" + (withPoints ? " in which points matter" : "") + ", " + each.getMin() + " to "
-            + each.getMax() + " bursts each" + (!withPoints || each.getMin() >= ENOUGH_WITH_POINTS ? ""
-                : String.format(Locale.ROOT, "; too few, at a load of %.0f on %d processors: leave off other work, or take --kind",
-                    Load.now(), Load.PROCESSORS));
+    /** How many bursts each kind had, and whether these are too few to say anything. */
+    private void tellEach(BurstOrder order, PrintStream to) {
+        boolean withPoints = !order.points().areNone();
+        boolean many = kindsPlayed.size() > 1;
+        boolean few = withPoints && tellEach(kindsWithPoints, " in which points matter", many, to);
+        if (!withPoints || order.points().share() < 1) {
+            few |= tellEach(kindsPlayed, withPoints ? ", with points and without" : "", many, to) && order.isByTime();
+        }
+        tooFew = few && order.isByTime() && findings == 0;
+        if (few) {
+            to.println(String.format(Locale.ROOT, "too few: at a load of %.0f on %d processors, leave off other work, play longer, or"
+                + " take --kind; %s", Load.now(), Load.PROCESSORS, fewest(withPoints ? kindsWithPoints : kindsPlayed)));
+        }
+    }
+
+    /** Answers whether some kind had too few. */
+    private boolean tellEach(Map<String, Integer> played, String which, boolean tells, PrintStream to) {
+        boolean points = played == kindsWithPoints;
+        IntSummaryStatistics each = kindsPlayed.keySet().stream().filter(kind -> !points || BurstKind.needsPoints(kind))
+            .mapToInt(kind -> played.getOrDefault(kind, 0)).summaryStatistics();
+        if (tells && each.getCount() > 0) {
+            to.println(each.getCount() + " kinds" + which + ", " + each.getMin() + " to " + each.getMax() + " bursts each"
+                + (points ? " with points" : ""));
+        }
+        return each.getCount() > 0 && each.getMin() < ENOUGH;
+    }
+
+    private String fewest(Map<String, Integer> played) {
+        return kindsPlayed.keySet().stream().filter(kind -> played != kindsWithPoints || BurstKind.needsPoints(kind))
+            .sorted(Comparator.comparingInt(kind -> played.getOrDefault(kind, 0))).limit(FEWEST)
+            .map(kind -> kind + " had " + played.getOrDefault(kind, 0)).collect(Collectors.joining(", "));
     }
 
     BurstSuite suite() {
         return suite;
     }
 
-    /** The exit status: 0 where nothing was found, 1 where something was, 2 where nothing was compared. */
+    /** The exit status: 0 where nothing was found, 1 where something was, 2 where nothing was compared, 3 too little. */
     synchronized int status() {
-        return findings > 0 ? 1 : rounds == 0 ? 2 : 0;
+        return findings > 0 ? 1 : rounds == 0 ? 2 : tooFew ? 3 : 0;
     }
 }

@@ -1,8 +1,9 @@
 package kit.player;
 
+import java.util.HashMap;
 import java.util.HashSet;
 import java.util.List;
-import java.util.Set;
+import java.util.Map;
 
 /** What is wrong with the history of a burst, in words; nothing where it is right. */
 final class BurstJudge {
@@ -79,14 +80,16 @@ final class BurstJudge {
     private String trips() {
         int parties = history.burst().barriers().get(0).parties();
         int[] came = new int[history.burst().looker()];
-        Set<List<Integer>> indexes = new HashSet<>();
+        Map<List<Integer>, BurstEntry> indexes = new HashMap<>();
         for (BurstEntry entry : entries) {
             if (!entry.step().interrupts() && entry.request().method() == Method.AWAIT) {
                 int trip = came[entry.thread()]++;
                 int index = entry.answer().number();
                 boolean is = entry.answer().kind() == Answer.Kind.VALUE && index >= 0 && index < parties;
-                if (!is || !indexes.add(List.of(trip, index))) {
-                    return "the indexes of trip " + (trip + 1) + " aren't each number once: " + entry.words();
+                BurstEntry same = is ? indexes.put(List.of(trip, index), entry) : null;
+                if (!is || same != null) {
+                    return "the indexes of trip " + (trip + 1) + " aren't each number once: "
+                        + (same == null ? "" : same.words() + ", and ") + entry.words();
                 }
             }
         }

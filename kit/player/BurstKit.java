@@ -22,6 +22,9 @@ final class BurstKit {
     private static final int ROUNDS_TO_FIND = 5_000;
     /** Calls of a long burst: more than the search for an order could try without a stack of its own. */
     private static final int LONG_ONE = 6_000;
+    /** What hangs among so many is told in few lines. */
+    private static final int RESETS = 2_200;
+    private static final int FEW_LINES = 20;
     /** A race is a matter of chance, and of free processors: what the bursts of one seed don't find, those of another may. */
     private static final int SEEDS_TO_FIND = 32;
     /** What is wrong may be taken to wait for ever sooner, if it is at rest then. */
@@ -88,6 +91,45 @@ final class BurstKit {
         String right = report(new Told(0, arrive, 1, 2, Answer.value(0)), new Told(2, await, 1, Long.MAX_VALUE, null));
         part.take("a wait that has to be", !right.contains("no order explains these"), right);
         checkLongOne(arrive);
+        checkNamed(arrive, look);
+        checkResets();
+    }
+
+    /** The one whose answer would have to be another is named at once; where several would do, each is told. */
+    private void checkNamed(Request arrive, Request look) {
+        String one = report(new Told(1, arrive, 1, 2, Answer.value(0)), new Told(0, look, 3, 4, Answer.value(0)),
+            new Told(2, look, 5, 6, Answer.value(1)), new Told(0, look, 7, 8, Answer.value(0)));
+        checkSays(one, "burst 1 0 meetings\n  no order explains the answers: thread 2: getPhase 0 = 1\n");
+        String either = report(new Told(0, look, 1, 2, Answer.value(1)), new Told(1, arrive, 3, 4, Answer.value(0)),
+            new Told(1, arrive, 5, 6, Answer.value(1)));
+        checkSays(either, "  no order explains the answers\n");
+        checkSays(either, "  one other answer isn't enough\n");
+        Request meet = Request.of(Method.ARRIVE_AND_AWAIT_ADVANCE, 0);
+        String several = report(new Told(0, meet, 1, 4, Answer.value(1)), new Told(1, arrive, 2, 3, Answer.value(1)),
+            new Told(2, look, 5, 6, Answer.value(0)));
+        part.take("two that differ", several.contains("  one other answer isn't enough\n"), several);
+    }
+
+    /** However often the player goes on for it, what hangs is told in few lines. */
+    private void checkResets() {
+        BurstMaker make = new BurstMaker("resets-among-waiters", 1, 0, 1);
+        make.barrier(2);
+        for (int thread = 0; thread < 2; thread++) {
+            make.thread();
+        }
+        Request await = Request.of(Method.AWAIT, 0);
+        List<Told> calls = new ArrayList<>(List.of(new Told(0, await, 1, 4, Answer.thrown(Answer.BROKEN_BARRIER)),
+            new Told(1, await, 5, Long.MAX_VALUE, null)));
+        for (int time = 2; time < RESETS; time += 2) {
+            calls.add(new Told(2, Request.of(Method.RESET, 0), time, time + 1, Answer.NOTHING));
+        }
+        BurstHistory history = history(make, calls.toArray(Told[]::new));
+        history.giveUp(RESETS, List.of());
+        String text = new BurstReport(history, BurstJudge.judge(history)).text();
+        long lines = text.lines().count();
+        part.take("a wait that a thousand resets don't end", lines < FEW_LINES
+            && text.contains("waits for ever: thread 1: await 0 has no answer\n")
+            && text.contains("thread 1: await 0 has no answer\n  with these made, whatever they answer:\n    thread 2: reset 0\n"), text);
     }
 
     /** So many calls come where a wait hangs, and the player goes on for it. */
@@ -96,7 +138,7 @@ final class BurstKit {
         for (int number = 0; number < LONG_ONE; number++) {
             calls[number] = new Told(0, arrive, 2 * number + 1, 2 * number + 2, Answer.value(number / 2));
         }
-        String words = BurstJudge.judge(history(calls)).words();
+        String words = BurstJudge.judge(history(meetings(), calls)).words();
         part.take("a long burst", words == null, words);
     }
 
@@ -105,17 +147,25 @@ final class BurstKit {
     }
 
     private static String report(Told... calls) {
-        BurstHistory history = history(calls);
+        return report(meetings(), calls);
+    }
+
+    private static String report(BurstMaker make, Told... calls) {
+        BurstHistory history = history(make, calls);
         return new BurstReport(history, BurstJudge.judge(history)).text();
     }
 
-    /** Of a burst of three threads at a phaser of two parties. */
-    private static BurstHistory history(Told... calls) {
+    /** Three threads at a phaser of two parties. */
+    private static BurstMaker meetings() {
         BurstMaker make = new BurstMaker("meetings", 1, 0, 1);
         make.root(2);
         for (int thread = 0; thread < 3; thread++) {
             make.thread();
         }
+        return make;
+    }
+
+    private static BurstHistory history(BurstMaker make, Told... calls) {
         BurstHistory history = new BurstHistory(make.burst(), true);
         for (Told call : calls) {
             BurstEntry entry = new BurstEntry(call.thread(), BurstStep.call(call.request()), call.begin(), call.begin());

@@ -72,6 +72,10 @@ final class BurstMaker {
         return phasers.size() - 1;
     }
 
+    int partiesOf(int phaser) {
+        return phasers.get(phaser).parties();
+    }
+
     int barrier(int parties) {
         return barrier(parties, false, 0, false);
     }

@@ -29,6 +29,11 @@ record BurstOrder(long seed, long round, long count, long seconds, Set<String> k
         return round != EACH;
     }
 
+    /** Whether time alone decides how many there are, of some kinds. */
+    boolean isByTime() {
+        return seconds > 0 && !playsOneRound();
+    }
+
     boolean wants(String kind) {
         return kinds.isEmpty() || kinds.contains(kind);
     }

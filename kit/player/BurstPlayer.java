@@ -27,6 +27,9 @@ final class BurstPlayer {
     private final boolean leaves;
     /** The wait that is a poke; null where there is none. */
     private Call poke;
+    /** The call that closes, and hasn't ended, since an action runs; null where there is none. */
+    private Call closing;
+    private BurstEntry closingEntry;
 
     /** What takes longer than {@code bound}, in nanoseconds, is taken to wait for ever; {@code leaves}: a port that hangs is left. */
     BurstPlayer(Stage stage, long bound, boolean leaves) {
@@ -38,6 +41,7 @@ final class BurstPlayer {
     /** Its history; calls that wait for ever have no answer in it. Unplayable where the real side can't make the objects. */
     BurstHistory play(Burst burst) {
         poke = null;
+        closing = null;
         BurstHistory history = stage.takesLists() ? playByLists(burst) : playByCalls(burst);
         stage.checkWarnings();
         return history;
@@ -195,7 +199,7 @@ final class BurstPlayer {
             }
         }
         endPoke(burst);
-        return true;
+        return endClosing(history, bound);
     }
 
     /** What comes next; null where nothing comes for so long. */
@@ -215,13 +219,22 @@ final class BurstPlayer {
         }
     }
 
+    /** It may have to wait until an action has ended, which is ended here. */
     private void close(Burst burst, BurstHistory history) {
-        BurstEntry entry = history.begin(burst.looker(), BurstStep.call(burst.closer()));
-        RealThread looker = stage.thread(Stage.LOOKER);
-        Call call = looker.tell(burst.closer());
-        if (looker.done(call, bound)) {
-            history.end(entry, call.answer());
+        if (endClosing(history, 0)) {
+            closingEntry = history.begin(burst.looker(), BurstStep.call(burst.closer()));
+            closing = stage.thread(Stage.LOOKER).tell(burst.closer());
+            endClosing(history, MILLISECOND);
         }
+    }
+
+    /** Whether nothing closes any more, when so much time is over. */
+    private boolean endClosing(BurstHistory history, long nanoseconds) {
+        if (closing != null && stage.thread(Stage.LOOKER).done(closing, nanoseconds)) {
+            history.end(closingEntry, closing.answer());
+            closing = null;
+        }
+        return closing == null;
     }
 
     private void poke(Burst burst) {

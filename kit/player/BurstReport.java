@@ -30,8 +30,10 @@ final class BurstReport {
 
     String text() {
         Burst burst = history.burst();
+        BurstCore core = finding.overtaken() ? null : BurstCore.of(history);
+        List<BurstRemedy> remedies = core == null ? null : core.remedies();
         line(head(burst));
-        line("  " + finding.words());
+        line("  " + words(core, remedies));
         waits();
         objects(burst);
         line("  in the order in which they began, each with its begin and its end"
@@ -43,10 +45,23 @@ final class BurstReport {
         if (!history.hasOpen() && !finding.overtaken()) {
             unexplained();
         }
-        if (!finding.overtaken()) {
-            core();
+        if (core != null) {
+            core(core, remedies);
         }
         return text.toString();
+    }
+
+    /** What is wrong, and with whom: of all who wait for ever who mustn't, and the one whose answer would have to be another. */
+    private String words(BurstCore core, List<BurstRemedy> remedies) {
+        List<BurstEntry> open = history.entries().stream().filter(BurstEntry::isOpen).toList();
+        if (!open.isEmpty()) {
+            BurstEntry first = core == null ? open.get(0)
+                : core.judged().stream().filter(BurstEntry::isOpen).findFirst().orElse(open.get(0));
+            int more = open.size() - 1;
+            return "waits for ever: " + first.words() + (more == 0 ? "" : ", and so do " + more + " more");
+        }
+        boolean one = remedies != null && remedies.size() == 1 && !finding.words().contains(": ");
+        return finding.words() + (one ? ": " + remedies.get(0).entry().words() : "");
     }
 
     /** Who has no answer, for how long, and what it did before. */
@@ -63,11 +78,7 @@ final class BurstReport {
         history.seen().forEach(words -> line("  " + words));
     }
 
-    private void core() {
-        BurstCore core = BurstCore.of(history);
-        if (core == null) {
-            return;
-        }
+    private void core(BurstCore core, List<BurstRemedy> remedies) {
         String alone = core.isWhole() ? "alone" : "alone, or fewer of them";
         line("  no order explains these " + alone
             + (core.others() == 0 ? ":" : ", whatever the other " + core.others() + " did:"));
@@ -76,12 +87,11 @@ final class BurstReport {
             line("  with these made, whatever they answer:");
             core.needed().forEach(entry -> line("    " + call(entry)));
         }
-        BurstRemedy remedy = core.remedy();
-        switch (remedy.kind()) {
-            case ANSWER ->
-                line("  with one other answer there is an order: " + call(remedy.entry()) + " " + remedy.answer().told());
-            case NONE -> line("  one other answer isn't enough");
-            case UNKNOWN -> { }
+        if (remedies != null && remedies.isEmpty()) {
+            line("  one other answer isn't enough");
+        }
+        for (BurstRemedy remedy : remedies == null ? List.<BurstRemedy>of() : remedies) {
+            line("  with one other answer there is an order: " + call(remedy.entry()) + " " + remedy.answer().told());
         }
     }
 

@@ -85,7 +85,7 @@ final class Bursts {
 
     private void work(Place place) {
         try {
-            for (Turn turn = next(); turn != null; turn = next()) {
+            for (Turn turn = next(place); turn != null; turn = next(place)) {
                 playOne(place, turn);
             }
         } catch (IOException | RuntimeException | Error thrown) {
@@ -97,18 +97,22 @@ final class Bursts {
         failed = thrown instanceof RuntimeException unchecked ? unchecked : new IllegalStateException(thrown);
     }
 
-    /** What is to be played next; null for nothing. */
-    private synchronized Turn next() {
+    /** What is to be played next; null for nothing. Behind those with points, bursts need the processors: one plays alone. */
+    private synchronized Turn next(Place place) {
         boolean again = order.playsOneRound();
         boolean enough = count.findings() >= (again ? 1 : MOST_FINDINGS);
         if (enough || failed != null || count.asked() >= order.count() || System.nanoTime() > until) {
             return null;
         }
-        long round = again ? order.round() : order.points().areNone() ? nextRound() : nextByTime();
+        long points = order.points().at(part());
+        if (points == PointSeeds.OFF && !order.points().areNone() && place != places.get(0)) {
+            return null;
+        }
+        long round = again ? order.round() : points == PointSeeds.OFF ? nextRound() : nextByTime();
         if (round < 0 || count.isLeftOut(BurstKind.of(round).name())) {
             return null;
         }
-        Turn turn = new Turn(round, order.points().at(part()));
+        Turn turn = new Turn(round, points);
         count.asks();
         return turn;
     }
@@ -173,7 +177,7 @@ final class Bursts {
     /** In words; null where it is right, and where the real side breaks down as a slow one might. */
     private String finding(Place place, Burst burst, long points) {
         try {
-            BurstHistory history = history(place, burst);
+            BurstHistory history = history(place, burst, points);
             BurstJudge.Finding finding = history == null ? null : judge(history, points);
             return finding == null ? null : finding.words();
         } catch (Breakdown broken) {
@@ -210,22 +214,22 @@ final class Bursts {
     /** In words; null where it is right, and where the real side can't make the objects. */
     private String whatFails(Place place, Burst burst, long points) {
         try {
-            BurstHistory history = history(place, burst);
+            BurstHistory history = history(place, burst, points);
             BurstJudge.Finding finding = history == null ? null : judge(history, points);
             return finding == null ? null : new BurstReport(history, finding).text();
         } catch (Breakdown broken) {
-            count.played(burst, 0, 0);
+            count.played(burst, points, 0, 0);
             place.stage().abandon();
             return BurstReport.head(burst) + "\n  " + broken.getMessage() + "\n";
         }
     }
 
     /** Null where the real side can't make the objects. */
-    private BurstHistory history(Place place, Burst burst) {
+    private BurstHistory history(Place place, Burst burst, long points) {
         long begun = System.nanoTime();
         try {
             BurstHistory history = place.player().play(burst);
-            count.played(burst, history.entries().size(), System.nanoTime() - begun);
+            count.played(burst, points, history.entries().size(), System.nanoTime() - begun);
             if (!history.hasOpen()) {
                 count.overlaps(BurstOverlap.One.of(history));
             }
@@ -252,6 +256,6 @@ final class Bursts {
         if (!stopped && !stage.isHere() && !stage.takesLists()) {
             to.println("the port takes no lists, so its calls came one by one through the pipe, and hardly overlapped");
         }
-        count.tell(order.round(), !order.points().areNone(), to);
+        count.tell(order, to);
     }
 }

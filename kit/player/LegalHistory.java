@@ -16,6 +16,8 @@ import java.util.Set;
 final class LegalHistory {
     /** A time that isn't over before a burst is, in nanoseconds. */
     private static final long LONG = 3_600_000_000_000L;
+    /** Until all has ended that has an answer. */
+    static final long ALL = Long.MAX_VALUE - 1;
     /** A search through so many calls needs no stack of its own. */
     private static final int FEW = 200;
 
@@ -29,6 +31,7 @@ final class LegalHistory {
     /** What ended later than this is taken to be still open: any answer will do, or none. */
     private final long until;
     private final Freedom freedom;
+    private boolean isLate;
     private final Set<List<Integer>> seen = new HashSet<>();
     private final List<BurstEntry> order = new ArrayList<>();
     /** What those answer here that may answer anything. */
@@ -36,17 +39,18 @@ final class LegalHistory {
 
     /**
      * What isn't judged: calls of {@code answers} and of {@code calls} may answer anything, and the latter may as well not have
-     * been made. {@code waiting}: whoever else has no answer has to wait in the end, and mustn't be released.
+     * been made. {@code waiting}: whoever else has no answer has to wait in the end, and mustn't be released. The search ends at
+     * the time {@code limit} of {@code nanoTime}.
      */
-    record Freedom(Set<BurstEntry> answers, Set<BurstEntry> calls, boolean waiting, int mostPoints) {
-        static final Freedom NONE = new Freedom(Set.of(), Set.of(), false, Integer.MAX_VALUE);
+    record Freedom(Set<BurstEntry> answers, Set<BurstEntry> calls, boolean waiting, long limit) {
+        static final Freedom NONE = new Freedom(Set.of(), Set.of(), false, Long.MAX_VALUE);
 
         boolean ofAnswer(BurstEntry entry) {
             return answers.contains(entry) || calls.contains(entry);
         }
     }
 
-    /** What a search comes to; UNKNOWN where it was ended because there are too many points. */
+    /** What a search comes to; UNKNOWN where it had no more time. */
     enum Outcome { ORDER, NO_ORDER, UNKNOWN }
 
     private LegalHistory(BurstHistory history, boolean twoLooks, long until, Freedom freedom) {
@@ -60,21 +64,22 @@ final class LegalHistory {
 
     /** Whether there is such an order. */
     static boolean explains(BurstHistory history, boolean twoLooks) {
-        return new LegalHistory(history, twoLooks, Long.MAX_VALUE - 1, Freedom.NONE).explains();
+        return new LegalHistory(history, twoLooks, ALL, Freedom.NONE).explains();
     }
 
-    /** Whether there is an order where not all is judged. */
-    static Outcome outcome(BurstHistory history, Freedom freedom) {
-        LegalHistory search = new LegalHistory(history, true, Long.MAX_VALUE - 1, freedom);
-        return search.explains() ? Outcome.ORDER : search.isEndedEarly() ? Outcome.UNKNOWN : Outcome.NO_ORDER;
+    /** Whether there is an order where not all is judged, of what ended until then. */
+    static Outcome outcome(BurstHistory history, long until, Freedom freedom) {
+        return new LegalHistory(history, true, until, freedom).outcome();
+    }
+
+    private Outcome outcome() {
+        return explains() ? Outcome.ORDER : isEndedEarly() ? Outcome.UNKNOWN : Outcome.NO_ORDER;
     }
 
     /** The answer of this call in an order where it alone isn't judged. */
-    static Other otherAnswer(BurstHistory history, BurstEntry entry, int mostPoints) {
-        LegalHistory search = new LegalHistory(history, true, Long.MAX_VALUE - 1,
-            new Freedom(Set.of(entry), Set.of(), false, mostPoints));
-        Outcome outcome = search.explains() ? Outcome.ORDER : search.isEndedEarly() ? Outcome.UNKNOWN : Outcome.NO_ORDER;
-        return new Other(outcome, search.freeAnswers.get(entry));
+    static Other otherAnswer(BurstHistory history, BurstEntry entry, long limit) {
+        LegalHistory search = new LegalHistory(history, true, ALL, new Freedom(Set.of(entry), Set.of(), false, limit));
+        return new Other(search.outcome(), search.freeAnswers.get(entry));
     }
 
     /** Whether one other answer would do, and which. */
@@ -82,19 +87,25 @@ final class LegalHistory {
     }
 
     private boolean isEndedEarly() {
-        return seen.size() > freedom.mostPoints();
+        isLate |= freedom.limit() != Long.MAX_VALUE && System.nanoTime() > freedom.limit();
+        return isLate;
     }
 
-    /** The first answer, in the order in which they came, that no order explains. */
+    /** The first answer, in the order in which they came, that no order explains; null where one explains all. */
     static BurstEntry firstUnexplained(BurstHistory history) {
         List<BurstEntry> answered = history.entries().stream().filter(entry -> !entry.isOpen())
             .sorted(Comparator.comparingLong(BurstEntry::end)).toList();
-        for (BurstEntry entry : answered) {
-            if (!new LegalHistory(history, true, entry.end(), Freedom.NONE).explains()) {
-                return entry;
+        int explained = 0;
+        int least = answered.size();
+        while (explained < least) {
+            int middle = (explained + least) / 2;
+            if (new LegalHistory(history, true, answered.get(middle).end(), Freedom.NONE).explains()) {
+                explained = middle + 1;
+            } else {
+                least = middle;
             }
         }
-        return null;
+        return least < answered.size() ? answered.get(least) : null;
     }
 
     /** An order of what ended before this entry did, the last first, with what has to come between. */
@@ -144,7 +155,7 @@ final class LegalHistory {
         if (at.hasBegun(line)) {
             return at.model().inside(entry.thread()) == null ? released(at, line, entry) : null;
         }
-        if (!entry.request().method().looks() || !at.mayBegin(lines, entry)) {
+        if (!entry.request().method().looks() || !mayBegin(at, entry)) {
             return null;
         }
         HistoryPoint next = at.copy();
@@ -209,8 +220,24 @@ final class LegalHistory {
 
     // ---- beginnings
 
+    private boolean mayBegin(HistoryPoint at, BurstEntry entry) {
+        return at.mayBegin(lines, entry) && (!freedom.waiting() || haveBegunBefore(at, entry));
+    }
+
+    /** A call that waits for ever is taken to have begun its wait in the first quarter of the time that it was given. */
+    private boolean haveBegunBefore(HistoryPoint at, BurstEntry entry) {
+        for (int line = 0; line < lines.size(); line++) {
+            BurstEntry other = at.present(lines, line);
+            boolean stands = other != null && other != entry && !at.hasBegun(line) && hasToWait(other);
+            if (stands && history.waited(other) > 0 && other.beganAt() + history.waited(other) / 4 < entry.beganAt()) {
+                return false;
+            }
+        }
+        return true;
+    }
+
     private boolean begins(HistoryPoint at, int line, BurstEntry entry) {
-        if (!at.mayBegin(lines, entry)) {
+        if (!mayBegin(at, entry)) {
             return false;
         }
         HistoryPoint next = at.copy();
@@ -349,11 +376,16 @@ final class LegalHistory {
         return isFree(entry) || answer.equals(entry.answer()) || isMeaningless(model, entry);
     }
 
-    /** Counts after a termination are called meaningless in the Java documentation. */
-    private static boolean isMeaningless(Model model, BurstEntry entry) {
+    /**
+     * Counts after a termination are called meaningless in the Java documentation, and those of a tree change step by step: only the
+     * looks in the end are judged.
+     */
+    private boolean isMeaningless(Model model, BurstEntry entry) {
         return switch (entry.request().method()) {
             case GET_REGISTERED_PARTIES, GET_ARRIVED_PARTIES, GET_UNARRIVED_PARTIES ->
-                model.isTerminated(entry.request().object()) && entry.answer().kind() == Answer.Kind.VALUE;
+                (model.isTerminated(entry.request().object())
+                    || entry.thread() != history.burst().looker() && history.burst().isInTree(entry.request().object()))
+                && entry.answer().kind() == Answer.Kind.VALUE;
             default -> false;
         };
     }

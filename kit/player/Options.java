@@ -31,7 +31,8 @@ final class Options {
                              each folder of cases; into one archive where it is named NAME.zip
           --random N         plays N scenarios of its own, with documented differences told over
           --burst ROUNDS     plays so many bursts: several calls at once on threads that run freely
-          --for SECONDS      plays bursts for so long, and no more than ROUNDS where these are given
+          --for SECONDS      plays bursts for so long, and no more than ROUNDS where these are given; on a port first with
+                             the points 1 to 20, four at once, each kind for its share. Fewer than 60 of a kind are too few
           --burst FILE       plays a burst that was kept until it fails, 20000 times at most
           --kind NAME[,NAME] plays bursts of these kinds alone; goes with no --round and no --burst FILE
           --like SYMPTOM     the same with the kinds for a symptom: action, hang, interrupt, reset, time, tree
@@ -64,6 +65,9 @@ final class Options {
             super(what + "\n" + USAGE);
         }
     }
+
+    /** With points most threads of a port sleep. */
+    private static final int JOBS_WITH_POINTS = 4;
 
     private final List<Path> programs = new ArrayList<>();
     private Path vuthgal = Path.of("bin/vuthgal");
@@ -182,7 +186,7 @@ final class Options {
         String[] ends = word.split("\\.\\.", 2);
         long first = ends.length == 1 ? 1 : number("--points", List.of(ends[0]).iterator(), 0, MOST_SCENARIOS);
         long last = number("--points", List.of(ends[ends.length - 1]).iterator(), first, MOST_SCENARIOS);
-        return new PointSeeds(first, (int) (last - first + 1));
+        return new PointSeeds(first, (int) (last - first + 1), 1);
     }
 
     /** The file of --burst FILE, or null. */
@@ -248,7 +252,12 @@ final class Options {
     /** The bursts that were asked for, or null. */
     BurstOrder bursts() throws Wrong, IOException {
         BurstOrder order = order();
-        return order == null ? null : order.of(kinds, points);
+        return order == null ? null : order.of(kinds, givesPointsFirst() ? PointSeeds.AT_FIRST : points);
+    }
+
+    /** Whether nothing but the time is said of bursts on a port. */
+    private boolean givesPointsFirst() {
+        return port != null && burst == null && seconds > 0 && round == BurstOrder.EACH && points.areNone();
     }
 
     private BurstOrder order() throws Wrong, IOException {
@@ -284,7 +293,8 @@ final class Options {
     /** A real side for each burst that is played at once. */
     List<Stage> stages() throws Wrong {
         List<Stage> stages = new ArrayList<>();
-        for (int job = 0; job < jobs; job++) {
+        int most = jobs == 1 && givesPointsFirst() ? JOBS_WITH_POINTS : jobs;
+        for (int job = 0; job < most; job++) {
             stages.add(stage());
         }
         return stages;

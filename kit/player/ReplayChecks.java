@@ -75,10 +75,13 @@ final class ReplayChecks {
         checks.add(() -> soak(1, wrong + "polls.py 0.01", 0, "\n  new waits at a barrier alone: "));
         checks.add(() -> soak(1, wrong + "spins.py interrupted 0.001", 0, dearest("interrupted waits")));
         checks.add(() -> soak(1, wrong + "spins.py held 0.001", 0, dearest("held registrations")));
-        checks.add(() -> soak(1, wrong + "spins.py action 0.001", 0, dearest("calls during an action")));
+        checks.add(() -> soak(1, wrong + "spins.py action 0.001", 0, "calls during an action alone: "));
+        checks.add(() -> soak(1, wrong + "spins.py comers 0.001", 0, dearest("interrupted calls during an action")));
+        checks.add(() -> soak(1, wrong + "keeps_waits.py breaks", FEW_WAITS, "at a barrier, all interrupted before: "));
         if (!lockFree.isEmpty()) {
             checks.add(() -> soak(1, "FAULT=permit-is-kept " + lockFree, WAITS, dearest("waits after a release"),
                 "all too late: less than "));
+            checks.add(() -> soak(1, "FAULT=left-on-the-stack " + lockFree, WAITS, " bytes a wait are left, resident\n"));
             checks.add(() -> soak(1, "FAULT=freed-while-queued " + lockFree, WAITS, "behind waits that are late, "));
         }
         checks.add(() -> soak(2, python + " " + kit.resolve("faults/port.py") + " ok 'say okay\\n'", WAITS,
@@ -100,7 +103,7 @@ final class ReplayChecks {
             new Check(1, "`< 0 = 0`: ['0 = 7'] came", faults + "'0 = 0' 'say 0 = 7\\n'", "phase-numbers"),
             new Check(1, "waiting/for-the-present-phase differs, at line ", faults + "'1 = 0' 'also 0 = 1\\n'", "waiting"),
             new Check(0, " left out: no it makes no barrier\n", faults + "without barrier", "tiers action"),
-            new Check(2, "0 same, 0 different, 367 left out\n", faults + "without case", ""),
+            new Check(2, "0 same, 0 different, 370 left out\n", faults + "without case", ""),
             new Check(2, "kit/replay [--patience FACTOR] COMMAND [FILE..]", "--none", ""));
     }
 

@@ -3,7 +3,10 @@ package kit.player;
 import java.util.ArrayList;
 import java.util.List;
 
-/** Bursts over trees of phasers. Counts are looked at only in the end: an arrival goes up step by step. */
+/**
+ * Bursts over trees of phasers. Counts are judged only in the end: an arrival goes up step by step. Who looks at them before may
+ * see any, and may do harm: a child's counts may be renewed by that.
+ */
 final class TreeBursts {
     static final List<BurstKind> KINDS = List.of(
         new BurstKind("tree-meetings", TreeBursts::meetings,
@@ -15,7 +18,13 @@ final class TreeBursts {
         new BurstKind("tree-force", TreeBursts::force,
             "A child is forced to terminate while the parties of all meet."),
         new BurstKind("registration-at-an-empty-child", TreeBursts::registrationAtAnEmptyChild,
-            "The root's own party ends phases, while others come to a child without parties, look, and leave it empty."));
+            "The root's own party ends phases, while others come to a child without parties, look, and leave it empty."),
+        new BurstKind("looks-at-a-tree", TreeBursts::looks,
+            "Looks at the counts of children while their parties meet: whoever looks first in a phase may renew them."),
+        new BurstKind("a-tree-of-three-levels", TreeBursts::threeLevels,
+            "Phases end by arrivals at the lowest of three levels, and nobody looks at the middle."));
+
+    private static final int MANY_LOOKS = 20;
 
     private TreeBursts() {
     }
@@ -83,6 +92,37 @@ final class TreeBursts {
                 steps.add(BurstMaker.call(Method.ARRIVE_AND_DEREGISTER, child));
             }
             make.thread(steps);
+        }
+    }
+
+    private static void looks(BurstMaker make) {
+        int root = make.root(0, make.of(50) ? Policy.DEFAULT : BurstMaker.NEVER);
+        int child = make.phaser(root, 2, Policy.DEFAULT);
+        int other = make.of(50) ? make.phaser(make.of(50) ? root : child, 1, Policy.DEFAULT) : child;
+        int often = make.between(2, 6);
+        for (int leaf : other == child ? List.of(child, child) : List.of(child, child, other)) {
+            make.thread(BurstMaker.times(often, meet(leaf)));
+        }
+        List<Method> getters = List.of(Method.GET_REGISTERED_PARTIES, Method.GET_ARRIVED_PARTIES, Method.GET_UNARRIVED_PARTIES);
+        for (int looker = make.between(1, 3); looker > 0; looker--) {
+            Method getter = make.any(getters);
+            make.thread(BurstMaker.times(make.between(3, MANY_LOOKS), BurstMaker.call(getter, make.of(80) ? child : other)));
+        }
+    }
+
+    private static void threeLevels(BurstMaker make) {
+        int middle = make.phaser(make.root(0, make.of(50) ? Policy.DEFAULT : BurstMaker.NEVER), 0, Policy.DEFAULT);
+        int leaves = make.between(1, 3);
+        int often = make.between(2, 5);
+        boolean meets = make.of(60);
+        for (int leaf = 0; leaf < leaves; leaf++) {
+            int lowest = make.phaser(middle, make.between(1, 2), Policy.DEFAULT);
+            for (int party = make.partiesOf(lowest); party > 0; party--) {
+                make.thread(BurstMaker.times(often, meets ? meet(lowest) : BurstMaker.call(Method.ARRIVE, lowest)));
+            }
+        }
+        if (meets) {
+            make.claims(BurstClaim.MEETS);
         }
     }
 

@@ -2,26 +2,27 @@
 // and against what its documents say.
 //   node tests/apps/model.mjs PROGRAM
 import { spawnSync } from "node:child_process";
-import { mkdtempSync, readdirSync, readFileSync, rmSync, writeFileSync } from "node:fs";
+import { existsSync, mkdtempSync, readdirSync, readFileSync, rmSync, writeFileSync } from "node:fs";
 import { tmpdir } from "node:os";
 import assert from "node:assert/strict";
 import { arrivalsOf } from "../../app/arrivals.js";
 import { endKind, endText } from "../../app/ending.js";
 import { lessonOf, LESSONS } from "../../app/lessons.js";
 import { addressOf, linkOf, readLink, walkTo } from "../../app/link.js";
-import { Refused, startMachine } from "../../app/machine.js";
+import { openSession, Refused, startMachine } from "../../app/machine.js";
 import { mistakeOf } from "../../app/mistake.js";
-import { plain } from "../../app/names.js";
+import { javaText, plain } from "../../app/names.js";
 import { outcomesOf } from "../../app/outcomes.js";
 import { choicesOfPlan, MOST, planOf } from "../../app/plan.js";
 import { questionsOf } from "../../app/questions.js";
-import { arrivalsText, reasonOf } from "../../app/reason.js";
-import { closeTree, forkRun, graftRun, lengthOf, momentOf, openProgram, plantTree } from "../../app/run.js";
+import { arrivalsText, reasonOf, strayOf } from "../../app/reason.js";
+import { closeTree, eventTo, forkRun, graftRun, lengthOf, momentOf, openProgram, plantTree } from "../../app/run.js";
 import { choicesOf, scheduleOf } from "../../app/schedule.js";
-import { sentenceOf } from "../../app/sentence.js";
+import { refusedText, sentenceOf, wouldText } from "../../app/sentence.js";
 import * as change from "../../app/state.js";
 import { whyOf } from "../../app/why.js";
-import { pageWith, readProgramFile, runInFile } from "../../app/file.js";
+import { differenceOf } from "../../app/check.js";
+import { itemOf, pageWith, readProgramFile, runIn } from "../../app/file.js";
 import { done, look } from "./counting.mjs";
 import { programOf, randomOf } from "./programs.mjs";
 
@@ -63,7 +64,7 @@ function sameRun(tree, run, text) {
   const cut = lines.findIndex(line => line.startsWith("state "));
   assert.equal(cut, lengthOf(run), "another count of choices");
   lines.slice(0, cut).forEach((line, k) => {
-    const event = run.events[k];
+    const event = run.events.at(k);
     assert.ok(line.startsWith(`${k + 1} ${event.token} `), line);
   });
   assert.ok(lines[cut].endsWith(run.end.word), `${lines[cut]} isn't ${run.end.word}`);
@@ -132,21 +133,24 @@ for (const name of Object.keys(LESSONS)) {
     }
   });
 }
-// The other runs that a page of `vuthgal show` holds are by the same rule.
-await look("the rule of other runs is that of pages", () => {
+await look("the rule of other runs is the library's", () => {
   let count = 0;
   for (const name of Object.keys(LESSONS)) {
     const { text, plan } = lesson(name);
-    const page = program(["show", "FILE"], text + "\n.run\n" + plan).output;
-    const others = page.slice(page.indexOf('<pre id="others">')).split(/^other /m).slice(1);
     const tree = treeOf(text, plan);
-    for (const told of others) {
-      const own = [...told.matchAll(/^([tx]\d+) \d+$/gm)].map(m => m[1]);
-      const i = Number(told.split("\n")[0]);
-      if (!own.length) continue;
-      assert.deepEqual(forkRun(tree, 0, i, own[0]).run.choices.slice(i), own, `${name} at ${i}`);
-      count++;
+    const [run] = tree.runs;
+    const session = openSession(text);
+    for (let i = 0; i <= lengthOf(run); i++) {
+      const { next, late } = at(tree, run, i);
+      for (const { token, thread, isLate } of [...Object.values(next), ...Object.values(late)]) {
+        if (token === run.choices[i]) continue;
+        const told = session.other(thread, { expires: isLate, rest: scheduleOf(run.choices.slice(i)) });
+        assert.deepEqual(forkRun(tree, 0, i, token).run.choices.slice(i), choicesOf(String(told)), `${name} at ${i}`);
+        count++;
+      }
+      if (i < lengthOf(run)) session.go(run.choices[i]);
     }
+    session.close();
   }
   assert.ok(count > 20, `only ${count} runs were compared`);
 });
@@ -183,7 +187,7 @@ await look("who releases a thread was among those who could", () => {
     const [run] = tree.runs;
     for (let i = 0; i < lengthOf(run); i++) {
       const [before, after] = [at(tree, run, i), at(tree, run, i + 1)];
-      const { thread, what } = run.events[i];
+      const { thread, what } = run.events.at(i);
       before.state.threads.forEach((one, t) => {
         if (t === thread || one.status !== "waits" || before.next[t] || !after.next[t] || what === "idle") return;
         const why = whyOf(tree.program, before, t);
@@ -238,18 +242,51 @@ await look("the lost meeting, sentence by sentence", () => {
   assert.ok(why(8, 1).startsWith(stuck), why(8, 1));
   assert.equal(reasonOf(tree, 0, 2), "0 is the phase in which it arrived.");
   assert.match(reasonOf(tree, 0, 4), /^1 is the phase of meet now/);
-  const said = plain(tree.program, sentenceOf(tree.program, run.events[1], at(tree, run, 1), at(tree, run, 2)));
+  const said = plain(tree.program, sentenceOf(tree.program, run.events.at(1), at(tree, run, 1), at(tree, run, 2)));
   assert.equal(said, "cem calls meet.arrive(), which returns 0. Phase 0 of meet ends, phase 1 begins.");
   const stray = plain(tree.program, arrivalsText(tree, run, 2, 0));
   assert.match(stray, /ann and cem.*If one of them was surplus, nobody can know which\.$/);
   assert.deepEqual(arrivalsOf(tree, 0, 8).arrived[0].map(one => one.thread), [1]);
+});
+// what is said of a choice; `which` is its number, and who would be next where that is asked
+function saidOf(tree, which) {
+  const [number, who] = which.split(" ");
+  const i = Number(number);
+  const { program: model, runs: [run] } = tree;
+  if (i > lengthOf(run)) return refusedText(run.refused, i);
+  const after = at(tree, run, i);
+  const t = who ? model.names.T.indexOf(who) : -1;
+  if (who) return plain(model, wouldText(model, after.next[t] || after.late[t], after));
+  const said = plain(model, sentenceOf(model, eventTo(run, i), at(tree, run, i - 1), after));
+  return [said, reasonOf(tree, 0, i), strayOf(tree, 0, i)].filter(Boolean).join(" ");
+}
+// an example's text and its schedule
+function example(name) {
+  const paths = ["examples/", "examples/lessons/", "tests/apps/"].map(folder => folder + name);
+  const path = paths.find(one => existsSync(new URL(one + ".asm", TOP)) || existsSync(new URL(one + ".txt", TOP)));
+  if (existsSync(new URL(path + ".txt", TOP))) return readProgramFile(read(path + ".txt"));
+  return { program: read(path + ".asm"), plan: read(path + ".schedule") };
+}
+await look("what is said of choices", () => {
+  for (const line of read("tests/apps/said.txt").trimEnd().split("\n").slice(1)) {
+    const [name, which, wanted] = line.split("\t");
+    const { program: text, plan } = example(name);
+    assert.equal(saidOf(treeOf(text, plan), which), wanted, `${name}, choice ${which}`);
+  }
+});
+await look("each row in Java's words", () => {
+  const { program: text } = example("every-row");
+  const model = openProgram(text);
+  const wanted = text.split("\n").filter(line => /^(\w+:)?\s+\w+ .*; /.test(line)).map(line => line.split("; ")[1]);
+  assert.ok(wanted.length === model.rows.length && wanted.length > 41, wanted.length);
+  wanted.forEach((java, k) => assert.equal(javaText(model, model.rows[k]), java));
 });
 await look("an exception's number is explained only where its row throws it", () => {
   const text = ".thread a m\nm: ldi r1 8\nthrow r1\n";
   const tree = treeOf(text, "a a");
   const said = plain(
     tree.program,
-    sentenceOf(tree.program, tree.runs[0].events[1], at(tree, tree.runs[0], 1), at(tree, tree.runs[0], 2))
+    sentenceOf(tree.program, tree.runs[0].events.at(1), at(tree, tree.runs[0], 1), at(tree, tree.runs[0], 2))
   );
   assert.doesNotMatch(said, /full/);
   assert.match(said, /throws 8/);
@@ -373,7 +410,7 @@ await look("what is refused keeps the run before, with help", () => {
 await look("start again restores program, plan and place", () => {
   const state = first("lost-meeting");
   const changed = change.edited(change.at(state, 4), state.text + "; more\n", "..");
-  const again = change.startedAgain(changed);
+  const again = change.opened(changed, changed.item, changed.mode);
   assert.deepEqual([again.text, again.plan, again.at, again.id], [state.text, state.plan, 0, 0]);
 });
 await look("a typed change keeps the place", () => {
@@ -458,14 +495,56 @@ await look("a link that holds a text without end is refused", async () => {
   ).catch(() => "#e/0/");
   await assert.rejects(readLink(hash));
 });
-await look("a file with a run is read as it was written", () => {
-  const texts = { name: "</script><b>", title: "<i>&", program: "; </script> & \u2028\n" };
-  const run = { ...texts, plan: "..", schedule: "t0", trace: "x\n", address: "0" };
-  const page = '<p>$&</p><script type="application/json" id="run"></script>';
-  const whole = pageWith(page, run);
-  assert.equal(whole.match(/<\/script>/g).length, 1);
-  assert.deepEqual(runInFile(/id="run">([^]*?)<\/script>/.exec(whole)[1]), run);
-  assert.equal(runInFile(""), null);
+// A page's document, as a browser reads it.
+function documentOf(page) {
+  const signs = { "&amp;": "&", "&lt;": "<", "&gt;": ">", "&#13;": "\r" };
+  const textIn = name => new RegExp(`<pre id="${name}">\\n?([^<]*)</pre>`).exec(page)[1];
+  const textOf = name => textIn(name).replace(/&(amp|lt|gt|#13);/g, sign => signs[sign]);
+  return { getElementById: name => ({ textContent: textOf(name) }) };
+}
+const EMPTY = "<p>$&</p>" + ["listing", "source", "schedule", "trace"].map(name => `<pre id="${name}"></pre>`).join("");
+await look("a page with a run is read as it was written", () => {
+  const texts = { listing: "halt\n", source: "; </pre><b> &lt; $&\n", schedule: "t0", trace: "\nx\n" };
+  const run = runIn(documentOf(pageWith(EMPTY, texts)), "lost");
+  assert.deepEqual(run, { name: "lost", ...texts });
+  assert.equal(itemOf(run).schedule, "t0");
+  assert.equal(runIn(documentOf(EMPTY), "lost"), null);
+  const windows = pageWith(EMPTY, { ...texts, source: "halt ;\r\n" });
+  assert.ok(windows.includes("halt ;&#13;\n"), windows);
+  assert.equal(runIn(documentOf(windows), "").source, "halt ;\n");
+});
+await look("a page without a trace holds a plan", () => {
+  const run = runIn(documentOf(pageWith(EMPTY, { listing: "", source: "halt\n", schedule: "a. ..", trace: "" })), "mine");
+  assert.deepEqual([itemOf(run).plan, itemOf(run).schedule], ["a. ..", undefined]);
+});
+await look("the first line is told in which two texts differ", () => {
+  assert.equal(differenceOf("a\nb\n", "a\nb\n"), null);
+  assert.deepEqual(differenceOf("a\nb\n", "a\nc\n"), { number: 2, there: "b", here: "c" });
+  assert.deepEqual(differenceOf("a\n", "a\nb\n"), { number: 2, there: "", here: "b" });
+  assert.deepEqual(differenceOf("", "a\n"), { number: 1, there: "", here: "a" });
+  const long = "x".repeat(500);
+  assert.match(differenceOf(long + "1\n", long + "2\n").there, /^\u2026x+1$/);
+});
+await look("a schedule in a page isn't a plan", () => {
+  // a thread that is called as another one's number
+  const text = ".thread t1 m\n.thread t0 m\nm: out r0\nhalt\n";
+  const item = { ...itemOf({ name: "x", listing: "", source: text, schedule: "t0 t0", trace: "x" }) };
+  const state = change.opened(change.firstState(), item, "explore");
+  assert.deepEqual(change.runOf(state).choices, ["t0", "t0"]);
+  const edited = change.edited(state, text + "; more\n", state.plan);
+  assert.deepEqual(change.runOf(edited).choices, ["t0", "t0"]);
+});
+await look("an address without its run leads to the fork", () => {
+  const { text, plan } = lesson("lost-meeting");
+  const found = walkTo(treeOf(text, plan), "2t1.4x0.9");
+  assert.deepEqual([found.run.id, found.at, found.isWhole], [1, 3, false]);
+});
+await look("far places of a long run are the program's", () => {
+  const long = ".phaser p 2\n.thread a m\n.thread b m\nm: paaa r0 p\nadd r1 r1 r0\njmp m\n";
+  const choices = choicesOf(program(["plan", "FILE", "PLAN"], long, "..*120000").output);
+  const tree = plantTree(openProgram(long), choices);
+  for (const i of [120000, 3, 60000, 49999, 50001, 119990, 50000, 0]) sameMoment(tree, tree.runs[0], i, long);
+  closeTree(tree);
 });
 await look("a program's file may hold its schedule", () => {
   assert.deepEqual(readProgramFile("halt\n.run\nt0*2\n"), { program: "halt\n", plan: "t0*2" });

@@ -28,6 +28,7 @@ pub mod picture;
 pub mod write_picture;
 
 // Many live runs, and the orders of many seeds.
+pub mod differences;
 pub mod end_state;
 mod law;
 pub mod many_runs;

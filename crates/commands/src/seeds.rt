@@ -199,9 +199,9 @@ fn add_order(
 
 /// What the orders of seeds came to, the most frequent first, and the first run that ended otherwise than expected.
 #[derive(Drop)]
-struct Tally {
-    outcomes: Outcomes,
-    unlike: Option<Unlike>,
+pub struct Tally {
+    pub outcomes: Outcomes,
+    pub unlike: Option<Unlike>,
 }
 
 /// Plays each seed's run. Returns how many ended in each state, and the first run that didn't end as expected, if any.
@@ -288,16 +288,16 @@ fn tally_in<'a>(
 
 /// Plays, for each seed, a plan and then choices by the seed on a program. Writes a line for each state that a run ended in,
 /// the most frequent first: how often one did, `all`, `stuck` or `live`, with `+died` if a thread died, and the seed and the
-/// schedule of the first that did. Returns the first run that ended differently than expected, if one did.
+/// schedule of the first that did. Returns these states, and the first run that ended differently than expected, if one did.
 pub fn report_seeds<K: Sink>(
     alloc: Global,
     program: Program<'_>,
     plan: &[u8],
     seeds: &Seeds<'_>,
     output: &mut K,
-) -> Result<Option<Unlike>, Unplanned>
+) -> Result<Tally, Unplanned>
     requires { seeds.now.count ≤ 100000 }
-    ensures done { IfOk result (λ unlike. HasReportedSeeds program.entry plan.now seeds.now unlike
+    ensures done { IfOk result (λ tally. HasReportedSeeds program.entry plan.now seeds.now tally.unlike
         (K.written output.old) (K.written output.new)) }
     ensures refused { IfErr result (λ reason. unplanned_status reason ≡ 3 → HaveNoReport reason program.entry plan.now seeds.now) }
     ensures unwritten { IfErr result (λ reason. reason ≢ why.Fault Fault.Write → K.written output.new ≡ K.written output.old) }
@@ -307,7 +307,7 @@ pub fn report_seeds<K: Sink>(
     let (tally, names) = tally_in(alloc, program, plan, seeds)?;
     let told = seeds.has_names.then_some(names.as_slice());
     match push_report(alloc, told, &tally.outcomes, output) {
-        Ok(()) => Ok(tally.unlike),
+        Ok(()) => Ok(tally),
         Err(fault) => Err(Unplanned::Fault(fault)),
     }
 }

@@ -15,6 +15,8 @@ use byte_ports::{Failed, MemorySink, Sink, WritePort};
 use command_line::ports::printable;
 use command_line::ports::reasoned::{Reason, Reasoned};
 use command_line::request::When;
+use commands::differences::push_differences;
+use commands::outcomes::Outcomes;
 use commands::unplanned::Unplanned;
 use refusals::entries::tables;
 use refusals::entry::{Entry, push_pieces};
@@ -166,6 +168,17 @@ impl<'a> Report<'a> {
     pub fn hint(&self, hint: Hint, helps: &str) {
         if self.is_explained {
             let _ = push_hint(&mut WritePort::new(printable::errors(self.rt)), hint, helps);
+        }
+    }
+
+    /// Shows a person in what the states differ in which several runs of a program with these threads ended.
+    pub fn differences(&self, names: &[&[u8]], outcomes: &Outcomes) {
+        if self.is_explained {
+            let _ = push_differences(
+                names,
+                outcomes,
+                &mut WritePort::new(printable::errors(self.rt)),
+            );
         }
     }
 

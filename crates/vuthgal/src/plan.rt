@@ -143,11 +143,10 @@ pub fn seeds(
     };
     let mut output = block_port(report)?;
     let failed = |why| fail_at_plan(report, file, names.as_slice(), plan, why);
-    let unlike = report_seeds(report.alloc(), program, plan.bytes, &seeds, &mut output).map_err(
+    let tally = report_seeds(report.alloc(), program, plan.bytes, &seeds, &mut output).map_err(
         failed,
     )?;
-    let unlike = passed_on(Ok(unlike), &mut output).map_err(|fault| failed(Unplanned::Fault(
-        fault,
-    )))?;
-    Ok(settled_by(report, file.bytes, expected.as_slice(), unlike))
+    let tally = passed_on(Ok(tally), &mut output).map_err(|fault| failed(Unplanned::Fault(fault)))?;
+    report.differences(names.as_slice(), &tally.outcomes);
+    Ok(settled_by(report, file.bytes, expected.as_slice(), tally.unlike))
 }

@@ -42,11 +42,20 @@ class TieredChild implements PhaserUnderTest {
     }
 
     private void follow() {
-        int now = parent.getPhase();
+        renew(parent.getPhase());
+    }
+
+    /** The present phase is this one; the lock is held. */
+    final void renew(int now) {
         if (now != seen) {
             seen = now;
             unarrived = parties;
         }
+    }
+
+    /** It is complete, and arrives at its parent; the lock isn't held any more. */
+    int climb(boolean leaves) {
+        return leaves ? parent.arriveAndDeregister() : parent.arrive();
     }
 
     @Override
@@ -84,20 +93,22 @@ class TieredChild implements PhaserUnderTest {
 
     @Override
     public int arrive() {
-        return arrive(false);
+        return arrive(false, true);
     }
 
     @Override
     public int arriveAndDeregister() {
-        return arrive(true);
+        return arrive(true, true);
     }
 
-    private int arrive(boolean leaves) {
+    final int arrive(boolean leaves, boolean follows) {
         int left;
         int staying;
         int phase;
         synchronized (this) {
-            follow();
+            if (follows) {
+                follow();
+            }
             if (seen < 0) {
                 return seen;
             }
@@ -113,7 +124,7 @@ class TieredChild implements PhaserUnderTest {
         if (!isComplete(left)) {
             return phase;
         }
-        return staying == 0 ? parent.arriveAndDeregister() : parent.arrive();
+        return climb(staying == 0);
     }
 
     @Override

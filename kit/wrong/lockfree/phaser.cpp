@@ -12,6 +12,7 @@ namespace {
 using Word = std::uint64_t;
 
 constexpr int kMostParties = 65535;
+constexpr int kMostLeft = 64;  // nodes whose waiters have left, on the stack
 constexpr int kLastPhase = std::numeric_limits<int>::max();
 constexpr Word kTerminated = Word(1) << 63;
 constexpr Word kParty = Word(1) << 16;
@@ -36,7 +37,7 @@ Fault fault_of_environment() {
                          "nodes-used-again", "phase-before-counts", "end-by-storing",
                          "taken-off-by-comparing", "queued-for-good", "register-by-storing",
                          "empty-before-on-advance", "owner-read-after-letting-go", "woken-before-the-mark",
-                         "freed-while-queued", "permit-is-kept"};
+                         "freed-while-queued", "permit-is-kept", "left-on-the-stack"};
   for (int at = 1; name && at < static_cast<int>(std::size(names)); at++) {
     if (std::strcmp(name, names[at]) == 0) {
       return static_cast<Fault>(at);
@@ -252,11 +253,11 @@ void Phaser::wait(int phase, bool interruptibly, const Time& time) {
   bool parked = false;
   while (fault == Fault::kWokenBeforeTheMark && parked ? bool(node->queued) : view_of(word_) == phase) {
     if (interruptibly && Thread::current().clear_interrupted()) {
-      node->leave();
+      leave(node);
       throw Interrupted();
     }
     if (time.is_over() && view_of(word_) == phase) {  // else the phase ended in time, behind the look above
-      node->leave();
+      leave(node);
       throw TimedOut();
     }
     if (!node->queued) {
@@ -274,6 +275,16 @@ void Phaser::wait(int phase, bool interruptibly, const Time& time) {
   node->let_go();
   if (fault == Fault::kNodesUsedAgain) {
     release_one_by_one();
+  }
+}
+
+/// The waiter goes before the phase ends, and its node stays on the stack. When these are many, all are woken: whoever waits comes
+/// back with its node.
+void Phaser::leave(Node* node) {
+  const bool sweeps = node->queued && fault != Fault::kLeftOnTheStack && fault != Fault::kFreedWhileQueued;
+  node->leave();
+  if (sweeps && ++left_ % kMostLeft == 0) {
+    release_all();
   }
 }
 

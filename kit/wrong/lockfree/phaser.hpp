@@ -2,6 +2,7 @@
 // one of the faults that such a phaser comes to.
 #pragma once
 
+#include <atomic>
 #include <cstdint>
 #include <memory>
 
@@ -30,6 +31,7 @@ enum class Fault {
   kWokenBeforeTheMark,
   kFreedWhileQueued,
   kPermitIsKept,
+  kLeftOnTheStack,
 };
 
 /// All its numbers are one word (docs/FORMATS.md, "Packed word"), which calls exchange by comparing. Who waits pushes a node
@@ -73,6 +75,7 @@ class Phaser {
   void advance(int phase, int parties);
   void end_phase(Word turned, bool terminates);
   void wait(int phase, bool interruptibly, const Time& time);
+  void leave(Node* node);
   void push(Node* node);
   void release_all();
   void release_one_by_one();
@@ -80,5 +83,6 @@ class Phaser {
 
   points::Atomic<Word> word_;
   points::Atomic<Node*> waiters_{nullptr};
+  std::atomic<int> left_{0};                 // how many nodes have stayed when their waiters left
   points::Atomic<Thread*> runner_{nullptr};  // the thread inside `on_advance`
 };

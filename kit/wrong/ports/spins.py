@@ -1,7 +1,7 @@
 #!/usr/bin/env python3
 """The port of kit/ports/python that spins in one place where it should wait, its word: a wait that ignores interrupts, once it is
-`interrupted`; a registration that is `held`; or a call at a barrier while another thread runs the `action`. With a second word
-it looks every so many seconds."""
+`interrupted`; a registration that is `held`; or a call at a barrier while another thread runs the `action`, or only that of
+`comers` that were interrupted before. With a second word it looks every so many seconds."""
 
 import sys
 import threading
@@ -12,7 +12,8 @@ sys.path.insert(0, str(Path(__file__).resolve().parents[2] / "ports" / "python")
 import port  # noqa: E402
 from threads import current  # noqa: E402
 
-PLACE = {"interrupted": "await_advance", "held": "bulk_register", "action": "_let_in"}[sys.argv[1]]
+PLACE = {"interrupted": "await_advance", "held": "bulk_register", "action": "_let_in", "comers": "_let_in"}[sys.argv[1]]
+IF_INTERRUPTED = sys.argv[1] in ("interrupted", "comers")
 PAUSE = float((sys.argv[2:] + ["0"])[0])
 right_wait = threading.Condition.wait
 
@@ -21,8 +22,8 @@ def wait(condition, seconds=None):
     """Who calls it tells the place. A wait that an interrupt ends is begun again, and ends at once."""
     if sys._getframe(1).f_code.co_name != PLACE:
         right_wait(condition, seconds)
-    elif PLACE == "await_advance" and not current().interrupted:
-        current().wait_interruptibly(condition, seconds)
+    elif IF_INTERRUPTED and not current().interrupted:
+        current().wait_interruptibly(condition, seconds) if PLACE == "await_advance" else right_wait(condition, seconds)
     else:
         right_wait(condition, PAUSE)
 

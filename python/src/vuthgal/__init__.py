@@ -20,6 +20,7 @@ from ._calls import (
     expect,
     explain,
     list,
+    mistake,
     page,
     plan,
     run,
@@ -44,7 +45,7 @@ from ._errors import (
 from ._library import free_rooms
 from ._playground import Playground, playground
 from ._session import Session
-from ._shown import Drawing, Outcome, Page, Schedule
+from ._shown import Drawing, Mistake, Outcome, Page, Schedule
 from ._trace import Barrier, Cells, Line, Phaser, State, Thread, Trace, What
 
 __all__ = [
@@ -56,6 +57,7 @@ __all__ = [
     "Error",
     "Line",
     "Malformed",
+    "Mistake",
     "NoHistory",
     "NoLibrary",
     "NoLine",
@@ -85,6 +87,7 @@ __all__ = [
     "explain",
     "free_rooms",
     "list",
+    "mistake",
     "page",
     "plan",
     "playground",

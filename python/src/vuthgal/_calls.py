@@ -1,12 +1,18 @@
 """The functions."""
 import builtins
 import os
+import re
 from typing import Optional, Union
 
 from ._errors import Differs, Malformed, NoLine, NotATrace, OutOfMemory, Refused, TooLong
-from ._library import called, expects, version_text
-from ._shown import Drawing, Outcome, Page, Schedule
+from ._library import called, expects, mistaken, version_text
+from ._page import app_text, with_texts
+from ._shown import INPUTS, Drawing, Mistake, Outcome, Page, Schedule
 from ._trace import State, Trace
+
+#: What a page can hold.
+MOST_CHOICES = 1_000_000
+MOST_TRACE = 16_777_216
 
 #: A text; bytes; or the path of a file that holds them.
 Text = Union[str, bytes, bytearray, memoryview, "os.PathLike[str]"]
@@ -114,9 +120,18 @@ def seeds(program: Text, plan: Text = "", first: int = 0, count: int = 100, limi
     return [Outcome.parse(line) for line in output.decode("ascii").split("\n")[:-1]]
 
 
-def page(program: Text, schedule: Text, height: int = 600) -> Page:
-    """The page that shows a run."""
-    return Page(_two("show", _program(program), _bytes(schedule)), height)
+def page(program: Text, schedule: Text, height: int = 720) -> Page:
+    """The page that shows a run: the app with its program, its schedule and its trace. It raises `TooLong` where a page would hold more
+    choices than 1,000,000, or a longer trace than 16,777,216 bytes."""
+    source, tokens = _program(program), _bytes(schedule)
+    if sum(int(count or 1) for count in re.findall(rb"[tx]\d+(?:\*(\d{1,10}))?", tokens)) > MOST_CHOICES:
+        raise TooLong(f"a page has at most {MOST_CHOICES} choices")
+    trace = bytes(run(source, tokens))
+    if len(trace) > MOST_TRACE:
+        raise TooLong(f"the trace of a page has at most {MOST_TRACE} bytes")
+    text = "" if source.startswith(b"PBW") else source.decode("ascii")
+    page = with_texts(app_text(), listing=list(source), source=text, schedule=choices(trace), trace=trace.decode("ascii"))
+    return Page(page, height)
 
 
 def draw(program: Text, schedule: Text, width: int = 80) -> Drawing:
@@ -142,8 +157,25 @@ def explain(words: str = "") -> str:
     return _told(status, output, line).decode("utf-8")
 
 
+def mistake(program: Text, plan: Optional[Text] = None, schedule: Optional[Text] = None) -> Optional[Mistake]:
+    """Where a program is refused, or a plan or a schedule of it, and what helps, as the program shows it at a terminal. None if nothing is
+    wrong. Without a plan and a schedule, a text with a line `.run` has its schedule behind that."""
+    text = _program(program)
+    if plan is not None:
+        kind, steps = 1, _bytes(plan)
+    elif schedule is not None:
+        kind, steps = 2, _bytes(schedule)
+    else:
+        kind, steps = 3 if re.search(rb"^\.run\s*$", text, re.M) else 0, b""
+    status, hint, line, place = mistaken(text, kind, steps)
+    if status != 3:
+        _told(status, b"", line)
+        return None
+    return Mistake(line.decode("ascii").rstrip("\n"), INPUTS[place[3]], place[0] or None, place[1] or None, place[2], hint.decode("ascii").rstrip("\n"))
+
+
 def version() -> str:
-    """The version of the library, the kit that proved it, and the sum of its sources, a line each."""
+    """The version of the library, and the sum of its sources, a line each."""
     return version_text()
 
 

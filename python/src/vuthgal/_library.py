@@ -55,10 +55,10 @@ _calls = {
     "choices": _declared("choices", 1),
     "plan": _declared("plan", 2, (ctypes.c_uint32, ctypes.c_uint8)),
     "seeds": _declared("seeds", 2, (ctypes.c_uint32, ctypes.c_uint32, ctypes.c_uint32, ctypes.c_uint8)),
-    "show": _declared("show", 2),
     "draw": _declared("draw", 2, (ctypes.c_uint16,)),
     "debug": _declared("debug", 2),
     "explain": _declared("explain", 1),
+    "mistake": _call("mistake", _in + [ctypes.c_uint8] + _in + [ctypes.c_void_p] + _out * 2),
 }
 
 
@@ -82,6 +82,7 @@ _look = _call("session_look", _handle + [_at] + [_at, _size] * 4)
 _stack = _call("session_stack", _handle + [_byte, _at, _size, _at])
 _outputs = _call("session_outputs", _handle + [_byte, _at, _size, _at])
 _copy = _call("session_copy", _handle * 2)
+_go_to = _call("session_go_to", _handle + _in + [ctypes.c_uint64])
 _other = _call("session_other", _handle + [_byte, _byte, ctypes.c_uint32] + _in + _out)
 _expect = _call("expect", _in * 2)
 _version = _call("version", _out, None)
@@ -163,6 +164,14 @@ def fitted(name: str, *words: object, room: int, line_room: int) -> Tuple[int, b
     return status, output.raw, count.value, line.raw, line_count.value
 
 
+def mistaken(program: bytes, kind: int, text: bytes) -> Tuple[int, bytes, bytes, Tuple[int, ...]]:
+    """The status of a program, or of a plan or a schedule for it; what helps; the line; and the place: its line, column, length and
+    input."""
+    place = ctypes.create_string_buffer(_PLACE.size)
+    told = called("mistake", program, len(program), kind, text, len(text), ctypes.addressof(place))
+    return (*told, _PLACE.unpack(place))
+
+
 def version_text() -> str:
     count = _size()
     output = ctypes.create_string_buffer(512)
@@ -176,7 +185,8 @@ def expects(state: bytes, expectation: bytes) -> int:
     return status
 
 
-# the structs of the header, as bytes: an event, a state, a thread, a phaser, a barrier, an entry of a stack
+# the structs of the header, as bytes: a place, an event, a state, a thread, a phaser, a barrier, an entry of a stack
+_PLACE = struct.Struct("<QQQB7x")
 _EVENT = struct.Struct("<QiiHHBB2x")
 _STATE = struct.Struct("<QIBBBB")
 _THREAD = struct.Struct("<9i3H3B3x")
@@ -258,6 +268,11 @@ class Held:
     def back(self) -> int:
         """The status: 1 where nothing is kept that could be taken back."""
         status: int = _back(self._at)
+        return status
+
+    def go_to(self, played: bytes, number: int) -> int:
+        """The status: 1 where fewer choices were played."""
+        status: int = _go_to(self._at, played, len(played), number)
         return status
 
     def enabled(self) -> Tuple[int, int, int]:

@@ -1,32 +1,16 @@
-"""The app, vuthgal.html, with a program in it: for a notebook, or as a file that a browser opens. No server runs, and the library isn't
-called: the app plays the program itself."""
+"""The app with a program in it: for a notebook, or as a file that a browser opens. No server runs, and the library isn't called: the app
+plays the program itself."""
 import argparse
 import html
-import json
 import re
 import tempfile
 import webbrowser
 from pathlib import Path
 from typing import Dict, List, Optional, Sequence, Union
 
-HERE = Path(__file__).resolve().parent
-# beside the package, or in the clone to which it belongs
-PLACES = (HERE / "vuthgal.html", HERE.parents[2] / "vuthgal.html")
+from ._page import app_text, with_programs, with_texts
+
 MOST = 4_000_000
-
-
-def _app() -> str:
-    for path in PLACES:
-        if path.is_file():
-            return path.read_text(encoding="utf-8")
-    raise FileNotFoundError("vuthgal.html isn't here: bin/made app makes it")
-
-
-def _filled(page: str, name: str, value: object) -> str:
-    """The page with a value in its place of this name, as data that no browser runs."""
-    text = json.dumps(value).replace("<", "\\u003c").replace(">", "\\u003e").replace("&", "\\u0026")
-    place = re.compile(f'(<script type="application/json" id="{name}">)[^<]*(</script>)')
-    return place.sub(lambda found: found[1] + text + found[2], page, count=1)
 
 
 def _read(path: Path) -> Dict[str, str]:
@@ -70,15 +54,15 @@ class Playground:
 
 def playground(program: Union[str, Path, None] = None, plan: Optional[str] = None, *, height: int = 720) -> Playground:
     """The app with a program in it, or with the examples alone. A path names a file, or a folder whose programs are in the menu."""
-    page = _app()
+    page = app_text()
     if isinstance(program, Path) and program.is_dir():
         items = [{"group": program.name, **_read(path)} for path in sorted(program.rglob("*.asm"))]
         if not items:
             raise FileNotFoundError(f"{program} has no program: a file whose name ends with .asm")
-        return Playground(_filled(page, "programs", items), height)
+        return Playground(with_programs(page, items), height)
     if program is not None:
-        read = _read(program) if isinstance(program, Path) else {"name": "program", "title": "", "program": program, "plan": ".."}
-        page = _filled(page, "run", {**read, "plan": plan or read["plan"]})
+        read = _read(program) if isinstance(program, Path) else {"program": program, "plan": ".."}
+        page = with_texts(page, source=read["program"], schedule=plan or read["plan"])
     return Playground(page, height)
 
 

@@ -170,6 +170,23 @@ class Session:
                 if held.back():
                     raise NoHistory("no choice is kept that could be taken back")
 
+    def go_to(self, played: str, number: int) -> None:
+        """Goes to the state after the first `number` choices of `played`, the schedule of what was played from the beginning on. They are
+        played anew, so they may be more than 4,096 back. Where it raises, nothing changes."""
+        if not 0 <= number < 1 << 64:
+            raise Malformed(f"no number of choices: {number}")
+        with self._used as held:
+            status = held.go_to(played.encode("utf-8"), number)
+        if status == 1:
+            raise Malformed(f"fewer than {number} choices were played")
+        if status == 3:
+            raise Malformed("no schedule")
+        if status == 7:
+            raise NoThread("the schedule has a thread that isn't there")
+        if status == 8:
+            raise StepLimit("the session has done all its steps")
+        _told(status, b"", b"")
+
     def enabled(self) -> "tuple[str, ...]":
         """The choices that would do something now, as a schedule has them: `t0`, or `x0` where a timed wait can expire."""
         with self._used as held:

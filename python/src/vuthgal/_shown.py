@@ -1,6 +1,9 @@
 """What a notebook shows."""
 import os
-from typing import Dict, NamedTuple, Union
+from typing import Dict, NamedTuple, Optional, Union
+
+#: The inputs that can be refused, by their numbers in the library.
+INPUTS = ("program", "plan", "schedule")
 
 
 class Schedule(str):
@@ -28,12 +31,29 @@ class Outcome(NamedTuple):
         return Outcome(int(times), word, seed, schedule.rstrip(" "))
 
 
+class Mistake(NamedTuple):
+    """Where an input is refused, and what helps."""
+
+    #: the line of the refusal, as the program writes it
+    told: str
+    #: which input it is in: program, plan or schedule
+    input: str
+    #: the line of that input, from 1; None where no line is to blame
+    line: Optional[int]
+    #: the first byte of the wrong word, from 1; None where the whole line is meant
+    column: Optional[int]
+    #: how many bytes the word has
+    length: int
+    #: `near: ..` or `help: ..`; empty where nothing is known to help
+    hint: str
+
+
 class Page:
     """A page that shows a run. A notebook shows it in a frame of its own."""
 
-    def __init__(self, text: bytes, height: int) -> None:
+    def __init__(self, text: str, height: int) -> None:
         #: the page
-        self.html: str = text.decode("utf-8")
+        self.html: str = text
         #: how many pixels high the frame is
         self.height: int = height
 
@@ -46,7 +66,7 @@ class Page:
         import html
 
         return (
-            f'<iframe srcdoc="{html.escape(self.html, quote=True)}" sandbox="allow-scripts" '
+            f'<iframe srcdoc="{html.escape(self.html, quote=True)}" sandbox="allow-scripts allow-modals allow-downloads" '
             f'style="width: 100%; height: {self.height}px; border: 0"></iframe>'
         )
 

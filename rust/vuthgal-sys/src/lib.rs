@@ -17,6 +17,10 @@ pub const VUTHGAL_MOST_COMMANDS: usize = 1000000000;
 pub const VUTHGAL_KEPT: usize = 4096;
 pub const VUTHGAL_LINE: usize = 96;
 pub const VUTHGAL_REPLY: usize = 192;
+pub const VUTHGAL_PROGRAM: u8 = 0;
+pub const VUTHGAL_PLAN: u8 = 1;
+pub const VUTHGAL_SCHEDULE: u8 = 2;
+pub const VUTHGAL_TEXT: u8 = 3;
 pub const VUTHGAL_LIVE: u8 = 0;
 pub const VUTHGAL_STUCK: u8 = 1;
 pub const VUTHGAL_ALL: u8 = 2;
@@ -73,7 +77,6 @@ calls! {
     vuthgal_choices(trace, trace_length);
     vuthgal_plan(program, program_length, plan, plan_length; most: u32, names: u8);
     vuthgal_seeds(program, program_length, plan, plan_length; first: u32, count: u32, limit: u32, names: u8);
-    vuthgal_show(program, program_length, schedule, schedule_length);
     vuthgal_draw(program, program_length, schedule, schedule_length; width: u16);
     vuthgal_debug(program, program_length, commands, commands_length);
     vuthgal_explain(words, words_length);
@@ -101,6 +104,8 @@ macro_rules! structs {
 }
 
 structs! {
+    /// A part of a line of an input.
+    vuthgal_place { line: u64, column: u64, length: u64, input: u8 }
     /// A state.
     vuthgal_state { choices: u64, steps: u32, threads: u8, phasers: u8, barriers: u8, standing: u8 }
     /// A thread.
@@ -125,6 +130,20 @@ structs! {
 }
 
 extern "C" {
+    pub fn vuthgal_mistake(
+        program: *const u8,
+        program_length: usize,
+        kind: u8,
+        input: *const u8,
+        input_length: usize,
+        place: *mut vuthgal_place,
+        output: *mut u8,
+        output_room: usize,
+        output_length: *mut usize,
+        line: *mut u8,
+        line_room: usize,
+        line_length: *mut usize,
+    ) -> u8;
     pub fn vuthgal_session_open(
         session: *mut vuthgal_session,
         program: *const u8,
@@ -144,6 +163,7 @@ extern "C" {
     pub fn vuthgal_session_reply(session: *mut vuthgal_session, output: *mut u8, output_room: usize, output_length: *mut usize) -> u8;
     pub fn vuthgal_session_step(session: *mut vuthgal_session, thread: u8, expiry: u8, event: *mut vuthgal_event) -> u8;
     pub fn vuthgal_session_back(session: *mut vuthgal_session) -> u8;
+    pub fn vuthgal_session_go_to(session: *mut vuthgal_session, played: *const u8, played_length: usize, number: u64) -> u8;
     pub fn vuthgal_session_enabled(session: *mut vuthgal_session, turns: *mut u64, expiries: *mut u64) -> u8;
     pub fn vuthgal_session_look(
         session: *mut vuthgal_session,

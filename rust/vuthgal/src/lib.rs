@@ -26,7 +26,7 @@ pub use session::{Fingerprint, Gone, Place, Session};
 pub use state::{Barrier, Entry, Phaser, State, Status, Thread, Word};
 pub use trace::{Malformed, Trace};
 
-use std::cell::RefCell;
+use std::cell::{Cell, RefCell};
 use vuthgal_sys as sys;
 
 /// The program of README.md is compiled and run, too.
@@ -196,9 +196,83 @@ pub fn expect(state: &State, expectation: &str) -> Result<bool, Fault> {
     }
 }
 
-/// The page that shows a run, for a browser.
-pub fn page(program: &[u8], schedule: &[u8]) -> Result<String, Fault> {
-    Ok(text(call!(vuthgal_show, program, schedule)?.1))
+/// What is looked at for a mistake.
+#[derive(Clone, Copy, Debug, PartialEq, Eq)]
+pub enum Input<'a> {
+    /// The program alone.
+    Program,
+    /// A plan for it.
+    Plan(&'a [u8]),
+    /// A schedule for it.
+    Schedule(&'a [u8]),
+    /// The program's text with its schedule behind its line `.run`.
+    Text,
+}
+
+/// Where an input is refused, and what helps.
+#[derive(Clone, Debug, PartialEq, Eq)]
+pub struct Mistake {
+    /// The line of the refusal, as the program writes it.
+    pub told: String,
+    /// The line of the input, from 1; 0 where no line is to blame.
+    pub line: u64,
+    /// The first byte of the wrong word, from 1; 0 where the whole line is meant.
+    pub column: u64,
+    /// How many bytes the word has.
+    pub length: u64,
+    /// Whether that is in the plan or the schedule, and not in the program.
+    pub is_in_steps: bool,
+    /// `near: ..` or `help: ..`; empty where nothing is known to help.
+    pub hint: String,
+}
+
+/// Where a program is refused, or a plan or a schedule of it, and what helps, as a terminal shows it. None where nothing is wrong.
+pub fn mistake(program: &[u8], input: Input<'_>) -> Result<Option<Mistake>, Fault> {
+    let (kind, steps): (u8, &[u8]) = match input {
+        Input::Program => (sys::VUTHGAL_PROGRAM, b""),
+        Input::Plan(plan) => (sys::VUTHGAL_PLAN, plan),
+        Input::Schedule(schedule) => (sys::VUTHGAL_SCHEDULE, schedule),
+        Input::Text => (sys::VUTHGAL_TEXT, b""),
+    };
+    let place = Cell::new(sys::vuthgal_place::default());
+    let (status, hint, line) = called(&|output, room, length, told, told_room, told_length| unsafe {
+        let (program, size) = (program.as_ptr(), program.len());
+        let (steps, count) = (steps.as_ptr(), steps.len());
+        sys::vuthgal_mistake(program, size, kind, steps, count, place.as_ptr(), output, room, length, told, told_room, told_length)
+    });
+    if status != sys::VUTHGAL_REFUSED {
+        return answer((status, hint, line)).map(|_| None);
+    }
+    let place = place.get();
+    Ok(Some(Mistake {
+        told: text(line).trim_end().to_owned(),
+        line: place.line,
+        column: place.column,
+        length: place.length,
+        is_in_steps: place.input != sys::VUTHGAL_PROGRAM,
+        hint: text(hint).trim_end().to_owned(),
+    }))
+}
+
+/// The page that shows a run: `app`, the text of `vuthgal.html`, with the program, its schedule and its trace in it. The machine in the
+/// page plays it again.
+pub fn page(program: &[u8], schedule: &[u8], app: &str) -> Result<String, Fault> {
+    let trace = run(program, schedule)?;
+    let source = if program.starts_with(b"PBW1") || program.starts_with(b"PBW2") { Vec::new() } else { program.to_vec() };
+    let texts = [
+        ("listing", list(program)?),
+        ("source", text(source)),
+        ("schedule", choices(trace.as_bytes())?.schedule + "\n"),
+        ("trace", trace),
+    ];
+    Ok(texts.iter().fold(app.to_owned(), |page, (name, it)| put(&page, name, it)))
+}
+
+/// The page with a text in the element of this name.
+fn put(page: &str, name: &str, it: &str) -> String {
+    let escaped = it.replace('&', "&amp;").replace('<', "&lt;").replace('>', "&gt;").replace('\r', "&#13;");
+    let begin = format!("<pre id=\"{name}\">");
+    page.replacen(&format!("{begin}</pre>"), &format!("{begin}\n{escaped}</pre>"), 1)
 }
 
 /// A run drawn as text, in lines of at most `width` bytes. What has no room is cut: below 60 little is left to read.
@@ -226,7 +300,7 @@ fn explained(told: (u8, Vec<u8>, Vec<u8>)) -> Result<Option<String>, Fault> {
     Ok(Some(text(answer(told)?.1)))
 }
 
-/// The version of the library, the kit that proved it, and the sum of its sources, a line each.
+/// The version of the library, and the sum of its sources, a line each.
 pub fn version() -> String {
     let mut output = [0; 512];
     let mut length = 0;

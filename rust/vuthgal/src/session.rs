@@ -185,6 +185,16 @@ impl Session {
         }
     }
 
+    /// Goes to the state after the first `number` choices of `played`, the schedule of what was played from the beginning on. They are
+    /// played anew, so they may be more than 4,096 back. With a fault nothing changes: `Malformed` where it is no schedule, or has fewer.
+    pub fn go_to(&mut self, played: &str, number: u64) -> Result<(), Fault> {
+        match unsafe { sys::vuthgal_session_go_to(self.at(), played.as_ptr(), played.len(), number) } {
+            sys::VUTHGAL_UNLIKE | sys::VUTHGAL_REFUSED => Err(Fault::Malformed { text: played.to_owned() }),
+            sys::VUTHGAL_NO_THREAD => Err(Fault::NoThread { thread: played.to_owned() }),
+            status => answer((status, Vec::new(), Vec::new())).map(drop),
+        }
+    }
+
     /// The choices that would do something now. Every other one would be idle.
     pub fn enabled(&self) -> Enabled {
         let mut enabled = Enabled { turns: 0, expiries: 0 };

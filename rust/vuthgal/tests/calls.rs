@@ -1,6 +1,6 @@
 //! Each call once, on a program of two threads that meet; the expected texts are those of examples/ and docs/TRACES.md.
 use std::collections::HashSet;
-use vuthgal::{Choice, Entry, Fault, Gone, Line, Mark, Place, Session, State, Trace, Verdict, What, Word, Written};
+use vuthgal::{Choice, Entry, Fault, Gone, Input, Line, Mark, Place, Session, State, Trace, Verdict, What, Word, Written};
 
 const PROGRAM: &[u8] = include_bytes!("../../../examples/meeting.asm");
 const SCHEDULE: &[u8] = include_bytes!("../../../examples/meeting.schedule");
@@ -30,7 +30,8 @@ fn plans_and_names() {
 
 #[test]
 fn shows() {
-    assert!(vuthgal::page(PROGRAM, SCHEDULE).unwrap().starts_with("<!"));
+    let page = vuthgal::page(PROGRAM, SCHEDULE, "<pre id=\"trace\"></pre>").unwrap();
+    assert_eq!(page, format!("<pre id=\"trace\">\n{}</pre>", vuthgal::run(PROGRAM, SCHEDULE).unwrap()));
     assert!(vuthgal::draw(PROGRAM, SCHEDULE, 80).unwrap().starts_with("choice  a"));
     assert_eq!(vuthgal::debug(PROGRAM, b"k 1\ng t0 t1 t0 t0\nb\nq\n").unwrap(), "break 1\nat 2\nback 1\n");
     assert!(vuthgal::list(PROGRAM).unwrap().starts_with(".phaser p0 2\n"));
@@ -43,7 +44,7 @@ fn tells() {
     assert!(refused.to_string().contains("BadRegister"));
     assert!(vuthgal::explain("memory").unwrap().is_some());
     assert_eq!(vuthgal::explain("hm hm"), Ok(None));
-    assert_eq!(vuthgal::version().lines().count(), 3);
+    assert_eq!(vuthgal::version().lines().count(), 2);
 }
 
 #[test]
@@ -205,4 +206,24 @@ fn nothing_panics_at_a_threads_end() {
     })
     .join()
     .unwrap();
+}
+
+#[test]
+fn finds_mistakes() {
+    assert_eq!(vuthgal::mistake(PROGRAM, Input::Program), Ok(None));
+    let found = vuthgal::mistake(b"ldi r8 1\n", Input::Program).unwrap().unwrap();
+    assert_eq!((found.told.as_str(), found.line, found.column, found.length, found.is_in_steps), ("refused asm 1 5", 1, 5, 2, false));
+    assert_eq!(found.hint, "help: the registers are r0 to r7: a small r and one digit");
+    let found = vuthgal::mistake(PROGRAM, Input::Schedule(b"t0\nt1;")).unwrap().unwrap();
+    assert_eq!((found.told.as_str(), found.line, found.column, found.is_in_steps), ("refused schedule 0 5", 2, 3, true));
+}
+
+#[test]
+fn goes_to_any_choice() {
+    let mut session = vuthgal::Session::open(PROGRAM).unwrap();
+    assert_eq!(session.go_to("t0 t1 t0", 2), Ok(()));
+    assert_eq!(session.state().unwrap().choices, 2);
+    assert_eq!(session.go_to("t0", 2), Err(Fault::Malformed { text: "t0".into() }));
+    assert_eq!(session.go_to("t9", 1), Err(Fault::NoThread { thread: "t9".into() }));
+    assert_eq!(session.state().unwrap().choices, 2);
 }

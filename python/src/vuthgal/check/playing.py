@@ -9,7 +9,7 @@ from typing import Dict, List, NamedTuple, Optional, Tuple
 
 from .. import _calls as vuthgal
 from .._errors import Differs, Error, NotATrace, OutOfMemory, Refused, TooLong
-from . import expected, mistake
+from . import expected
 from .ends import Ends
 from .kept import Found, Kept, reason
 
@@ -167,12 +167,8 @@ class _Look:
             raise Ends(f"it has {count} choices, and may have {self.most}", 1, self.of, help="fewer choices, or --choices N")
 
     def _stopped(self) -> Ends:
-        line = f"stopped at {self.most} choices"
-        its = mistake.told(line, self._path("plan"), "plan", *map(str, (self.kept.program, self._path("plan"))))
         helps = "a count in place of the dot, or behind `..`, `?7` or `)`, as in `ann*50` and `..*50`"
-        if its:
-            return Ends(line, 1, "plan", its.line, *its.more, column=its.column, what=its.what)
-        return Ends(line, 1, "plan", 1, what="the plan needs more choices", help=helps)
+        return Ends(f"stopped at {self.most} choices", 1, "plan", 1, what="the plan needs more choices", help=helps)
 
     def _path(self, ending: str) -> Path:
         return self.kept.folder / f"{self.kept.name}.{ending}"
@@ -184,17 +180,14 @@ class _Look:
         if not isinstance(error, Refused):
             return Ends("memory" if isinstance(error, OutOfMemory) else str(error), 4, self.its)
         ending = self.its if error.group in ("asm", "load", "image") else self.of
-        path, text = self._path(ending), self.texts.get(ending, self.text)
-        files = [self.kept.program] + ([self._path(self.of)] if self.of != self.its else [])
-        its = mistake.told(error.told, path, "plan" if self.of == "plan" else "run", *map(str, files))
-        if its:
-            return Ends(error.told, 3, ending, its.line, *its.more, column=its.column, what=its.what)
+        text = self.texts.get(ending, self.text)
         meant = dict(re.findall(r"^  (Means|Helps): +(.*)", error.meaning, re.M))
-        line, column = _at(text, self.base + int(error.place[0])) if error.group == "schedule" else (error.line, None)
-        wrong = expected.strange(text)
-        shown = _marked(text, line, column) if line else []
-        helps = f"the file has {wrong}" if wrong else meant.get("Helps")
-        return Ends(error.told, 3, ending, line, *shown, column=column, what=meant.get("Means", ""), help=helps)
+        steps = {self.of: self.texts[self.of]} if self.of in ("plan", "schedule") else {}
+        found = vuthgal.mistake(self.text, **steps)
+        line, column, length = (found.line, found.column, found.length) if found else (None, None, 1)
+        shown = _marked(text, line, column, length) if line else []
+        helps = found.hint if found and found.hint else f"help: {meant.get('Helps')}"
+        return Ends(error.told, 3, ending, line, *shown, helps, column=column, what=meant.get("Means", ""))
 
     def _see(self) -> str:
         """The command that shows the run."""

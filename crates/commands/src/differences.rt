@@ -1,0 +1,134 @@
+//! In what the states differ in which several runs ended. Most of them have one word, as `all`; a person is told what is behind it.
+
+use crate::outcomes::{Outcome, Outcomes};
+use byte_ports::{Failed, Sink};
+use itoa::Buffer;
+use line_reader::words::length_before;
+
+/// How many states are told apart at most.
+const MOST: usize = 10;
+
+/// The word of this number, from 0, of a line.
+fn word(line: &[u8], number: usize) -> &[u8] {
+    line.split(|byte| *byte == b' ').nth(number).unwrap_or(&[])
+}
+
+/// What a thread's line says of its output, with the word `out`.
+fn output_of(line: &[u8]) -> &[u8] {
+    match line.windows(4).position(|bytes| bytes == b" out".as_slice()) {
+        Some(at) => line.get(at.saturating_add(1)..).unwrap_or(&[]),
+        None => &[],
+    }
+}
+
+/// The line of a state that begins with this word, as `t0`.
+fn line_of<'a>(state: &'a [u8], subject: &[u8]) -> Option<&'a [u8]> {
+    state
+        .split(|byte| *byte == b'\n')
+        .find(|line| word(*line, 0) == subject)
+}
+
+/// The name of the thread that a line is about, or its first word if it is about none.
+fn name_of<'a>(names: &[&'a [u8]], line: &'a [u8]) -> &'a [u8] {
+    let subject = &line[..length_before(b' ', line)];
+    match subject {
+        [b't', digits @ ..] => {
+            let number = str::from_utf8(digits).unwrap_or("").parse::<usize>();
+            names.get(number.unwrap_or(usize::MAX)).copied().unwrap_or(subject)
+        }
+        _ => subject,
+    }
+}
+
+/// Writes how the line of a thread differs from its other one: in its status, its output, its row or its registers.
+fn push_thread<E: Sink>(errors: &mut E, line: &[u8], first: &[u8]) -> Result<(), Failed> {
+    let output = output_of(line);
+    let is_other_status = word(line, 2) != word(first, 2);
+    let is_other_output = output != output_of(first);
+    if is_other_status {
+        errors.push(b" ")?;
+        errors.push(word(line, 2))?;
+    }
+    if is_other_output {
+        errors.push(if is_other_status { b", " } else { b" ".as_slice() })?;
+        errors.push(if output == b"out".as_slice() { b"out nothing" } else { output })?;
+    }
+    if !is_other_status && !is_other_output {
+        errors.push(if word(line, 1) == word(first, 1) { b" other registers" } else { b" another row".as_slice() })?;
+    }
+    Ok(())
+}
+
+/// Writes how a line differs from the other one that is about the same. There is none if the other state has this cell at 0.
+fn push_line<E: Sink>(
+    errors: &mut E,
+    names: &[&[u8]],
+    line: &[u8],
+    first: Option<&[u8]>,
+) -> Result<(), Failed> {
+    errors.push(name_of(names, line))?;
+    match first {
+        Some(first) if line.starts_with(b"t") => push_thread(errors, line, first),
+        _ => errors.push(line.get(length_before(b' ', line)..).unwrap_or(&[])),
+    }
+}
+
+/// Writes how a state differs from another one.
+fn push_state<E: Sink>(
+    errors: &mut E,
+    names: &[&[u8]],
+    state: &[u8],
+    first: &[u8],
+) -> Result<(), Failed> {
+    let mut before: &[u8] = b": ";
+    for line in state.split(|byte| *byte == b'\n').skip(1) {
+        let subject = word(line, 0);
+        let other = line_of(first, subject);
+        if !line.is_empty() && other != Some(line) {
+            errors.push(before)?;
+            push_line(errors, names, line, other)?;
+            before = b"; ";
+        }
+    }
+    for line in first.split(|byte| *byte == b'\n').skip(1) {
+        let subject = word(line, 0);
+        if line_of(state, subject).is_none() {
+            errors.push(before)?;
+            errors.push(subject)?;
+            errors.push(b" 0")?;
+            before = b"; ";
+        }
+    }
+    errors.push(b"\n")
+}
+
+/// Writes the seed of an outcome as a plan has it, or the number of its line if it has none.
+fn push_seed<E: Sink>(errors: &mut E, outcome: &Outcome, place: usize) -> Result<(), Failed> {
+    match outcome.seed {
+        Some(seed) => {
+            errors.push(b"?")?;
+            errors.push(Buffer::new().format(seed).as_bytes())
+        }
+        None => {
+            errors.push(b"line ")?;
+            errors.push(Buffer::new().format(place.saturating_add(1)).as_bytes())
+        }
+    }
+}
+
+/// Writes a line for each of the first ten states: in what it differs from the first one, with the threads' names, as
+/// `?25: ann out 3; bob waits`. The line of the first says in what it differs from the second. A single state has no line.
+pub fn push_differences<E: Sink>(
+    names: &[&[u8]],
+    outcomes: &Outcomes,
+    errors: &mut E,
+) -> Result<(), Failed> {
+    for place in 0..outcomes.len().min(MOST) {
+        let other = outcomes.get_index(if place == 0 { 1 } else { 0 });
+        if let (Some((state, outcome)), Some((other, _))) = (outcomes.get_index(place), other) {
+            push_seed(errors, outcome, place)?;
+            push_state(errors, names, state.text.as_slice(), other.text.as_slice())?;
+        }
+    }
+    Ok(())
+}
