@@ -17,7 +17,8 @@ export function differenceOf(there, here) {
   const lineOf = text => (start > from ? "\u2026" : "") + text.slice(start, start + LINE).split("\n", 1)[0];
   return { number, there: lineOf(there), here: lineOf(here) };
 }
-// page: its texts. listing, trace: the machine's. { what, number, there, here } of the first difference, else { what: "" }
+// page: its texts. listing, trace: the machine's. { what, number, there, here } of the first difference, and else
+// { what: "" }
 export function checkOf(page, listing, trace) {
   const isOther = page.source && differenceOf(page.listing, listing);
   if (isOther) return { what: "listing", ...isOther };

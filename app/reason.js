@@ -119,6 +119,8 @@ export function lastNumberOf(tree, run, i, t) {
 
 const namesOf = list => spread(list.map(one => ({ thread: one.thread })));
 
+const COUNTED = "A phaser counts arrivals, and doesn\u2019t ask who arrives. ";
+
 // What a phaser knows of who arrived: a sentence of parts. It counts arrivals; if one was surplus, nobody can know
 // which.
 export function arrivalsText(tree, run, i, p) {
@@ -140,11 +142,9 @@ export function arrivalsText(tree, run, i, p) {
   );
   if (ended[p].length) said.push("In the phase before it was ", ...namesOf(ended[p]), ". ");
   const stray = strayText(tree, run.id, i, p);
-  if (stray) said.push("A phaser counts arrivals, and doesn\u2019t ask who arrives. " + stray + " Nobody can know which.");
+  if (stray) said.push(COUNTED + stray + " Nobody can know which.");
   else if (arrived[p].length || ended[p].length) {
-    said.push(
-      "A phaser counts arrivals, and doesn\u2019t ask who arrives. If one of them was surplus, nobody can know which."
-    );
+    said.push(COUNTED + "If one of them was surplus, nobody can know which.");
   }
   return said;
 }

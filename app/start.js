@@ -19,9 +19,16 @@ function spawn() {
   return worker;
 }
 
+// the name of this file; a frame has none
+function nameOfPage() {
+  try {
+    return location.protocol === "about:" ? "run" : bareName(decodeURI(location.pathname));
+  } catch (_) {
+    return "run";
+  }
+}
 async function startPage() {
-  // a frame without an address of its own has no name
-  const run = runIn(document, location.protocol === "about:" ? "run" : bareName(decodeURI(location.pathname)));
+  const run = runIn(document, nameOfPage());
   const page = takePage();
   const menu = JSON.parse(byId("programs").textContent);
   const bytes = await unpacked(byId("machine").textContent);

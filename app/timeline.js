@@ -158,10 +158,12 @@ export function makeTimeline(go, select) {
       const doing = doingOf(moment, t);
       const name = threadName(program, t);
       const isSelected = Boolean(shown.selected) && shown.selected.thread === t;
+      // by its number a thread stands in traces and addresses
+      const number = program.names.T[t] ? " (t" + t + ") " : " ";
       const given = {
         type: "button",
         vars: { left: placeOf(t) + "px", width: size.column + "px" },
-        title: name + " " + DOING[doing] + ": why?",
+        title: name + number + DOING[doing] + ": why?",
         "aria-pressed": String(isSelected),
         "data-doing": doing,
         onclick: () => select(t)

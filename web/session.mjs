@@ -123,6 +123,7 @@ export class Session {
     );
     if (status === FEWER) throw new RangeError(`fewer than ${number} choices were played`);
     if (status === NOT_READ) throw new RangeError(`no schedule: ${played}`);
+    if (status === NO_THREAD) throw new RangeError(`there is no such thread: ${played}`);
     this.#check(status);
   }
 

@@ -15,6 +15,7 @@ import sys
 from marks import TOP
 
 APP = TOP / "app"
+MOST = 500_000
 STYLES = ("tokens", "frame", "card", "stage", "program", "timeline", "scene", "tables", "runs", "sheet", "small", "print")
 LESSONS = ("lost-meeting", "broken-barrier", "two-orders", "late-team")
 GROUPS = {"Lessons": "lessons", "Tutorial": "tutorial", "Examples": ".", "From Java": "java"}
@@ -111,4 +112,7 @@ def parts():
 
 
 def made():
-    return {TOP / "vuthgal.html": "".join(parts())}
+    text = "".join(parts())
+    if len(text.encode()) > MOST:
+        sys.exit(f"vuthgal.html would have {len(text.encode())} bytes, and at most {MOST} are allowed")
+    return {TOP / "vuthgal.html": text}

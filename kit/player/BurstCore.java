@@ -14,7 +14,7 @@ import java.util.Set;
 final class BurstCore {
     /** For one search of an order, and for all of them, in nanoseconds. */
     private static final long LONGEST_SEARCH = 1_000_000_000L;
-    private static final long LONGEST = 12_000_000_000L;
+    private static final long LONGEST = 6_000_000_000L;
     /** So many other answers are told. */
     private static final int MOST_REMEDIES = 4;
 

@@ -41,7 +41,8 @@ record BurstKind(String name, Consumer<BurstMaker> maker, String words) {
     /** For a symptom, a part of the names of the kinds that look for it. */
     private static final Map<String, Pattern> SYMPTOMS = new TreeMap<>(Map.of(
         "action", Pattern.compile("action|^trips$"),
-        "hang", Pattern.compile("meetings|^trips$|crowd|barg|alone$|alone-at|wait-against|two-who|at-an-empty|at-once|behind-an|looks-at-a-tree|levels"),
+        "hang", Pattern.compile("meetings|^trips$|crowd|barg|alone$|alone-at|wait-against|two-who|at-an-empty|at-once|behind-an"
+            + "|looks-at-a-tree|levels"),
         "interrupt", Pattern.compile("interrupt"),
         "reset", Pattern.compile("reset|broken|break|barging$|looks-at-a-barrier"),
         "time", Pattern.compile("time"),

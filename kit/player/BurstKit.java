@@ -19,7 +19,7 @@ final class BurstKit {
     private static final int SCENARIOS = 100;
     private static final int ROUNDS_ON_THE_JDK = 2_000;
     private static final int ROUNDS_ON_THE_RIGHT_ONE = 1_000;
-    private static final int ROUNDS_TO_FIND = 5_000;
+    private static final int ROUNDS_TO_FIND = 6_000;
     /** Calls of a long burst: more than the search for an order could try without a stack of its own. */
     private static final int LONG_ONE = 6_000;
     /** What hangs among so many is told in few lines. */

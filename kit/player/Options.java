@@ -32,7 +32,8 @@ final class Options {
           --random N         plays N scenarios of its own, with documented differences told over
           --burst ROUNDS     plays so many bursts: several calls at once on threads that run freely
           --for SECONDS      plays bursts for so long, and no more than ROUNDS where these are given; on a port first with
-                             the points 1 to 20, four at once, each kind for its share. Fewer than 60 of a kind are too few
+                             the points 1 to 20, four at once unless --jobs says it, each kind for its share; fewer than 60
+                             of a kind are too few
           --burst FILE       plays a burst that was kept until it fails, 20000 times at most
           --kind NAME[,NAME] plays bursts of these kinds alone; goes with no --round and no --burst FILE
           --like SYMPTOM     the same with the kinds for a symptom: action, hang, interrupt, reset, time, tree
@@ -81,7 +82,8 @@ final class Options {
     private boolean keepGoing;
     private int random;
     private long seed = 1;
-    private int jobs = 1;
+    /** 0 where nothing is said of it. */
+    private int jobs;
     private double patience = 1;
     private String burst;
     private long round = BurstOrder.EACH;
@@ -293,7 +295,7 @@ final class Options {
     /** A real side for each burst that is played at once. */
     List<Stage> stages() throws Wrong {
         List<Stage> stages = new ArrayList<>();
-        int most = jobs == 1 && givesPointsFirst() ? JOBS_WITH_POINTS : jobs;
+        int most = jobs == 0 && givesPointsFirst() ? JOBS_WITH_POINTS : Math.max(1, jobs);
         for (int job = 0; job < most; job++) {
             stages.add(stage());
         }
@@ -303,7 +305,7 @@ final class Options {
     /** A judge for each case that is played at once. */
     List<Judge> judges() throws Wrong {
         List<Judge> judges = new ArrayList<>();
-        for (int job = 0; job < jobs; job++) {
+        for (int job = 0; job < Math.max(1, jobs); job++) {
             Stage stage = stage();
             Patience[] tries = Patience.times(patience, stage.patience());
             judges.add(new Judge(stage, knownDifferences(), firstTry ? new Patience[] {tries[0]} : tries));

@@ -18,6 +18,10 @@ PAGE = ROOM / "vuthgal.html"
 HOSTILE = "<img src=x onerror=window.hurt=1><script>window.hurt=1</script>"
 
 
+# what stands before, between and behind the texts of a page
+PARTS = making.parts()
+
+
 def same(found, wanted, what=""):
     if found != wanted:
         raise AssertionError(f"{what}: {found!r:.300} in place of {wanted!r:.300}")
@@ -43,8 +47,9 @@ def escaped(text):
 
 def page_of(program, schedule, /, **others):
     """A page of a run: the app's parts, and between them its texts. Those in `others` are put in place of the run's own."""
-    texts = {"listing": told("list", program), "source": program, "schedule": schedule, "trace": played(program, schedule), **others}
-    *before, tail = making.parts()
+    texts = {"listing": told("list", program), "source": program, "schedule": schedule}
+    texts = {**texts, "trace": played(program, schedule), **others}
+    *before, tail = PARTS
     return "".join(part + escaped(text) for part, text in zip(before, texts.values())) + tail
 
 

@@ -514,7 +514,8 @@ await look("a page with a run is read as it was written", () => {
   assert.equal(runIn(documentOf(windows), "").source, "halt ;\n");
 });
 await look("a page without a trace holds a plan", () => {
-  const run = runIn(documentOf(pageWith(EMPTY, { listing: "", source: "halt\n", schedule: "a. ..", trace: "" })), "mine");
+  const texts = { listing: "", source: "halt\n", schedule: "a. ..", trace: "" };
+  const run = runIn(documentOf(pageWith(EMPTY, texts)), "mine");
   assert.deepEqual([itemOf(run).plan, itemOf(run).schedule], ["a. ..", undefined]);
 });
 await look("the first line is told in which two texts differ", () => {

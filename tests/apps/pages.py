@@ -46,6 +46,13 @@ def look_at_examples(page):
         same(page.run("document.querySelector('#texts') === null"), True, f"{name}: its texts are still drawn")
 
 
+def look_at_program(page):
+    """The program writes these pages, byte for byte"""
+    for name, program, schedule in examples():
+        tokens = told("choices", played(program, schedule)).strip()
+        same(told("show", program, tokens), page_of(program, tokens), name)
+
+
 def look_at_listings(page):
     """A page of an image, which has no text of its own, has the listing"""
     page.open(file=filed("image", page_of(LOST, LOST_PLAN, source="")))

@@ -246,6 +246,34 @@ function sessions() {
 }
 look("sessions in wrong hands", sessions());
 
+function going() {
+  const session = loaded.session(meeting);
+  session.goTo("t0 t1 t0", 2);
+  const wrong = [session.look().choices === 2 ? "" : "it isn't at choice 2"];
+  wrong.push(thrown(RangeError, () => session.goTo("t0", 2)), thrown(RangeError, () => session.goTo("zz", 0)));
+  wrong.push(thrown(RangeError, () => session.goTo("t9", 1)), session.look().choices === 2 ? "" : "what was refused changed it");
+  session.goTo("", 0);
+  wrong.push(session.look().choices === 0 ? "" : "it isn't at the beginning");
+  session.close();
+  return wrong;
+}
+look("a session at any choice", going());
+
+function mistakes() {
+  const wanted = [
+    [["ldi r8 1\n"], { told: "refused asm 1 5", input: "program", line: 1, column: 5, length: 2 }],
+    [[meeting, { plan: "aa." }], { told: "refused plan 1 2", input: "plan", line: 1, column: 1, length: 3, hint: "near: a." }],
+    [[meeting, { schedule: "t0\nt1;" }], { told: "refused schedule 0 5", input: "schedule", line: 2, column: 3, length: 1 }],
+  ];
+  const wrong = [loaded.mistake(meeting) ?? ""];
+  for (const [words, its] of wanted) {
+    const found = loaded.mistake(...words);
+    wrong.push(Object.entries(its).every(([key, value]) => found?.[key] === value) ? "" : JSON.stringify(found));
+  }
+  return wrong;
+}
+look("mistakes", mistakes());
+
 async function faults() {
   const wrong = [
     thrown(vuthgal.Refused, () => loaded.run("main: hlt", "")),

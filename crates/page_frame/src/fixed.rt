@@ -4,8 +4,8 @@
 #[rattlefmt::skip]
 pub const HEAD: &[u8] = b"\
 <!doctype html>\n<html lang=\"en\">\n<head>\n<meta charset=\"utf-8\">\n<meta name=\"viewport\" content=\"width=device-width, initial-scale=1\
-\">\n<meta http-equiv=\"Content-Security-Policy\" content=\"default-src 'none'; style-src 'sha256-+E8N6+N1yQPIFgQJiO8aWduuoL5/BOLc4bvdBsZYpG\
-s='; script-src 'sha256-6IHqFHHgWWQVW+K8Y3/W2Jl9XxWeLV0kwXn3xHp5sMk=' 'wasm-unsafe-eval'; worker-src blob:; base-uri 'none'; form-action 'no\
+\">\n<meta http-equiv=\"Content-Security-Policy\" content=\"default-src 'none'; style-src 'sha256-15DRPnoq2HABmhgLIPqcYtTxlfAWX7Jfg/GQmgY3fW\
+0='; script-src 'sha256-q36K7o5cg1jWQWSLmsX3ZEK5rSIsT/4AWQSZWfROTzo=' 'wasm-unsafe-eval'; worker-src blob:; base-uri 'none'; form-action 'no\
 ne'\">\n<meta name=\"generator\" content=\"vuthgal\">\n<title>Vuthgal</title>\n<style>:root {\n--zoom: 1;\n--paper: #f3f1ea;\n--pane: #fffef\
 b;\n--ink: #1d1b17;\n--soft: #5f5a4f;\n--line: #d9d4c7;\n--hover: #ece8dc;\n--now: #ffe27a;\n--now-ink: #1d1b17;\n--red: #b3201a;\n--red-sof\
 t: #fbe3df;\n--go: #1a7038;\n--go-soft: #ddf1e1;\n--later: #716b5f;\n--focus: #1747c4;\n--hue0: #1d4fc4;\n--hue1: #a0420a;\n--hue2: #7a2aa8;\
@@ -35,238 +35,239 @@ pick::after, #more::after { content: \" \\25BE\" / \"\"; color: var(--soft); }\n
 ius: 0.6rem; padding: 0.15rem; margin-left: 0.5rem; }\n#modes button { min-height: 1.9rem; padding: 0.1rem 0.8rem; }\n#modes [aria-pressed=\"\
 true\"] { background: var(--pane); font-weight: 650; box-shadow: 0 1px 2px #0003; }\n#again { color: var(--soft); }\n\n#check {\nflex: none;\
 \noverflow: hidden;\ntext-overflow: ellipsis;\nwhite-space: nowrap;\nfont-size: 0.82rem;\nline-height: 1.1rem;\ncolor: var(--soft);\n}\n#che\
-ck.is-wrong {\npadding: 0.4rem 0.7rem;\nborder-radius: 0.6rem;\nbackground: var(--red-soft);\ncolor: var(--ink);\nbox-shadow: inset 0.5rem 0 \
-var(--red);\nfont-size: 1rem;\nline-height: 1.4;\nwhite-space: normal;\noverflow-wrap: anywhere;\n}\n#check strong { color: var(--red); }\n\n\
-#texts { display: none; }\n@media (scripting: none) {\nbody { display: block; height: auto; overflow: auto; }\nbody > :not(#texts) { display\
-: none; }\n#texts { display: block; }\n#texts pre { font: 0.9rem var(--mono); }\n}\n\n#panes {\nflex: 1;\nmin-height: 0;\ndisplay: grid;\ngr\
-id-template-columns: minmax(17rem, 1fr) minmax(20rem, 1.1fr) minmax(20rem, 1.05fr);\ngap: 0.5rem;\n}\n.pane {\nmin-width: 0;\nmin-height: 0;\
-\nbackground: var(--pane);\nborder-radius: 0.7rem;\ndisplay: flex;\nflex-direction: column;\noverflow: hidden;\n}\n.scroll { overflow: auto; \
-scrollbar-width: thin; flex: 1; min-height: 0; }\n.is-refused #time, .is-refused #picture { opacity: 0.5; }\n.is-side #code { display: none; \
-}\n.is-side #panes { grid-template-columns: minmax(0, 2fr) minmax(20rem, 1fr); }\n.is-alone #code, .is-alone #picture, .is-alone #runs { dis\
-play: none; }\n.is-alone #panes { grid-template-columns: minmax(0, 1fr); }\n#tabs { display: none; }\n\n#note {\nposition: fixed;\nleft: 50%\
-;\nbottom: 6.2rem;\ntransform: translate(-50%, 1rem);\nbackground: var(--ink);\ncolor: var(--pane);\nborder-radius: 0.6rem;\npadding: 0.5rem \
-1rem;\nopacity: 0;\nvisibility: hidden;\nz-index: 30;\nmax-width: 90vw;\n}\n#note.is-shown { opacity: 1; visibility: visible; transform: tra\
-nslate(-50%, 0); }\n#note button { text-decoration: underline; color: inherit; }\n#note button:hover { background: none; }\n#paper { display\
-: none; }\n.end { white-space: nowrap; font-weight: 600; }\n.end-stuck, .end-died { color: var(--red); }\n.end-ended { color: var(--go); }\n\
-.end-open { color: var(--soft); }\n.meter {\nflex: 1;\nmin-width: 6rem;\nheight: 0.9rem;\nborder-radius: 0.5rem;\nbackground: var(--line);\n\
-overflow: hidden;\ndisplay: block;\n}\n.meter i { display: block; height: 100%; width: calc(var(--part) * 100%); background: var(--go); }\n.\
-hint { color: var(--soft); padding-bottom: 0.6rem; }\n@media (prefers-reduced-motion: no-preference) {\n#note { transition: opacity var(--mo\
-tion), transform var(--motion); }\n.seat { transition: background var(--motion); }\n}\n#card {\nflex: none;\nheight: 7.1rem;\ndisplay: grid;\
-\ngrid-template-columns: minmax(0, 1.05fr) minmax(0, 1.2fr) auto;\ngap: 1.5rem;\nbackground: var(--pane);\nborder-radius: 0.7rem;\npadding: \
-0.6rem 1rem;\nborder-left: 0.4rem solid var(--ink);\n}\n[data-mode=\"quiz\"] #card {\nheight: 8.8rem;\ngrid-template-columns: minmax(0, 1.2f\
-r) minmax(0, 1.3fr) minmax(11rem, 0.85fr);\n}\n.card-small { color: var(--soft); font-size: 0.85rem; }\n.card-large { font-size: 1.5rem; lin\
-e-height: 1.22; font-weight: 650; text-wrap: balance; overflow-wrap: anywhere; }\n[data-mode=\"quiz\"] .card-large { font-size: 1.3rem; }\n.\
-card-ask, .card-reply { overflow: auto; scrollbar-width: thin; }\n.card-answer { font-size: 1.2rem; line-height: 1.35; }\n.card-show { backg\
-round: var(--hover); margin-left: 0.5rem; font-size: 1rem; }\n.card-turn {\ndisplay: flex;\nflex-direction: column;\nalign-items: stretch;\n\
-justify-content: flex-end;\ngap: 0.35rem;\nmin-width: 9rem;\nmax-width: 24rem;\nmin-height: 0;\n}\n.card-turn .main { min-height: 2.5rem; fo\
-nt-size: 1.1rem; flex: none; }\n.card-verdict { overflow: auto; scrollbar-width: thin; font-size: 0.95rem; line-height: 1.28; margin-bottom: \
-auto; }\n.is-yes { color: var(--go); }\n.is-no { color: var(--red); }\n.dots { display: flex; gap: 0.35rem; justify-content: center; margin-\
-bottom: auto; padding-top: 0.3rem; }\n.dot { width: 0.6rem; height: 0.6rem; border-radius: 50%; box-shadow: inset 0 0 0 0.1rem var(--later); \
-}\n.dot.is-done { background: var(--later); }\n.dot.is-here { background: var(--ink); box-shadow: none; }\n.votes { display: flex; flex-wrap\
-: wrap; gap: 0.5rem; align-items: center; padding-top: 0.2rem; }\n.vote {\ndisplay: flex;\ngap: 0.6rem;\nalign-items: center;\nfont-size: 1.\
-35rem;\nfont-weight: 650;\ncolor: var(--hue);\nbackground: color-mix(in srgb, var(--hue) 9%, var(--pane));\nmin-height: 3rem;\npadding: 0.1r\
-em 1rem;\n}\n.vote b { font-size: 1.7rem; min-width: 1.2em; text-align: center; color: var(--ink); }\n.votes .main { min-height: 3rem; }\n.o\
-ptions {\ndisplay: grid;\ngrid-template-columns: repeat(2, minmax(0, 1fr));\ngap: 0.35rem;\nalign-content: center;\npadding: 0.2rem;\n}\n.op\
-tion {\ntext-align: left;\nwhite-space: normal;\nbackground: var(--hover);\ndisplay: flex;\ngap: 0.5rem;\nalign-items: baseline;\nline-heigh\
-t: 1.2;\npadding: 0.35rem 0.6rem;\n}\n.option kbd { white-space: nowrap; flex: none; }\n.option.is-right { background: var(--go-soft); outli\
-ne: 0.14rem solid var(--go); outline-offset: -0.14rem; }\n.option.is-wrong { background: var(--red-soft); outline: 0.14rem solid var(--red); \
-outline-offset: -0.14rem; }\n.option.is-rest { color: var(--soft); }\n#stage { flex: none; border-radius: 0.7rem; overflow: hidden; backgrou\
-nd: var(--pane); }\n#said {\nheight: 4.1rem;\ndisplay: flex;\nalign-items: center;\ngap: 0.8rem;\npadding: 0 1rem;\nbackground: var(--now);\n\
-color: var(--now-ink);\nfont-size: 1.28rem;\nline-height: 1.25;\noverflow: hidden;\n}\n#said .who { color: inherit; }\n.said-badge {\nflex: \
-none;\nmin-width: 2.2rem;\ntext-align: center;\nfont-weight: 700;\nfont-size: 1.1rem;\nborder: 0.12rem solid;\nborder-radius: 0.5rem;\npaddi\
-ng: 0.15rem 0.35rem;\n}\n.said-text { display: -webkit-box; -webkit-box-orient: vertical; -webkit-line-clamp: 2; overflow: hidden; }\n#said[\
-data-kind=\"would\"] { background: var(--hover); color: var(--ink); }\n#said[data-kind=\"wrong\"], #said[data-kind=\"stuck\"] {\nbackground: \
-var(--red-soft);\ncolor: var(--ink);\nbox-shadow: inset 0.5rem 0 var(--red);\n}\n#said[data-kind=\"wrong\"] .said-badge, #said[data-kind=\"s\
-tuck\"] .said-verdict { color: var(--red); }\n#said[data-kind=\"ended\"] { background: var(--go-soft); color: var(--ink); box-shadow: inset \
-0.5rem 0 var(--go); }\n#said[data-kind=\"ended\"] .said-verdict { color: var(--go); }\n#controls { height: 3.1rem; display: flex; align-item\
-s: center; gap: 0.9rem; padding: 0 0.6rem; }\n#steps { display: flex; gap: 0.15rem; flex: none; }\n#steps button { min-width: 2.5rem; paddin\
-g: 0.2rem; }\n#steps svg { width: 1.1rem; height: 1.1rem; display: block; margin: auto; fill: currentColor; }\n#steps .main { min-width: 3.4\
-rem; }\n#where { flex: none; min-width: 5.4rem; color: var(--soft); font-variant-numeric: tabular-nums; }\n#where b { color: var(--ink); fon\
-t-size: 1.15rem; }\n#next {\nflex: 1;\ndisplay: flex;\nalign-items: center;\ngap: 0.4rem;\noverflow: auto hidden;\nscrollbar-width: thin;\nh\
-eight: 100%;\nmin-width: 0;\npadding: 0 0.2rem;\n}\n.next-label { color: var(--soft); flex: none; padding-right: 0.2rem; }\n.chip {\nflex: n\
-one;\nfont-weight: 650;\nfont-size: 1.08rem;\ncolor: var(--hue);\nbackground: color-mix(in srgb, var(--hue) 9%, var(--pane));\nmin-height: 2\
-.35rem;\npadding: 0.15rem 0.9rem;\n}\n.chip:hover { background: color-mix(in srgb, var(--hue) 20%, var(--pane)); }\n.chip-own { box-shadow: \
-inset 0 0 0 0.14rem var(--hue); }\n.chip-late { font-weight: 500; border: 0.1rem dashed var(--hue); }\n#ends {\nflex: 0 1 auto;\nmax-width: \
-34%;\noverflow: hidden;\ntext-overflow: ellipsis;\nwhite-space: nowrap;\npadding-right: 0.4rem;\n}\n.code-scroll { container-type: inline-si\
-ze; }\n.code-sheet {\n--high: 1.72rem;\nposition: relative;\ndisplay: grid;\ngrid-template-columns: 3.6rem 1fr;\nmin-height: 100%;\nfont: 0.\
-98rem/1.72rem var(--mono);\npadding-top: 0.3rem;\n}\n.code-over {\nposition: relative;\nmin-height: calc(var(--lines) * var(--high));\nmin-w\
-idth: calc(var(--columns) * 1ch);\n}\n.code-copy, .code-typed {\nposition: absolute;\ninset: 0;\nfont: inherit;\nwhite-space: pre;\ntab-size\
-: 8;\npadding: 0;\nborder: 0;\nbackground: none;\noverflow: hidden;\n}\n.code-copy { pointer-events: none; z-index: 1; }\n.code-typed {\ncol\
-or: transparent;\ncaret-color: var(--ink);\nresize: none;\nwidth: 100%;\nheight: calc(var(--lines) * var(--high));\nz-index: 2;\n}\n.code-ty\
-ped:focus-visible { outline: none; }\n.pane:has(.code-typed:focus-visible) { box-shadow: inset 0 0 0 0.16rem var(--focus); }\n.code-typed::s\
-election { background: color-mix(in srgb, var(--focus) 30%, transparent); color: transparent; }\n.code-word { font-weight: 650; }\n.code-dir\
-ective, .code-option { color: var(--hue2); }\n.code-label { color: var(--hue1); font-weight: 650; }\n.code-register { color: var(--hue3); }\n\
-.code-object { color: var(--hue0); }\n.code-talk { color: var(--soft); font-style: italic; }\n.code-asked { color: var(--hue4); font-weight: \
-600; }\n.code-java { color: var(--soft); font-family: var(--sans); font-size: 0.9em; }\n.code-margin { position: relative; z-index: 3; point\
-er-events: none; }\n.places {\nposition: absolute;\ntop: calc(var(--line) * var(--high));\nright: 0.35rem;\nheight: var(--high);\ndisplay: f\
-lex;\ngap: 1px;\nalign-items: center;\n}\n.place {\nfont: 700 0.72rem/1.2rem var(--sans);\nbackground: var(--hue, var(--soft));\ncolor: var(\
---pane);\nborder-radius: 0.3rem;\npadding: 0 0.25rem;\n}\n.code-marks span { position: absolute; left: 0; top: calc(var(--line) * var(--high\
-)); height: var(--high); }\n.code-marks .code-now, .code-marks .code-bad { left: -3.6rem; right: 0; }\n.code-now { background: var(--now); o\
-pacity: 0.85; }\n.code-bad { background: var(--red-soft); }\n.code-marks .code-wave {\nleft: calc(var(--from) * 1ch);\nwidth: calc(var(--wid\
-e) * 1ch);\nborder-bottom: 0.2rem solid var(--red);\n}\n.code-bubble {\nposition: absolute;\nz-index: 4;\nleft: 0;\ntop: calc((var(--line) + \
-1) * var(--high) + 0.15rem);\nwidth: max-content;\nmax-width: calc(100cqw - 4.6rem);\nbackground: var(--red);\ncolor: var(--pane);\nborder-r\
-adius: 0.5rem;\npadding: 0.4rem 0.7rem;\nfont: 1rem/1.3 var(--sans);\nwhite-space: normal;\nbox-shadow: 0 0.2rem 0.7rem #0004;\n}\n.code-men\
-d {\nbackground: var(--pane);\ncolor: var(--red);\nfont: 650 0.95rem var(--mono);\nmin-height: 1.6rem;\npadding: 0 0.5rem;\n}\n.plan {\nposi\
-tion: relative;\nflex: none;\ndisplay: flex;\nalign-items: center;\ngap: 0.6rem;\nheight: 2.9rem;\npadding: 0 0.7rem;\nborder-top: 1px solid \
-var(--line);\ncolor: var(--soft);\n}\n.plan-typed {\nflex: 1;\nmin-width: 0;\nborder: 0;\nbackground: var(--hover);\nborder-radius: 0.4rem;\n\
-padding: 0.3rem 0.6rem;\nfont-family: var(--mono);\ncolor: var(--ink);\n}\n.plan-typed[aria-invalid=\"true\"] { box-shadow: inset 0 0 0 0.14\
-rem var(--red); }\n.plan-help {\nposition: absolute;\nleft: 0.7rem;\nright: 0.7rem;\nbottom: 3.1rem;\nbackground: var(--red);\ncolor: var(--\
-pane);\nborder-radius: 0.5rem;\npadding: 0.4rem 0.7rem;\nline-height: 1.3;\nz-index: 4;\nbox-shadow: 0 0.2rem 0.7rem #0004;\n}\n.plan-help:e\
-mpty { display: none; }\n.time-two { flex: 1; min-height: 0; display: flex; gap: 0.5rem; }\n.time { flex: 1; min-width: 0; display: flex; fl\
-ex-direction: column; }\n.time-head {\nflex: none;\nheight: 2.2rem;\npadding: 0.3rem 0.7rem;\ndisplay: flex;\ngap: 0.7rem;\nwhite-space: now\
-rap;\noverflow: hidden;\nbackground: var(--hover);\n}\n.time-head .end { overflow: hidden; text-overflow: ellipsis; }\n.time-scroll { positi\
-on: relative; scrollbar-gutter: stable; }\n.time-names {\nposition: sticky;\ntop: 0;\nz-index: 3;\nheight: 2.3rem;\nbackground: var(--pane);\
-\nborder-bottom: 1px solid var(--line);\nmin-width: 100%;\n}\n.time-corner {\nposition: sticky;\nleft: 0;\ndisplay: block;\nwidth: var(--num\
-ber);\nheight: 2.2rem;\nbackground: var(--pane);\nz-index: 1;\n}\n.time-name {\nposition: absolute;\ntop: 0;\nheight: 2.25rem;\ncolor: var(-\
--hue);\nfont-weight: 700;\ntext-align: left;\npadding: 0 0.2rem 0 0.35rem;\noverflow: hidden;\ntext-overflow: ellipsis;\nborder-radius: 0.3r\
-em;\n}\n.time-name[aria-pressed=\"true\"] { box-shadow: inset 0 -0.2rem var(--hue); }\n.time-name[data-doing=\"over\"], .time-name[data-doin\
-g=\"dead\"] { color: var(--later); text-decoration: line-through; }\n.time-body { position: relative; min-width: 100%; cursor: pointer; }\n.\
-lane { position: absolute; width: 0.16rem; margin-left: 0.72rem; background: var(--hue); }\n.lane-waits {\nwidth: 0.56rem;\nmargin-left: 0.5\
-2rem;\nborder-radius: 0.2rem;\nbackground: repeating-linear-gradient(\n-45deg,\nvar(--hue) 0 0.17rem,\ncolor-mix(in srgb, var(--hue) 25%, va\
-r(--pane)) 0.17rem 0.4rem\n);\n}\n.lane-free {\nwidth: 0.56rem;\nmargin-left: 0.52rem;\nborder-radius: 0.2rem;\nbackground: none;\nbox-shado\
-w: inset 0 0 0 0.13rem var(--hue);\n}\n.lane-held { background: none; border-left: 0.16rem dotted var(--hue); }\n.lane-throws { background: \
-var(--red); width: 0.26rem; margin-left: 0.67rem; }\n.lane.is-later { opacity: 0.25; }\n.line { position: absolute; left: 0; right: 0; heigh\
-t: var(--row); }\n.line:hover { background: color-mix(in srgb, var(--ink) 5%, transparent); }\n.line.is-here {\nbackground: color-mix(in srg\
-b, var(--now) 62%, transparent);\nbox-shadow: inset 0 0 0 0.12rem var(--now);\n}\n.line-number {\nposition: sticky;\nleft: 0;\ndisplay: inli\
-ne-block;\nwidth: var(--number);\npadding-right: 0.6rem;\ntext-align: right;\nline-height: var(--row);\ncolor: var(--soft);\nfont-variant-nu\
-meric: tabular-nums;\nfont-size: 0.9rem;\nbackground: var(--pane);\nz-index: 1;\n}\n.line-number.is-start { font-size: 0.8rem; padding-right\
-: 0.3rem; }\n.line:hover .line-number { background: inherit; }\n.line.is-here .line-number { background: var(--now); color: var(--now-ink); \
-font-weight: 700; }\n.line.is-other .line-number { border-right: 0.22rem solid var(--focus); }\n.line-part {\nposition: absolute;\nright: 0.\
-5rem;\ntop: -0.65rem;\nfont-size: 0.8rem;\nfont-weight: 650;\nbackground: var(--focus);\ncolor: var(--pane);\nborder-radius: 0.35rem;\npaddi\
-ng: 0 0.5rem;\nz-index: 2;\n}\n.line-far {\nposition: sticky;\nleft: calc(var(--number) + 0.3rem);\nline-height: var(--row);\ncolor: var(--h\
-ue);\nbackground: color-mix(in srgb, var(--pane) 80%, transparent);\npadding: 0 0.3rem;\n}\n.event {\nposition: absolute;\ntop: 0;\nheight: \
-var(--row);\ndisplay: flex;\nalign-items: center;\ncolor: var(--hue);\nwhite-space: nowrap;\n}\n.event-dot {\nflex: none;\nwidth: 0.78rem;\n\
-height: 0.78rem;\nmargin: 0 0.3rem 0 0.41rem;\nbackground: var(--hue);\nborder-radius: 50%;\n}\n.event-throw .event-dot, .event-die .event-d\
-ot {\nbackground: var(--red);\ntransform: rotate(45deg);\nborder-radius: 0.1rem;\n}\n.event-end .event-dot { border-radius: 0.1rem; backgrou\
-nd: var(--pane); box-shadow: inset 0 0 0 0.16rem var(--hue); }\n.event-idle .event-dot { background: none; box-shadow: inset 0 0 0 0.1rem va\
-r(--hue); }\n.event-throw .event-tag, .event-die .event-tag { color: var(--red); }\n.event-tag {\nfont-weight: 600;\nfont-size: 0.95rem;\nba\
-ckground: color-mix(in srgb, var(--pane) 78%, transparent);\nborder-radius: 0.3rem;\npadding: 0 0.2rem;\n}\n.event.is-onleft { flex-directio\
-n: row-reverse; transform: translateX(calc(-100% + 1.5rem)); }\n.line.is-later .event-dot { opacity: 0.45; }\n.line.is-later .event-tag { fo\
-nt-weight: 400; color: color-mix(in srgb, var(--hue) 90%, var(--pane)); }\n.line.is-here .event-tag { background: none; font-weight: 750; }\n\
-.mark {\nposition: absolute;\nleft: var(--number);\nright: 0.4rem;\nbottom: -0.06rem;\nborder-bottom: 0.14rem solid var(--go);\npointer-even\
-ts: none;\n}\n.mark span {\nfloat: right;\nbackground: var(--go);\ncolor: var(--pane);\nfont-size: 0.82rem;\nfont-weight: 650;\nline-height: \
-1.25rem;\nborder-radius: 0.35rem 0.35rem 0 0;\npadding: 0 0.5rem;\n}\n.mark.is-left span { float: left; position: sticky; left: var(--number\
-); }\n.mark.is-under span { transform: translateY(100%); border-radius: 0 0 0.35rem 0.35rem; }\n.mark-broke { border-color: var(--red); bord\
-er-bottom-style: dashed; }\n.mark-broke span { background: var(--red); }\n.line.is-later .mark { border-color: color-mix(in srgb, var(--go) \
-45%, var(--pane)); }\n.line.is-later .mark span { background: var(--go-soft); color: var(--go); }\n.line.is-later .mark-broke { border-color\
-: color-mix(in srgb, var(--red) 45%, var(--pane)); }\n.line.is-later .mark-broke span { background: var(--red-soft); color: var(--red); }\n.\
-ends { flex: none; max-height: 40%; overflow: auto; border-top: 1px solid var(--line); padding: 0.3rem 0.7rem; }\n.ends:empty { display: non\
-e; }\n.views { flex: none; display: flex; gap: 0.15rem; padding: 0.25rem 0.4rem 0; }\n.views button { color: var(--soft); min-height: 1.9rem\
-; }\n.views [aria-pressed=\"true\"] {\ncolor: var(--ink);\nfont-weight: 650;\nbox-shadow: inset 0 -0.16rem var(--ink);\nborder-radius: 0;\n}\
-\n.scene, .values, .orders { display: none; padding: 0.6rem 0.8rem; }\n[data-tab=\"picture\"] .scene, [data-tab=\"values\"] .values, [data-t\
-ab=\"orders\"] .orders { display: block; }\n.scene.is-roomy { font-size: 1.1rem; }\n.scene.is-roomy .token, .scene.is-roomy .seat { min-heig\
-ht: 2.6rem; height: 2.6rem; }\n.scene.is-roomy .seat { min-width: 4.6rem; }\n.space { position: relative; }\n.edges { position: absolute; in\
-set: 0; pointer-events: none; z-index: 1; }\n.edges path { fill: none; stroke: var(--later); stroke-width: 0.16rem; stroke-dasharray: 0.35re\
-m 0.3rem; }\n.edges .edge-full { stroke: var(--go); stroke-width: 0.24rem; stroke-dasharray: none; }\n.edges .edge-loose { opacity: 0.4; }\n\
-.cards { display: flex; flex-wrap: wrap; gap: 0.9rem; align-items: flex-start; justify-content: center; }\n.branch { display: flex; flex-dir\
-ection: column; align-items: center; gap: 1.7rem; }\n.kids { display: flex; justify-content: center; gap: 0.9rem; align-items: flex-start; }\
-\n.thing {\nposition: relative;\nbackground: var(--paper);\nborder-radius: 0.8rem;\npadding: 0.4rem 0.7rem 0.6rem;\nmin-width: 8rem;\nbox-sh\
-adow: inset 0 0 0 0.1rem var(--line);\n}\n.thing.is-child { min-width: 6.5rem; }\n.thing.is-terminated { opacity: 0.75; }\n.thing-head { dis\
-play: flex; gap: 0.7rem; align-items: baseline; padding-bottom: 0.35rem; }\n.thing-name { font-size: 1.15rem; font-weight: 700; }\nbutton.th\
-ing-name { padding: 0 0.3rem; margin-left: -0.3rem; min-height: 1.7rem; }\nbutton.thing-name[aria-pressed=\"true\"] { box-shadow: inset 0 -0\
-.16rem var(--ink); border-radius: 0; }\n.thing-phase { color: var(--soft); }\n.thing-phase b { color: var(--ink); font-size: 1.2rem; }\n.thi\
-ng-count { margin-left: auto; color: var(--soft); }\n.seats { display: flex; flex-wrap: wrap; gap: 0.4rem; }\n.seat {\nmin-width: 3.8rem;\nh\
-eight: 2.3rem;\nborder-radius: 1.3rem;\nborder: 0.13rem dashed var(--later);\ndisplay: flex;\nalign-items: center;\njustify-content: center;\
-\n}\n.seat.is-full { border-style: solid; border-color: transparent; }\n.seat.is-gone { border: 0.13rem solid var(--line); color: var(--soft\
-); }\n.seat-been { color: var(--hue); padding: 0 0.6rem; }\n.seat-child { border-radius: 0.4rem; padding: 0 0.6rem; color: var(--soft); }\n.\
-seat-child.is-full { background: var(--go-soft); color: var(--go); border-color: var(--go); font-weight: 650; }\n.token {\nposition: relativ\
-e;\nz-index: 2;\nbackground: var(--hue);\ncolor: var(--pane);\nfont-weight: 700;\nborder-radius: 1.3rem;\nmin-height: 2.3rem;\npadding: 0 0.\
-85rem;\n}\n.token:hover { background: color-mix(in srgb, var(--hue) 82%, var(--ink)); }\n.token-over, .token-dead {\nbackground: none;\ncolo\
-r: var(--later);\nbox-shadow: inset 0 0 0 0.1rem var(--line);\ntext-decoration: line-through;\n}\n.token-over:hover, .token-dead:hover { bac\
-kground: var(--hover); }\n.token-dead { color: var(--red); }\n.token-throws { box-shadow: 0 0 0 0.22rem var(--red); }\n.token-free { backgro\
-und: var(--pane); color: var(--hue); box-shadow: inset 0 0 0 0.16rem var(--hue); }\n.token-free:hover { background: color-mix(in srgb, var(-\
--hue) 12%, var(--pane)); }\n.token[aria-pressed=\"true\"] { outline: 0.2rem solid var(--ink); outline-offset: 0.12rem; }\n.token.is-able { o\
-utline: 0.2rem dashed var(--hue); outline-offset: 0.15rem; }\n.cards.is-stuck .seat:not(.is-full) { border-color: var(--red); background: va\
-r(--red-soft); }\n.visitors { display: flex; flex-wrap: wrap; gap: 0.4rem; align-items: center; padding-top: 0.5rem; }\n.is-roomy .visitors \
-{ min-height: 3.1rem; }\n.visitors > span, .crowd-label { color: var(--soft); font-size: 0.88rem; min-width: 4.6rem; }\n.barrier.is-broken { \
-box-shadow: inset 0 0 0 0.14rem var(--red); background: var(--red-soft); }\n.is-broken .thing-phase { color: var(--red); font-weight: 700; }\
-\n.gateway { display: flex; gap: 0.6rem; align-items: center; }\n.gate { width: 3.4rem; flex: none; }\n.gate path { fill: none; stroke: var(\
---soft); stroke-width: 3; stroke-linecap: round; }\n.gate .gate-post { stroke-width: 6; stroke: var(--ink); }\n.is-broken .gate .gate-bar { \
-stroke: var(--red); stroke-width: 4; }\n.crowd { padding-top: 0.8rem; display: grid; gap: 0.4rem; }\n.crowd-group { display: flex; flex-wrap\
-: wrap; gap: 0.4rem; align-items: center; }\n.crowd-one { display: inline-flex; align-items: center; gap: 0.25rem; }\n.crowd-output { font: \
-600 0.95rem var(--mono); background: var(--hover); border-radius: 0.3rem; padding: 0 0.35rem; }\n.crowd-flag { color: var(--red); }\n.whys { \
-list-style: none; padding: 0.7rem 0 0; display: grid; gap: 0.35rem; font-size: 1rem; }\n.why {\nbackground: var(--paper);\nborder-radius: 0.\
-5rem;\npadding: 0.35rem 0.7rem;\nborder-left: 0.3rem solid var(--later);\nline-height: 1.35;\n}\n.why-stuck, .why-dead { border-color: var(-\
--red); background: var(--red-soft); }\n.why-free { border-color: var(--go); }\n.why-hint { border-color: var(--line); color: var(--soft); ba\
-ckground: none; }\n.why.is-selected { box-shadow: inset 0 0 0 0.14rem var(--ink); }\n.why-number { display: block; padding-top: 0.25rem; }\n\
-table { border-collapse: collapse; }\nth { text-align: left; font-weight: 600; }\ntbody th { color: var(--hue, inherit); }\n.values-table { \
-margin-bottom: 1rem; width: 100%; }\n.values-table caption { text-align: left; color: var(--soft); font-size: 0.88rem; }\n.values-table thea\
-d th, .beside thead th { color: var(--soft); font-weight: 500; font-size: 0.88rem; }\n.values-table td, .values-table th, .beside td, .besid\
-e th {\npadding: 0.25rem 0.55rem 0.25rem 0;\nborder-bottom: 1px solid var(--line);\nfont-variant-numeric: tabular-nums;\n}\ntd.is-new { back\
-ground: var(--now); color: var(--now-ink); font-weight: 700; }\n.beside { width: 100%; }\n.beside .is-other td { font-weight: 600; }\n.besid\
-e .is-other td:last-child { background: var(--now); color: var(--now-ink); }\n.outcomes { display: grid; gap: 0.45rem; }\n.outcome {\ndispla\
-y: grid;\ngrid-template-columns: 3.2rem 1fr;\ngap: 0.3rem 0.7rem;\nalign-items: center;\ntext-align: left;\noverflow: hidden;\nwhite-space: \
-normal;\nbackground: var(--paper);\npadding: 0.5rem 0.7rem;\n}\n.outcome-count { font-size: 1.35rem; font-weight: 700; text-align: right; }\n\
-.outcome .meter { grid-column: 1 / 3; grid-row: 2; height: 0.4rem; }\n.outcome-stuck .meter i, .outcome-died .meter i { background: var(--re\
-d); }\n.outcome-said { display: grid; }\n.outcome code { color: var(--soft); font-size: 0.85em; }\n.outcome-stuck b, .outcome-died b { color\
-: var(--red); }\n.outcome-ended b { color: var(--go); }\n#runs {\nflex: none;\nheight: 4.9rem;\nbackground: var(--pane);\nborder-radius: 0.7\
-rem;\ndisplay: flex;\ngap: 0.6rem;\npadding: 0.3rem 0.6rem;\n}\nbody:not([data-mode=\"explore\"]) #runs { height: 3.4rem; }\nbody[data-mode=\
-\"quiz\"] #runs { display: none; }\n.tracks { position: relative; flex: 1; min-width: 0; }\n.runs-tools { flex: none; display: flex; flex-di\
-rection: column; justify-content: center; }\nbody:not([data-mode=\"explore\"]) .runs-tools { flex-direction: row; align-items: center; }\n.r\
-uns-tools button { min-height: 1.9rem; }\n.runs-tools [aria-pressed=\"true\"] { background: var(--hover); font-weight: 650; }\n.track {\ndis\
-play: grid;\ngrid-template-columns: 9.5rem 1fr 5rem;\ngap: 0.6rem;\nalign-items: center;\nheight: 1.6rem;\nborder-radius: 0.3rem;\n}\n.track\
-.is-here { background: var(--hover); }\n.track-name {\nmin-height: 1.6rem;\npadding: 0 0.4rem;\ntext-align: left;\nfont-size: 0.9rem;\noverf\
-low: hidden;\ntext-overflow: ellipsis;\n}\n.track .end { font-size: 0.88rem; }\n.rail { position: relative; height: 100%; cursor: pointer; }\
-\n.rail i { position: absolute; }\n.rail-bar { top: calc(50% - 0.18rem); height: 0.36rem; border-radius: 0.2rem; background: var(--later); }\
-\n.rail-stuck, .rail-died { background: var(--red); }\n.rail-ended { background: var(--go); }\n.rail-fork {\ntop: calc(0.8rem - var(--up) * \
-1.6rem);\nheight: calc(var(--up) * 1.6rem);\nwidth: 0.3rem;\nborder-left: 0.14rem solid var(--later);\nborder-bottom: 0.14rem solid var(--la\
-ter);\nborder-bottom-left-radius: 0.3rem;\n}\n.rail-at {\ntop: 50%;\nwidth: 0.95rem;\nheight: 0.95rem;\nmargin: -0.475rem;\nborder-radius: 5\
-0%;\nbackground: var(--now);\nbox-shadow: 0 0 0 0.16rem var(--ink);\n}\n.sheet {\nposition: fixed;\nz-index: 20;\ndisplay: flex;\ngap: 1.2re\
-m;\nbackground: var(--pane);\nborder-radius: 0.8rem;\npadding: 0.8rem;\nbox-shadow: 0 0.6rem 2.2rem #0005;\nmax-width: calc(100vw - 16px);\n\
-overflow: auto;\n}\n.sheet-column { display: grid; align-content: start; }\n.sheet h2 { font-size: 0.85rem; color: var(--soft); font-weight: \
-550; padding: 0.3rem 0.6rem; }\n.sheet-row { display: flex; }\n.sheet-row [aria-pressed=\"true\"] { background: var(--hover); font-weight: 6\
-50; }\n.sheet-key { padding: 0.1rem 0.6rem; color: var(--soft); }\n.entry {\ndisplay: flex;\ngap: 1rem;\njustify-content: space-between;\nte\
-xt-align: left;\nalign-items: center;\nmin-height: 2rem;\n}\n.entry[aria-current] { font-weight: 700; background: var(--hover); }\nlabel.ent\
-ry { justify-content: flex-start; gap: 0.6rem; padding: 0.3rem 0.6rem; cursor: pointer; }\n.entry-file input { width: 12rem; font-size: 0.8r\
-em; }\n.entry select { background: var(--hover); border: 0; border-radius: 0.4rem; padding: 0.2rem; }\n.copied {\nwidth: min(40rem, 80vw);\n\
-font-family: var(--mono);\nbackground: var(--paper);\nborder: 1px solid var(--line);\n}\n[data-columns=\"2\"] #panes, .is-side[data-columns=\
-\"2\"] #panes {\ngrid-template-columns: minmax(0, 1.1fr) minmax(0, 1fr);\n}\n.is-alone[data-columns=\"2\"] #panes { grid-template-columns: m\
-inmax(0, 1fr); }\n[data-columns=\"2\"] #code { display: none; }\n[data-columns=\"2\"][data-pane=\"code\"] #code { display: flex; }\n[data-co\
-lumns=\"2\"][data-pane=\"code\"] #picture { display: none; }\n[data-columns=\"2\"] #tabs {\ndisplay: flex;\nalign-self: flex-end;\nbackgroun\
-d: var(--hover);\nborder-radius: 0.6rem;\npadding: 0.1rem;\nmargin: -0.2rem 0;\n}\n[data-columns=\"2\"] #tabs button { min-height: 1.7rem; p\
-adding: 0 0.8rem; }\n[data-columns=\"2\"] #tabs [data-pane=\"time\"] { display: none; }\n[data-columns=\"2\"] #again, [data-columns=\"2\"] .\
-head-brand { display: none; }\n[data-columns=\"2\"] #runs { height: 3.6rem; }\n[data-columns=\"2\"] .runs-tools { flex-direction: row; align\
--items: center; }\n[data-columns=\"2\"] .card-large { font-size: 1.2rem; }\nbody[data-columns=\"2\"] { height: auto; min-height: 100dvh; ove\
-rflow-y: auto; }\n[data-columns=\"2\"] #panes { flex: 1 0 17rem; height: 17rem; }\n[data-columns=\"2\"]:not([data-mode=\"explore\"]) #runs { \
-display: none; }\n[data-columns=\"2\"]:not([data-pane=\"code\"]) #tabs [data-pane=\"picture\"],\n[data-columns=\"2\"] #tabs [data-pane=\"cod\
-e\"][aria-pressed=\"true\"] { background: var(--pane); font-weight: 650; }\n\n@media (max-width: 900px) {\nhtml { font-size: calc(15.5px * v\
-ar(--zoom)); }\nbody { padding: 0 0.4rem 0.3rem; gap: 0.35rem; }\n.head-brand, #again, .head-size, .runs-tools, #ends, .head-spring { displa\
-y: none; }\n#head { height: auto; flex-wrap: wrap; padding-top: 0.3rem; }\n#head-title { flex: 1; font-size: 1rem; }\n#pick { width: 100%; t\
-ext-align: left; padding: 0.2rem 0.3rem; }\n#modes { margin: 0; order: 3; flex: 1 0 100%; }\n#modes button { padding: 0.1rem 0.3rem; flex: 1\
-; min-height: 2.1rem; }\n#more { padding: 0.3rem 0.4rem; }\n#said { height: 4.9rem; font-size: 1.06rem; padding: 0 0.6rem; gap: 0.5rem; }\n.\
-said-text { -webkit-line-clamp: 3; }\n.said-reason { display: none; }\n#controls { height: 6rem; flex-wrap: wrap; gap: 0 0.6rem; padding: 0.\
-2rem 0.4rem; }\n#steps { flex: 1; order: 2; }\n#steps button { flex: 1; min-height: 2.7rem; }\n#where { order: 3; min-width: 4.2rem; text-al\
-ign: right; }\n#next { order: 1; flex: 1 0 100%; height: 2.9rem; }\n.chip { min-height: 2.6rem; }\n#tabs { display: flex; flex: none; backgr\
-ound: var(--hover); border-radius: 0.6rem; padding: 0.15rem; }\n#tabs button { flex: 1; min-height: 2.1rem; }\n#tabs [aria-pressed=\"true\"] \
-{ background: var(--pane); font-weight: 650; }\n#panes, .is-side #panes { grid-template-columns: minmax(0, 1fr); }\n.pane { display: none; }\
-\n[data-pane=\"time\"] #time, [data-pane=\"picture\"] #picture, [data-pane=\"code\"] #code { display: flex; }\n.is-side[data-pane=\"code\"] \
-#code { display: flex; }\n#card, [data-mode=\"quiz\"] #card {\ngrid-template-columns: 1fr;\nheight: auto;\nmax-height: 40vh;\noverflow: auto\
-;\ngap: 0.4rem;\npadding: 0.5rem 0.7rem;\n}\n.card-large, [data-mode=\"quiz\"] .card-large { font-size: 1.12rem; }\n.card-turn { flex-direct\
-ion: row; align-items: center; max-width: none; flex-wrap: wrap; }\n.card-ask, .card-reply { overflow: visible; }\n.card-reply:not(:has(.car\
-d-answer, .votes, .option, p:not(.card-small))) { display: none; }\n.dots { margin: 0 auto 0 0; padding: 0; }\n.card-verdict { flex: 1 0 100\
-%; overflow: visible; }\nbody:not([data-mode=\"explore\"]) #runs { display: none; }\n#runs { height: 3.6rem; }\n.track { grid-template-colum\
-ns: 6.5rem 1fr 4.4rem; }\n.sheet { flex-direction: column; left: 8px !important; right: 8px; gap: 0.3rem; }\n.entry { min-height: 2.4rem; }\n\
-.sheet-keys { display: none; }\n}\n@media (max-width: 900px) and (max-height: 520px) {\nbody {\ndisplay: grid;\ngrid-template: \"head head\" \
-auto \"check check\" auto \"stage panes\" auto \"card panes\" auto \"tabs panes\" 1fr / minmax(16rem, 44%) 1fr;\noverflow: auto;\n}\n#head { \
-grid-area: head; flex-wrap: nowrap; padding: 0; height: 2.4rem; }\n#check { grid-area: check; }\n#modes { order: 0; flex: none; }\n#modes bu\
-tton { padding: 0.1rem 0.5rem; }\n#stage { grid-area: stage; min-height: max-content; }\n#said { height: 6rem; }\n.said-text { -webkit-line-\
-clamp: 4; }\n#panes { grid-area: panes; min-height: 0; height: calc(100dvh - 3rem); position: sticky; top: 0; }\n#tabs { grid-area: tabs; al\
-ign-self: end; }\n#card, [data-mode=\"quiz\"] #card { grid-area: card; max-height: none; }\n#runs { display: none; }\n}\n@media (forced-colo\
-rs: active) {\n.chip, .token, .seat, .thing, .pane, .vote, .option, #card, .why, .sheet, #check.is-wrong { border: 1px solid; }\n.chip-own { \
-border: 3px solid; }\n.line.is-here { background: Highlight; color: HighlightText; forced-color-adjust: none; }\n.code-now { border: 2px sol\
-id Highlight; }\n.places { border: 1px solid; background: Canvas; }\n.line.is-here .event, .line.is-here .line-number, .line.is-here .event-\
-tag {\ncolor: HighlightText;\nbackground: none;\n}\n.lane, .event-dot, .rail-bar, .rail-at, .meter i, .dot { forced-color-adjust: none; }\n#\
-modes [aria-pressed=\"true\"], .views [aria-pressed=\"true\"], #tabs [aria-pressed=\"true\"] {\noutline: 2px solid Highlight;\n}\n.code-type\
-d { color: transparent; forced-color-adjust: none; caret-color: CanvasText; }\n.code-wave { border-color: Highlight; }\n}\n@media print {\nh\
-tml { font-size: 11pt; color-scheme: light; }\nbody { display: block; height: auto; overflow: visible; background: #fff; color: #000; paddin\
-g: 0; }\nbody > *:not(#paper) { display: none !important; }\n#paper { display: block; }\n#paper h1 { font-size: 16pt; }\n#paper p { margin: \
-4pt 0; }\n#paper pre { font: 9.5pt var(--mono); border: 1pt solid #999; padding: 6pt; white-space: pre-wrap; }\n#paper table { width: 100%; \
-font-size: 9.5pt; }\n#paper td, #paper th { border-bottom: 0.5pt solid #999; padding: 2pt 5pt; text-align: left; vertical-align: top; }\n#pa\
-per .is-own { font-weight: 700; }\n#paper small { display: block; color: #555; }\n#paper .paper-number { color: #555; }\n#paper tr { break-i\
-nside: avoid; }\n.paper-rule { display: block; height: 18pt; border-bottom: 0.5pt solid #999; }\n}\n</style>\n</head>\n<body data-mode=\"exp\
-lore\" data-pane=\"time\" data-tab=\"picture\">\n<section id=\"texts\">\n<p>This page plays a run of a program. It needs its script, which i\
-t holds itself. Without it, the run stands here as text. In the trace t0, p0, b0 and c0 are the first thread, phaser, barrier and cell of th\
-e program.</p>\n<h2>Program, in canonical form</h2>\n<pre id=\"listing\">\n";
+ck.is-wrong {\npadding: 0.4rem 0.7rem 0.4rem 1rem;\nborder-radius: 0.6rem;\nbackground: var(--red-soft);\ncolor: var(--ink);\nbox-shadow: in\
+set 0.5rem 0 var(--red);\nfont-size: 1rem;\nline-height: 1.4;\nwhite-space: normal;\noverflow: visible;\noverflow-wrap: anywhere;\n}\n#check \
+strong { color: var(--red); }\n\n#texts { display: none; }\n@media (scripting: none) {\nbody { display: block; height: auto; overflow: auto; \
+}\nbody > :not(#texts) { display: none; }\n#texts { display: block; }\n#texts pre { font: 0.9rem var(--mono); }\n}\n\n#panes {\nflex: 1;\nmi\
+n-height: 0;\ndisplay: grid;\ngrid-template-columns: minmax(17rem, 1fr) minmax(20rem, 1.1fr) minmax(20rem, 1.05fr);\ngap: 0.5rem;\n}\n.pane \
+{\nmin-width: 0;\nmin-height: 0;\nbackground: var(--pane);\nborder-radius: 0.7rem;\ndisplay: flex;\nflex-direction: column;\noverflow: hidde\
+n;\n}\n.scroll { overflow: auto; scrollbar-width: thin; flex: 1; min-height: 0; }\n.is-refused #time, .is-refused #picture { opacity: 0.5; }\
+\n.is-side #code { display: none; }\n.is-side #panes { grid-template-columns: minmax(0, 2fr) minmax(20rem, 1fr); }\n.is-alone #code, .is-alo\
+ne #picture, .is-alone #runs { display: none; }\n.is-alone #panes { grid-template-columns: minmax(0, 1fr); }\n#tabs { display: none; }\n\n#n\
+ote {\nposition: fixed;\nleft: 50%;\nbottom: 6.2rem;\ntransform: translate(-50%, 1rem);\nbackground: var(--ink);\ncolor: var(--pane);\nborde\
+r-radius: 0.6rem;\npadding: 0.5rem 1rem;\nopacity: 0;\nvisibility: hidden;\nz-index: 30;\nmax-width: 90vw;\n}\n#note.is-shown { opacity: 1; \
+visibility: visible; transform: translate(-50%, 0); }\n#note button { text-decoration: underline; color: inherit; }\n#note button:hover { ba\
+ckground: none; }\n#paper { display: none; }\n.end { white-space: nowrap; font-weight: 600; }\n.end-stuck, .end-died { color: var(--red); }\n\
+.end-ended { color: var(--go); }\n.end-open { color: var(--soft); }\n.meter {\nflex: 1;\nmin-width: 6rem;\nheight: 0.9rem;\nborder-radius: 0\
+.5rem;\nbackground: var(--line);\noverflow: hidden;\ndisplay: block;\n}\n.meter i { display: block; height: 100%; width: calc(var(--part) * \
+100%); background: var(--go); }\n.hint { color: var(--soft); padding-bottom: 0.6rem; }\n@media (prefers-reduced-motion: no-preference) {\n#n\
+ote { transition: opacity var(--motion), transform var(--motion); }\n.seat { transition: background var(--motion); }\n}\n#card {\nflex: none\
+;\nheight: 7.1rem;\ndisplay: grid;\ngrid-template-columns: minmax(0, 1.05fr) minmax(0, 1.2fr) auto;\ngap: 1.5rem;\nbackground: var(--pane);\n\
+border-radius: 0.7rem;\npadding: 0.6rem 1rem;\nborder-left: 0.4rem solid var(--ink);\n}\n[data-mode=\"quiz\"] #card {\nheight: 8.8rem;\ngrid\
+-template-columns: minmax(0, 1.2fr) minmax(0, 1.3fr) minmax(11rem, 0.85fr);\n}\n.card-small { color: var(--soft); font-size: 0.85rem; }\n.ca\
+rd-large { font-size: 1.5rem; line-height: 1.22; font-weight: 650; text-wrap: balance; overflow-wrap: anywhere; }\n[data-mode=\"quiz\"] .car\
+d-large { font-size: 1.3rem; }\n.card-ask, .card-reply { overflow: auto; scrollbar-width: thin; }\n.card-answer { font-size: 1.2rem; line-he\
+ight: 1.35; }\n.card-show { background: var(--hover); margin-left: 0.5rem; font-size: 1rem; }\n.card-turn {\ndisplay: flex;\nflex-direction: \
+column;\nalign-items: stretch;\njustify-content: flex-end;\ngap: 0.35rem;\nmin-width: 9rem;\nmax-width: 24rem;\nmin-height: 0;\n}\n.card-tur\
+n .main { min-height: 2.5rem; font-size: 1.1rem; flex: none; }\n.card-verdict { overflow: auto; scrollbar-width: thin; font-size: 0.95rem; l\
+ine-height: 1.28; margin-bottom: auto; }\n.is-yes { color: var(--go); }\n.is-no { color: var(--red); }\n.dots { display: flex; gap: 0.35rem; \
+justify-content: center; margin-bottom: auto; padding-top: 0.3rem; }\n.dot { width: 0.6rem; height: 0.6rem; border-radius: 50%; box-shadow: \
+inset 0 0 0 0.1rem var(--later); }\n.dot.is-done { background: var(--later); }\n.dot.is-here { background: var(--ink); box-shadow: none; }\n\
+.votes { display: flex; flex-wrap: wrap; gap: 0.5rem; align-items: center; padding-top: 0.2rem; }\n.vote {\ndisplay: flex;\ngap: 0.6rem;\nal\
+ign-items: center;\nfont-size: 1.35rem;\nfont-weight: 650;\ncolor: var(--hue);\nbackground: color-mix(in srgb, var(--hue) 9%, var(--pane));\n\
+min-height: 3rem;\npadding: 0.1rem 1rem;\n}\n.vote b { font-size: 1.7rem; min-width: 1.2em; text-align: center; color: var(--ink); }\n.votes \
+.main { min-height: 3rem; }\n.options {\ndisplay: grid;\ngrid-template-columns: repeat(2, minmax(0, 1fr));\ngap: 0.35rem;\nalign-content: ce\
+nter;\npadding: 0.2rem;\n}\n.option {\ntext-align: left;\nwhite-space: normal;\nbackground: var(--hover);\ndisplay: flex;\ngap: 0.5rem;\nali\
+gn-items: baseline;\nline-height: 1.2;\npadding: 0.35rem 0.6rem;\n}\n.option kbd { white-space: nowrap; flex: none; }\n.option.is-right { ba\
+ckground: var(--go-soft); outline: 0.14rem solid var(--go); outline-offset: -0.14rem; }\n.option.is-wrong { background: var(--red-soft); out\
+line: 0.14rem solid var(--red); outline-offset: -0.14rem; }\n.option.is-rest { color: var(--soft); }\n#stage { flex: none; border-radius: 0.\
+7rem; overflow: hidden; background: var(--pane); }\n#said {\nheight: 4.1rem;\ndisplay: flex;\nalign-items: center;\ngap: 0.8rem;\npadding: 0 \
+1rem;\nbackground: var(--now);\ncolor: var(--now-ink);\nfont-size: 1.28rem;\nline-height: 1.25;\noverflow: hidden;\n}\n#said .who { color: i\
+nherit; }\n.said-badge {\nflex: none;\nmin-width: 2.2rem;\ntext-align: center;\nfont-weight: 700;\nfont-size: 1.1rem;\nborder: 0.12rem solid\
+;\nborder-radius: 0.5rem;\npadding: 0.15rem 0.35rem;\n}\n.said-text { overflow-wrap: anywhere; display: -webkit-box; -webkit-box-orient: ver\
+tical; -webkit-line-clamp: 2; overflow: hidden; }\n#said[data-kind=\"would\"] { background: var(--hover); color: var(--ink); }\n#said[data-k\
+ind=\"wrong\"], #said[data-kind=\"stuck\"] {\nbackground: var(--red-soft);\ncolor: var(--ink);\nbox-shadow: inset 0.5rem 0 var(--red);\n}\n#\
+said[data-kind=\"wrong\"] .said-badge, #said[data-kind=\"stuck\"] .said-verdict { color: var(--red); }\n#said[data-kind=\"ended\"] { backgro\
+und: var(--go-soft); color: var(--ink); box-shadow: inset 0.5rem 0 var(--go); }\n#said[data-kind=\"ended\"] .said-verdict { color: var(--go)\
+; }\n#controls { height: 3.1rem; display: flex; align-items: center; gap: 0.9rem; padding: 0 0.6rem; }\n#steps { display: flex; gap: 0.15rem\
+; flex: none; }\n#steps button { min-width: 2.5rem; padding: 0.2rem; }\n#steps svg { width: 1.1rem; height: 1.1rem; display: block; margin: \
+auto; fill: currentColor; }\n#steps .main { min-width: 3.4rem; }\n#where { flex: none; min-width: 5.4rem; color: var(--soft); font-variant-n\
+umeric: tabular-nums; }\n#where b { color: var(--ink); font-size: 1.15rem; }\n#next {\nflex: 1;\ndisplay: flex;\nalign-items: center;\ngap: \
+0.4rem;\noverflow: auto hidden;\nscrollbar-width: thin;\nheight: 100%;\nmin-width: 0;\npadding: 0 0.2rem;\n}\n.next-label { color: var(--sof\
+t); flex: none; padding-right: 0.2rem; }\n.chip {\nflex: none;\nfont-weight: 650;\nfont-size: 1.08rem;\ncolor: var(--hue);\nbackground: colo\
+r-mix(in srgb, var(--hue) 9%, var(--pane));\nmin-height: 2.35rem;\npadding: 0.15rem 0.9rem;\n}\n.chip:hover { background: color-mix(in srgb, \
+var(--hue) 20%, var(--pane)); }\n.chip-own { box-shadow: inset 0 0 0 0.14rem var(--hue); }\n.chip-late { font-weight: 500; border: 0.1rem da\
+shed var(--hue); }\n#ends {\nflex: 0 1 auto;\nmax-width: 34%;\noverflow: hidden;\ntext-overflow: ellipsis;\nwhite-space: nowrap;\npadding-ri\
+ght: 0.4rem;\n}\n.code-scroll { container-type: inline-size; }\n.code-sheet {\n--high: 1.72rem;\nposition: relative;\ndisplay: grid;\ngrid-t\
+emplate-columns: 3.6rem 1fr;\nmin-height: 100%;\nfont: 0.98rem/1.72rem var(--mono);\npadding-top: 0.3rem;\n}\n.code-over {\nposition: relati\
+ve;\nmin-height: calc(var(--lines) * var(--high));\nmin-width: calc(var(--columns) * 1ch);\n}\n.code-copy, .code-typed {\nposition: absolute\
+;\ninset: 0;\nfont: inherit;\nwhite-space: pre;\ntab-size: 8;\npadding: 0;\nborder: 0;\nbackground: none;\noverflow: hidden;\n}\n.code-copy \
+{ pointer-events: none; z-index: 1; }\n.code-typed {\ncolor: transparent;\ncaret-color: var(--ink);\nresize: none;\nwidth: 100%;\nheight: ca\
+lc(var(--lines) * var(--high));\nz-index: 2;\n}\n.code-typed:focus-visible { outline: none; }\n.pane:has(.code-typed:focus-visible) { box-sh\
+adow: inset 0 0 0 0.16rem var(--focus); }\n.code-typed::selection { background: color-mix(in srgb, var(--focus) 30%, transparent); color: tr\
+ansparent; }\n.code-word { font-weight: 650; }\n.code-directive, .code-option { color: var(--hue2); }\n.code-label { color: var(--hue1); fon\
+t-weight: 650; }\n.code-register { color: var(--hue3); }\n.code-object { color: var(--hue0); }\n.code-talk { color: var(--soft); font-style: \
+italic; }\n.code-asked { color: var(--hue4); font-weight: 600; }\n.code-java { color: var(--soft); font-family: var(--sans); font-size: 0.9e\
+m; }\n.code-margin { position: relative; z-index: 3; pointer-events: none; }\n.places {\nposition: absolute;\ntop: calc(var(--line) * var(--\
+high));\nright: 0.35rem;\nheight: var(--high);\ndisplay: flex;\ngap: 1px;\nalign-items: center;\n}\n.place {\nfont: 700 0.72rem/1.2rem var(-\
+-sans);\nbackground: var(--hue, var(--soft));\ncolor: var(--pane);\nborder-radius: 0.3rem;\npadding: 0 0.25rem;\n}\n.code-marks span { posit\
+ion: absolute; left: 0; top: calc(var(--line) * var(--high)); height: var(--high); }\n.code-marks .code-now, .code-marks .code-bad { left: -\
+3.6rem; right: 0; }\n.code-now { background: var(--now); opacity: 0.85; }\n.code-bad { background: var(--red-soft); }\n.code-marks .code-wav\
+e {\nleft: calc(var(--from) * 1ch);\nwidth: calc(var(--wide) * 1ch);\nborder-bottom: 0.2rem solid var(--red);\n}\n.code-bubble {\nposition: \
+absolute;\nz-index: 4;\nleft: 0;\ntop: calc((var(--line) + 1) * var(--high) + 0.15rem);\nwidth: max-content;\nmax-width: calc(100cqw - 4.6re\
+m);\nbackground: var(--red);\ncolor: var(--pane);\nborder-radius: 0.5rem;\npadding: 0.4rem 0.7rem;\nfont: 1rem/1.3 var(--sans);\nwhite-space\
+: normal;\nbox-shadow: 0 0.2rem 0.7rem #0004;\n}\n.code-mend {\nbackground: var(--pane);\ncolor: var(--red);\nfont: 650 0.95rem var(--mono);\
+\nmin-height: 1.6rem;\npadding: 0 0.5rem;\n}\n.plan {\nposition: relative;\nflex: none;\ndisplay: flex;\nalign-items: center;\ngap: 0.6rem;\n\
+height: 2.9rem;\npadding: 0 0.7rem;\nborder-top: 1px solid var(--line);\ncolor: var(--soft);\n}\n.plan-typed {\nflex: 1;\nmin-width: 0;\nbor\
+der: 0;\nbackground: var(--hover);\nborder-radius: 0.4rem;\npadding: 0.3rem 0.6rem;\nfont-family: var(--mono);\ncolor: var(--ink);\n}\n.plan\
+-typed[aria-invalid=\"true\"] { box-shadow: inset 0 0 0 0.14rem var(--red); }\n.plan-help {\nposition: absolute;\nleft: 0.7rem;\nright: 0.7r\
+em;\nbottom: 3.1rem;\nbackground: var(--red);\ncolor: var(--pane);\nborder-radius: 0.5rem;\npadding: 0.4rem 0.7rem;\nline-height: 1.3;\nz-in\
+dex: 4;\nbox-shadow: 0 0.2rem 0.7rem #0004;\n}\n.plan-help:empty { display: none; }\n.time-two { flex: 1; min-height: 0; display: flex; gap: \
+0.5rem; }\n.time { flex: 1; min-width: 0; display: flex; flex-direction: column; }\n.time-head {\nflex: none;\nheight: 2.2rem;\npadding: 0.3\
+rem 0.7rem;\ndisplay: flex;\ngap: 0.7rem;\nwhite-space: nowrap;\noverflow: hidden;\nbackground: var(--hover);\n}\n.time-head .end { overflow\
+: hidden; text-overflow: ellipsis; }\n.time-scroll { position: relative; scrollbar-gutter: stable; }\n.time-names {\nposition: sticky;\ntop: \
+0;\nz-index: 3;\nheight: 2.3rem;\nbackground: var(--pane);\nborder-bottom: 1px solid var(--line);\nmin-width: 100%;\n}\n.time-corner {\nposi\
+tion: sticky;\nleft: 0;\ndisplay: block;\nwidth: var(--number);\nheight: 2.2rem;\nbackground: var(--pane);\nz-index: 1;\n}\n.time-name {\npo\
+sition: absolute;\ntop: 0;\nheight: 2.25rem;\ncolor: var(--hue);\nfont-weight: 700;\ntext-align: left;\npadding: 0 0.2rem 0 0.35rem;\noverfl\
+ow: hidden;\ntext-overflow: ellipsis;\nborder-radius: 0.3rem;\n}\n.time-name[aria-pressed=\"true\"] { box-shadow: inset 0 -0.2rem var(--hue)\
+; }\n.time-name[data-doing=\"over\"], .time-name[data-doing=\"dead\"] { color: var(--later); text-decoration: line-through; }\n.time-body { \
+position: relative; min-width: 100%; cursor: pointer; }\n.lane { position: absolute; width: 0.16rem; margin-left: 0.72rem; background: var(-\
+-hue); }\n.lane-waits {\nwidth: 0.56rem;\nmargin-left: 0.52rem;\nborder-radius: 0.2rem;\nbackground: repeating-linear-gradient(\n-45deg,\nva\
+r(--hue) 0 0.17rem,\ncolor-mix(in srgb, var(--hue) 25%, var(--pane)) 0.17rem 0.4rem\n);\n}\n.lane-free {\nwidth: 0.56rem;\nmargin-left: 0.52\
+rem;\nborder-radius: 0.2rem;\nbackground: none;\nbox-shadow: inset 0 0 0 0.13rem var(--hue);\n}\n.lane-held { background: none; border-left: \
+0.16rem dotted var(--hue); }\n.lane-throws { background: var(--red); width: 0.26rem; margin-left: 0.67rem; }\n.lane.is-later { opacity: 0.25\
+; }\n.line { position: absolute; left: 0; right: 0; height: var(--row); }\n.line:hover { background: color-mix(in srgb, var(--ink) 5%, trans\
+parent); }\n.line.is-here {\nbackground: color-mix(in srgb, var(--now) 62%, transparent);\nbox-shadow: inset 0 0 0 0.12rem var(--now);\n}\n.\
+line-number {\nposition: sticky;\nleft: 0;\ndisplay: inline-block;\nwidth: var(--number);\npadding-right: 0.6rem;\ntext-align: right;\nline-\
+height: var(--row);\ncolor: var(--soft);\nfont-variant-numeric: tabular-nums;\nfont-size: 0.9rem;\nbackground: var(--pane);\nz-index: 1;\n}\n\
+.line-number.is-start { font-size: 0.8rem; padding-right: 0.3rem; }\n.line:hover .line-number { background: inherit; }\n.line.is-here .line-\
+number { background: var(--now); color: var(--now-ink); font-weight: 700; }\n.line.is-other .line-number { border-right: 0.22rem solid var(-\
+-focus); }\n.line-part {\nposition: absolute;\nright: 0.5rem;\ntop: -0.65rem;\nfont-size: 0.8rem;\nfont-weight: 650;\nbackground: var(--focu\
+s);\ncolor: var(--pane);\nborder-radius: 0.35rem;\npadding: 0 0.5rem;\nz-index: 2;\n}\n.line-far {\nposition: sticky;\nleft: calc(var(--numb\
+er) + 0.3rem);\nline-height: var(--row);\ncolor: var(--hue);\nbackground: color-mix(in srgb, var(--pane) 80%, transparent);\npadding: 0 0.3r\
+em;\n}\n.event {\nposition: absolute;\ntop: 0;\nheight: var(--row);\ndisplay: flex;\nalign-items: center;\ncolor: var(--hue);\nwhite-space: \
+nowrap;\n}\n.event-dot {\nflex: none;\nwidth: 0.78rem;\nheight: 0.78rem;\nmargin: 0 0.3rem 0 0.41rem;\nbackground: var(--hue);\nborder-radiu\
+s: 50%;\n}\n.event-throw .event-dot, .event-die .event-dot {\nbackground: var(--red);\ntransform: rotate(45deg);\nborder-radius: 0.1rem;\n}\n\
+.event-end .event-dot { border-radius: 0.1rem; background: var(--pane); box-shadow: inset 0 0 0 0.16rem var(--hue); }\n.event-idle .event-do\
+t { background: none; box-shadow: inset 0 0 0 0.1rem var(--hue); }\n.event-throw .event-tag, .event-die .event-tag { color: var(--red); }\n.\
+event-tag {\nfont-weight: 600;\nfont-size: 0.95rem;\nbackground: color-mix(in srgb, var(--pane) 78%, transparent);\nborder-radius: 0.3rem;\n\
+padding: 0 0.2rem;\n}\n.event.is-onleft { flex-direction: row-reverse; transform: translateX(calc(-100% + 1.5rem)); }\n.line.is-later .event\
+-dot { opacity: 0.45; }\n.line.is-later .event-tag { font-weight: 400; color: color-mix(in srgb, var(--hue) 90%, var(--pane)); }\n.line.is-h\
+ere .event-tag { background: none; font-weight: 750; }\n.mark {\nposition: absolute;\nleft: var(--number);\nright: 0.4rem;\nbottom: -0.06rem\
+;\nborder-bottom: 0.14rem solid var(--go);\npointer-events: none;\n}\n.mark span {\nfloat: right;\nbackground: var(--go);\ncolor: var(--pane\
+);\nfont-size: 0.82rem;\nfont-weight: 650;\nline-height: 1.25rem;\nborder-radius: 0.35rem 0.35rem 0 0;\npadding: 0 0.5rem;\n}\n.mark.is-left \
+span { float: left; position: sticky; left: var(--number); }\n.mark.is-under span { transform: translateY(100%); border-radius: 0 0 0.35rem \
+0.35rem; }\n.mark-broke { border-color: var(--red); border-bottom-style: dashed; }\n.mark-broke span { background: var(--red); }\n.line.is-l\
+ater .mark { border-color: color-mix(in srgb, var(--go) 45%, var(--pane)); }\n.line.is-later .mark span { background: var(--go-soft); color: \
+var(--go); }\n.line.is-later .mark-broke { border-color: color-mix(in srgb, var(--red) 45%, var(--pane)); }\n.line.is-later .mark-broke span \
+{ background: var(--red-soft); color: var(--red); }\n.ends { flex: none; max-height: 40%; overflow: auto; border-top: 1px solid var(--line); \
+padding: 0.3rem 0.7rem; }\n.ends:empty { display: none; }\n.views { flex: none; display: flex; gap: 0.15rem; padding: 0.25rem 0.4rem 0; }\n.\
+views button { color: var(--soft); min-height: 1.9rem; }\n.views [aria-pressed=\"true\"] {\ncolor: var(--ink);\nfont-weight: 650;\nbox-shado\
+w: inset 0 -0.16rem var(--ink);\nborder-radius: 0;\n}\n.scene, .values, .orders { display: none; padding: 0.6rem 0.8rem; }\n[data-tab=\"pict\
+ure\"] .scene, [data-tab=\"values\"] .values, [data-tab=\"orders\"] .orders { display: block; }\n.scene.is-roomy { font-size: 1.1rem; }\n.sc\
+ene.is-roomy .token, .scene.is-roomy .seat { min-height: 2.6rem; height: 2.6rem; }\n.scene.is-roomy .seat { min-width: 4.6rem; }\n.space { p\
+osition: relative; }\n.edges { position: absolute; inset: 0; pointer-events: none; z-index: 1; }\n.edges path { fill: none; stroke: var(--la\
+ter); stroke-width: 0.16rem; stroke-dasharray: 0.35rem 0.3rem; }\n.edges .edge-full { stroke: var(--go); stroke-width: 0.24rem; stroke-dasha\
+rray: none; }\n.edges .edge-loose { opacity: 0.4; }\n.cards { display: flex; flex-wrap: wrap; gap: 0.9rem; align-items: flex-start; justify-\
+content: center; }\n.branch { display: flex; flex-direction: column; align-items: center; gap: 1.7rem; }\n.kids { display: flex; justify-con\
+tent: center; gap: 0.9rem; align-items: flex-start; }\n.thing {\nposition: relative;\nbackground: var(--paper);\nborder-radius: 0.8rem;\npad\
+ding: 0.4rem 0.7rem 0.6rem;\nmin-width: 8rem;\nbox-shadow: inset 0 0 0 0.1rem var(--line);\n}\n.thing.is-child { min-width: 6.5rem; }\n.thin\
+g.is-terminated { opacity: 0.75; }\n.thing-head { display: flex; gap: 0.7rem; align-items: baseline; padding-bottom: 0.35rem; }\n.thing-name \
+{ font-size: 1.15rem; font-weight: 700; }\nbutton.thing-name { padding: 0 0.3rem; margin-left: -0.3rem; min-height: 1.7rem; }\nbutton.thing-\
+name[aria-pressed=\"true\"] { box-shadow: inset 0 -0.16rem var(--ink); border-radius: 0; }\n.thing-phase { color: var(--soft); }\n.thing-pha\
+se b { color: var(--ink); font-size: 1.2rem; }\n.thing-count { margin-left: auto; color: var(--soft); }\n.seats { display: flex; flex-wrap: \
+wrap; gap: 0.4rem; }\n.seat {\nmin-width: 3.8rem;\nheight: 2.3rem;\nborder-radius: 1.3rem;\nborder: 0.13rem dashed var(--later);\ndisplay: f\
+lex;\nalign-items: center;\njustify-content: center;\n}\n.seat.is-full { border-style: solid; border-color: transparent; }\n.seat.is-gone { \
+border: 0.13rem solid var(--line); color: var(--soft); }\n.seat-been { color: var(--hue); padding: 0 0.6rem; }\n.seat-child { border-radius: \
+0.4rem; padding: 0 0.6rem; color: var(--soft); }\n.seat-child.is-full { background: var(--go-soft); color: var(--go); border-color: var(--go\
+); font-weight: 650; }\n.token {\nposition: relative;\nz-index: 2;\nbackground: var(--hue);\ncolor: var(--pane);\nfont-weight: 700;\nborder-\
+radius: 1.3rem;\nmin-height: 2.3rem;\npadding: 0 0.85rem;\n}\n.token:hover { background: color-mix(in srgb, var(--hue) 82%, var(--ink)); }\n\
+.token-over, .token-dead {\nbackground: none;\ncolor: var(--later);\nbox-shadow: inset 0 0 0 0.1rem var(--line);\ntext-decoration: line-thro\
+ugh;\n}\n.token-over:hover, .token-dead:hover { background: var(--hover); }\n.token-dead { color: var(--red); }\n.token-throws { box-shadow: \
+0 0 0 0.22rem var(--red); }\n.token-free { background: var(--pane); color: var(--hue); box-shadow: inset 0 0 0 0.16rem var(--hue); }\n.token\
+-free:hover { background: color-mix(in srgb, var(--hue) 12%, var(--pane)); }\n.token[aria-pressed=\"true\"] { outline: 0.2rem solid var(--in\
+k); outline-offset: 0.12rem; }\n.token.is-able { outline: 0.2rem dashed var(--hue); outline-offset: 0.15rem; }\n.cards.is-stuck .seat:not(.i\
+s-full) { border-color: var(--red); background: var(--red-soft); }\n.visitors { display: flex; flex-wrap: wrap; gap: 0.4rem; align-items: ce\
+nter; padding-top: 0.5rem; }\n.is-roomy .visitors { min-height: 3.1rem; }\n.visitors > span, .crowd-label { color: var(--soft); font-size: 0\
+.88rem; min-width: 4.6rem; }\n.barrier.is-broken { box-shadow: inset 0 0 0 0.14rem var(--red); background: var(--red-soft); }\n.is-broken .t\
+hing-phase { color: var(--red); font-weight: 700; }\n.gateway { display: flex; gap: 0.6rem; align-items: center; }\n.gate { width: 3.4rem; f\
+lex: none; }\n.gate path { fill: none; stroke: var(--soft); stroke-width: 3; stroke-linecap: round; }\n.gate .gate-post { stroke-width: 6; s\
+troke: var(--ink); }\n.is-broken .gate .gate-bar { stroke: var(--red); stroke-width: 4; }\n.crowd { padding-top: 0.8rem; display: grid; gap: \
+0.4rem; }\n.crowd-group { display: flex; flex-wrap: wrap; gap: 0.4rem; align-items: center; }\n.crowd-one { display: inline-flex; align-item\
+s: center; gap: 0.25rem; }\n.crowd-output { font: 600 0.95rem var(--mono); background: var(--hover); border-radius: 0.3rem; padding: 0 0.35r\
+em; }\n.crowd-flag { color: var(--red); }\n.whys { list-style: none; padding: 0.7rem 0 0; display: grid; gap: 0.35rem; font-size: 1rem; }\n.\
+why {\nbackground: var(--paper);\nborder-radius: 0.5rem;\npadding: 0.35rem 0.7rem;\nborder-left: 0.3rem solid var(--later);\nline-height: 1.\
+35;\n}\n.why-stuck, .why-dead { border-color: var(--red); background: var(--red-soft); }\n.why-free { border-color: var(--go); }\n.why-hint \
+{ border-color: var(--line); color: var(--soft); background: none; }\n.why.is-selected { box-shadow: inset 0 0 0 0.14rem var(--ink); }\n.why\
+-number { display: block; padding-top: 0.25rem; }\ntable { border-collapse: collapse; }\nth { text-align: left; font-weight: 600; }\ntbody t\
+h { color: var(--hue, inherit); }\n.values-table { margin-bottom: 1rem; width: 100%; }\n.values-table caption { text-align: left; color: var\
+(--soft); font-size: 0.88rem; }\n.values-table thead th, .beside thead th { color: var(--soft); font-weight: 500; font-size: 0.88rem; }\n.va\
+lues-table td, .values-table th, .beside td, .beside th {\npadding: 0.25rem 0.55rem 0.25rem 0;\nborder-bottom: 1px solid var(--line);\nfont-\
+variant-numeric: tabular-nums;\n}\ntd.is-new { background: var(--now); color: var(--now-ink); font-weight: 700; }\n.beside { width: 100%; }\n\
+.beside .is-other td { font-weight: 600; }\n.beside .is-other td:last-child { background: var(--now); color: var(--now-ink); }\n.outcomes { \
+display: grid; gap: 0.45rem; }\n.outcome {\ndisplay: grid;\ngrid-template-columns: 3.2rem 1fr;\ngap: 0.3rem 0.7rem;\nalign-items: center;\nt\
+ext-align: left;\noverflow: hidden;\nwhite-space: normal;\nbackground: var(--paper);\npadding: 0.5rem 0.7rem;\n}\n.outcome-count { font-size\
+: 1.35rem; font-weight: 700; text-align: right; }\n.outcome .meter { grid-column: 1 / 3; grid-row: 2; height: 0.4rem; }\n.outcome-stuck .met\
+er i, .outcome-died .meter i { background: var(--red); }\n.outcome-said { display: grid; }\n.outcome code { color: var(--soft); font-size: 0\
+.85em; }\n.outcome-stuck b, .outcome-died b { color: var(--red); }\n.outcome-ended b { color: var(--go); }\n#runs {\nflex: none;\nheight: 4.\
+9rem;\nbackground: var(--pane);\nborder-radius: 0.7rem;\ndisplay: flex;\ngap: 0.6rem;\npadding: 0.3rem 0.6rem;\n}\nbody:not([data-mode=\"exp\
+lore\"]) #runs { height: 3.4rem; }\nbody[data-mode=\"quiz\"] #runs { display: none; }\n.tracks { position: relative; flex: 1; min-width: 0; \
+}\n.runs-tools { flex: none; display: flex; flex-direction: column; justify-content: center; }\nbody:not([data-mode=\"explore\"]) .runs-tool\
+s { flex-direction: row; align-items: center; }\n.runs-tools button { min-height: 1.9rem; }\n.runs-tools [aria-pressed=\"true\"] { backgroun\
+d: var(--hover); font-weight: 650; }\n.track {\ndisplay: grid;\ngrid-template-columns: 9.5rem 1fr 5rem;\ngap: 0.6rem;\nalign-items: center;\n\
+height: 1.6rem;\nborder-radius: 0.3rem;\n}\n.track.is-here { background: var(--hover); }\n.track-name {\nmin-height: 1.6rem;\npadding: 0 0.4\
+rem;\ntext-align: left;\nfont-size: 0.9rem;\noverflow: hidden;\ntext-overflow: ellipsis;\n}\n.track .end { font-size: 0.88rem; }\n.rail { po\
+sition: relative; height: 100%; cursor: pointer; }\n.rail i { position: absolute; }\n.rail-bar { top: calc(50% - 0.18rem); height: 0.36rem; \
+border-radius: 0.2rem; background: var(--later); }\n.rail-stuck, .rail-died { background: var(--red); }\n.rail-ended { background: var(--go)\
+; }\n.rail-fork {\ntop: calc(0.8rem - var(--up) * 1.6rem);\nheight: calc(var(--up) * 1.6rem);\nwidth: 0.3rem;\nborder-left: 0.14rem solid va\
+r(--later);\nborder-bottom: 0.14rem solid var(--later);\nborder-bottom-left-radius: 0.3rem;\n}\n.rail-at {\ntop: 50%;\nwidth: 0.95rem;\nheig\
+ht: 0.95rem;\nmargin: -0.475rem;\nborder-radius: 50%;\nbackground: var(--now);\nbox-shadow: 0 0 0 0.16rem var(--ink);\n}\n.sheet {\nposition\
+: fixed;\nz-index: 20;\ndisplay: flex;\ngap: 1.2rem;\nbackground: var(--pane);\nborder-radius: 0.8rem;\npadding: 0.8rem;\nbox-shadow: 0 0.6r\
+em 2.2rem #0005;\nmax-width: calc(100vw - 16px);\noverflow: auto;\n}\n.sheet-column { display: grid; align-content: start; }\n.sheet h2 { fo\
+nt-size: 0.85rem; color: var(--soft); font-weight: 550; padding: 0.3rem 0.6rem; }\n.sheet-row { display: flex; }\n.sheet-row [aria-pressed=\"\
+true\"] { background: var(--hover); font-weight: 650; }\n.sheet-key { padding: 0.1rem 0.6rem; color: var(--soft); }\n.entry {\ndisplay: flex\
+;\ngap: 1rem;\njustify-content: space-between;\ntext-align: left;\nalign-items: center;\nmin-height: 2rem;\n}\n.entry[aria-current] { font-w\
+eight: 700; background: var(--hover); }\nlabel.entry { justify-content: flex-start; gap: 0.6rem; padding: 0.3rem 0.6rem; cursor: pointer; }\n\
+.entry-file input { width: 12rem; font-size: 0.8rem; }\n.entry select { background: var(--hover); border: 0; border-radius: 0.4rem; padding: \
+0.2rem; }\n.copied {\nwidth: min(40rem, 80vw);\nfont-family: var(--mono);\nbackground: var(--paper);\nborder: 1px solid var(--line);\n}\n[da\
+ta-columns=\"2\"] #panes, .is-side[data-columns=\"2\"] #panes {\ngrid-template-columns: minmax(0, 1.1fr) minmax(0, 1fr);\n}\n.is-alone[data-\
+columns=\"2\"] #panes { grid-template-columns: minmax(0, 1fr); }\n[data-columns=\"2\"] #code { display: none; }\n[data-columns=\"2\"][data-p\
+ane=\"code\"] #code { display: flex; }\n[data-columns=\"2\"][data-pane=\"code\"] #picture { display: none; }\n[data-columns=\"2\"] #tabs {\n\
+display: flex;\nalign-self: flex-end;\nbackground: var(--hover);\nborder-radius: 0.6rem;\npadding: 0.1rem;\nmargin: -0.2rem 0;\n}\n[data-col\
+umns=\"2\"] #tabs button { min-height: 1.7rem; padding: 0 0.8rem; }\n[data-columns=\"2\"] #tabs [data-pane=\"time\"] { display: none; }\n[da\
+ta-columns=\"2\"] #again, [data-columns=\"2\"] .head-brand { display: none; }\n[data-columns=\"2\"] #runs { height: 3.6rem; }\n[data-columns\
+=\"2\"] .runs-tools { flex-direction: row; align-items: center; }\n[data-columns=\"2\"] .card-large { font-size: 1.2rem; }\nbody[data-column\
+s=\"2\"] { height: auto; min-height: 100dvh; overflow-y: auto; }\n[data-columns=\"2\"] #panes { flex: 1 0 17rem; height: 17rem; }\n[data-col\
+umns=\"2\"]:not([data-mode=\"explore\"]) #runs { display: none; }\n[data-columns=\"2\"]:not([data-pane=\"code\"]) #tabs [data-pane=\"picture\
+\"],\n[data-columns=\"2\"] #tabs [data-pane=\"code\"][aria-pressed=\"true\"] { background: var(--pane); font-weight: 650; }\n\n@media (max-w\
+idth: 900px) {\nhtml { font-size: calc(15.5px * var(--zoom)); }\nbody { padding: 0 0.4rem 0.3rem; gap: 0.35rem; }\n.head-brand, #again, .hea\
+d-size, .runs-tools, #ends, .head-spring { display: none; }\n#head { height: auto; flex-wrap: wrap; padding-top: 0.3rem; }\n#head-title { fl\
+ex: 1; font-size: 1rem; }\n#pick { width: 100%; text-align: left; padding: 0.2rem 0.3rem; }\n#modes { margin: 0; order: 3; flex: 1 0 100%; }\
+\n#modes button { padding: 0.1rem 0.3rem; flex: 1; min-height: 2.1rem; }\n#more { padding: 0.3rem 0.4rem; }\n#said { height: 4.9rem; font-si\
+ze: 1.06rem; padding: 0 0.6rem; gap: 0.5rem; }\n.said-text { -webkit-line-clamp: 3; }\n.said-reason { display: none; }\n#controls { height: \
+6rem; flex-wrap: wrap; gap: 0 0.6rem; padding: 0.2rem 0.4rem; }\n#steps { flex: 1; order: 2; }\n#steps button { flex: 1; min-height: 2.7rem; \
+}\n#where { order: 3; min-width: 4.2rem; text-align: right; }\n#next { order: 1; flex: 1 0 100%; height: 2.9rem; }\n.chip { min-height: 2.6r\
+em; }\n#tabs { display: flex; flex: none; background: var(--hover); border-radius: 0.6rem; padding: 0.15rem; }\n#tabs button { flex: 1; min-\
+height: 2.1rem; }\n#tabs [aria-pressed=\"true\"] { background: var(--pane); font-weight: 650; }\n#panes, .is-side #panes { grid-template-col\
+umns: minmax(0, 1fr); }\n.pane { display: none; }\n[data-pane=\"time\"] #time, [data-pane=\"picture\"] #picture, [data-pane=\"code\"] #code \
+{ display: flex; }\n.is-side[data-pane=\"code\"] #code { display: flex; }\n#card, [data-mode=\"quiz\"] #card {\ngrid-template-columns: 1fr;\n\
+height: auto;\nmax-height: 40vh;\noverflow: auto;\ngap: 0.4rem;\npadding: 0.5rem 0.7rem;\n}\n.card-large, [data-mode=\"quiz\"] .card-large { \
+font-size: 1.12rem; }\n.card-turn { flex-direction: row; align-items: center; max-width: none; flex-wrap: wrap; }\n.card-ask, .card-reply { \
+overflow: visible; }\n.card-reply:not(:has(.card-answer, .votes, .option, p:not(.card-small))) { display: none; }\n.dots { margin: 0 auto 0 \
+0; padding: 0; }\n.card-verdict { flex: 1 0 100%; overflow: visible; }\nbody:not([data-mode=\"explore\"]) #runs { display: none; }\n#runs { \
+height: 3.6rem; }\n.track { grid-template-columns: 6.5rem 1fr 4.4rem; }\n.sheet { flex-direction: column; left: 8px !important; right: 8px; \
+gap: 0.3rem; }\n.entry { min-height: 2.4rem; }\n.sheet-keys { display: none; }\n}\n@media (max-width: 900px) and (max-height: 520px) {\nbody \
+{\ndisplay: grid;\ngrid-template: \"head head\" auto \"check check\" auto \"stage panes\" auto \"card panes\" auto \"tabs panes\" 1fr / minm\
+ax(16rem, 44%) 1fr;\noverflow: auto;\n}\n#head { grid-area: head; flex-wrap: nowrap; padding: 0; height: 2.4rem; }\n#check { grid-area: chec\
+k; }\n#check:not(.is-wrong) { display: none; }\n#modes { order: 0; flex: none; }\n#modes button { padding: 0.1rem 0.5rem; }\n#stage { grid-a\
+rea: stage; min-height: max-content; }\n#said { height: 6rem; }\n.said-text { -webkit-line-clamp: 4; }\n#panes { grid-area: panes; min-heigh\
+t: 0; height: calc(100dvh - 3.4rem); position: sticky; top: 0; }\n#tabs { grid-area: tabs; align-self: end; }\n#card, [data-mode=\"quiz\"] #\
+card { grid-area: card; max-height: none; }\n#runs { display: none; }\n}\n@media (forced-colors: active) {\n.chip, .token, .seat, .thing, .p\
+ane, .vote, .option, #card, .why, .sheet, #check.is-wrong { border: 1px solid; }\n.chip-own { border: 3px solid; }\n.line.is-here { backgrou\
+nd: Highlight; color: HighlightText; forced-color-adjust: none; }\n.code-now { border: 2px solid Highlight; }\n.places { border: 1px solid; \
+background: Canvas; }\n.line.is-here .event, .line.is-here .line-number, .line.is-here .event-tag {\ncolor: HighlightText;\nbackground: none\
+;\n}\n.lane, .event-dot, .rail-bar, .rail-at, .meter i, .dot { forced-color-adjust: none; }\n#modes [aria-pressed=\"true\"], .views [aria-pr\
+essed=\"true\"], #tabs [aria-pressed=\"true\"] {\noutline: 2px solid Highlight;\n}\n.code-typed { color: transparent; forced-color-adjust: n\
+one; caret-color: CanvasText; }\n.code-wave { border-color: Highlight; }\n}\n@media print {\nhtml { font-size: 11pt; color-scheme: light; }\n\
+body { display: block; height: auto; overflow: visible; background: #fff; color: #000; padding: 0; }\nbody > *:not(#paper) { display: none !\
+important; }\n#paper { display: block; }\n#paper h1 { font-size: 16pt; }\n#paper p { margin: 4pt 0; }\n#paper pre { font: 9.5pt var(--mono); \
+border: 1pt solid #999; padding: 6pt; white-space: pre-wrap; }\n#paper table { width: 100%; font-size: 9.5pt; }\n#paper td, #paper th { bord\
+er-bottom: 0.5pt solid #999; padding: 2pt 5pt; text-align: left; vertical-align: top; }\n#paper .is-own { font-weight: 700; }\n#paper small \
+{ display: block; color: #555; }\n#paper .paper-number { color: #555; }\n#paper tr { break-inside: avoid; }\n.paper-rule { display: block; h\
+eight: 18pt; border-bottom: 0.5pt solid #999; }\n}\n</style>\n</head>\n<body data-mode=\"explore\" data-pane=\"time\" data-tab=\"picture\">\n\
+<section id=\"texts\">\n<p>This page plays a run of a program. It needs its script, which it holds itself. Without it, the run stands here a\
+s text. In the trace t0, p0, b0 and c0 are the first thread, phaser, barrier and cell of the program.</p>\n<h2>Program, in canonical form</h\
+2>\n<pre id=\"listing\">\n";
 
 /// What stands between the listing and the program's text.
 #[rattlefmt::skip]
@@ -1040,2296 +1041,2317 @@ ApUn9Z4TN+LRXlegZCwoD61i5fHKEVQqwhpPvt6KTIonAXq3iAKTrdf+njZA3hdcYq4yXCm1Qn/m4/M/
 ZFxWYKFMDF89DSCuVXmnt0/Vq70jt3ZFW/jOuvVLzyis1vTGhLPMn2LPmWAPGbtZ8S5nmx2o/druG2osSnVfAtwpngAs2ATEKos823Gb1NlE3paJRLtjNlgxq2LH+rmXFtE4ImcX2CsV\
 suXk0jNpEU2/paXGQXSBeyfJp2A7wRsHpXBEOhmyiJFb+jHtF/F/KvXe8SgeZzvK9ZdakGc3Ur4HrTIaWorqwv172g8qHFcqYN8pRalL8qMLNF9ebR7VNMKhosJD/teoja+RcHyXcffI\
 Z/gQueodqOGyHyddhalqmQhJ+tkzoVCdkCEkdxikox6m5u8KXZ1yXETyTH2cGjY8BeVCeUjzbMMZyqjQAH3T48UJy1uUJVCtRBsCK2jzo+7hVYawMVaDXEPy8smSPCqhz8mGXm7wWi+5\
-GtgSsdpfZzCbwgHnMxWCcOjM4zRIh2hP+UvAGbTeswdOyn9tmORB2hiZppJqjDZneYXF/HPao0IvrHYwKF";
+GtgSsdpfZzCbwgHnMxWCcOjM4zRIh2hP+UvAGbTeswdOyn9tmORB2hiZppJqjDZneYXF/HPao0IvrHYwKFfln7uyARHWlXIFe8N/qmBToBf+XeVK648MiX7f6d3NYPKuHxSXX+JZjssB\
+eZtQDe8xukVW5hfcMmr+pszC6dHIBt7snFmhV8yGlISgSiiPlyfGKh4rY5cuKrcE0s4z5y5LCPlBEqTJnPW29nFrOCLBl2LmkXlClpV25oagRxbnJAeotPVzKvePcFuZ6f5D7QLmB5wU\
+0izoCgFrcWiOtBUTGGi0yZQzXgZV60YeQs6gP3xvqlhhFv+25QaGqJ0yKQra5the0s2+cWFDNBn3ISmCX2A8JT352H9jUQN5+t8gxm0BYgZAU4VBgzcU5uQhFEZ5V0D8O36v44xx+UAS\
+rCL9Nscg5/LgIWGHh+4273HlY2RcNVr7VekixV5YBH8JRf1vPlLWh0jBrAUtAzSzLfkPr4IijpQ5XrM5bi5sPIskO2ZsWON2BMbuArzuhDQOPko3+d9HBpGnvTJxZG052O/facH+386A\
+Np7udt9nw3G7ncQnPufO7nG/kozwPppzNcwE6EfwRvsGNrgh5wb1wsRkagP6fYL5F298A+0OhQxCRBby1PYNLKJ1yjOnn4XqCk8NnQO5JBi/1eHLqHmjnNjZ+lGLuoJR387fqpbDbebA\
+JUBEJCw7n1Wm3e8KvqJTaRo0ynqUArsQ4Y4S9WNaYn3wEvjCIfV2i4WueEAWW06qNauDhm7axVtpO2Qn6OVd8BPIknhKqzsHpQ/kGvL/ple9";
 
 /// Part 2 of what a page ends with: the app, and the machine in it.
 #[rattlefmt::skip]
 pub const TAIL_2: &[u8] = b"\
-fln7uyARHWlXIFe8N/qmBToBf+XeVK648MiX7f6d3NYPKuHxSXX+JZjssBeZtQDe8xukVW5hfcMmr+pszC6dHIBt7snFmhV8yGlISgSiiPlyfGKh4rY5cuKrcE0s4z5y5LCPlBEqTJnP\
-W29nFrOCLBl2LmkXlClpV25oagRxbnJAeotPVzKvePcFuZ6f5D7QLmB5wU0izoCgFrcWiOtBUTGGi0yZQzXgZV60YeQs6gP3xvqlhhFv+25QaGqJ0yKQra5the0s2+cWFDNBn3ISmCX2\
-A8JT352H9jUQN5+t8gxm0BYgZAU4VBgzcU5uQhFEZ5V0D8O36v44xx+UASrCL9Nscg5/LgIWGHh+4273HlY2RcNVr7VekixV5YBH8JRf1vPlLWh0jBrAUtAzSzLfkPr4IijpQ5XrM5bi\
-5sPIskO2ZsWON2BMbuArzuhDQOPko3+d9HBpGnvTJxZG052O/facH+386ANp7udt9nw3G7ncQnPufO7nG/kozwPppzNcwE6EfwRvsGNrgh5wb1wsRkagP6fYL5F298A+0OhQxCRBby1P\
-YNLKJ1yjOnn4XqCk8NnQO5JBi/1eHLqHmjnNjZ+lGLuoJR387fqpbDbebAJUBEJCw7n1Wm3e8KvqJTaRo0ynqUArsQ4Y4S9WNaYn3wEvjCIfV2i4WueEAWW06qNauDhm7axVtpO2Qn6O\
-Vd8BPIknhKqzsHpQ/kGvL/ple9n0qlD7x+kG9KZdJoC8E+ZcmFtKi5MzrmFG0ZeSkfgApKnTRtnjSTriBp1FsrZQwwO13mVaua8vZC3KhXUhahPDqkZlF1dGk7EmBXhUAxcKawrR5/Py\
-k0dwvcqVlzLrkANv00NXVu6AsWxoy6xllz7tWTDZovTJ9FiOiMGbL/5atalVz2bBN7cmRPosUhJp+PUu/PpQcq2K63j6fQATQMcWUHoKEvbzllOvoGTT19gcRpnYmXGDUU+sWSweVvph\
-gtsL9BT18FdyMxyF4fEQKA0USOlbXdeK9Qga0VieqOtpwJAP2EVa46rS1z5QnvNL7iUcJ0vRLyM25SCPwShB20ZEXcwisq6RXd2F/LeeLGUsVJsr96dvbHuxDdyyVTrzl69O110p5t20\
-Z1dtlTm7mzLEnaERNK4yFUuaKOGQRs1DNpI4Smmja3i2nfWhkEbNQzaqGHQRg2DNrbExodpo1vZovJkgbjS8DifTY7nTTxi0QvHWd28ybLXnliO8io9Plp4GkgnKoLlucqdG6QtiGFD/\
-q0MjKuIeWN9I/BObfxUnl6Vp1erT1tEc3haRtSTvjVT7UE4G9IjrjDeO2lChzZFWOU1WI6ibust/PIEZ3vqipi2JaDlYgEhnIoPmyfss7Dj8NXCyRuefF44RlrnNLt4AG9DTJiS9GEBt\
-oqoPK5KEOPEo0pUqsRm1vpHuTui0lLCYonKVJ2sHLoDojJVkpVDXwWiMrWarBy6Y6KymqJUaApfmLdEsdV+SKmLW/9Qu/YhdxVtad2OtkzVqcuhO6AtUyV1OfSVoy0h6GQ+8bVBYCbvg\
-MB0BZhhnMAkOncjS2DaSmAq3SjzbbyDhLLIrKs+vSpP1yQwCVykKwpEVwmMZSpAYCZpvdNUEKj/1lgdeIoogWGj87z75REYoKGDzOSsmfzDbjrB98gG0PeGeHTuG+boIjlY+8lHgRsp5\
-6JvFMc+lufDhfNHXfjokdMUxT/CV7LC6PKXjttHBqZPP+JGf25cn06ykCmEMlTMgY7xUiynkYNm8SQ4lDeLsu1D4pqYC2xSZwYUkLrwtdtS7hOjyfd8LNlunuDVy84PiC806AZa/Oz60\
-dWH3C98hm6lHj/25HH+lata9COB2xGQOUFjVhY4KfvyHyohQWf6eJA6Ii7izvSPyyMXTGpDzP34DKI6krczAqWO5ksKtt9k9UkY9NJUYXaX78hBamidxSw7kalZtKVHT+Lak+RQPjF4X\
-OwUO0R4nbQj7w/L+0mmV7UnU0yzlmHdT69ouk+9+8JxIi8dIkvHM/bW0EuTd19ghI84nbjAGCFqTB1KrSsXoFAkYfcJwMPnC7oI9e4c4TpFgnPxNDwyd8TV1xlzAlq2tHdx+3lfi7Hw4\
-4W8w5tthMsbEMRi6XVk+WPPW1jjPYg3ADmYFOSx1iwUQVa8sE65VkUiOC7zKI+wDkCrWNayxAchXOZEoP4RFU3nMf7tlB+P1Xi6TptioU2dOm2KhTZ16rSJCRBRp5IoGXxEzjsFrxOv5\
-nXwadb3GCdF0PSBTxhqt5AiF2di3AUGuwXwvGkRHHk8aE7/z25k0cC/PXGjkzNCZcIjEEayzYrAQzKb7LBLP9nSvEHeLQ+Jvt4mYIW++wLtlHT6TilNgmpDWNrgTHYKM09XO77l/oAPk\
-PQsraXq1lM1Brr56ROWYKfeBZrxCc3gxiD1B/lULYGnS3Zal+oGWbr5zDL4yknKMTaxZnBI38jvJ2gf94iCUM1XJeJJ1+dEU5Rsjfc02vkmfs+sUWP8vTMKRiw7vezZrj3jl13bG/kjF\
-pZfcu3bRa/opzwZNUdBqiPQGPnc6FqvrO43bzDe41yx8REY67oGeqBLvUSDQ5+bHOv5GUzgzdzG7tp9cJ3eD6SPJlmbe82OvOixC19swlNrFXLTY+/QGK3eqtHi1YzOmrHtmrG99u4cE\
-3BGJmA5q2i2ztT7IqeKNYk969ILmqjvvsBTaiszfNVEnK07ni2kbBP0oicZF/JttRQtelUbmrx9KI8uLIxCGv0Zu5x4NvmVUaC4J8M6WaPi1Mp0qvYkIDKep/R4ktVYDuUdimar8qSr8\
-+T0OJM8MUXvWZUnX5WHafk2Zqepmek9krchj4nqzNDiPcdrfmGMZC1zb6db0+bqJQBqSZ3K7stXv70qbyfoo9Hqt+dcvL0nzXlxnVyAxt54ouuSKEvTNF43EaDdZzD7OusmuolEVCcK0\
-cCU70ZhllirbBrI46NP+rZHVnXExlWN769q8KZVjdy8qkWDVdWfXVXXLTWxvlRnxZd9YeRnCTaHad0cZnRzEPBjYlYS7Aw9RimbwX7g/6e2H6S6H2R3uB8kd7IfTN5mP5hYbz8op89H3\
-HWnT7Jq+kyumj4Tawz7ObdkB9KxEc9oxGk6zAjvPiMMwR9Mud0T3kmwQ8wLH2WIAlzgHj3GaK3KPb+S8qSY3A/+6ZVFmiJG1JIW06cZPur9QAKCQwaBaGdOWW3WucvD1LFMmA8mTIy4i\
-ROzhoQ674yVSfn8nMEt+PISnKPP7Nk4zxjX2TLhx5Q7qzy9Kk9rbJmPIyOcbfKRUfAGW3pkhFQg7+CCi3GFOnKl06lmZ+bMl4oQX91iJq1VYdJ8sYSUmzhZjBYfoqrqVAjONQ4rSjkyd\
-/iSIAW+Cp8YQsCVhfYE0LcngFDPLoXEnE8AY5PSh+DDB2YbjgTUqaKY6QPmDkziSb7YFFkFzRji7UN7JDtcfitefdqQJ5dOVjlhe/CIIQ85zjIXhmrCWOuX7UnbZzA/NtTpoIHuERSYN\
-SyllbHoEgOdQqm0x3KI9vHcF7mhHG7bT8JygmZUrMa/7UIOAUAMo7hKLY/lSi7rmdL6dGu8vr8mr++vyev7a/L6LiYVn3JbPKlagseHScWsU0uWwIJVR+UQa4K6tRtYyFth/SZTjPEL8\
-3hcJTViSVShkgpTGweugyxmTVPMhWVVdmUlFnefiV7ZNJ4u4CV8XqQi7+mITN/OU+7SDgxVqkt2XJO3o0uWBnEh54nPv5UlG665ZMM1l2y45pLtoHc7ay1ZX6dJuAANZjbYZJDE6o1ps\
-VRREXZXP75kO6KHz0u2UyzZuNIRHXUiqNfGtmtonYY4QspZlPXj6ot0KpXml0+mD+WT7BqYluP4WrXHvg7tL9PFSmVD90mKhCAWwELj7+Vt+7GclkZ0nH0YHhd2Nofch+JPxi6dADxZA\
-y1ZgLo0ejx4vcrSaMuSkCUSrqK34Zr0NlyT3oZrL41edWmIyQDTi5ZSXEx8Whoc6sjS6KxeGnYolWhhCAFAEvLO0uZzMY28bo46u2VqRyzKxGG/czxt4NFERZTZsCSkVxNlNrif+JK8l\
-zoi1UFfQVRAjHL0Fe4rK85s47edNmmgqM96FXLiy6EOn76LOb+KlkyoWLPDHEUpNrGXuVlPtPYquii0K7D/TkGecuz047d2U9D0fvFEZnsHsEj8z6o5b2SuH88Mrwg6pnQOA/dBvkdjA\
-yV2+RJ7fQCLgsiErIQeX2QEx9NVY2l0CbM9+Mg7YseygNmD+YHM+eCrNufb1O++Sq54zmM76MleWsx5omt3PefLIWxBHDRRbgdd3Q583Q7gJvNXWOXQtzqkpfPcPTro/lPqfHSX01LgC\
-tVOcOzzjkJRbNL3fX1voSpSMW2aoFkCLAAp9zj0A2lCh2K36yc/5Kq30pA2dp9GPIWOWpOhm5BRDD0nxU2v3gIZK6ftJD/ALAVqlPGCp5qkGr9Xfx/m55N7nXmNv43jvngGZqcUc/il7\
-6XhCYERWTjx2t9azhlUNZ9m5Lj26GGmxO1RtgCXtUE69S6RpaMWkOW2rSmyn4ur3znUeD6dhlC6lfwjV9wIq1o8v0zz6bTxotyWT1s2sCHxLlXJIxKe9oav0yT5W8tD89J7qJgfdiPVr\
-egJ4Okx1KQHh/HH6byVcPqkmp5xSJCENgRZiam92Xo3vsSKjfgcpf8RKr+jQAby6xX9GgB2bQ+tY1jVUPhxGmA0EwPEOrtRtMaE4e7HBInUR+EED4/DEKHAOqEvwUyhZcOeTLA0ttYMG\
-qbns7zti530/2i823nqZLlqoVioLjmtP04cX2/tgfNv3v4LKOOWH5m/zUe+OO32CpgwH/qRU2r4aazXZTgvFdNgp3h3Qz0yB6PFc9/3j797y1N4N6V7XWHe4ln7Y+AGrvYvr4Bk1JDkW\
-2QOGnZXhc82llSbQ74GKynRl5wSkA+pyU2VWxrIKyh0UKsCTWe+2WTkmDNaX+J52Y1z3qJNGBAFOyGnhW4uka+HjJPPqAWRd5pvIVxxbTqFwwOL+LNozISnDUSbjcOTAv3V5PW5AZTGh\
-wkMm7oyBkg7nRouvu4dG4bfJqZBRQmctxuyHVDo+Y1mBCh54NhyHvel4V82j11A2xjWdoaxBqc69WQeJbug2nZjeZ6vZApuUXatlPdUMrEXVISLvGt95sCAkvqRJHRvn9S7o1Kf4KRuV\
-GAvN02Th/WaDCfPaQYY2jAy6cYLefs063f/6Ze+5ACTPoCf65knoRW9AZrhsCwSJV+2dyH6OJU2km+FEXIiJtjB6JedBVEBnN4F4zyeJkN2OQUU7NrIGfZ5Rjs3T61YYfHz7mjuBE8vM\
-bMh/jhO2bYuxPSxIOO5rqoeJc6TBZt44rVRib7FN2H/NWZSurSMgcB0g8Ub7RGMwInLsqzNspCp/TFRydHi4l9+qffqYYTxCgrfE1LShJbkiw/wZCmfxGRf7rqBC/fbkj0VEPEbXBfn1\
-VPpJGSVlPAUo9AF4vV7t1NWLY7qWSjsn8rK/mLB65MFISgJAAzZ47SbvBc9Psu27dRN/eWu3zNeo7fmx4xYjW+q9iFLGWUcGmkvOUTdnzDQ+dCxa404+oR1Mjvqvt13XNOmJm9Ed+4Xd\
-RyNANSD1y59nT45hM+NY9/0Imtwd2Dx/L6SprAqQUOm8Ei81Z63xJHGHZpRtcHna0KaIKNZ+cJUumGgaNXsgJIRZR8zCsjBnWScDpTaSwrWglNwlqNBjSGofHuKSyIubEZLCSqlRJVSW\
-E+eM8vrV2jcmDljZHaZ/nOOGgQU8OUP+Ov8R1SrFvd8XxThbS+0saiZNM59ywU+LrbX74186kAcpnfaoo7Krr7sTzl38Skb5c6aB0CvOqhkI9LozatJdOuatN+8mrRvXZMWnwyK3cYtN\
-xRGd0unuLTaGir247g5MsWO/KhxANFOFWXq/snXvzRPxP3JuFlbFZSfGj2VbsTBTx71GEaeV0ryAh9WiQtIvhla3gI/dQ2W3Bb/RtgOaHXzJnmrdjFq6R2wM0qj0PPuAcXo+BK7hxg6B\
-4+J6wVsmNVGwGBmwzpjEFTIQ3UcjF21rH5VbFguh5u0u70ogvI1e9q5bU/DPUqTbTqTY5GwYnlDcYRKhkz4MGCWKir2LldMeqYUgHBa8CsATvqPjGtKO0I2n3YVvcVVNBdX0V1c7WAXd\
-qXJx9iSCt6f+QgTq1fP8rNiyjxPZ9M/eusRUFV1nb5HXa2bivv1ORh1w7gk+bjgSUDAKMZxXvSZwFo7LnrVWq5RO8WycRW7wrVgFq6Ft6i3b9+Y+/nDYs1MDfwvrCY7te+FWJqzZOQii\
-fF0fAReZqWg0Z6F0Z98aMUZBcnvmSLTntipuJR/ruJq/tmKC/qjNSbGZZem9PFv5D64QHMgD/hr/+FdKf9e/4t3JZ83iuCBpMN28kV54MEK1YxMFoiPUbipP6wVP4pDiEcpAuJWR47i5\
-zIGQulsyQdfr2gJfoa1ZwCYJ9VqAJuN/o4M8oBPmsFxWx1jDdkE0kyb9xzjQPVt7FnGgSqG/Gju8aCL2Xoqqipigt7AuML/65Dh94FRVByBGMorwPXIrVrpCVu1zlsXjBhs2MVGejlv8\
-oQFvviPWktZfdkcmvE37NyKTSufjBsdJ3Lsl+btl9K7g9FidHoozioeXCV9UcQ68Fs17Dj5dgly5ZY+afsanQfIlct6JbT4f6PhtkoBkCwr9RGta1ROuDpsAHRloK9QsADYK69FDmBIa\
-5+Yse8Ta7s5GF/NW4RBwQ0Qy1NrmNjETKAYD7+jZovQVBKsAY+nAV8MpkuvEVnJZFbRmKgdBtYLg+HQ+ETD/rflHQrQ37sGefwSVGiB/Ba+Klz8q3mLLXLAfLK5K2+/cbIxhwPWNjBcM\
-SEAzd15Tk5fb3ed5IIb+1Tul7Y9n3aO5R2IHtu0Q3fSLuwJgScdvpp7aUtP9SOnNHitmgSyqOgIWwk2j1OEok8PYLZ8zRFHgMwgeGn7yEANP5Mfkwnn1vvP9mqxzPraY644E5y34RAjw\
-4tc3CMrfFiU3KNXyzBblQ+L7xXXQtJ5yzhkQ4VRfREy9KbnVGwxc5uVbfONJe5OkppiroU2PDdWKBuN5kXJFqKnU67pPs6FQDmSmxag0RRvBCYDpEY3iU70665xT4iqZ2ks5RWyQjc5H\
-rNLX0/24Ks1icoSKzYKBK7aAlSR/BIBA9zG1ayR60YB4/4JC6zkjH7qY5edUcNSRk/258xiiQdKpY0FHkyYXPFe2mnUfAMIYU4PgN4U5pRs1AcZPENeRZC4BylS8Mxa4IAlyplXlA+LM\
-Btx8DEIBIvKRdLXQJfAjvupgZucCAGrUvMpaKEe+8LGYHsqxFJNyHNCORNtKEVTUCldB8W3lG01j0LAxGKitnJCG0r5D6RDM8CioikFqB4kATRVZyH5X2TjnanJfkpWK1woGS3KQOQ8B\
-2A8r+AA+4yxTkPbTPQlTbJsdK7kEcR+tP2NllycLCH3EP8ggK+y8LHjky6b4UIjaSLkaHxc9BUPdlXzx6V5T8b1Mhvqx6TuwnGOvzU0cC2wWnzXXEd8V0FdVkdh8E0vx9NVwrwDUNOwZ\
-98OdWlFbjdTk9ttrMjtIiu321So9AoCtVh1QAAzqI3aDCxeVGLXF4ldlG4qJHazqCxUlCoTaTAmuWN0YlZRljMP568Ks/LNzJJu5EPQps7qxLOlDG885/O1rMFtvlMr6z21rA24U0v7i\
-BclrPXJAwM4g0NyJO7fPrl3x6U/wclVrjcDn2r+mFzP45lBx5PBhTyqy/U8GOqoXG9GyqhK9uCXop1uSpvJt1qfhhXJHtuXTFOn1GV76txkTfleF5Ovl24SipPU5Xusz76GfE8TT7B8b\
-7KQ703V5HuRSOUiyLU2i3wvUvneZpHviS9MptubWb4XVeR7+gryvSkpaUpLEphHlu9N1+R7NjslrMn3pkv5XmRFbnDLZauWRPUsIt+LSvlekk48WVCKkkLA7Qg7WXov+v3BbDP8Gs4td\
-/1J4zUm1/wY9sKdzv3VPswoaVelahPJoTwq5HuDkjFL2UyoJuHzKhK+QVXCF1gJX1SX8A1YzX9TOqhJ+JjqyGQek/Cxo7hJ1guK1hKq2AnCX0g3pzMDWYrrH+UxPouLL7D8NTx9amROZ\
-QEv9c5EVKsNVXBzTdYxUco6RoK5v3kYUL4kGqOe2CU3shQz5GqXbULNomWsXKoVIPaismaoRbcqQexIIXUJIj5u2Gljg9JHVXHiTJVs3p04kWnEWKdvKiVa63S+SrQ2i0RrrKFB0dDbS\
-Pl4fq2Wr705tYluX5vWm1eb9u1rE755tWndvjZNGKrYPbJfboLYPPs0SbnwTVQyCH1lrYcl28alFjKycF0Zma8cXHIMvIwX3ZJlcpRlEv+6e+A+9iGzi+rPZO/tWR+/byPmBbaQoJlMO\
-2eELGaz6rUJOMwtbLmzKmeM2xEKZ+5yBdwlf5k9oV0XRg3GsMTXpRuS/am6hWJ+/LohTp4SMiv/irDycAUhbFofbh8Cdgi1GUsbGhYD7sl6ErdOqFjkw3OCDwA+MXoutWkzHM1uFi8fd\
-Uo4Nvjq6wF+aQsZ56DcuOF9YOSI0CiFX1u59uGJENIv8XHLlFWZ9IAn2CZFr2akqTZEwg2VDKhIuDEmElYjJpTgw0MeDfOLaLSPjrj17Nl0B7PHVGfPJitlbar3PHskhoQVDysSVjojb\
-tzl3su/g8dMzr/9vU7Gv5tYb6KBnuQJk87scvvA6vhxcydTJN0AKPrkh8ztpgnPuBvswDKd+TrA3hsC2PuZuwTY+ydfB9gDxNLfWBdYb8T/Fw7I+pnUNLE1dUrHY6G+Y8GEwOtYw/9VU\
-Hre16H0/vOE0rv41YLS+/GvQ+n9VYLSu6hQen9TgeMrN0WyazjYNRoQqzoqr20s53QwS/5pQbP1OR2Yyoe+3vI8BY+xPZp90fnE3Sg6eleaNHPR81vQzUtiEQfLgNGVXinIO04LtUlPn\
-h4s51sZWPtzzvP5tnRruu3QIN+6X8epUaq0spi6LqL2SxF1bIp5Dsjy1JcNUwHS+UkDTiGESN3UnSgkGsHeh4jNOO+BzcCZm6JLZZQ4sF/hfZ7loglkNJQFMgGqLdMpVrb5v8XR5lkvF\
-gHsxSBrIXAuYN+b7DC4kUUIXGtkHQSuNhj9nz0aNLIuAuf9rIfAWZ89p7NLDj+bQGDRzyYRuOllU3Lr6WXTUqCXbUDgikdsNgr0mM9k1yEeGEyqj0dsLepD7LF8K4CuvksRuLIONHA9A\
-M87+nSTeLqrfFT2lUDuR+PpedZkpVnIhEV1CWDxVJEgH4jpDO0l6VI+qzt4MLoaLKSDdHZB77aWlpPf1gtScXNkXckejl3cHOrKRTMDC93HteUP80ueCehDdiRffSk8O7KxZzPUCo3kt\
-ESCqdRNPE02q9uPjRzpa2QDR2Y0MsWRaY1AfXxSIz2OJLgYCEYXGwvJvzPWZ3tXkwB9oKORVuF0hGq4JfUhXLcTT2YaFsvP8g1JUK6R5Cft7YnMOZ6IlWkmvtn4DUj7oicWuHD2iqG8U\
-RvT2ihfDUojO6pUKrv9DWeB5x0PF49KSy4zaeZATbeD+7asK8s66/Gos6p6IGqKbRbwiINkMKImWZZdhmscymcQbumuKNOCcycfc/HmaqCMtMm2CZ45Zr+47s7ZV3bTRnH9eraIJru9c\
-4hskqvXi00emiaAX/jyFWugSfMMCniZCuoyIbn5FCKxTPwzPPHPN3VPG/DDeLe3gtIHu71LTUl2npNdFANOI9etHk361HstJ2rW/7bcpyc+7l23vpRlTMh5im8o7l03ZgNPAJwGuHedT\
-bcmG3OfV9ks37t66F9uA3Hf5cVrbuTq1cfVq38s93H1Oour1wz7zwCQSq/SYtwoQElxZsXG1N5/8Q9WnNFr9E+6jT3S0OFvIvmp8ppO8fVNOfl6bEQndsz+0Dn4nqGQuLNN2oJUiQW71\
-5Q9IynpalLXf159zXtCfJq4dPMjG6N2SFJ2f1J5rKv7jHWLglM4v9rtLTVt7CzFFovYGYrdZKulYHQzsOoyfIomcpF21LQyb6eudAkKMPCPDP0VIdLwB8WBF5R8P6e046gS78OYEPd7+\
-5R078lm8TsHgwMOpYd1C0h09c/yg55GBhyJqy6HIo14VWdEpqAYRdPZp3xgY+fZp3wRu0ixK4EQO1ebdMXVml9ytcqXXW7baCVQeoUPDqofhMJ9moqjyGKXJO7jU6feAS8ANMgh+EG8g\
-3+PSDd5FiWBbm8hrr50aMMEj6nklSYzPFuitxlzUrYUy1xU5x7RH+vSQe9q4Z3m1ZoyFtsAGBwskCGX+8RC/6fuZWt+zAtXVa03FEcD8DNR992jH28UfgHTxptgTnGd2VcPXJRBM9W21\
-ySXtIswanIdH8hNdQDlDGFxoDqyE44pcR1cCk98EZ6w4y8eQlzjhgvJD1pnkuKfix3GOdov8LOUNyBHaRxPfkY1LpgPGKobpaADq8SidgaId+zuEU3kelqHv+I12ad2yUn0467rKdSwW\
-9Vbs3pqff1N9DeEQsyY8llY6pGlFU2PfkXTIxEdnJV1VKZYu2gETqNUcfGX8wZ0nihT8rNly/CyAZ2n2htPz6tPxh44F1H3sLoYc7rpN8QlCQQQqb7K5aAwr53LJ1ucQVV944or8+6Pe\
-fK73FcJsLqUNXLh8t5bpTaAi73G8Jnnu5t8b63/HM9gNv4KMxu+XTdNNqFwRr9WfUjnPVY0bQxjdnwGROG9Tg/gYr2FYokqQae5VtXv2C9O+5zRb9a0PlyroqHQ0wW/h2MR+9aQY5Gzt\
-pJK71YaKpCIjamZqHisOMhYhZToZ7lX/ZPw5EH79YOswCWjwDoofAQenvzrsfjFNsN3HsPZ1h/+D3wP3xgGLw1XesfS4EVKTgRXHD7udFxO2ETC93HCgBJS6s5Lw8Vr3rEX0yan9yR9k\
-98F9I4STFKCxRvOsRdfRDEeFcMp/UwwKxp8LwDXPi6xHOGb52C9ub6DdZ8drPt34GDdf2MO1v8vI8pLN4Qicl2x2RDlF8qmhO6mI1x0xQ7dtVbNnjpgZ8OLZ9QBKkQNRt1G3oCZ7Q1Fs\
-DFSedBBtJmnKnfX8eTnXZh+oOpSE/FJY/NG0orSqynS2LesO8MEMLo0a4/9voBxPyWb60g6vMCXYdc/eWO05zT14+Lr3qujudOnAEKxQHw2PATRYKWnaQdsnKJ0i4t/2Xx11EfqxcWbv\
-Vf5gvYUta9/Wh/wYeu0pOPn4RKKZbZ+6RSldNf8oJtWv+W+wW+58q0ne7L5iWDAebKC3Fg4NHKsDyMLvNFYEBdHblomcotEVDN5r2WP0qftBizgNk+inJd5+w25RjTXG+KfB1k5xTFQt\
-4T/1ntrn3n6rBcVihifcjBsrK/J+vvi6x7SeNmYDyKSIJIcfBHVeYHVAVK+HMIHc0+SM4ZHA3k4WWDPVS4HA/ucaRMKM1LyBCITB4WMGFzBGYrhRIUDFsWG5iXJ6iG1J1mnEJnSrB6ye\
-prVQ1aKDb2XkNhFYldyTiIyqTld5HQ1p5zqKEanlxdfHBLJ5Bw+cviSfRqRac3uI7uv2X1k97WpDaRsSLYNiGzQbA1ka2i2BrI1Kk0VxqgpWTcislGzNpG1qVmbyNosmxogcSA5ZxCZ0\
-ZwBcgaaM0DOwDbVf+lFub+hhx1k60gZs4jMahkdlNHRMjooo6PtjZEylmxbENmi2WJkizVbjGxxpb09pO5J1m2IbNOsPWTtadYesvbK9naRuCs5tyKyVXN2kbOrObvI2bXt7Uh2cYkeS\
-vY+In3NHiJ7qNlDkQpoU1tI2ZJsmxDZpNlayNbSbC0RIFSaGiF1JFkHiAw0q6joRJo1QtaobGobiduSczMimzVnGznbmrONnO1yFg9D/oVTP+cg7mm8fczBDIVfSESj66C4Qk7tMuZYi\
-liqsXnE5g++SEfqJzTzBJ5NHBxbwhzLEMs09jBiD2tm6g4tYArPpw6OLWSO3YPYPRp7FLFHtQDvJc0/iceTB8eWM8dyxHKNPYLYI5ofXSMlTOPF9MGxFc2xexG7V2NvEyWCWvs34NmGg\
-2PrmmPbEduusbeLJsKq9m/E840Hx1Y3x3YgtkNjuxHbPd5+0WCYOTi2xjl2H2L3aWwXYruq7feLWoj+w+zBsVXOsQcRe1BjjyP2eK0PtuDZloNja51jOxHbqbF3IPaOVX2wDc+3HRxb8\
-Rx7CLGHNPZOxN453gdb8XjrwbF1z7G3IvZWjf01xP5atQ86thBREekfHFv9HJsT7RCN7UFsT60LNuHZpoNjNIBj94uKica+AbFvWNUFoqgyODhGCTj2FsTeorHHEHtsvAs24/Hmg2P0g\
-GMPIPaAxvYitrfaBQV5gHh7hX2eiLEsS6RH+3jH/5TzDI7H4AH2LdidPyl3/q/Tj6/Tj6/Tj/+86QfYi4hvEd4vktAtFp99HlfDPv8WTnCjT3hWrHbGU+OU0UUX5+NrOB9DZVbU/M67G\
-jhnA2fZiaqcppeMpm5aKXWD7U/0wGxP06jAp+SOh9twxogSO4dvskpCwx60kRuXVNf0KKz2uWdc2J5qbMmFSarGFin28khPUY3x07ifrLjQ0w4zWWQvsDaAtFewEca/tWS01VK60aYj9\
-jKaH0KiBD0NsVrRY7yUWpQnFn7QuhMRtJRxVg/+N+2Dc/oAcoKGSO3hmPoMrAzPFaN10bWjdcWsPVqXjQZWbOCSuZPRwlXc/YxtRR32i2sP1VkZKmgqrOq0i6Y6QOdNdYDOmdUDdM2pj\
-NCn1hyhK+ZWI3TZVEdoxVRGiJq8/ghxqbcboUtmbIRWzNgIXTYyQhdZ+Bq9UozQDfE0VhmR5/T3Wf09OqZGa9Vq9+nvE/p7eA0bOhF51w3J5urjOb/m4vulckTn7YCq4xPxqyMOUcTfT\
-kMMrud4xIRiipLXGkvrF+sDl2DgrAsUNF1do6D56jKFumC94WmWxrec9mhpfMvRZyWaavQ5GQLxnf3Thc7alVVD8MRYF6/WZG6ou4nbdHnN0Bw3mP5hGFcWKlL4an0ARt/Jfs3d5Bdcm\
-9So7UchbWyWaeSavaMmPOhpVhLje94W/MtnbYi/s4o2WiCWjgehPWcVJBnyTwxMIVIavuUA7jDYSNeMPvxPP/8b/Lfp6VhkNE7eGR4WE7LWu1g4O2qfyE3auTDqvapKRi7ujwDH6rFgX\
-pzdq8ts1bVlRzttmm1oAntoEeVuc4A1wgTQTn/7+muB7kL9dcRyKEibow/f/HXern7BhV5YU1pTtBDPhwKU2hzpLVOjUgedma7MwMzI7MuaYsepM1ahWO+0bh6rQsH+Hwi4kc5GU87Ty\
-gyuzGtXAdw6mPewIbcOan6g5yYnmpi4tBeH9wLm2PCCCXUShjoJQ528oU7aUE3/Q53codKNEBpzTwBQcrSYsjX14cEClh1jKn7a48uBSnhec143GrhhAzdtYNHVwJINnLGBszZwzgbOI\
-5fB+pfvN+j7NH1dibkca9PX59ksMRxdZ/tvBkhIRC4f0rhcN8B75s0deJtX3QVEb5g8RuCmSbwi9VVXU1/ysi4CFz06QoWixtRD4KzHMMHMSnhZgsCSl03IN7zMSKFuNimfcbMpBK672\
-TQC19xsw+hkNoPIeS/fmOmtWso+FMxCPsPqsA9n/Y6rotysj8HPnLQ/fJ3NRg7yQe6RrB9x3/f3Ov+7R4HhP3f2Or+C0JVT5jHnlziYNh53flMCo3Dpcee3EHYfd35dAnj4Gwibx51fk\
-wAe/h8ITz/u/KoE8PAyhZl2h6Nf8hZGnWSeIQ+ZcGwQfylqPgb1nY7YmvYL3W+YtQ4KpRBfLAJnMZGXu77rOsZiLnAZA1EQCqSYge2LLVybwS7nIo8B2zp8AoHZvc7HXO2Oj0tgGH7bX\
-udHEd48PJluAU0yBwZ7HeLJtBnnXTSDvjPN/csWf/n02FX5JNrGM1Jq/ahDa/W0qKs/TC2YPjygjLg04KrmfZjHXjiVAtnmwinwgJXvhfhewN+rYIZGhXpGot+T4na59dzCgLurfOny/\
-OHcG3Uk1Gh3q9STu3C2HIktamTct4Yka5uEy0ihke5y94GOY3y/1Wg0Wp1WJwybzbAVNt1ms+m6rab+xwHP7cAQJt2abU630ERucxTBdJbGtRXRmwEFtzLF3MqGxJsoJgnoDYMYzeJpL\
-Rvt8bM8D7bioIL6b0LxDfmalsDayZpNDHI492YkicSShOfNsP9SOsCMSF568UJu5Noo7WM24pbn1ClR4+WLpc0XaMRPrTOSWJkN3BZZH72hPfBI4KINXLKBFRu4bANXXKsAuOHWCoBoE\
-dwVbVRVJRDgq1yfhdwRhumKKxMIHNPlItLXLyOSaH0QCbWWct3Kdaedt29bctHo0gJFFsrlCnssMdYHWilil1xw1RpbYV2hInaZYleL2BWKXWNE4fNEuqPkbbgQ76eAGY4rzQPBZjQhj\
-dzkg4CNLMohTmNLcsDTGB/3zhQxOjB5Z4sYKzid448T604ff7t8PJIR7jPyY+oTG0AcQ/J41scOoaAXYQF60ZdM+nKffTmPlyHtxHyp3I9+ouk2xP3ZmWZ1bz6qHRyO7dF2J011bx7fs\
-5/QvXnfqr35sEyHDzZhH1WG5+yk9OyY2sAlG1ixgcs2cMUGrtrANU+35GdrW7JT25JpwyQujnfJ0XmPF8uV2pZ83tNeWmFXbLrbGrvbtu0nA/tJG7huAzfYljfmgVOFVlGzCaHdyfZr7\
-5AZEzBXAM1cbP03GrL1o2TW0k14O7vZWMhMUbcbDXEPEUHRj927QccPn2JFJtb0S8Pkr9Grh53rUu2HzJ8Jt/CQ+aIwCTudP/G4ghT4Y2ESdjp/JEwCfcIDiDJmgKzWc76N0Go9W0Rot\
-Z4pIrRal4oIrdbFIsLslcc6JNQpXfrr0V/CUM+M1ozPdB8zP4ZZ33vMfAKBmHZGBBLaLhGYoA0UgUm7yo2ujnNmAVwo+gCH6JvGugOgd6mbnBbltZjVjg2UCCvr9qLH/JulDF5lEa94l\
-UV82asu4itedRFf9aqL+Joni1hO/rpsY4ZujGHd48MwhddsrMsysctS9OJiyaEv99iXc7pmz0BxMI4+OkFrFspxF/3qmj1veVm7eC2DvWhfvKCr9jnL69oXQnsCbY1dyFWme88YAZirE\
-oLaQj8nHTL6J3656hF+eXzxXl61wC+tIgKWLLhXbM1AzlnH8rKp7gL8hOk+TQTaHRtiKnZrUnDTWajiZq7iMMJSmUdGop8bXtZUvKxr6V2e8PyMp3sRvOHpqFy3LcEqwcHCBs7aAK8zI\
-MGXeorSoN9AE1lh8WzB4V4H5aIJnny7qVRVtAD5t5XJAeK6JV6LvpKzJR9UjC2u/yEYcucxc86DG9ycwWT9p+Mmlw2S0mKI/HbyHQaFnvNYqsInjoecj3p5l9kg1vONhXslzn/kZi22O\
-w+pvlzD36B/4cCLqay0L/lOKWzFxJ6uGveXTR7p6A4Nt3jkMRIQfPnUG4usrKEZQkNzdSPbtpGdNRrZYR8wHWmkKRrZZj3oDjVS+5CbeQBmw53k75r9+BjT3HNetR2SfdhOvssw01jrE\
-9sjB+I77YrGul0BV5t5a/SqRe2WbeOmRai7XeXgsoRGJSzyxabotUj1K8t1XF3X82Pr3tKBJ4bNLGboBVtgW3rg7spoUBk0VXh+cS8bqX8pvtfFd9Mr1UB187Vr/pp5Q2f6YlXesIGbX\
-m09337BFuSJOz3jiUB7XavsGNlrRhdvNwMuGpllPAN+0txqNIsxLIYOvfZrbMXQSVvJN4x143hbv1Kd9wb6jMEK/12VtvMKp87zozVapwy9ioCKTXuuumnPVzftPdVNe191z35iGGIr/\
-pqbRMzxXLS863mhV7ucn7SBH7d0kmXX14rIPuV8hVHQLVUYfN1WhXPQrRWRVLZX5nwzo3MHF2hgVNbhUJ61TMjhNTiUJWPfvqzT8aIvLMp3/nfuzIkWzBSmrd8Q3gzPwtmO8FDqSUR/9\
-+nvs/p7GM4kmA9p6yVDW/Fa27C2eIF/a3zHGZRd2ePB+LQZUfCT0xACluGjWtplVwNXbOCqDVyzges2cMMGbtrAoqeBc/bJeRu4aAOXbGClKNm2/boN3LCBmzawaBMv2cAZGzhbVNUmv\
-mIDl21gxQYu2cBFGzhvA+fYg/wS+9XmK7Lku80qPwlLfB5q20nbtpNWy7GBizZwyQZu2G65aQOL9tWSDZxhD1wrPlies8LytEeX2oifE/ZKi2/bD9rAORs4awNnbGDJBhZt4CZ7Rbraq\
-H/nRoBWewvJO4vG3giA8nm1x/j1nKJqSSgv4Gu3ZNGkvprHutDkz168tvLKq6e/6yytxcUeP2AG7mZ37NVST/3MfKxnG4YAL5OeTcsHDJvuEzbdJRtYsYHLNueVXmWWX0ROorjne4zGX\
-+GL2yXEg8duBHosp26LKUaVw612L9japTKILuZFzV1cH49zq8aMR3F0o8uWk+3RH3fFS861DptQtkeXo4WsJ93JXcwOkEZnqErJiA6LsK3l82oQ3/Vqe8jcDLIUgT8Lsgzl/GmQ5Qh8M\
-cjuGbrZvZ1GgYvm7VP0EH7/8R5m//3SiPupUblzPJ+kUwM8E7G8oFdYZdBJYorzppPZtCd+is7HOQw8nGKKfW8vT4d7xCMQSmQHXaBjOvZpOjTP76V0wINMneT9EfsVXcg2pDI8Z3tUB\
-xYJGxVWLyyM4FWWGu3TwuvpkFzv6ZNreLKBiEVP57A/8pNZ6coiR7I6B/vnWlgYzye2LCIm517YUJi4OgepzA1VpBdTQ3rhl271pTv20qu+9OovoenhJB21pDmMW0h2P1v7PtBcngR06\
-kxRlaIa8p4dfY1cvHfte0V3YcZjJqXBpZ1sOqVubhwhxpQ7Infs9aMpIWoOP5/nQIjP+D7RQCBNxxIa4e86+Xy34biu60BCCgXz/B7GaXXSjI8U93DmrLyKhCY4F++mWZoP29+iRQ/f+\
-a7YlYG/0klzgdfbeDQ25fyyCKCGps5N50B2L15d7uQz6UZArU5z7Rlw8x4B3GSR4K3/R0mATsIR9LqlMdds4Kqu1TRP75XJYfFE+dtn4nSjBRPlyQhApPNxRzCR3Ysxfs7FB2J2+bvis\
-C/0nXC3y7kvtdM+MEGNvR1IZQTZAHrzmG3X9uHJ5/P7SlTQDKY5esGwA3cNGXeMRQWdGzrZ9qHJslpz7xuDBM1orm0WGDLOXIME3c72R/cwLlnaWZ14roQEHc/5fC1rcJvv1Mp6Ty0rI\
-EGzdAfiRQlrffLAgJL7khyJd9w+uXfHpT8xEFNih3G+lBxlFhoUpCq2uKDZyKTbL+SD1bigA4sLqnf9TgUXFH7Semmabky+FdSzL2odZhkTaJZ6hVbvpgIP1FmNB8rVuNbJN6WpLJ0Bo\
-ED5FjufBTSDSTeleoFdBQPV5FsYDHRrAQzp1MBAjUB4GiCZbU/vwdBgZgog6HYBBOWLtIz97qXbGRDUVABB9ZWSU5TmVErzxXInWcq31UBBbRHM/FZBQbeVoKAO28CnigWPEjtsVLQaE\
-dQpEUEHKeMI65qvL3Va4MDYfC86/l/2qIJt6q+rveWuP2G8xsTqz+me/f/08krXZ1sjOyRsbX0oN4B/20FT5L7yVi/dykM0jgq6Q1FB7+OiNVJc68oolKig9zEqaJrel7xPqWHKVFAmM\
-+DqtBaMIUZfM6Kmsg4eKMpOt6fZQNahg/vPAgXPqeCBGosHOrB4oAyKlzGuZ1EPqtd2Wl8cX2S4gyoSqAP6RIwKD1dBx6cFBjTl3Wmaa1u2AxUywjYIDKgjIFcFDGjGvp6kKIZ++//Ze\
-/foyrKqXng/znufc7JPkkqdJPVYe9crqWeqqquSqmqkcrSbZvT47iiVwejPPxw0dGk33XQX1Q2011NFoJs214sQ1JaICPGCJiiNUYEbrygBX+GhhMfFeK/j+4IgBF9Er59E5FLf/M051\
-z77nKQejYJ+46N7pPZc++y99nrMNddc84kaNsUAxQLchxigEWQyLlPPFIk0+551/M8oPcKmFVLyOiOtISX33clhfjq6R+O9R7qHLaS/LYSk0Sj1qfCa36JPl2786cK38NPFG386/y38d\
-OHGn87ByTvZxA60dine3Q4QUqEyIzE7UyuxLeSiabh253euG3PRR9hmYTq2c9xFCWPxLBgU4T7WuiJJt/kXXdF+Br7QxQeEIaJ5TNeYwEVKvaIDDKx0iQN1AZQHgTufV+kq16Dw3k9/Q\
-xJpcx8vIJdHjBefI+PQesxLkQE9FUQSajOiB4ku8HP7xFOynch0zBHq1WqNbsGzZv9px5IjY3RPDJQiD2GTo+t+qpZekW9LiE2ThNjkZKs6dOEP8jlS9HvTFVso0GGwIrxeJPE1u2hCL\
-nNfM9z9f+lMu5tmOrAfn6soLyk3wEtyYM35inZILHbiA9XAdTJZP8v/UYXcxQokD+Mz/9cznyac+Ydq4wNuBEs8/ZEQrELzRhznO54+f87JSGnIefvT5zGU/83lnVofdu2z72p79hdTz\
-3r2Wd5SS2edr1aJ7u8b3/2K2DxqzIO0L0a9jQ+6wAN6cuqPHeIWGr+TYSMZ6T5xxn2NKzSZvbyM6ZGJuBeXq1dm6ZTBRvFfcB6OqdvuU9SY9/0UNcYxfVjotMtE9ONDD2qU/fQDODTyP\
-nHtQ39yDHmS6c5rrjSVGTC9jc87wuL0Noov5IzgSOwRA616Z8dHLmPlIywD3b6qt9P1Szg4ojdX+YXYmFRbzXUaxV/7Ut5+7orUa/RrUiNcvfluW3+BcPskQAELBNFSFragDbPjR846c\
-ojfqGI1JJXHLubsiPPM0+fPOnDJ5/n8lae1BzwzoCYftJIbmcP0Kcnah/EmGJghYtm/M7vfgtkdejazi4MjjdC4OauJNvh4SC37vHN3RWajeLe2Q/u3v73X2rr9YnC1uetJQ9FleZVG+\
-4reudTe/M0I9/42hHuvIJymVrhOW0u2jf9YbfyWEpfSFi38f6pCe5j5TrXvH6q23NY6evw33dawSfPm25r3HrsevkXNi02qgftNgj+d721u52+0tfPXnpbRFlHaRjW4rmyD9gZarnTUz\
-+ULxZKTntHxLy/92q/kJHFsCj/Gv/JZ95xk29xEwFOru31hf937Jlb2N7xnubT/f0KwdR5+e9E5x6z2d+bh32YedJl85S8/+QTSVcLuNXX7qx/+xXfkT0tCzu9M0L/JBP3H1kZzzPmY8\
-Kau8KZ/yLypJAd3Gj+a3pE+CVKaPPhH8mBmixo/21bjp+RB/zuz/e9htv+sbW5WZG6878zNvy2p/MKnnhZS6W7BCX6hjYX586dbDKOMBPOwKU7G7BHJsp0++yE4bO6RSX1YfnzoQWiX7\
-HjsaZ+0ZNygFdh6pMp8Zgab5wmT5xrEh92Ds7inviGpoWtNFO7WrztRe5Tpi64/QWb8S/m7WxOE+qJNE8R3OyeIXo6tRs3hVirixOPzi87l8Wsfcl6eNMi1s7+9Y2jcZnJ6SDrV14wJJ\
-2fW3fGZNdfsHTzHs236GAO2WbXsdlWCeOcbH6bhuhJvaxReUIE0AIV6o6Ba2oLVufZanWvB6lzdlLa1wFpar+2N8uY3TL25+SWRwmxL5+LoFQ2o156Lo7dNQ+u15+Jg3G770U+/6bf/S\
-APRa7axhpbQoa+xyKk2HHEhY/24tEOB54lmFdaN8Eyhd3BQNdteUHETcc9yF4t7lrvMdrONnrtA3+nmsGOxf4XIE/Tw6CtnTnSAoLgWImpJ4yFoPak85ISn2cnRbBMnR3FkpOP8hHfOn\
-eNB7NMpvMInB/t1aPvV8kG+ac0ajBo60JhvFGFGMsHGqeOumhU4PGswUDXajUiQZKMYifxrqhQJvZguRdakYb7XmjRYYMYC073GJxyKesXMoD2loZVC+HSqwQGoMd3bVKreZ3rDn3W5L\
-TO9d6h+db6XW3PEmeuN9jAw3cvKJmu6Y2WoW0lVE8MI0cRRq75PTSTYImXYX+oSB2ERfjpRBPZAFEjpNmk9K12xuSN5PhJNGH5YlQ+wvBnVrndFYnCx1pV+DAYarOLwrNRxoSt2tCGqV\
-9TDKHvQva6phjKYlBibk/N9z1xh9UekImWqbg/EuU5r8jg0DRUHoz0wNQOwjeiU87woaskDI9jR1IDOtcZrVCWfhG+PbfMmSxd0vDY4ujGDi4Fiw3wQbRc5ZxCJhc50oFY5U4GizkQQd\
-UsFgjrD/lop6hHhf0nxbLkU1VXOGoUyGiVCHrGCMl2zbAZV0i1rshIJ/m+UYZKDwS5HNdUm0OipG2WYjgpfT4dp7klHTe7eKpoza3O3S3/hCBO+zbVOZDYqfF86FDQPSpcdqXkOF23ii\
-ltWxfKkXT6LXTpO813aY+qNb3sT2t702t5U7Hj32fEu2/Gu2fEesOO93Y53vx3vwI531Y53tx3vQTveO+x496h1W2q8rRvdDu1ndzrodJCOmM+B+PvT3nYD6YEq61guZnUse9PD56fny\
-0vPl5MYU7dYCks+xMe11BhpNr4Mc+ICEfMzUrbWxGX7gNobb37A1Qe+gAey4YhoaM46bPAI9sVFGJezzudgebgK0ygcFpXgTmXUaEtmMqO2XDINGTXxkrnw1fJLZtiHQRgIyHg+2kvXP\
-VhyTHi0Yl/NO2EJt5S8N+2rsaeQe18tPgUjfDX7FETx1fZTZtlXA1DBJl+sQBtL8Hy1KPptXtNsQffve11vvartkLZN/Xzb1M+1Tf1MJj310xmd+j3jWZ76GGgQWKVRYvYKFeR7GIjYz\
-4yAmP3MgJXsZyZ4+i6+s5f9zARdZtzky54a00qrPLWxlRZ7anorvfHUIlf6LG6lJfiwRI4sEMP2pE5TLa8zYrKcuTDY5EzseSnnUS6YYnh7ZJQsnrfjJ26cvPskP95vf7zH0odeGGOb4\
-L+OeX1XA46/0JM2xn5cx2hIryMp02trkg0TbGuifU/KFBsm2C/aZIJ9SYxPP9HThMl+C76r0yx5aZPpcmLMfEvW0RZIzMinLDCdNm9uN3ieTxtFQ42NlYi83DBNdba0gJ7wEgvo9WLKo\
-rjdxnhykx0yGMTGfE6shX21Fl7jL02wP3T4duHM1jwOqd7ySyvri/I82yAv+ollMaq2qD1jgbkE2S2wYIFFCyzblq1YYNUCaxZYT2ymb2zHK5+wwKIFlpJRsB+dDFI4MIHBni+K5e9KQ\
-Sx/Z2pi+TtZRLaVUmMqbIJKNWboNFNugi5iMDjhe09j4qf/6s/g7cUVQpLh38yS0RVLUTt0G7ZhE2XbQgtMWWDaAjPldC+4g8lgWmDFAqsWWEsY6QCZQ64Q/S5Tk33LtvOiAq2ZrxEz3\
-AcONPauIJmdoQ2kLIjXmK816V2DHF1ygOOsNJYA8+9wsTWehtomOuszOs3XWLuvJiCl5ykTnEmMMwPm2fkjEwEi1yPETJYt/+xmJPzSZABqxec1Y0TAoec1HhHtFJvZ0lHX5QxY+Rbd3\
-diEVGubEC9BxeWS2Kc531upMQVPN4WftHOxaoE1C6xbYMMCExWLtPbOvAUWLLBogSULLCcP29cnLTBlgWkLzCSfADJ/oNLEQIXvsAebD1TkgCRbgLdYkVqByvi30oQhRMM0w3e6nHAI1\
-l6NSa3ll20tkxU+AsVqTSmHqi2QHLZ4U5XZasEpQLOVz7Ii7JjzpkpsYPW6x/bQNnqpIisslQiCd7hixPtSpc3HQb1Pu3jyI9eadxSsTaXzwoq+BcsjYvKomeEd5V5R8onrAScBk92ww\
-AHJrkKo4rFZ8l6VA8EWBIgeGzrlh7/kqkTn1S9tmfdqBX3NllUJD9RUCA/CGneHWw1GtEfH2zG1cBZGJbMmFAOWgoURD0sFa+7L4313yNKid0x4hThIV48bReOwPTOd45RzmOlqDYNzT\
-8UOH7JG6tlP6pUq2UhpsWZR0ALzNfs1s0eWdNqKOvmqoJHHopCZohr9wGRSjJmF5xkubxP7prkiX6aLd6qR+GIh3m4w2GxpXdch1hmRGRhuzUDcb62uh0z/Zqvr/i2trmMcVlpW1x6sr\
-vvNUGJ1fVCtruMbWl3HyJIuhmT9bPzcaXU9DMuyofLmhw+2rK4733xp26u5m3ynra4H215lq+vYHOByUsNWn7xzkB7PyOPDYnV908f9W679rkGxI/PY6rpfFkna6nqqaK2u45tbXceBB\
-nrrsLruMUNEiNqsrvvbrK7ridW1t7XV9UohrpuhtNW117K67jd15MbstLoe2tLq2muzuu4XO+l+NTNmi+v+dovrfphVe4nFdX/K4lp/YgGSJzV5WhPvkP2bra3t68a7rrW1x+bPHP/M1\
-jYQtD8v1tbedaytO0hCDTFerLX1e2tqbT1fm61mdrh+dsfmz6m19a/V4qHN1tY0FR5bW/eztTXIx3Arxh/sn71N1tb71dp6GFVrgZODsrV1f7u19TCsrYfMsFpbM4WmT7ZbW1Mr+gmb6\
-Wt0uYG1db9aW8dqbc3Zi1qGkF7K2rp/k7W1h/VdHgxa7aB27TP75SCc67C29tTaOsZ0pWglW1tTp5hu9ndax9JCGE6srT1qRNraOi7XbVXRdqlhk7W1Z62tYxDtfqaa8b/I2jpOj/BQy\
-/j3OiOdNv71OrvnJd0r9wW0ztPGv8M0/C3j395v4ae33fjTPd/CT/fe+NPd38JP99z40zXoSPrbrK1ld+Jdja2tqbKhlrW1rsQ2G9xhtcHl3f96NrjVFPvENrjD4kVw64yMcCOLNTayP\
-ub+To36AhL12zU1qf5AjQ2xh4j4qdk1UbpYyVh0UA8zYprcw7vjQTG9vrOyLWjjN12zl/hNRgluRjjvJoa3zNSqR6jzCdvgJQts3Rc29fyTWuMAW296UINDkXdAjTdBn1lh3kTUy5a+3\
-NtCX76nU19+ldXle56lutxL1OWeqMu1FVZl7qVU5vYn1X56ndpY2wFuinfrqnNPVee2/s3qc/vL1ir01od/NNGAP/nmtOXJxJthtMAHIxqBI8a5Eo7AYIU9l1/35kWnEdCN5Ci7UkQGa\
-Mt9LxdZFe/KSRXXtWKgdRnnhY0pep+Q+Tdcqz66TgXOWWmrfW86ec8Lbg19uJuCid+tJ7n5WhzrZ5ZqkXaRRYW1WNn0GiL2tYKdxOPuozhyGFr1MgA/82YOnzsCVtFA9Me/VgO1jGexi\
-Jx3GO0r6QMmnyLdC5WKQZwpXsvcShw33+smwq75WsVp/5jkK4ztwZMZkffWWNvYJVOaazZm8LBjv1dOFLi0tMWtWc+9kOkk517Wi/Hht4x6ZkqE95AfsPuhSCouVHqI3OpJh53EWo4Wf\
-DqrJ44WwyCB7Y96KS5AU7zH4mwR08PEFtBL6mzRyWNsdrbgMxaqV86baPZpx3IjZkhZ4UAZsv1gleg6LPmdcSaapVf1RMtOF0PtThdKbducLqaKKaeLyaIcDWNxuuihibvM3c3wUNyA4\
-A/dCsF3Own+UEsPXtSjp3W6mCuy08VcUax8T3ufYX+M4XPupxg4cNb5JANDZx0WOWAQP85AfNpj2QNwT2UQIaSzLWrO/jpLlWb4866uQvnR+r5zEk4QBlartpZJIMYfd1Q04Mdcmd+kf\
-40YLQ9KAEokTmbBnoSgjD0V+EkQyrhPBYEShhJplSeTYiEuq+BQQlHGVqBorHgVBhos00KAE5ZywUiE5V7I57eexEsojRfGs1Akm0C8kS3GiwhiGYsB1pUKJtIwooa00LZdiRLtwlJgv\
-800LLANYPoW2Faw1iewTWENU2Dbw6qhgAV2kTEv14itrfaMs2d2YzpoigAKZ9vUraRtLZ8skV94KpwHKZ5I2qtRL63+xrMRYUqtqJcpDctcm4Zlvk3DwjL8CbcVH1ONGKRDViGDr7f0N\
-BttmpkJX7UO0mBfVQ+JznDNTasK1920qnCD94Neq8TS4KbTpQSzEtMRCZc4mRRCGzhDg5uyNsEGN2UdA7WsqJrp9YKqBtcKqghcKagWb7mggtqlQmRFPao+XMjrvMzlVY84k1ft41Ret\
-YGTeasfzKk+ez0XiahuNac675Wc1TXmIASSj+QSFV5OlXxhWkHdlVZd96WV2l5aSe1sUjH6iJqoIYIv8VmQGpjKLdy4p5VIuHFX0+YSthX3aWJh5GjfHL6YdZ1+WtdZ00I5UW9Kp2CXY\
-T3HixcS3kAfQBSWj7gq2RSNX6QIhp8+nuDIejGNaRvFNKZNlNKYNllKY9pUKY1p0yVgGqvyUlFojVJG8ywUhyO2K2YLxeE99se7VHG43COKwy8iC7PNrsopR23CaI0Jm9EYsZwgNKXFQ\
-i7V8H2qTuOEygUJq6dphj1VhWSNGpyZOzl/MMScsZcYhCEnbiCP3+jhwPi0+RJnkMPdKw2PQ3ikFJPIvkoNer+L5DGchNmXJMyaWXUt55U0uYX3bQmC+xWvFQSXYRsxb8ZtizBvY1uq0\
-jIV/1KVqAWrRE0HNrv1ILirrg2C+xOtSLOrNjD9omeD33oaP3LO0xiL055GsJ3i4PUSxd6GrdcA9Wsuh5zVWFoFG13LRpVOxZmG8YREyQ9/q9WOJRvyftVDpFoNyxxLQPsVj2O8h8laT\
-o8buPiZb3IAJUAszoscdXY8q1Fn1RpAfvo1C/ymBT5kgY9Y4JMWWOFgaxKQ9raom1pdRau70hQosX1KDCxMN6/RblBH1xTbQ9euuanQtf+a8afbQtciRq/p7ggM17116Fpt7fVC165zB\
-u/u4Iu+TV+P0LUtU4RLyjXZ6G+hXusdUeKG1CTBdESNu6AmCXdtMkm4f1NQuHuEReSQtIUUPAIbRTcdt1lCaj2epquRk6a6HKlqpBnlQaI5ktpaay3hSLXIEdRQLfhafmLFaTLTH36X/\
-pC3YYqD1tnJRh22jJ2NmCf7sp9mojTqsGXs/DQTBduoFhMFuykwUYh7S1+VSQ70CAJzZ+whju4clgus281BwooH8tLW9igljf8XBJc4W5Du365NLsJl5CvRpCM2Q/V4DtnMw3kXGeFbj\
-7hisosq/MR0V1KT27TvRNU/hATVwXHXu3pLn+MjNr0TfPWg13W1BFScyV+Jc3s1PzLNZfvrhdbrN7E2KEimGnACg3L16nTViIE5GzEwR3tD4+0Ifb4OViOHxUEbfHiS3wZfeqFSZWjdw\
-7KvBvwKl+PCqLPbFje8uDjqHLDFCT8ujTrHUCxgxdC1iBVC1xJWhrTse/X6AlyJpl2wDXMVuEevL9Lr/Xq9pNfHqcWvR0otWQYutvsC0QzWfiNPz+s1oZY0y5uSRFl5eo3YdTqN5hpjz\
-fB3XWi9c7wa8PYvy5rB+/foONwfdQw53T3uvAiK7hwU3duznMj2mHNvvA16xj5t4IztybQrg5vSc+e5TESLpjWH2P4pVXdOVN1r2JBU1Z1vTMvjZpsoVtiKn19kk/c+1Xb38BRtO+vQP\
-Of5+Tx9Ud4ssL67ZPXd2zv03VCF5eB8E/6Si7dcK62ot+m+W/WV0upvjNeqj2NvrrEqwQlbKnBqiynID6wCpybmG6se886Ekhm5seI146LcWs/wl/s0ql3ebAuvcLIKU5SuiB68zlXVz\
-zqMv60xKtxTSY1wHHRow221sjKmsjpLkxaYyOKLpg+Ikk2U4ekvJ9WbgIUSOJD2a8YQZAvZoZlDdkKKn29seKJEzcOSipWtFbc1kHEZwZ+LdjBpImTmijxN/SmleGCV4oP8XVaKVxKkD\
-Fh5ubNtturYxa1KfMAUoRIPzGCiEt/FjXXbY7EZ1NGhFa8TXa6IwB/vt2nFd7A6ChqAwfLmh3e1tOKdb7607dXcTb7TVteDba+yVrxuBric1LDVJ+8cpMcz8jg/PHDzx/1brv0uPK4+9\
-HWrDVdU9x2rEK8T7dn5TBxsVogHViFelzqKKYV4jrPBmUFTCF/Gyy0U6lYUOWCOvt9Lg+LgziKLoEUaWNysGM8jN0tcZeTrMoNCUULWjhet/hPRT4pUVYduXB+uQTfenShLe9p044Fot\
-AOWQe4Q3XiguvEdohsPoAAPILrYAd14kNKN608sHe+Rmnq0Jha5B9CN97bpxu3r9GCbbry3pRsn7oK7ZgJsqLZp/UH7K6IeD1rq8dDUvjehFGkCwaSBhigMH+ahfzIb7eBtYSI7W80Mu\
-n52cMsvupLy/DXZODXsYHBlNopU4fPjgKW2ICg7k5YUTTdmp1NB3q8K8p0c8EcV5EWrIA/aFeQ7oSAfNDvDR9rIOH21kgiaGTeEbBJ60zcxvNdXk/MXzA5TH5QFWZwVuqUi7GJKTR5YN\
-Xlo1eRFLHgovdOtoQbuMP10CwpH3ArblOVFplg5eq8/6KChrC+nu0xPg1SfuGXBLK9f0ZcXqTVpfXm9vD1VW1SWSjapzIu0NHdAZV4HYZeVB8paTxPPZ602r3cM+mBLkXudwVdF7g5IM\
-oqdHS0mHU0PP1TZxVaHVLG7k+51qLO/Pa3pvXlrur99rem5eWtq377WdN+8NSGkUslOOdDaCnkLHSAkReWDooJvX+ttSpmdtBVZbuN6OpmKMnCsj9kJNdmtMk4Bk8apbNQP9th9Q5Z6A\
-er3E1niRZhDz0aD/MykkE+mo3WlkNEuBiayolDp5k14V0r5nmZ/kevrDoxc3qrdcykeWw89ztttS6ctsGUncqx5n802DkSFds17AccYJv0FDOX1NO/1liZ7W7vmvcjq7rrZdj3NewGa9\
-8LNNe/aCsiXCx2ad/vTVf2pU/NuO2A173WTam/95pp3W/8Vqb/e0rzbX5r6S4fmPfnwTTTvfDAdE+V74Up4XPKYPEpnRKJiwr/4sghdy+vP+Mr6W917vrHgKxxobaag6vdC+HuumA3dp\
-Can4+3p5G0+aN0CJnGP8+F3KyrH9UrIZ8rpLA5+2k/cmMzGLgNT2XSHcZYPWReP4J36glWLpwemFvDbj0euHLYIvmRPuBDdhaZgK5FZoLPue+1JeSJbcW5UeSWwZwTmcZ7MJpr3vNW62\
-8N0xQoJaE2zt1peBQut83a51RG1pkh/qxrYFMG8y1cDPVNxNkNRvO/gHZhV9ztB8Nof8dr5CeTwAekWnXudnkciROR33CEHynaGpYNGo/pxSQc5aHd8s7PFZSPRJnMG+BEsXj+4L7qCX\
-kPnToeuWXpVT9Kscx9MdO45UNbwB3m2IAmQowIXC6OMxCsoA5ZDaF3U7h5N5mXudIYH4sZEfvAWiLybJvKDgdDOWIWyjhxy5SQrN+mww9p3lnyY/tPeO4G9Zuc5978wMHDW+QUGBllan\
-ePRfCsD9dMeC0R4ZSDMviAIFPApim62U2naFQV8slD49xwniyUKAx18O33g3I8BJlsW010XVIYzxnJBm3s6JVBLyfYgr+OkwhhVLDyXJXTCs1NdkSyrMWAUL5sLLAqwArdi2yfy9KbOj\
-vFFQuVfGIzLSMebhwQ2DmSiz8cVmeplH1SR9YxwqVEEWPQx4tK8AgRpQoqthQ5CDfiOajyAhiLxNcUrJmMq+HvBYFyA+06h4T8RZZBOGQ2WmAxEqZ+IAk1VXTIuT24RV05UfZb3I1f2k\
-Gbrjsd3vNQdn+/4yZ2Aw5/H7I1jMtCecbURkt6XCWhKcuxZyaR1VqPjo4sNfiqV8Fo0cAUR8GK5FtTXKDtrKrcymY5MpopbCYdm8pJy8ktV76DoAGZyV2IvEbz6HYLXTFrwSr1hQXF0W\
-AjQYer3UDqphwcdKcvu/VbZ+OHvWy2kJ8m2YHEJz9Eoy8BUJsoxMJmJ8gxMZKhTHovLkdCZpeiEPB5rn6KAgSVovTxRkVUYWPCiKgPzXtTFwBy0Vh7bNUQ1+ShyL3uiNOuRjyL3sifas\
-23yUeQu4I+60XYG1sB/AVh1icoBWHGJvHF7XCKq3B46H8FWNMP4QB3HEo53plzP4daLZC+86e5qbKx/7nd/7I1vu52D4cDkfxfRsauNAnKDoMK6zXrncWbx3fSybtCRIVh37yii31m8n\
-VVg3QJrFlgloLFKNCcKZ1ydhtVsRS27qcPZOKZdPGfL69l4D23mSXkNmUZyEt/VxGbPlXu4yRM51Pgpzh3GQ4qsHjykuWgPDLHmM81oL11n6LqPv0ujnIv3mz3N+IAxV0yE1RlhdQ412\
-CSeCrw6I6zOg7hHa+WAGaYVAaNNuh6yqybDq/NQanVmeHUeSq3ODK/OQ6nVedAMY3UO8+oculDJB1wtITq1ioAmf3F4lhXm/MYwluUwf46eGsLqHJLVmcfqjC5UsuYANW7WRDzPHN+LR\
-+OCzt0EW2mY3WLWMJCOP9AWZaA3MaKwPtzWOqOa9hMPWg7dhG502PgF19LhktDhC3dwCJh/9Y+t+Ft9DBtoHjBNV0ZoPvhPSGiHhUKY1ioASu1Te7qcLYBh5MJeKQBfpVBQLOZCKLhNZ\
-01qCa8TxalCeqWEQJVg1Jl0aQ5NeRSWTxnQS+dxXKujziVcu0ad+3ENR50X4Vobde7BtXuUOE+69ow6d+HaO+rAegKxa8Zw7Rt1RnDdPuoM4VofdQyu/aMObDLMwKgDmwwzCHpM1x2sM\
-INOYVYGIxmJDLSozrIHIDeKqAgZJtuLDNAeuMAAbXvzDJRGkZucgF3UOR/AbuqcLwYgzrQFpvgnwbtRZ8WzpUkqrSalVfr0WlKiBe6sJ6V1Km1waZgawdXFo0iQlkH8qKhJ7WB4/6gzY\
-7+6ZIFl+Xzj7Tl6btEn5vmwcGn/uqhIzFD44XZUtEnO88lqA0KaGPf2i2kS72nDHdvlIWyXvjAXw3j4EDZLKhxmthnNRypdehOOwPKmq7slbeMZ2WgPiz2V6EKJ5OWw0R4OXuN5hZYW1\
-ucWtW+x2bYtNive0jneK1SpE+fFOGvFqs3ogSweQm3+eWJxs0/FRZN7kjb4qyb7n+LSE8RrZGfDK4O0sWYMFTOm+CSde7KQu0423CcuDFI78lSmLSoracm5Kz4v0FyLt8h2DFbGDhZ1W\
-Ra/yYDdc6A9Vv7PS84wiAsVvDvw8ler4DVCMTeQmoKOcSi3jUP5QlwTZoPTIQeJPKNMsCqVaCcPMEZxhX+pUmmeSl1cCk0Qfg9t8S4UVUvy8u1OFeXwdqeCa/V2p4xr92meUdAKzPC4Z\
-3rAVj941oGPqW8qekqm6SaOknEybcsDYyq0ig4hUUibB7u1mjJH0F1zrjZjn7VZvZr7x6OZNNL+bQTuELCPwLqA2wnsFbBOYChgP4FlAQcILAg4SGBGwB0EWqHsTu/8OLXXHoXi7sfGj\
-75cpF4B5B1RD2LfjH9D4ugzd8nMNBjZp0Q36RU4vFahGf4Hdh/xxl8tobX4rcydg1EPKP2KY8VMvipsiBnzWVwHhd4uCDLAEp5jPvcwEcFdwvIeanI2aYAHCazcziA2C+85DO4nsEde2\
-4sIgwIaewZ1MXJmm4DQNfQJ2IuIcgIiL3VdwDJcTQUssNTQ0SxFfIjF5O+QW8dU9EHgCJjyKk0krZGytWLMmi7FhixjA5vgpK1RXMKEOcIELNAyLOb4cU/wIa6Ezyeq4dFJGxqnCoco6\
-+YoAnRiqagUNa52ylFPOc53cZuQ666bZqLacF84eC7phI9zd6yjxdIboDCUTt3GV/XTTtNtdj4fCON8f9yrLyPIRQ89TT89SE/QM3cPGvtjGb0JOwYg31pOMeQtGARPlHQ8CDkMgg8dA\
-w1CRQfBn5VFRHWtPvcJmIUKg9AYeYq+kxXYPKX6qOdKr4Br7p2DT0qXhl3nRxvhU1TCQf5JLNUyYQOtPCwGDCo4M0/tTRs4h9UGoxDqI5BUbluByF4Wwgr8UbtdcJ7YJfKscJRzockiP\
-IYLBjSPaHxPNS49EVX1oFjBAdGHghZjwrs6rT3IoHkdUpN+On2rwLem07fKfOutrVtVxlQ9L3rCTdFXYxpDCbrhok3GJ9bUl6F07auuJNfCpzsHQImqu5UNTyjku1uNfnnHKlEb2Drsn\
-XVv99U8nwxLt2SSoxK/83q9S68XbtGUxVrnGL0O6XVEr2OJAIFlDwXZ4dFk3xSbYp5CXX/NxARCPYoNUOPjP7noXKFlmcUfTTRnC3Qk8TL/CGtvZtbZnm/87+2J4nvZZm78L6js4jyh5\
-c85iBJKpwktf4HKxOc0MlounXUyLP/IYt/LiktLzlqyTSe2LWIKmbNWkjkbNqdlK9NuPfN4p2HQJJvT5LnaOTGnyTXmJIPnkq/lKX/zZyf9tPGTplTN2ZSqHQZSyxZYscCqJ99NWxwZL\
-3xDy2JoPa/ipqkS6xxgY01HdgCLCLqYY8vuSORJc0XCJ5YFw8qe30LC9JzY3Ve5SjqWFqwIa62gDF4lbc2eT4e5cltWm7nGZEFsh7zWOYWHybiI+cNNyWigF7R9LhPv0y8tZCOx+5rPR\
-l3S1mwkcuuZbFSzAuxulVcTgyES7KhXWp+lTZ3bnmFbKGKmM7Shcx8yrN4h1jujnV/J6EgtZ3SkljI6CosZHbKFDIaMp1S6wNQkOUOo2dlkPrFqYwcDnW9pbV7nWjqR1wmXvuV11uXre\
-ZloKS3mdf6lHXlBi8bbS03WadEI5VmVRZ3OsyqL/Rh2SKdzrO6iTudYlcUODbul00gGyj/lo0h+ykex/JSP9sh45KO9SADi6Jee9Yg1YGlCnBQyVNLfNvrrpT9kB+1GPlP6Q17TLvoDZ\
-SeMjnbT364G1ILESjUgOSZGi/720t+eBkI5cFAcWdQ6I5umwdf1rbaAushVaqsrXa0IdbmrEaGueembJwtfeuzp6peBYPNhG9Wk3BhhT7cyS98P0LXOaYbK6vlWZin8QVOejQ6Jcqzt5\
-JyzJ2fJpZdeTG1+ItuTQ9UtntUwSJ4ez3bhrtFHBlHYyY/AV4UI5SH4012QAKQQKR60Tn7WhxD7Lv2BkSjBCwGbNeIk7ZXjXV6fS7+Hd4LO97j/VjpQtdKBLisdCFU6UFPpQLdKB3pUO\
-tCr0oFtKh3oU+nAdpUO1FU6kFfpgKfSgZJKByoqHXBVOhCodKCckg4IaqXFA4NWPLDDigd2WvHALise2G3FA8aKBwZUKiAr3LUyAF6yrpUBMJ1wrQyA6YRrZQBMJ1wrA2DVmpU4MF67V\
-sjAOO+q7AESkEUGos1SAysy2HsdkcHWFscsyM60if2x8VsdGVxHdVrnCkohZgpKIaYLSiGmCkohJgtKISYKvA0dc7+Rp9UD4Ov56ADvBP+cj4YY+FqeFhCAf8rTCgKwkY8Oif2mMC9wJ\
-7xfDXvB3EAiD2YHpvRgfmiOmRky+8+5d+J64Jz7PbgOnXWgEzXDZ4nnpevBs844rofOOue3YIaE5rYYJTYqzjCDhPNdOBrt06+8J6OfeXdGv/MrGf3QL2f0S+/K6KfmMpao3MXpw7Vwg\
-VOIa+GeUSKrtvCiUSK2tnA/7QZJ4RJtFBndYHN0FgtPQ1cgCqO4BAEEWDAum3sSHu2DyqPl8dfJo31wM4/2Nzfh0f6mg0f7SgePBh4vA35Qy/9EZfCHuRYPl2PcygO3Mjyqw/7QBVWn1\
-cX7Qxovd+L8FeP8ADvD0TkC5CbTysrs4ABREQkNvZDhYNh5XBP9krNJv+Rs0i85m/RLFfSpGWf4vOCyfgnVRogFXSSgyV/MzHJG40RSDsENJ8JO++VpyG9xFDF5O+CsXypBkqMjYGVqO\
-fiI04lgX/CJotd71WdvrdyVuJicEkodp4Sg03BfpHhFYTNzCqxYYNUCazlr9+OnFUpFnP/B+mpRTxBF9VcpqqdYUQmEG+0a94nvyOJgWXghfHgay7lmu89e+GmXTZyPOMs5bhpzLWJuT\
-VxLhgHiWrLSGmInf99tmSbCR8qvSMtQOz3gjy8++Rz5l47brvE05i4d4jLhZ11+x6AtHMhWP7ABbRZ/G9qsonhcVRlYhjaryNQ7ChmYcYkTLTLNJk60yFSYONEiE2fiRAFcIka0yBb8f\
-Xy9h9hQXC9Edb6eh7qeVboDfB0iHq7I0Jwf75Dv+eGfSXOdSqK5sMGS65ucTLenWYRt6QDLPWkvVfEUK7ZYhOt7YmXSImNGnKy8zD4xNLkucAS7ug5VIcrADDtDcw7HaQ/W0bbgig3tv\
-2EntCnIc4h+INS5P57hAV7JWdt17/mD0e7EAY6lqLvLolsBtxqkF1Zqq4ScFtyG0xopEWLvvEMpbks+E4fNuGwyV4huVPEH4puQMXBLQQcZy+MeEZWyCZiMZXDNtpOx7CYylt1ExrIpM\
-pZn4/w4YDJWYjKGaiP4uIUENPmLQYqMwe4f/RYyVgIZK3WSsfKsUD4hYwWweswo7Da7WFJtPfh4aDGB6yyn3x38qu+WrqbGMk3EcinnpZz1lYIssCWgN676pkAzCsUOpMFxLuV8UmxaW\
-SkIqy92L6YIVb/ej+E6m6PJyCUCK+/CIJHUDLxDWbQKEkxzVIRYjaeU58iDqQ/xOJiqquoFyiysyqmwKgf9aZugKqNi45acKqMy5ZaYKqMCZ9yBCT4NBMShGZUGQrAG0TzdgrgKP1NL0\
-oKqXOvtDH5WQVURU1dsF1TlthJUZQWfc4mYatwZz8NU54WDwRO+V2wpVm6uVJFYtIn0IqYhAeexqOr4whUD5mFJi0UqFSHZ/AEW9uu6yLKoScbcmo9kfchEs9jWWXYYly2+8sbO0tPWH\
-Y/veKk7Pt9Jm49kMcLZ1LpgkSTye+QIaPIXs7MmYSOw8mBJgYu3eV0w45yH7UgSqtZnrzTnOlx31nLd45DlQyLJxIRVPH5ClCqBqQT/6Hn51iTceN3EZV058Ig25UEWuraWUMEuoWLbE\
-irJMuElFDRVxSArSH5KbsLf3UDY53cqaIgQRTm/PTgivzgkVmM5iE2viqbEtRlFHUnmwQ5jUVniPYojCJXcdInZpfI5ngnfqg+Y+Bk2x8zB0zvH00pD5GN+/Hbk71Sy5awBj1Vp5hLkJ\
-+aGkP/3Xde/SsjnS7r2lq8tUZO/fTP4arex4fA/NCBZIHEWSMwHfUHgbOPrjjCtWKwZ47MaAS+zCom1IbxgY59REalfgk1PKgr6wD1fg2GlcI8bT4c8PEwzqujnzVK7QH9zzvjMW93gc\
-zu8moicl3MS4+Cm+NSixJG7ycmnzeEnwTCLX7l7uPdALrEMzDFywaiZ53obkYF62l8xw/NoRJPDTohp38E+MN2Nvew6mGV5fVE97dpcB9WuNuU2CAOTSbadyTQm3Q63wSL7AfMP7DbI6\
-yFxG5zx5MaK9AG3psVh0RP7SqwwN7wS9aEu7aX4DfZxXX1nnXpqZHRIrNNgKXEadHks4K8StFefkaCZnkafmLfAHByY3XG8N+cl/oPpFtgvxTg5q3GltGgRp7PFDD4HdWTjjZ4KQlAVe\
-Hi/KQ+wuSTvhzglbGeFZp+6HcJziKNrZRPXw2zL9dCTiVe3GZryfOJ62K/zm2dl7UDK9bBkXQ89bnCH6yHrROPtbbPdzw7n6noId8cMTB+9xPVwkBvrSuzYpKbtm10P+2k/VUcHvN/me\
-ljHxjoAzwevvPnhwZbrYeebL217NXeT77TV9WDbq+x62I/k83AOLKWcAzsruXOQHs/I4/ywe/PH/Vuu/a5Blu9JeGTrepjtdD3sb7hm+zNxabPrYcm6HvYH6iPYcj3MwPUQ3EAufBkvW\
-XU9zIs5dIZdD1nJnG9zPcxvdj3MtrkeemnXw7z1KSuZLuIm8p2uh+4tuB6WxGGwxMLgurgellT364nrIXiDqMR7GVwPSynXQ/1ps+thXaP9bXY9LN3c9bAEXSaU86VRp9W02pauh6VNr\
-odCZNK0RUiBuB5i6N8Nl58MDdWcR1t2j+tne7b8IlPQI867PDuS7a6HeXY9LLHYfPu4hsYRVIAbYH6T6+F2dT3k04QW6Lvqelhqdz304HroGi98pEV9mPak7O2ziW8VsprRN8X24nquh\
-/wFUzf9g7Ig87NCt9SSP59yPSxtcj3MY8HDXyjdGqSxM9vp1tauh3mmWDl6rxZ00FDeNAfgNVhAs1t94paVZnn9iushh+hIuR72I/5Att31sLDZ9TDPXsHjWXq+HOjKY8qaJp7P2vXQ7\
-Rh0r+XQdp3BV4e2+p3sl9/R0XzS0fTwYyfKb3Jo89TFUxzagm9fa8o3b03p29ea4OatKX77WlO6eWsK4GmTndJtbYW8hQJJUbknrodta72wyStFuI3CdbxSvpefQ3TsAUwas4Psn+LZU\
-AsYvZtwYY7lwgImlgtw/wEZfJ8XDTDwXi/y+Kd5oaNMUPuVVEYuA3M82hWPxmc8T8x2EIwX6EKlH5sKDfsbjvuPvZJuFeGfVOdlyu4BPCpB0l6vneDg+If9WnyT+sfxvTp3ry5MaztF6\
-5hEVK2j4VqSYLzWNmzsNowfsQcMYlNln6T8bGR5BfFJ8hKfpAwGOvxB6jczl8pDcJFdUrLik5RLfJL6xSepSJNzmZuT4c7fePa9m84++ySl5jxoscy5lE8Ss7hyM+WT9E0w0wnrLww1G\
-w/2Y1QeG/90ERx7HZHUeZyiurDbchywh2XPcZG6boCf6CNy7ZlBmUd7yxFXNRfmaM45pw8yCO+ssw3X/rNOL6595xyYq5lt55wQV2Kryrhuh32mL+N+U3lRSloEwRmL99zgbSPeTk2/V\
-bsSB4iPpFZKgVopBWpwE6iVUsBmsC/S8oSrwBQASE8m7Z3zeh3T64heh/Rq9FrXa6jXgikkVmnw+0kHi8viI0HjEzXO29WCL8EQ1tEcRSLPYsUGTuBiAQWBHB+Sa4g7kT/r4HNwBS3o/\
-X69Rnod1utxvZ7R63k2u+WAYMvc57b4XUts5hik7ZC43B7xL3wD54P1JypRhYGNMqx0JRFeFwNrSBIZSEa8GgMrZdj1Qu9RjnoYWEL+SACLZTqdA1go07kbwHw52s7AXBnxU6AbKUf9D\
-EyXabEDmCojaAyUJOVoh7SnHO2U9gTRLmlPANE8B2WNjLQH6QO5PQHMGTmyq6S39ZeCKJL2IKEgtyeIYgKOue8PoiEG3htEwxyW5jeC6CADvx5Ehxj4tSA6zMB8EB1hYC6IjvIso0cVD\
-o6npbkKx8zT0kyF7Uu0NF1h+xItTVXYhkRLkxXYl2wShhytSJ8WKtEe6UGFG059qkR7LYp7CkxaYMICGxbp1y2wZoFVC6wANVYQK7Ox5DZDR8PzrLj67XU32idD7Ub7Zajd6AAaPkA9x\
-1CbQeo0AzuovwzspK4ysIt6ycBu6iADCPPKgFi5CcpOMOCydVMAiwQYPQWss1+znVmywLIFViywaoF5CyxYYNEC0xaYscAcf6LCCdoCVj3MMdDFSdwCWJkgPG0AMxOEpg1gZ4KwtAEMT\
-RCSNuCU1BtFANs4FG0g8YsZ2E4NY6BOTWWgfxQx0y0+uJwRzuKKy2nhLB65nBvO4pjLEYu1tOByxGItIfzWKpf2ckDiAGYciFMcwIwD4YsDVoMGkKqEz91C4hZYnWgA8gvatQxbqQnNo\
-Mfmw+aA2R9+2pVn6TDqagLiDO0dR2kXHVJ7Htj1HIKMkp487izjlOf5uYxu4Hj7o74ESM4Q49H2FpgQj1fjEefjvi7CP/J5ER5z/xiKVwDLPvKM8BiVdH1Pl3TpT5V06U+UdMVvFHXFr\
-xWRMETQl2PUBkmMWmusEqdTeUZpM0VHvaXQ7qMNcQuRT2+ULtDJHHGnA1EBC8Fa8ZQULnuR3T+mA7tMLTDFBDtzzuWfuHdrhfioOTruPO9BuSJ0HwQCQ+MPvDQeNsNm6O7BeHi852G64\
-xr6u3vwYWIk+KGH44MExkPn3LdwfcOImI6XDz1Mrwwa+nv+4Dn3rYE5ag49zOQOc11sclrE1qY1gX4fNEchgRhSJ4g+oxmvot1gvJPbtHXoD/HuKxjqxmIoNvXzQTPqV2l1svWoWYBsP\
-Yxu4e+7SlIr8BqZr8LwP0E+jDfHUZrm5yf4X3rG+CY0PeFf2qwV8lNGHfzDv3DVzTo6KhOz0KUYMtelW9NMl2LIVJfuSJNdSlo3qroRrVd191ut6v6zUtVNb6nKkYB5AVYtOs1X03Z2J\
-m1nt1MLcTruc5RWYLP0SoJjgxKK2mS+ZgsFzpighZDzKDCi17Rj66G2fiXURq+F6CGnFvmya79WTX+NEd4cvaMC2+w+MUmHP/WFSsmm4T6aLMlPebokP+3pkvyMp0vys140DOU4FrXPj\
-x93aAU4dk34usyPJktdH25RgOQnLDNfJm0lb/fvvI76Yl5X83xep3Eur9M4nddpnMrrQEzkdRo5WncgZiI7LQ3IJTQg9+zmyUvmyVKHmp00rrigO418saDbjcxRQfccTrEifZsqWkpV0\
-HZPMsmCrD/8mttJm9yENm0igbElgZ4lgVVLAiNLAmvXJ4FROsK3l8YVt4UrfovsCeeKvMtw7acfMHNICX+Y/o7Q3zE41gI9vugyrTnmfsFlhDnifN5V1urPXUWqz7nMUSGQMhCo8QY63\
-9BZiznLU+6Pe8pHTnnMhh5x/pOnPNmkxzwZe4PrQLo6FMS4VCzjkljMetopk45uvhOF3Vp41n6PprthnorcdpPabcZ9ku/txb09fM9thPQc7ZjHZMMwehoBAzSm/M+Isj9Dyv0Y3dDBL\
-CNPUR9T9nMu0B/2gdhmYB6IgTKHz/IxwhxJHSP4U230ExZVu03f1TYSqohB+4+I0ZXA14SCwGMnEtILMBYKDtA62gjuIxaQ+0TsqR9dIvkbJrIFSp52cnuMtrCel4uiv40fGRovs84qV\
-vfEWI9fkZYjLQc2kW9gE/kGNpFvYBP5ygqnw6ge3GOflUfD1IwkaWNr55uvpgu1ZNyo2+NZ2o5ppMINGTBXR2P+Z2nHKYVflLse7YzEHbi0KT7F0vdrf3htFwsIsty1Xpz/FiYM33La6\
-s+YoVTd7Gph/Hsqed3whFbQ2GQfG1997sufwegWWLj8o4Q/LPf9J1cEI3lxwGxV7beqlkU/wVXnxgu8DJn2bDdD0UEOGb/dHBSZ+0D4fOqD8/3Unl6I2oWZGCbmj/iSYdMrNx6MD5vDZ\
-vhu4i+eR09uNwOsIelF6+AR5j0f77Pj3EFzCGkwD0lLWIzKCariYcntcicPCUb1IxjVih1Vt6M3w22TQNj5WTzuaVe0+dR4n3Ugs4RnjmWFhqx73YOWm2L/ukFB93C9vd4PoN6M6d3yx\
-xX86CZtlHWGqYI/aKsBbZ8fbn3+IEIb2M/TBNnZywWWr6glfEUtIfhgNoJyDooQWQzVZDFYvJ0LUhwTrdJOzFX2q/FVtL/Htl9CeuK+BkkaDv/OtdpjOTJfqJSFpPP52bdMl2xEQaw7c\
-6DcF9FzYqTzTHDpHBuUC0FSD/RWSXeKyEFiCwX7Cx5TrnoOXkLlnD1CwBvJeJMaQqDxp9QNWnKBZtVU+nY0vIIfvyA/lvnHRr6hZ5zwdW58dDDyGusYA3TYUNGX15FohzghOzCWW60pi\
-xfLCWOhqlOj/V6ohf/LbZs5u9O0eERfp5G53ZyVSLQP5LwdyIX2gfTsQOZE53dDDNFZYn4Uo3sUJoyIWoPkXWLIwvTECkgmRWRyzH0q0K36yUC36iesFOS1Vi7ymkC36okgQkqh43wwc\
-qPDtlVF6kHPD2jL1gq0zSCsWzOOWDV6glenxFBhw8CIacNx1EB/Q8IbnoBviE6oJrZS0sUuY8Q54tOH1WvEZ24SifrkjIa3j6e5Ss7ORHXtaG3QymF6lsPstRxmZDnM7ZbDjC2HOWA5z\
-KrlMHdaDrNmOUxzfQ7zmzkWeG3HAsthzrdxmAttHOZiwmF6lsOMLZWvWg4zEt974TCjTSln4jSH6VkOs2o5zMhymDXLYcaWw+y9PocZpznn67Oblr90WuxlYA4T2T1OLN8J4vYQQmcoO\
-kY8p2NGkHULUtXmE4juwCqD42A2Tphjz3AKshHZDZccIgqMeo3CU2aEoSd1q2A35UMC1glU5oe4uidxuh156knCaD8cYUxzo5E2XrIDzSwaxsoNgxM+jG7twxsH9I1jGttqRDypHPV8a\
-nsJ/m62QvWUOpqSlZjjSW/8J42sqiejCrhLvBmoIOu88pMjykcOqcjLKP9ZV36yT0URvcpP9ih/yXzlUeUrh4SvNMdEPG0OJ004ogPqPkmsrB1vRBk15fCfmYxJsh3Yw5lSeDt7XgQ2j\
-06Q5NFpZSpgDHPtr5cEIRvLNegHMsEf173K1QL0A1PVK3F5LyyJxZu5rHqCsnotl9WbucyOQPdo+XG9Trr4ocQKg7KqBcqqFiirWqCsaoGyqgXKqhYowxD0jdUmBrkF36+/L9gK5y0wZ\
-4EZC0xbYAqeDiyIL0KdUGlzzs9R1UjRVEzxyFsqEp5lB8bzmwLBI3bgLiBXmSOBtSsHvo7WctwsARbpWIUAAbm0VoHLxhFdAkaFvUtH/SXfljaotJyUJuC1mpTgF7ualOAXu5aU4Be7j\
-tIx929zRIoB/HUuGjQw4P0reLIC+Et4sgL4MjxZAawhNRcAdmktI38PJmsm35xtrNlQX2Z3Z5AQQkW4hWTELSTaLSZByhEhcRvGqCKO3I50fdYMnHP/IANg8Jz7ewzsOOv8LgM7zzofZ\
-mDXWedDDPSz1k97h9wlS0kJuUuWkxJyl6wkJeQuWU1KyF2ylpSQu2SdSo0NCW6AvtpO6tSUoUSEqSgdeP83TREs6nVCaaTE7FpGS8zzHRaGlxOR1FxSKLDgvJyIpBaSQp1F2VowLMnWw\
-hALsrUwwnLssmwuviBASdvCcgxqcUn6kWuyWr+xqmrRMh+OF7jjLvvDlTnvzFxGpgUTXMK/8HErs9/dj3tWtivpQsui1pLPrULRVRZtlrRkCRqvMrOfaAkaGUShtC2gja8sOfy6BadLU\
-Y8MYYkYCa6wFG2TqSxFfVJhiTgKAAslxCdlcL6UiJetsKGezrhmhQ096a2zlqRfs1uncDQ06wXd0f20d4ub3l35qxVxvYCCSt9crggSHHE+VAFqQ8xfiTIMLFaiLGiCM8vi/myQQoANP\
-4UAE5kUAkxmUggwlUkhwHQmhQAzCKh7zMWCxjVD69mlb/q0nHH1aDW7zCDu4qtjjRW2Wn5MdjOW7Ga+syC/+QU5aRfkNC/IG6xD3tlusurc1unnO6vu/5urLrAYPZNBPtiFZHOfzsSWy\
-ZFpysS+8jqCSZnYU5ZHJs23vBPHDRV+RCSdZZaEDimSjyhtH5NdtwLboQzncL6jAp+kn3iLZLdWHGT8ZgpggXkLzFkA60ZxdHf4kx6xomWJcsSpukao0mlUWgxHaMQzEEWklvFYeoWPp\
-Bf/UJoumDTJqKepSQgD6UygZOlvc0qW/jqnZOmvckqW/jKnZOnLOSVLazlbEWIqJgWa8I2kQBM+kbcFmvDJpEATPpUUxggVuJBhlp19eIUQFcOf8hj11nOwdBdeHNZe475YF40X7hyUi\
-JHSKqE8QqgsUSrPDjm10867kkLvaefdpVSD50upBi+UUg1eLKUavFRKNRgUCrMWjvL4gbDAX52PExVTMoEeKPD4BbvKznccKHDvcfvj/boCp6pynvjqXd6wuLRMbL8SV/dawRqdD6qWQ\
-69adr5qufgqWxZN2zsLFljin8psGEJAtbHR1+QjRqsw5xL7PUooPUZ/Z3Bi6+Dt7+GTYajRT7o1GgpSBp+lv3P0d7uEXLnhI4jnrAeFamN5K5a+KsFxexlYhqNytbHUnWbpuWxqRAnfI\
-I9P9BCRBrDRTbQZwHo33gMidBNtBrDaTbSZ6+7muo+5n+2OzjDwme7oLAFHnE93R2MMfKo7OsfAJ7upyQCWu6NRBpa6o+dQC9bBtFcbkz2p7fM5FTtLRM6qdiOq2t1fJ9ACUxaYtgAdJ\
-gTYsMCE/WnF3lm1AJ1Dqo3pLI/LvARqqvIBmxZglS1F1hmowRceQDevrCpbiqww0Mse9AScOef+MQNnz7kfZ2DsrPMxBs6ddT7KwO1nnY8wMHrWWcphDmjrHeNBWE/zENKIlYw2Yjmjj\
-VjKaCMWM9qIBQaqmvxyNSkh++VaUkL6y/WkhPSXG0kJ6S8nsraE9JeTSQmJqKeyMkb070KG/803w28IzixnFWeWsoozi1nFmYWs4sx8VnFmLqs480tZxpBj7juzjDxHnHdkFVX+S1ZR5\
-Reyik4z2Wj0Bo5leGQ6yziDlMzEKPDHc8Qo8MdzxCjoaBbtaBbtaBbtaBbtaBZ1SucZGDvnvqeoc/vuos7krxR1Jn+ZgbNnnXcVdUrn4BJctxiJREFAd87BWrTIaIFJC0xZYK1gUdgCG\
-wQ05ooWRWgSxDR6xbFoonukEigLrFhg1QLrFtiwwKTVNkxZYDpofPpNr39m8pP/4+176XBNN5Mi25K0yNxCKVVYThfW0oWJQCCkzMYxm717zpiBaBCsD5LEaKSnXRr5ydC9iP5ice1sn\
-dsHTY7P7Tk9t98ONCzBESPaQ1tetJe4iZmfyMm/zx98JtpHD8yEzWi/0DnoNHcTSBsDRjA6oLD7JH2PwJ5mNETXT3Y3iUeqWt3oMMa8j0HQyy/Rrwfp+hd0PUTX2WozOkzXX6TrEelpH\
-EdHTcwWMnX/vHwEtGXGV9qCfJP/uSqAN1nF9IoNzWqKKqdia3BbUmHkdKb6LIm0wJwF5vuk0WaQWPPXe7I++ip5TIsmXV/qswXIlZMCtrq+1rpqLFDP3/MWzsTxJk+VJoox9mOTFpiww\
-MY2i3DbQNMc0Iv1bU1TN3ub8bHwnNTLS/MS//u4rdwzuTsqbvLl//EzrIfr+PK6/c6aBVYtsGKBZYzAKn95mT51O1jC1ldfxP/erxXfAcdupl99F+6olGDNryUqFG1BKdpin9K4hT4QM\
-lYp8fIM/8DlcZ6vwY+UjhRFPl+0KrgA9W0h0D132Gw3fabXhEDm8JprjyGiD6giTjdcfxk9pOAz0hxkn8dec2j2JLtB6o6atTuq7LorsscOO3/aHbl29+6x+3m33eFrds+XLk3K5n/K+\
-Vx3NKJYaYZaJ8IR04sooR6k509CHcBIMgazFewUQ9RYmP1LgRp72vGZkn6X8wtVc3gWb08ituwRgGbyObLHZc86U1Ulz0tVJc+LVSXPC1Ulz/NVJc9zDLijzs9WleJOVxH1XdqbNPbWU\
-ISWZvg9PHpMO2uWmlpgwQLztWSy8c5361xXCjK7NR3mxZruhQs1Hmb+tAVWLLBsgaVuJU3/62nC9Jxdq0vdtFb5aBSfeabhPxX3Ypq+djfNN6C1f7qbN1GzW4+JfbZQ0MXHBV6A6V2SF\
-yFVkVpQuDVeCt8gNySvQBcHgSO+UZjQXjYd6Da9ovQvIWtoF02g24x72R29K+oNuBxxMiP5TDeewd8LBuNe+An2XkmWm+zTE1gRZXhlSYkIP6PlNuAeEHVblAgYumVV8FpmdkUwd7qGq\
-Di8BPoqGcHzPjrYMpfaFx0XLrUvOoEhMXagRuwgeUKhlMsJ4pOtCaFhGgl/2pPJFTZXOiaYgOaV6ESt7y6W4tt0eqGI4ekVdEGNrJyMz2HjY7w3va+jCR2vvzLO0p0sDD3j0cdo5faaH\
-fDaP/WE+JI+EZ+Oun32jjHdjdxTUPGOhtvjLEYQgWqjXt5e0Nxek71fXINPeU7cFT7tVbLAoN0vNdmXx1mNKj7klM0Y/GuoPjownHoi7janRWksA8R4jwFivMcAcW/NTUeGu8o7kukYi\
-V7uM3rMtEk2Jh0WGZOxTUNxTgaCUDUZipF/yVDkth6Kc62h8DAUIxpYuSEIulqK5ei0VIoZmYHK5rYrVKDiCwf11+nA/iqWP8yUhD8jKyqTxhWWZvUHCdbU7EgJwUgQh7X+MuIiE8NGg\
-8zQ/UaqmQzimhkL99Bna+yzxHfvGXWk4QulOLZ4GTbqMNmZ1fnCI1pY7obLjhZWuhENkW+X4qNyqxT3NEbY3idvQ2n0ssdQFld4ddFVHH+olmOogK4nEF6RrscRbrGXoyMO4XoGId9A0\
-9ljajIZhWlkWmUTalB+/pF5WdPD8EoJ1jdKLyoBLJSPmi5pF20jLW8rG+DyhG6g8kJWSQl24mzbq7Z92m7bD9s/aW+rn8POEG2Xrf4MO/Uo1d9kiPg0Yu03qi37DSpnWKwoPtxbPrMLT\
-MMJZRrMhUqB1dDgGXqhiHUbY5O07Vr+hOlnBr1iZA3tOT+MdHGG9hAWKkWd7rIbfZfi40SX5QqqSn7XqrqBrVSVkC5XlWFYrEbHpMKq7nZz1eiEdmamajsz1WZceiIdt+uYFrpQ2JUWx\
-Zp0RC+20DT7RfLKgzSSNtO01jf82WQMp2QM69iX6mYf70zgZT5CyNT4RCmJcV5t/BEVTnKQc+JidsrLwQU+hLJ5QpTVDYHPP7wAB+0yrttlvENJhA7SSglHC8KKD5V4II84iyVhwSCvj\
-pS+Oj9rD4nTxY4DLIwC45EL8Sh62/jDz//dwlvf8IefdxEor8oa9xH6VzMS4em7xEjKNbsJoU3UbFwgGkgP1a+auNm4v4mZZs6CTkeCBhfiAZrskaiLKOVuuLXyAT+kNoeWDqFQsGQol\
-GgmRIVqs4zwHP5F4QJWi8IhVpDCdawGhQ1WmMJDWDVyEtLjDet2wKj1zOoPrTvoMLW1VzoVSnd2IyzCblrAtDN0SdCe5JAdmAHCkbd4No5cnfaImJFlBwLw9+LYlD67zmmAAxqwbS9gm\
-j3WRBUNJ/x5YcHOR+d0XsbiHt4Z6Lg6Zs7xqHv6OTFoGpO5sQaV1cZQEwtWZmrIG9KJUno3EhMzO13VfXamSi+7k1EXnUjtXsotnKpq+xaRcNP0mC6YXdFnzcj4NwhFfoTm/7EHlRt9m\
-yesmmVW126J9eTqX2OQUhRxCULOmFFDxAc6E0/S7kb/XzUjL4xHB2NQbZxWDMHhCzD0NWoZ//PCQfB/PWl+j0q0P0Y1rhf/0aMjE+AQQ/z0AxDmAMDQn9N8QQOmh0aUBnnU9EQ1e0ziO\
-aFGjWIWTaj9fac990gQmwHd3NBkDE5vx+AEzD9i/tgNFiMup4XwrXzXjMLEIuKl1GSBa5cZJKIXswC2h0ZlwHRhHwybmhivV2Pi9qqhbsQnmf4Ul+QaJ8UlyTmI5Ta8qNa75caYlte0P\
-KLlVS0PaXlFy0bLy1quN5NFWkXUyx10xu4xPtKaTL5ulhiEbkE6g6UbchYOT0CEmeMFHfJZihe2HA+xUrWw1q1LWMS+urZb/EItzUnU0jxGDSk7arRYsZK7iMcqNGlAQ1CjkHAYe3vco\
-0sY62C6yDZyZrfpwSIfgw+4rr+FoiXxc8UU5V9Obi+mb68lt1fStydK9vZ6+vZ0cnuylLo9n9yeKSXsxGrB7rAF3SKnCvYEXbBn6rzusGt53SJX87rDLucjyxws5W31C/n0JuikN0F3k\
-3LSGGIA6Is7iRngbBq9iVISi/bJ5MDJomgN5tqiKEs5rKXvYwo14TblNhG8kbIKHL7LeRNtT403F5HXRY/q1cbTUkyO67GKL3XPUhmmSGmLdJRHFRPFZviLQH74iEJ+yT6iLNGEwRpkn\
-I21QjP8JU8kgolPxplUQNBv99wn+pVsNArRJHQsqms5Ayq/VdB6iy16kM2zRmqMCAc/oZutChCqVkpngRkLTFsAchAEOWLCRQQpBKdKHG74k56e4JdycgAWLKunT/LQIkz+VIfAjF/oR\
-awGsD/+U3GPSBJMj8gROiuYf4u1mq6x+rTGBM53wgWXtoFGlojx6OBNvsrOEOoiwAGaEsLZoy+87y3pF9xntWuZqlLYHhYk2gGRmSyk6tyiaW6gNNR3mL2oC9hrpT6WoViwwLwFhGEAX\
-QJ78o1r+h/tzV5y7OwJn3ETdcRStyLXKp+R2c4cEj+hl7Eq57rD/+zpC3OBRenAjpNgVxArrQioG7JzJsSC9kVg3ChIgSeZWEf1UNCLA4erVuK6W/p3VnyLE9TcRPwJdfioJCrc9DMGT\
-cbyn38yNZYpAr2SswtpKZe2tdhuRZndqn5jyYuvRAQqusa6nyIUa74SCtbMgVBAV8eZDtsJBa/GLJuHd2GlpggH28dupTlFsKSaMMMh9qawk5HkwNK9ljZyZ2Kh7su5cERobe163Zu33\
-WMtJboHvSWSbba6x8pJdI/VlegeFJiNycym7rlMbGAhnKWOuUnHiHtxtuwcTI4Rm0a3KcduU67dpny7TY3Ybcqz29Ruu00N2G2qfv1taiBtUOOlXev85JjGah0nJTvn03fQJsi73oG1y\
-x5YB+yBtdseWEfsgdW1B9bd9sDq2ANr3R5Y/eufStsSZfjppIZOunNuunPdSefsqbQrbdXfOpXavSM5m3qts2lZO77Ql34y0Pnr0nlNbzG88iBMIhzaQ0iiR1XtLx1LbTc3kq1srZTuj\
-P+t3kqRJm6SA9nXJ9lIP5xEdNxGYRLqvi23WVg9jRl/ls7b3mx0zgzMRrfDqv9swnm5QYr16lxt/w4QnDMjBGpqOgYnAnMm5VZwruVtcHvLB+Gstad/0oyqQb8LOhawfngM1JtTyJxBY\
-r1JDIfLKWTGeFAxUOIBwWM1CkNJNhwTtclEj6pNNrpVbSIHjG57suixR4oz59zPdqt9wme61T7h092q1f5Ut2q1P9mtcgo5aGTVnmipWzXjK/aYU+Xsnz+FExFvTdmUYdFoYliE9rZ0N\
-dXk1OBPaWnI+dPu06rQQenPqPRWKTVWu5us/7AcE6tAClYP1CsqkPmkULc6o16xQ4Imic+Bo9FooOR9NB3vB14L8NNCOUC5bCrh7byrMHK5FkkmZMa5i8nPC8nPc64qKSa2w/AoG7xhy\
-NtxtcyJGTTbZkkDHJXUcaFkAxqV1KOhhMBJ/v1anrQ/TAMwBTZVKqkzREkjHpXUM6CkngEl9QwoqWdAST0DSurakJee5qFRz7elS8zgI6XGWtiEk0ULfpyADTrGBTdyUChpRKMSRzrC5\
-+CiHOr9SK/Dej2u1zN6HdfrXWWuyoiZYakj0tEM3WJz1ZYBE5c3RzoqiXVpmYEpuMCVxBdOfiLSWWFgA6boJRHtOQyslaLq9S1NrmN/gsCzq6WK1DBRoW2sJLawIQPziKdUkoBI3dI2x\
-FMqSRykXnkL8ZRKEv6oT1oSRNsZWAmiOgPLkEiWJOrRAAOLEE2WxGtzh3wriHYyMId4SiWRY+7W2V+z6LNqgRULLFtgyQKLFliwwDzGf57WT6kxg3BC8mU3MtIoN4qkUS7HY8GgzLuS0\
-bSfj4kljis0wcAgHwxLHFdonYGdfDAsMa+0ygDxSisMlKl9BcWLJQYQUYcBBGViALoqOlciWQInTBgM34igRtRgseyaEFsK6clcVoEZC0xbYMoC67bbGxaYQNThqSz6P0+n199yNyHBV\
-FaRYC6rqDaTVVSbzmKqGpOeff25/MYkIu4w9OMEwRB2/7jPebSSCDriFdoW4mB3enffkUjT+Q0/ycK1X2s5ZEM3mH46qfo4EMiwoDteMx2SBXRj3DnnzhcZOOv8Oic4sGNTtKNlgRkLz\
-BVRWbFpjIkRTYj7XoxjbBy6/OaKNpqrjFUxPqijNV1kxGassxUuWWDFAqsWWLfAhgUmS7aFFpi2wDwDaSMm+8sCAzNvlehMLXq3UEwVltOFtXRhIv3OXKlFmjQSjpAmHmhOU6NU4g4O/\
-rtQbIbv98rbEJ4lNgcHsVYbaxWekrVSa0p4tOILPFL9NI67kE1C5gl1yEuhDQzJETjlnuFoCBwNHkA46/H3CxVIPIcYLqosG/ESYKOP81AZuv8g2KJ2hNwZCoREVXVGV6tKh4j3Flq7V\
-FXys1iNYiFI1WiPTH9VSdR0NdorhLnKlImIXzXap8kANtiUnulfJY3s+9LIvjftdronnellZ5pbY/6cJwkVd7FtnJYmQrZZ09JkyOZyJTl7KLaG2oGpUNs9E6KTjaWSRt0pp6OJ+KlQL\
-gh0IdN8I4ywu4Z7g5m/4bQT6pTDX0+m/obz7qTm3b21ebcRl379O9P/bKYfUy/kj0OWlcSbWqrYKOo4rRW168tFHcJVOFpbutDpNl7edBDZoX1j5xcdafu5Ofkcb/iW1q2nidWqEqvG+\
-yGH+9OvJ5EuMoqig8QB/6YgVqCPvvHNH3Yaz7EPlvUuSwqrZv8guC+62Lcq+vvH8dYR+1Y1vQJMP+1Z/1Ue79LH/6nt8VAf30E7ndZb0wd/aZoefOObcvoovEaEiyM07i73BHZIfTsRj\
-h3/qp2RZCIqdiLS45+eUlPllFVEq6sXKr0BZ5PCGXBbuTfYNNFl+yFnq/qlVdX0RFfTMaCcdLYqP0kDqhNNzdhW7lOUPuK8pRgPY4O25elifEB37iPOzxWjQ5ws/q3F6DADbyuy8zkzB\
-uU65A5lgEkalplCTITmBewBe5SDPLnWA/6YLO68QeZ7xHvgRFDxUBLvgZOOlDk/lBsdGwfjNYQAbZ2stc8t+WKJWBEAXyhx2444ny9xa484f16Khvmn1VJ0wC4DQfYD44VX8tHrICgZH\
-89BZJFjoj/gQE4M1+1XL1Sq5Qp6cIBrfr3HNR9xfgLRzvCJN3jgDwmY8kDaDlIT9lN7hqhxLp/wIXdL3w4066lf7r1VjgwWS+ksZ8/aI82Yxsgk8ZKmYSBhMRC0eHQJIXYxELRUrThKn\
-Nbc2WgE4pXjEK8chLRliI6n1Akzy92VmFmCiq6eflZcReBll4NYHShvD5TvvkvZ7vPKdY8p0z2iPDe2FKMHTYTZTE5+UoWuSQ6jmJSyiHKTlFhanZSEO7UllkwnJZZP28l1dZGX0pvBD\
-lXk+OCCIb/JMmKk4iwcxLdFgNO2tGx9c6XOKjRImH0fdQVpprohsa+R6racLBitN6cjPZezm0hOKdBUTneAyZw9i2b1wLaetaQia/fXrD34ZTnMHe+wWbtTzmfTmLZl3JFKGiGr6d3ES\
-e8mUnFezz666PUAJPiRl1OQyNrk8+t57cBKXtu9lmcSt+7qTnl9Eucma4M5pm/SZTOF/SXkZ0Psj8JT5oAGrhjeMhLI4ZTI7ohEAnFTkUAOMHlxJd1fmYPOZPhANWIRodGe9eBAkq3Kz\
-XgO4p3uN4dpFR6h5ThMa/AQoR7C7PGBSCr02ys0XuSKRcnx8Wz7T5xDOfiXD09HOJVjHLsNJBJNczvQHGF2RpKALtZC64DESDhg4/MoTXRSMU6Oa9P32/g8vO5ogR1LxzU5qmLQSOPKw\
-sCmrVZTjuJAyctdSm7OKzkaU3LEZChSMhQrGRo552IlmePnXKw6xDqBlAQxTrCeEAMFy8nsF0GVOUDkyqJOCfrXwAY2ybRCm4S3Y69k/H6RXXkXRCXAu5L9cdK1vz6uGLkeQh64P/j5H\
-V63JGqdyV+JC3sdTX54v14v6XXKVWACAHr7uN6Ytr/M8S85FokVVKhY0OgoBRUQFlRAWFABYUEFhPRioTGdb0IA2YInbUXrGQU2LDCRVWDSAlMWmCYAEiEcchblkJOOnV5s898p0bOTb\
-iJHVFniayY4B9qz7MV4PhpopY+cydn2WGCKgMZUrlM0+Hn08ogzlaPjT0HIcZmB6VzkddbBtdrxmUI4/kEpcUCfKqHrADUMwVAH5IT0vApWQpbwljlI/NiAdJQujzdplRQaMx967et+/\
-KfnlmdeTexyVhLIuI1r3/jf//zVr/zfH7zmPHHFuE82Jl7z2icnp2YWJ179ROz+x4Y/yVkSXXqBRrfQ5CRyAVJxNLle9tqNkGeiTD+wlTRXfthxxqP/gCRfknO9zOkJNZ1hmTMv8MNeT\
-G++gH1SOaUFR0AuR1m8U8ByQAbT35IBq7NNfmF2yAvjgfFvXLvmvHy8jOB+A+Pm7orbcM3AM081Jl4/MRFy6gyXQwEOjr/6URoE5/sui8FWweBgqVUW4mzErfOuIMu4oUMpzqoD0HAMG\
-pcmKMkZKVNmqjCz5ukNP8Dis4JsqBU7lVVi0k21kXkKKSCRiqAgjucOJ1euYhSqmGj7hbI0U6qXFMyokNcvUAC7XMauHWzVGUFFLkxkBT+5MJkVpJUasoLJ0iwq3EN0fYAzaDunnd/kN\
-Txw1lngpeeyfFV++oBr3xphOawWxlg6q4XzLLPVwl0sydXCBZbvauEelvryIiWydopJ1QDP7Gwjw96hBCz91Ucd9huVmysMzP1P3Fy2N5cYmPwYbi7amwsMTH3go+KXKzfnGFh590fFf\
-VduTjMw/fMfFX9duTkpT77xo+KgS7DPFgIErP7YR8WPl+As2wbgQxsfEcddgnNsHoAn/xI3l319fYmBhT/HzUXftlNe/wxuztubcwws/gFuztib0/Lk7+DmFMMex7JH4xdwc8J+aIMJx\
-tJ7cHPds+2Um2/7iESulydXGJh/+iMS4F7bKTd//CMSyF5uLjCw/o0liXcvX59jYOJrSxLgXj40zcDGXy1JlgBtp9T5+SURVkuPNhi9Vv5kSWTa8qE1BtaXlxxFFp53BpZ/b8lR3MKHG\
-OMaa+9bchQVeTylznctOYq1TEqTheglHkfuC3XpVmernuMiETDc8hrT//xRp/G+khifeWyFk9WXPDU5ip2Gz2mPDac3jgeeaSaZjePBZxrZq1Q2rWRDlavNBmcwexPMLOlOXG4M43BaR\
-qq2cmPqtYuaT4vdNMqNSXsjrnAgjB2cvxMpNs0O3v2ZrCPyaUU/S4QsuSOJY5PMys+T00nbi07yIt8dbN31WnezqYL86Kd/9Nt/xGgYOlxVJKUdCo0J2OXkw9/x4La1+qWPORxdRH/8M\
-fxY0B9n/rr9xzem31z6SvuPP4Mfs/rjxN/rj/zTz8FbLcM/+Y2Zf8BPAefRuZ9oMK4virr4ek8U8vVCVOPrXVE3X89HPXwdi3r5OhJt4+tQ1MdXE23naz2q8zXUnJA4c2QFW3T3B9bzh\
-r28+jFgfU7RdoNZlMnP4OY6w4g4xsDi7+HmKsMFwnoGpn4VN5ezFusZWHknbi5mld4sMDAxjZvzDBdZlYSvv+5jok0SroN2etqc84RkE69VbCQkpMvEa8+Hv+0pEwKOQdbMRF43r40cj\
-RzvNzkauoIECqoxsJqjwSuInVIPA8swWCqwqRKNX0F83/sYWIDLe0F83+sMzCFWmi5Ux26U2RYWpebUafzqV2lOyw0TVWFY/jdS2kenOj698XocP0oI2fiE/LSLfkqhYomznibIZ4tvT\
-H7l97jeNKqV4oFBVNbYZwioWlqhUWv76dzzQU/vLf4jvV+GRV3r3sfl3jY6BSX3VuReDx2GkntfkHs1OhMl99blXtlUW/e+zvcak2jqgdZtbU4XHWI/KCnMdcppi23sIPIVguFlQmNJW\
-eMnNz4mC4162DRVYpKuhIuecJQdqDCV12mezOs0T+R5mo84Gwjqo8iRtcjhWOQoW+SoWuSoWOTossgRWuSotXdGEEQRptXVt6DZgY4UY0rC6Tr6yB/gEaLjUmS7wRHln+ctIz2XuzGfb\
-po6ht3hOa1W7Da5QYb/HUoGu9XscMSWf1EaKnOi9+blXtWUW/d+S+6Bof0gW6oNBp0RPwfMIMe/byzj2TPUm6C1W9GpfkC/aQaQYJ3zlNEJkU6HA8pBXrIM5IuYf5SsW/bHadf+OinmI\
-gVEK6Sj4EDw967nX3VfLamkDXKMg+v3GsjM6dM+1sjQ0Xj5ax+TvBsIEc7hyCX271NxpnGpaTy4Zoj0mjc2Fl8hvZeYzCBV2nOdZ6KsfKQx/3XqYlezcYl4dWDA1++OPZzV6N9MM6bDb\
-yN8Ks5yEnCTvQJ5SRPGSOedZwZMhiqin19YgYQEScrxOn0Ip3IkloZTpg9rL2rqDLUa0bC/L84NIqI13cw9g8f+u+fmrjZc2fuRz9r4yAfP3bqkSaGfAoQBMMha702iOW5UAGFCvVGBz\
-1y59DhlthinDMYp81RcxDjlOsYpp+OUax8nTTS/1ThpS02R2gahwVOSLN03xY5x8tvHyZdxyvGI0TjlME4Fa2xWQBivJDe8S8e7WcnYDNNtNHX+a3dzxnWOeEqFBluBOWwcVJC8a1TrE\
-de9SmQVbzsYPcdW4baqcFmuQoXg466buapRa530MHoyjMgB4GIYcbyTNCLUGAyjkwyjKxwbOy4kYSXsMGak8q2GkU/m9K+PYcxgGDMyjJlbGkaHhULIRIdhhFHes+z7fiQ0J8SjdzzjX\
-+VgfeFfeE0dTZ9+QP3/DUne9ziNkSuxtxfU3bCNlWC7wdVjGvVFjwFDwFXIwpMfvpT6gaE63WrCHmvzu1/SR0K6xQ2xVURO8gTx2vIIgb4sb4AZmp8RDntFTad+Xm02g4C6qF7UQR6wm\
-QyCd3wtcJ1xOGYF018LHPufq38d/7le+39+8p/ndtzo/I9/vcnvzr+X/341H/I101FODw/++w2972v5GS3bntjr+zue+5WO5+z93+x4bq6jbNvzgZs8l9XrBzvuz2rZtj+n1w93PPfOj\
-nJer79/k+cKel26yXNFvX6sY5w721fS6yc63u+cD4u4n7pJf8t6/e96P3ed+ip6/Z96347nOzrqq+p1teO7nc916fXzHc/9Qgce2FZ88SbP1fT65Y7x6/xut17/puO5mY7nevT6dzfpb\
-69e/7Gjvrd1tG+bXr/WUd/PdfSrT6/XblLfdrtOCu3z1vlc3eJX4cb19dt57qivs30Ddnz0ufx1nhu0z3fU95aO8duhV3OTfuzU6359rnCd53bp9ehNntut19M3+a7R6+2F9nnrfC7S6\
-3jHuHQ+F+v1rpvUt0ev/0dH+6Y7ntur1+/veO7NHeO8T6//Z0f7Ouvbr9cXdYxf53MH9Hr/TZ4b0uulju/+VAd+D+v1VR3PTXXgFV7w8W/Gx9XPco/tRunef+9Djz103wMve+SV99533\
-6OvePFLX3bpxRdf/uKHL774ocdecu9DD12++Nhjl3/k4sP30b+P3X/5kVc98gp6/tFHH3v00YsP/dADDz92GX/3Xbp88YcvvfgVDz146d7Lly/ddxHFe++999K9r7r3gcfk3wcu/dAjl\
-19y8dKl++99lP699/JjD1x8FI8/8MqL9116xcN48bGLl1+Gny4+/Nily488Qi3Amy+5fPHRi4+95MWXH3nw4sMv4boe/uGXJDXghj75GNEB+W/vtd3Xogqg8Fp8bZCu3rXctWu1KkF91\
-7Zfu9ZDQB6/D+wZvuaUr7mZLipk+4euGbrWdxS5mm30V6K/QGrt1toL9Ne775oPeNcBubef/915lPt3+eiL0TO60qBdvPe+oy+5+NBD2jH8/vDFV168/IqHH3vgoUcevve+V9778Esu3\
-vuSxx545OGXXXzZI5d/pIRuPVzCm6VXXX7gsYsE/tArHr14n3n0/kdeZU6MjIwkd+67fK/eSW7d++jLjLGFB1527w9fTEoPPXLvfUnh0Zfcf/G+Vzx00dDbx0dOjJwcuW3k1MjpkdGRs\
-ZEzx0eOHz9+4vjJ47cdP3X89PHR42PHz5wYOXH8xIkTJ0/cduLUidMnRk+MnThzcuTk8ZMnTp48edvJUydPnxw9OXbyzG0jtx2/7cRtJ2+77bZTt52+bfS2sdvOnBo5dfzUiVMnT9126\
-tSp06dGT42dOnN65PTx0ydOnzx92+lTp0+fHj09dvrM6Mjo8dEToydHbxs9NXp6dHR0bPTM2MjY8bETYyfHbhs7NXZ6bHRsbOzMGWriGfr8Gar6DL12hm4ZQlBjZMiNkZkwRqfCHKURN\
-w/c99DFkgGylMxzjDn0YnPkxebQJdx+5MHnGEJv/pFx3dB0YZpe9cDD973k3v+Xunfvbxs5EkX/96eA4WRDjEiKoh6WKcte2/HuzFnPjM/YyeT8NNoNRIIiIpJgCNCy4tF3v/XsrgZAS\
-c7k3Pu7OxuLAPrd1fWu6mo8iyZ5Bi9hGfMFNNCLlsUye1RWaZVFcFjKajO+mgM8V9EeLPJlGQ3oDzRRUoPlCNuG7Z9kE2hqMoqg7viKen0TfRu9iv6yuoj2HkWDR+NlUUVpVK3TcRZRD\
-998fv/65z3437BMF9mjST6dZusySqtomm7mVcSDucD2lkU0y8sKIekC1uIqevloPM/SNSBnHGdEA41wpBEPA0cpkButoie8dNAigmlEcBopREcXAtNRFa2H/UF/8Ogqh59pVc2zHvzs7\
-e1PAc4u83E0ScfHw8Hx5OhwMN07vJg+KosN4IAyejY8Sgf7R9nhMH26dzHIAL4OD4fH04u9g4Nn48n+02eHFwhk2dHhcXY8zJ4eHWVPB8PjQTqYXBwfXYxnRT7OnmSfV/n6BhYpX5URz\
-bQcRYhE8iUsGMyL5/Hr45GA/Ih3DtbHzYF2BFcx6kTFNIoEIyVRR37ht1GUjKJxuowui6hY8k/qPBvJYuI6Yv3sM+A4PMlRp9+HLVituIWIh1y6Q7qaQxuPXu5gxZfPH0+KcXWzyqJZt\
-Zi/ePQc/0RQ4vI0zpYxvoDRwp9FVqXQVLoGjHgab6pp7zjW10sAi9P4U55dr4p1FUfjAsB3CcWu80k1O51kn2AAPXroRvkS0Gg675WA5bPTPdfIrKpWvezvm/zTafyGG+h9yMYbwEI3v\
-ffFPB/fmJYnGcFer1yPoz8g/P3hBNbjBgCB3pSzdHh41Pu0Khevn/6t+Onq3V9uNuN3nwY3n348mmSz1dH//q/3H777X29e731+/+zt9B/fn2IDY9jPKmjhT9Ob3f9ztJfNnq6udzbfP\
-bv5P//72d+///b1XxYHk8Xyw8WP199ffLv33fz7nevTP9QW5BKwLUBnsTbj/rSpZpfpnNApFq9yAN4XryI4qV2YQLaKLm7o7/Nd/vToOU3rxaMR0qXoyyPY0GJerHuIQxcZwtXlrDqB1\
-71evrwaRU8Ae57AQ1lMK3gC7Af/4YtpChQT3gC+w8c14F94uri4wKd5vsQnwHr4tEpX2Roep9MpPi6La37YvzjG54s10I0ZvJo8y465CL/qZZNLbGYvPZheUKf6gsc0BZyCLQ3xP+oIK\
-CydjieTyYRKFOMNHKUng4vDp5MBT2s2gBcHR0cHE2pktofFD4+ALNDjEGf57NnBEbU428dJ4YGlcc0O8Gt6CHSKHg+x7cEzGfXsCB6BiuwdU+ezp7gEx4PBcMo9L9JVr5hO/UrgC9gqL\
-DYeD6apvptlc5zERXrxlOeNL/GAw0ugW/pmus5w/oeTo4unmb4kBI1dTI7HQ1d5ka5xM5/t7V8Mjnk0cCqhdv/p4TpbYDGAg80CxnIkz8sMV3Kw+swfJxk/PLp99O+LbJKnCN9ZtoxSo\
-CMdWHnE4r0QmCbQa0JARuA2AlrQ6RM08Ns68GH5E3qv0Dcd4H8GAC8m+J8FwGcp/mdgEOiygcFnz55ZGAQG4Nne2IPhQbo/5c10YLg33E8ZqEMwPE4vZKPlxeQY/zOQOEyHk/29EBKBd\
-zg+yCwwQjsH02OdJ4Hjs2fpZHrkwDE7eAo75cBx/3A8fHrhwDEdH2XpoQPH8XSSDQ4cOAIwHjAkETgCaBwKdD4lUD7cg9FI3x4g/bJ4mNxPDw7HBzWYPJzA8h7XYNLvkgHLp5Nnk/GwA\
-ZaHFxeDwxpYjrP9dI+O560HLwNTwJqnJXQEPGVm4Cn64uECGDcLFAcT/M8AhaAiAQrYFNtVOySHvf6zYO6HmB3gf3aUHphllAKsMsrxeEyj3P0mup6BLALEHjngFOSSiISQks7PBrini\
-r6nWOa66NJgr2dArvOSGGsk+FAaicEMxkXfV8DpZOtl9M2uW3FqdMKzA0hFVv6TXXBPNNwJfZMuP6Xlx+xz5Q9p+E4mG77k+YbveNbhOzm2/NKdWv+oh7b+Ro5o2FjbOzmU3wLZc6RPj\
-2VYEk9m7c2w8Wa/8eag8eaw8eao8eZp8KZ+XP1s3WkNX/FhDd/xWQ378cf1P9fpjX0r59WvS3Big+W6hf/1q9HoIgP4ybr0O50CbMHPSVHBvyjjwp90vC7KUp5vutGTeXaJUgiy5PB2m\
-V13gQfuwxZHL6JvsKH0sk8Dkd/AY8Iv5kD7aXkF7OeXyAJtL538bYNnFnk4Hliz1QlhDipv14OO2jfw5aL43Cvzf4BwPoLfazhtPXgFn4mZxQ6Bl4QCGfLP83FnPE8Xq87eweozNH746\
-TraiY77R/g0hH+T6JvoU7ru9Hr/KIpFN9pLEmINi/kcoBvEp+VlD9jrUXQw+DSDTi6KyQ10Aut8mcO+AlaVUkCrkTRHe/hP/5iotEyC24fzCE2j4HS5LjbLib5nTHTC456mi3x+A9z+D\
-bCFi94m70bxhwywQ/Sn72L4/cfsb+mfN9GHdFnC46s18NbAScJTD2SqHAgJnlKAL9z8UbTX3z/EhdkLl2Wvf8BcRa0wUAM3L6w2rFWjOr7EIILmcbZQdD8s2n8WlKXlwPJDKd+/mBfjq\
-9E0X5dVbzzL55OImuAKvOA4hJVZ6v6QG7l9hNxONwJkr53qqm3y3qJYFuUK6H24WNH38B5WDGSNspinAOXxu/wCGXaUoeSjq3sSzmVIYwY0n4LAubwE0e8zou7lHyqQnfIJS/OE4XN9n\
-y8jlJAQe/M4r2d5BeLKijgReNW7Xqerk6gAyXc6L67pEVD68oYaOlEZovcpL/OLfA5iEXzdVAV/AZzdY61YmY9lnPg1Gg5kQ5gMfQGBsQQRECpP5xmwiviv9MUDSAFPQFsAbIBmL0CMR\
-Zg4iS5T2oE9bu0JSSe42lAdAAH+o97gC83y/m6kPYGLcHWlD2ppnl5kc9teviQg5WaDwY5JbSJNMyQCxMHCKEAP4ci7hvPlaoN4heRSB6BatAavCGRP0ouCauicYTUGg9/XDjVS1KR9Q\
-v3NskS25Uu0Ksoc4Qz26AKgb1PBAss49pB/dycQHxQiRtEsn0yyJXQ4z1eAJbA47HdWdQ4Hv4c+A4gC9AnrDL2eca1zu4aEbR/nC5TX0yVi0n46T9cLQqaIQEfRPiwVDA2A2SIrj9oOC\
-Ks99bt3LWN+OsDFwsOB3A/KsiUCPQhH64eChWCR/iFvYesmOyRAmItQD6/yxaaqCpSms3k2Bir2ZFysciI8dVBg4JB1F9goNwto+aaltGtacAyuPZzMvKrN/wilkwfheRRC8IOs+LC24\
-sj9uM+9dTrJkfFRuPY7sceLdcTvx8BdYterIseFcqMezRCOcIOb9IZln8SXhV1KL+a0aMFMiDX0YyLVBLLT5Syb+K5FOQPNjYhbY5RF6AK1+MQ11sGLCkLLUgDZJgBsXhTYFdrL5sL/f\
-7DMipxKaIHW02PAvYHDOAJUTPTTMQJtr2WwCl+L9HNnj7iFLsEabsUTJiBfWqCr/aA/KZH0fNlOQR62AvNsWun4+6xbaKwNv22sNAwlwBH7dRyh3MbecQM37zcwruEOniyRwBrsQdxCD\
-cseNjksQsZY/++brCTCHp5rZIfaO20eah1GH01X9W152nroBQ+mIF/CDqCSD3BiuiTESJzOCLdyPGMuAXWjwFCwhIgqXdQPF9ck8D0ZrzeLi/JryXdIEQl0CXEb9Lkv6DPgW7nkod18B\
-AvlaC3w0NSSbdCAiyZDD5BnQBptzwMZpG68VO7TX0eegL+HxhZNNMKjsRXnWfop84ykTOOAm1c5mnAjk0XUAGjlq4tJg2re2sZBGCpDFHBkVrfWGQoKfYaELyoY86hZBMZhm+/0KyzBJ\
-9UX0xNvT24AhH45UHlYoljFNfvLsJqjo+2L6WqD7HZF/6Bo5ptgeWjbXvSBA4HdjfrArFRo/Gis6aNHIiS2MHpy1GGDqhzEtx4BOKBM4GrmGS71Z8VWzI0plturDQcb81huGwDNNiAnm\
-AotlEHww3a5zUHzQFFlE4XXBS2UylRQnvAa1YgsDBiJbDD+nmUag04OGghJabdS6Vk2XxHjV17BYFHapx/+nDpOYl1cIofAUloO8j/hQaghT/nU/xaItEIK859mfqoIaK4gU8Vg2KKWA\
-yDMp/8K9NciFfSHTcrjENB1sZlPgjM+ZDK/hczKSFux3fFxHdsdujERWlFOtY2/DNvQjT/4erXCww5IHdwNI0RjFm4b6dtHIGcrxBB9/HkDpG0+JxqH9uvi2utCUR4uo3WBB68E9on0m\
-zmK7sWaKlT5gsTN6CKj7/TuuogIlZRR56/w8Nekq1SzhPGjqu06r2awfcsbsa7CQN7OS6qO1jRUnoIQCSNBZCPUmHWuXkRxGliulFLFGye2g+z3iRpc9Ike03wtPF6u84lCGhMBfNMDQ\
-ITvwK2xtaZExLVEdm/QjfamDNjc1guQWMbCo2zbItTCJtv4sbpsdnhYZ0cBJbSdn0m+5p5HEY8Sz2q+XLapC+zBGdQb59kLuZMW+qw6C05QrSIWdqW8tMvKDS8qrzNYSHQdqJsBUL/9B\
-EHHdIZkYeYQ7qeZOa+oTONiqG98skhRp2TL0nuk1mwYgGEC0X0CNC6Q3IGfHF/dnESsmjqJ/gEHb4IzHHpWypEZQTHbDmV7j4JL7VQOgqmMVOkSRVRnC35s7K9RMAxqDTpkrU3CvIv5w\
-xtubLLr6YjBwrWrJ2hrjcF9Rwj+dITVzEB87UaoBoFj1X96iCerUQq1hPB9+JRKmSJ4FkG+myJ2DLsk35nmkQ0n0UcU9eVrB/t0iMMY1oZx3xhIxmxU2986LD4XMjiyEOxFu9F+cyMs+\
-gl2wRSV49V1oBGeubt20gKx1/Vzq4pqTH07vvCAOognwSoqVgCton4VJF8pOVI6cZVlK3ybr4n2IP6WxkeztOw8wepn2NB50kBAwUlgIZSHiZMIBfghGRT26KgHu4HuICV30ILg7MrsM\
-/YBslqlrDARVA/QNE9XZUYHjX5BMSB6X2juyhMjJ98quPaXm0Wt7JqNRFQY4DJP4S+UAoZjPIqg9808XeOL0ijzHHlGCjiX8ws4LK/QpDdkdsbzJoYdNxMos1W6TqvMa5FW6VjYZRU1+\
-uiVWVzb1vfYZOCFkRnao/gnYsmA6T4MdLmCabGdZLsgsUWpwl2A/Flc17qpfxyTZaqhpTDlgD7WB3tSB2w3PfISmz2M5Bzcz+85UrRF+1NfFi7eQsn2DsN9IPtXtT6bpFXay8+t4OBUk\
-LoAy3Yg3KpAvxMwHaAd1Pmcg6bQRfJQcyVZ9rVLeXgnlQ52h6bjKh6ZeVbBtinj4heTu90TRlHfrsX0MKzPR8kXUpTmKCoPUCrLs2GuPl0zQCAhao3oo4W4XS3TpgLTBrzlZH/w+zo40\
-OdWzi0sdr2tmCCcJQDQTF0mAVd7zRmy8n9Qdwrm5deb5WUJ70lvhmiKX5foOYkYqw8ErlhOCKlQ2Zqqrl9Jif6GTPTGPq4f5vyBjOV1BcrAweNTMi1YFVBvv3+ILy1krbNVlla0aTBWg\
-OlL5OdBYu04TUQCWOYQiYpy/zDoBN9Ex6vPSWAHEppq50A+Ba2T4C//b85ivzELVLzQ3Kp1uizZRZ2mtjdg/bduF5r/mS3OlpOEf0EP8ou8DeQ3+lInNb0CjgaQWm1UMoZBNDz8fTcyI\
-0XeEPu+nhXSv/dfcOBTV8xsLuaemumhgJng/47IfmHpGbvxkSNCeK53o2HSQgGlwYA86Fd79u3eBQ1vRyWB9qwdybieFvcMxSAji+FVBXMPeRGtS0hbak3DnuAY1hSG0VuQg6Nrdj0P9\
-Nes1K5vypCgt2nmOHDqM1WytI6DoOJinWdTZT346a4Bzop1/g+0z8971UWoGtw7bJi+jwOVe8uoQ7WfmLNrgxQG3tDCeqH+tJhPSi5aY3vWi3S+rbgQCmc6YEWQ/CsrpogbWV60YcAG3\
-QSqma5XpQA/LlISoedxWlbb6AF/hFFus54re4JnYDuE2LV+2ubx0soGPkRpnKg/CE/zD0yBRrQYmxVwD0C+5lNckTTCmBxUfbHyCWM4GEnTC0Y2XfoNUoJWDIoz5s4rWrY2Ry6y25K7y\
-CiK45PWFWOcLqq/lFR/ugyHyLg7xgYWZYXRVjWPrexzOkYvs+vsAoMvthYhqqRjROygrjx2tG77yE2iRn7vorptW1EnW3tItrjhGk28kxRi02zafljb7IFnG5c3ra1jNSYdgdo2bH3oW\
-ydvQNs4v1C/vQ27BdoC/EI7D91cwm7U+0vVjk2/jxAjDcQsf8+w6qR4K6uwt384yS67lh2jLroh+z1keppwz/fM9w4mXkbZh8O0rsrG/gCAtqFep21l04DzOxn4haC4m9IMikcZvq4bM\
-e/qy5ginEUCGkWfUjtzetZZ1E1rhJUUqwh3HCApwiLsY/lAPEFHmJCEQtVxKHHrs5IKgLChWy59aBO0+Ihtc1QIYFHXKERW+78dWcFSECt5DxBhsYz4Q/yFAXpfGtt3ssXGpfU52s/r+\
-wcnD27Cq1mUkfDWxL366h8+NasvDzIEHvhvbwtdhKOdKJiWg44acNRhw0BGODJzZu6lZ+QJt2XBwl1TD+WWTrxAtSrmN5fFsgOIaAgyAvwTDUjDHA2P4fnpMT2jjosLPIUC8FVePdUy+\
-MTVnmoz/GrAZaAxUlsTPUwv0XS6RT/Vpk+wYL/Fbv5/zQ7ojNsNB+MWvxyZXh+xZKDVrJstuSZLVjlwzflYq+qRbLWKt3r9tLmjf53Z+eS+kQb+P7+ZS4IhZstJq2/RtnGwoY32bIvOy\
-cKIkH1VNO1v9b31ok5NtbpNaIkk6iWtHLWJKNwY3f2jEuN507nKACP0m8YRT9fFwuh0qoLZXuT1CxKrFqzDgeKkDuXv17AWLDJwgMIWwuWplFNtrJ09wpgmrA/L3VwZFWGmzNr7yIuCR\
-tLneXxpEs2gzDJFc8na631rgnu9xjxwCKFRDGmgCPzbB7rHTJpppH+Rwedy2wAXUVAYvZvg5Ij0V/+yZQbqzKDlKXtCyFzV3EabbNc+D5xIyj/PlPyTxOzkHhfo7QiVNFkA7iDHrAsU1\
-DoHyNcmFlZ+O5YQKfy+o34/3n8Qd9V0/xCfFbGxbKE6dfcmN/CdmhpBNdYaN0JfgWFepzdNZM/CmPVHkyChVqzO3qj1Q7Pd8fUeA8lv3LdwzGQ6eABRaanYyhP9Mjx8fRSfNN5Eu8QvB\
-XqPmm2gfqgGrf4VitzHBSp20C4NI0e/GwyJINsgo/Y/aIQjebOiBFJRtXSJRgjUe3BEJBthYVLUFAd68RRZl0tIMgk0GhLAGHqzaRRi/S0IEuHLMNwh7LrdzT0sJtq9B7TsN0xqAl3vN\
-t/KMdgC4hEg3DkuH0eddN0jhzrpE+mD/OO0KEzRquY0HdrdtZTzFei2vL/XreEhPgsNv4lG161uCmgHV9dRXTYYo39zF7C0OiD6PRjPizJr8WHdcva3GsK4f1aTJr7hatJmlduvWU61d\
-D8l94kWTWy7n6gqWdGTgJzTSKtIgWjoYo7GefaZaKMR1nvhHjezmh231U2Ietpi+T7hHEC9NTKCa6Ieq/wzjoSxuMQ33IGKLMe2jWxp5IiMsges5rIqHbQ/uTPoqq2f7X697T08EtSwh\
-RS2KpS3CXnbJmnckpFQJNsNAvd6B3r/iO0zfZC4U5f7VGzQOKOvENSwmoiG7QLgVb5sBCNZR4HAzN8mnOiZIWfmlHyAniCSMrqPAdux6W1/vj2QxhUiV476TgIaCbilY44a0qPPracm8\
-HCvHojW1xgCZ5pjnW3DcYLsIuR6Yps1TT1Tb2fjIz+sD6S/KHyYka4ae1C0gm57gI1vjg9DyN21SY0HrQHHvq11bYn+hX4jraY+6hWp6/bYXGhFqh00vTaOgoUFyL26C2C19yO/LjWYF\
-xj7/xWPa4csS9nG0WoxpDNarhWsfBQpmr1Q4p9CT2Wk3nHh0ZWPfWQiyD8sfDFphg9tIXxtvu4tJmyJjb63575oZ9o9zGp1ndvXw3asxXq83V9sO8L3xr7miLY5D5qSwsAEuwFbhzoc3\
-KmShQDMdnJNUZMaBScemd0oS8czVgmB1CDaIlb9QOcX6Pt/kc1ydtiHSmxeJp+eeb6QVWtyuvL1N0S9PwRetKMmEDTftsDgwA90wk50OLvzNjEvrap1xxVJojiK748+Pz5s9YYjrxSK1\
-N+GVVysbruioB6p2yMs/S8wvpRfyUvVlZrWInFzR1t3m66+3gbl44f6TGV7jD7u5il/43rRJPv5cqtem+Ou8tX2hfjtdoDhYS2ASoOldf6t+9aIaiKQLKrsIXRT2Tp2rq6zLzagi8mii\
-9vm8j7Mv8VZlYts5jwOFnf3amGzQ5mZdb6a56Uj4yxg3cFBqjN5M7Srbe7BVNSlh5rYOpMtUitn8HloIgamf80cHbLC24e6LbJ4372zTMsWOlxfUDOBed6cw33JQEz1vObH/5uVez4xk\
-jHnPsiP4mSLmXQvHLEznf1f8qhw/VAGKPfU0MF7TYKTnZW9CJKl1Bp4kCnYegBOOV/cb473PN4S7o59XGU3YQTSviTLeULr8/B0JUEUJ9f9pwJAZUAPJOnBelPVf3WynK1REdSbZtCx4\
-+CQ+a+Jwb7T12a4jdbcFSF7qObIAvMprGaFuoLTM4YIsWK768M/5SeuyXKc+WBQTd0gFk0OBp4UwNZeZeTsl68nYqoUoMacu4uihDGlGJqKWrls7VvmYCkMTcKY1RTT+7WEyJJIThkgN\
-DVgAat8g1mAKRMGhqaWNqVUS15EI/QfIFgn3cZnH3ZEIUtfJAjRmnz7BkA1AifywN2WMoKV4AghgEfKVZZN8C+lS+lyGGUfLbjwm7MadDGCnAh/NwoyK7ByFWloYr5oQoemWntLyOYDI\
-xftgqDWen//EwztKU06aY25pPZZMve0hL+4dB2taeH2TCKOFgWIr+/SXgShddu5iihqS03RA3kmLzUgy4yozfIfRZKpSZDoYRvf48t5NGeoaaDNGm4NuK8Dz76HHpf7Jkgv1q4D2x45+\
-8CdbybYopLlbE0Gp2f10T9zSjUb0VhLcTNoT6h32JJSqInNW6ZE6KglejDIZjM8rOt126MyKDXLProhmeiLBAl5tMvyO4HosugxiwFobIwCeb01U7trs748RY8mRu9f16AhE9vHxgywa\
-+tBw+JkHrUx1RpqX/ilj/p0IDE4uTOM86DvDxNlrTB8g5N+bHt7NeJcVuusGs/qgHfU7q/TCmX1EytntpnOYtCO2y6LxrHmIeL9GyYNW2OAmgHXBoyipyk69eDvkpIrIGWriuIO2lUnT\
-g3U1szLIy0Rp07U7N9XeAeFx8J7wwVvSzMz6LP+4cpDQD3Sk7EdUCEkuF1OeSLWVrSA1clT14BROcsygN8nAJLXGdrFm59Wm1U+byVpjeRJ1lPUHHNfQSKfm/kbNBg1aov4rhvuTDdWw\
-rVi6KEsZVvqBk34tsUy3h7bCmLF2BbrL+8rcJmu2ldNDazdSHXNXbGVR5xotItmjwWGnH3h+xt6mDgT40XST0XOBvjZsMs5SLkAWZbtd5K/aSMleNwbp+kTKgBxg/0TDqB0RnsDB/QBA\
-GEG0M85JpuTQj9uukIDy47oygdUmipnSsmjK6g3YZYxVzV5qclUTPITCYF3S2D3dX9hQlJZOl8s7hbXCbkyMEiTovV8oAAFHURHCk5hCzVNvw/Jl2ImSawyVgO3XOgpeEV7QOtVd2DB/\
-ABkrd+sl5qCLSXdAkFPQZFEmUSPRm43xWCxDWyap5mnTjM9XBhKjydoYOtIfBPj3CHj5ns00EFaTl9KFtO0O0IELJl1m6kWFDtFlOsj9Fs4ao65VomUMS3r4RCGjutAx+VrbolYqiMkL\
-5UuFl8XgSqqjgGHXB7DCHq4iknAGdQ/RvDzt2tnPcxosoTQRFL/TmHZ4ZvrcN/UsPusrXrNpUmX7Nghaipc80tqvBW/pBavoVrJ0MlGUX5bycDPZhskGyTSUp0zgTdmYMJgWr5pcJT7x\
-P42W7yDWlaIs6HX33p/64cugITX/MZoma+2SNzh4NGIHG8ftLFC1QGiNQuTELCuYXe2cje3j57vyuU2z3flmiGkiXLpULbGH3tRPjmNKdt03H5PzmwPyk3yT1QQ2bM4An4E79+Bma/iC\
-F0BeqQYO43/TJ95x6EWvX3xnPVYeAvSaTyeZeOri+JzTM1BSegWK2QN6vF8l6s/oBn0oIZm8A/dA6Z3Mn1FE39LP6XQxP+CP8BMkwf8V9Qmfzuo7hK40AvfwC6sH/xZcWF0OHSr9Hx3p\
-ftDO7Is+JqkF1B6DLipxNbT9SJ+QWng8jFQ04xVYpjrbbOMMN9RyY/IjsPwuYV+9LP4j5IwgFdlbJacrk1T+WDGB+Kd8qXk8nmO1PdFNXi+Sz+68mJVf3GhL4ii87uxfyfBthJ2QK6rX\
-bm3revubcOaFKsrCj7xHerjkjzfdQuh68b3BMbhqugyfjTTJ7vNOMWs8OoNCxNNBbiLCHk05CLdXSAUJoGXQTwnDgE7u57dxDAIfH7R5z1apDl/w4xdBsr1bADrhldOLVN+ZMkiPB8/0\
-xrDOPR1/glgaQXIpsoMREATpl1YrjuO3AdUr2K/IsIwePKDnA7chDiiM34afyzU42NdRZ1v4bwlYYO2QPzi13+bVyfPd7m9u3pBXOg6+XGpZ5BwZNRBTidiL86wt9dY7QV1Qmsvm4sHE\
-M4TfpVNeMgYAJNWs7ZBwIfrdA2CL+u02gbyH1wENr05DvkWyVD+7fJhS4KcRX3d0WbTebuctC86fI2p+V8f0j5ie9f+K50rs3sqiHTItKC9SSZyWKl0XgLCeg8tmJ4kDTi2TXrlGqThK\
-zyrWAshruD78D6l8w0MYNA/jF9klI+AIuo5ncfzXS7VKL6nhe8pN4wl03w2kQpDqVJurXOgbR/cW/RYix63FN3lnuGXRf3rdHmZ8Q6w1j1GLQ0sQOyWIibaiZMMVvAN7RAt3abCBhnTZ\
-GtoDkDUtQfAzgXqpAP1rooLUFDdlG2I5IVFY2nl8JhBb6h0c+8ZvXEPmsi7Rp8UF+XTO1DRzyQjT3F+fgCoD2sfJHd+B3yjisyM4wE4iOwdrsqbYnXDdiAijnw+TDuytMEKEzMlK/jih\
-3SRBWv34o/AmQSrpgtDKh+aueh8mK1aZLVzLgwC3fw4fKGPQP+H0pggHlIvxaaDRaqrzbOD1tcbQzTYRxxGpT+0Ivtn43rjPN1rgjp9KUtg+melU4z6AfJcI6DmnV9nlwQgbfMacYJ1z\
-HGKcYmkQVHyrzGJ+n4sp+E56yAYY9IqPt+lVy9qO7SZcyGyfOPazHNgynTEaC1BGz5Wz1/w9Z/AgeUt5aSIWPyKZVuxFZE/Kgf0/irC57ZyKHlQDKwWpvtgt5UEwVnKwa+tpWh6VCojh\
-ESldjfISU6yKs3nJR9i9KPxECCeKgS1pfJUEjYEMCtfYRVfUFuwqtwWI7qx4DwLv8jMhfv8nlk0GB0ArDwQ8P4G2JFmunpUM7rtV/VvPIEASnCB60CybQqkzqtzTCnhn9mQ2XGkl/ELe\
-rtlKhHpyh48oQ8miYzBPIyjiPUs45ZhC5Tb0YuQV0OzqnQjQjJnAHrNOkjn5zlieWpSsD7YMQfUoDd68yW54vuZVy89RH4Le+Bqo+AAoPgy+tnVoWP8SdvCJ2hvYRp4zYItixXS/ZisI\
-8qbzNDQfEneA2XBLqw5AX/JCamv8zKjLrmPmY6IC+HAltrfLq3DFhgQoXn7JoXoyLSiyBItEbGjEWh6j1/8F/wLEsPVxeTFvz05Pnx2ADwhPmCubXr7Hm0jfyyul/JemNCuqTNsrfOnl\
-bxF3lmKI6POb+XFW+SZzDPxeVIPGcNS3u/IOxLT8FdPXhCTn/8jk3ID89qFFU5hp+X71HwPxVwdUDnWiaI4ZS/lIBlAgsvphoPofpF6nuFtjAD69BqYv4h8YgAt4Oj4Ky5bmV8uVdCuk\
-+RVdpfkROwBXfyIKsa4xuWhEBkLFsSs8TEJksVyfqMarQbrc51igAMVvotLgXMyz7xcgNug97UL0paLTCjnLt5kDNSbBluZsg/hh8YF4HygJbYvecftL9IrOeFkyHtA91L9Ib2zJSXof\
-KWo3kKR+A6F9hZEMYG7UDM7F4gvZIj0VpsHjYowpx2Ug2aiP9liVd2IicKlTyAbtYysWJ5EnMY+ovQ0rhCL1NCPjsubR7YynbuoVKiRdYY8NHkhHhOyTQPFUVScQ1+0HaTAMNQdUNSLn\
-9c5HI4lavBYL2MvxRYNzcgqXGg7zK05rCgBCbEQvyk9y3jyFCZGdkcqvwAu7/+ybUsZa7Ru54msP9YQCx4lq8gVGQXmOCIkREAkayltEQywH70m1VbOY3JIqDQrN83hrM0w7YKQSWqao\
-B/116I9pJwYaKfq4lKmUOtzhllQ5xnew1DXtvFOoD+cVdFlJW+bWL4IMav+SdRKs/0XjgPKl6i3KpYYBoOYEnmrfdzUtfDHeYmWGEQvu/CuVjsl0ohY6JpBoFa7LDZrFj995Y9202vlU\
-U8VFP7RLWatJN8fYQob3lK1eJ3pZsk0uYOucPGmRAhYw2rFJ492d6M/0vpVCueq4cRF7kc/iMqOwJFXMVXwHfH26bqjVhRVfsV06qHM7b60Tpvff4T99uD/3Ify0bhYliiYR6cUBROdA\
-qtejDdoDO1fZtXbeYY/X998N+lQkMjJo0duYoQ1fpzyB7lLfuncMk6hVf7Ux67esDmuX65AHu7EvyzjBC+PRW1uhyr0V8UKlur09DSK8SZSuzRxtMPD24GfyBShshOZInF7JBmT2ltnZ\
-H6lFvGucjdY6iinJO436P6RT6PO47xMWIKJMHbl7XpdrDv4/YQuAcW5kGr8xynMhk4mLA/+lVnsnkW/VL+sz3d2kz4cMjjYHSyPpfAvLhasOMIcBpwSNedIdg47Apy3Ju10B6AMGOuSz\
-EtLiVHqRu8iyjX03mmSX6suuRt9dHLmG1IqJ/4CknFKOmbsGvX7DhT07hI4aF3BdL9D8ME6pMlRgki4RQdkIqX45HBH/25zU+LW9GXB/uu7H/74AZYLwQGvNhtFZ3F83o3mkxx/rpf4s\
-Cg+0cMaH9LJhB/oqdxcmKe/LVb49A5/X2R/5y/8hEy/f+KO+AkBEdbAVVxnbhTV+sa9BviRR/rCFx5DG/gE/LP7TXgTfr+h4VX2gXyXuBh0ihem4uNHBN9/71PYxHqzqjoJFsavPFH8/\
-JHWzpcB4KRSgE8uqdB7LKWbQN+gh9XFZn7Fn6kVfPxJy/yOGwAI8Q0guHzKpOlJFjTO314tJ3/MGv2kadpS8BXKQq8mn1LgUqTNlK+VdiNKbZHfuebwbb6l2He6BvnF/EZnQbc6YwUaA\
-T19zNaLfEkX6krndC78OAFfvcc3bhaoxMizMiihy5VN3vPXjls2mOQkKPuK39mC2OxmGawxFPzTMm0WjWBXMXmPlstLnYHbbHYqDGdAr1xfdO16MH54wbXHfu1fuzWVT+usZKB/zWCEt\
-7ryFzYr+Vp5+ZreaI9j2qrlpS8Bnf5AGOln/iIN2cV97QcfrBQNScHjvo3vRvD/m2VemdnJ9HzVji/z6PZEcM6P79/+9OqHPyLWiWBjdv97fTboPT3/3S5gU3zsvfxlsoNP7/DpiTy8t\
-w+v7cNH+/DGP0S3JyEN9dyLsCoyIEbYSAPPzp0BUB9FRyVP5FCGPy1lhZdAV4n2dIkIWvJKyQtOGdH2oaMfr5fAEwEtqW64ytngPIlecoEzfXMO/4tGQFvwwhVHeU6ZwGHAKJzXPU+Sq\
-ZPHQIuxQvRv/0a99ufZ8hIILtJobULewf4si4hQKBJrGrNrzJUl20NHn7vRVYK0UrbvDLs4uzo/B36hrLRQkmxrWkj9F5rCKNKJdpnYjuiPn+rI/eIVHTFzcRswCbgx73gnO7zkqOnpe\
-LYGSaSyPY49Tbio7s+1riqUEddjZvr5NXEHgPjH880EjgoxCrBbO9dn+HaSfZadT2Cue+duZyIMiT2hbpB1ucbtJF6pz8AWJwp1/dWmnHXQ7YqRC3XeifkxThDkNhUrr/lLsUz5QEIbt\
-wn3keGFZ7WOBI6hlEK06YpxAcxiiCRdXOKlA368p3XRfCbu0jVpmzae2vVrEbSDJ4gLy7FhD+6EytwqDGqrAsIvMN1mzBIX7SLdB7EsVAGbIFzAUSd+iLCfBJ1jd8DyCDA5vp3OC2mou\
-7BP/rZ2bnWZeRiTmjBQ4u6woj3d0Mcp9kE5SkoHEVTMQD0Uex4NAG6gM1gerKDwfZZW5+ZAW/AG2gFtrbi/6xnKhR2BmrPVeV+uTXhxGg0AmmAcjW9mBCtsuiFRNKWykYTXk/tDsUBxo\
-uxHP6u6Fjn59HKdZV4frjuSlxEb0lHX28euXmkLvBmSfpAq/vXlX7FCGqlJDwVEvBhSt6IkPTsODAUqjCKSWwJVlHY2BLyV99E8q2TgSFWAViCyfs1/PvKfN/wHiMqX2+i2qxOOTgXL8\
-gXvLM7oqFpwPYDbBxJVOxYOpuhn9fC+uacz4TOLyYYb51e8ENyxpSI8N4dBAL8Sl+EOOrwgyq5nE56Jt+2jxIFPb2JEoBHqJ1HZvcQxDJBTv9xg32R2P2mTC1U4v1M23IZ7Q3Q7ppmTV\
-KaHJT5BNEeOtaf0nY8KNTISAY7OB4wVPid+e6Q8ngAkelj0DF8gKmY89TI+MZ1TXhbfx6+/+pZewr6HvWFXJ1sIBV0mxx9xMRFUT0OEr5gLhrU7+t0uE0nEn0B+OgQt/XdntAnnuPThC\
-xjY2XnCWPK6X87yKfCDfhF6e0nS3hWByRl2AzwFNXpmXp1Li2d75w3MLo3oZnHTDCQvThlpSzcwOHyUsVI0H7EeNDlBNyfSCC8MldzZ4Ze3buC69glDfEBBsCKDAY9hxMI1swLhJsFuD\
-wEw1/mi40mNbR8X5jHumBRKyNk4X24yLqvwz39heqYszSyOfaNUKMEDXB8vg/CIa68zQFswvt1f1ruXcAYRwhH6RvRv62fU3fmJw5ivDfVr0mJsJwnQBw+I2ld6ojNW2ipECxF4qRtDB\
-8VuMHTN8PjecpDKrtQLvbaFHKfB72jEruRHWzIk8Dg+UvHI0GATHstKe4ASCvgY1v4M119a6yHfZbcMt7utDK8Y7RzqrojfFZJBA6Q+HFGAcvhCqUKw0H8r8mUnjmJdXyxoSQbDs+iYC\
-lZEofZXmGHVVmHvpKzqMPO7JP6aLwzEN+dnS8IFRFTiVUxUJb6IiazEVUx0JR4DVufiqHZTIYvX9wdSEkaVtovYFmlCldREI7xjI+KoirKrtm1nmCXyPc8mEqOsqivhtOSyelJlSu9v/\
-/z2h4/Q8e5/d0AUi5KXnbPq83mCD4D+4N9fe/AXvWF/La5+RUnxVwop+3WzxGuD4WHyK/Jhv87zBXzrnP4Ku/ArKX1+HafVePYrXgIVdUhUTJLOy1HUOdvpQQ9nqwvph15KgZfJy9/t6\
-tJ8+Pjq41saHOv4oSAPTIaazue/ltVmfPUr+gQlvuKPH799+xNVFPc1rGXbffv+fz7+yNPG+brZmkIfv/3p7as/UpnKLwf8i4prWonyV0qdzbMtRzQDnO6Ef0LRs8EeYdrLsoOT5Ndfj\
-m8T3IPxFb08e/Ptq7/QCL4hmDclvzHDef/tqw8yp5UMRHup/+srvX7100/fSa2LoByNzBd88/bdOyo1Dtr2BX54+xcEE/L4imKGSUkjLve+sU0dQ/cZOkccq0PhZl3S9vO/nodn31pyn\
-emyO4D8CYpoAV5l3eA/06yAxP70px9QLbrXjb59+w63a9iNfn713Ud8ud+N/uOntwhBB13czx9/xreHJ6o9Fp0+5uUEYZyHyDacJd7CcXFjmFyJiURN74k7V1hlZCxeovV1hm/DrsP6X\
-C9Zx4td4BC8NQyt2aX6D3cjWlaJnCKbkVxtFv1VDv5fxTUazUzbrK2qOJZJilZks9Sf3CcwqsDlavauU9LXf58S0kV+SfrztXnRlePEl3OOZCQyWVoGnPJvqqxuOPAFVCS0088+Z2P+7\
-FQaC9ZKKF+qU2cVhSvqVBToHzlCMblErVdngQwT7OHnVY4a6AUIt8xdfo5VPwRC3eJsnxVEWOJASvRiJ/Thyy5BNxY4Isy+ODsk1VvEKn388JRrAj3KpjCwCdQnpQ618FRKY5gOFj4+h\
-89fiO2Txx348wxV4kuqsIcaFoyLwM97e3e1jV9vRefEihZh5mEnmErlSDjIqIKbcya7eJaf92FNv6mRdNT9nOs5p22sNcJb+zWtEMy9U7EE22AoDNs4p4Po7iEg53rnwzAjgVdpJGpSa\
-VREoTtZn7cYhYHPKA0AjUW9TiYSlcFP7Ct0weLoKLD+8hGl75IoBMGpawVmPch5ZWzFoYz5A7TbwfB2rrzaVEbDdRKxEQ51BwhGwD/KfUYYVNFBrJqgH8DOTih80dnB6ZozZBUQWFEFA\
-eE36fh0qEKfQm8QgOgH9OteOIgi7otLCwJ/XttRPomBz4LhH/yJpHHJIGD2PIRu7dOtVbGIDiikH+hGOSnULJYGmzShVH15eSJcNZmZlRa8fvvtd6KkFsU94X/G/WyPgndIMeABL5JxD\
-2qbYtJwjhrwazqg+gY1AP/541ukGmdIaJjInDN4OVf58QxduUtaG0C83lOV9Vhs1daEMwRYxjwVsQN2P/ouqM2uD0RTr9XkLN2V5JUFjeMgJA5HSqxdjhrWFZEuRr6pOqaLUeq+1N82C\
-8yrg4a9Ektz6BS6WnkwJ98ptqyVHWxAgvl4ryxuR4J3qoedi533ia7tIInOg69Y2X7F2Z8qALTgF3+65XQhhSLVyElUNcAX3tVPFQZ2nQpg4kgRZXXFAC2v81IQmTtS/Bk181AbjhKLY\
-ToWfENSrhMUI2StiOfbJXlR624vgTYY3XaGpUkt5BkGC6xSjQjeiiiW9QlCiIohox5bUczh45uS2V1h4SfIqDLnmqjSgxtKcJsQqXH5U+T7gS2tlyLhjdQLMPfi+tzpVUX/Hr+LqYwt4\
-jQQMQwwdjS/wyf4jFsmPImHLvGNMRkD+DinNjs8n5dKmfCD7AqegFH0WGYALbUXAXhLmED7pc9JZ+o5Pjluc74Kx2M7AhHd/3Or0Ga2iNgWcT0Sry5kg5GhQTa2EF9W49LLfZxEGm7ta\
-I/3EViEROd7oqNEdgjd2jOYuzPmELnqEOsInsjeKaq51guVau2BWZDEvV54Ts1SMnNIFrQtyxrTAsWQXeGFXyZ11s7QkVrbGsSktC11SimhIQs6AB7AaZ1BnCcyjKLiKc2tQxIkdDwpU\
-PGtmloa8mMqiKNDHQYTXBywe03Q4sipWDV4Yf/gOOZJgUAzLeboLGZSN/C0uK3BebINZdHGtGCqhU6ApVDWA7jV3iHG9rnVBVkc4mmCte8tdByRnokckCxDBqI86JHa5SK0YKynQnbZm\
-ZOymLlh82qCnDMJZKPwQ4UfROziT/yeZDz8xnLaiGQ4h9JUfQXL9RaYtU7nfxQyaUFYDsZXVMPpsbYUFwnYlRfVFAi6gs48m5JwDRSFEw9ZS8aEXwjY2IgUMn0CLQD/HnSInHX0NkcWg\
-NzRoi0UiY7Urqiza+6IlBA0w2enscEcvatb7EiD6OikCeaVE5rKWdgsgtma1aust+R9d4uJiFfFAB49o+IG6OBrmgnJ40gbqLcKxR4SzEe+CG87lPFFSEznIn4sgsREe4tHfET/IhLFL\
-MtSrM5WCmLRCF57+42eWmFkadWFiwRAyj7yXgsGYZc0teHTyz53z7+rIhH9IhpWPHkXZRXqqPB/SOP5TVCI4Iq+X0KLLAgQW4mZtiUQIg3u7EHuGNNuF3xRM6+OJwvohP0T1EWtmCUHz\
-PScBWI6srolma4CQtFgulTbC23gqYYt419O331KmpN6NcuAcM4LViz8Cfje41frdXrTaa2G5XmApsLe0T01/AATC6N99M2R4ZYbxBPQyIAnngSI0JXc21bytu7M8NNmKVZFVYU47wV0d\
-zX4g3h++QzbP9nA7rO5xiAGPUoAF79MDGJCBwZUSQyAhO0lJMq4tu6m7Sf1ofVhOONU8B2OU5xtEzNWXOJTHvHOQ0fMJh4v0kqolB35gFjKV3SZ0CnP4TScBQ4hgF81fqZMKy31zJl65\
-kD/OIFnXieelMMM9Q4vI6dvIMOC6Ey8OVDFbP8WgSn3trVtcvjOjtJSwec4nCGSxpoAjmPpm3dEGWIvzT2YldCeaSJh39y8kpJOTajnnXqpmp0OLUU3EP3ZCSap0ZiimLSTmOYwaNWod\
-wIe+Ia4QoSSTEVE/j/ZEkXrNI5RJEqDYjriJSum6F86xSM4IhLVFV0ffaWlvHXdR5zVSB9vjfny3t5qnLLrk2zs2imCku94hyB7h5nLGmuciEkYuYBbx70K19Dg2j3MCRcfStqiSNH1C\
-JRnpq6crbq11JNCr4xms5Aki5lpzIOzDjlNtjXFM1FU+tgR8T0kHAYacEQC0uhF1yFTmgcAJepq2DObJJrFUz0R6CjfcW5psKOs/dGvpXxtWxjnnuRhkI8dGsXWKqkZF2zA2sAwkKqoq\
-ddCZVPd+6u3xyp0/iUjcJY52XvhNsmpyOK7xMMEBUNAiaTh9uNjTkY60iAKklSZpMX3qeQ05sSpMA3HY6MYvBCa3ZD0iXmQWZ1kwAXxEa/ZTVb5lC9u0UKjI0e5eKUtjPx7Zz7oENXAy\
-SA9llWqu+u4tahZC8icVz9ovPxIr9DLj8TMnumzkxDhx/PKW0QJpNVzlA/AKQ+Ittfan7HhrnpBnXpgcLIj9azOLPTwPOja2N4fB0PCsud9QTKMb318I1tkcL0ZCHkASaNXVb/Ftciku\
-wmIaQ1JnxDJltEVU0dvSe6OGuBL8+JNqclQJ1FIipkOqsG1voVGpBUR2+oHfORnu67ZmAYi1nQDDCBSR0mWHtFlUuQ3/IMGiQ7Ou8u1bP9LQiSxVcq41D9LDphz+9I6Aej2eUPvErtU4\
-TCxcqMhae3NeCUHcbRTUeCbBpNWUoLMiy5Jg3xgGBH63bWYDZiy4IJJbTohiucqdmenP0wpYURK0QR4GFIcruX6Xh9hQnfFCdQa8+rQ/ZjXQ8gL9nAOIhYfyLrJRE0apRFEiuvlG2R1A\
-NP0Ij7BwRAyRl508BFVOlxvBuK9PdDWPaDPdOowPooVOtApIhZZF4GuxikixzY/NTrZZ3RhEJ0d2hMnJSs+wBdi6eJNE6ZADTm+40RBFSeWK1lP57jxN41Z2d4Z5Rm2u422DZS08TJS3\
-yPNwO9IHZsfW0XwV94cTSn3izKMxBNX0ZGXcZn+kv2DAutSEdJ9UoFSRpM6DGFteWqR59GRGkACQtGy4qL5Uh+mbLorkSc40aBwtaLrkaXkaBI4SIrnvqdaKP+jLHjVldEJXNRjC9gu8\
-oXP/KgmwWmu2JClug1J1oIJFjnRtsX64fe7Qv0cuNwZ5udkrvoICY3L1qPbtBILxtuCD1q+M4qo8OYbxhxtMimOXTCLkwLDxUCWe4fW4DfJ0AMV/LczZsqn3mOHTe6kLFCSz26boOZkw\
-x2iUqoI078tqNqojVSjJHYlbxduK/LPErQ2kYUlVyu2RFullW7UkA5cHQGVRoGTYN1R2mgROogqBFKnlTSwdGJFzTZZw43AChlUMxQf7yCHbne9vOoo423I0liOKUTh7FvJ2CImTynht\
-j3qRKTBLuZwlvh83kbkVAfyIsbUJvZQOZ9NrNeXQF2zCsFnfsffOVCXGlRyzkNXLTAD7AsJ7sUnFNNe2JaSQCpryopUBQ+N/MRIYEObPIENqC0tzwNp1tXX0SwiU5gKhnSpKjYZX6prp\
-KiLdKL6YWUvrCzj+X3xIBWfLfj6mH8qaU8CSLf2Qg1/kTM6oz0P4yfIqU4MikqIak50F5mNyBaEhDoDZhe8Q4pD8LI1sCvCZZ0YZNLmotLr1bRs1myeoiFdjHDk3G/Ql7cGia285eNnN\
-AeZ1+rg7yIPorhrv1MQl2eW60pIPmEERjysJLER7DWHFNb+OSuuivBkoyTpwznakdGAg3k2KxZ2HVsiTArAidHJG4JoVfJLJ3tenTuPavQ7lgq60uZVQF7xvdy44YMN8KXynoKNTKQHH\
-WLmcIgClXVSpzy97/LM/LbycbdBFgMaSLoqOucMfNtdlqJAWxpq2LSEHcMdSjzCKtvUd6YXi6cNCJhevD8dp7WB885f3GGC4/26KOZZutQDD9hdzruw7MjahxjAMvdhWUcIPGJwJICH4\
-LCDMMPSa+74OnLrceFxRui0AXLQ6Osb5FTzAC0g7FE3nYB9y0mE0ZLu+Fx5MQkgnYIv6S9WgpatNMDf0d3jihao1gd9rvcDWICrjYQy8JMShLxOGgCjYDDPrV04dp1B3t450XJ+ClR40\
-YkmX7NyxhfdkqKMnG3E0c8745rgQjtHG+VHU8tR9JfjTEcwia78AW+G+F2prk8HKLZK6z0ptsi81Q5JrpWdPLH2SPcutEua8AHTG+v5gLBMEfdFJbwnvehVtqrI8Rd/hO7Atcg6bAAoj\
-EVrLOKIHYrj6MSYPwritfkJY93KEbsfk2sm/iJTdcbBdx7SKJhLhB+y7BshCK2qNsq6jcDhKp14l8zd/waOZHUxPq+7AKhfS4tDZpPaLWi2MAMyAwAAjyJ11gCUo24KF6PIuSCMR+xnf\
-3tGVHBwfl7zgPbEzPlQlMDol+w4dRp59wwXXBQURifYEKmzcyFV3T/XJRvFDv+W/dao4AWpzrjySP5SCDgHTu3IGzy303l6af2o9+IuubZJ4HgHHaeT/gJgiJMdiNuVMKbjK1/uCPlDS\
-hCib56e+zix2y1zXtEC1UK02Y9apuGDqNnx22WkIEfvZrxW0PwFNV+Py3a5HKQLTf7gfVz24rDhkmI7yzNSVAe+NkyFjEuJ85/qKton3rsTeHMAoiz5J4Zeln08QknTuYNfnIRqmjCBD\
-50TxMdTTw8e4/EnmQreKkzhB3qP6f6iF9HRQdKCJrAkl0KjOpFkgy3qvsBU8pJKmnArGtKrKvAdd2TTm3kcYsMUlC67KiehryX6okCdERWU7cf7YlhBhTHSZb7U1GLIBpG56OLGOPUpu\
-+dyXpIDMwWrELntR6+WGhNNqhruhq9QR8y6dvlR8CpA/pzONT8i6iaXRcR3YZdVDlJKpUNV0kU6LDYcEO2gmzIzjlLB79St+opwTjOZKgkYfER4QHIkWMjxI5OpyC4g2voz+T5/kew3b\
-IfVfDfyRClt8DdibMS+2LhqrcpqzZ6nZ+I0reP4Q+kGYWKGNNmSj2tZ8ArhdCiinWfkoVcaeVVhuMKqbjhiLGzNDk3yKbqlhrfx6jwMNaHMR4JCFnlZ6vk/POcYDHJoz0jd7Pg1DJyv7\
-TWJELwVpLGyk8nLN/wKnayFz5D+ZTPO6u60pE+2vumh06yx96utP9FYz8BxmFIek/+CeUmRfvQ2KHsaS3XObkV2MKpJd9JocpMkSRo5QD4QOIjnTAAbLuqcde+Kz5FusLiNKOYDZttJu\
-hZia0X/h4AAY1YcXAzwVV+dSgI3kj11IwlEHM+7E6qRM9fiZ5J5mQwLijzCkdRmn7qU8qGWniJ+HwcW/HDjYQi4EJgfgpDtc/eYTqCMbiV/rBd+YdYHXlrTOy44DJWONMYdrbpUdRQ00\
-A1wVdAWM2U2NNzApYdHCyyc1JoW1ZxVhknYFzlJ9D0vv6NrqZoge9fQBzqo7Y6jX+wsQGrYOQVqVc36eH/soBvikCXBCgygMdqlQJEQ09v6mXdu5BHfrkVHnxPAaGoYCsdYShoXzREos\
-w5CrnbPXv1F2VPmKh+GxM4TZKPqzDqmjyqDLBhKGdSx1ePshx2SrzwN7OjKaQIkji04IES8T/0Z9ycD66GEFR6QOpuLCVjo0FEelpaj5hjejsz8DMsiNIXPgMY8ogkPWx3yHzO+q3vd4\
-FTaKupmv2fcfyroksIm1NucIscpWYZ8LJbGwuzqvsQyz+tx/iN+WwvsZ5s62bGE6sDeSpmRkqmYAhpQP5I4lTARQ3uUrBOw1xmxVBRQGtSLa7ad8qzmdlYlDXyIPK9Hh7y4nZqzMGoO9\
-Q36CnMYiFmRlXPH8Ml4KPBmGY3qfb3WoBzUa7j9cl5GAV7mDjy8GY0amdUUfIqlJgNpthgFpRpgziBFJ5ARHDagGMbwuFZNTPdHIqOLkpIPWP/x5x8IQe6Novi7+Ty7TOfEer/9PM7oN\
-hKAr6H/9mp9SRlJ7ed9/OzD08wnGNEBZq4hWec1g5CteYhpbPJFBqjOvj4auciJ8RViR1Q5wPunIwxZEPamwuuU+AqTbnQsNfR2E6kS3Qax8MiYDvcOnh4c7x8dHAPKMyniKFSULl0Hk\
-KW/jHvo547WH9GzycPAAWic3+YF/92JOryuZ/iIrupx1MHzErzdieKEwlARilVhUFYZe+uWFStxSpflAn1FX/Ib1tTECWm8yyrIHSMfAWQTUnwhc8z2urI6s+31yNtAz+QFSJrUNSHfF\
-xHedED1OPKJkseW/XdIs82E7FsUf4M5scARFRd/y8aVZCZVZwpUHpFRouv1j5pUl+wZJaanS+dqSMHc56c8CjWUI8MWYrOdOiKTNSMV0EiT1uKTJXY8Pkb8ltxtYcBAxmv58DrIeCuI5\
-aXLyoGpnFa4XRf1L5jT6SKhJTMqSUkba3LGUq4zdafjrLGohaQT7t+y/NqWLpZnedK0BbHTAnZoYjfhiWwiNDni2O3KjNnnm3MaOiaOHamoG1wgu6qBjq2ZTw2XlSGt/uE1fRg6c8eY4\
-hRklTlxj8Ry5QK+WMIk4PkdJuBhYYCm0aklZ0OfbG8qj/891tI+w0qDNfgYJ4nd7Y5M+qXOHk5BX04BWidpaF5RgSPkYHlOeiTe1Ig8gmV3u+hG00cd2dmOfkClUCLh8EEivFL1EPmaT\
-2gj4R3d0+IBXiZi14ZFo1pySMu6SeZLt2lnV+g4h0oqqRRoWEUTlIsff8wSon9eugBUHWIQuucLvkOjn8NGy3M5SvzAaTUd6lomcuolZx+y4xoppLsBZUVrLojPA7R6mjTWLPEpghjL/\
-TzzsdSS7hvVN3Ku6DfQXTzMiu5Sv72UKO8T3uiAl8ykHMeOVxNi2vdsPukzFrjK0K8HOyHF7l8vi6r4q1PqiK+cdxckY5FNifP92x8+sl6GM0HHvLSxZIOOfzeAj79DTSwlhDbPlBNan\
-2FZfzeMJTW0e9njl5QhOsaRRb8bEPGnPNEx7j0WxbJJxN+xPOWN1q+PG19pmPL1ee0jJ5WGAXSSWLJKuxmx8xAyBOhChD7t5AAxokG5VNPxbeyi+Vni5O+kTY4/3MDmLPqUTwqvVJgvY\
-RRJLBmozepQEuoY1uBU58yZqLmIpJYeb9ZozuGnToLay+8w77AmsWXsLjCil4AajzF4S74RNRIliHg73tDfSZBmtgHQil8D9NrxR1sV22s8fAEGZZqPjo8O32EjBjt64DMnyyDozi+Th\
-JD0/yiWcY1f+YJklI/jmnoIlnR9QwtDv+zSECaitw4PdRVn0WsYurWuOQTzBucY08p29PIYh1Acg+PLf0vl8Z6feUZ5E4jZEn6qs2TNma3wiio0hHyfWF8ZBkJfkq+1/v11zMjs1upHx\
-YqpOlJW5xL+YcGd/ES8etc7JozEdwQeUM6/KD5lfIkFMReoWPYXL4lisrS+I1RPM1Kv4ExImJuSfNS70C3Xmkaxlu4U3UdMvlNyfOrXPtKUXrR9dHoJdHltq+Z0DjKGtDIxNs0x1MwNX\
-6TIiCLFqY2RNBUmLCbVrB5Ttwj/PDMprC+xCnQpyrzLRntyfST9Jh0+AQ3c6R2Np98jgR/NPM5PkvIbSj5ZJbXTjrdTnV2c98VG5c2u+FJWEQYmYIBArk/0kNQg8yJhHki79buyOu+ra\
-FXj44i/Cwq63VOXm5CZxqkL2VPwAHGwH9sw7HRNonMTPrvR3yMLLVhGHpxzDb3jjQ5WLTijrowfkDlijSPtu6Hy7Er5dwfCZjv/7oDeLaXfNVej68t1W7rnd6FVJ9gtv5b9OABmVCURL\
-OMPTLFWWs8P0UExQtu58MxbLDJ+A1mJaopXqVrnq9KDR6293le3R5F8ZbD1bBKw09QaXYluFqG/gw6JCgZShoE0CcbXBFtS89DAsEGzde52lOu0dPZBTW1XuXsHgk19QGsZcfYrV84Pi\
-9aAfPf7sc2TlFNw1QWm/8knHB/jDEsgIYjxr2FstHbedXojXpnwKyCwzRWmMrzE4nnOb8g+05MH340/9a6UX9zvjT3UHCQGnzb76FKyRgtVYythWbeLhmv+PUc01s7HvV1xUIebGZdjE\
-ypSSP/ZLCnSm52oU3/vkHXMdlxio3T8rMGhGwop3wkvqlbA+V5z/jNqNBZkz5CHQgYbQPpxyDSVs2JdkVHNbqrzaZvfdFr3VNBV1878JWYpgKfuP7MkOFMKnSg4OUHbML8HEK9joDbwa\
-9OK4+je03pafHFyPw5za6DOoDHhqzh5AL5q1mXcFKiHgkK0pgGGwYF7LEEz8If+fqxFPf+yGe49G4ZowkWLXs9uAq2wKoWMURmYWearu5z8WMMHgcPcIoAo98IlE0kk7aSWE5d4SjOLy\
-GKchdcQAs+IIE2sBSJA6hLhC6/KQ9mMU5HRaR+nmNBer+dKV6sMEaCj3zySvroz+Swypu/vXP5NIa2+R3WhsAywoIcx81rxV/ZODiWk+Gj5iDlgv3Jkkih12yi+pimTVrU+SYzjbe9Ch\
-A8ncNYyB+dLH9eLl55xNqWOv13LqL5cGzuqWt6q8mIZLMgma2OKLwmd6xgAuj1Ukwbwt4G1t1L1vbItXwJ9QbECxWFyB0Tr5Co6Nfs8vjqzD1YJr1XYM+IU78Ai2xo9fxU040lqnpz6f\
-jqwgYKXeNy0byzcgV0jr1mcE660AWmV30UZkFWmb+mLAiYRBmgKTjyH1fDWiJlwRbqpnDnwhGPRSV6VlGZmXGYUgZJC++VUhME0savfMD2A1+b0Vptae9SObXBre4viU7M9urI1bJEs8\
-yTPVZwV6ms6mU/KZifzAslwax9K6d/E3YYU+gbv0vm67lHztWXRNM+l3qdnhtPd2oPEdRUUghR2lU4mokeZ8L4LhunQsnkyZE1gpsjQFxEFTVyR2/z2ctSUW7n27izaldlTXG1B1ikR9\
-3SSqDWrQbh6h5CG+AK2A1DzZZE5hT5poqowx5PJ7GXuMxWjWqpBYldLSiVdiJ8jHP1JtsLTqglRf3r1w5tvxXNPbvfL/r5J0eoaL/FieHrwl/35d1DAf+S7/+ZZWWpF+k1eQB4T89RaU\
-THNoYGRq3QNZ7lFV/IuTiRFqM7Aqxmx0Tn5ksS4iDh5ekFIXHV6HZ/c0UvaQgaKBWqEyMfFHVh5JaZRby9xNtghey5bNawCiyd9Ai/OkkDGvFiZbB/fQ6vhTpT2rpYJVI4TRKkitks4X\
-eZa10XyGopMQQ7GtBp9z9jqKgcpL7d2nuXkxHSd3mCvHD8+F1ZvSx2ajss6JN29tOMviwdOgeSdvBQcqRXtKG7v4hAwS3ELi7Cap/nyK+DyLk6BQ2pO/ehbYDf5JziFrySEBls3j4ir/\
-7ATuQXtVy1Up6yKNZM25mdkTsLPhTYEZOvOmZw+mCzVmFzo1RnsWNsr15XWYYl3hRvourtJzbq5ApR3FVMbR3U7QANnSOJ2udzU5EPW/PzM2XRtI7Dv/hI1HY+/BzVieoRVnXHhGsV86\
-UuLlSwwSZmRV/ywawr1TzMiX2EYxuZyVrUtBmq9jUsmOiYJwbJynBQOjhd5vKeUV0VVNuQFXAaWGnhus2Ft1YyLf57zpfA+Wpyb5343jLMz9kZu40hds2iP2eHOYLZ/IVBNzg3f7I6vq\
-6JyN7n/9dWCMwqU5my28ZBaW63aVQWan7ukxAqS+AKTTJyIYzv5u7svfGPxNWumyozCFy4wXXT047SG7FBDhPoG8iyB0U1spJ9yEMo31O5h+BfhQZRIyDdjqwjzG5Dg1kTWd+sw2qqf+\
-rp3S4ptlYsrX/tBRKStEXKof6hsQ5iV1+88lJCCcW2qLRw55jd12Fmlze0NUWrlBnOL9ZGLvGsIkzyzQqrep042+UxxLiIrjQ7wukbbDUDsBC++u6MnatL29crhzkAipvbu6B+7GN3Fh\
-+xY5M2SAXFw66dkCnfrWaO/dqx8bUBjScUlARfIDEzOAl1Mx6RpngEXc5eovXUbK7o19F4Y47AaSStQw+45QU6/36+h9fN7tHyswzM7ga4OakSsqSg2q5H0c8beGVt3ysyUUc1Xa0Qyu\
-pP2q3oL1o8aerllGVnBxor9h7Zv9eC4xniBd27xbbvjvLspAQMQHIZ5nJkFec3+l8aJ24bIaSC9MU42L2tF60Mj8snp+/k2pNhp9/leC3VGZa8DvvgIeY12IEXtbk2vVSdZscmnz4Nt+\
-KUrJLnMeeYGJmRPV5w3b8sY6G6yEG+xecXl/VhLrqWU0miBzJFNfvMoGjdiaChJ0hok5HISojlANuDMxXIaJ4KNy7zQSpdaKgOkGh9IF5hw7sDKhdeY+xIZwmtWQypzbggeh0DUKjmDM\
-39ngw/XclG2IQPx2OSF3xqa1hKEFsSgwXMjHClJwtHhca77dgT2nE21jcETN2ZiRhzkILPnD/gUGLdsQm0HCT+waVI9AJ6l35Rj4ZwdM88qSeJ8XvdWJelY7/YU06KbAR9UwMKl+GsF7\
-HL8RgZIZiPBCnRWpesgJ3EcidJOS9INYnRneK0cHhAxZrOHe4fmk3gys9W6EIrvfJ3SpGDWNrilya8nVvluSuuZAzKqJxvw+LGrRsQ2OG85bl+FJVpQQ+rNL4GTgE5DMESACSaS/7pxc\
-ltPLF91zFn7vFLnZpVBn9iSzxAAogBelu7f6q/+eJauMQISc0K8g4Gv34Cw08G90hLWr9ce6AllmLnjROt59oapqYrT/mquylLswBSPYItnLfa+/CzdC3HhjBDMmOBYFIY4W99FVl1nG\
-cZvZ5jkJRS1MGY4d9fuaUT5iohLLRpjOk+r78k3Gl2x2GPxilYVRUNMf4M+yGdXkmotiLegw8jaaBooRW7RVjGsF5Rk5JIv0GoTB/V6KMEklH4Qbeddc5/gNLtmM4smqvIZjBEyw5xPe\
-kzy8udZMb/zsODwTqMfycWdMWjZkRwCmMGN7k+pf+VkA8abjZKG+BXlJe7YZQKcNZTIThqSxrw4/epx4vQ8NKFRbZWPo1sNjPG0yloO5vNARED3EHFVIEQFCNuwBGWg59qMr2zdD/hiZ\
-LgSvHoSMT5bUut22O/95qKSV6cBC6ujf0kL1CHheoR80EUxuYl5eX2Zs/gk0mPCF+GYz4LzS++Qy55ErjvqAWtgqj8CODWtU0DRGTOhquChODKfL7gRQJah9iXCdD2wnUEyIPvQFnOEO\
-W+2VLVpcSjVD1MUrTlGlchS3PazGv1zGLyOWDBfDky0JxiEQpT41JUmK7VJjvwHciDCdG44afJDhpU0ThIwFuioSbnZv8zPKMzp0zI9y0vMJ3zFMV3+xVmgXpJmlDpTrOiXAC+h0KxQJ\
-opoRoYixQmay1a5T07/ZOwxMOm38D289Z5Ts2m6ax2/V2xDizQCSpbWjWpvoYr3O60l9yOo4XqU40+vl24phM1QGSvEoD0Nc5Gm8/wqI1R6hr3XpEEeJ7KJ+KMuT3C1ytWLvnUva23V5\
-BBCrs2y0esNi5WTfDqFlyCzlR1NQxJOOOlG4QeZZNKmL/SpeilZCL/BF5S2urouXIJ2vvUQO7f3y+JxMFttR1dxM7w6fuMZOxMm4NLotoE9A/iQc6/L65jS6sIbQsF8//wsrVTmITO2C\
-Ic6A1Kwsq8sRm5iaDxle70nelhC0IlbQ3FJuR/MqoSa4MbLJm9XmTu9Ol8kQxGnJ0KSIUljNuhw28nLH9IfOqxvgeOHCKPT8Nahg0kHkmR7Cn7AGj7gibrrpHzRPD9cJHa1vKsYMVhSu\
-rliWtcuXJiBKCWTBG1Hn1TsLZ0YS7EmuS6utSXe6o6NojUsGMXF0OlMMSiG/LtiYdtj//Gi+VEzlZPpx++v2L3XtPDa95p08XXvV2ckv2Dz0fo8MWucIkt2KTPHn61TpwwL/gJNCigl2\
-inVX0reddpLXuCgD1ZDk7U2kb7sK9uniVyu87CU24VWPk78nVVtSShWd8C+95E3sG9ftvjmrsxsYDremxnnAtvmXmxbPe+RGCxe4LTYvoAEoha62Jsx2GBuCHfYeV6HEOnvG1Hn3lp95\
-wV/4QIHwlYcP9zi64sNOI/6C/1ptuiOK+Pa98jZgpZ2k4K3tV3SkB4Pc5whTKCNH7btjhS1OyOvtu9LY2GsKlZXxUeE6E+zKiaxwRj3Q5MUiBhwld0IjeFEZo5xt9/NZ9S7yKCsBXist\
-nRJhzYmE9CA6Vb4zus8jUzgncqblzubFMoldGm9w0OpY19dNU4Y0ddkln1c5xOHrjuhSLLPeBulFcd6ttxmTCh3U7FUtxnPnOr9kdPiCdOr8lNtFEc4il82w8HwyATkmYk0i/f2Kc15P\
-aIVYSJ1bKO147bwu5lE1U2IezdqaOZvmOFh8bGjVNfF8IcJEznPt0swqPmZuGjlciaz8GjovTUq8k+86wVzOdT2MVyBA1gBXIAD9tnxzEIShB/bSiB+iRILmvcXpNlW8UNY2oOC+eZAg\
-hQG50kLWO1J9gIfB6kGU7UVjngluQl3wSmpZZZOgvAnwKqnl5O6os6rqeO67vjrdwQ1qJqLnha3TVHJjI9yD/X6ic1m4UckWYclvdpZrDHWKLrHlECOxHKAOLNeJoQRJXT0MJgDkidVz\
-UvKps6KOJLc+Xp465fORs7o9owVAlYuoBTEXpbvMHOIXbJPdy0lRwcXFG9F3JjUHkcDTqrBwce8JGE2jRZ8QTd9m0x4hskndrGkbTIa5ZkotMqAU3b5PsXlWo9oyqmd5zcdZzGzWR3KM\
-3XRLq4xC2cc3mBIsuCZ16MY5hklSs7uxfqjM9Ri810UxD9ZZ/Qb9DJua8Qr/tsbEU1asTTVRR/VVtTrQLz0SLNjjtKUNmyknTEZ/TWZLayOBpVbQx/DvYSEo6RAd8tjRBH+UY5ma1lJS\
-ClxBF255ouXk52CaFFGbnHQiZiijhpKLII2dxaEVNye8QIHQi/N6zy4dSM4lJpIIV9SmgLNdJ9POjGGrcdA9PHGBwz3CiLdK7EHo6VkRFZBGqNLiU6QRnfRt8fEU3zQT8U1G2R+e34Sq\
-ZpR1RanM+d1hyWCeFB8401DAecCX3DfPFvCq9TxygznSbejR82fMzpT/WqdL94uJ52kPQuKWrNOJYWiBN74yP3HLnI/SCNgrpbvYFqFX3/Z/WU3ifrfyE0ho3qgf0vGE8RiOGib94TD9\
-MUCrtmDOzHdrPZP5VmxiA9hh93ZyfqKHoas6sCV7tYCUExkdrBDXDaAmLz8UMnlbg3Pxq7KHqeuWC1dYUHnCZt9hf49aKNp9VocGb+lBiBo29yQy6qwo72PtiZe2KEaJ2EeF4Gp2H1nr\
-Yb20Wjc05gwgkdykUgmIWeJM5de6NVHZP4L19wtxzJQj06VP+R0hGIn7zlDotzB5w108dhlX4jiRrLBYsrJuinlIDxUhWQa1MTM4trgbnrAVv3C7/gixCTiV3tVsBQbNHRya/Kox3zow\
-GdanbhH4CYzmG44pd7Ed5LLgH4/J148SA+GWyIKpRPdFtdR4DtYQ6Z+C6r0ku1vdvUfllxxxowCFnrZRLUMV6MgAxOFGCP5Q+cNSsbCjCSyWYu8Ct6gNXwUOTrPSVmYsOF5Q+o14iHse\
-BdB8jXyr9n1SOgesU1uhQG8NWdLzReL2alCFLXyoYuOAb7h0/AbUGamz2ULfVbHna5mmGnxKqsVZL+vkTqA6QwkEU1oCkWeRFyhjDmnna3wPRRXPBlPOVgo0EzesFFnjL7OG/eHZvPMX\
-GSyysdQRW+zeffqB4oPOYuL6RTxPN5a3UWlwnziJBL4O11nGd8khtpFAKZv/0T1jrvRu7cfP779CR/2hmrNmW049R7JB/GndN3p9WY0uej3XFUC/ugQsKFObl0bF/Nis1Yl9QVGta7SC\
-uDC50n9kMGviTaPTXaG0TfUboJkHH9IDi1uXBPVEe5jow9iG71BHZBORdcRpECIlpeoklrSJo0xNJWcAJF9EQTqLqJTkzKeJEEMHbqEtqyaDhxOLJCrkV/WxKZRrbgTbuUi5UMCE9EDk\
-IWwcijkmmyqFCffGO4jKyZ8zKt55tat7l/CObc+AifNcgv3Usv/5xARJrZ0xqP0khPxNC+8E+AjZ4QxJZnsj6HfKnvLHzpQ13FB2ESiVfpjEMJKWVj84ph41JcgB+QS5Ps6+O1Ngd51l\
-dwTIVlt8SM5okzeYGaPjlSw1EBeBZ56eObcNMsxkOptExUu0y4LnJY4KE6YNUMWCltCiol/bWxN5m4gaoXd6TpduIwIfFIMdZ7lK78lMFyFRWP/V7GwZCGroWzpksAdnUbtMc4Nc8lJy\
-0YHS1CuUkIoAKOkRKPmycYiQkqL/PdSJHuBuq4/Ynq+cCyCdxJxJ+P9L6ubeYZXDrxfI1tVAfMNmGeDuItwUqcKyxOMvUP9TFVcXs6BjS0JuSBBEzxTr1LpIfJHqrMNjjT1I+0UoThlN\
-VYpypyTUZDknu6jdDfUrMVuXSo3MMG06qm7XoCYNRgCLChgszF7Di9OfOp87F675PAVdBFYU3J+HdIpXbeySmlKX27rGaPfcLFOCEQ3VPoyg6O2WG1gGh/wVcedcP0hZzyRy3iZ83vBD\
-WC+NN2kP1MaR9gp1VKzhNQxQhzsHg721RoTTiBr2PkSMUodMUG5DdKNgbBG9OYKo7FW6YovKIK39BthaoobIC/ptwr+bl1g2a9G9B1+xNrOiP8QPAHJwH851wMXXaSrHj6RLiqlSz6Jx\
-pK6jFMXv3AF2f98iYyrZN+mhd22jgZaMdc0DLp0E0IZQ4Y+0qHTtLYP2yTVp5IJ574KeAcvzafY/max9ClJxQ1YL2J17/WukcA/UqimuY2a3FQoUQu+JC4Xj0txSXnU+9HPDsi5Y3blu\
-c4naMOQdlWFwFZQzk5QesTJFX3kbHbDORzTNXG9+VI5DiiFnatExFm5KAcbZzPhMZn0rIQSOXcaoHMO0UHegaQnstj4K0OgG7KopXoll+Zw/Pm7P76F7T7qRj9/++M7+jkAiv/9q5/+8\
-7sfhJ8igQio4Jp5fLnOTN9kpDSVl9gbcV3uFhbgdNfpNWuw8MzQjb5VIbnya9fcufs1ZEO7ussSKiBUhz/V0kLoJbzuXinaThw7SZDieIAvf1C5Wy8C4XBeCxeMCJea7Y4XkUaH6c9ZD\
-bkuigUn8iGXPQmv5gS75PnnFttxjex5prqs2l0P39S9359jFn4QLScZCR+8QaMI+Uz67fI74wl5XXwOlGT4Lk76f99k65sPQA7GIKF3YqD66wId1U4MrJHfjtxOZncD6ScZsQx1cH4/x\
-tvqVXARJYbUOdceckUaRd8tgUfKq5sTf8/AhBaC7tTJVWZtvwCjHo9Qj8xyjl/sUayeX1csYaLrMMd37fDVu5a8oI+03gDigASxoI7CmmVzY1fyYMRp0qm2uRVUNGod3AnsxKsr+QYBn\
-H6HL9fQB4qPwOslqCnSCecmraxzKWP/7cblkIT/0rWcC7W9GqHduXq3+IIHdyYFShDvpn3CV8upN7boQqgFul+psU2Km9krm25W2lImYSOruyxSE7FjPaMJLv+DXNp1g/3QAGzcsMzuI\
-uL5FpnnClPghp5I5P6MXCIlx8fvfEd1OuGrisWRAr/O2JUUz3gMeJryD1Ah5SsB2rOMfrGju1fq5uUbwJATVMfhYN4ADmtrboyF4sQHJTzMa0nY/ZYGK/WOIX6cFZOV8QEwYha7xDIqT\
-2i+XNzNDmUHsjqxLGbM9DxDW7VlKNdblgpzG8dGge2pydamFluaeqtZylPGbLf2Tlu9SLdUQlGGAMK6Qr67sKrlhrhgHAVnmNgoyqtZTDBjPH3rV68LVOBIep4AksjBFvm1HK9I5sv63\
-uNvPmP4uSYostKrSUDxbZ2E6nDxEmh7OeFluiLV4IYv/vV3pWncxiBxQI9DYEiHf6Eiwz1iKuaNZ1mOEd3a3DcyFRDFV59jZxGGiux+GGAOvECFdadXcDZRcXqFyAKnIZd4c+9XibZhE\
-Sig68oHsmIOpNMQw8ppmgM6pIZoz+m6L1ltQPJGhFggindBtOm6zP5jXqRV5+HCAxzEZfUh/0eGboW+abOp/ro6GkPihnJXfwayklZZhBpBFf83PA17FwB+EljH1Sib3F63xnSKR4r11\
-cea3y3/DIXNFIRP8UYEmzMHuQzhNzo+y0TxWTiLj/C8axcGr8KmgPtOWGiHKo3nOazvtwRqSb2iwHGDuJIHJJ4IvC0aI7RwEC9O+ZTwFURwHB/7R76hhcbxXItBVSjkfiOIUX/BpD2Cs\
-Hc00e/pvACGiqJie8IuJ/JpkS/5wMnzOMvn1DtSOClqr/1GeYKVaPCDuVyKZ+DQjJwu4eYknzTcrmN1KS17I64/Yw1iycniKTjfRDFRF51+v4/1gtSH682cuGJEDp6D7KKW5ZNBuDbqA\
-lBxKa4wIsp94XFITmx2f8VIM3Xhoq/Jeb8s1lWn49x+L/zRT513h9M/Homnh1y5igOkwXpqYBRciRngNd9lReNk6deG3KyzyQY66KA2p0uFaCxuq/37fjGdAo8DrDiMq4vejHz1+xyzz\
-mSL4lMWnE3sNjAwAp1WIdRLbRrD5wJcayEQUAvzVJYNeUF9ZZghPaM6/1GsX83nFFDj7yd72UjKyXGVqNI6dx425iJb56+FSt69g4h4Em8mJbYJowyZ5XQyLjFqXdbzUALBygvW4YUrW\
-FJ8zdB+xyeOevc2pXqYYfeOOEOJcMJtVgm9sHJwV5hmxouCA1MKzWEXdRwiCXK4I3oLQqknLDw3yzfcRaCJ4kO6zZFpDDQqX17+tMFa9O3KvP4Z+sJrnBFoWYGDLem+d5xfY7MV04DEj\
-Aa0d48Jb4A4mQR7McAzl4KrKuOAT7Mifxb9xRKJ7l9nS3Cmbqm7mS44hx75UKvBiVTMwRFWfKIpe9ol3l4Ly+O+0zq5AqToghIuN/DQEktDYfsVygKhQIxHJu5Db33gLc2CEAcsd5OIt\
-px4IsDshANkLjBvilPlXDfIFnlhTfA5lEUHVtadCIiOmCLLpd8a2suA56/WWXAuhn70114PlQ5/pUhCl6NNlGJAG66I+TXxd9QZw2oAqhmF3eDSdDnys/ThRIoNFoRoeDNJ+A4ENWTmA\
-h0FQ6OtJNb1ydYjESjSAwU6j5JTH5A5h8M7L4CCTc89+DhAoH4cIKAjaL7s4aLEqIl1xXiqTEEYyyQ18GJTqavgD2Adykyrzc5pnHEI93JZOH7ewTlJ3lz4c9g/AkDNFs4ZgarjrURiX\
-kC3EJEeAQvu9YdUHNCeo0/D/oFtYieSZ+vSmLFPI1T8xoij0KBrpX9o2Jb+cTfaH0a79W3WG2/w5isZuG1jDxuh77vYPxSGN+4AruQAthpGELRjyyjxmu3I0L9ppoTQaWOCugkpseMkI\
-NByGFWXjgrjU8u0uWEHC9I/lGHLmro1YTag45heYVoZEfR4j5OWJbMcAa/dqWqDrXmPRJk2wtIUPymgiSXPFtExVMg6ha3EvJIW0TdgDZtOiEdqy9jDuwV0bLOkrhLhQFz9MDWo0mJtn\
-DeaGSO71zz7Fqk/aYGTZnUCFa8kYenWTCewofFp7Nawod4paYZZg0cZY1chx8ASXt5hJMyormBqTMvGG6M0FTIRbYK91Y27lOSkdbcCiNE+ptV5EkoqdoMGFl1ARWyqRxTSSSy2eCCEj\
-/wJsO+5kR3biNNPkmnC8mJG/pzm7HXJ3tBU1GnRJW0kvRRSWSyzmqLmo1A8UYl/RLmGzwtrcXEV8MpgpzQxJovHpg6KfY3cM2gG0WUMNqixn9zS2qMDfyf9A1Gd0c4brIX0wWEYFpMVw\
-7RjHr5l1wGnE923jC5YD7wiXe8DbUyZAf1WVoNvcwqc+NIFa9XSuRFeNLvsjO8ddroGZ5Oj3Wd/vnUVbq300QwVxaWi7pqWjM08TtifrAyR5HY+jxiL/jgVyZXXjSTBVnRq+p7lEzi5o\
-mt1YEO5RkNIAgDRNyj33NzH95g2xAsmuTtqFWVfZpDjeU5Osd2614z3mTHeXWEfSYMCvYPFE3XrFXlu4MWv3UgSqhiP1sibALpiDbJWgu6WFFKblRbDxAt8Ry8/ylW8MNIf//z2J0BuB\
-KF6ja/qrTWBUU5Mqxqx77mZt2s9YkSXXJEyu4o2ZPkmu/jZZsVer3Pzbo7RB95Z5oE+HXwGvdMG1/bEdge9AMW9w6EXmlVnsyI1FT9gptktlcnfNLaZyVzdx/dXLla+Lm4xq1JfAb4pS\
-5F7Mrf/XgdLFpxZWtKcGKG0mAomhTpAopxi0NLdFgbki321rlMSoIbA245Us3PrY5Nz2umaxRDzoQTrGJg4yOfIZR9pScKxZXzqhCjFgvRRdtVbqjtDxVzyEzOwvnS+RiRfmKgSnyBD8\
-qwQMhgFfgiBzY9M1+JU2XWhDsxIV3gCvOUQdTPXaelMasT/Og1Tgy6SrZloozjsMDM9YL2LpwZ8t5sZ4MjRfuyZFJFFocSdbDXMEzNlIFwp54Kt6RJCgrPP15Mat4xmNIqBCIIzSnX8k\
-vUXtSV+IGcbwVVUIi2tY1hs3bsGRirVkRn2ay9Q6mKbARXflQVI3OW0FUeNEMOI/QouuRY9gqxpi5yjdhbuxKoZ7zMP0pGNfs+Dt/rs2i039y1FXUCPqOId3mdS4KHYMig+z6akFkTKx\
-VKYLE2PS4WrPDQLFOkau02qyH3GVBMLg7ddmp1whq5KcitSs4Y+ysmCpVp+SktkOrAC6muvuuxEF7imjdmDqgExyEmDcD/JPuXj7H3+OZv/lEL7SLX2ENTugQgeNY7AwQ7//Ya7NN/dj\
-ORHs0QIg9fCUOqCBoXqjZliHKBGjJFUIRPXEtmpTjwUYQ0K9Kn/Dv3b5cH4TxUGlH8Qhz5YU/ZCg1XtwOeQU5mRF/ykA6XMvXH41KdPPurFvfIDrfLQsy30AY55BmSzpRl1sLxbInpwS\
-3HU5Rf16bpJ4eXMZkplnzzf7NefgDFFXIPmDbRwbF0OvLb6Sr8ixlcN5LAWKv8ZicJZ74jbPE9Mcx00v7wHIBz+sRN/j7T2MzE8R9H8KOodhfn6/Nqh+RLa4IV6zx7wtCzopJ+tMrbgs\
-x0rnU9rVoEwaIR2lLhMaJLOTsneicJtrPRc2bO0AL6bHabqWKGrOmV3tPaGXY8xho51cQwhcpcWF7ZuE/oknmmAwHmjjZ/+9MMH5X+CjZSB9iLShNFs9t2EToLybVtr1PfkXVCsTqzvL\
-zItN2RIR7spt3oCb4CnO0q2DGSIA7npRoddWYxby7K4GX379t0fk5bev7a7PeluH1ManLR2RWFIH5IWkKWxQgvn7a0DtMqa7gVrarRA9cWtCQYva5hjVDuU23aTYGwXVbLUPTt+fu2uB\
-lP1Leovck77uonfBtQJDxaebT5Yn2kbVilqavJlmU8CxyfkISbiXdKCD/DXDd4Gl0qQWivOac65JIOn/9Khfmo4zb2U2IJxvh4DUcJfKH04N3GOQ0IH2/LvG8p0iXmF0HDa1WvMqTxFI\
-5gimMa7mtUWhj2yLM5hhBPcOYlqI4tKjhwmgf0BgvC5HQOVjIGQR6YWerw8wo/SGPGCJoo5wLvMsZBPThC+mtNVhtigfteHxYAee/o8D55cUWOV5yV5cNcz29sn+zALuvqHvcKG9m5bH\
-4OUXsqi7JmOw1cDENUGwWT/iap+KQbxtgTzyGM1U8e3nhxeva47yCEyk0Yo9pnj0LY0wwvUjRr3COC1NA73KCIKyU6yPdv9Fg7BIbK2WvXJ3z1uBNva7O9iS+qI6GNRXNVPG2mSbtoyw\
-aElGL4aTVLHm6LYRSVpHLtpvkznviiasLYVrR/sp/ZgO3dTSYmbpwsO6TNH7h+ZOZz/sCfuH8FhfNgn98RH6S7aUaccnOs2vB0Us8D09ihFy1YSSuvaJaT+WZeuF8nbLY0O0RAWOhV8J\
-u0dVD6Bn8+3iihIRk6jg9oYELJYzTdUZsRMj52XSBVVg8gWlHvT1X3qGshPwjgnVZDYhNnk416P32cKQRZAle2uuN1/hcrTSQsEfutis2QlpPi3ofYamWYnWO0Kdd0ubRJ0iHyisv59u\
-gDGCTTaZDsTXtfGEo0c8AgTtRTcVTt3tbCKm3zPtnBrNIKYS42dkbahDS0RDILwW9IEH+/VQsm/kkR0IA1/hbu5AtfTrbvU1gFRyhQ9ZXUaQSyN0QeizNH0Qe6HNmCFXDmqgj324biFu\
-qxtmtcHIcsGrvTIsYEbu5zLjWL0W099zAXiIJ1EhX6V3B2aNtCEzT3AE79GUkivWnWfvGiUm5N6x3sfqFM1BcT8y9ib9Tv2wt/hl00rz+M6fUC/vCN8g7lJwIOptB5S01SBdXfq75ZKC\
-AdOFA5CurpW9yoa27w0OVer8KI4hAny6jLGmHZLzDbTBjncW4zU7qJlkJoSBI6lAKoYGgjuWV5KrmAuBWF2Q/yFXpw2DqCXwL1lgek03kCe2JAFl3PZ2PdxNLH6+bgYja+wKKiDWttFA\
-Hc4Z6LpenYjfriScsK4BwY+mPdcqNJygUpsMwQq5lP/Tbqt3CW7D27vQFG2ccMJHhsZ4Wjb1SZhNb5uIKjHeG+hEdANg2HNj38rvTShNj7iYCvNJKx6anC/RihhchkTwjQK4yM4aoLCk\
-HLu0r3Gl6+qap1fbKqsE0/SKu2h4TT3JUJfmG02JVgci4rINQYxCQXAiTsMp2D17jA+cGl9RdFuprxiUIlgOvVfzAnkqkl9nGTMw/JGJHPZhGzkDHL6FK/UjR5Tfh4yH/IVlxxNhZ2/f\
-MCtHD1z9YzkkOGnpD5W3Gp3HW8zWidyMbUuI3oDRZu4KcOjaeRKgO4kdooMParARSaufIdx5ngYX3JM80iDkx8SZnWvSbwlAOoe1N1IBmYdq17yDiPPQLkhYLSNmVL4k/MoDBCORdiBu\
-dOFUz0YgYs7W0sd8oGUEbTd1rOlCvujq12p7otODWExdF6S+eZJLScS5QDynrHMWoXqZesQrTGOmgtBEojavPcxRahTnscwzaPL8iiWXs3m+OBkjpxFW3Le+UzsV5SHXXM8NmfHvjJGg\
-d46NXYWb7tMo9ZRd1tSRjZ4w9zrSf++JmGgJAikq5ql+tckJ7QpBdtTCNZyakY+9eDtWZBN0maPk9RkmPTe++GYdKEcS6BJmjQ3qC+WBOnKcCuWHkOl87Jwlx8geyc30jMLh6i4lKg8N\
-oXrveRQTG+X8E78tXDps+ZVCPiAcv2gEdBqot4YDoLYAIfJUEzEJEMtuXBb6DFiT2yXFG2cnKhOzkQAM5S2RiN3uENDfhsHu72GlN1GtniNWI03kitx5J3LP13Z1PV0kTDDgEfOKgw3s\
-CrGjHZN/mEMuph/APwVnba4HqsobE3qt8b7zpGtbXTKpC6/28mr1WWpmE6jOf5rI2Gt966QWdqybluYyUkzfrjek22PHYEXYVuIYAOfw8Db1RAedkFyyzmsRbNzQgsvFFFmGM6ooKcsT\
-AKo7BSRdps9ICXxNK2a+QN6yEv5E9SgNAQYnrsKXIhpPLHlJWo8Y1B6STDL7GPqrwhyL9q40XSdp73xZo2Hnr2LspVxLqIa7PixrVJoH9fpqTOl0ZOcCWN8jpiNT3ESRpMT+yShynVvS\
-+Wt/K5LcVj22nr4tDC8fnwVgFnDNrVbkE/hfu6tlWVgu1iQOgZJOuU9CYLC7kwkw7lXJGCMlTnFCvU3GMApELhIV+/IwCho3EdkGFeP4yBQdG84aA8RII0Bemuhhc3dvJjbBE0mOa36N\
-7Pvg4t+cP6pzpv7JPi+ZTedd4NMqJO0eJ3U5T7XvVsL8b9dcAy5gyN43tZxe2xvV8y2fjh6iLApnmMzJDlUs9YdbjR4/aBL4wnijZPtLjMPdG/hEXP+EzYqilMqMGIsAhsQuCE9Ng5nV\
-4255+reep8WNzDQD4hesY3eW+cpU74ndDx6VvLJKHmISsKoSU6xf0MiJ+Xb1xbpYLta1DLiMcqBFyX4YmfH6YVrdgw5qX1yyD7DKuf1omQXwH1hD5Ab2fqeuAs8pwz6A7JDUO/w5cY6p\
-7c62mi/iBsk5Z5N4cLCWP7/9PYu4HFd1cFoaKEEAyWF/m1CeZwoD8/YI3n0suVRbEd+JHawZWPLedkOcyQdSYNGM5OZkS3FMQRoIBBoXUj6m0DakNAb82hJQ7hNE0pzKSVOoMRQAvkbE\
-uC25PGXR5rSNjz6/Xevx95nr3XOjKSE79LGmn3OPnuv/Vp7vVer7ACLka+m2ApQXTsQb7lliJgVsZSfBFC5NP0VC+IoVa5ts9uTSAtM/ys6ik2bY90/CKvUyVSO/4s5mHYW2wYHAHKF6\
-/hnU1cr842fka4vdqJgCBbjESnIxmsUnsB3gbHr1cRg17ExW+LTJF7p8/AKwk2t5NTUdco+dCfWjT5G2mdi36XxyA9qrir7w6HJaNFqK+DzSTCxnaxn8Sjuzlq9OlkPZ5a5MPRjBqvtR\
-uN8G0grLntB2Nnyi4MWQMphTn+ZCLoehzFtUAp0TzNHnZPMFnKQa5drRHfmObKUMpa5M2NzYXtXXZHZ31ixf8/KQnaD+bGqK5qLxtDHOUsBr/0I5pAgDhrG9AOcByNxC+4i+LyLGL4E5\
-5MUTxKGGtfOkvbxJy7ukBdiwUlJOdxM8guKL6NVqTAxYGbUMcIBbXFHm/q7iaGCMXaYUSGvhYZFNrZOhxceFO4ZRopu6dglNS8S4UgCktAIEk4QqB4qYJ4uz/TasAOOLoexiIhZ3CVUQ\
-o9hWFnrhZ05HGAcY/Bqt6qjzm7kB502G+oXAvrKnLxp4oEgSIP/3ZGss4bzZg6XnChjPawWDDNvklnMJNoBf12oUGKgU1QzoYvLlHjlNWmO1HrK+kpSVvfUiZUXUgGVVTUMFZ5sPuWQF\
-VqeKhtHCOzJPEkfPOD9o3LUye6ydgep6BrYkRcV3f8WFrGFQ0Z5mhL8SmAzLqleh9lGmOzdziq21Ro4SzXFaM7DAqCQgOeWiHGoT9aBx9J/zqBEEVvCxmXhHOlOnunyxKIwyfpvsLXCI\
-hwLeRFwhlcEXf2rzdwMdPUDZjfcYwqPaNEXGGMnOEWbkdSbjCz9bhOxylSKKS3ajCh3wVgrbfjlM8/ktAd1do6Br/yYq5T88zD6w8YJnGKijvk2IpYx65efP4YTpIlHV18NWZE4nkVW4\
-1B0Pp0IdCqxbDaNZsS2KbK9PfTeDqIXvO/TE0R5TxMWo02Lj2Qg7iyrSFnaRkGWB7y9LXui8MsYD5k+iIXzVbob0jKL0Vcuk1TW+XxwjioPLKzqpblCf5BsOj+OomqmKGYbEYW4rUeT0\
-CgEPwfCAhOvFVzON4wI60VsNGdmb0N5i1qliP0GrxaACDfVepe4AmxuXG9e/RZ7AJqxy+5Sn9jUI368EIo+NO3FT4mNK+qY2Jn7RO31SpFwYxoSyLhwKSy9dJ2VKmPl2XEzXMr0AXNGm\
-emwpbRsIPZysyOZbaIkY53LBol5mmsAaq2LXxMStFe7/UbDnc/in26pKkKzCHMlzndk9QdrsCbC7M86MFquzJGgsCa5sW5KyYWoxs3eVfiUEmKyQoyAGaNU3OacawgpiQ1Pifnt0i/ip\
-IxSJKqQdpqbE+yGspV57XFOpyMud3RocDt60tFlVWp42wEKaf6YZgN2DMoNjgcNYqURQeZiJMW7fbRcxRETRTIXe7rhi9gmAouQR6FXE3g20jvJYPwo9gYtUfOFOE4gN4MxDjBWYL00L\
-olQRRwz8UnARYifDBuQNgRvsJZkhZahBzvAVr2rEJ7weCkRPFuEkiQg6Mu0uJ+zM5aablUF/ttcdQlqPayCaVvlaci26aROscP92HuOF7CjjbmABa9G//aiROJmTYRqkEIDJOhcup6tO\
-hHc1UkV6of94ECjOBhCRWhirG8nZaiQEUl4cYt4ZosJEpcaJgqX5wimiNKTWNqMvLWTJh/QVQe5BMZ16czygaVkLiCrBkiYkGMvRYQ4w2qpmJbIBZhOvXrITQI1qKHtyPmZ85xy1iaXh\
-D6hIS66+BRxAmJ4iwnjEkRC6qZy8OIWiiGGJMcg36Ik8FjQEYbDph/WgWOjg/Cc7jhW1oDIfJB9e+OY3ZyZGZXp6M1pcKTEDOamwsNOGMFiuOpEDnKUejE0492MiNluPoxab03CXGSiZ\
-IxKCtGqEWl+KQcFwUj2luJLm3Zsln4oWuxzjmib3K0eaC7FKm2ViYw82F4FK7+cbSZaSZMxjleb1jIVxJ0Q7iq0TteYSRgy1gXdq1uFCU2PEMBaJJQKJpVhJBRDJq8+G3UkQ9vlKbQdC\
-Pwool18DdpYkMjrA7yYsSk0TFJQIp0oFkSIYKaKONA8BYIH5osU8Z5ACuvtrENwFaukH49qsCU8UxOXcbscNkE6m6lZCqbGqn3EoPxzQ7DvcFAzpC43VaA/wRGXFtHv1daiOOGU2jUpl\
-yIA/FPmh6Zl8JKbudXJ6eAGO+zxSeUTPSg7uzE8prhuamiF4hKJIydZIzTE11DyXZtTpQ4Ux0ChT2mGKFtxPwSwdMZ6Imk5dZO17HTN9GMQ13byQO/qBc65awBCHnuNMjPdHtOjVarpQ\
-OYvj1Ocl3iPIM+FvwxMVBvNT7yX9NC1Za8BL495a8yRijJqNv+4a8uWzY1Ts9nN3UuV7TzGBbU4pXlN1Uo58eZSoBmxnQFTyQZGcafwkCt0JF0cYWdvZFK9xdZ2lPwS9rZtsiO+G5L52\
-EfT8rHHO1dkXl/qppUp2p/fqrr86W7h/HzqYuFGvazrMdiLXsK4J28JUxrC15RGekGyaNRLJ0+/nBR11M9TD+PiTPVpFxXYRQF3mNwcLj8ahlmzDD+woDFPmQtM0Rf4NGxeeZAhkLYpG\
-3vlnUmaMXJ3TGyzFM4GQUuwAxWU1JuesblEROQw6DS/HCL1ptCyRHZ5gMrokAliK1kvi6cdjlkiyrMAukf9DGcZKQdV1x5Gvi9RghOEkIDTmc3nyBXXDFYuyR6oS3NQSjVaxBg8uFjeE\
-19jxUbull5IEz8mGM6kUTnvB1s77Y6071KxjAsMl9hidkvEkohsKp3bsQfeAcEL0t5qDS1YO2IjzfUeRwBryyeQlBE2XLVFSaSrYDMxdVR5L2AVT66fzUpQ0doxFdCds01DHqaBVoVEh\
-BowZLf8nHYqugbAMFwdj0hgGBOiWU90ggtv0wKWvEDXbgkBO2DO18DLM+9VskbpQ027R+vNjsFY9OgSntVdwjPKc8ZKSszcxKuD0DTsDo8Dd6P2MgQJ0HRjKoqaicjSQTRTM5Sm9f+Cz\
-iF/uMtsW4F0UgQHa34pSh4DpRM4kUEwBXcSqZwqUVhPt4+zOZ2GtwztBnM7SOS0a/e24ZEtm02xN0+JnYYvgwDRIg0O6ewqu8CXUghWsa91i0lUZPtJBJEEYHJIuUvVvSeHssEv/ZMPe\
-j3oPUsBMVuEooRAuggj2gEcSVwKW826mn2b0blfGk5RaQdtLRxQFU9fIatWtc+Eep7t9aUhAorzTZuQKFhzLfQiJSWGT1VwCqYUyR698ZWH9MSX7sXHKGO9byxJgSEZxFdoHgKG585QK\
-a4do27xCYMyEY41G5wQkT7zbgjcyw0K5Omfsap1wo0aUSEo0hkrwokq4mEq+pp/iPxDWTgPezk5rYk4fNmRlauLCNoiHkytIv3FsDWoBJlxq4e6qA/LBg6NgnDXZkwKECDy82Rc0Ayn4\
-/xezqOYw6uZd42gr6svmJmBpz1regucnAFvSuAlG5BTuIL3JOQ4A0km2D5A3AK0NI/zjnkx9H19IQpqG56jqZfXxmpx3ctkvmYakVnpxRyD57njc3Zc9DEKghJROzEMJ0lyPbkmWMlQz\
-GIvsyK1llU5GjiRUzJJAwX09UwKMEtDjme5Zfw26sUiq1VBr696JHsGyD/T6Z1fMDfK9GE0bwKbQuFmuCdyyluBO2JlkPEggk+STa328GAMF3S9CvZSHC3FXTyBIV/4rvGNVCEUn7huB\
-hMeMxhYz94YcaI68m+YDEsVdQr3QHdeXhj2FkxaWGeDyWqGWCg6Wh0IqRO0iHOFoQDL49bS1WVE5HuQdznUCIFcr5qDQ5UgRuJoRFGDDeaYiA5xHtFSY4QYMkxCKJQphjzBURiaHv/wY\
-OwHDNN6tmsxG9ciGEVr8heGDtkFYIKTB/uRcBNAbtNPZGC4lsMhKqAczi6+kFlNqa113ol1flYWUrzAydIeQMqmjNHZj9vF4DHxalDkEbC3BzuwGCpakF2EGxfEFALntk4Siu66nB+Ut\
-rqX0FUGro4PRs6hFcnnIVHmA7gIADhuog9Dq6vCVuX5ArLabuNAEgapnIhhHYBJy2SFKR3Qpg3cpnB8ApCPAYYGsqoyC1aLvm7b4EcnsOa92orvSTH78r5id8D5WsTP7fVZR80UtroYs\
-p0y6nhOKzFpMuppFfflBRkQUpeQzwbvMqS/icg2u6x5CGwnRw2jc+VsFe5XyHJuOpMTMRKWp+PJaD8X8Mzq5Yu+Yp7iM/iKeXjiyYyng3MM+t7Adkxwcr1AmFjXS+lBRqwNYnUhczviU\
-n9wiIqLhsErAq4vgssApu1wCbliATMIhAYxJDbQBBhdzDrG1tEbplKNjYfAJg4gQAZiDNTHsZ+A6Xre9WDDrjpPRYMw49isFFYsF0cf8DIyx3wJ+7rbZoB8m4X9BQDQKBzLZLNCU8Mex\
-cHmvryAMDqYC1BmHwQqh/w7fCQzZXBR1NAWq8Aqd9JH5m8fJHmxEQETCbmAO+BWcpQSbCWlHosbSMs41uO78gJUmCsslQDivgs+WJB7Uhg4Z5W98zr+TISR8se14Pc8KNEADmx9sHBKN\
-d1Ycqp4jhIW2CvNfHuKkgZnfQ9dcnFKdcz7FkZCTisGcQuflVFAOWwLQB+6bQBXedpmMPsNESTANBk1N0LoHNPIJgQPre4hcUGlgpVsTvSWFcnwFqt30cRj+/w7Hnc8hW7CUCic3Mu0u\
-ahFF2I1A+H4M0idWCmb3O3iKsNZiVMaCOMInWOP9klakHs/uG2CyS4dGEwm9PNWg105IbZ2KQYW41fWWaPuRViU00AgrTRdrtA5++hFBljz3mzqa6+DQGQgtLZL7WJ7J7d0XN7qfHeUN\
-6aW0rLxiJqB8WqTHzq3Np0+2VRBxwqSzsMHpqb5w9q9YTQ+ZpYDG2LHfhKq5g+IKMYFz5yawlnL2CgoXKMPUDXVSS37CAOeZ1UZfDlSvxQYRFdZ6X9E8K3XDfsIhlPtLNh1SruduhmNZ\
-vhWIW7dXpoknDPElHdTco5uyryeyOI9iIGayJDBigDjtlwGLbpAVWJMPCfoYJiSN9jbN2EzxjDA91bB3a4FKvKOI+X0hiyV2KT54WUFafG5IVebTUMQYGBWLiS3NmWLwU3XEiMC7gf6s\
-3qIkSA06NxC+mwOBnjPfXYStouvBjsW24YEinbExnm4nKEzFREWzK5B5+BXcxdTGZYcP0rDmCh4TFuT1lIHc2xLTS/CBfqnMyL0v8pxXnm2V642INmYFVekIFxvUH7fPmrK+8H8meJiq\
-gyYdZYUuQTFNkdkCWnMWTOXGD8KxUGAQFzIKKLtxqsUlR/k0JUW/MQwKAFKLs1P8p7BNCfgFtJWy+Kr/Q1VDCB78vc4sMa+AxiaZ45iK3j9prAl2NDzY0uQMvfZEkvad8H969uE0CySa\
-gRzcxNZ32WT9lGMA1i3asVgJNTdkVOvP3vefYXdoTaIYshhN8Qp8O0Fi7RtIgOrkcM1sWTULPoR03paMQ1JYMg1BeQwBA4FxEHzcpbpgwCHowi50BENJR2rVkg2Zv761iZ5P1Mb1TQfU\
-/wmw4Tvg+oQwOKAjfXTDaYIVDFv83/OUwRFFOiOhaC3wBgoJOq1ikAvHtbU/HDVlx2ZHuNgVxcAm+RH14jbnqyCZJPbNSwQ1aHmu/wgWXZCyOdjp23KnzqecE9n5H20EoKBkMwUGDRUx\
-cRi6pkuZAaHq16QohKzOwxqVzImlr8lxFErNTZTMBbTjkF3mJgU45KBRhtCt2SzaCwCcp0pnHjat74ugNvYwCwqgJeyub08Py56mnPqgsndWfHyP1EDC+drkE3xV0mXDk5sk4tjl6d+m\
-GKeGcMfz4j3RVrGCdc0LGUhgRo7KHednbMuXH+3LQt29c3WxVMv9l2p6Yei2oydEPpKDB3lW+POZjiGOBzdVhmP5qzPXIvBm6siciYWDoNw1WplwuC/OFoMIxZ7MUT+DFUrtSrIT+HUE\
-1uEilMn96BgXlxnxCBgjmFcnYUE4ylNk+0rCnMmDHKGQ4jHHpvIgfQDQ/Qg4sJW6IqKITIzswU6hWmKKmCOyr0bmg72rAeg25dtoQQqyd515mk0CPk4HWZ282CxeNy+u3i4H5Ke0rJOV\
-i8xKw6OUJS91EPyqdMdJA/REd94FkPQ8jXeTFz4bneCLjiy2V9bSGGQncY8ap64nPerj2kVlD4fjULu+IZP0EVhYzpCc/lSY4Q9rUj+AUgInSVa4yv0j4Avt7rgE6luzJZKOxi1hcWeL\
-EIEnEWWxM4HHYHcYhj2I09305gmv3fDd+6IxkthpsOMyfCeEBDRXJMdYNsDGQEagBxGwhrnI0K0jz2CqL+KQvwmvxtshSzorlC1u1wMVZTSgwFTUtLM829r0hxkW2AZr7Ij+SJKEARB4\
-EwN3F0wdxmA360Mk2W0U5Awg7WMbE5XmIJ9HWSbEAe9OmROwwZEmjCXB8je1NqlRlYDgZtmA/uQedh1H2uTAarSREdWxFiMnJcmoj1bb7QeVgAZeY7xkX03Wa0ql3nqW72XpCv2c6EL1\
-RZHh886h2r6zjOgAa0uOsXh2mLicZxrTk4uZfuONmgwJS82hp1Jpj9S4hqpwGHmOiJU0Kz68cMAV1RxPVg4PDofhADDdDSPykCkIPGmYARkIFreCMi7IlazBYdAgYb2RawrZrVfIPDW8\
-sagfV+n6O1o6kIA2LE5ojVGRBqTenhoui3lAzhk4/ybIjDPnCbfZLO7phH1cxyvM+liGI+aYalslxHsKJzrrtmkGTNfUR2c4aiTrO4px/eohpQRe8xJwx08WQV950oIhz3tEQMEKMBHO\
-WvH6rMzo2ksJ75AXYRZmIxkgLmZLK0aBcjz6R4nDaFV5eDRFZbAIgVqLe/As7jq8RBYycpHSmR5QRc3X0Eeeyg7F3Y/dFBbo9x9HtW2DmP9oammocQOkJfdIrE1ihDAJ4dwppusmGseC\
-uAugpBNyB+wt0kjHh3aHk7UAWLYtrUySHP4LuYqpr6Zga5gWzNowFtDvOBsDfIhsEeULLqI1jcfYF4j1sYg8oXZB4n36Ly4550uJuc9tofMuchYTTvZovqYAgErNeiePyQtuoBsnyIPY\
-mIoCRDwmyUvH04WvMyqAlEwaZBIA2bLkX9T6M8L/3Y1qrN1sH43v3dQtQxXz1GFar1kOCiiAGPVqzlfED2Hz5N1X88FE+ZERp6tzpnUlRZLkf0tyww4bD5nfENjWnQlLiHz6VLRsznU+\
-uBM+mnlDJx03r3mtzEBl5wjfNLFnmd0qAsYJrbghlSwI8MIYYxDCohCaKwFNeYC/yVKuZ39EVzdziMQlihzODg425yaDDH+aAPCjKZBarF3wYUYNTMXT1c3GMjijLWZD5BW44aMxxfBe\
-fJaLKMQWdlUh5XGIbP341C+5ERl7vh4rXk+AVGLCQa5Jj2gGUsxkybTFPsdFd3SdbnXJNJaWGUvJrg+z5cCJFxuqQTHsQCohgrh0aoIkua+InCm+dh1lewPxph4AYFV6+7ZSvu6nvftE\
-YOQIblaJqrXq3V7gSWJOIjiArHGDc5wGByxQoFCecPXXfakG8zb1XHAg5/6tqfTL2VS7ztkYKqIWicxvqm5rOgemYnCyqEpSJ7nS8r9XgDEdfFtTQ/ZWggiH9JyqkuwPYB4ASCSbMLqA\
-MFm9m0DcS+KeRxORezoMLQ5LvEergNRZm43/2oTcRrMCpu3udjyMkZQ5PoDYiv2SgrBRxZmIM6Wak4ysnEZNFThxBZYeabUgGiZMBvctvkF9yGqFPiAot+jXz2bFXSMA8FWQ5rG/lTfW\
-uLGjZmA1Wq8yepINbVhTqSphyT8cKaisD6eSZB3GMDYMu9AGLgAAajAwW1gLS9JLAkpAii6OF5G5HWra5yJ7dofXYwwtZLMf0fnGzZER9YPnMcRMIkgLjUwBOa+fcSrkhkscBbRAThzE\
-ArKPoTfBw5kmWZDKGNPeQgvO07Ei7MRoEiXWe8F8Iv2wPE9fjigURfEHAApB/eufUol64HcCv9ZydtouYSCt43VatkcV5oVfOjbAA9b3g8N5RJLrtMrJ6fWbBlIkWyvBqxg7wcs0CWBP\
-+GmEAc+2dxkFYNjwIalr6sLfUEBUoE4h8PEw5zPJgKGA5pECszF2TE4pAoeilbkTmJWy4cBRY2uH+PSaVmcB9xSyesbvSWqcL3mLJoq2B+ZbExFgPC5kKLRziEXWOCgxnEsaHhq+FawG\
-KNDYatw28TpqMDRIYexpkjfBedVY55jCJRcYMjxBoyt4H41+L1zzwD9G8TSSgp0chgqreCCq1GKrQL+S3G9IyCUbDhlQJ8kybGwxwgWUascbayBIJmuYr+hCn+IgxwhihpOKxMzgqzBc\
-9Qw6C7FiCAbW3UBR+zy8xCuRqsuMsLmCzjm01O9g82ZM1RIAjESU7TOsaD+AHyu90z6FCMteIxulnFMzGS62LoOH0CwkoM2iS2eHnM25KzmAr1NND+bYEQlKQg27i6mPlz1AYbX5GlVZ\
-L018twFwTczrohx/xtxXFpDwY4DwQVKqWBdatRmqjhWrZVA7BXLfqzcdSGcSNHLcfSobnY4AlaWFToxokAHAI6+FbPTHOl9UFj5kRQGiSH61PCT40iqWJZdqYVw+TLpule7tmQmRBHwW\
-tlZQ52dbAtEleF2TBe7gio1FpeZ4TohIxlVaQ0MoXYUt8OxQ30dZrQI5+GT2PvR0+TF9DxGwydTHM3ux+kl4FfaOh10UbYb/tbEkQJA+J0hTFEnDPpfTPCFBHOEfltcd4Ppvzm1xTzKe\
-P7xLEpBotGZyseriye/BEYlhhMHQ8dYtBXbFyAvDWKs9ZgIgh/ROZt2p8pKR6ep90EbGghWeIRiVk577m14XPbZNhaP/zD4ukwYxWvkjGQb6euLZ6Gtnj9thdOU6RQrh9CvrzrXmMZMl\
-pW50Wx5UwexNy2GysOUIRZNC5rjfxQHQ+vsdlYFiRgQCGCwf7Yn3zsU+H5TKQNx64PR/7UZgAHcmabALe4vnn+jWDHhkWWLA8fbG8Lja5SSBYDw0AcN7wz8Dh4tEEY+Dp1BtT1lZGe3S\
-5kFrzwQzbXSpDCk/Ev1S3grVKGn4pnE1etAt/r4QkUaxgtJhdLnjulR6//dsaUxxpYn5pU3+W4vJOfSIhQ2NXfZV7QZjW+OrIgCHxXXKSHHvgNq52GDfnU/2px3qUdZIu283e/j7ANeY\
-L6wwXG1DfZzaU8wMB09A/uvho2rjVQwNoaRCg8zQUdEHNYsGDxxxG06tovALzD23WyF7US6vMwo1AeEbQHlyApG9fyUEn3EdKBIqzkzQ1djCIGmp/m2Q5ksxgeyc2yRHtXfCfkt3QoZc\
-Dq6VlmCHu7eYNfunRfuHtphZuq8884LlqNHja1ucOByAykaW0w1Z8odaIuCBEGDfQz4/p2ClDOl5qAnDPas2AHQUfDEMncE3NMgSzGtzLOKFSNiWscjIjfAZ3EUlCsVPw+P+SQTOyMkL\
-nImVHLYnsMfhxkhl8kEMKZaIAbxJpol/Bji0hC7Bx9QNKp1HH1YXefs58SiLkNfHyxNhua2BXazNlo1THoXBO6NKMENQNyFIqcMQAa9aAkUggzQeZ7+jjtQjobLGyRLw50A5pSVSXvaY\
-6OmkPEk7waP07A+3u6RFffCZZzm+20ODFgo2fig+j2G38INzw1AZZa1xfn96CsbmhqUAMti2QVuUsolYpOiCTNqsDCawOc4oepdwfl3YiIuRh7MeyiP9qUIbn1LPtjgZE03AjwqS2Bdn\
-j0PolS3iFRKMps9cCCZpEQTdjpWQ3raPpt1NJ2MR8enUoLyt1s8+SbldsPKsKwYkm6DtXgKZFY68vx3TMYhDuieohZOfu4FNYmz4ZlhiUR4rg+ntA4h5GLXeKkBdqLW3IJymsrHZItnv\
-zMXTXMq+SHGhUj5jnIv2zgUzE9I3f9U2PScukux/t2etMRE+Px/SaD9QFg/xtIiT6vnK/TTk3hNheVmrHhPhB227aFTXwI2z5u95PwEyStd2uyWXEPOAjfFo69cmuloV9FZsEFFuM/nI\
-W9YqbHHlCmRFJhs10XfMnddw7fv5lMaHyYlZPN8NsltVruD2JZdhkth/ewMGeLQyRTGmoyawZeNXUe8UNVdFI44H+tIAsP3mFtj3kwTioFpeknNCMSZk2GlXhmrVlidrKeBBR9dSAu3Y\
-pWUHJt+XK4KQ9rVt4GBlznTGfSFJJCEVyRHvTYLkfS23AVPVZUUlFED4DE5XQfuYBWpFD70DFSpe2A30WTXer0g3Gn6kgUcohFj58XADIhu2BnPJTHEJMupjVDvLL+nNlHuCTFxfBcFW\
-J8juaA7n88HKwiX1iKUmsTRMdvMZzjbiJY2oZbDcNQCX2JMKqCtG1nTV53EFe5n0mcus9FFkCcexWA2XrocfX2JiCJ4eSVCEYAMmJNQWBkwe0Q66gWIb1IaHaoS0Y9BK1O9P1BLMu3CF\
-sW7gOxO2DJFsgXkBOLctqQTWWCFaMyJNlt5MLa4qmNfKYckpkLESZso371Xw+GMIA0a5FxqHhjEEcKWJiojRje8t5QuTiw1iUftKrsoFihnieNYWOKbrJvgyvSnGq6YaS/YR1LP4s24R\
-FzAGWms1XFWx/PEV6wdm06ERAZWiswFHNvpNJJsQudsSEbnveD9xJAIQ3dHJTshszMDcx7SzpzEsCHFNc2errVFPjJDmzfv3rJnj1m2VVeclclsKOwfX7mvOXfA/NnflV2RzZgf2bNX5\
-YILdu5+E9TCBxmukt3ftWrSkqhOiwCsikuMZGYP7ORZ4DItKOtY9AEmlCS5Mr9SZFdK4A3Vs6SitmSGTaC8QUrD3DkotZa0uHhP+awai2O6hIYkR+n4Yjmgk/HyTnaqZNgdhkcQK4uLM\
-BHWAzK0o1gViC4G42BTsbs07QawMWXQ4CgMKfCs7rlcNZvUHAIQbk75Qj1POe3nd4IQKbQBOINN1UuuInw68jRJ1vB/WqRucV5jEHwfjF3ypKSCBAOkTC7gJUjcqK9BzaEHHhvMoBp1Z\
-l/3ATKlheAusOtU8M8JclrBJYM02i5dC6B9tgqcJhUYt+sZMYzOk4mFBHeawKVPHMSkbGF96TTeK0o0Ij+f2ddzIIYmMfDYAg2T08OWYaowQMGnIcSiutks+BZTws9EcORBkJAUO4BZR\
-ci2BxPo9N8VXMICZw7LEhFbPYnpcwFt4GUGDp+sRicbDIgpAq1BbAAb8GvPtsu3wEXOkpVOgMlgwj0jW3ZBrK8uc4dcuHvnJSNbsZTvp+IwlHpywfZtw1sAo3T3DaK5GY5oHVw8JHveQ\
-2XInTVrI/WI8GHx0JmeIiTNs74Sdnl5j8HXIMeZNERQM5rJAMhoKJhPw9X8aX5QUpEGHkh+606FDx5ijjq4O2a6oz7wxzaXlbk74iRrq71rthf2GoShC1YFpnpMEgtgGx6w/mwscL/Ap\
-cIBsYMGeEbQuvMdI8KExARy1ISW3dh4ESiUWMswJ6mOO1eZndFBitkUCs2Z72JeEjNH1qpI5ti4gJZaeloiDo6lJakegJC0j5g35B6zXnYTS9v4+R1KHiFs2wd3+PWutwzvOlD5uP1Xs\
-mE54gxHG1ESRwiW5HGoEtPqKCKEOtzVwZwdKa8wAYTzaPa9oIW3sv1yBEJApX7KjrLrE2EVZLcO4Fa6zDiZ6iHU8BGJO4IRnQAZNQq+GzS0aFAm/CV9FuEPynXaACKtQpl6q1CdvaytH\
-zTSKkAbc/XB2B+b9gzGyqLdhDJgjMYEDPNg0vXaYqbtQ5ft3DsC2GWf2QCHbduFoDfHU1BAfS66jJmmCiRsAGYmvTK+bl+7Z6GmW0KiGoevF9t2St3u9nWXHSB0SwtpZojnytzduUAS9\
-07pDbMPJD5GrQzJHNgSJxhpDrDGeFRDdWwVwnNIRSG7nntCxIWU6IfIRoqvPruT1nNSSj8zVfJbs5mSnwJt3RPHYrV59Jyc0KFoPuy5NM7YBX51EpN4XKRhYfkNPI3bJlYH2RzXOjuQH\
-fGmtuKriCc4fhqetphU5DvZ3sR0qdt4RzYRQgnT+tqc1rBAIkauaXSnCk55iJACOtsT+lkF12smTtPp++G7d6ZZ9JXa54l+fFGVCyjvYmJYpyDHIfo5t8LGbhjTOoc5INKrt37dcHFnE\
-Nb164L+1TDlCJ4p9fZRAB2vI7H0lMnZlXsx3QV/27faS8fF58IsAB8MpShgKKFoN1fW0Z642ZO7wAYLh+mi1BKM/kWMkCM2ap3VciFhFoKLXt3FjGX8R0RZjIOnMHAdxdYrYW4LG9Q1j\
-jdh+qUAZzmX681OCdqXhoxlidnwWGUzo2K3QJMyVEydrseW+wDD/HK69nUu0zuY4pMG095pKA6DtSPisBBsqxiqoNScT9sldIWdCX3bSaVW0ICJnvP+w2blzJN41cJE6VeohAsGW8t8J\
-GMTrffwBL71b107GhF6xtvesDeGmsyTNGIPUUuCYcs1M9VEMwOKKKEoHuv7spjMmQ7WLHuCcvZMnN68i7Rh9yrMKJHeyG3ZhpE1o52EwTHOo/gX3l62cbExOiTWWcl1XAQr2tuupywDg\
-X14GmWGiLpmBY2VZ9JDkLWUIXcfd1zG0ZHYw25sQG3wuoJBGj2vAUvc+s5EFBW/yekQPIYYzXQOJxwuaB5tdBFg2GPxD0jR+Gl6PEG7ih5zYDAMXRkW4cZRd+JKTsgPU0cnDTM86Yv4T\
-LtX7R3kxG36igEwUfIg5ODmxA9BasrM4u5fSmNJp5hTWlorr2wi6GCs7wTXQFB1e9G5Yn8yCIMz23RB22OfqhAyCTF/SuuMToje8uIfkMhE8xBvQliBg/YOZqhKzgC+Ri/nYufB63iYp\
-NxNpXctnZ7DHLSJhkm8DUvrPbUqeCepjeYt1UDXFsgSzcyglZv5P3RiBa1b1GxSEBA7tZYDdcoIao1UXLsMk7cZnNhdNWcq5KTzad/srbX6otP7hIbbHoIh2IC7AdmhV7x7keFF2MBVT\
-I8YFx1+M8QwZl6M7BLgxyYgoFP7DrET1yUOeBEddqb1GMSTxZ2AseOqKzLbhnftHbl6496RkZ3DV+/Zu2PH0O7Lsmev6moCv4qhFyaHQ7q9QJcRFNLncEtjLKxFcSdkn4x2R94nTnS0t\
-QpGzA5ucH3fAqbO7kkKmZoLOlZ22CosvEASfQXKZuD9ugXed6a+X8XvEa3nVQ0AbaLgccIOb5AzQnBkn5mEAyoiLap2kibM5sQ7146w3AR7Zee8Mdasl8WDmagZwoMNJEUrxPiC3iPWo\
-J9NIKVia88zTU1hc2jjZXFEiDr+3RxNhLPlphKdYErSipeK22rfU0z58lmluE+pI7ekp6tvVderyvr7lJotuBhP4xZ/BA+cUQQr8sxbzAHiGRalqi2d0pD0m6gZTHjYa/jQtCnNdD6Mr\
-VrprszGY2Wf+5SIG+xgTV/4kTXIUKGKAbUWDUOa+X42Ng9HC6pW7TkztMW3nDRRr1ZKlRqy6G41VyYtWbztUlYLBk/Rr0g85avb2UHwKfVqxNRCIjy1t1niYNKuFoUtTlSCxy6WMVmMJ\
-7fVovyNzNfkQ5k0PvfoY99QJT0ulnVAEsYQyvQh6aLkDDnIFMXQDAiWOhp+jRp4a3oP6ELaZj7kyJNxozbCZstIMiLsnI/NvKBxdXKQLx3oEImZIUAX7B4bnk8baZdsAl+OvWPd/p0Nn\
-hPlAVtZK40ZfBkl4J6pGjIODF/So+AIkPmypCtx09DwxUN7zJUoq6QEX4q5L5kJBPXV+HKiXK3WuS+KmndpsIrhz2blOs6EtYUnfCysHAxtfgH6Qsl2qUaHy+VB5XbRGNFbxrc8SLU28\
-MbDAyJm9DKOZNmEqL2ryETTRoP1W8ly8qgj1hqEVPJmVLgL9dFTAVHVabBbA6jxoDZFwUQMW0cd02FusLKS1d0Npr6jcWZPD6FkyRcz5WwDQsDkpcyoVgyFQDqJjEqT6QmryNMTfqEMy\
-BNVwRvuAn1WLKslM2omAbPZ09KBE/xPkNBXQsATcPXsyBgCYsJQ+J1m/1XrnXAXADU3DuawYDIAiuqxaJxeN4huORhlOw5k/RBCprlWCNzNEmhyUzGqNRIB812fAx6M3XKbVfLJNX/ZI\
-feIaJsMAxCVg84hDtcvaqE9na0UR8wXeqRkbC5DmnFcLiYF/Xwpyersdu6H8TKMZmUziATYuMl3Fs4q9rQZlqcpUB8li8lxqL44pFixUMzZ6Oj8pKtInCoKt0MvqwoJXTl4X9EgVlOT7\
-bxjKpHSo2FUeW3DPYPmFJmuFRsyGwr7rhjqvDzsvKrrwNX7rtjf6Dqwj8oHslkwt+jKbFgXrNx3hXmyv3Hg6rOzVxfgifmRXcVKeZVlewZsHPZ1o7AV4tSzsV1m1b6uwgEw1ehQhmkA6\
-chUBBxjJiUoC6We2OAPCB+hS+QQBZEkM1YkjMcdinaOMwNk1QHqN8ri5QUNNGvlZHUSta8PBjBQFAfMPOBFebLpi+oOPu4Mg7q49Cfd2S5z3c2o3BH2esG6bnKKqyZzNru0SwdAMXKbZ\
-RcfLPkae0cjfAONIUnC+lATMtc3q3trtai+KWxEGPwRX7M1dkzy8dee4xzUk2FoYddmbNbXcBzOBBhdxp6O6M4dlyE0xGK8IsWy07gq43sbkec06VnyxhDGhvSxphXQsn6eVeQLyXth0\
-OjOnRLDqOpyD2P2tjR/scC342e1LsvnwXEHvsOsqOzu42zz41DfS/EFba1qGgNlAzoR2";
+n0qlD7x+kG9KZdJoC8E+ZcmFtKi5MzrmFG0ZeSkfgApKnTRtnjSTriBp1FsrZQwwO13mVaua8vZC3KhXUhahPDqkZlF1dGk7EmBXhUAxcKawrR5/Pyk0dwvcqVlzLrkANv00NXVu6AsW\
+xoy6xllz7tWTDZovTJ9FiOiMGbL/5atalVz2bBN7cmRPosUhJp+PUu/PpQcq2K63j6fQATQMcWUHoKEvbzllOvoGTT19gcRpnYmXGDUU+sWSweVvphgtsL9BT18FdyMxyF4fEQKA0USO\
+lbXdeK9Qga0VieqOtpwJAP2EVa46rS1z5QnvNL7iUcJ0vRLyM25SCPwShB20ZEXcwisq6RXd2F/LeeLGUsVJsr96dvbHuxDdyyVTrzl69O110p5t20Z1dtlTm7mzLEnaERNK4yFUuaKO\
+GQRs1DNpI4Smmja3i2nfWhkEbNQzaqGHQRg2DNrbExodpo1vZovJkgbjS8DifTY7nTTxi0QvHWd28ybLXnliO8io9Plp4GkgnKoLlucqdG6QtiGFD/q0MjKuIeWN9I/BObfxUnl6Vp1e\
+rT1tEc3haRtSTvjVT7UE4G9IjrjDeO2lChzZFWOU1WI6ibust/PIEZ3vqipi2JaDlYgEhnIoPmyfss7Dj8NXCyRuefF44RlrnNLt4AG9DTJiS9GEBtoqoPK5KEOPEo0pUqsRm1vpHuTu\
+i0lLCYonKVJ2sHLoDojJVkpVDXwWiMrWarBy6Y6KymqJUaApfmLdEsdV+SKmLW/9Qu/YhdxVtad2OtkzVqcuhO6AtUyV1OfSVoy0h6GQ+8bVBYCbvgMB0BZhhnMAkOncjS2DaSmAq3Sj\
+zbbyDhLLIrKs+vSpP1yQwCVykKwpEVwmMZSpAYCZpvdNUEKj/1lgdeIoogWGj87z75REYoKGDzOSsmfzDbjrB98gG0PeGeHTuG+boIjlY+8lHgRsp56JvFMc+lufDhfNHXfjokdMUxT/\
+CV7LC6PKXjttHBqZPP+JGf25cn06ykCmEMlTMgY7xUiynkYNm8SQ4lDeLsu1D4pqYC2xSZwYUkLrwtdtS7hOjyfd8LNlunuDVy84PiC806AZa/Oz60dWH3C98hm6lHj/25HH+lata9CO\
+B2xGQOUFjVhY4KfvyHyohQWf6eJA6Ii7izvSPyyMXTGpDzP34DKI6krczAqWO5ksKtt9k9UkY9NJUYXaX78hBamidxSw7kalZtKVHT+Lak+RQPjF4XOwUO0R4nbQj7w/L+0mmV7UnU0y\
+zlmHdT69ouk+9+8JxIi8dIkvHM/bW0EuTd19ghI84nbjAGCFqTB1KrSsXoFAkYfcJwMPnC7oI9e4c4TpFgnPxNDwyd8TV1xlzAlq2tHdx+3lfi7Hw44W8w5tthMsbEMRi6XVk+WPPW1j\
+jPYg3ADmYFOSx1iwUQVa8sE65VkUiOC7zKI+wDkCrWNayxAchXOZEoP4RFU3nMf7tlB+P1Xi6TptioU2dOm2KhTZ16rSJCRBRp5IoGXxEzjsFrxOv5nXwadb3GCdF0PSBTxhqt5AiF2d\
+i3AUGuwXwvGkRHHk8aE7/z25k0cC/PXGjkzNCZcIjEEayzYrAQzKb7LBLP9nSvEHeLQ+Jvt4mYIW++wLtlHT6TilNgmpDWNrgTHYKM09XO77l/oAPkPQsraXq1lM1Brr56ROWYKfeBZr\
+xCc3gxiD1B/lULYGnS3Zal+oGWbr5zDL4yknKMTaxZnBI38jvJ2gf94iCUM1XJeJJ1+dEU5Rsjfc02vkmfs+sUWP8vTMKRiw7vezZrj3jl13bG/kjFpZfcu3bRa/opzwZNUdBqiPQGPn\
+c6FqvrO43bzDe41yx8REY67oGeqBLvUSDQ5+bHOv5GUzgzdzG7tp9cJ3eD6SPJlmbe82OvOixC19swlNrFXLTY+/QGK3eqtHi1YzOmrHtmrG99u4cE3BGJmA5q2i2ztT7IqeKNYk969I\
+LmqjvvsBTaiszfNVEnK07ni2kbBP0oicZF/JttRQtelUbmrx9KI8uLIxCGv0Zu5x4NvmVUaC4J8M6WaPi1Mp0qvYkIDKep/R4ktVYDuUdimar8qSr8+T0OJM8MUXvWZUnX5WHafk2Zqe\
+pmek9krchj4nqzNDiPcdrfmGMZC1zb6db0+bqJQBqSZ3K7stXv70qbyfoo9Hqt+dcvL0nzXlxnVyAxt54ouuSKEvTNF43EaDdZzD7OusmuolEVCcK0cCU70ZhllirbBrI46NP+rZHVnX\
+ExlWN769q8KZVjdy8qkWDVdWfXVXXLTWxvlRnxZd9YeRnCTaHad0cZnRzEPBjYlYS7Aw9RimbwX7g/6e2H6S6H2R3uB8kd7IfTN5mP5hYbz8op89H3HWnT7Jq+kyumj4Tawz7ObdkB9K\
+xEc9oxGk6zAjvPiMMwR9Mud0T3kmwQ8wLH2WIAlzgHj3GaK3KPb+S8qSY3A/+6ZVFmiJG1JIW06cZPur9QAKCQwaBaGdOWW3WucvD1LFMmA8mTIy4iROzhoQ674yVSfn8nMEt+PISnKP\
+P7Nk4zxjX2TLhx5Q7qzy9Kk9rbJmPIyOcbfKRUfAGW3pkhFQg7+CCi3GFOnKl06lmZ+bMl4oQX91iJq1VYdJ8sYSUmzhZjBYfoqrqVAjONQ4rSjkyd/iSIAW+Cp8YQsCVhfYE0LcngFD\
+PLoXEnE8AY5PSh+DDB2YbjgTUqaKY6QPmDkziSb7YFFkFzRji7UN7JDtcfitefdqQJ5dOVjlhe/CIIQ85zjIXhmrCWOuX7UnbZzA/NtTpoIHuERSYNSyllbHoEgOdQqm0x3KI9vHcF7m\
+hHG7bT8JygmZUrMa/7UIOAUAMo7hKLY/lSi7rmdL6dGu8vr8mr++vyev7a/L6LiYVn3JbPKlagseHScWsU0uWwIJVR+UQa4K6tRtYyFth/SZTjPEL83hcJTViSVShkgpTGweugyxmTVP\
+MhWVVdmUlFnefiV7ZNJ4u4CV8XqQi7+mITN/OU+7SDgxVqkt2XJO3o0uWBnEh54nPv5UlG665ZMM1l2y45pLtoHc7ay1ZX6dJuAANZjbYZJDE6o1psVRREXZXP75kO6KHz0u2UyzZuNI\
+RHXUiqNfGtmtonYY4QspZlPXj6ot0KpXml0+mD+WT7BqYluP4WrXHvg7tL9PFSmVD90mKhCAWwELj7+Vt+7GclkZ0nH0YHhd2Nofch+JPxi6dADxZAy1ZgLo0ejx4vcrSaMuSkCUSrqK\
+34Zr0NlyT3oZrL41edWmIyQDTi5ZSXEx8Whoc6sjS6KxeGnYolWhhCAFAEvLO0uZzMY28bo46u2VqRyzKxGG/czxt4NFERZTZsCSkVxNlNrif+JK8lzoi1UFfQVRAjHL0Fe4rK85s47e\
+dNmmgqM96FXLiy6EOn76LOb+KlkyoWLPDHEUpNrGXuVlPtPYquii0K7D/TkGecuz047d2U9D0fvFEZnsHsEj8z6o5b2SuH88Mrwg6pnQOA/dBvkdjAyV2+RJ7fQCLgsiErIQeX2QEx9N\
+VY2l0CbM9+Mg7YseygNmD+YHM+eCrNufb1O++Sq54zmM76MleWsx5omt3PefLIWxBHDRRbgdd3Q583Q7gJvNXWOXQtzqkpfPcPTro/lPqfHSX01LgCtVOcOzzjkJRbNL3fX1voSpSMW2\
+aoFkCLAAp9zj0A2lCh2K36yc/5Kq30pA2dp9GPIWOWpOhm5BRDD0nxU2v3gIZK6ftJD/ALAVqlPGCp5qkGr9Xfx/m55N7nXmNv43jvngGZqcUc/il76XhCYERWTjx2t9azhlUNZ9m5Lj\
+26GGmxO1RtgCXtUE69S6RpaMWkOW2rSmyn4ur3znUeD6dhlC6lfwjV9wIq1o8v0zz6bTxotyWT1s2sCHxLlXJIxKe9oav0yT5W8tD89J7qJgfdiPVregJ4Okx1KQHh/HH6byVcPqkmp5\
+xSJCENgRZiam92Xo3vsSKjfgcpf8RKr+jQAby6xX9GgB2bQ+tY1jVUPhxGmA0EwPEOrtRtMaE4e7HBInUR+EED4/DEKHAOqEvwUyhZcOeTLA0ttYMGqbns7zti530/2i823nqZLlqoVi\
+oLjmtP04cX2/tgfNv3v4LKOOWH5m/zUe+OO32CpgwH/qRU2r4aazXZTgvFdNgp3h3Qz0yB6PFc9/3j797y1N4N6V7XWHe4ln7Y+AGrvYvr4Bk1JDkW2QOGnZXhc82llSbQ74GKynRl5w\
+SkA+pyU2VWxrIKyh0UKsCTWe+2WTkmDNaX+J52Y1z3qJNGBAFOyGnhW4uka+HjJPPqAWRd5pvIVxxbTqFwwOL+LNozISnDUSbjcOTAv3V5PW5AZTGhwkMm7oyBkg7nRouvu4dG4bfJqZ\
+BRQmctxuyHVDo+Y1mBCh54NhyHvel4V82j11A2xjWdoaxBqc69WQeJbug2nZjeZ6vZApuUXatlPdUMrEXVISLvGt95sCAkvqRJHRvn9S7o1Kf4KRuVGAvN02Th/WaDCfPaQYY2jAy6cY\
+Lefs063f/6Ze+5ACTPoCf65knoRW9AZrhsCwSJV+2dyH6OJU2km+FEXIiJtjB6JedBVEBnN4F4zyeJkN2OQUU7NrIGfZ5Rjs3T61YYfHz7mjuBE8vMbMh/jhO2bYuxPSxIOO5rqoeJc6\
+TBZt44rVRib7FN2H/NWZSurSMgcB0g8Ub7RGMwInLsqzNspCp/TFRydHi4l9+qffqYYTxCgrfE1LShJbkiw/wZCmfxGRf7rqBC/fbkj0VEPEbXBfn1VPpJGSVlPAUo9AF4vV7t1NWLY7\
+qWSjsn8rK/mLB65MFISgJAAzZ47SbvBc9Psu27dRN/eWu3zNeo7fmx4xYjW+q9iFLGWUcGmkvOUTdnzDQ+dCxa404+oR1Mjvqvt13XNOmJm9Ed+4XdRyNANSD1y59nT45hM+NY9/0Imt\
+wd2Dx/L6SprAqQUOm8Ei81Z63xJHGHZpRtcHna0KaIKNZ+cJUumGgaNXsgJIRZR8zCsjBnWScDpTaSwrWglNwlqNBjSGofHuKSyIubEZLCSqlRJVSWE+eM8vrV2jcmDljZHaZ/nOOGgQ\
+U8OUP+Ov8R1SrFvd8XxThbS+0saiZNM59ywU+LrbX74186kAcpnfaoo7Krr7sTzl38Skb5c6aB0CvOqhkI9LozatJdOuatN+8mrRvXZMWnwyK3cYtNxRGd0unuLTaGir247g5MsWO/Kh\
+xANFOFWXq/snXvzRPxP3JuFlbFZSfGj2VbsTBTx71GEaeV0ryAh9WiQtIvhla3gI/dQ2W3Bb/RtgOaHXzJnmrdjFq6R2wM0qj0PPuAcXo+BK7hxg6B4+J6wVsmNVGwGBmwzpjEFTIQ3U\
+cjF21rH5VbFguh5u0u70ogvI1e9q5bU/DPUqTbTqTY5GwYnlDcYRKhkz4MGCWKir2LldMeqYUgHBa8CsATvqPjGtKO0I2n3YVvcVVNBdX0V1c7WAXdqXJx9iSCt6f+QgTq1fP8rNiyjx\
+PZ9M/eusRUFV1nb5HXa2bivv1ORh1w7gk+bjgSUDAKMZxXvSZwFo7LnrVWq5RO8WycRW7wrVgFq6Ft6i3b9+Y+/nDYs1MDfwvrCY7te+FWJqzZOQiifF0fAReZqWg0Z6F0Z98aMUZBcn\
+vmSLTntipuJR/ruJq/tmKC/qjNSbGZZem9PFv5D64QHMgD/hr/+FdKf9e/4t3JZ83iuCBpMN28kV54MEK1YxMFoiPUbipP6wVP4pDiEcpAuJWR47i5zIGQulsyQdfr2gJfoa1ZwCYJ9V\
+qAJuN/o4M8oBPmsFxWx1jDdkE0kyb9xzjQPVt7FnGgSqG/Gju8aCL2Xoqqipigt7AuML/65Dh94FRVByBGMorwPXIrVrpCVu1zlsXjBhs2MVGejlv8oQFvviPWktZfdkcmvE37NyKTSu\
+fjBsdJ3Lsl+btl9K7g9FidHoozioeXCV9UcQ68Fs17Dj5dgly5ZY+afsanQfIlct6JbT4f6PhtkoBkCwr9RGta1ROuDpsAHRloK9QsADYK69FDmBIa5+Yse8Ta7s5GF/NW4RBwQ0Qy1N\
+rmNjETKAYD7+jZovQVBKsAY+nAV8MpkuvEVnJZFbRmKgdBtYLg+HQ+ETD/rflHQrQ37sGefwSVGiB/Ba+Klz8q3mLLXLAfLK5K2+/cbIxhwPWNjBcMSEAzd15Tk5fb3ed5IIb+1Tul7Y\
+9n3aO5R2IHtu0Q3fSLuwJgScdvpp7aUtP9SOnNHitmgSyqOgIWwk2j1OEok8PYLZ8zRFHgMwgeGn7yEANP5Mfkwnn1vvP9mqxzPraY644E5y34RAjw4tc3CMrfFiU3KNXyzBblQ+L7xX\
+XQtJ5yzhkQ4VRfREy9KbnVGwxc5uVbfONJe5OkppiroU2PDdWKBuN5kXJFqKnU67pPs6FQDmSmxag0RRvBCYDpEY3iU70665xT4iqZ2ks5RWyQjc5HrNLX0/24Ks1icoSKzYKBK7aAlS\
+R/BIBA9zG1ayR60YB4/4JC6zkjH7qY5edUcNSRk/258xiiQdKpY0FHkyYXPFe2mnUfAMIYU4PgN4U5pRs1AcZPENeRZC4BylS8Mxa4IAlyplXlA+LMBtx8DEIBIvKRdLXQJfAjvupgZu\
+cCAGrUvMpaKEe+8LGYHsqxFJNyHNCORNtKEVTUCldB8W3lG01j0LAxGKitnJCG0r5D6RDM8CioikFqB4kATRVZyH5X2TjnanJfkpWK1woGS3KQOQ8B2A8r+AA+4yxTkPbTPQlTbJsdK7\
+kEcR+tP2NllycLCH3EP8ggK+y8LHjky6b4UIjaSLkaHxc9BUPdlXzx6V5T8b1Mhvqx6TuwnGOvzU0cC2wWnzXXEd8V0FdVkdh8E0vx9NVwrwDUNOwZ98OdWlFbjdTk9ttrMjtIiu321S\
+o9AoCtVh1QAAzqI3aDCxeVGLXF4ldlG4qJHazqCxUlCoTaTAmuWN0YlZRljMP568Ks/LNzJJu5EPQps7qxLOlDG885/O1rMFtvlMr6z21rA24U0v7iBclrPXJAwM4g0NyJO7fPrl3x6U\
+/wclVrjcDn2r+mFzP45lBx5PBhTyqy/U8GOqoXG9GyqhK9uCXop1uSpvJt1qfhhXJHtuXTFOn1GV76txkTfleF5Ovl24SipPU5Xusz76GfE8TT7B8b7KQ703V5HuRSOUiyLU2i3wvUvn\
+eZpHviS9MptubWb4XVeR7+gryvSkpaUpLEphHlu9N1+R7NjslrMn3pkv5XmRFbnDLZauWRPUsIt+LSvlekk48WVCKkkLA7Qg7WXov+v3BbDP8Gs4td/1J4zUm1/wY9sKdzv3VPswoaVe\
+lahPJoTwq5HuDkjFL2UyoJuHzKhK+QVXCF1gJX1SX8A1YzX9TOqhJ+JjqyGQek/Cxo7hJ1guK1hKq2AnCX0g3pzMDWYrrH+UxPouLL7D8NTx9amROZQEv9c5EVKsNVXBzTdYxUco6RoK\
+5v3kYUL4kGqOe2CU3shQz5GqXbULNomWsXKoVIPaismaoRbcqQexIIXUJIj5u2Gljg9JHVXHiTJVs3p04kWnEWKdvKiVa63S+SrQ2i0RrrKFB0dDbSPl4fq2Wr705tYluX5vWm1eb9u1\
+rE755tWndvjZNGKrYPbJfboLYPPs0SbnwTVQyCH1lrYcl28alFjKycF0Zma8cXHIMvIwX3ZJlcpRlEv+6e+A+9iGzi+rPZO/tWR+/byPmBbaQoJlMO2eELGaz6rUJOMwtbLmzKmeM2xE\
+KZ+5yBdwlf5k9oV0XRg3GsMTXpRuS/am6hWJ+/LohTp4SMiv/irDycAUhbFofbh8Cdgi1GUsbGhYD7sl6ErdOqFjkw3OCDwA+MXoutWkzHM1uFi8fdUo4Nvjq6wF+aQsZ56DcuOF9YOS\
+I0CiFX1u59uGJENIv8XHLlFWZ9IAn2CZFr2akqTZEwg2VDKhIuDEmElYjJpTgw0MeDfOLaLSPjrj17Nl0B7PHVGfPJitlbar3PHskhoQVDysSVjojbtzl3su/g8dMzr/9vU7Gv5tYb6K\
+BnuQJk87scvvA6vhxcydTJN0AKPrkh8ztpgnPuBvswDKd+TrA3hsC2PuZuwTY+ydfB9gDxNLfWBdYb8T/Fw7I+pnUNLE1dUrHY6G+Y8GEwOtYw/9VUHre16H0/vOE0rv41YLS+/GvQ+n\
+9VYLSu6hQen9TgeMrN0WyazjYNRoQqzoqr20s53QwS/5pQbP1OR2Yyoe+3vI8BY+xPZp90fnE3Sg6eleaNHPR81vQzUtiEQfLgNGVXinIO04LtUlPnh4s51sZWPtzzvP5tnRruu3QIN+\
+6X8epUaq0spi6LqL2SxF1bIp5Dsjy1JcNUwHS+UkDTiGESN3UnSgkGsHeh4jNOO+BzcCZm6JLZZQ4sF/hfZ7loglkNJQFMgGqLdMpVrb5v8XR5lkvFgHsxSBrIXAuYN+b7DC4kUUIXGt\
+kHQSuNhj9nz0aNLIuAuf9rIfAWZ89p7NLDj+bQGDRzyYRuOllU3Lr6WXTUqCXbUDgikdsNgr0mM9k1yEeGEyqj0dsLepD7LF8K4CuvksRuLIONHA9AM87+nSTeLqrfFT2lUDuR+PpedZ\
+kpVnIhEV1CWDxVJEgH4jpDO0l6VI+qzt4MLoaLKSDdHZB77aWlpPf1gtScXNkXckejl3cHOrKRTMDC93HteUP80ueCehDdiRffSk8O7KxZzPUCo3ktESCqdRNPE02q9uPjRzpa2QDR2Y\
+0MsWRaY1AfXxSIz2OJLgYCEYXGwvJvzPWZ3tXkwB9oKORVuF0hGq4JfUhXLcTT2YaFsvP8g1JUK6R5Cft7YnMOZ6IlWkmvtn4DUj7oicWuHD2iqG8URvT2ihfDUojO6pUKrv9DWeB5x0\
+PF49KSy4zaeZATbeD+7asK8s66/Gos6p6IGqKbRbwiINkMKImWZZdhmscymcQbumuKNOCcycfc/HmaqCMtMm2CZ45Zr+47s7ZV3bTRnH9eraIJru9c4hskqvXi00emiaAX/jyFWugSfM\
+MCniZCuoyIbn5FCKxTPwzPPHPN3VPG/DDeLe3gtIHu71LTUl2npNdFANOI9etHk361HstJ2rW/7bcpyc+7l23vpRlTMh5im8o7l03ZgNPAJwGuHedTbcmG3OfV9ks37t66F9uA3Hf5cV\
+rbuTq1cfVq38s93H1Oour1wz7zwCQSq/SYtwoQElxZsXG1N5/8Q9WnNFr9E+6jT3S0OFvIvmp8ppO8fVNOfl6bEQndsz+0Dn4nqGQuLNN2oJUiQW715Q9IynpalLXf159zXtCfJq4dPM\
+jG6N2SFJ2f1J5rKv7jHWLglM4v9rtLTVt7CzFFovYGYrdZKulYHQzsOoyfIomcpF21LQyb6eudAkKMPCPDP0VIdLwB8WBF5R8P6e046gS78OYEPd7+5R078lm8TsHgwMOpYd1C0h09c/\
+yg55GBhyJqy6HIo14VWdEpqAYRdPZp3xgY+fZp3wRu0ixK4EQO1ebdMXVml9ytcqXXW7baCVQeoUPDqofhMJ9moqjyGKXJO7jU6feAS8ANMgh+EG8g3+PSDd5FiWBbm8hrr50aMMEj6n\
+klSYzPFuitxlzUrYUy1xU5x7RH+vSQe9q4Z3m1ZoyFtsAGBwskCGX+8RC/6fuZWt+zAtXVa03FEcD8DNR992jH28UfgHTxptgTnGd2VcPXJRBM9W21ySXtIswanIdH8hNdQDlDGFxoDq\
+yE44pcR1cCk98EZ6w4y8eQlzjhgvJD1pnkuKfix3GOdov8LOUNyBHaRxPfkY1LpgPGKobpaADq8SidgaId+zuEU3kelqHv+I12ad2yUn0467rKdSwW9Vbs3pqff1N9DeEQsyY8llY6pG\
+lFU2PfkXTIxEdnJV1VKZYu2gETqNUcfGX8wZ0nihT8rNly/CyAZ2n2htPz6tPxh44F1H3sLoYc7rpN8QlCQQQqb7K5aAwr53LJ1ucQVV944or8+6PefK73FcJsLqUNXLh8t5bpTaAi73\
+G8Jnnu5t8b63/HM9gNv4KMxu+XTdNNqFwRr9WfUjnPVY0bQxjdnwGROG9Tg/gYr2FYokqQae5VtXv2C9O+5zRb9a0PlyroqHQ0wW/h2MR+9aQY5GztpJK71YaKpCIjamZqHisOMhYhZT\
+oZ7lX/ZPw5EH79YOswCWjwDoofAQenvzrsfjFNsN3HsPZ1h/+D3wP3xgGLw1XesfS4EVKTgRXHD7udFxO2ETC93HCgBJS6s5Lw8Vr3rEX0yan9yR9k98F9I4STFKCxRvOsRdfRDEeFcM\
+p/UwwKxp8LwDXPi6xHOGb52C9ub6DdZ8drPt34GDdf2MO1v8vI8pLN4Qicl2x2RDlF8qmhO6mI1x0xQ7dtVbNnjpgZ8OLZ9QBKkQNRt1G3oCZ7Q1FsDFSedBBtJmnKnfX8eTnXZh+oOp\
+SE/FJY/NG0orSqynS2LesO8MEMLo0a4/9voBxPyWb60g6vMCXYdc/eWO05zT14+Lr3qujudOnAEKxQHw2PATRYKWnaQdsnKJ0i4t/2Xx11EfqxcWbvVf5gvYUta9/Wh/wYeu0pOPn4RK\
+KZbZ+6RSldNf8oJtWv+W+wW+58q0ne7L5iWDAebKC3Fg4NHKsDyMLvNFYEBdHblomcotEVDN5r2WP0qftBizgNk+inJd5+w25RjTXG+KfB1k5xTFQt4T/1ntrn3n6rBcVihifcjBsrK/\
+J+vvi6x7SeNmYDyKSIJIcfBHVeYHVAVK+HMIHc0+SM4ZHA3k4WWDPVS4HA/ucaRMKM1LyBCITB4WMGFzBGYrhRIUDFsWG5iXJ6iG1J1mnEJnSrB6yeprVQ1aKDb2XkNhFYldyTiIyqTl\
+d5HQ1p5zqKEanlxdfHBLJ5Bw+cviSfRqRac3uI7uv2X1k97WpDaRsSLYNiGzQbA1ka2i2BrI1Kk0VxqgpWTcislGzNpG1qVmbyNosmxogcSA5ZxCZ0ZwBcgaaM0DOwDbVf+lFub+hhx1\
+k60gZs4jMahkdlNHRMjooo6PtjZEylmxbENmi2WJkizVbjGxxpb09pO5J1m2IbNOsPWTtadYesvbK9naRuCs5tyKyVXN2kbOrObvI2bXt7Uh2cYkeSvY+In3NHiJ7qNlDkQpoU1tI2ZJ\
+smxDZpNlayNbSbC0RIFSaGiF1JFkHiAw0q6joRJo1QtaobGobiduSczMimzVnGznbmrONnO1yFg9D/oVTP+cg7mm8fczBDIVfSESj66C4Qk7tMuZYiliqsXnE5g++SEfqJzTzBJ5NHBx\
+bwhzLEMs09jBiD2tm6g4tYArPpw6OLWSO3YPYPRp7FLFHtQDvJc0/iceTB8eWM8dyxHKNPYLYI5ofXSMlTOPF9MGxFc2xexG7V2NvEyWCWvs34NmGg2PrmmPbEduusbeLJsKq9m/E840\
+Hx1Y3x3YgtkNjuxHbPd5+0WCYOTi2xjl2H2L3aWwXYruq7feLWoj+w+zBsVXOsQcRe1BjjyP2eK0PtuDZloNja51jOxHbqbF3IPaOVX2wDc+3HRxb8Rx7CLGHNPZOxN453gdb8XjrwbF\
+1z7G3IvZWjf01xP5atQ86thBREekfHFv9HJsT7RCN7UFsT60LNuHZpoNjNIBj94uKica+AbFvWNUFoqgyODhGCTj2FsTeorHHEHtsvAs24/Hmg2P0gGMPIPaAxvYitrfaBQV5gHh7hX2\
+eiLEsS6RH+3jH/5TzDI7H4AH2LdidPyl3/q/Tj6/Tj6/Tj/+86QfYi4hvEd4vktAtFp99HlfDPv8WTnCjT3hWrHbGU+OU0UUX5+NrOB9DZVbU/M67GjhnA2fZiaqcppeMpm5aKXWD7U/\
+0wGxP06jAp+SOh9twxogSO4dvskpCwx60kRuXVNf0KKz2uWdc2J5qbMmFSarGFin28khPUY3x07ifrLjQ0w4zWWQvsDaAtFewEca/tWS01VK60aYj9jKaH0KiBD0NsVrRY7yUWpQnFn7\
+QuhMRtJRxVg/+N+2Dc/oAcoKGSO3hmPoMrAzPFaN10bWjdcWsPVqXjQZWbOCSuZPRwlXc/YxtRR32i2sP1VkZKmgqrOq0i6Y6QOdNdYDOmdUDdM2pjNCn1hyhK+ZWI3TZVEdoxVRGiJq\
+8/ghxqbcboUtmbIRWzNgIXTYyQhdZ+Bq9UozQDfE0VhmR5/T3Wf09OqZGa9Vq9+nvE/p7eA0bOhF51w3J5urjOb/m4vulckTn7YCq4xPxqyMOUcTfTkMMrud4xIRiipLXGkvrF+sDl2D\
+grAsUNF1do6D56jKFumC94WmWxrec9mhpfMvRZyWaavQ5GQLxnf3Thc7alVVD8MRYF6/WZG6ou4nbdHnN0Bw3mP5hGFcWKlL4an0ARt/Jfs3d5Bdcm9So7UchbWyWaeSavaMmPOhpVhL\
+je94W/MtnbYi/s4o2WiCWjgehPWcVJBnyTwxMIVIavuUA7jDYSNeMPvxPP/8b/Lfp6VhkNE7eGR4WE7LWu1g4O2qfyE3auTDqvapKRi7ujwDH6rFgXpzdq8ts1bVlRzttmm1oAntoEeV\
+uc4A1wgTQTn/7+muB7kL9dcRyKEibow/f/HXern7BhV5YU1pTtBDPhwKU2hzpLVOjUgedma7MwMzI7MuaYsepM1ahWO+0bh6rQsH+Hwi4kc5GU87TygyuzGtXAdw6mPewIbcOan6g5yY\
+nmpi4tBeH9wLm2PCCCXUShjoJQ528oU7aUE3/Q53codKNEBpzTwBQcrSYsjX14cEClh1jKn7a48uBSnhec143GrhhAzdtYNHVwJINnLGBszZwzgbOI5fB+pfvN+j7NH1dibkca9PX59k\
+sMRxdZ/tvBkhIRC4f0rhcN8B75s0deJtX3QVEb5g8RuCmSbwi9VVXU1/ysi4CFz06QoWixtRD4KzHMMHMSnhZgsCSl03IN7zMSKFuNimfcbMpBK672TQC19xsw+hkNoPIeS/fmOmtWso\
++FMxCPsPqsA9n/Y6rotysj8HPnLQ/fJ3NRg7yQe6RrB9x3/f3Ov+7R4HhP3f2Or+C0JVT5jHnlziYNh53flMCo3Dpcee3EHYfd35dAnj4Gwibx51fkwAe/h8ITz/u/KoE8PAyhZl2h6N\
+f8hZGnWSeIQ+ZcGwQfylqPgb1nY7YmvYL3W+YtQ4KpRBfLAJnMZGXu77rOsZiLnAZA1EQCqSYge2LLVybwS7nIo8B2zp8AoHZvc7HXO2Oj0tgGH7bXudHEd48PJluAU0yBwZ7HeLJtBn\
+nXTSDvjPN/csWf/n02FX5JNrGM1Jq/ahDa/W0qKs/TC2YPjygjLg04KrmfZjHXjiVAtnmwinwgJXvhfhewN+rYIZGhXpGot+T4na59dzCgLurfOny/OHcG3Uk1Gh3q9STu3C2HIktamT\
+ct4Yka5uEy0ihke5y94GOY3y/1Wg0Wp1WJwybzbAVNt1ms+m6rab+xwHP7cAQJt2abU630ERucxTBdJbGtRXRmwEFtzLF3MqGxJsoJgnoDYMYzeJpLRvt8bM8D7bioIL6b0LxDfmalsD\
+ayZpNDHI492YkicSShOfNsP9SOsCMSF568UJu5Noo7WM24pbn1ClR4+WLpc0XaMRPrTOSWJkN3BZZH72hPfBI4KINXLKBFRu4bANXXKsAuOHWCoBoEdwVbVRVJRDgq1yfhdwRhumKKxM\
+IHNPlItLXLyOSaH0QCbWWct3Kdaedt29bctHo0gJFFsrlCnssMdYHWilil1xw1RpbYV2hInaZYleL2BWKXWNE4fNEuqPkbbgQ76eAGY4rzQPBZjQhjdzkg4CNLMohTmNLcsDTGB/3zhQ\
+xOjB5Z4sYKzid448T604ff7t8PJIR7jPyY+oTG0AcQ/J41scOoaAXYQF60ZdM+nKffTmPlyHtxHyp3I9+ouk2xP3ZmWZ1bz6qHRyO7dF2J011bx7fs5/QvXnfqr35sEyHDzZhH1WG5+y\
+k9OyY2sAlG1ixgcs2cMUGrtrANU+35GdrW7JT25JpwyQujnfJ0XmPF8uV2pZ83tNeWmFXbLrbGrvbtu0nA/tJG7huAzfYljfmgVOFVlGzCaHdyfZr75AZEzBXAM1cbP03GrL1o2TW0k1\
+4O7vZWMhMUbcbDXEPEUHRj927QccPn2JFJtb0S8Pkr9Grh53rUu2HzJ8Jt/CQ+aIwCTudP/G4ghT4Y2ESdjp/JEwCfcIDiDJmgKzWc76N0Go9W0RotZ4pIrRal4oIrdbFIsLslcc6JNQ\
+pXfrr0V/CUM+M1ozPdB8zP4ZZ33vMfAKBmHZGBBLaLhGYoA0UgUm7yo2ujnNmAVwo+gCH6JvGugOgd6mbnBbltZjVjg2UCCvr9qLH/JulDF5lEa94lUV82asu4itedRFf9aqL+Joni1h\
+O/rpsY4ZujGHd48MwhddsrMsysctS9OJiyaEv99iXc7pmz0BxMI4+OkFrFspxF/3qmj1veVm7eC2DvWhfvKCr9jnL69oXQnsCbY1dyFWme88YAZirEoLaQj8nHTL6J3656hF+eXzxXl6\
+1wC+tIgKWLLhXbM1AzlnH8rKp7gL8hOk+TQTaHRtiKnZrUnDTWajiZq7iMMJSmUdGop8bXtZUvKxr6V2e8PyMp3sRvOHpqFy3LcEqwcHCBs7aAK8zIMGXeorSoN9AE1lh8WzB4V4H5aI\
+Jnny7qVRVtAD5t5XJAeK6JV6LvpKzJR9UjC2u/yEYcucxc86DG9ycwWT9p+Mmlw2S0mKI/HbyHQaFnvNYqsInjoecj3p5l9kg1vONhXslzn/kZi22Ow+pvlzD36B/4cCLqay0L/lOKWz\
+FxJ6uGveXTR7p6A4Nt3jkMRIQfPnUG4usrKEZQkNzdSPbtpGdNRrZYR8wHWmkKRrZZj3oDjVS+5CbeQBmw53k75r9+BjT3HNetR2SfdhOvssw01jrE9sjB+I77YrGul0BV5t5a/SqRe2\
+WbeOmRai7XeXgsoRGJSzyxabotUj1K8t1XF3X82Pr3tKBJ4bNLGboBVtgW3rg7spoUBk0VXh+cS8bqX8pvtfFd9Mr1UB187Vr/pp5Q2f6YlXesIGbXm09337BFuSJOz3jiUB7XavsGNl\
+rRhdvNwMuGpllPAN+0txqNIsxLIYOvfZrbMXQSVvJN4x143hbv1Kd9wb6jMEK/12VtvMKp87zozVapwy9ioCKTXuuumnPVzftPdVNe191z35iGGIr/pqbRMzxXLS863mhV7ucn7SBH7d\
+0kmXX14rIPuV8hVHQLVUYfN1WhXPQrRWRVLZX5nwzo3MHF2hgVNbhUJ61TMjhNTiUJWPfvqzT8aIvLMp3/nfuzIkWzBSmrd8Q3gzPwtmO8FDqSUR/9+nvs/p7GM4kmA9p6yVDW/Fa27C\
+2eIF/a3zHGZRd2ePB+LQZUfCT0xACluGjWtplVwNXbOCqDVyzges2cMMGbtrAoqeBc/bJeRu4aAOXbGClKNm2/boN3LCBmzawaBMv2cAZGzhbVNUmvmIDl21gxQYu2cBFGzhvA+fYg/w\
+S+9XmK7Lku80qPwlLfB5q20nbtpNWy7GBizZwyQZu2G65aQOL9tWSDZxhD1wrPlies8LytEeX2oifE/ZKi2/bD9rAORs4awNnbGDJBhZt4CZ7RbraqH/nRoBWewvJO4vG3giA8nm1x/j\
+1nKJqSSgv4Gu3ZNGkvprHutDkz168tvLKq6e/6yytxcUeP2AG7mZ37NVST/3MfKxnG4YAL5OeTcsHDJvuEzbdJRtYsYHLNueVXmWWX0ROorjne4zGX+GL2yXEg8duBHosp26LKUaVw61\
+2L9japTKILuZFzV1cH49zq8aMR3F0o8uWk+3RH3fFS861DptQtkeXo4WsJ93JXcwOkEZnqErJiA6LsK3l82oQ3/Vqe8jcDLIUgT8Lsgzl/GmQ5Qh8McjuGbrZvZ1GgYvm7VP0EH7/8R5\
+m//3SiPupUblzPJ+kUwM8E7G8oFdYZdBJYorzppPZtCd+is7HOQw8nGKKfW8vT4d7xCMQSmQHXaBjOvZpOjTP76V0wINMneT9EfsVXcg2pDI8Z3tUBxYJGxVWLyyM4FWWGu3TwuvpkFz\
+v6ZNreLKBiEVP57A/8pNZ6coiR7I6B/vnWlgYzye2LCIm517YUJi4OgepzA1VpBdTQ3rhl271pTv20qu+9OovoenhJB21pDmMW0h2P1v7PtBcngR06kxRlaIa8p4dfY1cvHfte0V3YcZ\
+jJqXBpZ1sOqVubhwhxpQ7Infs9aMpIWoOP5/nQIjP+D7RQCBNxxIa4e86+Xy34biu60BCCgXz/B7GaXXSjI8U93DmrLyKhCY4F++mWZoP29+iRQ/f+a7YlYG/0klzgdfbeDQ25fyyCKC\
+Gps5N50B2L15d7uQz6UZArU5z7Rlw8x4B3GSR4K3/R0mATsIR9LqlMdds4Kqu1TRP75XJYfFE+dtn4nSjBRPlyQhApPNxRzCR3Ysxfs7FB2J2+bvisC/0nXC3y7kvtdM+MEGNvR1IZQT\
+ZAHrzmG3X9uHJ5/P7SlTQDKY5esGwA3cNGXeMRQWdGzrZ9qHJslpz7xuDBM1orm0WGDLOXIME3c72R/cwLlnaWZ14roQEHc/5fC1rcJvv1Mp6Ty0rIEGzdAfiRQlrffLAgJL7khyJd9w\
++uXfHpT8xEFNih3G+lBxlFhoUpCq2uKDZyKTbL+SD1bigA4sLqnf9TgUXFH7Semmabky+FdSzL2odZhkTaJZ6hVbvpgIP1FmNB8rVuNbJN6WpLJ0BoED5FjufBTSDSTeleoFdBQPV5Fs\
+YDHRrAQzp1MBAjUB4GiCZbU/vwdBgZgog6HYBBOWLtIz97qXbGRDUVABB9ZWSU5TmVErzxXInWcq31UBBbRHM/FZBQbeVoKAO28CnigWPEjtsVLQaEdQpEUEHKeMI65qvL3Va4MDYfC8\
+6/l/2qIJt6q+rveWuP2G8xsTqz+me/f/08krXZ1sjOyRsbX0oN4B/20FT5L7yVi/dykM0jgq6Q1FB7+OiNVJc68oolKig9zEqaJrel7xPqWHKVFAmM+DqtBaMIUZfM6Kmsg4eKMpOt6f\
+ZQNahg/vPAgXPqeCBGosHOrB4oAyKlzGuZ1EPqtd2Wl8cX2S4gyoSqAP6RIwKD1dBx6cFBjTl3Wmaa1u2AxUywjYIDKgjIFcFDGjGvp6kKIZ++//Ze/foyrKqXng/znufc7JPkkqdJPV\
+Ye9crqWeqqquSqmqkcrSbZvT47iiVwejPPxw0dGk33XQX1Q2011NFoJs214sQ1JaICPGCJiiNUYEbrygBX+GhhMfFeK/j+4IgBF9Er59E5FLf/M051z77nKQejYJ+46N7pPZc++y99nr\
+MNddc84kaNsUAxQLchxigEWQyLlPPFIk0+551/M8oPcKmFVLyOiOtISX33clhfjq6R+O9R7qHLaS/LYSk0Sj1qfCa36JPl2786cK38NPFG386/y38dOHGn87ByTvZxA60dine3Q4QUqE\
+yIzE7UyuxLeSiabh253euG3PRR9hmYTq2c9xFCWPxLBgU4T7WuiJJt/kXXdF+Br7QxQeEIaJ5TNeYwEVKvaIDDKx0iQN1AZQHgTufV+kq16Dw3k9/QxJpcx8vIJdHjBefI+PQesxLkQE\
+9FUQSajOiB4ku8HP7xFOynch0zBHq1WqNbsGzZv9px5IjY3RPDJQiD2GTo+t+qpZekW9LiE2ThNjkZKs6dOEP8jlS9HvTFVso0GGwIrxeJPE1u2hCLnNfM9z9f+lMu5tmOrAfn6soLyk\
+3wEtyYM35inZILHbiA9XAdTJZP8v/UYXcxQokD+Mz/9cznyac+Ydq4wNuBEs8/ZEQrELzRhznO54+f87JSGnIefvT5zGU/83lnVofdu2z72p79hdTz3r2Wd5SS2edr1aJ7u8b3/2K2Dx\
+qzIO0L0a9jQ+6wAN6cuqPHeIWGr+TYSMZ6T5xxn2NKzSZvbyM6ZGJuBeXq1dm6ZTBRvFfcB6OqdvuU9SY9/0UNcYxfVjotMtE9ONDD2qU/fQDODTyPnHtQ39yDHmS6c5rrjSVGTC9jc8\
+7wuL0Noov5IzgSOwRA616Z8dHLmPlIywD3b6qt9P1Szg4ojdX+YXYmFRbzXUaxV/7Ut5+7orUa/RrUiNcvfluW3+BcPskQAELBNFSFragDbPjR846cojfqGI1JJXHLubsiPPM0+fPOnD\
+J5/n8lae1BzwzoCYftJIbmcP0Kcnah/EmGJghYtm/M7vfgtkdejazi4MjjdC4OauJNvh4SC37vHN3RWajeLe2Q/u3v73X2rr9YnC1uetJQ9FleZVG+4reudTe/M0I9/42hHuvIJymVrh\
+OW0u2jf9YbfyWEpfSFi38f6pCe5j5TrXvH6q23NY6evw33dawSfPm25r3HrsevkXNi02qgftNgj+d721u52+0tfPXnpbRFlHaRjW4rmyD9gZarnTUz+ULxZKTntHxLy/92q/kJHFsCj/\
+Gv/JZ95xk29xEwFOru31hf937Jlb2N7xnubT/f0KwdR5+e9E5x6z2d+bh32YedJl85S8/+QTSVcLuNXX7qx/+xXfkT0tCzu9M0L/JBP3H1kZzzPmY8Kau8KZ/yLypJAd3Gj+a3pE+CVK\
+aPPhH8mBmixo/21bjp+RB/zuz/e9htv+sbW5WZG6878zNvy2p/MKnnhZS6W7BCX6hjYX586dbDKOMBPOwKU7G7BHJsp0++yE4bO6RSX1YfnzoQWiX7HjsaZ+0ZNygFdh6pMp8Zgab5wm\
+T5xrEh92Ds7inviGpoWtNFO7WrztRe5Tpi64/QWb8S/m7WxOE+qJNE8R3OyeIXo6tRs3hVirixOPzi87l8Wsfcl6eNMi1s7+9Y2jcZnJ6SDrV14wJJ2fW3fGZNdfsHTzHs236GAO2WbX\
+sdlWCeOcbH6bhuhJvaxReUIE0AIV6o6Ba2oLVufZanWvB6lzdlLa1wFpar+2N8uY3TL25+SWRwmxL5+LoFQ2o156Lo7dNQ+u15+Jg3G770U+/6bf/SAPRa7axhpbQoa+xyKk2HHEhY/2\
+4tEOB54lmFdaN8Eyhd3BQNdteUHETcc9yF4t7lrvMdrONnrtA3+nmsGOxf4XIE/Tw6CtnTnSAoLgWImpJ4yFoPak85ISn2cnRbBMnR3FkpOP8hHfOneNB7NMpvMInB/t1aPvV8kG+ac0\
+ajBo60JhvFGFGMsHGqeOumhU4PGswUDXajUiQZKMYifxrqhQJvZguRdakYb7XmjRYYMYC073GJxyKesXMoD2loZVC+HSqwQGoMd3bVKreZ3rDn3W5LTO9d6h+db6XW3PEmeuN9jAw3cv\
+KJmu6Y2WoW0lVE8MI0cRRq75PTSTYImXYX+oSB2ERfjpRBPZAFEjpNmk9K12xuSN5PhJNGH5YlQ+wvBnVrndFYnCx1pV+DAYarOLwrNRxoSt2tCGqV9TDKHvQva6phjKYlBibk/N9z1x\
+h9UekImWqbg/EuU5r8jg0DRUHoz0wNQOwjeiU87woaskDI9jR1IDOtcZrVCWfhG+PbfMmSxd0vDY4ujGDi4Fiw3wQbRc5ZxCJhc50oFY5U4GizkQQdUsFgjrD/lop6hHhf0nxbLkU1VX\
+OGoUyGiVCHrGCMl2zbAZV0i1rshIJ/m+UYZKDwS5HNdUm0OipG2WYjgpfT4dp7klHTe7eKpoza3O3S3/hCBO+zbVOZDYqfF86FDQPSpcdqXkOF23iiltWxfKkXT6LXTpO813aY+qNb3s\
+T2t702t5U7Hj32fEu2/Gu2fEesOO93Y53vx3vwI531Y53tx3vQTveO+x496h1W2q8rRvdDu1ndzrodJCOmM+B+PvT3nYD6YEq61guZnUse9PD56fny0vPl5MYU7dYCks+xMe11BhpNr4\
+Mc+ICEfMzUrbWxGX7gNobb37A1Qe+gAey4YhoaM46bPAI9sVFGJezzudgebgK0ygcFpXgTmXUaEtmMqO2XDINGTXxkrnw1fJLZtiHQRgIyHg+2kvXPVhyTHi0Yl/NO2EJt5S8N+2rsae\
+Qe18tPgUjfDX7FETx1fZTZtlXA1DBJl+sQBtL8Hy1KPptXtNsQffve11vvartkLZN/Xzb1M+1Tf1MJj310xmd+j3jWZ76GGgQWKVRYvYKFeR7GIjYz4yAmP3MgJXsZyZ4+i6+s5f9zAR\
+dZtzky54a00qrPLWxlRZ7anorvfHUIlf6LG6lJfiwRI4sEMP2pE5TLa8zYrKcuTDY5EzseSnnUS6YYnh7ZJQsnrfjJ26cvPskP95vf7zH0odeGGOb4L+OeX1XA46/0JM2xn5cx2hIryM\
+p02trkg0TbGuifU/KFBsm2C/aZIJ9SYxPP9HThMl+C76r0yx5aZPpcmLMfEvW0RZIzMinLDCdNm9uN3ieTxtFQ42NlYi83DBNdba0gJ7wEgvo9WLKorjdxnhykx0yGMTGfE6shX21Fl7\
+jL02wP3T4duHM1jwOqd7ySyvri/I82yAv+ollMaq2qD1jgbkE2S2wYIFFCyzblq1YYNUCaxZYT2ymb2zHK5+wwKIFlpJRsB+dDFI4MIHBni+K5e9KQSx/Z2pi+TtZRLaVUmMqbIJKNWb\
+oNFNugi5iMDjhe09j4qf/6s/g7cUVQpLh38yS0RVLUTt0G7ZhE2XbQgtMWWDaAjPldC+4g8lgWmDFAqsWWEsY6QCZQ64Q/S5Tk33LtvOiAq2ZrxEz3AcONPauIJmdoQ2kLIjXmK816V2\
+DHF1ygOOsNJYA8+9wsTWehtomOuszOs3XWLuvJiCl5ykTnEmMMwPm2fkjEwEi1yPETJYt/+xmJPzSZABqxec1Y0TAoec1HhHtFJvZ0lHX5QxY+Rbd3diEVGubEC9BxeWS2Kc531upMQV\
+PN4WftHOxaoE1C6xbYMMCExWLtPbOvAUWLLBogSULLCcP29cnLTBlgWkLzCSfADJ/oNLEQIXvsAebD1TkgCRbgLdYkVqByvi30oQhRMM0w3e6nHAI1l6NSa3ll20tkxU+AsVqTSmHqi2\
+QHLZ4U5XZasEpQLOVz7Ii7JjzpkpsYPW6x/bQNnqpIisslQiCd7hixPtSpc3HQb1Pu3jyI9eadxSsTaXzwoq+BcsjYvKomeEd5V5R8onrAScBk92wwAHJrkKo4rFZ8l6VA8EWBIgeGzr\
+lh7/kqkTn1S9tmfdqBX3NllUJD9RUCA/CGneHWw1GtEfH2zG1cBZGJbMmFAOWgoURD0sFa+7L4313yNKid0x4hThIV48bReOwPTOd45RzmOlqDYNzT8UOH7JG6tlP6pUq2UhpsWZR0AL\
+zNfs1s0eWdNqKOvmqoJHHopCZohr9wGRSjJmF5xkubxP7prkiX6aLd6qR+GIh3m4w2GxpXdch1hmRGRhuzUDcb62uh0z/Zqvr/i2trmMcVlpW1x6srvvNUGJ1fVCtruMbWl3HyJIuhmT\
+9bPzcaXU9DMuyofLmhw+2rK4733xp26u5m3ynra4H215lq+vYHOByUsNWn7xzkB7PyOPDYnV908f9W679rkGxI/PY6rpfFkna6nqqaK2u45tbXceBBnrrsLruMUNEiNqsrvvbrK7ridW\
+1t7XV9UohrpuhtNW117K67jd15MbstLoe2tLq2muzuu4XO+l+NTNmi+v+dovrfphVe4nFdX/K4lp/YgGSJzV5WhPvkP2bra3t68a7rrW1x+bPHP/M1jYQtD8v1tbedaytO0hCDTFerLX\
+1e2tqbT1fm61mdrh+dsfmz6m19a/V4qHN1tY0FR5bW/eztTXIx3Arxh/sn71N1tb71dp6GFVrgZODsrV1f7u19TCsrYfMsFpbM4WmT7ZbW1Mr+gmb6Wt0uYG1db9aW8dqbc3Zi1qGkF7\
+K2rp/k7W1h/VdHgxa7aB27TP75SCc67C29tTaOsZ0pWglW1tTp5hu9ndax9JCGE6srT1qRNraOi7XbVXRdqlhk7W1Z62tYxDtfqaa8b/I2jpOj/BQy/j3OiOdNv71OrvnJd0r9wW0ztP\
+Gv8M0/C3j395v4ae33fjTPd/CT/fe+NPd38JP99z40zXoSPrbrK1ld+Jdja2tqbKhlrW1rsQ2G9xhtcHl3f96NrjVFPvENrjD4kVw64yMcCOLNTayPub+To36AhL12zU1qf5AjQ2xh4j\
+4qdk1UbpYyVh0UA8zYprcw7vjQTG9vrOyLWjjN12zl/hNRgluRjjvJoa3zNSqR6jzCdvgJQts3Rc29fyTWuMAW296UINDkXdAjTdBn1lh3kTUy5a+3NtCX76nU19+ldXle56lutxL1OW\
+eqMu1FVZl7qVU5vYn1X56ndpY2wFuinfrqnNPVee2/s3qc/vL1ir01od/NNGAP/nmtOXJxJthtMAHIxqBI8a5Eo7AYIU9l1/35kWnEdCN5Ci7UkQGaMt9LxdZFe/KSRXXtWKgdRnnhY0\
+pep+Q+Tdcqz66TgXOWWmrfW86ec8Lbg19uJuCid+tJ7n5WhzrZ5ZqkXaRRYW1WNn0GiL2tYKdxOPuozhyGFr1MgA/82YOnzsCVtFA9Me/VgO1jGexiJx3GO0r6QMmnyLdC5WKQZwpXsv\
+cShw33+smwq75WsVp/5jkK4ztwZMZkffWWNvYJVOaazZm8LBjv1dOFLi0tMWtWc+9kOkk517Wi/Hht4x6ZkqE95AfsPuhSCouVHqI3OpJh53EWo4WfDqrJ44WwyCB7Y96KS5AU7zH4mw\
+R08PEFtBL6mzRyWNsdrbgMxaqV86baPZpx3IjZkhZ4UAZsv1gleg6LPmdcSaapVf1RMtOF0PtThdKbducLqaKKaeLyaIcDWNxuuihibvM3c3wUNyA4A/dCsF3Own+UEsPXtSjp3W6mCu\
+y08VcUax8T3ufYX+M4XPupxg4cNb5JANDZx0WOWAQP85AfNpj2QNwT2UQIaSzLWrO/jpLlWb4866uQvnR+r5zEk4QBlartpZJIMYfd1Q04Mdcmd+kf40YLQ9KAEokTmbBnoSgjD0V+Ek\
+QyrhPBYEShhJplSeTYiEuq+BQQlHGVqBorHgVBhos00KAE5ZywUiE5V7I57eexEsojRfGs1Akm0C8kS3GiwhiGYsB1pUKJtIwooa00LZdiRLtwlJgv800LLANYPoW2Faw1iewTWENU2D\
+bw6qhgAV2kTEv14itrfaMs2d2YzpoigAKZ9vUraRtLZ8skV94KpwHKZ5I2qtRL63+xrMRYUqtqJcpDctcm4Zlvk3DwjL8CbcVH1ONGKRDViGDr7f0NBttmpkJX7UO0mBfVQ+JznDNTas\
+K1920qnCD94Neq8TS4KbTpQSzEtMRCZc4mRRCGzhDg5uyNsEGN2UdA7WsqJrp9YKqBtcKqghcKagWb7mggtqlQmRFPao+XMjrvMzlVY84k1ft41RetYGTeasfzKk+ez0XiahuNac675W\
+c1TXmIASSj+QSFV5OlXxhWkHdlVZd96WV2l5aSe1sUjH6iJqoIYIv8VmQGpjKLdy4p5VIuHFX0+YSthX3aWJh5GjfHL6YdZ1+WtdZ00I5UW9Kp2CXYT3HixcS3kAfQBSWj7gq2RSNX6Q\
+Ihp8+nuDIejGNaRvFNKZNlNKYNllKY9pUKY1p0yVgGqvyUlFojVJG8ywUhyO2K2YLxeE99se7VHG43COKwy8iC7PNrsopR23CaI0Jm9EYsZwgNKXFQi7V8H2qTuOEygUJq6dphj1VhWS\
+NGpyZOzl/MMScsZcYhCEnbiCP3+jhwPi0+RJnkMPdKw2PQ3ikFJPIvkoNer+L5DGchNmXJMyaWXUt55U0uYX3bQmC+xWvFQSXYRsxb8ZtizBvY1uq0jIV/1KVqAWrRE0HNrv1ILirrg2\
+C+xOtSLOrNjD9omeD33oaP3LO0xiL055GsJ3i4PUSxd6GrdcA9Wsuh5zVWFoFG13LRpVOxZmG8YREyQ9/q9WOJRvyftVDpFoNyxxLQPsVj2O8h8laTo8buPiZb3IAJUAszoscdXY8q1F\
+n1RpAfvo1C/ymBT5kgY9Y4JMWWOFgaxKQ9raom1pdRau70hQosX1KDCxMN6/RblBH1xTbQ9euuanQtf+a8afbQtciRq/p7ggM17116Fpt7fVC165zBu/u4Iu+TV+P0LUtU4RLyjXZ6G+\
+hXusdUeKG1CTBdESNu6AmCXdtMkm4f1NQuHuEReSQtIUUPAIbRTcdt1lCaj2epquRk6a6HKlqpBnlQaI5ktpaay3hSLXIEdRQLfhafmLFaTLTH36X/pC3YYqD1tnJRh22jJ2NmCf7sp9\
+mojTqsGXs/DQTBduoFhMFuykwUYh7S1+VSQ70CAJzZ+whju4clgus281BwooH8tLW9igljf8XBJc4W5Du365NLsJl5CvRpCM2Q/V4DtnMw3kXGeFbj7hisosq/MR0V1KT27TvRNU/hAT\
+VwXHXu3pLn+MjNr0TfPWg13W1BFScyV+Jc3s1PzLNZfvrhdbrN7E2KEimGnACg3L16nTViIE5GzEwR3tD4+0Ifb4OViOHxUEbfHiS3wZfeqFSZWjdw7KvBvwKl+PCqLPbFje8uDjqHLD\
+FCT8ujTrHUCxgxdC1iBVC1xJWhrTse/X6AlyJpl2wDXMVuEevL9Lr/Xq9pNfHqcWvR0otWQYutvsC0QzWfiNPz+s1oZY0y5uSRFl5eo3YdTqN5hpjzfB3XWi9c7wa8PYvy5rB+/foONw\
+fdQw53T3uvAiK7hwU3duznMj2mHNvvA16xj5t4IztybQrg5vSc+e5TESLpjWH2P4pVXdOVN1r2JBU1Z1vTMvjZpsoVtiKn19kk/c+1Xb38BRtO+vQPOf5+Tx9Ud4ssL67ZPXd2zv03VC\
+F5eB8E/6Si7dcK62ot+m+W/WV0upvjNeqj2NvrrEqwQlbKnBqiynID6wCpybmG6se886Ekhm5seI146LcWs/wl/s0ql3ebAuvcLIKU5SuiB68zlXVzzqMv60xKtxTSY1wHHRow221sjK\
+msjpLkxaYyOKLpg+Ikk2U4ekvJ9WbgIUSOJD2a8YQZAvZoZlDdkKKn29seKJEzcOSipWtFbc1kHEZwZ+LdjBpImTmijxN/SmleGCV4oP8XVaKVxKkDFh5ubNtturYxa1KfMAUoRIPzGC\
+iEt/FjXXbY7EZ1NGhFa8TXa6IwB/vt2nFd7A6ChqAwfLmh3e1tOKdb7607dXcTb7TVteDba+yVrxuBric1LDVJ+8cpMcz8jg/PHDzx/1brv0uPK4+9HWrDVdU9x2rEK8T7dn5TBxsVog\
+HViFelzqKKYV4jrPBmUFTCF/Gyy0U6lYUOWCOvt9Lg+LgziKLoEUaWNysGM8jN0tcZeTrMoNCUULWjhet/hPRT4pUVYduXB+uQTfenShLe9p044FotAOWQe4Q3XiguvEdohsPoAAPILr\
+YAd14kNKN608sHe+Rmnq0Jha5B9CN97bpxu3r9GCbbry3pRsn7oK7ZgJsqLZp/UH7K6IeD1rq8dDUvjehFGkCwaSBhigMH+ahfzIb7eBtYSI7W80Mun52cMsvupLy/DXZODXsYHBlNop\
+U4fPjgKW2ICg7k5YUTTdmp1NB3q8K8p0c8EcV5EWrIA/aFeQ7oSAfNDvDR9rIOH21kgiaGTeEbBJ60zcxvNdXk/MXzA5TH5QFWZwVuqUi7GJKTR5YNXlo1eRFLHgovdOtoQbuMP10Cwp\
+H3ArblOVFplg5eq8/6KChrC+nu0xPg1SfuGXBLK9f0ZcXqTVpfXm9vD1VW1SWSjapzIu0NHdAZV4HYZeVB8paTxPPZ602r3cM+mBLkXudwVdF7g5IMoqdHS0mHU0PP1TZxVaHVLG7k+5\
+1qLO/Pa3pvXlrur99rem5eWtq377WdN+8NSGkUslOOdDaCnkLHSAkReWDooJvX+ttSpmdtBVZbuN6OpmKMnCsj9kJNdmtMk4Bk8apbNQP9th9Q5Z6Aer3E1niRZhDz0aD/MykkE+mo3W\
+lkNEuBiayolDp5k14V0r5nmZ/kevrDoxc3qrdcykeWw89ztttS6ctsGUncqx5n802DkSFds17AccYJv0FDOX1NO/1liZ7W7vmvcjq7rrZdj3NewGa98LNNe/aCsiXCx2ad/vTVf2pU/N\
+uO2A173WTam/95pp3W/8Vqb/e0rzbX5r6S4fmPfnwTTTvfDAdE+V74Up4XPKYPEpnRKJiwr/4sghdy+vP+Mr6W917vrHgKxxobaag6vdC+HuumA3dpCan4+3p5G0+aN0CJnGP8+F3Kyr\
+H9UrIZ8rpLA5+2k/cmMzGLgNT2XSHcZYPWReP4J36glWLpwemFvDbj0euHLYIvmRPuBDdhaZgK5FZoLPue+1JeSJbcW5UeSWwZwTmcZ7MJpr3vNW628N0xQoJaE2zt1peBQut83a51RG\
+1pkh/qxrYFMG8y1cDPVNxNkNRvO/gHZhV9ztB8Nof8dr5CeTwAekWnXudnkciROR33CEHynaGpYNGo/pxSQc5aHd8s7PFZSPRJnMG+BEsXj+4L7qCXkPnToeuWXpVT9Kscx9MdO45UNb\
+wB3m2IAmQowIXC6OMxCsoA5ZDaF3U7h5N5mXudIYH4sZEfvAWiLybJvKDgdDOWIWyjhxy5SQrN+mww9p3lnyY/tPeO4G9Zuc5978wMHDW+QUGBllanePRfCsD9dMeC0R4ZSDMviAIFPA\
+pim62U2naFQV8slD49xwniyUKAx18O33g3I8BJlsW010XVIYzxnJBm3s6JVBLyfYgr+OkwhhVLDyXJXTCs1NdkSyrMWAUL5sLLAqwArdi2yfy9KbOjvFFQuVfGIzLSMebhwQ2DmSiz8c\
+VmeplH1SR9YxwqVEEWPQx4tK8AgRpQoqthQ5CDfiOajyAhiLxNcUrJmMq+HvBYFyA+06h4T8RZZBOGQ2WmAxEqZ+IAk1VXTIuT24RV05UfZb3I1f2kGbrjsd3vNQdn+/4yZ2Aw5/H7I1\
+jMtCecbURkt6XCWhKcuxZyaR1VqPjo4sNfiqV8Fo0cAUR8GK5FtTXKDtrKrcymY5MpopbCYdm8pJy8ktV76DoAGZyV2IvEbz6HYLXTFrwSr1hQXF0WAjQYer3UDqphwcdKcvu/VbZ+OH\
+vWy2kJ8m2YHEJz9Eoy8BUJsoxMJmJ8gxMZKhTHovLkdCZpeiEPB5rn6KAgSVovTxRkVUYWPCiKgPzXtTFwBy0Vh7bNUQ1+ShyL3uiNOuRjyL3sifas23yUeQu4I+60XYG1sB/AVh1ico\
+BWHGJvHF7XCKq3B46H8FWNMP4QB3HEo53plzP4daLZC+86e5qbKx/7nd/7I1vu52D4cDkfxfRsauNAnKDoMK6zXrncWbx3fSybtCRIVh37yii31m8nVVg3QJrFlgloLFKNCcKZ1ydhtV\
+sRS27qcPZOKZdPGfL69l4D23mSXkNmUZyEt/VxGbPlXu4yRM51Pgpzh3GQ4qsHjykuWgPDLHmM81oL11n6LqPv0ujnIv3mz3N+IAxV0yE1RlhdQ412CSeCrw6I6zOg7hHa+WAGaYVAaN\
+Nuh6yqybDq/NQanVmeHUeSq3ODK/OQ6nVedAMY3UO8+oculDJB1wtITq1ioAmf3F4lhXm/MYwluUwf46eGsLqHJLVmcfqjC5UsuYANW7WRDzPHN+LR+OCzt0EW2mY3WLWMJCOP9AWZaA\
+3MaKwPtzWOqOa9hMPWg7dhG502PgF19LhktDhC3dwCJh/9Y+t+Ft9DBtoHjBNV0ZoPvhPSGiHhUKY1ioASu1Te7qcLYBh5MJeKQBfpVBQLOZCKLhNZ01qCa8TxalCeqWEQJVg1Jl0aQ5\
+NeRSWTxnQS+dxXKujziVcu0ad+3ENR50X4Vobde7BtXuUOE+69ow6d+HaO+rAegKxa8Zw7Rt1RnDdPuoM4VofdQyu/aMObDLMwKgDmwwzCHpM1x2sMINOYVYGIxmJDLSozrIHIDeKqAg\
+ZJtuLDNAeuMAAbXvzDJRGkZucgF3UOR/AbuqcLwYgzrQFpvgnwbtRZ8WzpUkqrSalVfr0WlKiBe6sJ6V1Km1waZgawdXFo0iQlkH8qKhJ7WB4/6gzY7+6ZIFl+Xzj7Tl6btEn5vmwcGn\
+/uqhIzFD44XZUtEnO88lqA0KaGPf2i2kS72nDHdvlIWyXvjAXw3j4EDZLKhxmthnNRypdehOOwPKmq7slbeMZ2WgPiz2V6EKJ5OWw0R4OXuN5hZYW1ucWtW+x2bYtNive0jneK1SpE+f\
+FOGvFqs3ogSweQm3+eWJxs0/FRZN7kjb4qyb7n+LSE8RrZGfDK4O0sWYMFTOm+CSde7KQu0423CcuDFI78lSmLSoracm5Kz4v0FyLt8h2DFbGDhZ1WRa/yYDdc6A9Vv7PS84wiAsVvDv\
+w8ler4DVCMTeQmoKOcSi3jUP5QlwTZoPTIQeJPKNMsCqVaCcPMEZxhX+pUmmeSl1cCk0Qfg9t8S4UVUvy8u1OFeXwdqeCa/V2p4xr92meUdAKzPC4Z3rAVj941oGPqW8qekqm6SaOknE\
+ybcsDYyq0ig4hUUibB7u1mjJH0F1zrjZjn7VZvZr7x6OZNNL+bQTuELCPwLqA2wnsFbBOYChgP4FlAQcILAg4SGBGwB0EWqHsTu/8OLXXHoXi7sfGj75cpF4B5B1RD2LfjH9D4ugzd8n\
+MNBjZp0Q36RU4vFahGf4Hdh/xxl8tobX4rcydg1EPKP2KY8VMvipsiBnzWVwHhd4uCDLAEp5jPvcwEcFdwvIeanI2aYAHCazcziA2C+85DO4nsEde24sIgwIaewZ1MXJmm4DQNfQJ2Iu\
+IcgIiL3VdwDJcTQUssNTQ0SxFfIjF5O+QW8dU9EHgCJjyKk0krZGytWLMmi7FhixjA5vgpK1RXMKEOcIELNAyLOb4cU/wIa6Ezyeq4dFJGxqnCoco6+YoAnRiqagUNa52ylFPOc53cZu\
+Q666bZqLacF84eC7phI9zd6yjxdIboDCUTt3GV/XTTtNtdj4fCON8f9yrLyPIRQ89TT89SE/QM3cPGvtjGb0JOwYg31pOMeQtGARPlHQ8CDkMgg8dAw1CRQfBn5VFRHWtPvcJmIUKg9A\
+YeYq+kxXYPKX6qOdKr4Br7p2DT0qXhl3nRxvhU1TCQf5JLNUyYQOtPCwGDCo4M0/tTRs4h9UGoxDqI5BUbluByF4Wwgr8UbtdcJ7YJfKscJRzockiPIYLBjSPaHxPNS49EVX1oFjBAdG\
+HghZjwrs6rT3IoHkdUpN+On2rwLem07fKfOutrVtVxlQ9L3rCTdFXYxpDCbrhok3GJ9bUl6F07auuJNfCpzsHQImqu5UNTyjku1uNfnnHKlEb2DrsnXVv99U8nwxLt2SSoxK/83q9S68\
+XbtGUxVrnGL0O6XVEr2OJAIFlDwXZ4dFk3xSbYp5CXX/NxARCPYoNUOPjP7noXKFlmcUfTTRnC3Qk8TL/CGtvZtbZnm/87+2J4nvZZm78L6js4jyh5c85iBJKpwktf4HKxOc0MlounXU\
+yLP/IYt/LiktLzlqyTSe2LWIKmbNWkjkbNqdlK9NuPfN4p2HQJJvT5LnaOTGnyTXmJIPnkq/lKX/zZyf9tPGTplTN2ZSqHQZSyxZYscCqJ99NWxwZL3xDy2JoPa/ipqkS6xxgY01HdgC\
+LCLqYY8vuSORJc0XCJ5YFw8qe30LC9JzY3Ve5SjqWFqwIa62gDF4lbc2eT4e5cltWm7nGZEFsh7zWOYWHybiI+cNNyWigF7R9LhPv0y8tZCOx+5rPRl3S1mwkcuuZbFSzAuxulVcTgyE\
+S7KhXWp+lTZ3bnmFbKGKmM7Shcx8yrN4h1jujnV/J6EgtZ3SkljI6CosZHbKFDIaMp1S6wNQkOUOo2dlkPrFqYwcDnW9pbV7nWjqR1wmXvuV11uXreZloKS3mdf6lHXlBi8bbS03WadE\
+I5VmVRZ3OsyqL/Rh2SKdzrO6iTudYlcUODbul00gGyj/lo0h+ykex/JSP9sh45KO9SADi6Jee9Yg1YGlCnBQyVNLfNvrrpT9kB+1GPlP6Q17TLvoDZSeMjnbT364G1ILESjUgOSZGi/7\
+20t+eBkI5cFAcWdQ6I5umwdf1rbaAushVaqsrXa0IdbmrEaGueembJwtfeuzp6peBYPNhG9Wk3BhhT7cyS98P0LXOaYbK6vlWZin8QVOejQ6Jcqzt5JyzJ2fJpZdeTG1+ItuTQ9UtntU\
+wSJ4ez3bhrtFHBlHYyY/AV4UI5SH4012QAKQQKR60Tn7WhxD7Lv2BkSjBCwGbNeIk7ZXjXV6fS7+Hd4LO97j/VjpQtdKBLisdCFU6UFPpQLdKB3pUOtCr0oFtKh3oU+nAdpUO1FU6kFf\
+pgKfSgZJKByoqHXBVOhCodKCckg4IaqXFA4NWPLDDigd2WvHALise2G3FA8aKBwZUKiAr3LUyAF6yrpUBMJ1wrQyA6YRrZQBMJ1wrA2DVmpU4MF67VsjAOO+q7AESkEUGos1SAysy2Hs\
+dkcHWFscsyM60if2x8VsdGVxHdVrnCkohZgpKIaYLSiGmCkohJgtKISYKvA0dc7+Rp9UD4Ov56ADvBP+cj4YY+FqeFhCAf8rTCgKwkY8Oif2mMC9wJ7xfDXvB3EAiD2YHpvRgfmiOmRk\
+y+8+5d+J64Jz7PbgOnXWgEzXDZ4nnpevBs844rofOOue3YIaE5rYYJTYqzjCDhPNdOBrt06+8J6OfeXdGv/MrGf3QL2f0S+/K6KfmMpao3MXpw7VwgVOIa+GeUSKrtvCiUSK2tnA/7QZ\
+J4RJtFBndYHN0FgtPQ1cgCqO4BAEEWDAum3sSHu2DyqPl8dfJo31wM4/2Nzfh0f6mg0f7SgePBh4vA35Qy/9EZfCHuRYPl2PcygO3Mjyqw/7QBVWn1cX7Qxovd+L8FeP8ADvD0TkC5Cb\
+Tysrs4ABREQkNvZDhYNh5XBP9krNJv+Rs0i85m/RLFfSpGWf4vOCyfgnVRogFXSSgyV/MzHJG40RSDsENJ8JO++VpyG9xFDF5O+CsXypBkqMjYGVqOfiI04lgX/CJotd71WdvrdyVuJi\
+cEkodp4Sg03BfpHhFYTNzCqxYYNUCazlr9+OnFUpFnP/B+mpRTxBF9VcpqqdYUQmEG+0a94nvyOJgWXghfHgay7lmu89e+GmXTZyPOMs5bhpzLWJuTVxLhgHiWrLSGmInf99tmSbCR8q\
+vSMtQOz3gjy8++Rz5l47brvE05i4d4jLhZ11+x6AtHMhWP7ABbRZ/G9qsonhcVRlYhjaryNQ7ChmYcYkTLTLNJk60yFSYONEiE2fiRAFcIka0yBb8fXy9h9hQXC9Edb6eh7qeVboDfB0\
+iHq7I0Jwf75Dv+eGfSXOdSqK5sMGS65ucTLenWYRt6QDLPWkvVfEUK7ZYhOt7YmXSImNGnKy8zD4xNLkucAS7ug5VIcrADDtDcw7HaQ/W0bbgig3tv2EntCnIc4h+INS5P57hAV7JWdt\
+17/mD0e7EAY6lqLvLolsBtxqkF1Zqq4ScFtyG0xopEWLvvEMpbks+E4fNuGwyV4huVPEH4puQMXBLQQcZy+MeEZWyCZiMZXDNtpOx7CYylt1ExrIpMpZn4/w4YDJWYjKGaiP4uIUENPm\
+LQYqMwe4f/RYyVgIZK3WSsfKsUD4hYwWweswo7Da7WFJtPfh4aDGB6yyn3x38qu+WrqbGMk3EcinnpZz1lYIssCWgN676pkAzCsUOpMFxLuV8UmxaWSkIqy92L6YIVb/ej+E6m6PJyCU\
+CK+/CIJHUDLxDWbQKEkxzVIRYjaeU58iDqQ/xOJiqquoFyiysyqmwKgf9aZugKqNi45acKqMy5ZaYKqMCZ9yBCT4NBMShGZUGQrAG0TzdgrgKP1NL0oKqXOvtDH5WQVURU1dsF1TlthJ\
+UZQWfc4mYatwZz8NU54WDwRO+V2wpVm6uVJFYtIn0IqYhAeexqOr4whUD5mFJi0UqFSHZ/AEW9uu6yLKoScbcmo9kfchEs9jWWXYYly2+8sbO0tPWHY/veKk7Pt9Jm49kMcLZ1LpgkST\
+ye+QIaPIXs7MmYSOw8mBJgYu3eV0w45yH7UgSqtZnrzTnOlx31nLd45DlQyLJxIRVPH5ClCqBqQT/6Hn51iTceN3EZV058Ig25UEWuraWUMEuoWLbEirJMuElFDRVxSArSH5KbsLf3UD\
+Y53cqaIgQRTm/PTgivzgkVmM5iE2viqbEtRlFHUnmwQ5jUVniPYojCJXcdInZpfI5ngnfqg+Y+Bk2x8zB0zvH00pD5GN+/Hbk71Sy5awBj1Vp5hLkJ+aGkP/3Xde/SsjnS7r2lq8tUZO\
+/fTP4arex4fA/NCBZIHEWSMwHfUHgbOPrjjCtWKwZ47MaAS+zCom1IbxgY59REalfgk1PKgr6wD1fg2GlcI8bT4c8PEwzqujnzVK7QH9zzvjMW93gczu8moicl3MS4+Cm+NSixJG7ycm\
+nzeEnwTCLX7l7uPdALrEMzDFywaiZ53obkYF62l8xw/NoRJPDTohp38E+MN2Nvew6mGV5fVE97dpcB9WuNuU2CAOTSbadyTQm3Q63wSL7AfMP7DbI6yFxG5zx5MaK9AG3psVh0RP7Sqw\
+wN7wS9aEu7aX4DfZxXX1nnXpqZHRIrNNgKXEadHks4K8StFefkaCZnkafmLfAHByY3XG8N+cl/oPpFtgvxTg5q3GltGgRp7PFDD4HdWTjjZ4KQlAVeHi/KQ+wuSTvhzglbGeFZp+6HcJ\
+ziKNrZRPXw2zL9dCTiVe3GZryfOJ62K/zm2dl7UDK9bBkXQ89bnCH6yHrROPtbbPdzw7n6noId8cMTB+9xPVwkBvrSuzYpKbtm10P+2k/VUcHvN/meljHxjoAzwevvPnhwZbrYeebL21\
+7NXeT77TV9WDbq+x62I/k83AOLKWcAzsruXOQHs/I4/ywe/PH/Vuu/a5Blu9JeGTrepjtdD3sb7hm+zNxabPrYcm6HvYH6iPYcj3MwPUQ3EAufBkvWXU9zIs5dIZdD1nJnG9zPcxvdj3\
+MtrkeemnXw7z1KSuZLuIm8p2uh+4tuB6WxGGwxMLgurgellT364nrIXiDqMR7GVwPSynXQ/1ps+thXaP9bXY9LN3c9bAEXSaU86VRp9W02pauh6VNrodCZNK0RUiBuB5i6N8Nl58MDdW\
+cR1t2j+tne7b8IlPQI867PDuS7a6HeXY9LLHYfPu4hsYRVIAbYH6T6+F2dT3k04QW6Lvqelhqdz304HroGi98pEV9mPak7O2ziW8VsprRN8X24nquh/wFUzf9g7Ig87NCt9SSP59yPSx\
+tcj3MY8HDXyjdGqSxM9vp1tauh3mmWDl6rxZ00FDeNAfgNVhAs1t94paVZnn9iushh+hIuR72I/5Att31sLDZ9TDPXsHjWXq+HOjKY8qaJp7P2vXQ7Rh0r+XQdp3BV4e2+p3sl9/R0Xz\
+S0fTwYyfKb3Jo89TFUxzagm9fa8o3b03p29ea4OatKX77WlO6eWsK4GmTndJtbYW8hQJJUbknrodta72wyStFuI3CdbxSvpefQ3TsAUwas4Psn+LZUAsYvZtwYY7lwgImlgtw/wEZfJ8\
+XDTDwXi/y+Kd5oaNMUPuVVEYuA3M82hWPxmc8T8x2EIwX6EKlH5sKDfsbjvuPvZJuFeGfVOdlyu4BPCpB0l6vneDg+If9WnyT+sfxvTp3ry5MaztF65hEVK2j4VqSYLzWNmzsNowfsQc\
+MYlNln6T8bGR5BfFJ8hKfpAwGOvxB6jczl8pDcJFdUrLik5RLfJL6xSepSJNzmZuT4c7fePa9m84++ySl5jxoscy5lE8Ss7hyM+WT9E0w0wnrLww1Gw/2Y1QeG/90ERx7HZHUeZyiurD\
+bchywh2XPcZG6boCf6CNy7ZlBmUd7yxFXNRfmaM45pw8yCO+ssw3X/rNOL6595xyYq5lt55wQV2Kryrhuh32mL+N+U3lRSloEwRmL99zgbSPeTk2/VbsSB4iPpFZKgVopBWpwE6iVUsB\
+msC/S8oSrwBQASE8m7Z3zeh3T64heh/Rq9FrXa6jXgikkVmnw+0kHi8viI0HjEzXO29WCL8EQ1tEcRSLPYsUGTuBiAQWBHB+Sa4g7kT/r4HNwBS3o/X69Rnod1utxvZ7R63k2u+WAYMv\
+c57b4XUts5hik7ZC43B7xL3wD54P1JypRhYGNMqx0JRFeFwNrSBIZSEa8GgMrZdj1Qu9RjnoYWEL+SACLZTqdA1go07kbwHw52s7AXBnxU6AbKUf9DEyXabEDmCojaAyUJOVoh7SnHO2\
+U9gTRLmlPANE8B2WNjLQH6QO5PQHMGTmyq6S39ZeCKJL2IKEgtyeIYgKOue8PoiEG3htEwxyW5jeC6CADvx5Ehxj4tSA6zMB8EB1hYC6IjvIso0cVDo6npbkKx8zT0kyF7Uu0NF1h+xI\
+tTVXYhkRLkxXYl2wShhytSJ8WKtEe6UGFG059qkR7LYp7CkxaYMICGxbp1y2wZoFVC6wANVYQK7Ox5DZDR8PzrLj67XU32idD7Ub7Zajd6AAaPkA9x1CbQeo0AzuovwzspK4ysIt6ycB\
+u6iADCPPKgFi5CcpOMOCydVMAiwQYPQWss1+znVmywLIFViywaoF5CyxYYNEC0xaYscAcf6LCCdoCVj3MMdDFSdwCWJkgPG0AMxOEpg1gZ4KwtAEMTRCSNuCU1BtFANs4FG0g8YsZ2E4\
+NY6BOTWWgfxQx0y0+uJwRzuKKy2nhLB65nBvO4pjLEYu1tOByxGItIfzWKpf2ckDiAGYciFMcwIwD4YsDVoMGkKqEz91C4hZYnWgA8gvatQxbqQnNoMfmw+aA2R9+2pVn6TDqagLiDO0\
+dR2kXHVJ7Htj1HIKMkp487izjlOf5uYxu4Hj7o74ESM4Q49H2FpgQj1fjEefjvi7CP/J5ER5z/xiKVwDLPvKM8BiVdH1Pl3TpT5V06U+UdMVvFHXFrxWRMETQl2PUBkmMWmusEqdTeUZ\
+pM0VHvaXQ7qMNcQuRT2+ULtDJHHGnA1EBC8Fa8ZQULnuR3T+mA7tMLTDFBDtzzuWfuHdrhfioOTruPO9BuSJ0HwQCQ+MPvDQeNsNm6O7BeHi852G64xr6u3vwYWIk+KGH44MExkPn3Ld\
+wfcOImI6XDz1Mrwwa+nv+4Dn3rYE5ag49zOQOc11sclrE1qY1gX4fNEchgRhSJ4g+oxmvot1gvJPbtHXoD/HuKxjqxmIoNvXzQTPqV2l1svWoWYBsPYxu4e+7SlIr8BqZr8LwP0E+jDf\
+HUZrm5yf4X3rG+CY0PeFf2qwV8lNGHfzDv3DVzTo6KhOz0KUYMtelW9NMl2LIVJfuSJNdSlo3qroRrVd191ut6v6zUtVNb6nKkYB5AVYtOs1X03Z2Jm1nt1MLcTruc5RWYLP0SoJjgxK\
+K2mS+ZgsFzpighZDzKDCi17Rj66G2fiXURq+F6CGnFvmya79WTX+NEd4cvaMC2+w+MUmHP/WFSsmm4T6aLMlPebokP+3pkvyMp0vys140DOU4FrXPjx93aAU4dk34usyPJktdH25RgOQ\
+nLDNfJm0lb/fvvI76Yl5X83xep3Eur9M4nddpnMrrQEzkdRo5WncgZiI7LQ3IJTQg9+zmyUvmyVKHmp00rrigO418saDbjcxRQfccTrEifZsqWkpV0HZPMsmCrD/8mttJm9yENm0igbE\
+lgZ4lgVVLAiNLAmvXJ4FROsK3l8YVt4UrfovsCeeKvMtw7acfMHNICX+Y/o7Q3zE41gI9vugyrTnmfsFlhDnifN5V1urPXUWqz7nMUSGQMhCo8QY639BZiznLU+6Pe8pHTnnMhh5x/pO\
+nPNmkxzwZe4PrQLo6FMS4VCzjkljMetopk45uvhOF3Vp41n6PprthnorcdpPabcZ9ku/txb09fM9thPQc7ZjHZMMwehoBAzSm/M+Isj9Dyv0Y3dDBLCNPUR9T9nMu0B/2gdhmYB6IgTK\
+Hz/IxwhxJHSP4U230ExZVu03f1TYSqohB+4+I0ZXA14SCwGMnEtILMBYKDtA62gjuIxaQ+0TsqR9dIvkbJrIFSp52cnuMtrCel4uiv40fGRovs84qVvfEWI9fkZYjLQc2kW9gE/kGNpF\
+vYBP5ygqnw6ge3GOflUfD1IwkaWNr55uvpgu1ZNyo2+NZ2o5ppMINGTBXR2P+Z2nHKYVflLse7YzEHbi0KT7F0vdrf3htFwsIsty1Xpz/FiYM33La6s+YoVTd7Gph/Hsqed3whFbQ2GQ\
+fG1997sufwegWWLj8o4Q/LPf9J1cEI3lxwGxV7beqlkU/wVXnxgu8DJn2bDdD0UEOGb/dHBSZ+0D4fOqD8/3Unl6I2oWZGCbmj/iSYdMrNx6MD5vDZvhu4i+eR09uNwOsIelF6+AR5j0\
+f77Pj3EFzCGkwD0lLWIzKCariYcntcicPCUb1IxjVih1Vt6M3w22TQNj5WTzuaVe0+dR4n3Ugs4RnjmWFhqx73YOWm2L/ukFB93C9vd4PoN6M6d3yxxX86CZtlHWGqYI/aKsBbZ8fbn3\
++IEIb2M/TBNnZywWWr6glfEUtIfhgNoJyDooQWQzVZDFYvJ0LUhwTrdJOzFX2q/FVtL/Htl9CeuK+BkkaDv/OtdpjOTJfqJSFpPP52bdMl2xEQaw7c6DcF9FzYqTzTHDpHBuUC0FSD/R\
+WSXeKyEFiCwX7Cx5TrnoOXkLlnD1CwBvJeJMaQqDxp9QNWnKBZtVU+nY0vIIfvyA/lvnHRr6hZ5zwdW58dDDyGusYA3TYUNGX15FohzghOzCWW60pixfLCWOhqlOj/V6ohf/LbZs5u9O\
+0eERfp5G53ZyVSLQP5LwdyIX2gfTsQOZE53dDDNFZYn4Uo3sUJoyIWoPkXWLIwvTECkgmRWRyzH0q0K36yUC36iesFOS1Vi7ymkC36okgQkqh43wwcqPDtlVF6kHPD2jL1gq0zSCsWzO\
+OWDV6glenxFBhw8CIacNx1EB/Q8IbnoBviE6oJrZS0sUuY8Q54tOH1WvEZ24SifrkjIa3j6e5Ss7ORHXtaG3QymF6lsPstRxmZDnM7ZbDjC2HOWA5zKrlMHdaDrNmOUxzfQ7zmzkWeG3\
+HAsthzrdxmAttHOZiwmF6lsOMLZWvWg4zEt974TCjTSln4jSH6VkOs2o5zMhymDXLYcaWw+y9PocZpznn67Oblr90WuxlYA4T2T1OLN8J4vYQQmcoOkY8p2NGkHULUtXmE4juwCqD42A\
+2Tphjz3AKshHZDZccIgqMeo3CU2aEoSd1q2A35UMC1glU5oe4uidxuh156knCaD8cYUxzo5E2XrIDzSwaxsoNgxM+jG7twxsH9I1jGttqRDypHPV8ansJ/m62QvWUOpqSlZjjSW/8J42\
+sqiejCrhLvBmoIOu88pMjykcOqcjLKP9ZV36yT0URvcpP9ih/yXzlUeUrh4SvNMdEPG0OJ004ogPqPkmsrB1vRBk15fCfmYxJsh3Yw5lSeDt7XgQ2j06Q5NFpZSpgDHPtr5cEIRvLNeg\
+HMsEf173K1QL0A1PVK3F5LyyJxZu5rHqCsnotl9WbucyOQPdo+XG9Trr4ocQKg7KqBcqqFiirWqCsaoGyqgXKqhYowxD0jdUmBrkF36+/L9gK5y0wZ4EZC0xbYAqeDiyIL0KdUGlzzs9\
+R1UjRVEzxyFsqEp5lB8bzmwLBI3bgLiBXmSOBtSsHvo7WctwsARbpWIUAAbm0VoHLxhFdAkaFvUtH/SXfljaotJyUJuC1mpTgF7ualOAXu5aU4Be7jtIx929zRIoB/HUuGjQw4P0reLI\
+C+Et4sgL4MjxZAawhNRcAdmktI38PJmsm35xtrNlQX2Z3Z5AQQkW4hWTELSTaLSZByhEhcRvGqCKO3I50fdYMnHP/IANg8Jz7ewzsOOv8LgM7zzofZmDXWedDDPSz1k97h9wlS0kJuUu\
+WkxJyl6wkJeQuWU1KyF2ylpSQu2SdSo0NCW6AvtpO6tSUoUSEqSgdeP83TREs6nVCaaTE7FpGS8zzHRaGlxOR1FxSKLDgvJyIpBaSQp1F2VowLMnWwhALsrUwwnLssmwuviBASdvCcgx\
+qcUn6kWuyWr+xqmrRMh+OF7jjLvvDlTnvzFxGpgUTXMK/8HErs9/dj3tWtivpQsui1pLPrULRVRZtlrRkCRqvMrOfaAkaGUShtC2gja8sOfy6BadLUY8MYYkYCa6wFG2TqSxFfVJhiTg\
+KAAslxCdlcL6UiJetsKGezrhmhQ096a2zlqRfs1uncDQ06wXd0f20d4ub3l35qxVxvYCCSt9crggSHHE+VAFqQ8xfiTIMLFaiLGiCM8vi/myQQoANP4UAE5kUAkxmUggwlUkhwHQmhQA\
+zCKh7zMWCxjVD69mlb/q0nHH1aDW7zCDu4qtjjRW2Wn5MdjOW7Ga+syC/+QU5aRfkNC/IG6xD3tlusurc1unnO6vu/5urLrAYPZNBPtiFZHOfzsSWyZFpysS+8jqCSZnYU5ZHJs23vBP\
+HDRV+RCSdZZaEDimSjyhtH5NdtwLboQzncL6jAp+kn3iLZLdWHGT8ZgpggXkLzFkA60ZxdHf4kx6xomWJcsSpukao0mlUWgxHaMQzEEWklvFYeoWPpBf/UJoumDTJqKepSQgD6UygZOl\
+vc0qW/jqnZOmvckqW/jKnZOnLOSVLazlbEWIqJgWa8I2kQBM+kbcFmvDJpEATPpUUxggVuJBhlp19eIUQFcOf8hj11nOwdBdeHNZe475YF40X7hyUiJHSKqE8QqgsUSrPDjm10867kkL\
+vaefdpVSD50upBi+UUg1eLKUavFRKNRgUCrMWjvL4gbDAX52PExVTMoEeKPD4BbvKznccKHDvcfvj/boCp6pynvjqXd6wuLRMbL8SV/dawRqdD6qWQ69adr5qufgqWxZN2zsLFljin8p\
+sGEJAtbHR1+QjRqsw5xL7PUooPUZ/Z3Bi6+Dt7+GTYajRT7o1GgpSBp+lv3P0d7uEXLnhI4jnrAeFamN5K5a+KsFxexlYhqNytbHUnWbpuWxqRAnfII9P9BCRBrDRTbQZwHo33gMidBN\
+tBrDaTbSZ6+7muo+5n+2OzjDwme7oLAFHnE93R2MMfKo7OsfAJ7upyQCWu6NRBpa6o+dQC9bBtFcbkz2p7fM5FTtLRM6qdiOq2t1fJ9ACUxaYtgAdJgTYsMCE/WnF3lm1AJ1Dqo3pLI/\
+LvARqqvIBmxZglS1F1hmowRceQDevrCpbiqww0Mse9AScOef+MQNnz7kfZ2DsrPMxBs6ddT7KwO1nnY8wMHrWWcphDmjrHeNBWE/zENKIlYw2YjmjjVjKaCMWM9qIBQaqmvxyNSkh++V\
+aUkL6y/WkhPSXG0kJ6S8nsraE9JeTSQmJqKeyMkb070KG/803w28IzixnFWeWsoozi1nFmYWs4sx8VnFmLqs480tZxpBj7juzjDxHnHdkFVX+S1ZR5Reyik4z2Wj0Bo5leGQ6yziDlMz\
+EKPDHc8Qo8MdzxCjoaBbtaBbtaBbtaBbtaBZ1SucZGDvnvqeoc/vuos7krxR1Jn+ZgbNnnXcVdUrn4BJctxiJREFAd87BWrTIaIFJC0xZYK1gUdgCGwQ05ooWRWgSxDR6xbFoonukEig\
+LrFhg1QLrFtiwwKTVNkxZYDpofPpNr39m8pP/4+176XBNN5Mi25K0yNxCKVVYThfW0oWJQCCkzMYxm717zpiBaBCsD5LEaKSnXRr5ydC9iP5ice1sndsHTY7P7Tk9t98ONCzBESPaQ1t\
+etJe4iZmfyMm/zx98JtpHD8yEzWi/0DnoNHcTSBsDRjA6oLD7JH2PwJ5mNETXT3Y3iUeqWt3oMMa8j0HQyy/Rrwfp+hd0PUTX2WozOkzXX6TrEelpHEdHTcwWMnX/vHwEtGXGV9qCfJP\
+/uSqAN1nF9IoNzWqKKqdia3BbUmHkdKb6LIm0wJwF5vuk0WaQWPPXe7I++ip5TIsmXV/qswXIlZMCtrq+1rpqLFDP3/MWzsTxJk+VJoox9mOTFpiwwMY2i3DbQNMc0Iv1bU1TN3ub8bH\
+wnNTLS/MS//u4rdwzuTsqbvLl//EzrIfr+PK6/c6aBVYtsGKBZYzAKn95mT51O1jC1ldfxP/erxXfAcdupl99F+6olGDNryUqFG1BKdpin9K4hT4QMlYp8fIM/8DlcZ6vwY+UjhRFPl+\
+0KrgA9W0h0D132Gw3fabXhEDm8JprjyGiD6giTjdcfxk9pOAz0hxkn8dec2j2JLtB6o6atTuq7LorsscOO3/aHbl29+6x+3m33eFrds+XLk3K5n/K+Vx3NKJYaYZaJ8IR04sooR6k509\
+CHcBIMgazFewUQ9RYmP1LgRp72vGZkn6X8wtVc3gWb08ituwRgGbyObLHZc86U1Ulz0tVJc+LVSXPC1Ulz/NVJc9zDLijzs9WleJOVxH1XdqbNPbWUISWZvg9PHpMO2uWmlpgwQLztWS\
+y8c5361xXCjK7NR3mxZruhQs1Hmb+tAVWLLBsgaVuJU3/62nC9Jxdq0vdtFb5aBSfeabhPxX3Ypq+djfNN6C1f7qbN1GzW4+JfbZQ0MXHBV6A6V2SFyFVkVpQuDVeCt8gNySvQBcHgSO\
++UZjQXjYd6Da9ovQvIWtoF02g24x72R29K+oNuBxxMiP5TDeewd8LBuNe+An2XkmWm+zTE1gRZXhlSYkIP6PlNuAeEHVblAgYumVV8FpmdkUwd7qGqDi8BPoqGcHzPjrYMpfaFx0XLrU\
+vOoEhMXagRuwgeUKhlMsJ4pOtCaFhGgl/2pPJFTZXOiaYgOaV6ESt7y6W4tt0eqGI4ekVdEGNrJyMz2HjY7w3va+jCR2vvzLO0p0sDD3j0cdo5faaHfDaP/WE+JI+EZ+Oun32jjHdjdx\
+TUPGOhtvjLEYQgWqjXt5e0Nxek71fXINPeU7cFT7tVbLAoN0vNdmXx1mNKj7klM0Y/GuoPjownHoi7janRWksA8R4jwFivMcAcW/NTUeGu8o7kukYiV7uM3rMtEk2Jh0WGZOxTUNxTga\
+CUDUZipF/yVDkth6Kc62h8DAUIxpYuSEIulqK5ei0VIoZmYHK5rYrVKDiCwf11+nA/iqWP8yUhD8jKyqTxhWWZvUHCdbU7EgJwUgQh7X+MuIiE8NGg8zQ/UaqmQzimhkL99Bna+yzxHf\
+vGXWk4QulOLZ4GTbqMNmZ1fnCI1pY7obLjhZWuhENkW+X4qNyqxT3NEbY3idvQ2n0ssdQFld4ddFVHH+olmOogK4nEF6RrscRbrGXoyMO4XoGId9A09ljajIZhWlkWmUTalB+/pF5WdP\
+D8EoJ1jdKLyoBLJSPmi5pF20jLW8rG+DyhG6g8kJWSQl24mzbq7Z92m7bD9s/aW+rn8POEG2Xrf4MO/Uo1d9kiPg0Yu03qi37DSpnWKwoPtxbPrMLTMMJZRrMhUqB1dDgGXqhiHUbY5O\
+07Vr+hOlnBr1iZA3tOT+MdHGG9hAWKkWd7rIbfZfi40SX5QqqSn7XqrqBrVSVkC5XlWFYrEbHpMKq7nZz1eiEdmamajsz1WZceiIdt+uYFrpQ2JUWxZp0RC+20DT7RfLKgzSSNtO01jf\
+82WQMp2QM69iX6mYf70zgZT5CyNT4RCmJcV5t/BEVTnKQc+JidsrLwQU+hLJ5QpTVDYHPP7wAB+0yrttlvENJhA7SSglHC8KKD5V4II84iyVhwSCvjpS+Oj9rD4nTxY4DLIwC45EL8Sh\
+62/jDz//dwlvf8IefdxEor8oa9xH6VzMS4em7xEjKNbsJoU3UbFwgGkgP1a+auNm4v4mZZs6CTkeCBhfiAZrskaiLKOVuuLXyAT+kNoeWDqFQsGQolGgmRIVqs4zwHP5F4QJWi8IhVpD\
+CdawGhQ1WmMJDWDVyEtLjDet2wKj1zOoPrTvoMLW1VzoVSnd2IyzCblrAtDN0SdCe5JAdmAHCkbd4No5cnfaImJFlBwLw9+LYlD67zmmAAxqwbS9gmj3WRBUNJ/x5YcHOR+d0XsbiHt4\
+Z6Lg6Zs7xqHv6OTFoGpO5sQaV1cZQEwtWZmrIG9KJUno3EhMzO13VfXamSi+7k1EXnUjtXsotnKpq+xaRcNP0mC6YXdFnzcj4NwhFfoTm/7EHlRt9myesmmVW126J9eTqX2OQUhRxCUL\
+OmFFDxAc6E0/S7kb/XzUjL4xHB2NQbZxWDMHhCzD0NWoZ//PCQfB/PWl+j0q0P0Y1rhf/0aMjE+AQQ/z0AxDmAMDQn9N8QQOmh0aUBnnU9EQ1e0ziOaFGjWIWTaj9fac990gQmwHd3NB\
+kDE5vx+AEzD9i/tgNFiMup4XwrXzXjMLEIuKl1GSBa5cZJKIXswC2h0ZlwHRhHwybmhivV2Pi9qqhbsQnmf4Ul+QaJ8UlyTmI5Ta8qNa75caYlte0PKLlVS0PaXlFy0bLy1quN5NFWkX\
+Uyx10xu4xPtKaTL5ulhiEbkE6g6UbchYOT0CEmeMFHfJZihe2HA+xUrWw1q1LWMS+urZb/EItzUnU0jxGDSk7arRYsZK7iMcqNGlAQ1CjkHAYe3vco0sY62C6yDZyZrfpwSIfgw+4rr+\
+FoiXxc8UU5V9Obi+mb68lt1fStydK9vZ6+vZ0cnuylLo9n9yeKSXsxGrB7rAF3SKnCvYEXbBn6rzusGt53SJX87rDLucjyxws5W31C/n0JuikN0F3k3LSGGIA6Is7iRngbBq9iVISi/b\
+J5MDJomgN5tqiKEs5rKXvYwo14TblNhG8kbIKHL7LeRNtT403F5HXRY/q1cbTUkyO67GKL3XPUhmmSGmLdJRHFRPFZviLQH74iEJ+yT6iLNGEwRpknI21QjP8JU8kgolPxplUQNBv99w\
+n+pVsNArRJHQsqms5Ayq/VdB6iy16kM2zRmqMCAc/oZutChCqVkpngRkLTFsAchAEOWLCRQQpBKdKHG74k56e4JdycgAWLKunT/LQIkz+VIfAjF/oRawGsD/+U3GPSBJMj8gROiuYf4u\
+1mq6x+rTGBM53wgWXtoFGlojx6OBNvsrOEOoiwAGaEsLZoy+87y3pF9xntWuZqlLYHhYk2gGRmSyk6tyiaW6gNNR3mL2oC9hrpT6WoViwwLwFhGEAXQJ78o1r+h/tzV5y7OwJn3ETdcR\
+StyLXKp+R2c4cEj+hl7Eq57rD/+zpC3OBRenAjpNgVxArrQioG7JzJsSC9kVg3ChIgSeZWEf1UNCLA4erVuK6W/p3VnyLE9TcRPwJdfioJCrc9DMGTcbyn38yNZYpAr2SswtpKZe2tdh\
+uRZndqn5jyYuvRAQqusa6nyIUa74SCtbMgVBAV8eZDtsJBa/GLJuHd2GlpggH28dupTlFsKSaMMMh9qawk5HkwNK9ljZyZ2Kh7su5cERobe163Zu33WMtJboHvSWSbba6x8pJdI/Vleg\
+eFJiNycym7rlMbGAhnKWOuUnHiHtxtuwcTI4Rm0a3KcduU67dpny7TY3Ybcqz29Ruu00N2G2qfv1taiBtUOOlXev85JjGah0nJTvn03fQJsi73oG1yx5YB+yBtdseWEfsgdW1B9bd9sD\
+q2ANr3R5Y/eufStsSZfjppIZOunNuunPdSefsqbQrbdXfOpXavSM5m3qts2lZO77Ql34y0Pnr0nlNbzG88iBMIhzaQ0iiR1XtLx1LbTc3kq1srZTujP+t3kqRJm6SA9nXJ9lIP5xEdNx\
+GYRLqvi23WVg9jRl/ls7b3mx0zgzMRrfDqv9swnm5QYr16lxt/w4QnDMjBGpqOgYnAnMm5VZwruVtcHvLB+Gstad/0oyqQb8LOhawfngM1JtTyJxBYr1JDIfLKWTGeFAxUOIBwWM1CkN\
+JNhwTtclEj6pNNrpVbSIHjG57suixR4oz59zPdqt9wme61T7h092q1f5Ut2q1P9mtcgo5aGTVnmipWzXjK/aYU+Xsnz+FExFvTdmUYdFoYliE9rZ0NdXk1OBPaWnI+dPu06rQQenPqPR\
+WKTVWu5us/7AcE6tAClYP1CsqkPmkULc6o16xQ4Imic+Bo9FooOR9NB3vB14L8NNCOUC5bCrh7byrMHK5FkkmZMa5i8nPC8nPc64qKSa2w/AoG7xhyNtxtcyJGTTbZkkDHJXUcaFkAxq\
+V1KOhhMBJ/v1anrQ/TAMwBTZVKqkzREkjHpXUM6CkngEl9QwoqWdAST0DSurakJee5qFRz7elS8zgI6XGWtiEk0ULfpyADTrGBTdyUChpRKMSRzrC5+CiHOr9SK/Dej2u1zN6HdfrXWW\
+uyoiZYakj0tEM3WJz1ZYBE5c3RzoqiXVpmYEpuMCVxBdOfiLSWWFgA6boJRHtOQyslaLq9S1NrmN/gsCzq6WK1DBRoW2sJLawIQPziKdUkoBI3dI2xFMqSRykXnkL8ZRKEv6oT1oSRNs\
+ZWAmiOgPLkEiWJOrRAAOLEE2WxGtzh3wriHYyMId4SiWRY+7W2V+z6LNqgRULLFtgyQKLFliwwDzGf57WT6kxg3BC8mU3MtIoN4qkUS7HY8GgzLuS0bSfj4kljis0wcAgHwxLHFdonYG\
+dfDAsMa+0ygDxSisMlKl9BcWLJQYQUYcBBGViALoqOlciWQInTBgM34igRtRgseyaEFsK6clcVoEZC0xbYMoC67bbGxaYQNThqSz6P0+n199yNyHBVFaRYC6rqDaTVVSbzmKqGpOeff2\
+5/MYkIu4w9OMEwRB2/7jPebSSCDriFdoW4mB3enffkUjT+Q0/ycK1X2s5ZEM3mH46qfo4EMiwoDteMx2SBXRj3DnnzhcZOOv8Oic4sGNTtKNlgRkLzBVRWbFpjIkRTYj7XoxjbBy6/Oa\
+KNpqrjFUxPqijNV1kxGassxUuWWDFAqsWWLfAhgUmS7aFFpi2wDwDaSMm+8sCAzNvlehMLXq3UEwVltOFtXRhIv3OXKlFmjQSjpAmHmhOU6NU4g4O/rtQbIbv98rbEJ4lNgcHsVYbaxW\
+ekrVSa0p4tOILPFL9NI67kE1C5gl1yEuhDQzJETjlnuFoCBwNHkA46/H3CxVIPIcYLqosG/ESYKOP81AZuv8g2KJ2hNwZCoREVXVGV6tKh4j3Flq7VFXys1iNYiFI1WiPTH9VSdR0Ndo\
+rhLnKlImIXzXap8kANtiUnulfJY3s+9LIvjftdronnellZ5pbY/6cJwkVd7FtnJYmQrZZ09JkyOZyJTl7KLaG2oGpUNs9E6KTjaWSRt0pp6OJ+KlQLgh0IdN8I4ywu4Z7g5m/4bQT6pT\
+DX0+m/obz7qTm3b21ebcRl379O9P/bKYfUy/kj0OWlcSbWqrYKOo4rRW168tFHcJVOFpbutDpNl7edBDZoX1j5xcdafu5Ofkcb/iW1q2nidWqEqvG+yGH+9OvJ5EuMoqig8QB/6YgVqC\
+PvvHNH3Yaz7EPlvUuSwqrZv8guC+62Lcq+vvH8dYR+1Y1vQJMP+1Z/1Ue79LH/6nt8VAf30E7ndZb0wd/aZoefOObcvoovEaEiyM07i73BHZIfTsRjh3/qp2RZCIqdiLS45+eUlPllFV\
+Eq6sXKr0BZ5PCGXBbuTfYNNFl+yFnq/qlVdX0RFfTMaCcdLYqP0kDqhNNzdhW7lOUPuK8pRgPY4O25elifEB37iPOzxWjQ5ws/q3F6DADbyuy8zkzBuU65A5lgEkalplCTITmBewBe5S\
+DPLnWA/6YLO68QeZ7xHvgRFDxUBLvgZOOlDk/lBsdGwfjNYQAbZ2stc8t+WKJWBEAXyhx2444ny9xa484f16Khvmn1VJ0wC4DQfYD44VX8tHrICgZH89BZJFjoj/gQE4M1+1XL1Sq5Qp\
+6cIBrfr3HNR9xfgLRzvCJN3jgDwmY8kDaDlIT9lN7hqhxLp/wIXdL3w4066lf7r1VjgwWS+ksZ8/aI82Yxsgk8ZKmYSBhMRC0eHQJIXYxELRUrThKnNbc2WgE4pXjEK8chLRliI6n1Ak\
+zy92VmFmCiq6eflZcReBll4NYHShvD5TvvkvZ7vPKdY8p0z2iPDe2FKMHTYTZTE5+UoWuSQ6jmJSyiHKTlFhanZSEO7UllkwnJZZP28l1dZGX0pvBDlXk+OCCIb/JMmKk4iwcxLdFgNO\
+2tGx9c6XOKjRImH0fdQVpprohsa+R6racLBitN6cjPZezm0hOKdBUTneAyZw9i2b1wLaetaQia/fXrD34ZTnMHe+wWbtTzmfTmLZl3JFKGiGr6d3ESe8mUnFezz666PUAJPiRl1OQyNr\
+k8+t57cBKXtu9lmcSt+7qTnl9Eucma4M5pm/SZTOF/SXkZ0Psj8JT5oAGrhjeMhLI4ZTI7ohEAnFTkUAOMHlxJd1fmYPOZPhANWIRodGe9eBAkq3KzXgO4p3uN4dpFR6h5ThMa/AQoR7\
+C7PGBSCr02ys0XuSKRcnx8Wz7T5xDOfiXD09HOJVjHLsNJBJNczvQHGF2RpKALtZC64DESDhg4/MoTXRSMU6Oa9P32/g8vO5ogR1LxzU5qmLQSOPKwsCmrVZTjuJAyctdSm7OKzkaU3L\
+EZChSMhQrGRo552IlmePnXKw6xDqBlAQxTrCeEAMFy8nsF0GVOUDkyqJOCfrXwAY2ybRCm4S3Y69k/H6RXXkXRCXAu5L9cdK1vz6uGLkeQh64P/j5HV63JGqdyV+JC3sdTX54v14v6XX\
+KVWACAHr7uN6Ytr/M8S85FokVVKhY0OgoBRUQFlRAWFABYUEFhPRioTGdb0IA2YInbUXrGQU2LDCRVWDSAlMWmCYAEiEcchblkJOOnV5s898p0bOTbiJHVFniayY4B9qz7MV4PhpopY+\
+cydn2WGCKgMZUrlM0+Hn08ogzlaPjT0HIcZmB6VzkddbBtdrxmUI4/kEpcUCfKqHrADUMwVAH5IT0vApWQpbwljlI/NiAdJQujzdplRQaMx967et+/KfnlmdeTexyVhLIuI1r3/jf//z\
+Vr/zfH7zmPHHFuE82Jl7z2icnp2YWJ179ROz+x4Y/yVkSXXqBRrfQ5CRyAVJxNLle9tqNkGeiTD+wlTRXfthxxqP/gCRfknO9zOkJNZ1hmTMv8MNeTG++gH1SOaUFR0AuR1m8U8ByQAb\
+T35IBq7NNfmF2yAvjgfFvXLvmvHy8jOB+A+Pm7orbcM3AM081Jl4/MRFy6gyXQwEOjr/6URoE5/sui8FWweBgqVUW4mzErfOuIMu4oUMpzqoD0HAMGpcmKMkZKVNmqjCz5ukNP8Dis4J\
+sqBU7lVVi0k21kXkKKSCRiqAgjucOJ1euYhSqmGj7hbI0U6qXFMyokNcvUAC7XMauHWzVGUFFLkxkBT+5MJkVpJUasoLJ0iwq3EN0fYAzaDunnd/kNTxw1lngpeeyfFV++oBr3xphOaw\
+Wxlg6q4XzLLPVwl0sydXCBZbvauEelvryIiWydopJ1QDP7Gwjw96hBCz91Ucd9huVmysMzP1P3Fy2N5cYmPwYbi7amwsMTH3go+KXKzfnGFh590fFfVduTjMw/fMfFX9duTkpT77xo+K\
+gS7DPFgIErP7YR8WPl+As2wbgQxsfEcddgnNsHoAn/xI3l319fYmBhT/HzUXftlNe/wxuztubcwws/gFuztib0/Lk7+DmFMMex7JH4xdwc8J+aIMJxtJ7cHPds+2Um2/7iESulydXGJh\
+/+iMS4F7bKTd//CMSyF5uLjCw/o0liXcvX59jYOJrSxLgXj40zcDGXy1JlgBtp9T5+SURVkuPNhi9Vv5kSWTa8qE1BtaXlxxFFp53BpZ/b8lR3MKHGOMaa+9bchQVeTylznctOYq1TEq\
+TheglHkfuC3XpVmernuMiETDc8hrT//xRp/G+khifeWyFk9WXPDU5ip2Gz2mPDac3jgeeaSaZjePBZxrZq1Q2rWRDlavNBmcwexPMLOlOXG4M43BaRqq2cmPqtYuaT4vdNMqNSXsjrnA\
+gjB2cvxMpNs0O3v2ZrCPyaUU/S4QsuSOJY5PMys+T00nbi07yIt8dbN31WnezqYL86Kd/9Nt/xGgYOlxVJKUdCo0J2OXkw9/x4La1+qWPORxdRH/8MfxY0B9n/rr9xzem31z6SvuPP4M\
+fs/rjxN/rj/zTz8FbLcM/+Y2Zf8BPAefRuZ9oMK4virr4ek8U8vVCVOPrXVE3X89HPXwdi3r5OhJt4+tQ1MdXE23naz2q8zXUnJA4c2QFW3T3B9bzhr28+jFgfU7RdoNZlMnP4OY6w4g\
+4xsDi7+HmKsMFwnoGpn4VN5ezFusZWHknbi5mld4sMDAxjZvzDBdZlYSvv+5jok0SroN2etqc84RkE69VbCQkpMvEa8+Hv+0pEwKOQdbMRF43r40cjRzvNzkauoIECqoxsJqjwSuInVI\
+PA8swWCqwqRKNX0F83/sYWIDLe0F83+sMzCFWmi5Ux26U2RYWpebUafzqV2lOyw0TVWFY/jdS2kenOj698XocP0oI2fiE/LSLfkqhYomznibIZ4tvTH7l97jeNKqV4oFBVNbYZwioWlq\
+hUWv76dzzQU/vLf4jvV+GRV3r3sfl3jY6BSX3VuReDx2GkntfkHs1OhMl99blXtlUW/e+zvcak2jqgdZtbU4XHWI/KCnMdcppi23sIPIVguFlQmNJWeMnNz4mC4162DRVYpKuhIuecJQ\
+dqDCV12mezOs0T+R5mo84Gwjqo8iRtcjhWOQoW+SoWuSoWOTossgRWuSotXdGEEQRptXVt6DZgY4UY0rC6Tr6yB/gEaLjUmS7wRHln+ctIz2XuzGfbpo6ht3hOa1W7Da5QYb/HUoGu9X\
+scMSWf1EaKnOi9+blXtWUW/d+S+6Bof0gW6oNBp0RPwfMIMe/byzj2TPUm6C1W9GpfkC/aQaQYJ3zlNEJkU6HA8pBXrIM5IuYf5SsW/bHadf+OinmIgVEK6Sj4EDw967nX3VfLamkDXK\
+Mg+v3GsjM6dM+1sjQ0Xj5ax+TvBsIEc7hyCX271NxpnGpaTy4Zoj0mjc2Fl8hvZeYzCBV2nOdZ6KsfKQx/3XqYlezcYl4dWDA1++OPZzV6N9MM6bDbyN8Ks5yEnCTvQJ5SRPGSOedZwZ\
+Mhiqin19YgYQEScrxOn0Ip3IkloZTpg9rL2rqDLUa0bC/L84NIqI13cw9g8f+u+fmrjZc2fuRz9r4yAfP3bqkSaGfAoQBMMha702iOW5UAGFCvVGBz1y59DhlthinDMYp81RcxDjlOsY\
+pp+OUax8nTTS/1ThpS02R2gahwVOSLN03xY5x8tvHyZdxyvGI0TjlME4Fa2xWQBivJDe8S8e7WcnYDNNtNHX+a3dzxnWOeEqFBluBOWwcVJC8a1TrEde9SmQVbzsYPcdW4baqcFmuQoX\
+g466buapRa530MHoyjMgB4GIYcbyTNCLUGAyjkwyjKxwbOy4kYSXsMGak8q2GkU/m9K+PYcxgGDMyjJlbGkaHhULIRIdhhFHes+z7fiQ0J8SjdzzjX+VgfeFfeE0dTZ9+QP3/DUne9zi\
+NkSuxtxfU3bCNlWC7wdVjGvVFjwFDwFXIwpMfvpT6gaE63WrCHmvzu1/SR0K6xQ2xVURO8gTx2vIIgb4sb4AZmp8RDntFTad+Xm02g4C6qF7UQR6wmQyCd3wtcJ1xOGYF018LHPufq38\
+d/7le+39+8p/ndtzo/I9/vcnvzr+X/341H/I101FODw/++w2972v5GS3bntjr+zue+5WO5+z93+x4bq6jbNvzgZs8l9XrBzvuz2rZtj+n1w93PPfOjnJer79/k+cKel26yXNFvX6sY5w\
+721fS6yc63u+cD4u4n7pJf8t6/e96P3ed+ip6/Z96347nOzrqq+p1teO7nc916fXzHc/9Qgce2FZ88SbP1fT65Y7x6/xut17/puO5mY7nevT6dzfpb69e/7Gjvrd1tG+bXr/WUd/PdfS\
+rT6/XblLfdrtOCu3z1vlc3eJX4cb19dt57qivs30Ddnz0ufx1nhu0z3fU95aO8duhV3OTfuzU6359rnCd53bp9ehNntut19M3+a7R6+2F9nnrfC7S63jHuHQ+F+v1rpvUt0ev/0dH+6Y\
+7ntur1+/veO7NHeO8T6//Z0f7Ouvbr9cXdYxf53MH9Hr/TZ4b0uulju/+VAd+D+v1VR3PTXXgFV7w8W/Gx9XPco/tRunef+9Djz103wMve+SV995336OvePFLX3bpxRdf/uKHL774ocd\
+ecu9DD12++Nhjl3/k4sP30b+P3X/5kVc98gp6/tFHH3v00YsP/dADDz92GX/3Xbp88YcvvfgVDz146d7Lly/ddxHFe++999K9r7r3gcfk3wcu/dAjl19y8dKl++99lP699/JjD1x8FI8\
+/8MqL9116xcN48bGLl1+Gny4+/Nily488Qi3Amy+5fPHRi4+95MWXH3nw4sMv4boe/uGXJDXghj75GNEB+W/vtd3Xogqg8Fp8bZCu3rXctWu1KkF917Zfu9ZDQB6/D+wZvuaUr7mZLip\
+k+4euGbrWdxS5mm30V6K/QGrt1toL9Ne775oPeNcBubef/915lPt3+eiL0TO60qBdvPe+oy+5+NBD2jH8/vDFV168/IqHH3vgoUcevve+V9778Esu3vuSxx545OGXXXzZI5d/pIRuPVz\
+Cm6VXXX7gsYsE/tArHr14n3n0/kdeZU6MjIwkd+67fK/eSW7d++jLjLGFB1527w9fTEoPPXLvfUnh0Zfcf/G+Vzx00dDbx0dOjJwcuW3k1MjpkdGRsZEzx0eOHz9+4vjJ47cdP3X89PH\
+R42PHz5wYOXH8xIkTJ0/cduLUidMnRk+MnThzcuTk8ZMnTp48edvJUydPnxw9OXbyzG0jtx2/7cRtJ2+77bZTt52+bfS2sdvOnBo5dfzUiVMnT9126tSp06dGT42dOnN65PTx0ydOnzx\
+92+lTp0+fHj09dvrM6Mjo8dEToydHbxs9NXp6dHR0bPTM2MjY8bETYyfHbhs7NXZ6bHRsbOzMGWriGfr8Gar6DL12hm4ZQlBjZMiNkZkwRqfCHKURNw/c99DFkgGylMxzjDn0YnPkxeb\
+QJdx+5MHnGEJv/pFx3dB0YZpe9cDD973k3v+Xunfvbxs5EkX/96eA4WRDjEiKoh6WKcte2/HuzFnPjM/YyeT8NNoNRIIiIpJgCNCy4tF3v/XsrgZASc7k3Pu7OxuLAPrd1fWu6mo8iyZ\
+5Bi9hGfMFNNCLlsUye1RWaZVFcFjKajO+mgM8V9EeLPJlGQ3oDzRRUoPlCNuG7Z9kE2hqMoqg7viKen0TfRu9iv6yuoj2HkWDR+NlUUVpVK3TcRZRD998fv/65z3437BMF9mjST6dZus\
+ySqtomm7mVcSDucD2lkU0y8sKIekC1uIqevloPM/SNSBnHGdEA41wpBEPA0cpkButoie8dNAigmlEcBopREcXAtNRFa2H/UF/8Ogqh59pVc2zHvzs7e1PAc4u83E0ScfHw8Hx5OhwMN0\
+7vJg+KosN4IAyejY8Sgf7R9nhMH26dzHIAL4OD4fH04u9g4Nn48n+02eHFwhk2dHhcXY8zJ4eHWVPB8PjQTqYXBwfXYxnRT7OnmSfV/n6BhYpX5URzbQcRYhE8iUsGMyL5/Hr45GA/Ih\
+3DtbHzYF2BFcx6kTFNIoEIyVRR37ht1GUjKJxuowui6hY8k/qPBvJYuI6Yv3sM+A4PMlRp9+HLVituIWIh1y6Q7qaQxuPXu5gxZfPH0+KcXWzyqJZtZi/ePQc/0RQ4vI0zpYxvoDRwp9\
+FVqXQVLoGjHgab6pp7zjW10sAi9P4U55dr4p1FUfjAsB3CcWu80k1O51kn2AAPXroRvkS0Gg675WA5bPTPdfIrKpWvezvm/zTafyGG+h9yMYbwEI3vffFPB/fmJYnGcFer1yPoz8g/P3\
+hBNbjBgCB3pSzdHh41Pu0Khevn/6t+Onq3V9uNuN3nwY3n348mmSz1dH//q/3H777X29e731+/+zt9B/fn2IDY9jPKmjhT9Ob3f9ztJfNnq6udzbfPbv5P//72d+///b1XxYHk8Xyw8W\
+P199ffLv33fz7nevTP9QW5BKwLUBnsTbj/rSpZpfpnNApFq9yAN4XryI4qV2YQLaKLm7o7/Nd/vToOU3rxaMR0qXoyyPY0GJerHuIQxcZwtXlrDqB171evrwaRU8Ae57AQ1lMK3gC7Af\
+/4YtpChQT3gC+w8c14F94uri4wKd5vsQnwHr4tEpX2Roep9MpPi6La37YvzjG54s10I0ZvJo8y465CL/qZZNLbGYvPZheUKf6gsc0BZyCLQ3xP+oIKCydjieTyYRKFOMNHKUng4vDp5M\
+BT2s2gBcHR0cHE2pktofFD4+ALNDjEGf57NnBEbU428dJ4YGlcc0O8Gt6CHSKHg+x7cEzGfXsCB6BiuwdU+ezp7gEx4PBcMo9L9JVr5hO/UrgC9gqLDYeD6apvptlc5zERXrxlOeNL/G\
+Aw0ugW/pmus5w/oeTo4unmb4kBI1dTI7HQ1d5ka5xM5/t7V8Mjnk0cCqhdv/p4TpbYDGAg80CxnIkz8sMV3Kw+swfJxk/PLp99O+LbJKnCN9ZtoxSoCMdWHnE4r0QmCbQa0JARuA2Alr\
+Q6RM08Ns68GH5E3qv0Dcd4H8GAC8m+J8FwGcp/mdgEOiygcFnz55ZGAQG4Nne2IPhQbo/5c10YLg33E8ZqEMwPE4vZKPlxeQY/zOQOEyHk/29EBKBdzg+yCwwQjsH02OdJ4Hjs2fpZHr\
+kwDE7eAo75cBx/3A8fHrhwDEdH2XpoQPH8XSSDQ4cOAIwHjAkETgCaBwKdD4lUD7cg9FI3x4g/bJ4mNxPDw7HBzWYPJzA8h7XYNLvkgHLp5Nnk/GwAZaHFxeDwxpYjrP9dI+O560HLwN\
+TwJqnJXQEPGVm4Cn64uECGDcLFAcT/M8AhaAiAQrYFNtVOySHvf6zYO6HmB3gf3aUHphllAKsMsrxeEyj3P0mup6BLALEHjngFOSSiISQks7PBrinir6nWOa66NJgr2dArvOSGGsk+FA\
+aicEMxkXfV8DpZOtl9M2uW3FqdMKzA0hFVv6TXXBPNNwJfZMuP6Xlx+xz5Q9p+E4mG77k+YbveNbhOzm2/NKdWv+oh7b+Ro5o2FjbOzmU3wLZc6RPj2VYEk9m7c2w8Wa/8eag8eaw8ea\
+o8eZp8KZ+XP1s3WkNX/FhDd/xWQ378cf1P9fpjX0r59WvS3Big+W6hf/1q9HoIgP4ybr0O50CbMHPSVHBvyjjwp90vC7KUp5vutGTeXaJUgiy5PB2mV13gQfuwxZHL6JvsKH0sk8Dkd/\
+AY8Iv5kD7aXkF7OeXyAJtL538bYNnFnk4Hliz1QlhDipv14OO2jfw5aL43Cvzf4BwPoLfazhtPXgFn4mZxQ6Bl4QCGfLP83FnPE8Xq87eweozNH746TraiY77R/g0hH+T6JvoU7ru9Hr\
+/KIpFN9pLEmINi/kcoBvEp+VlD9jrUXQw+DSDTi6KyQ10Aut8mcO+AlaVUkCrkTRHe/hP/5iotEyC24fzCE2j4HS5LjbLib5nTHTC456mi3x+A9z+DbCFi94m70bxhwywQ/Sn72L4/cf\
+sb+mfN9GHdFnC46s18NbAScJTD2SqHAgJnlKAL9z8UbTX3z/EhdkLl2Wvf8BcRa0wUAM3L6w2rFWjOr7EIILmcbZQdD8s2n8WlKXlwPJDKd+/mBfjq9E0X5dVbzzL55OImuAKvOA4hJV\
+Z6v6QG7l9hNxONwJkr53qqm3y3qJYFuUK6H24WNH38B5WDGSNspinAOXxu/wCGXaUoeSjq3sSzmVIYwY0n4LAubwE0e8zou7lHyqQnfIJS/OE4XN9ny8jlJAQe/M4r2d5BeLKijgReNW\
+7Xqerk6gAyXc6L67pEVD68oYaOlEZovcpL/OLfA5iEXzdVAV/AZzdY61YmY9lnPg1Gg5kQ5gMfQGBsQQRECpP5xmwiviv9MUDSAFPQFsAbIBmL0CMRZg4iS5T2oE9bu0JSSe42lAdAAH\
++o97gC83y/m6kPYGLcHWlD2ppnl5kc9teviQg5WaDwY5JbSJNMyQCxMHCKEAP4ci7hvPlaoN4heRSB6BatAavCGRP0ouCauicYTUGg9/XDjVS1KR9Qv3NskS25Uu0Ksoc4Qz26AKgb1P\
+BAss49pB/dycQHxQiRtEsn0yyJXQ4z1eAJbA47HdWdQ4Hv4c+A4gC9AnrDL2eca1zu4aEbR/nC5TX0yVi0n46T9cLQqaIQEfRPiwVDA2A2SIrj9oOCKs99bt3LWN+OsDFwsOB3A/KsiU\
+CPQhH64eChWCR/iFvYesmOyRAmItQD6/yxaaqCpSms3k2Bir2ZFysciI8dVBg4JB1F9goNwto+aaltGtacAyuPZzMvKrN/wilkwfheRRC8IOs+LC24sj9uM+9dTrJkfFRuPY7sceLdcT\
+vx8BdYterIseFcqMezRCOcIOb9IZln8SXhV1KL+a0aMFMiDX0YyLVBLLT5Syb+K5FOQPNjYhbY5RF6AK1+MQ11sGLCkLLUgDZJgBsXhTYFdrL5sL/f7DMipxKaIHW02PAvYHDOAJUTPT\
+TMQJtr2WwCl+L9HNnj7iFLsEabsUTJiBfWqCr/aA/KZH0fNlOQR62AvNsWun4+6xbaKwNv22sNAwlwBH7dRyh3MbecQM37zcwruEOniyRwBrsQdxCDcseNjksQsZY/++brCTCHp5rZIf\
+aO20eah1GH01X9W152nroBQ+mIF/CDqCSD3BiuiTESJzOCLdyPGMuAXWjwFCwhIgqXdQPF9ck8D0ZrzeLi/JryXdIEQl0CXEb9Lkv6DPgW7nkod18BAvlaC3w0NSSbdCAiyZDD5BnQBp\
+tzwMZpG68VO7TX0eegL+HxhZNNMKjsRXnWfop84ykTOOAm1c5mnAjk0XUAGjlq4tJg2re2sZBGCpDFHBkVrfWGQoKfYaELyoY86hZBMZhm+/0KyzBJ9UX0xNvT24AhH45UHlYoljFNfv\
+LsJqjo+2L6WqD7HZF/6Bo5ptgeWjbXvSBA4HdjfrArFRo/Gis6aNHIiS2MHpy1GGDqhzEtx4BOKBM4GrmGS71Z8VWzI0plturDQcb81huGwDNNiAnmAotlEHww3a5zUHzQFFlE4XXBS2\
+UylRQnvAa1YgsDBiJbDD+nmUag04OGghJabdS6Vk2XxHjV17BYFHapx/+nDpOYl1cIofAUloO8j/hQaghT/nU/xaItEIK859mfqoIaK4gU8Vg2KKWAyDMp/8K9NciFfSHTcrjENB1sZl\
+PgjM+ZDK/hczKSFux3fFxHdsdujERWlFOtY2/DNvQjT/4erXCww5IHdwNI0RjFm4b6dtHIGcrxBB9/HkDpG0+JxqH9uvi2utCUR4uo3WBB68E9on0mzmK7sWaKlT5gsTN6CKj7/Tuuog\
+IlZRR56/w8Nekq1SzhPGjqu06r2awfcsbsa7CQN7OS6qO1jRUnoIQCSNBZCPUmHWuXkRxGliulFLFGye2g+z3iRpc9Ike03wtPF6u84lCGhMBfNMDQITvwK2xtaZExLVEdm/QjfamDNj\
+c1guQWMbCo2zbItTCJtv4sbpsdnhYZ0cBJbSdn0m+5p5HEY8Sz2q+XLapC+zBGdQb59kLuZMW+qw6C05QrSIWdqW8tMvKDS8qrzNYSHQdqJsBUL/9BEHHdIZkYeYQ7qeZOa+oTONiqG9\
+8skhRp2TL0nuk1mwYgGEC0X0CNC6Q3IGfHF/dnESsmjqJ/gEHb4IzHHpWypEZQTHbDmV7j4JL7VQOgqmMVOkSRVRnC35s7K9RMAxqDTpkrU3CvIv5wxtubLLr6YjBwrWrJ2hrjcF9Rwj\
++dITVzEB87UaoBoFj1X96iCerUQq1hPB9+JRKmSJ4FkG+myJ2DLsk35nmkQ0n0UcU9eVrB/t0iMMY1oZx3xhIxmxU2986LD4XMjiyEOxFu9F+cyMs+gl2wRSV49V1oBGeubt20gKx1/V\
+zq4pqTH07vvCAOognwSoqVgCton4VJF8pOVI6cZVlK3ybr4n2IP6WxkeztOw8wepn2NB50kBAwUlgIZSHiZMIBfghGRT26KgHu4HuICV30ILg7MrsM/YBslqlrDARVA/QNE9XZUYHjX5\
+BMSB6X2juyhMjJ98quPaXm0Wt7JqNRFQY4DJP4S+UAoZjPIqg9808XeOL0ijzHHlGCjiX8ws4LK/QpDdkdsbzJoYdNxMos1W6TqvMa5FW6VjYZRU1+uiVWVzb1vfYZOCFkRnao/gnYsm\
+A6T4MdLmCabGdZLsgsUWpwl2A/Flc17qpfxyTZaqhpTDlgD7WB3tSB2w3PfISmz2M5Bzcz+85UrRF+1NfFi7eQsn2DsN9IPtXtT6bpFXay8+t4OBUkLoAy3Yg3KpAvxMwHaAd1Pmcg6b\
+QRfJQcyVZ9rVLeXgnlQ52h6bjKh6ZeVbBtinj4heTu90TRlHfrsX0MKzPR8kXUpTmKCoPUCrLs2GuPl0zQCAhao3oo4W4XS3TpgLTBrzlZH/w+zo40OdWzi0sdr2tmCCcJQDQTF0mAVd\
+7zRmy8n9Qdwrm5deb5WUJ70lvhmiKX5foOYkYqw8ErlhOCKlQ2Zqqrl9Jif6GTPTGPq4f5vyBjOV1BcrAweNTMi1YFVBvv3+ILy1krbNVlla0aTBWgOlL5OdBYu04TUQCWOYQiYpy/zD\
+oBN9Ex6vPSWAHEppq50A+Ba2T4C//b85ivzELVLzQ3Kp1uizZRZ2mtjdg/bduF5r/mS3OlpOEf0EP8ou8DeQ3+lInNb0CjgaQWm1UMoZBNDz8fTcyI0XeEPu+nhXSv/dfcOBTV8xsLua\
+emumhgJng/47IfmHpGbvxkSNCeK53o2HSQgGlwYA86Fd79u3eBQ1vRyWB9qwdybieFvcMxSAji+FVBXMPeRGtS0hbak3DnuAY1hSG0VuQg6Nrdj0P9Nes1K5vypCgt2nmOHDqM1WytI6\
+DoOJinWdTZT346a4Bzop1/g+0z8971UWoGtw7bJi+jwOVe8uoQ7WfmLNrgxQG3tDCeqH+tJhPSi5aY3vWi3S+rbgQCmc6YEWQ/CsrpogbWV60YcAG3QSqma5XpQA/LlISoedxWlbb6AF\
+/hFFus54re4JnYDuE2LV+2ubx0soGPkRpnKg/CE/zD0yBRrQYmxVwD0C+5lNckTTCmBxUfbHyCWM4GEnTC0Y2XfoNUoJWDIoz5s4rWrY2Ry6y25K7yCiK45PWFWOcLqq/lFR/ugyHyLg\
+7xgYWZYXRVjWPrexzOkYvs+vsAoMvthYhqqRjROygrjx2tG77yE2iRn7vorptW1EnW3tItrjhGk28kxRi02zafljb7IFnG5c3ra1jNSYdgdo2bH3oWydvQNs4v1C/vQ27BdoC/EI7D91\
+cwm7U+0vVjk2/jxAjDcQsf8+w6qR4K6uwt384yS67lh2jLroh+z1keppwz/fM9w4mXkbZh8O0rsrG/gCAtqFep21l04DzOxn4haC4m9IMikcZvq4bMe/qy5ginEUCGkWfUjtzetZZ1E1\
+rhJUUqwh3HCApwiLsY/lAPEFHmJCEQtVxKHHrs5IKgLChWy59aBO0+Ihtc1QIYFHXKERW+78dWcFSECt5DxBhsYz4Q/yFAXpfGtt3ssXGpfU52s/r+wcnD27Cq1mUkfDWxL366h8+Nas\
+vDzIEHvhvbwtdhKOdKJiWg44acNRhw0BGODJzZu6lZ+QJt2XBwl1TD+WWTrxAtSrmN5fFsgOIaAgyAvwTDUjDHA2P4fnpMT2jjosLPIUC8FVePdUy+MTVnmoz/GrAZaAxUlsTPUwv0XS\
+6RT/Vpk+wYL/Fbv5/zQ7ojNsNB+MWvxyZXh+xZKDVrJstuSZLVjlwzflYq+qRbLWKt3r9tLmjf53Z+eS+kQb+P7+ZS4IhZstJq2/RtnGwoY32bIvOycKIkH1VNO1v9b31ok5NtbpNaIk\
+k6iWtHLWJKNwY3f2jEuN507nKACP0m8YRT9fFwuh0qoLZXuT1CxKrFqzDgeKkDuXv17AWLDJwgMIWwuWplFNtrJ09wpgmrA/L3VwZFWGmzNr7yIuCRtLneXxpEs2gzDJFc8na631rgnu\
+9xjxwCKFRDGmgCPzbB7rHTJpppH+Rwedy2wAXUVAYvZvg5Ij0V/+yZQbqzKDlKXtCyFzV3EabbNc+D5xIyj/PlPyTxOzkHhfo7QiVNFkA7iDHrAsU1DoHyNcmFlZ+O5YQKfy+o34/3n8\
+Qd9V0/xCfFbGxbKE6dfcmN/CdmhpBNdYaN0JfgWFepzdNZM/CmPVHkyChVqzO3qj1Q7Pd8fUeA8lv3LdwzGQ6eABRaanYyhP9Mjx8fRSfNN5Eu8QvBXqPmm2gfqgGrf4VitzHBSp20C4\
+NI0e/GwyJINsgo/Y/aIQjebOiBFJRtXSJRgjUe3BEJBthYVLUFAd68RRZl0tIMgk0GhLAGHqzaRRi/S0IEuHLMNwh7LrdzT0sJtq9B7TsN0xqAl3vNt/KMdgC4hEg3DkuH0eddN0jhzr\
+pE+mD/OO0KEzRquY0HdrdtZTzFei2vL/XreEhPgsNv4lG161uCmgHV9dRXTYYo39zF7C0OiD6PRjPizJr8WHdcva3GsK4f1aTJr7hatJmlduvWU61dD8l94kWTWy7n6gqWdGTgJzTSKt\
+IgWjoYo7GefaZaKMR1nvhHjezmh231U2Ietpi+T7hHEC9NTKCa6Ieq/wzjoSxuMQ33IGKLMe2jWxp5IiMsges5rIqHbQ/uTPoqq2f7X697T08EtSwhRS2KpS3CXnbJmnckpFQJNsNAvd\
+6B3r/iO0zfZC4U5f7VGzQOKOvENSwmoiG7QLgVb5sBCNZR4HAzN8mnOiZIWfmlHyAniCSMrqPAdux6W1/vj2QxhUiV476TgIaCbilY44a0qPPracm8HCvHojW1xgCZ5pjnW3DcYLsIuR\
+6Yps1TT1Tb2fjIz+sD6S/KHyYka4ae1C0gm57gI1vjg9DyN21SY0HrQHHvq11bYn+hX4jraY+6hWp6/bYXGhFqh00vTaOgoUFyL26C2C19yO/LjWYFxj7/xWPa4csS9nG0WoxpDNarhW\
+sfBQpmr1Q4p9CT2Wk3nHh0ZWPfWQiyD8sfDFphg9tIXxtvu4tJmyJjb63575oZ9o9zGp1ndvXw3asxXq83V9sO8L3xr7miLY5D5qSwsAEuwFbhzoc3KmShQDMdnJNUZMaBScemd0oS8c\
+zVgmB1CDaIlb9QOcX6Pt/kc1ydtiHSmxeJp+eeb6QVWtyuvL1N0S9PwRetKMmEDTftsDgwA90wk50OLvzNjEvrap1xxVJojiK748+Pz5s9YYjrxSK1N+GVVysbruioB6p2yMs/S8wvpR\
+fyUvVlZrWInFzR1t3m66+3gbl44f6TGV7jD7u5il/43rRJPv5cqtem+Ou8tX2hfjtdoDhYS2ASoOldf6t+9aIaiKQLKrsIXRT2Tp2rq6zLzagi8mii9vm8j7Mv8VZlYts5jwOFnf3amG\
+zQ5mZdb6a56Uj4yxg3cFBqjN5M7Srbe7BVNSlh5rYOpMtUitn8HloIgamf80cHbLC24e6LbJ4372zTMsWOlxfUDOBed6cw33JQEz1vObH/5uVez4xkjHnPsiP4mSLmXQvHLEznf1f8qh\
+w/VAGKPfU0MF7TYKTnZW9CJKl1Bp4kCnYegBOOV/cb473PN4S7o59XGU3YQTSviTLeULr8/B0JUEUJ9f9pwJAZUAPJOnBelPVf3WynK1REdSbZtCx4+CQ+a+Jwb7T12a4jdbcFSF7qOb\
+IAvMprGaFuoLTM4YIsWK768M/5SeuyXKc+WBQTd0gFk0OBp4UwNZeZeTsl68nYqoUoMacu4uihDGlGJqKWrls7VvmYCkMTcKY1RTT+7WEyJJIThkgNDVgAat8g1mAKRMGhqaWNqVUS15\
+EI/QfIFgn3cZnH3ZEIUtfJAjRmnz7BkA1AifywN2WMoKV4AghgEfKVZZN8C+lS+lyGGUfLbjwm7MadDGCnAh/NwoyK7ByFWloYr5oQoemWntLyOYDIxftgqDWen//EwztKU06aY25pPZ\
+ZMve0hL+4dB2taeH2TCKOFgWIr+/SXgShddu5iihqS03RA3kmLzUgy4yozfIfRZKpSZDoYRvf48t5NGeoaaDNGm4NuK8Dz76HHpf7Jkgv1q4D2x45+8CdbybYopLlbE0Gp2f10T9zSjU\
+b0VhLcTNoT6h32JJSqInNW6ZE6KglejDIZjM8rOt126MyKDXLProhmeiLBAl5tMvyO4HosugxiwFobIwCeb01U7trs748RY8mRu9f16AhE9vHxgywa+tBw+JkHrUx1RpqX/ilj/p0IDE\
+4uTOM86DvDxNlrTB8g5N+bHt7NeJcVuusGs/qgHfU7q/TCmX1EytntpnOYtCO2y6LxrHmIeL9GyYNW2OAmgHXBoyipyk69eDvkpIrIGWriuIO2lUnTg3U1szLIy0Rp07U7N9XeAeFx8J\
+7wwVvSzMz6LP+4cpDQD3Sk7EdUCEkuF1OeSLWVrSA1clT14BROcsygN8nAJLXGdrFm59Wm1U+byVpjeRJ1lPUHHNfQSKfm/kbNBg1aov4rhvuTDdWwrVi6KEsZVvqBk34tsUy3h7bCmL\
+F2BbrL+8rcJmu2ldNDazdSHXNXbGVR5xotItmjwWGnH3h+xt6mDgT40XST0XOBvjZsMs5SLkAWZbtd5K/aSMleNwbp+kTKgBxg/0TDqB0RnsDB/QBAGEG0M85JpuTQj9uukIDy47oygd\
+UmipnSsmjK6g3YZYxVzV5qclUTPITCYF3S2D3dX9hQlJZOl8s7hbXCbkyMEiTovV8oAAFHURHCk5hCzVNvw/Jl2ImSawyVgO3XOgpeEV7QOtVd2DB/ABkrd+sl5qCLSXdAkFPQZFEmUS\
+PRm43xWCxDWyap5mnTjM9XBhKjydoYOtIfBPj3CHj5ns00EFaTl9KFtO0O0IELJl1m6kWFDtFlOsj9Fs4ao65VomUMS3r4RCGjutAx+VrbolYqiMkL5UuFl8XgSqqjgGHXB7DCHq4ikn\
+AGdQ/RvDzt2tnPcxosoTQRFL/TmHZ4ZvrcN/UsPusrXrNpUmX7Nghaipc80tqvBW/pBavoVrJ0MlGUX5bycDPZhskGyTSUp0zgTdmYMJgWr5pcJT7xP42W7yDWlaIs6HX33p/64cugIT\
+X/MZoma+2SNzh4NGIHG8ftLFC1QGiNQuTELCuYXe2cje3j57vyuU2z3flmiGkiXLpULbGH3tRPjmNKdt03H5PzmwPyk3yT1QQ2bM4An4E79+Bma/iCF0BeqQYO43/TJ95x6EWvX3xnPV\
+YeAvSaTyeZeOri+JzTM1BSegWK2QN6vF8l6s/oBn0oIZm8A/dA6Z3Mn1FE39LP6XQxP+CP8BMkwf8V9Qmfzuo7hK40AvfwC6sH/xZcWF0OHSr9Hx3pftDO7Is+JqkF1B6DLipxNbT9SJ\
++QWng8jFQ04xVYpjrbbOMMN9RyY/IjsPwuYV+9LP4j5IwgFdlbJacrk1T+WDGB+Kd8qXk8nmO1PdFNXi+Sz+68mJVf3GhL4ii87uxfyfBthJ2QK6rXbm3revubcOaFKsrCj7xHerjkjz\
+fdQuh68b3BMbhqugyfjTTJ7vNOMWs8OoNCxNNBbiLCHk05CLdXSAUJoGXQTwnDgE7u57dxDAIfH7R5z1apDl/w4xdBsr1bADrhldOLVN+ZMkiPB8/0xrDOPR1/glgaQXIpsoMREATpl1\
+YrjuO3AdUr2K/IsIwePKDnA7chDiiM34afyzU42NdRZ1v4bwlYYO2QPzi13+bVyfPd7m9u3pBXOg6+XGpZ5BwZNRBTidiL86wt9dY7QV1Qmsvm4sHEM4TfpVNeMgYAJNWs7ZBwIfrdA2\
+CL+u02gbyH1wENr05DvkWyVD+7fJhS4KcRX3d0WbTebuctC86fI2p+V8f0j5ie9f+K50rs3sqiHTItKC9SSZyWKl0XgLCeg8tmJ4kDTi2TXrlGqThKzyrWAshruD78D6l8w0MYNA/jF9\
+klI+AIuo5ncfzXS7VKL6nhe8pN4wl03w2kQpDqVJurXOgbR/cW/RYix63FN3lnuGXRf3rdHmZ8Q6w1j1GLQ0sQOyWIibaiZMMVvAN7RAt3abCBhnTZGtoDkDUtQfAzgXqpAP1rooLUFD\
+dlG2I5IVFY2nl8JhBb6h0c+8ZvXEPmsi7Rp8UF+XTO1DRzyQjT3F+fgCoD2sfJHd+B3yjisyM4wE4iOwdrsqbYnXDdiAijnw+TDuytMEKEzMlK/jih3SRBWv34o/AmQSrpgtDKh+aueh\
+8mK1aZLVzLgwC3fw4fKGPQP+H0pggHlIvxaaDRaqrzbOD1tcbQzTYRxxGpT+0Ivtn43rjPN1rgjp9KUtg+melU4z6AfJcI6DmnV9nlwQgbfMacYJ1zHGKcYmkQVHyrzGJ+n4sp+E56yA\
+YY9IqPt+lVy9qO7SZcyGyfOPazHNgynTEaC1BGz5Wz1/w9Z/AgeUt5aSIWPyKZVuxFZE/Kgf0/irC57ZyKHlQDKwWpvtgt5UEwVnKwa+tpWh6VCojhESldjfISU6yKs3nJR9i9KPxECC\
+eKgS1pfJUEjYEMCtfYRVfUFuwqtwWI7qx4DwLv8jMhfv8nlk0GB0ArDwQ8P4G2JFmunpUM7rtV/VvPIEASnCB60CybQqkzqtzTCnhn9mQ2XGkl/ELertlKhHpyh48oQ8miYzBPIyjiPU\
+s45ZhC5Tb0YuQV0OzqnQjQjJnAHrNOkjn5zlieWpSsD7YMQfUoDd68yW54vuZVy89RH4Le+Bqo+AAoPgy+tnVoWP8SdvCJ2hvYRp4zYItixXS/ZisI8qbzNDQfEneA2XBLqw5AX/JCam\
+v8zKjLrmPmY6IC+HAltrfLq3DFhgQoXn7JoXoyLSiyBItEbGjEWh6j1/8F/wLEsPVxeTFvz05Pnx2ADwhPmCubXr7Hm0jfyyul/JemNCuqTNsrfOnlbxF3lmKI6POb+XFW+SZzDPxeVI\
+PGcNS3u/IOxLT8FdPXhCTn/8jk3ID89qFFU5hp+X71HwPxVwdUDnWiaI4ZS/lIBlAgsvphoPofpF6nuFtjAD69BqYv4h8YgAt4Oj4Ky5bmV8uVdCuk+RVdpfkROwBXfyIKsa4xuWhEBk\
+LFsSs8TEJksVyfqMarQbrc51igAMVvotLgXMyz7xcgNug97UL0paLTCjnLt5kDNSbBluZsg/hh8YF4HygJbYvecftL9IrOeFkyHtA91L9Ib2zJSXofKWo3kKR+A6F9hZEMYG7UDM7F4g\
+vZIj0VpsHjYowpx2Ug2aiP9liVd2IicKlTyAbtYysWJ5EnMY+ovQ0rhCL1NCPjsubR7YynbuoVKiRdYY8NHkhHhOyTQPFUVScQ1+0HaTAMNQdUNSLn9c5HI4lavBYL2MvxRYNzcgqXGg\
+7zK05rCgBCbEQvyk9y3jyFCZGdkcqvwAu7/+ybUsZa7Ru54msP9YQCx4lq8gVGQXmOCIkREAkayltEQywH70m1VbOY3JIqDQrN83hrM0w7YKQSWqaoB/116I9pJwYaKfq4lKmUOtzhll\
+Q5xnew1DXtvFOoD+cVdFlJW+bWL4IMav+SdRKs/0XjgPKl6i3KpYYBoOYEnmrfdzUtfDHeYmWGEQvu/CuVjsl0ohY6JpBoFa7LDZrFj995Y9202vlUU8VFP7RLWatJN8fYQob3lK1eJ3\
+pZsk0uYOucPGmRAhYw2rFJ492d6M/0vpVCueq4cRF7kc/iMqOwJFXMVXwHfH26bqjVhRVfsV06qHM7b60Tpvff4T99uD/3Ify0bhYliiYR6cUBROdAqtejDdoDO1fZtXbeYY/X998N+l\
+QkMjJo0duYoQ1fpzyB7lLfuncMk6hVf7Ux67esDmuX65AHu7EvyzjBC+PRW1uhyr0V8UKlur09DSK8SZSuzRxtMPD24GfyBShshOZInF7JBmT2ltnZH6lFvGucjdY6iinJO436P6RT6P\
+O47xMWIKJMHbl7XpdrDv4/YQuAcW5kGr8xynMhk4mLA/+lVnsnkW/VL+sz3d2kz4cMjjYHSyPpfAvLhasOMIcBpwSNedIdg47Apy3Ju10B6AMGOuSzEtLiVHqRu8iyjX03mmSX6suuRt\
+9dHLmG1IqJ/4CknFKOmbsGvX7DhT07hI4aF3BdL9D8ME6pMlRgki4RQdkIqX45HBH/25zU+LW9GXB/uu7H/74AZYLwQGvNhtFZ3F83o3mkxx/rpf4sCg+0cMaH9LJhB/oqdxcmKe/LVb\
+49A5/X2R/5y/8hEy/f+KO+AkBEdbAVVxnbhTV+sa9BviRR/rCFx5DG/gE/LP7TXgTfr+h4VX2gXyXuBh0ihem4uNHBN9/71PYxHqzqjoJFsavPFH8/JHWzpcB4KRSgE8uqdB7LKWbQN+\
+gh9XFZn7Fn6kVfPxJy/yOGwAI8Q0guHzKpOlJFjTO314tJ3/MGv2kadpS8BXKQq8mn1LgUqTNlK+VdiNKbZHfuebwbb6l2He6BvnF/EZnQbc6YwUaAT19zNaLfEkX6krndC78OAFfvcc\
+3bhaoxMizMiihy5VN3vPXjls2mOQkKPuK39mC2OxmGawxFPzTMm0WjWBXMXmPlstLnYHbbHYqDGdAr1xfdO16MH54wbXHfu1fuzWVT+usZKB/zWCEt7ryFzYr+Vp5+ZreaI9j2qrlpS8\
+Bnf5AGOln/iIN2cV97QcfrBQNScHjvo3vRvD/m2VemdnJ9HzVji/z6PZEcM6P79/+9OqHPyLWiWBjdv97fTboPT3/3S5gU3zsvfxlsoNP7/DpiTy8tw+v7cNH+/DGP0S3JyEN9dyLsCo\
+yIEbYSAPPzp0BUB9FRyVP5FCGPy1lhZdAV4n2dIkIWvJKyQtOGdH2oaMfr5fAEwEtqW64ytngPIlecoEzfXMO/4tGQFvwwhVHeU6ZwGHAKJzXPU+SqZPHQIuxQvRv/0a99ufZ8hIILtJ\
+obULewf4si4hQKBJrGrNrzJUl20NHn7vRVYK0UrbvDLs4uzo/B36hrLRQkmxrWkj9F5rCKNKJdpnYjuiPn+rI/eIVHTFzcRswCbgx73gnO7zkqOnpeLYGSaSyPY49Tbio7s+1riqUEdd\
+jZvr5NXEHgPjH880EjgoxCrBbO9dn+HaSfZadT2Cue+duZyIMiT2hbpB1ucbtJF6pz8AWJwp1/dWmnHXQ7YqRC3XeifkxThDkNhUrr/lLsUz5QEIbtwn3keGFZ7WOBI6hlEK06YpxAcx\
+iiCRdXOKlA368p3XRfCbu0jVpmzae2vVrEbSDJ4gLy7FhD+6EytwqDGqrAsIvMN1mzBIX7SLdB7EsVAGbIFzAUSd+iLCfBJ1jd8DyCDA5vp3OC2mou7BP/rZ2bnWZeRiTmjBQ4u6woj3\
+d0Mcp9kE5SkoHEVTMQD0Uex4NAG6gM1gerKDwfZZW5+ZAW/AG2gFtrbi/6xnKhR2BmrPVeV+uTXhxGg0AmmAcjW9mBCtsuiFRNKWykYTXk/tDsUBxouxHP6u6Fjn59HKdZV4frjuSlxE\
+b0lHX28euXmkLvBmSfpAq/vXlX7FCGqlJDwVEvBhSt6IkPTsODAUqjCKSWwJVlHY2BLyV99E8q2TgSFWAViCyfs1/PvKfN/wHiMqX2+i2qxOOTgXL8gXvLM7oqFpwPYDbBxJVOxYOpuh\
+n9fC+uacz4TOLyYYb51e8ENyxpSI8N4dBAL8Sl+EOOrwgyq5nE56Jt+2jxIFPb2JEoBHqJ1HZvcQxDJBTv9xg32R2P2mTC1U4v1M23IZ7Q3Q7ppmTVKaHJT5BNEeOtaf0nY8KNTISAY7\
+OB4wVPid+e6Q8ngAkelj0DF8gKmY89TI+MZ1TXhbfx6+/+pZewr6HvWFXJ1sIBV0mxx9xMRFUT0OEr5gLhrU7+t0uE0nEn0B+OgQt/XdntAnnuPThCxjY2XnCWPK6X87yKfCDfhF6e0n\
+S3hWByRl2AzwFNXpmXp1Li2d75w3MLo3oZnHTDCQvThlpSzcwOHyUsVI0H7EeNDlBNyfSCC8MldzZ4Ze3buC69glDfEBBsCKDAY9hxMI1swLhJsFuDwEw1/mi40mNbR8X5jHumBRKyNk\
+4X24yLqvwz39heqYszSyOfaNUKMEDXB8vg/CIa68zQFswvt1f1ruXcAYRwhH6RvRv62fU3fmJw5ivDfVr0mJsJwnQBw+I2ld6ojNW2ipECxF4qRtDB8VuMHTN8PjecpDKrtQLvbaFHKf\
+B72jEruRHWzIk8Dg+UvHI0GATHstKe4ASCvgY1v4M119a6yHfZbcMt7utDK8Y7RzqrojfFZJBA6Q+HFGAcvhCqUKw0H8r8mUnjmJdXyxoSQbDs+iYClZEofZXmGHVVmHvpKzqMPO7JP6\
+aLwzEN+dnS8IFRFTiVUxUJb6IiazEVUx0JR4DVufiqHZTIYvX9wdSEkaVtovYFmlCldREI7xjI+KoirKrtm1nmCXyPc8mEqOsqivhtOSyelJlSu9v//z2h4/Q8e5/d0AUi5KXnbPq83m\
+CD4D+4N9fe/AXvWF/La5+RUnxVwop+3WzxGuD4WHyK/Jhv87zBXzrnP4Ku/ArKX1+HafVePYrXgIVdUhUTJLOy1HUOdvpQQ9nqwvph15KgZfJy9/t6tJ8+Pjq41saHOv4oSAPTIaazue\
+/ltVmfPUr+gQlvuKPH799+xNVFPc1rGXbffv+fz7+yNPG+brZmkIfv/3p7as/UpnKLwf8i4prWonyV0qdzbMtRzQDnO6Ef0LRs8EeYdrLsoOT5Ndfjm8T3IPxFb08e/Ptq7/QCL4hmDc\
+lvzHDef/tqw8yp5UMRHup/+srvX7100/fSa2LoByNzBd88/bdOyo1Dtr2BX54+xcEE/L4imKGSUkjLve+sU0dQ/cZOkccq0PhZl3S9vO/nodn31pynemyO4D8CYpoAV5l3eA/06yAxP7\
+0px9QLbrXjb59+w63a9iNfn713Ud8ud+N/uOntwhBB13czx9/xreHJ6o9Fp0+5uUEYZyHyDacJd7CcXFjmFyJiURN74k7V1hlZCxeovV1hm/DrsP6XC9Zx4td4BC8NQyt2aX6D3cjWla\
+JnCKbkVxtFv1VDv5fxTUazUzbrK2qOJZJilZks9Sf3CcwqsDlavauU9LXf58S0kV+SfrztXnRlePEl3OOZCQyWVoGnPJvqqxuOPAFVCS0088+Z2P+7FQaC9ZKKF+qU2cVhSvqVBToHzl\
+CMblErVdngQwT7OHnVY4a6AUIt8xdfo5VPwRC3eJsnxVEWOJASvRiJ/Thyy5BNxY4Isy+ODsk1VvEKn388JRrAj3KpjCwCdQnpQ618FRKY5gOFj4+h89fiO2Txx348wxV4kuqsIcaFoy\
+LwM97e3e1jV9vRefEihZh5mEnmErlSDjIqIKbcya7eJaf92FNv6mRdNT9nOs5p22sNcJb+zWtEMy9U7EE22AoDNs4p4Po7iEg53rnwzAjgVdpJGpSaVREoTtZn7cYhYHPKA0AjUW9TiY\
+SlcFP7Ct0weLoKLD+8hGl75IoBMGpawVmPch5ZWzFoYz5A7TbwfB2rrzaVEbDdRKxEQ51BwhGwD/KfUYYVNFBrJqgH8DOTih80dnB6ZozZBUQWFEFAeE36fh0qEKfQm8QgOgH9OteOIg\
+i7otLCwJ/XttRPomBz4LhH/yJpHHJIGD2PIRu7dOtVbGIDiikH+hGOSnULJYGmzShVH15eSJcNZmZlRa8fvvtd6KkFsU94X/G/WyPgndIMeABL5JxD2qbYtJwjhrwazqg+gY1AP/541u\
+kGmdIaJjInDN4OVf58QxduUtaG0C83lOV9Vhs1daEMwRYxjwVsQN2P/ouqM2uD0RTr9XkLN2V5JUFjeMgJA5HSqxdjhrWFZEuRr6pOqaLUeq+1N82C8yrg4a9Ektz6BS6WnkwJ98ptqy\
+VHWxAgvl4ryxuR4J3qoedi533ia7tIInOg69Y2X7F2Z8qALTgF3+65XQhhSLVyElUNcAX3tVPFQZ2nQpg4kgRZXXFAC2v81IQmTtS/Bk181AbjhKLYToWfENSrhMUI2StiOfbJXlR624\
+vgTYY3XaGpUkt5BkGC6xSjQjeiiiW9QlCiIohox5bUczh45uS2V1h4SfIqDLnmqjSgxtKcJsQqXH5U+T7gS2tlyLhjdQLMPfi+tzpVUX/Hr+LqYwt4jQQMQwwdjS/wyf4jFsmPImHLvG\
+NMRkD+DinNjs8n5dKmfCD7AqegFH0WGYALbUXAXhLmED7pc9JZ+o5Pjluc74Kx2M7AhHd/3Or0Ga2iNgWcT0Sry5kg5GhQTa2EF9W49LLfZxEGm7taI/3EViEROd7oqNEdgjd2jOYuzP\
+mELnqEOsInsjeKaq51guVau2BWZDEvV54Ts1SMnNIFrQtyxrTAsWQXeGFXyZ11s7QkVrbGsSktC11SimhIQs6AB7AaZ1BnCcyjKLiKc2tQxIkdDwpUPGtmloa8mMqiKNDHQYTXBywe03\
+Q4sipWDV4Yf/gOOZJgUAzLeboLGZSN/C0uK3BebINZdHGtGCqhU6ApVDWA7jV3iHG9rnVBVkc4mmCte8tdByRnokckCxDBqI86JHa5SK0YKynQnbZmZOymLlh82qCnDMJZKPwQ4UfROz\
+iT/yeZDz8xnLaiGQ4h9JUfQXL9RaYtU7nfxQyaUFYDsZXVMPpsbYUFwnYlRfVFAi6gs48m5JwDRSFEw9ZS8aEXwjY2IgUMn0CLQD/HnSInHX0NkcWgNzRoi0UiY7Urqiza+6IlBA0w2e\
+nscEcvatb7EiD6OikCeaVE5rKWdgsgtma1aust+R9d4uJiFfFAB49o+IG6OBrmgnJ40gbqLcKxR4SzEe+CG87lPFFSEznIn4sgsREe4tHfET/IhLFLMtSrM5WCmLRCF57+42eWmFkadW\
+FiwRAyj7yXgsGYZc0teHTyz53z7+rIhH9IhpWPHkXZRXqqPB/SOP5TVCI4Iq+X0KLLAgQW4mZtiUQIg3u7EHuGNNuF3xRM6+OJwvohP0T1EWtmCUHzPScBWI6srolma4CQtFgulTbC23\
+gqYYt419O331KmpN6NcuAcM4LViz8Cfje41frdXrTaa2G5XmApsLe0T01/AATC6N99M2R4ZYbxBPQyIAnngSI0JXc21bytu7M8NNmKVZFVYU47wV0dzX4g3h++QzbP9nA7rO5xiAGPUo\
+AF79MDGJCBwZUSQyAhO0lJMq4tu6m7Sf1ofVhOONU8B2OU5xtEzNWXOJTHvHOQ0fMJh4v0kqolB35gFjKV3SZ0CnP4TScBQ4hgF81fqZMKy31zJl65kD/OIFnXieelMMM9Q4vI6dvIMO\
+C6Ey8OVDFbP8WgSn3trVtcvjOjtJSwec4nCGSxpoAjmPpm3dEGWIvzT2YldCeaSJh39y8kpJOTajnnXqpmp0OLUU3EP3ZCSap0ZiimLSTmOYwaNWodwIe+Ia4QoSSTEVE/j/ZEkXrNI5\
+RJEqDYjriJSum6F86xSM4IhLVFV0ffaWlvHXdR5zVSB9vjfny3t5qnLLrk2zs2imCku94hyB7h5nLGmuciEkYuYBbx70K19Dg2j3MCRcfStqiSNH1CJRnpq6crbq11JNCr4xms5Aki5l\
+pzIOzDjlNtjXFM1FU+tgR8T0kHAYacEQC0uhF1yFTmgcAJepq2DObJJrFUz0R6CjfcW5psKOs/dGvpXxtWxjnnuRhkI8dGsXWKqkZF2zA2sAwkKqoqddCZVPd+6u3xyp0/iUjcJY52Xv\
+hNsmpyOK7xMMEBUNAiaTh9uNjTkY60iAKklSZpMX3qeQ05sSpMA3HY6MYvBCa3ZD0iXmQWZ1kwAXxEa/ZTVb5lC9u0UKjI0e5eKUtjPx7Zz7oENXAySA9llWqu+u4tahZC8icVz9ovPx\
+Ir9DLj8TMnumzkxDhx/PKW0QJpNVzlA/AKQ+Ittfan7HhrnpBnXpgcLIj9azOLPTwPOja2N4fB0PCsud9QTKMb318I1tkcL0ZCHkASaNXVb/FtcikuwmIaQ1JnxDJltEVU0dvSe6OGuB\
+L8+JNqclQJ1FIipkOqsG1voVGpBUR2+oHfORnu67ZmAYi1nQDDCBSR0mWHtFlUuQ3/IMGiQ7Ou8u1bP9LQiSxVcq41D9LDphz+9I6Aej2eUPvErtU4TCxcqMhae3NeCUHcbRTUeCbBpN\
+WUoLMiy5Jg3xgGBH63bWYDZiy4IJJbTohiucqdmenP0wpYURK0QR4GFIcruX6Xh9hQnfFCdQa8+rQ/ZjXQ8gL9nAOIhYfyLrJRE0apRFEiuvlG2R1ANP0Ij7BwRAyRl508BFVOlxvBuK\
+9PdDWPaDPdOowPooVOtApIhZZF4GuxikixzY/NTrZZ3RhEJ0d2hMnJSs+wBdi6eJNE6ZADTm+40RBFSeWK1lP57jxN41Z2d4Z5Rm2u422DZS08TJS3yPNwO9IHZsfW0XwV94cTSn3izK\
+MxBNX0ZGXcZn+kv2DAutSEdJ9UoFSRpM6DGFteWqR59GRGkACQtGy4qL5Uh+mbLorkSc40aBwtaLrkaXkaBI4SIrnvqdaKP+jLHjVldEJXNRjC9gu8oXP/KgmwWmu2JClug1J1oIJFjn\
+RtsX64fe7Qv0cuNwZ5udkrvoICY3L1qPbtBILxtuCD1q+M4qo8OYbxhxtMimOXTCLkwLDxUCWe4fW4DfJ0AMV/LczZsqn3mOHTe6kLFCSz26boOZkwx2iUqoI078tqNqojVSjJHYlbxd\
+uK/LPErQ2kYUlVyu2RFullW7UkA5cHQGVRoGTYN1R2mgROogqBFKnlTSwdGJFzTZZw43AChlUMxQf7yCHbne9vOoo423I0liOKUTh7FvJ2CImTynhtj3qRKTBLuZwlvh83kbkVAfyIsb\
+UJvZQOZ9NrNeXQF2zCsFnfsffOVCXGlRyzkNXLTAD7AsJ7sUnFNNe2JaSQCpryopUBQ+N/MRIYEObPIENqC0tzwNp1tXX0SwiU5gKhnSpKjYZX6prpKiLdKL6YWUvrCzj+X3xIBWfLfj\
+6mH8qaU8CSLf2Qg1/kTM6oz0P4yfIqU4MikqIak50F5mNyBaEhDoDZhe8Q4pD8LI1sCvCZZ0YZNLmotLr1bRs1myeoiFdjHDk3G/Ql7cGia285eNnNAeZ1+rg7yIPorhrv1MQl2eW60p\
+IPmEERjysJLER7DWHFNb+OSuuivBkoyTpwznakdGAg3k2KxZ2HVsiTArAidHJG4JoVfJLJ3tenTuPavQ7lgq60uZVQF7xvdy44YMN8KXynoKNTKQHHWLmcIgClXVSpzy97/LM/Lbycbd\
+BFgMaSLoqOucMfNtdlqJAWxpq2LSEHcMdSjzCKtvUd6YXi6cNCJhevD8dp7WB885f3GGC4/26KOZZutQDD9hdzruw7MjahxjAMvdhWUcIPGJwJICH4LCDMMPSa+74OnLrceFxRui0AXL\
+Q6Osb5FTzAC0g7FE3nYB9y0mE0ZLu+Fx5MQkgnYIv6S9WgpatNMDf0d3jihao1gd9rvcDWICrjYQy8JMShLxOGgCjYDDPrV04dp1B3t450XJ+ClR40YkmX7NyxhfdkqKMnG3E0c8745r\
+gQjtHG+VHU8tR9JfjTEcwia78AW+G+F2prk8HKLZK6z0ptsi81Q5JrpWdPLH2SPcutEua8AHTG+v5gLBMEfdFJbwnvehVtqrI8Rd/hO7Atcg6bAAojEVrLOKIHYrj6MSYPwritfkJY93\
+KEbsfk2sm/iJTdcbBdx7SKJhLhB+y7BshCK2qNsq6jcDhKp14l8zd/waOZHUxPq+7AKhfS4tDZpPaLWi2MAMyAwAAjyJ11gCUo24KF6PIuSCMR+xnf3tGVHBwfl7zgPbEzPlQlMDol+w\
+4dRp59wwXXBQURifYEKmzcyFV3T/XJRvFDv+W/dao4AWpzrjySP5SCDgHTu3IGzy303l6af2o9+IuubZJ4HgHHaeT/gJgiJMdiNuVMKbjK1/uCPlDShCib56e+zix2y1zXtEC1UK02Y9\
+apuGDqNnx22WkIEfvZrxW0PwFNV+Py3a5HKQLTf7gfVz24rDhkmI7yzNSVAe+NkyFjEuJ85/qKton3rsTeHMAoiz5J4Zeln08QknTuYNfnIRqmjCBD50TxMdTTw8e4/EnmQreKkzhB3q\
+P6f6iF9HRQdKCJrAkl0KjOpFkgy3qvsBU8pJKmnArGtKrKvAdd2TTm3kcYsMUlC67KiehryX6okCdERWU7cf7YlhBhTHSZb7U1GLIBpG56OLGOPUpu+dyXpIDMwWrELntR6+WGhNNqhr\
+uhq9QR8y6dvlR8CpA/pzONT8i6iaXRcR3YZdVDlJKpUNV0kU6LDYcEO2gmzIzjlLB79St+opwTjOZKgkYfER4QHIkWMjxI5OpyC4g2voz+T5/kew3bIfVfDfyRClt8DdibMS+2Lhqrcp\
+qzZ6nZ+I0reP4Q+kGYWKGNNmSj2tZ8ArhdCiinWfkoVcaeVVhuMKqbjhiLGzNDk3yKbqlhrfx6jwMNaHMR4JCFnlZ6vk/POcYDHJoz0jd7Pg1DJyv7TWJELwVpLGyk8nLN/wKnayFz5D\
++ZTPO6u60pE+2vumh06yx96utP9FYz8BxmFIek/+CeUmRfvQ2KHsaS3XObkV2MKpJd9JocpMkSRo5QD4QOIjnTAAbLuqcde+Kz5FusLiNKOYDZttJuhZia0X/h4AAY1YcXAzwVV+dSgI\
+3kj11IwlEHM+7E6qRM9fiZ5J5mQwLijzCkdRmn7qU8qGWniJ+HwcW/HDjYQi4EJgfgpDtc/eYTqCMbiV/rBd+YdYHXlrTOy44DJWONMYdrbpUdRQ00A1wVdAWM2U2NNzApYdHCyyc1Jo\
+W1ZxVhknYFzlJ9D0vv6NrqZoge9fQBzqo7Y6jX+wsQGrYOQVqVc36eH/soBvikCXBCgygMdqlQJEQ09v6mXdu5BHfrkVHnxPAaGoYCsdYShoXzREosw5CrnbPXv1F2VPmKh+GxM4TZKP\
+qzDqmjyqDLBhKGdSx1ePshx2SrzwN7OjKaQIkji04IES8T/0Z9ycD66GEFR6QOpuLCVjo0FEelpaj5hjejsz8DMsiNIXPgMY8ogkPWx3yHzO+q3vd4FTaKupmv2fcfyroksIm1NucIsc\
+pWYZ8LJbGwuzqvsQyz+tx/iN+WwvsZ5s62bGE6sDeSpmRkqmYAhpQP5I4lTARQ3uUrBOw1xmxVBRQGtSLa7ad8qzmdlYlDXyIPK9Hh7y4nZqzMGoO9Q36CnMYiFmRlXPH8Ml4KPBmGY3\
+qfb3WoBzUa7j9cl5GAV7mDjy8GY0amdUUfIqlJgNpthgFpRpgziBFJ5ARHDagGMbwuFZNTPdHIqOLkpIPWP/x5x8IQe6Novi7+Ty7TOfEer/9PM7oNhKAr6H/9mp9SRlJ7ed9/OzD08w\
+nGNEBZq4hWec1g5CteYhpbPJFBqjOvj4auciJ8RViR1Q5wPunIwxZEPamwuuU+AqTbnQsNfR2E6kS3Qax8MiYDvcOnh4c7x8dHAPKMyniKFSULl0HkKW/jHvo547WH9GzycPAAWic3+Y\
+F/92JOryuZ/iIrupx1MHzErzdieKEwlARilVhUFYZe+uWFStxSpflAn1FX/Ib1tTECWm8yyrIHSMfAWQTUnwhc8z2urI6s+31yNtAz+QFSJrUNSHfFxHedED1OPKJkseW/XdIs82E7Fs\
+Uf4M5scARFRd/y8aVZCZVZwpUHpFRouv1j5pUl+wZJaanS+dqSMHc56c8CjWUI8MWYrOdOiKTNSMV0EiT1uKTJXY8Pkb8ltxtYcBAxmv58DrIeCuI5aXLyoGpnFa4XRf1L5jT6SKhJTM\
+qSUkba3LGUq4zdafjrLGohaQT7t+y/NqWLpZnedK0BbHTAnZoYjfhiWwiNDni2O3KjNnnm3MaOiaOHamoG1wgu6qBjq2ZTw2XlSGt/uE1fRg6c8eY4hRklTlxj8Ry5QK+WMIk4PkdJuB\
+hYYCm0aklZ0OfbG8qj/891tI+w0qDNfgYJ4nd7Y5M+qXOHk5BX04BWidpaF5RgSPkYHlOeiTe1Ig8gmV3u+hG00cd2dmOfkClUCLh8EEivFL1EPmaT2gj4R3d0+IBXiZi14ZFo1pySMu\
+6SeZLt2lnV+g4h0oqqRRoWEUTlIsff8wSon9eugBUHWIQuucLvkOjn8NGy3M5SvzAaTUd6lomcuolZx+y4xoppLsBZUVrLojPA7R6mjTWLPEpghjL/TzzsdSS7hvVN3Ku6DfQXTzMiu5\
+Sv72UKO8T3uiAl8ykHMeOVxNi2vdsPukzFrjK0K8HOyHF7l8vi6r4q1PqiK+cdxckY5FNifP92x8+sl6GM0HHvLSxZIOOfzeAj79DTSwlhDbPlBNan2FZfzeMJTW0e9njl5QhOsaRRb8\
+bEPGnPNEx7j0WxbJJxN+xPOWN1q+PG19pmPL1ee0jJ5WGAXSSWLJKuxmx8xAyBOhChD7t5AAxokG5VNPxbeyi+Vni5O+kTY4/3MDmLPqUTwqvVJgvYRRJLBmozepQEuoY1uBU58yZqLm\
+IpJYeb9ZozuGnToLay+8w77AmsWXsLjCil4AajzF4S74RNRIliHg73tDfSZBmtgHQil8D9NrxR1sV22s8fAEGZZqPjo8O32EjBjt64DMnyyDozi+ThJD0/yiWcY1f+YJklI/jmnoIlnR\
+9QwtDv+zSECaitw4PdRVn0WsYurWuOQTzBucY08p29PIYh1Acg+PLf0vl8Z6feUZ5E4jZEn6qs2TNma3wiio0hHyfWF8ZBkJfkq+1/v11zMjs1upHxYqpOlJW5xL+YcGd/ES8etc7Joz\
+EdwQeUM6/KD5lfIkFMReoWPYXL4lisrS+I1RPM1Kv4ExImJuSfNS70C3Xmkaxlu4U3UdMvlNyfOrXPtKUXrR9dHoJdHltq+Z0DjKGtDIxNs0x1MwNX6TIiCLFqY2RNBUmLCbVrB5Ttwj\
+/PDMprC+xCnQpyrzLRntyfST9Jh0+AQ3c6R2Np98jgR/NPM5PkvIbSj5ZJbXTjrdTnV2c98VG5c2u+FJWEQYmYIBArk/0kNQg8yJhHki79buyOu+raFXj44i/Cwq63VOXm5CZxqkL2VP\
+wAHGwH9sw7HRNonMTPrvR3yMLLVhGHpxzDb3jjQ5WLTijrowfkDlijSPtu6Hy7Er5dwfCZjv/7oDeLaXfNVej68t1W7rnd6FVJ9gtv5b9OABmVCURLOMPTLFWWs8P0UExQtu58MxbLDJ\
++A1mJaopXqVrnq9KDR6293le3R5F8ZbD1bBKw09QaXYluFqG/gw6JCgZShoE0CcbXBFtS89DAsEGzde52lOu0dPZBTW1XuXsHgk19QGsZcfYrV84Pi9aAfPf7sc2TlFNw1QWm/8knHB/\
+jDEsgIYjxr2FstHbedXojXpnwKyCwzRWmMrzE4nnOb8g+05MH340/9a6UX9zvjT3UHCQGnzb76FKyRgtVYythWbeLhmv+PUc01s7HvV1xUIebGZdjEypSSP/ZLCnSm52oU3/vkHXMdlx\
+io3T8rMGhGwop3wkvqlbA+V5z/jNqNBZkz5CHQgYbQPpxyDSVs2JdkVHNbqrzaZvfdFr3VNBV1878JWYpgKfuP7MkOFMKnSg4OUHbML8HEK9joDbwa9OK4+je03pafHFyPw5za6DOoDH\
+hqzh5AL5q1mXcFKiHgkK0pgGGwYF7LEEz8If+fqxFPf+yGe49G4ZowkWLXs9uAq2wKoWMURmYWearu5z8WMMHgcPcIoAo98IlE0kk7aSWE5d4SjOLyGKchdcQAs+IIE2sBSJA6hLhC6/\
+KQ9mMU5HRaR+nmNBer+dKV6sMEaCj3zySvroz+Swypu/vXP5NIa2+R3WhsAywoIcx81rxV/ZODiWk+Gj5iDlgv3Jkkih12yi+pimTVrU+SYzjbe9ChA8ncNYyB+dLH9eLl55xNqWOv13\
+LqL5cGzuqWt6q8mIZLMgma2OKLwmd6xgAuj1Ukwbwt4G1t1L1vbItXwJ9QbECxWFyB0Tr5Co6Nfs8vjqzD1YJr1XYM+IU78Ai2xo9fxU040lqnpz6fjqwgYKXeNy0byzcgV0jr1mcE66\
+0AWmV30UZkFWmb+mLAiYRBmgKTjyH1fDWiJlwRbqpnDnwhGPRSV6VlGZmXGYUgZJC++VUhME0savfMD2A1+b0Vptae9SObXBre4viU7M9urI1bJEs8yTPVZwV6ms6mU/KZifzAslwax9\
+K6d/E3YYU+gbv0vm67lHztWXRNM+l3qdnhtPd2oPEdRUUghR2lU4mokeZ8L4LhunQsnkyZE1gpsjQFxEFTVyR2/z2ctSUW7n27izaldlTXG1B1ikR93SSqDWrQbh6h5CG+AK2A1DzZZE\
+5hT5poqowx5PJ7GXuMxWjWqpBYldLSiVdiJ8jHP1JtsLTqglRf3r1w5tvxXNPbvfL/r5J0eoaL/FieHrwl/35d1DAf+S7/+ZZWWpF+k1eQB4T89RaUTHNoYGRq3QNZ7lFV/IuTiRFqM7\
+Aqxmx0Tn5ksS4iDh5ekFIXHV6HZ/c0UvaQgaKBWqEyMfFHVh5JaZRby9xNtghey5bNawCiyd9Ai/OkkDGvFiZbB/fQ6vhTpT2rpYJVI4TRKkitks4XeZa10XyGopMQQ7GtBp9z9jqKgc\
+pL7d2nuXkxHSd3mCvHD8+F1ZvSx2ajss6JN29tOMviwdOgeSdvBQcqRXtKG7v4hAwS3ELi7Cap/nyK+DyLk6BQ2pO/ehbYDf5JziFrySEBls3j4ir/7ATuQXtVy1Up6yKNZM25mdkTsL\
+PhTYEZOvOmZw+mCzVmFzo1RnsWNsr15XWYYl3hRvourtJzbq5ApR3FVMbR3U7QANnSOJ2udzU5EPW/PzM2XRtI7Dv/hI1HY+/BzVieoRVnXHhGsV86UuLlSwwSZmRV/ywawr1TzMiX2E\
+YxuZyVrUtBmq9jUsmOiYJwbJynBQOjhd5vKeUV0VVNuQFXAaWGnhus2Ft1YyLf57zpfA+Wpyb5343jLMz9kZu40hds2iP2eHOYLZ/IVBNzg3f7I6vq6JyN7n/9dWCMwqU5my28ZBaW63\
+aVQWan7ukxAqS+AKTTJyIYzv5u7svfGPxNWumyozCFy4wXXT047SG7FBDhPoG8iyB0U1spJ9yEMo31O5h+BfhQZRIyDdjqwjzG5Dg1kTWd+sw2qqf+rp3S4ptlYsrX/tBRKStEXKof6h\
+sQ5iV1+88lJCCcW2qLRw55jd12Fmlze0NUWrlBnOL9ZGLvGsIkzyzQqrep042+UxxLiIrjQ7wukbbDUDsBC++u6MnatL29crhzkAipvbu6B+7GN3Fh+xY5M2SAXFw66dkCnfrWaO/dqx\
+8bUBjScUlARfIDEzOAl1Mx6RpngEXc5eovXUbK7o19F4Y47AaSStQw+45QU6/36+h9fN7tHyswzM7ga4OakSsqSg2q5H0c8beGVt3ysyUUc1Xa0QyupP2q3oL1o8aerllGVnBxor9h7Z\
+v9eC4xniBd27xbbvjvLspAQMQHIZ5nJkFec3+l8aJ24bIaSC9MU42L2tF60Mj8snp+/k2pNhp9/leC3VGZa8DvvgIeY12IEXtbk2vVSdZscmnz4Nt+KUrJLnMeeYGJmRPV5w3b8sY6G6\
+yEG+xecXl/VhLrqWU0miBzJFNfvMoGjdiaChJ0hok5HISojlANuDMxXIaJ4KNy7zQSpdaKgOkGh9IF5hw7sDKhdeY+xIZwmtWQypzbggeh0DUKjmDM39ngw/XclG2IQPx2OSF3xqa1hK\
+EFsSgwXMjHClJwtHhca77dgT2nE21jcETN2ZiRhzkILPnD/gUGLdsQm0HCT+waVI9AJ6l35Rj4ZwdM88qSeJ8XvdWJelY7/YU06KbAR9UwMKl+GsF7HL8RgZIZiPBCnRWpesgJ3EcidJ\
+OS9INYnRneK0cHhAxZrOHe4fmk3gys9W6EIrvfJ3SpGDWNrilya8nVvluSuuZAzKqJxvw+LGrRsQ2OG85bl+FJVpQQ+rNL4GTgE5DMESACSaS/7pxcltPLF91zFn7vFLnZpVBn9iSzxA\
+AogBelu7f6q/+eJauMQISc0K8g4Gv34Cw08G90hLWr9ce6AllmLnjROt59oapqYrT/mquylLswBSPYItnLfa+/CzdC3HhjBDMmOBYFIY4W99FVl1nGcZvZ5jkJRS1MGY4d9fuaUT5ioh\
+LLRpjOk+r78k3Gl2x2GPxilYVRUNMf4M+yGdXkmotiLegw8jaaBooRW7RVjGsF5Rk5JIv0GoTB/V6KMEklH4Qbeddc5/gNLtmM4smqvIZjBEyw5xPekzy8udZMb/zsODwTqMfycWdMWj\
+ZkRwCmMGN7k+pf+VkA8abjZKG+BXlJe7YZQKcNZTIThqSxrw4/epx4vQ8NKFRbZWPo1sNjPG0yloO5vNARED3EHFVIEQFCNuwBGWg59qMr2zdD/hiZLgSvHoSMT5bUut22O/95qKSV6c\
+BC6ujf0kL1CHheoR80EUxuYl5eX2Zs/gk0mPCF+GYz4LzS++Qy55ErjvqAWtgqj8CODWtU0DRGTOhquChODKfL7gRQJah9iXCdD2wnUEyIPvQFnOEOW+2VLVpcSjVD1MUrTlGlchS3Pa\
+zGv1zGLyOWDBfDky0JxiEQpT41JUmK7VJjvwHciDCdG44afJDhpU0ThIwFuioSbnZv8zPKMzp0zI9y0vMJ3zFMV3+xVmgXpJmlDpTrOiXAC+h0KxQJopoRoYixQmay1a5T07/ZOwxMOm\
+38D289Z5Ts2m6ax2/V2xDizQCSpbWjWpvoYr3O60l9yOo4XqU40+vl24phM1QGSvEoD0Nc5Gm8/wqI1R6hr3XpEEeJ7KJ+KMuT3C1ytWLvnUva23V5BBCrs2y0esNi5WTfDqFlyCzlR1\
+NQxJOOOlG4QeZZNKmL/SpeilZCL/BF5S2urouXIJ2vvUQO7f3y+JxMFttR1dxM7w6fuMZOxMm4NLotoE9A/iQc6/L65jS6sIbQsF8//wsrVTmITO2CIc6A1Kwsq8sRm5iaDxle70nelh\
+C0IlbQ3FJuR/MqoSa4MbLJm9XmTu9Ol8kQxGnJ0KSIUljNuhw28nLH9IfOqxvgeOHCKPT8Nahg0kHkmR7Cn7AGj7gibrrpHzRPD9cJHa1vKsYMVhSurliWtcuXJiBKCWTBG1Hn1TsLZ0\
+YS7EmuS6utSXe6o6NojUsGMXF0OlMMSiG/LtiYdtj//Gi+VEzlZPpx++v2L3XtPDa95p08XXvV2ckv2Dz0fo8MWucIkt2KTPHn61TpwwL/gJNCigl2inVX0reddpLXuCgD1ZDk7U2kb7\
+sK9uniVyu87CU24VWPk78nVVtSShWd8C+95E3sG9ftvjmrsxsYDremxnnAtvmXmxbPe+RGCxe4LTYvoAEoha62Jsx2GBuCHfYeV6HEOnvG1Hn3lp95wV/4QIHwlYcP9zi64sNOI/6C/1\
+ptuiOK+Pa98jZgpZ2k4K3tV3SkB4Pc5whTKCNH7btjhS1OyOvtu9LY2GsKlZXxUeE6E+zKiaxwRj3Q5MUiBhwld0IjeFEZo5xt9/NZ9S7yKCsBXistnRJhzYmE9CA6Vb4zus8jUzgncq\
+blzubFMoldGm9w0OpY19dNU4Y0ddkln1c5xOHrjuhSLLPeBulFcd6ttxmTCh3U7FUtxnPnOr9kdPiCdOr8lNtFEc4il82w8HwyATkmYk0i/f2Kc15PaIVYSJ1bKO147bwu5lE1U2Iezd\
+qaOZvmOFh8bGjVNfF8IcJEznPt0swqPmZuGjlciaz8GjovTUq8k+86wVzOdT2MVyBA1gBXIAD9tnxzEIShB/bSiB+iRILmvcXpNlW8UNY2oOC+eZAghQG50kLWO1J9gIfB6kGU7UVjng\
+luQl3wSmpZZZOgvAnwKqnl5O6os6rqeO67vjrdwQ1qJqLnha3TVHJjI9yD/X6ic1m4UckWYclvdpZrDHWKLrHlECOxHKAOLNeJoQRJXT0MJgDkidVzUvKps6KOJLc+Xp465fORs7o9ow\
+VAlYuoBTEXpbvMHOIXbJPdy0lRwcXFG9F3JjUHkcDTqrBwce8JGE2jRZ8QTd9m0x4hskndrGkbTIa5ZkotMqAU3b5PsXlWo9oyqmd5zcdZzGzWR3KM3XRLq4xC2cc3mBIsuCZ16MY5hk\
+lSs7uxfqjM9Ri810UxD9ZZ/Qb9DJua8Qr/tsbEU1asTTVRR/VVtTrQLz0SLNjjtKUNmyknTEZ/TWZLayOBpVbQx/DvYSEo6RAd8tjRBH+UY5ma1lJSClxBF255ouXk52CaFFGbnHQiZi\
+ijhpKLII2dxaEVNye8QIHQi/N6zy4dSM4lJpIIV9SmgLNdJ9POjGGrcdA9PHGBwz3CiLdK7EHo6VkRFZBGqNLiU6QRnfRt8fEU3zQT8U1G2R+e34SqZpR1RanM+d1hyWCeFB8401DAec\
+CX3DfPFvCq9TxygznSbejR82fMzpT/WqdL94uJ52kPQuKWrNOJYWiBN74yP3HLnI/SCNgrpbvYFqFX3/Z/WU3ifrfyE0ho3qgf0vGE8RiOGib94TD9MUCrtmDOzHdrPZP5VmxiA9hh93\
+ZyfqKHoas6sCV7tYCUExkdrBDXDaAmLz8UMnlbg3Pxq7KHqeuWC1dYUHnCZt9hf49aKNp9VocGb+lBiBo29yQy6qwo72PtiZe2KEaJ2EeF4Gp2H1nrYb20Wjc05gwgkdykUgmIWeJM5d\
+e6NVHZP4L19wtxzJQj06VP+R0hGIn7zlDotzB5w108dhlX4jiRrLBYsrJuinlIDxUhWQa1MTM4trgbnrAVv3C7/gixCTiV3tVsBQbNHRya/Kox3zowGdanbhH4CYzmG44pd7Ed5LLgH4\
+/J148SA+GWyIKpRPdFtdR4DtYQ6Z+C6r0ku1vdvUfllxxxowCFnrZRLUMV6MgAxOFGCP5Q+cNSsbCjCSyWYu8Ct6gNXwUOTrPSVmYsOF5Q+o14iHseBdB8jXyr9n1SOgesU1uhQG8NWd\
+LzReL2alCFLXyoYuOAb7h0/AbUGamz2ULfVbHna5mmGnxKqsVZL+vkTqA6QwkEU1oCkWeRFyhjDmnna3wPRRXPBlPOVgo0EzesFFnjL7OG/eHZvPMXGSyysdQRW+zeffqB4oPOYuL6RT\
+xPN5a3UWlwnziJBL4O11nGd8khtpFAKZv/0T1jrvRu7cfP779CR/2hmrNmW049R7JB/GndN3p9WY0uej3XFUC/ugQsKFObl0bF/Nis1Yl9QVGta7SCuDC50n9kMGviTaPTXaG0TfUboJ\
+kHH9IDi1uXBPVEe5jow9iG71BHZBORdcRpECIlpeoklrSJo0xNJWcAJF9EQTqLqJTkzKeJEEMHbqEtqyaDhxOLJCrkV/WxKZRrbgTbuUi5UMCE9EDkIWwcijkmmyqFCffGO4jKyZ8zKt\
+55tat7l/CObc+AifNcgv3Usv/5xARJrZ0xqP0khPxNC+8E+AjZ4QxJZnsj6HfKnvLHzpQ13FB2ESiVfpjEMJKWVj84ph41JcgB+QS5Ps6+O1Ngd51ldwTIVlt8SM5okzeYGaPjlSw1EB\
+eBZ56eObcNMsxkOptExUu0y4LnJY4KE6YNUMWCltCiol/bWxN5m4gaoXd6TpduIwIfFIMdZ7lK78lMFyFRWP/V7GwZCGroWzpksAdnUbtMc4Nc8lJy0YHS1CuUkIoAKOkRKPmycYiQkq\
+L/PdSJHuBuq4/Ynq+cCyCdxJxJ+P9L6ubeYZXDrxfI1tVAfMNmGeDuItwUqcKyxOMvUP9TFVcXs6BjS0JuSBBEzxTr1LpIfJHqrMNjjT1I+0UoThlNVYpypyTUZDknu6jdDfUrMVuXSo\
+3MMG06qm7XoCYNRgCLChgszF7Di9OfOp87F675PAVdBFYU3J+HdIpXbeySmlKX27rGaPfcLFOCEQ3VPoyg6O2WG1gGh/wVcedcP0hZzyRy3iZ83vBDWC+NN2kP1MaR9gp1VKzhNQxQhz\
+sHg721RoTTiBr2PkSMUodMUG5DdKNgbBG9OYKo7FW6YovKIK39BthaoobIC/ptwr+bl1g2a9G9B1+xNrOiP8QPAHJwH851wMXXaSrHj6RLiqlSz6JxpK6jFMXv3AF2f98iYyrZN+mhd2\
+2jgZaMdc0DLp0E0IZQ4Y+0qHTtLYP2yTVp5IJ574KeAcvzafY/max9ClJxQ1YL2J17/WukcA/UqimuY2a3FQoUQu+JC4Xj0txSXnU+9HPDsi5Y3bluc4naMOQdlWFwFZQzk5QesTJFX3\
+kbHbDORzTNXG9+VI5DiiFnatExFm5KAcbZzPhMZn0rIQSOXcaoHMO0UHegaQnstj4K0OgG7KopXoll+Zw/Pm7P76F7T7qRj9/++M7+jkAiv/9q5/+87sfhJ8igQio4Jp5fLnOTN9kpDS\
+Vl9gbcV3uFhbgdNfpNWuw8MzQjb5VIbnya9fcufs1ZEO7ussSKiBUhz/V0kLoJbzuXinaThw7SZDieIAvf1C5Wy8C4XBeCxeMCJea7Y4XkUaH6c9ZDbkuigUn8iGXPQmv5gS75PnnFtt\
+xjex5prqs2l0P39S9359jFn4QLScZCR+8QaMI+Uz67fI74wl5XXwOlGT4Lk76f99k65sPQA7GIKF3YqD66wId1U4MrJHfjtxOZncD6ScZsQx1cH4/xtvqVXARJYbUOdceckUaRd8tgUf\
+Kq5sTf8/AhBaC7tTJVWZtvwCjHo9Qj8xyjl/sUayeX1csYaLrMMd37fDVu5a8oI+03gDigASxoI7CmmVzY1fyYMRp0qm2uRVUNGod3AnsxKsr+QYBnH6HL9fQB4qPwOslqCnSCecmrax\
+zKWP/7cblkIT/0rWcC7W9GqHduXq3+IIHdyYFShDvpn3CV8upN7boQqgFul+psU2Km9krm25W2lImYSOruyxSE7FjPaMJLv+DXNp1g/3QAGzcsMzuIuL5FpnnClPghp5I5P6MXCIlx8f\
+vfEd1OuGrisWRAr/O2JUUz3gMeJryD1Ah5SsB2rOMfrGju1fq5uUbwJATVMfhYN4ADmtrboyF4sQHJTzMa0nY/ZYGK/WOIX6cFZOV8QEwYha7xDIqT2i+XNzNDmUHsjqxLGbM9DxDW7V\
+lKNdblgpzG8dGge2pydamFluaeqtZylPGbLf2Tlu9SLdUQlGGAMK6Qr67sKrlhrhgHAVnmNgoyqtZTDBjPH3rV68LVOBIep4AksjBFvm1HK9I5sv63uNvPmP4uSYostKrSUDxbZ2E6nD\
+xEmh7OeFluiLV4IYv/vV3pWncxiBxQI9DYEiHf6Eiwz1iKuaNZ1mOEd3a3DcyFRDFV59jZxGGiux+GGAOvECFdadXcDZRcXqFyAKnIZd4c+9XibZhESig68oHsmIOpNMQw8ppmgM6pIZ\
+oz+m6L1ltQPJGhFggindBtOm6zP5jXqRV5+HCAxzEZfUh/0eGboW+abOp/ro6GkPihnJXfwayklZZhBpBFf83PA17FwB+EljH1Sib3F63xnSKR4r11cea3y3/DIXNFIRP8UYEmzMHuQz\
+hNzo+y0TxWTiLj/C8axcGr8KmgPtOWGiHKo3nOazvtwRqSb2iwHGDuJIHJJ4IvC0aI7RwEC9O+ZTwFURwHB/7R76hhcbxXItBVSjkfiOIUX/BpD2CsHc00e/pvACGiqJie8IuJ/JpkS/\
+5wMnzOMvn1DtSOClqr/1GeYKVaPCDuVyKZ+DQjJwu4eYknzTcrmN1KS17I64/Yw1iycniKTjfRDFRF51+v4/1gtSH682cuGJEDp6D7KKW5ZNBuDbqAlBxKa4wIsp94XFITmx2f8VIM3X\
+hoq/Jeb8s1lWn49x+L/zRT513h9M/Homnh1y5igOkwXpqYBRciRngNd9lReNk6deG3KyzyQY66KA2p0uFaCxuq/37fjGdAo8DrDiMq4vejHz1+xyzzmSL4lMWnE3sNjAwAp1WIdRLbRr\
+D5wJcayEQUAvzVJYNeUF9ZZghPaM6/1GsX83nFFDj7yd72UjKyXGVqNI6dx425iJb56+FSt69g4h4Em8mJbYJowyZ5XQyLjFqXdbzUALBygvW4YUrWFJ8zdB+xyeOevc2pXqYYfeOOEO\
+JcMJtVgm9sHJwV5hmxouCA1MKzWEXdRwiCXK4I3oLQqknLDw3yzfcRaCJ4kO6zZFpDDQqX17+tMFa9O3KvP4Z+sJrnBFoWYGDLem+d5xfY7MV04DEjAa0d48Jb4A4mQR7McAzl4KrKuO\
+AT7Mifxb9xRKJ7l9nS3Cmbqm7mS44hx75UKvBiVTMwRFWfKIpe9ol3l4Ly+O+0zq5AqToghIuN/DQEktDYfsVygKhQIxHJu5Db33gLc2CEAcsd5OItpx4IsDshANkLjBvilPlXDfIFnl\
+hTfA5lEUHVtadCIiOmCLLpd8a2suA56/WWXAuhn70114PlQ5/pUhCl6NNlGJAG66I+TXxd9QZw2oAqhmF3eDSdDnys/ThRIoNFoRoeDNJ+A4ENWTmAh0FQ6OtJNb1ydYjESjSAwU6j5J\
+TH5A5h8M7L4CCTc89+DhAoH4cIKAjaL7s4aLEqIl1xXiqTEEYyyQ18GJTqavgD2Adykyrzc5pnHEI93JZOH7ewTlJ3lz4c9g/AkDNFs4ZgarjrURiXkC3EJEeAQvu9YdUHNCeo0/D/oF\
+tYieSZ+vSmLFPI1T8xoij0KBrpX9o2Jb+cTfaH0a79W3WG2/w5isZuG1jDxuh77vYPxSGN+4AruQAthpGELRjyyjxmu3I0L9ppoTQaWOCugkpseMkINByGFWXjgrjU8u0uWEHC9I/lGH\
+Lmro1YTag45heYVoZEfR4j5OWJbMcAa/dqWqDrXmPRJk2wtIUPymgiSXPFtExVMg6ha3EvJIW0TdgDZtOiEdqy9jDuwV0bLOkrhLhQFz9MDWo0mJtnDeaGSO71zz7Fqk/aYGTZnUCFa8\
+kYenWTCewofFp7Nawod4paYZZg0cZY1chx8ASXt5hJMyormBqTMvGG6M0FTIRbYK91Y27lOSkdbcCiNE+ptV5EkoqdoMGFl1ARWyqRxTSSSy2eCCEj/wJsO+5kR3biNNPkmnC8mJG/pz\
+m7HXJ3tBU1GnRJW0kvRRSWSyzmqLmo1A8UYl/RLmGzwtrcXEV8MpgpzQxJovHpg6KfY3cM2gG0WUMNqixn9zS2qMDfyf9A1Gd0c4brIX0wWEYFpMVw7RjHr5l1wGnE923jC5YD7wiXe8\
+DbUyZAf1WVoNvcwqc+NIFa9XSuRFeNLvsjO8ddroGZ5Oj3Wd/vnUVbq300QwVxaWi7pqWjM08TtifrAyR5HY+jxiL/jgVyZXXjSTBVnRq+p7lEzi5omt1YEO5RkNIAgDRNyj33NzH95g\
+2xAsmuTtqFWVfZpDjeU5Osd2614z3mTHeXWEfSYMCvYPFE3XrFXlu4MWv3UgSqhiP1sibALpiDbJWgu6WFFKblRbDxAt8Ry8/ylW8MNIf//z2J0BuBKF6ja/qrTWBUU5Mqxqx77mZt2s\
+9YkSXXJEyu4o2ZPkmu/jZZsVer3Pzbo7RB95Z5oE+HXwGvdMG1/bEdge9AMW9w6EXmlVnsyI1FT9gptktlcnfNLaZyVzdx/dXLla+Lm4xq1JfAb4pS5F7Mrf/XgdLFpxZWtKcGKG0mAo\
+mhTpAopxi0NLdFgbki321rlMSoIbA245Us3PrY5Nz2umaxRDzoQTrGJg4yOfIZR9pScKxZXzqhCjFgvRRdtVbqjtDxVzyEzOwvnS+RiRfmKgSnyBD8qwQMhgFfgiBzY9M1+JU2XWhDsx\
+IV3gCvOUQdTPXaelMasT/Og1Tgy6SrZloozjsMDM9YL2LpwZ8t5sZ4MjRfuyZFJFFocSdbDXMEzNlIFwp54Kt6RJCgrPP15Mat4xmNIqBCIIzSnX8kvUXtSV+IGcbwVVUIi2tY1hs3bs\
+GRirVkRn2ay9Q6mKbARXflQVI3OW0FUeNEMOI/QouuRY9gqxpi5yjdhbuxKoZ7zMP0pGNfs+Dt/rs2i039y1FXUCPqOId3mdS4KHYMig+z6akFkTKxVKYLE2PS4WrPDQLFOkau02qyH3\
+GVBMLg7ddmp1whq5KcitSs4Y+ysmCpVp+SktkOrAC6muvuuxEF7imjdmDqgExyEmDcD/JPuXj7H3+OZv/lEL7SLX2ENTugQgeNY7AwQ7//Ya7NN/djORHs0QIg9fCUOqCBoXqjZliHKB\
+GjJFUIRPXEtmpTjwUYQ0K9Kn/Dv3b5cH4TxUGlH8Qhz5YU/ZCg1XtwOeQU5mRF/ykA6XMvXH41KdPPurFvfIDrfLQsy30AY55BmSzpRl1sLxbInpwS3HU5Rf16bpJ4eXMZkplnzzf7Ne\
+fgDFFXIPmDbRwbF0OvLb6Sr8ixlcN5LAWKv8ZicJZ74jbPE9Mcx00v7wHIBz+sRN/j7T2MzE8R9H8KOodhfn6/Nqh+RLa4IV6zx7wtCzopJ+tMrbgsx0rnU9rVoEwaIR2lLhMaJLOTsn\
+eicJtrPRc2bO0AL6bHabqWKGrOmV3tPaGXY8xho51cQwhcpcWF7ZuE/oknmmAwHmjjZ/+9MMH5X+CjZSB9iLShNFs9t2EToLybVtr1PfkXVCsTqzvLzItN2RIR7spt3oCb4CnO0q2DGS\
+IA7npRoddWYxby7K4GX379t0fk5bev7a7PeluH1ManLR2RWFIH5IWkKWxQgvn7a0DtMqa7gVrarRA9cWtCQYva5hjVDuU23aTYGwXVbLUPTt+fu2uBlP1Leovck77uonfBtQJDxaebT5\
+Yn2kbVilqavJlmU8CxyfkISbiXdKCD/DXDd4Gl0qQWivOac65JIOn/9Khfmo4zb2U2IJxvh4DUcJfKH04N3GOQ0IH2/LvG8p0iXmF0HDa1WvMqTxFI5gimMa7mtUWhj2yLM5hhBPcOYl\
+qI4tKjhwmgf0BgvC5HQOVjIGQR6YWerw8wo/SGPGCJoo5wLvMsZBPThC+mtNVhtigfteHxYAee/o8D55cUWOV5yV5cNcz29sn+zALuvqHvcKG9m5bH4OUXsqi7JmOw1cDENUGwWT/iap\
++KQbxtgTzyGM1U8e3nhxeva47yCEyk0Yo9pnj0LY0wwvUjRr3COC1NA73KCIKyU6yPdv9Fg7BIbK2WvXJ3z1uBNva7O9iS+qI6GNRXNVPG2mSbtoywaElGL4aTVLHm6LYRSVpHLtpvkz\
+nviiasLYVrR/sp/ZgO3dTSYmbpwsO6TNH7h+ZOZz/sCfuH8FhfNgn98RH6S7aUaccnOs2vB0Us8D09ihFy1YSSuvaJaT+WZeuF8nbLY0O0RAWOhV8Ju0dVD6Bn8+3iihIRk6jg9oYELJ\
+YzTdUZsRMj52XSBVVg8gWlHvT1X3qGshPwjgnVZDYhNnk416P32cKQRZAle2uuN1/hcrTSQsEfutis2QlpPi3ofYamWYnWO0Kdd0ubRJ0iHyisv59ugDGCTTaZDsTXtfGEo0c8AgTtRT\
+cVTt3tbCKm3zPtnBrNIKYS42dkbahDS0RDILwW9IEH+/VQsm/kkR0IA1/hbu5AtfTrbvU1gFRyhQ9ZXUaQSyN0QeizNH0Qe6HNmCFXDmqgj324biFuqxtmtcHIcsGrvTIsYEbu5zLjWL\
+0W099zAXiIJ1EhX6V3B2aNtCEzT3AE79GUkivWnWfvGiUm5N6x3sfqFM1BcT8y9ib9Tv2wt/hl00rz+M6fUC/vCN8g7lJwIOptB5S01SBdXfq75ZKCAdOFA5CurpW9yoa27w0OVer8KI\
+4hAny6jLGmHZLzDbTBjncW4zU7qJlkJoSBI6lAKoYGgjuWV5KrmAuBWF2Q/yFXpw2DqCXwL1lgek03kCe2JAFl3PZ2PdxNLH6+bgYja+wKKiDWttFAHc4Z6LpenYjfriScsK4BwY+mPd\
+cqNJygUpsMwQq5lP/Tbqt3CW7D27vQFG2ccMJHhsZ4Wjb1SZhNb5uIKjHeG+hEdANg2HNj38rvTShNj7iYCvNJKx6anC/RihhchkTwjQK4yM4aoLCkHLu0r3Gl6+qap1fbKqsE0/SKu2\
+h4TT3JUJfmG02JVgci4rINQYxCQXAiTsMp2D17jA+cGl9RdFuprxiUIlgOvVfzAnkqkl9nGTMw/JGJHPZhGzkDHL6FK/UjR5Tfh4yH/IVlxxNhZ2/fMCtHD1z9YzkkOGnpD5W3Gp3HW8\
+zWidyMbUuI3oDRZu4KcOjaeRKgO4kdooMParARSaufIdx5ngYX3JM80iDkx8SZnWvSbwlAOoe1N1IBmYdq17yDiPPQLkhYLSNmVL4k/MoDBCORdiBudOFUz0YgYs7W0sd8oGUEbTd1rO\
+lCvujq12p7otODWExdF6S+eZJLScS5QDynrHMWoXqZesQrTGOmgtBEojavPcxRahTnscwzaPL8iiWXs3m+OBkjpxFW3Le+UzsV5SHXXM8NmfHvjJGgd46NXYWb7tMo9ZRd1tSRjZ4w9z\
+rSf++JmGgJAikq5ql+tckJ7QpBdtTCNZyakY+9eDtWZBN0maPk9RkmPTe++GYdKEcS6BJmjQ3qC+WBOnKcCuWHkOl87Jwlx8geyc30jMLh6i4lKg8NoXrveRQTG+X8E78tXDps+ZVCPi\
+Acv2gEdBqot4YDoLYAIfJUEzEJEMtuXBb6DFiT2yXFG2cnKhOzkQAM5S2RiN3uENDfhsHu72GlN1GtniNWI03kitx5J3LP13Z1PV0kTDDgEfOKgw3sCrGjHZN/mEMuph/APwVnba4Hqs\
+obE3qt8b7zpGtbXTKpC6/28mr1WWpmE6jOf5rI2Gt966QWdqybluYyUkzfrjek22PHYEXYVuIYAOfw8Db1RAedkFyyzmsRbNzQgsvFFFmGM6ooKcsTAKo7BSRdps9ICXxNK2a+QN6yEv\
+5E9SgNAQYnrsKXIhpPLHlJWo8Y1B6STDL7GPqrwhyL9q40XSdp73xZo2Hnr2LspVxLqIa7PixrVJoH9fpqTOl0ZOcCWN8jpiNT3ESRpMT+yShynVvS+Wt/K5LcVj22nr4tDC8fnwVgFn\
+DNrVbkE/hfu6tlWVgu1iQOgZJOuU9CYLC7kwkw7lXJGCMlTnFCvU3GMApELhIV+/IwCho3EdkGFeP4yBQdG84aA8RII0Bemuhhc3dvJjbBE0mOa36N7Pvg4t+cP6pzpv7JPi+ZTedd4N\
+MqJO0eJ3U5T7XvVsL8b9dcAy5gyN43tZxe2xvV8y2fjh6iLApnmMzJDlUs9YdbjR4/aBL4wnijZPtLjMPdG/hEXP+EzYqilMqMGIsAhsQuCE9Ng5nV4255+reep8WNzDQD4hesY3eW+c\
+pU74ndDx6VvLJKHmISsKoSU6xf0MiJ+Xb1xbpYLta1DLiMcqBFyX4YmfH6YVrdgw5qX1yyD7DKuf1omQXwH1hD5Ab2fqeuAs8pwz6A7JDUO/w5cY6p7c62mi/iBsk5Z5N4cLCWP7/9PY\
+u4HFd1cFoaKEEAyWF/m1CeZwoD8/YI3n0suVRbEd+JHawZWPLedkOcyQdSYNGM5OZkS3FMQRoIBBoXUj6m0DakNAb82hJQ7hNE0pzKSVOoMRQAvkbEuC25PGXR5rSNjz6/Xevx95nr3X\
+OjKSE79LGmn3OPnuv/Vp7vVer7ACLka+m2ApQXTsQb7lliJgVsZSfBFC5NP0VC+IoVa5ts9uTSAtM/ys6ik2bY90/CKvUyVSO/4s5mHYW2wYHAHKF6/hnU1cr842fka4vdqJgCBbjESn\
+IxmsUnsB3gbHr1cRg17ExW+LTJF7p8/AKwk2t5NTUdco+dCfWjT5G2mdi36XxyA9qrir7w6HJaNFqK+DzSTCxnaxn8Sjuzlq9OlkPZ5a5MPRjBqvtRuN8G0grLntB2Nnyi4MWQMphTn+\
+ZCLoehzFtUAp0TzNHnZPMFnKQa5drRHfmObKUMpa5M2NzYXtXXZHZ31ixf8/KQnaD+bGqK5qLxtDHOUsBr/0I5pAgDhrG9AOcByNxC+4i+LyLGL4E55MUTxKGGtfOkvbxJy7ukBdiwUl\
+JOdxM8guKL6NVqTAxYGbUMcIBbXFHm/q7iaGCMXaYUSGvhYZFNrZOhxceFO4ZRopu6dglNS8S4UgCktAIEk4QqB4qYJ4uz/TasAOOLoexiIhZ3CVUQo9hWFnrhZ05HGAcY/Bqt6qjzm7\
+kB502G+oXAvrKnLxp4oEgSIP/3ZGss4bzZg6XnChjPawWDDNvklnMJNoBf12oUGKgU1QzoYvLlHjlNWmO1HrK+kpSVvfUiZUXUgGVVTUMFZ5sPuWQFVqeKhtHCOzJPEkfPOD9o3LUye6\
+ydgep6BrYkRcV3f8WFrGFQ0Z5mhL8SmAzLqleh9lGmOzdziq21Ro4SzXFaM7DAqCQgOeWiHGoT9aBx9J/zqBEEVvCxmXhHOlOnunyxKIwyfpvsLXCIhwLeRFwhlcEXf2rzdwMdPUDZjf\
+cYwqPaNEXGGMnOEWbkdSbjCz9bhOxylSKKS3ajCh3wVgrbfjlM8/ktAd1do6Br/yYq5T88zD6w8YJnGKijvk2IpYx65efP4YTpIlHV18NWZE4nkVW41B0Pp0IdCqxbDaNZsS2KbK9PfT\
+eDqIXvO/TE0R5TxMWo02Lj2Qg7iyrSFnaRkGWB7y9LXui8MsYD5k+iIXzVbob0jKL0Vcuk1TW+XxwjioPLKzqpblCf5BsOj+OomqmKGYbEYW4rUeT0CgEPwfCAhOvFVzON4wI60VsNGd\
+mb0N5i1qliP0GrxaACDfVepe4AmxuXG9e/RZ7AJqxy+5Sn9jUI368EIo+NO3FT4mNK+qY2Jn7RO31SpFwYxoSyLhwKSy9dJ2VKmPl2XEzXMr0AXNGmemwpbRsIPZysyOZbaIkY53LBol\
+5mmsAaq2LXxMStFe7/UbDnc/in26pKkKzCHMlzndk9QdrsCbC7M86MFquzJGgsCa5sW5KyYWoxs3eVfiUEmKyQoyAGaNU3OacawgpiQ1Pifnt0i/ipIxSJKqQdpqbE+yGspV57XFOpyM\
+ud3RocDt60tFlVWp42wEKaf6YZgN2DMoNjgcNYqURQeZiJMW7fbRcxRETRTIXe7rhi9gmAouQR6FXE3g20jvJYPwo9gYtUfOFOE4gN4MxDjBWYL00LolQRRwz8UnARYifDBuQNgRvsJZ\
+khZahBzvAVr2rEJ7weCkRPFuEkiQg6Mu0uJ+zM5aablUF/ttcdQlqPayCaVvlaci26aROscP92HuOF7CjjbmABa9G//aiROJmTYRqkEIDJOhcup6tOhHc1UkV6of94ECjOBhCRWhirG8\
+nZaiQEUl4cYt4ZosJEpcaJgqX5wimiNKTWNqMvLWTJh/QVQe5BMZ16czygaVkLiCrBkiYkGMvRYQ4w2qpmJbIBZhOvXrITQI1qKHtyPmZ85xy1iaXhD6hIS66+BRxAmJ4iwnjEkRC6qZ\
+y8OIWiiGGJMcg36Ik8FjQEYbDph/WgWOjg/Cc7jhW1oDIfJB9e+OY3ZyZGZXp6M1pcKTEDOamwsNOGMFiuOpEDnKUejE0492MiNluPoxab03CXGSiZIxKCtGqEWl+KQcFwUj2luJLm3Z\
+sln4oWuxzjmib3K0eaC7FKm2ViYw82F4FK7+cbSZaSZMxjleb1jIVxJ0Q7iq0TteYSRgy1gXdq1uFCU2PEMBaJJQKJpVhJBRDJq8+G3UkQ9vlKbQdCPwool18DdpYkMjrA7yYsSk0TFJ\
+QIp0oFkSIYKaKONA8BYIH5osU8Z5ACuvtrENwFaukH49qsCU8UxOXcbscNkE6m6lZCqbGqn3EoPxzQ7DvcFAzpC43VaA/wRGXFtHv1daiOOGU2jUplyIA/FPmh6Zl8JKbudXJ6eAGO+z\
+xSeUTPSg7uzE8prhuamiF4hKJIydZIzTE11DyXZtTpQ4Ux0ChT2mGKFtxPwSwdMZ6Imk5dZO17HTN9GMQ13byQO/qBc65awBCHnuNMjPdHtOjVarpQOYvj1Ocl3iPIM+FvwxMVBvNT7y\
+X9NC1Za8BL495a8yRijJqNv+4a8uWzY1Ts9nN3UuV7TzGBbU4pXlN1Uo58eZSoBmxnQFTyQZGcafwkCt0JF0cYWdvZFK9xdZ2lPwS9rZtsiO+G5L52EfT8rHHO1dkXl/qppUp2p/fqrr\
+86W7h/HzqYuFGvazrMdiLXsK4J28JUxrC15RGekGyaNRLJ0+/nBR11M9TD+PiTPVpFxXYRQF3mNwcLj8ahlmzDD+woDFPmQtM0Rf4NGxeeZAhkLYpG3vlnUmaMXJ3TGyzFM4GQUuwAxW\
+U1JuesblEROQw6DS/HCL1ptCyRHZ5gMrokAliK1kvi6cdjlkiyrMAukf9DGcZKQdV1x5Gvi9RghOEkIDTmc3nyBXXDFYuyR6oS3NQSjVaxBg8uFjeE19jxUbull5IEz8mGM6kUTnvB1s\
+77Y6071KxjAsMl9hidkvEkohsKp3bsQfeAcEL0t5qDS1YO2IjzfUeRwBryyeQlBE2XLVFSaSrYDMxdVR5L2AVT66fzUpQ0doxFdCds01DHqaBVoVEhBowZLf8nHYqugbAMFwdj0hgGBO\
+iWU90ggtv0wKWvEDXbgkBO2DO18DLM+9VskbpQ027R+vNjsFY9OgSntVdwjPKc8ZKSszcxKuD0DTsDo8Dd6P2MgQJ0HRjKoqaicjSQTRTM5Sm9f+CziF/uMtsW4F0UgQHa34pSh4DpRM\
+4kUEwBXcSqZwqUVhPt4+zOZ2GtwztBnM7SOS0a/e24ZEtm02xN0+JnYYvgwDRIg0O6ewqu8CXUghWsa91i0lUZPtJBJEEYHJIuUvVvSeHssEv/ZMPej3oPUsBMVuEooRAuggj2gEcSVw\
+KW826mn2b0blfGk5RaQdtLRxQFU9fIatWtc+Eep7t9aUhAorzTZuQKFhzLfQiJSWGT1VwCqYUyR698ZWH9MSX7sXHKGO9byxJgSEZxFdoHgKG585QKa4do27xCYMyEY41G5wQkT7zbgj\
+cyw0K5Omfsap1wo0aUSEo0hkrwokq4mEq+pp/iPxDWTgPezk5rYk4fNmRlauLCNoiHkytIv3FsDWoBJlxq4e6qA/LBg6NgnDXZkwKECDy82Rc0Ayn4/xezqOYw6uZd42gr6svmJmBpz1\
+regucnAFvSuAlG5BTuIL3JOQ4A0km2D5A3AK0NI/zjnkx9H19IQpqG56jqZfXxmpx3ctkvmYakVnpxRyD57njc3Zc9DEKghJROzEMJ0lyPbkmWMlQzGIvsyK1llU5GjiRUzJJAwX09Uw\
+KMEtDjme5Zfw26sUiq1VBr696JHsGyD/T6Z1fMDfK9GE0bwKbQuFmuCdyyluBO2JlkPEggk+STa328GAMF3S9CvZSHC3FXTyBIV/4rvGNVCEUn7huBhMeMxhYz94YcaI68m+YDEsVdQr\
+3QHdeXhj2FkxaWGeDyWqGWCg6Wh0IqRO0iHOFoQDL49bS1WVE5HuQdznUCIFcr5qDQ5UgRuJoRFGDDeaYiA5xHtFSY4QYMkxCKJQphjzBURiaHv/wYOwHDNN6tmsxG9ciGEVr8heGDtk\
+FYIKTB/uRcBNAbtNPZGC4lsMhKqAczi6+kFlNqa113ol1flYWUrzAydIeQMqmjNHZj9vF4DHxalDkEbC3BzuwGCpakF2EGxfEFALntk4Siu66nB+UtrqX0FUGro4PRs6hFcnnIVHmA7g\
+IADhuog9Dq6vCVuX5ArLabuNAEgapnIhhHYBJy2SFKR3Qpg3cpnB8ApCPAYYGsqoyC1aLvm7b4EcnsOa92orvSTH78r5id8D5WsTP7fVZR80UtroYsp0y6nhOKzFpMuppFfflBRkQUpe\
+QzwbvMqS/icg2u6x5CGwnRw2jc+VsFe5XyHJuOpMTMRKWp+PJaD8X8Mzq5Yu+Yp7iM/iKeXjiyYyng3MM+t7Adkxwcr1AmFjXS+lBRqwNYnUhczviUn9wiIqLhsErAq4vgssApu1wCbl\
+iATMIhAYxJDbQBBhdzDrG1tEbplKNjYfAJg4gQAZiDNTHsZ+A6Xre9WDDrjpPRYMw49isFFYsF0cf8DIyx3wJ+7rbZoB8m4X9BQDQKBzLZLNCU8MexcHmvryAMDqYC1BmHwQqh/w7fCQ\
+zZXBR1NAWq8Aqd9JH5m8fJHmxEQETCbmAO+BWcpQSbCWlHosbSMs41uO78gJUmCsslQDivgs+WJB7Uhg4Z5W98zr+TISR8se14Pc8KNEADmx9sHBKNd1Ycqp4jhIW2CvNfHuKkgZnfQ9\
+dcnFKdcz7FkZCTisGcQuflVFAOWwLQB+6bQBXedpmMPsNESTANBk1N0LoHNPIJgQPre4hcUGlgpVsTvSWFcnwFqt30cRj+/w7Hnc8hW7CUCic3Mu0uahFF2I1A+H4M0idWCmb3O3iKsN\
+ZiVMaCOMInWOP9klakHs/uG2CyS4dGEwm9PNWg105IbZ2KQYW41fWWaPuRViU00AgrTRdrtA5++hFBljz3mzqa6+DQGQgtLZL7WJ7J7d0XN7qfHeUN6aW0rLxiJqB8WqTHzq3Np0+2VR\
+BxwqSzsMHpqb5w9q9YTQ+ZpYDG2LHfhKq5g+IKMYFz5yawlnL2CgoXKMPUDXVSS37CAOeZ1UZfDlSvxQYRFdZ6X9E8K3XDfsIhlPtLNh1SruduhmNZvhWIW7dXpoknDPElHdTco5uyry\
+eyOI9iIGayJDBigDjtlwGLbpAVWJMPCfoYJiSN9jbN2EzxjDA91bB3a4FKvKOI+X0hiyV2KT54WUFafG5IVebTUMQYGBWLiS3NmWLwU3XEiMC7gf6s3qIkSA06NxC+mwOBnjPfXYStou\
+vBjsW24YEinbExnm4nKEzFREWzK5B5+BXcxdTGZYcP0rDmCh4TFuT1lIHc2xLTS/CBfqnMyL0v8pxXnm2V642INmYFVekIFxvUH7fPmrK+8H8meJiqgyYdZYUuQTFNkdkCWnMWTOXGD8\
+KxUGAQFzIKKLtxqsUlR/k0JUW/MQwKAFKLs1P8p7BNCfgFtJWy+Kr/Q1VDCB78vc4sMa+AxiaZ45iK3j9prAl2NDzY0uQMvfZEkvad8H969uE0CySagRzcxNZ32WT9lGMA1i3asVgJNT\
+dkVOvP3vefYXdoTaIYshhN8Qp8O0Fi7RtIgOrkcM1sWTULPoR03paMQ1JYMg1BeQwBA4FxEHzcpbpgwCHowi50BENJR2rVkg2Zv761iZ5P1Mb1TQfU/wmw4Tvg+oQwOKAjfXTDaYIVDF\
+v83/OUwRFFOiOhaC3wBgoJOq1ikAvHtbU/HDVlx2ZHuNgVxcAm+RH14jbnqyCZJPbNSwQ1aHmu/wgWXZCyOdjp23KnzqecE9n5H20EoKBkMwUGDRUxcRi6pkuZAaHq16QohKzOwxqVzI\
+mlr8lxFErNTZTMBbTjkF3mJgU45KBRhtCt2SzaCwCcp0pnHjat74ugNvYwCwqgJeyub08Py56mnPqgsndWfHyP1EDC+drkE3xV0mXDk5sk4tjl6d+mGKeGcMfz4j3RVrGCdc0LGUhgRo\
+7KHednbMuXH+3LQt29c3WxVMv9l2p6Yei2oydEPpKDB3lW+POZjiGOBzdVhmP5qzPXIvBm6siciYWDoNw1WplwuC/OFoMIxZ7MUT+DFUrtSrIT+HUE1uEilMn96BgXlxnxCBgjmFcnYU\
+E4ylNk+0rCnMmDHKGQ4jHHpvIgfQDQ/Qg4sJW6IqKITIzswU6hWmKKmCOyr0bmg72rAeg25dtoQQqyd515mk0CPk4HWZ282CxeNy+u3i4H5Ke0rJOVi8xKw6OUJS91EPyqdMdJA/REd9\
+4FkPQ8jXeTFz4bneCLjiy2V9bSGGQncY8ap64nPerj2kVlD4fjULu+IZP0EVhYzpCc/lSY4Q9rUj+AUgInSVa4yv0j4Avt7rgE6luzJZKOxi1hcWeLEIEnEWWxM4HHYHcYhj2I09305g\
+mv3fDd+6IxkthpsOMyfCeEBDRXJMdYNsDGQEagBxGwhrnI0K0jz2CqL+KQvwmvxtshSzorlC1u1wMVZTSgwFTUtLM829r0hxkW2AZr7Ij+SJKEARB4EwN3F0wdxmA360Mk2W0U5Awg7W\
+MbE5XmIJ9HWSbEAe9OmROwwZEmjCXB8je1NqlRlYDgZtmA/uQedh1H2uTAarSREdWxFiMnJcmoj1bb7QeVgAZeY7xkX03Wa0ql3nqW72XpCv2c6EL1RZHh886h2r6zjOgAa0uOsXh2mL\
+icZxrTk4uZfuONmgwJS82hp1Jpj9S4hqpwGHmOiJU0Kz68cMAV1RxPVg4PDofhADDdDSPykCkIPGmYARkIFreCMi7IlazBYdAgYb2RawrZrVfIPDW8sagfV+n6O1o6kIA2LE5ojVGRBq\
+Tenhoui3lAzhk4/ybIjDPnCbfZLO7phH1cxyvM+liGI+aYalslxHsKJzrrtmkGTNfUR2c4aiTrO4px/eohpQRe8xJwx08WQV950oIhz3tEQMEKMBHOWvH6rMzo2ksJ75AXYRZmIxkgLm\
+ZLK0aBcjz6R4nDaFV5eDRFZbAIgVqLe/As7jq8RBYycpHSmR5QRc3X0Eeeyg7F3Y/dFBbo9x9HtW2DmP9oammocQOkJfdIrE1ihDAJ4dwppusmGseCuAugpBNyB+wt0kjHh3aHk7UAWL\
+YtrUySHP4LuYqpr6Zga5gWzNowFtDvOBsDfIhsEeULLqI1jcfYF4j1sYg8oXZB4n36Ly4550uJuc9tofMuchYTTvZovqYAgErNeiePyQtuoBsnyIPYmIoCRDwmyUvH04WvMyqAlEwaZB\
+IA2bLkX9T6M8L/3Y1qrN1sH43v3dQtQxXz1GFar1kOCiiAGPVqzlfED2Hz5N1X88FE+ZERp6tzpnUlRZLkf0tyww4bD5nfENjWnQlLiHz6VLRsznU+uBM+mnlDJx03r3mtzEBl5wjfNL\
+Fnmd0qAsYJrbghlSwI8MIYYxDCohCaKwFNeYC/yVKuZ39EVzdziMQlihzODg425yaDDH+aAPCjKZBarF3wYUYNTMXT1c3GMjijLWZD5BW44aMxxfBefJaLKMQWdlUh5XGIbP341C+5ER\
+l7vh4rXk+AVGLCQa5Jj2gGUsxkybTFPsdFd3SdbnXJNJaWGUvJrg+z5cCJFxuqQTHsQCohgrh0aoIkua+InCm+dh1lewPxph4AYFV6+7ZSvu6nvftEYOQIblaJqrXq3V7gSWJOIjiArH\
+GDc5wGByxQoFCecPXXfakG8zb1XHAg5/6tqfTL2VS7ztkYKqIWicxvqm5rOgemYnCyqEpSJ7nS8r9XgDEdfFtTQ/ZWggiH9JyqkuwPYB4ASCSbMLqAMFm9m0DcS+KeRxORezoMLQ5LvE\
+ergNRZm43/2oTcRrMCpu3udjyMkZQ5PoDYiv2SgrBRxZmIM6Wak4ysnEZNFThxBZYeabUgGiZMBvctvkF9yGqFPiAot+jXz2bFXSMA8FWQ5rG/lTfWuLGjZmA1Wq8yepINbVhTqSphyT\
+8cKaisD6eSZB3GMDYMu9AGLgAAajAwW1gLS9JLAkpAii6OF5G5HWra5yJ7dofXYwwtZLMf0fnGzZER9YPnMcRMIkgLjUwBOa+fcSrkhkscBbRAThzEArKPoTfBw5kmWZDKGNPeQgvO07\
+Ei7MRoEiXWe8F8Iv2wPE9fjigURfEHAApB/eufUol64HcCv9ZydtouYSCt43VatkcV5oVfOjbAA9b3g8N5RJLrtMrJ6fWbBlIkWyvBqxg7wcs0CWBP+GmEAc+2dxkFYNjwIalr6sLfUE\
+BUoE4h8PEw5zPJgKGA5pECszF2TE4pAoeilbkTmJWy4cBRY2uH+PSaVmcB9xSyesbvSWqcL3mLJoq2B+ZbExFgPC5kKLRziEXWOCgxnEsaHhq+FawGKNDYatw28TpqMDRIYexpkjfBed\
+VY55jCJRcYMjxBoyt4H41+L1zzwD9G8TSSgp0chgqreCCq1GKrQL+S3G9IyCUbDhlQJ8kybGwxwgWUascbayBIJmuYr+hCn+IgxwhihpOKxMzgqzBc9Qw6C7FiCAbW3UBR+zy8xCuRqs\
+uMsLmCzjm01O9g82ZM1RIAjESU7TOsaD+AHyu90z6FCMteIxulnFMzGS62LoOH0CwkoM2iS2eHnM25KzmAr1NND+bYEQlKQg27i6mPlz1AYbX5GlVZL018twFwTczrohx/xtxXFpDwY4\
+DwQVKqWBdatRmqjhWrZVA7BXLfqzcdSGcSNHLcfSobnY4AlaWFToxokAHAI6+FbPTHOl9UFj5kRQGiSH61PCT40iqWJZdqYVw+TLpule7tmQmRBHwWtlZQ52dbAtEleF2TBe7gio1Fpe\
+Z4TohIxlVaQ0MoXYUt8OxQ30dZrQI5+GT2PvR0+TF9DxGwydTHM3ux+kl4FfaOh10UbYb/tbEkQJA+J0hTFEnDPpfTPCFBHOEfltcd4Ppvzm1xTzKeP7xLEpBotGZyseriye/BEYlhhM\
+HQ8dYtBXbFyAvDWKs9ZgIgh/ROZt2p8pKR6ep90EbGghWeIRiVk577m14XPbZNhaP/zD4ukwYxWvkjGQb6euLZ6Gtnj9thdOU6RQrh9CvrzrXmMZMlpW50Wx5UwexNy2GysOUIRZNC5r\
+jfxQHQ+vsdlYFiRgQCGCwf7Yn3zsU+H5TKQNx64PR/7UZgAHcmabALe4vnn+jWDHhkWWLA8fbG8Lja5SSBYDw0AcN7wz8Dh4tEEY+Dp1BtT1lZGe3S5kFrzwQzbXSpDCk/Ev1S3grVKG\
+n4pnE1etAt/r4QkUaxgtJhdLnjulR6//dsaUxxpYn5pU3+W4vJOfSIhQ2NXfZV7QZjW+OrIgCHxXXKSHHvgNq52GDfnU/2px3qUdZIu283e/j7ANeYL6wwXG1DfZzaU8wMB09A/uvho2\
+rjVQwNoaRCg8zQUdEHNYsGDxxxG06tovALzD23WyF7US6vMwo1AeEbQHlyApG9fyUEn3EdKBIqzkzQ1djCIGmp/m2Q5ksxgeyc2yRHtXfCfkt3QoZcDq6VlmCHu7eYNfunRfuHtphZuq\
+8884LlqNHja1ucOByAykaW0w1Z8odaIuCBEGDfQz4/p2ClDOl5qAnDPas2AHQUfDEMncE3NMgSzGtzLOKFSNiWscjIjfAZ3EUlCsVPw+P+SQTOyMkLnImVHLYnsMfhxkhl8kEMKZaIAb\
+xJpol/Bji0hC7Bx9QNKp1HH1YXefs58SiLkNfHyxNhua2BXazNlo1THoXBO6NKMENQNyFIqcMQAa9aAkUggzQeZ7+jjtQjobLGyRLw50A5pSVSXvaY6OmkPEk7waP07A+3u6RFffCZZz\
+m+20ODFgo2fig+j2G38INzw1AZZa1xfn96CsbmhqUAMti2QVuUsolYpOiCTNqsDCawOc4oepdwfl3YiIuRh7MeyiP9qUIbn1LPtjgZE03AjwqS2Bdnj0PolS3iFRKMps9cCCZpEQTdjp\
+WQ3raPpt1NJ2MR8enUoLyt1s8+SbldsPKsKwYkm6DtXgKZFY68vx3TMYhDuieohZOfu4FNYmz4ZlhiUR4rg+ntA4h5GLXeKkBdqLW3IJymsrHZItnvzMXTXMq+SHGhUj5jnIv2zgUzE9\
+I3f9U2PScukux/t2etMRE+Px/SaD9QFg/xtIiT6vnK/TTk3hNheVmrHhPhB227aFTXwI2z5u95PwEyStd2uyWXEPOAjfFo69cmuloV9FZsEFFuM/nIW9YqbHHlCmRFJhs10XfMnddw7f\
+v5lMaHyYlZPN8NsltVruD2JZdhkth/ewMGeLQyRTGmoyawZeNXUe8UNVdFI44H+tIAsP3mFtj3kwTioFpeknNCMSZk2GlXhmrVlidrKeBBR9dSAu3YpWUHJt+XK4KQ9rVt4GBlznTGfS\
+FJJCEVyRHvTYLkfS23AVPVZUUlFED4DE5XQfuYBWpFD70DFSpe2A30WTXer0g3Gn6kgUcohFj58XADIhu2BnPJTHEJMupjVDvLL+nNlHuCTFxfBcFWJ8juaA7n88HKwiX1iKUmsTRMdv\
+MZzjbiJY2oZbDcNQCX2JMKqCtG1nTV53EFe5n0mcus9FFkCcexWA2XrocfX2JiCJ4eSVCEYAMmJNQWBkwe0Q66gWIb1IaHaoS0Y9BK1O9P1BLMu3CFsW7gOxO2DJFsgXkBOLctqQTWWC\
+FaMyJNlt5MLa4qmNfKYckpkLESZso371Xw+GMIA0a5FxqHhjEEcKWJiojRje8t5QuTiw1iUftKrsoFihnieNYWOKbrJvgyvSnGq6YaS/YR1LP4s24RFzAGWms1XFWx/PEV6wdm06ERAZ\
+WiswFHNvpNJJsQudsSEbnveD9xJAIQ3dHJTshszMDcx7SzpzEsCHFNc2errVFPjJDmzfv3rJnj1m2VVeclclsKOwfX7mvOXfA/NnflV2RzZgf2bNX5YILdu5+E9TCBxmukt3ftWrSkqh\
+OiwCsikuMZGYP7ORZ4DItKOtY9AEmlCS5Mr9SZFdK4A3Vs6SitmSGTaC8QUrD3DkotZa0uHhP+awai2O6hIYkR+n4Yjmgk/HyTnaqZNgdhkcQK4uLMBHWAzK0o1gViC4G42BTsbs07Qa\
+wMWXQ4CgMKfCs7rlcNZvUHAIQbk75Qj1POe3nd4IQKbQBOINN1UuuInw68jRJ1vB/WqRucV5jEHwfjF3ypKSCBAOkTC7gJUjcqK9BzaEHHhvMoBp1Zl/3ATKlheAusOtU8M8JclrBJYM\
+02i5dC6B9tgqcJhUYt+sZMYzOk4mFBHeawKVPHMSkbGF96TTeK0o0Ij+f2ddzIIYmMfDYAg2T08OWYaowQMGnIcSiutks+BZTws9EcORBkJAUO4BZRci2BxPo9N8VXMICZw7LEhFbPYn\
+pcwFt4GUGDp+sRicbDIgpAq1BbAAb8GvPtsu3wEXOkpVOgMlgwj0jW3ZBrK8uc4dcuHvnJSNbsZTvp+IwlHpywfZtw1sAo3T3DaK5GY5oHVw8JHveQ2XInTVrI/WI8GHx0JmeIiTNs74\
+Sdnl5j8HXIMeZNERQM5rJAMhoKJhPw9X8aX5QUpEGHkh+606FDx5ijjq4O2a6oz7wxzaXlbk74iRrq71rthf2GoShC1YFpnpMEgtgGx6w/mwscL/ApcIBsYMGeEbQuvMdI8KExARy1IS\
+W3dh4ESiUWMswJ6mOO1eZndFBitkUCs2Z72JeEjNH1qpI5ti4gJZaeloiDo6lJakegJC0j5g35B6zXnYTS9v4+R1KHiFs2wd3+PWutwzvOlD5uP1XsmE54gxHG1ESRwiW5HGoEtPqKCK\
+EOtzVwZwdKa8wAYTzaPa9oIW3sv1yBEJApX7KjrLrE2EVZLcO4Fa6zDiZ6iHU8BGJO4IRnQAZNQq+GzS0aFAm/CV9FuEPynXaACKtQpl6q1CdvaytHzTSKkAbc/XB2B+b9gzGyqLdhDJ\
+gjMYEDPNg0vXaYqbtQ5ft3DsC2GWf2QCHbduFoDfHU1BAfS66jJmmCiRsAGYmvTK+bl+7Z6GmW0KiGoevF9t2St3u9nWXHSB0SwtpZojnytzduUAS907pDbMPJD5GrQzJHNgSJxhpDrD\
+GeFRDdWwVwnNIRSG7nntCxIWU6IfIRoqvPruT1nNSSj8zVfJbs5mSnwJt3RPHYrV59Jyc0KFoPuy5NM7YBX51EpN4XKRhYfkNPI3bJlYH2RzXOjuQHfGmtuKriCc4fhqetphU5DvZ3sR\
+0qdt4RzYRQgnT+tqc1rBAIkauaXSnCk55iJACOtsT+lkF12smTtPp++G7d6ZZ9JXa54l+fFGVCyjvYmJYpyDHIfo5t8LGbhjTOoc5INKrt37dcHFnENb164L+1TDlCJ4p9fZRAB2vI7H\
+0lMnZlXsx3QV/27faS8fF58IsAB8MpShgKKFoN1fW0Z642ZO7wAYLh+mi1BKM/kWMkCM2ap3VciFhFoKLXt3FjGX8R0RZjIOnMHAdxdYrYW4LG9Q1jjdh+qUAZzmX681OCdqXhoxlidn\
+wWGUzo2K3QJMyVEydrseW+wDD/HK69nUu0zuY4pMG095pKA6DtSPisBBsqxiqoNScT9sldIWdCX3bSaVW0ICJnvP+w2blzJN41cJE6VeohAsGW8t8JGMTrffwBL71b107GhF6xtvesDe\
+GmsyTNGIPUUuCYcs1M9VEMwOKKKEoHuv7spjMmQ7WLHuCcvZMnN68i7Rh9yrMKJHeyG3ZhpE1o52EwTHOo/gX3l62cbExOiTWWcl1XAQr2tuupywDgX14GmWGiLpmBY2VZ9JDkLWUIXc\
+fd1zG0ZHYw25sQG3wuoJBGj2vAUvc+s5EFBW/yekQPIYYzXQOJxwuaB5tdBFg2GPxD0jR+Gl6PEG7ih5zYDAMXRkW4cZRd+JKTsgPU0cnDTM86Yv4TLtX7R3kxG36igEwUfIg5ODmxA9\
+BasrM4u5fSmNJp5hTWlorr2wi6GCs7wTXQFB1e9G5Yn8yCIMz23RB22OfqhAyCTF/SuuMToje8uIfkMhE8xBvQliBg/YOZqhKzgC+Ri/nYufB63iYpNxNpXctnZ7DHLSJhkm8DUvrPbU\
+qeCepjeYt1UDXFsgSzcyglZv5P3RiBa1b1GxSEBA7tZYDdcoIao1UXLsMk7cZnNhdNWcq5KTzad/srbX6otP7hIbbHoIh2IC7AdmhV7x7keFF2MBVTI8YFx1+M8QwZl6M7BLgxyYgoFP\
+7DrET1yUOeBEddqb1GMSTxZ2AseOqKzLbhnftHbl6496RkZ3DV+/Zu2PH0O7Lsmev6moCv4qhFyaHQ7q9QJcRFNLncEtjLKxFcSdkn4x2R94nTnS0tQpGzA5ucH3fAqbO7kkKmZoLOlZ\
+22CosvEASfQXKZuD9ugXed6a+X8XvEa3nVQ0AbaLgccIOb5AzQnBkn5mEAyoiLap2kibM5sQ7146w3AR7Zee8Mdasl8WDmagZwoMNJEUrxPiC3iPWoJ9NIKVia88zTU1hc2jjZXFEiDr\
++3RxNhLPlphKdYErSipeK22rfU0z58lmluE+pI7ekp6tvVderyvr7lJotuBhP4xZ/BA+cUQQr8sxbzAHiGRalqi2d0pD0m6gZTHjYa/jQtCnNdD6MrVrprszGY2Wf+5SIG+xgTV/4kTX\
+IUKGKAbUWDUOa+X42Ng9HC6pW7TkztMW3nDRRr1ZKlRqy6G41VyYtWbztUlYLBk/Rr0g85avb2UHwKfVqxNRCIjy1t1niYNKuFoUtTlSCxy6WMVmMJ7fVovyNzNfkQ5k0PvfoY99QJT0\
+ulnVAEsYQyvQh6aLkDDnIFMXQDAiWOhp+jRp4a3oP6ELaZj7kyJNxozbCZstIMiLsnI/NvKBxdXKQLx3oEImZIUAX7B4bnk8baZdsAl+OvWPd/p0NnhPlAVtZK40ZfBkl4J6pGjIODF/\
+So+AIkPmypCtx09DwxUN7zJUoq6QEX4q5L5kJBPXV+HKiXK3WuS+KmndpsIrhz2blOs6EtYUnfCysHAxtfgH6Qsl2qUaHy+VB5XbRGNFbxrc8SLU28MbDAyJm9DKOZNmEqL2ryETTRoP\
+1W8ly8qgj1hqEVPJmVLgL9dFTAVHVabBbA6jxoDZFwUQMW0cd02FusLKS1d0Npr6jcWZPD6FkyRcz5WwDQsDkpcyoVgyFQDqJjEqT6QmryNMTfqEMyBNVwRvuAn1WLKslM2omAbPZ09K\
+BE/xPkNBXQsATcPXsyBgCYsJQ+J1m/1XrnXAXADU3DuawYDIAiuqxaJxeN4huORhlOw5k/RBCprlWCNzNEmhyUzGqNRIB812fAx6M3XKbVfLJNX/ZIfeIaJsMAxCVg84hDtcvaqE9na0\
+UR8wXeqRkbC5DmnFcLiYF/Xwpyersdu6H8TKMZmUziATYuMl3Fs4q9rQZlqcpUB8li8lxqL44pFixUMzZ6Oj8pKtInCoKt0MvqwoJXTl4X9EgVlOT7bxjKpHSo2FUeW3DPYPmFJmuFRs\
+yGwr7rhjqvDzsvKrrwNX7rtjf6Dqwj8oHslkwt+jKbFgXrNx3hXmyv3Hg6rOzVxfgifmRXcVKeZVlewZsHPZ1o7AV4tSzsV1m1b6uwgEw1ehQhmkA6chUBBxjJiUoC6We2OAPCB+hS+Q\
+QBZEkM1YkjMcdinaOMwNk1QHqN8ri5QUNNGvlZHUSta8PBjBQFAfMPOBFebLpi+oOPu4Mg7q49Cfd2S5z3c2o3BH2esG6bnKKqyZzNru0SwdAMXKbZRcfLPkae0cjfAONIUnC+lATMtc\
+3q3trtai+KWxEGPwRX7M1dkzy8dee4xzUk2FoYddmbNbXcBzOBBhdxp6O6M4dlyE0xGK8IsWy07gq43sbkec06VnyxhDGhvSxphXQsn6eVeQLyXth0OjOnRLDqOpyD2P2tjR/scC342e\
+1LsvnwXEHvsOsqOzu42zz41DfS/EFba1qGgNlAzoR2pjfjkaswjDi+YJnYBfoP3P+FIpk9F+9UIr4hQr6hLGDb3Fht4rT2KOkk3liEixbxMwXlkXGnh0cqnrH6qUaKTYAidiAg5V5Uma\
+RgBBoAA6bhMkhED9X657GzFKlfAXbzgEzjDUVdU5rYwi0mDAz291tWJICsCdUhDttqFKaQZupCwDujA2M6UY41swSMb/MhoHhA2vGnBJ3hRjSpE2sCK4Ss8+YoLTlxlnETrO+y8mNRm+\
+OLDuSBVjPW0Wrsd78gg0Df8EFav0yNJolg8Jzw5na4Lnl5uC5k+a/s7p7B0/B/x3/3Vfj31+j4ilnnk7lV3O5l8truVzm8hYu/yWXl3P5ES53cHlAtf8L1f4rz6Bf53F5G5f7ufw2Lr+\
+hRfsnfke2f/MZsv3PcHk1l3/A5Y1cXv5aKp/Rov1LVftDr5Xt7+HyJi7/MZf7uPwgl3+vRfvHVftzXP51Lp9+uiy/jssv4fL53P6LWtRPvFfr8dQS+/voGe370++vU/1d+rtL6+/np7f\
+vT79/TvV3Yon9/d4C/en3YWOmG/l7a9VkHqAiNOjeGI5vnG9GEI5u1Py12dTAozAsl6uHwPoP7ImB7CX8ChIog1OQIAcLmmBoz6Zt23JBoxZC7Dg0RQ1HG4NgLLZ35ILOAWqYYpWgJ2F\
+mywXBxo3Bxguy2MhEsBw8a4JBg84m9vfme/f39HfvrywPrrZBScxV01i1fWj4wr1DF27pmjEgdbyphBYhEwEKUDt6EiPr2V4lg++CyzCIGH+GgkeGlaCnfzWCxq7yrLbGwYXA7tabZOF\
+NGV4wWapNlWiDWdqLohyORmU7mHN68/kGwL980BtDbwLC3r2V6Ypp5RJ0gzWzBW7K9VmiykzD46V6hGxbHB4QSCowvPAqmjWBZYJoxmDqE8afIczF4aEdWwpFGxdwtBxWpi2gIFgV89y\
+XgLFvp6ExzZJugoSNYJJahTR1FKSxSmnwqlSD88nWJ2cpiIaZpWoN6SiYdL+i5eXbDdeCWB4vBfW8ABLO6xvk+XnRGyW+ew2Xz+XyWi6fyeXLufx6Lh96o8R3p6v2b1Ltf5rLBS4/8Ua\
+JrzOBvA90+8dfL9u/MJDtXxZIfP1RLm+z90Mgx6fbH1Dtv+JM2f4bzpTwncfl9Vy+isuvbdH+idfJ9m9U7d9+ppyPp8+U93FXB5WDVvOv4H/qdRK/PfcGWf7lGyR+vOFMhW9Vff3+OtX\
+fpa9fWn8vX6C/xHvV34kl9ndB0L4//X5K7eeBNyytvw+/sX1/+v0jqr/jS+zvF29o359+b9BVf/r91m/ut92GXjbMQ50uAnTs5AvO0OD0qp4HYU19DeDPxgwYhdTxIgPOb7w0WWoKfDQ\
+QLPV6Wp0AbLUBbJgjZCbAshHIwL61yiVw2C6DJf1ZCJC9tCAmAJvdh0EnplmAb1YOBsWZ6kHA+MU4wIAdrsSuwcp+MZw1C";
 
 /// Part 3 of what a page ends with: the app, and the machine in it.
 #[rattlefmt::skip]
 pub const TAIL_3: &[u8] = b"\
-pjfjkaswjDi+YJnYBfoP3P+FIpk9F+9UIr4hQr6hLGDb3Fht4rT2KOkk3liEixbxMwXlkXGnh0cqnrH6qUaKTYAidiAg5V5UmaRgBBoAA6bhMkhED9X657GzFKlfAXbzgEzjDUVdU5rY\
-wi0mDAz291tWJICsCdUhDttqFKaQZupCwDujA2M6UY41swSMb/MhoHhA2vGnBJ3hRjSpE2sCK4Ss8+YoLTlxlnETrO+y8mNRm+OLDuSBVjPW0Wrsd78gg0Df8EFav0yNJolg8Jzw5na4\
-Lnl5uC5k+a/s7p7B0/B/x3/3Vfj31+j4ilnnk7lV3O5l8truVzm8hYu/yWXl3P5ES53cHlAtf8L1f4rz6Bf53F5G5f7ufw2Lr+hRfsnfke2f/MZsv3PcHk1l3/A5Y1cXv5aKp/Rov1LV\
-ftDr5Xt7+HyJi7/MZf7uPwgl3+vRfvHVftzXP51Lp9+uiy/jssv4fL53P6LWtRPvFfr8dQS+/voGe370++vU/1d+rtL6+/np7fvT79/TvV3Yon9/d4C/en3YWOmG/l7a9VkHqAiNOjeG\
-I5vnG9GEI5u1Py12dTAozAsl6uHwPoP7ImB7CX8ChIog1OQIAcLmmBoz6Zt23JBoxZC7Dg0RQ1HG4NgLLZ35ILOAWqYYpWgJ2FmywXBxo3Bxguy2MhEsBw8a4JBg84m9vfme/f39Hfvr\
-ywPrrZBScxV01i1fWj4wr1DF27pmjEgdbyphBYhEwEKUDt6EiPr2V4lg++CyzCIGH+GgkeGlaCnfzWCxq7yrLbGwYXA7tabZOFNGV4wWapNlWiDWdqLohyORmU7mHN68/kGwL980BtDb\
-wLC3r2V6Ypp5RJ0gzWzBW7K9VmiykzD46V6hGxbHB4QSCowvPAqmjWBZYJoxmDqE8afIczF4aEdWwpFGxdwtBxWpi2gIFgV89yXgLFvp6ExzZJugoSNYJJahTR1FKSxSmnwqlSD88nWJ\
-2cpiIaZpWoN6SiYdL+i5eXbDdeCWB4vBfW8ABLO6xvk+XnRGyW+ew2Xz+XyWi6fyeXLufx6Lh96o8R3p6v2b1Ltf5rLBS4/8UaJrzOBvA90+8dfL9u/MJDtXxZIfP1RLm+z90Mgx6fbH\
-1Dtv+JM2f4bzpTwncfl9Vy+isuvbdH+idfJ9m9U7d9+ppyPp8+U93FXB5WDVvOv4H/qdRK/PfcGWf7lGyR+vOFMhW9Vff3+OtXfpa9fWn8vX6C/xHvV34kl9ndB0L4//X5K7eeBNyytv\
-w+/sX1/+v0jqr/jS+zvF29o359+b9BVf/r91m/ut92GXjbMQ50uAnTs5AvO0OD0qp4HYU19DeDPxgwYhdTxIgPOb7w0WWoKfDQQLPV6Wp0AbLUBbJgjZCbAshHIwL61yiVw2C6DJf1ZC\
-JC9tCAmAJvdh0EnplmAb1YOBsWZ6kHA+MU4wIAdrsSuwcp+MZw1CWDX7Jxt7pzYDawWQcsglWwmvQDZMARY3rGG+6AJbHT2dPet6RvoXd03AHPtSmvwEjWQDAa4CKv7+3v78RnkICnB7\
-YwOBBjLAALyK+DjZsUgBhKDGNhIEqG0+TaPu6Hz3p6ATSdyDDb2+xaigUJ6ZkPtnkVggpVXvwXqrTO1QM7m2gQga/neJ2CsaSXrQ6ZLNiYFZp6Lxs2X6HwhaAA/enJI1IdzWQvGI8OMG\
-046qJlvMOYqBoKr21waUBFm0ofZwAO9qIs2OEfdg1x+DZf/nMt5Lj/G5UGLx8+l8goubzxX4vk7zpbtT5wr25/n8gYu332u7O8p1Z5u/3zV/iuWy/bfyOUBLl+yXN5TH10u+Ubd/smzZ\
-Pt/r9p/ZLnkE1+ZofIQl4czki7R7QcK/mfOknjw6DmyfOM5Eo/+3XL5va6feK/6K569tP6WLdCffn+K2l8nl9jf+Lnt+9Pva6q/889ZWn8fOqd9f/o98F35FoxXHo7/yCGMYwwpKMN62\
-ZzRmE+xzpoe3U9CEsrcgGeesJM772QUy7F1G1MhZteA6vakY9a+YG5/hTPNBHPBWfklXmXd3cmxdO8oNVDMPb7ZEvEFnxMhrY3FVMgnCCbGVWx4uV1J+EZfoFVxXN9nG81gcFRjYhzdS\
-Yawu8dcADtrFCmyi3AjgNLF6JHnDf2ccNLxigCsyJG/duUIowbDKPcNatVyaQxi7nAOJeRwBym9rcW51mIo2O7WwHY3GvQYBH8wqkvAk3xid+9ItbrDcFAFP2oNXQiWCeOlty7McIuAS\
-wt4RK3u44vA3GnmN3dPBdaI5ODiw8s1x/cvXLmN6Mqg0+2asXO68hPLg95e74J4JivpsHNXUPlVXO5fIfmMPSvkfXCEy51c/uQKKee6T7X/JdX+P66QcqyXrqTyKywfyOWuFu0fVe1vX\
-Cnbf/NKed+8Y6Xkcz60Ut5Puv1bshIfBCskPhlaKfs/uUD9v1sh65+yon39c1T90kw4Gbnzi6Wgew9IOgp85MoRaSNhYwFKmu/usTISkiAwL2/OQ73k1PLzEIDIbvBdGy/phihXYRd2M\
-Gh3C2lo+CnimQt27t4xNLKH0Mw2eNyIBTkEXc+OcLI0VvAQwkR1tk4ggS8BZhPClASUyRe/AgjgZJu/PeC4DAh2nkXMF2zbvoW8W0MMihW68wTS617Zey+LPWJ61j9M9iShNIQOknfmI\
-NZaODblz8r+7nz3/rz/fwvOE8sTuuQ638bl3+byX3VJuuvZLknHrFlF5Uu4/Aer5D69u1O2/+lVko7521WSn39RXtItHVze2aL96zrlPqzn5Tl7B5ffaM9NXsof7slL+YRu/1LV/s9U+\
-6d2U3kdl7d0S7zQUO91+1Nqfo51yXP2XF72f2yB+leq+qeq9X2kU9IV+vvbV8nvj3P5xYusP6f629rVvr+bu+T3f6LeL1Qft3Ifnlp5wPqCjZeNbLmgFJXH7RmPwN2IU52Q4Hgixk2ks\
-jtUB/cjtFGkq7nBrGMvHMWe/v4c3c2AoPBFL9/cHC81zyyl5TblGZUndH/vmjX7+/b3qKeLObstcRxer3Ii+oPdOy/ZXT1EszAgEVwYoEsTileBpAOLq3FUVZJEHvEdtkOcciMoWngME\
-VG0/gaQBVIM1R8OlLr7epc4xNVyFKu3zDXrYcFCj0QficchLKVheZnXTb5pCZf5v7kFwRiQYAxcbLAyknkoZsZnnm0O3gtOUlJnp0ea1upsE2eTiDh7NVgJSy2ESaeQymP02wO8Z8k75\
-Hs98txc2yfx+oe53G31dH1S7vzifsmfruyX9FatR57zi/qlni/ql3Lk67mc4fJn+yXe1e3fp9o/2iPxyK4+iZe29Uu8UOX3L11k/Xyf4od7Zf07VLmmynlV1v2N9Mn+Dir4jnD51EV+X\
-+LybyxyvPr7/er70SV+v7dPrselfUsbf7kajnfDATH/McdIf5h7oj+OoaG/9izCx0F3sGv70KYtI2h4W+Bcsxg8wkYZqmP2coPxbSDTaM6cEHou43RyFKb8oGMkQT5m2yCcEktqLYvbD\
-M5au79CnKJmdAVy3g7wIo/b6FgjBrEm2LV1aM+W3cEFQ3u3j2wmdtsOhmbC5bOxzLjDwNGcGa9B0/yC2ihS2q5DU45qtgxpzUwZ85vAmnujyKeMwt6/a+W6/QOXf5PLj66V9M7LChJv5\
-Lm8ksv7CvKcZ9bKc/e2guSDjhak/cUDBYlXflKQcjDd/t0Dsv1zBmX7awYlfVsflPB/mMs9Ldrfqtr/qmr/8UEJ/++eJ+Ffd57kA3X7j6yR7VfOk+1fc57kU+86T9LX93O5t9X8K/ifW\
-yPP9Ym18hzPnCf3w1UF+X6h+sdUf1MD7fv7yuDS+tP1T1X765EF+jt7if3p+nOqv61r2/c3X1haf7r+cdWfrv/VtUm82yNQUM8FYbnc2DkxAXI1xgmUiBcs2zgUYExOAaLIBW+dqYEDf\
-ZMZVECSjVSqS2IZVqz0LwFf9voULQLcCwTtcHXP7NjULsRsjC8BCov6GeV5JicWe4ZOQIfyUHLgHfSkAKals/Lp4NdISGdGkIoy+wSYfTGYG63ELgGnveDSAbVvlw7pWD1qRC0we78As\
-z8Gk0KmpkDpLug0IPnl0mE0z+rBWd0pEK4WEK6OIdwUlcsp8KEUMXnToxMQiB5Nd8CRndXb3WpbNnBRe3taXoTPrJPnbGY9lX+Hy+9aL++5v1gv8fR96+U99R/rFb27Tp7T394g79kOL\
-p9l5Qzq/Z4NUq6g2z+p4C+ul3jiNRtk/+evl/VPWy/xmP5+fL38Plov6dmF6sNKD6TSeQPBxqHdu7dt2c2naBfpbnkb2CMCfJZhuVix2x2re/lJiox8YRqoPWZaK8BcO1yNz48UpVeqf\
-ILkaZGqBrXjTtso5/tfuPy71k5ho7zXuzbJ/Xb+JsnfXblJ7oddQ0o/tUm2f/smSVc8uknu39M2U3m4RftHz5ftv2WzbP/gZnlePsbl06xdLZfnWrR/2pDcT8+cL/frfar/xzZK/uZhV\
-b5is9yPjy3w/uRG2f83N8r3C7V/UsF/x5CE/5qhpcH/h5vaw6/fLxV+/f1R9X1to9J/blwa/N/Z2B5+/X6p8Ovv4cyuYTKhm2+zdM4M7FgdzpmIDtkQVXmgfTzxvY9t8gn8w8oCCo/EW\
-kqUHnmqQYx/aE102uOennRYe5w6z5FApPXEEGiAeSgLugCNxsQFCtfKKdrHIIkUCbbs63Aco6VFmrmsU5sGpfKDuZjbrC+IaHvThwPayc1RVCug/wTSpKMQGzsoRwcNj77W2ss261Fk9\
-SMD9LJxOIjGpqqO2AuBuUfyBASbh/NdXWuOQIIRVevskllXBnv/WWeXoAqE+6NabhD7z8rzMxgKxA3QfPPJC+X+//hWif/u5XKOy09ulfj7Z1slfjx7m8J/qv1N22T7l2+T+PsPtkm9x\
-3Eu727R/q4LlF2cav/VF0n96gZVLl8k5Xu6/ZMXKPx3gcJ/qv+bt8rzfKMq/3ybPN83L/D+6FbZ/w1b5fuF2j96ocJ/Fyr8d+HS4N+4APwbXyD8+vtd6vv8VmU/s3Vp8H90a3v49fulw\
-q+/9/F3X1v83cc4kXhFCgIKug74j1FirHpNWjYsCnGTqUR7lN2fDl4/wrWzggn7ChgbHZAu6Q3YSwy5TlIy09VTZGuRIiBDjNRdrUJw5PJ8Ei93p+NkbrV7Qdy8Oh3u1cPVXZxpNc7yq\
-bjDODw7OdjXvbxC1hqHFezoIQEjN3V+FYLLO7bL/dy1Q+KvLTuk39U7dkg55md2SPz5zzukHvl81f6vD8v2Xzss9dr7uXw6l5vDUq6o2z/5Jtn+7ar9LwxLPfyv75R66VfvlPyBbj9Q8\
-D/zJnnegx2Sf/u/huX5y+6Q+qWF6h9V/RW3t+/v15bYn65/yg5l/7dAf5kdS+tP17chc7qFKtqlZ+tGbfQC7lBoEZZzNmxj1ZlaOYKa4ErZHM4Fc+a/5vCKN6GWcA5+IG2GnjeQC6F5K\
-IoqQhmbdlYgcML+SjOfa6bYmo/sHtq0hbHXHgs9el/2JAbVg4OypuZWTLS84dlw0ylf3Ztmv32oyobQTSSXm1ALB4bFudW9ixjE6r50OtLB2Isw7o5qEcZLBMkmoiki3wk8SAVD/2trZ\
-o5ChbjuYqZ4RcK/6Kndcl+O7pHy+lkun231D3vkOX+cyxdYumpE6l3nVPvnj8j294xIf9D3jki+/gsj7ds/VbX/kr2y/dO5fL7VC+6VeO59e+V4dPvH3qzOrWr/n/dK+6AXXyzx+Plc3\
-tyi/Yxq/9qLZfvHLpZytnsvlnj8vy9uD/+can/rm5WedI+kew7skXjm9y+WeEXX1++fUv3dvcT+Htrbvr/Ee7X+md1L6+/FC/Sn359Q/R1bYn8bRtr3p98P7JH9nbpnaf3t39O+P/2+Z\
-nC3dKCFJ7EHLXlwoqjTupSg8TAFtTJVw4rBUXmDOCsreuHfrmAOHnV1mf9f0R9sWBNk6HF2RW/Ovy/I8QSDvjXa4TIyNWnONZnjXd5c2ePhNIIXKyQukF1lRKD+5RGPDmym2QjS80QCN\
-byPaJ1vks0fw3moG+g1bP2VYn0DjAlTtBAd370wrk6Ob0U+fXy9yUH0mkHsiaJxfwwU4L/HJvpc3Wem3B+FjQKCHss2rfYhc8PPu/E48Af6+lav6evLr+ldk1/b39+9urt/SWPZMJc+l\
-L7kUPqGq01wHKCxcOPprkFkEFFkCIoYWR+TN5ltZi5Q2ICczYl5pebwkqAO04HuTwLdH0vd04DGBWEDWuT46IlpwlrrcQB7ciEno5CSNzSKPb607dOdDj3fB5dJ/PLFy+T98zCXV1l8e\
-LmUq3RzecrSB5er+AqXyvY/d7ls/wSXz+Hyjy6XcqGX7pP3v25/SrU/vE+2H+6Tduu37JP3/zcWaP9u1f51l0r8e/dlEp/+zWUS/+7YJ/Grrq/fZ9R6PLfE/u66vH1/+v0x1d/UZUvr7\
-/OXte9Pv4f9t7rF/bLaiVdD5q+nogZeNOARAxkLGqW5JrAUFMfKYiX71H0TuQ9QbIy1l3RmMvp/pnpW/2/Jl86a5JDXGCS3sxZVIhS1FLNFq6ArZoqxtCKUResta6ovDRMELWAeSAI2Y\
-ADbBCExCbBMDFi2SPp0sm0rcV4Nmydy1mBiWBQaDCFmm9WxjlwPZutG/IyEQDBaHTW0QM/S7kSzIOlDyRxQclsu/xaX/+iAxGf3HZD080uuoPJWez6vkHr1R/bL9ievkO3PXSHxi27/k\
-6r9Z6+QevLTDyh/cNXf2BXyfF19QJb1+ynV3lY1P3MH2ren30NszB5DwTjGFhLBwwOKQsVcrmNZKV9ig1hXTrGFGd/jpPNIOvJJhobsN5wQnpaW+GS7cYqGlDRVi4tieU3FbrGDRA77F\
-mcW4iNCME87TPi9hGFSGC0a6QsDEjtuAST1Qh60zxTluu4KpT3tfi6/0trrhlL+dp0q3x5KvvZkUfFBobwH/iGU/rw/CaWd4ULt36Haz4zKfZcblefoylFpv/3hUXmOdPtHVft3jkr4/\
-2pU0gn/OSr1YR1jki7R7d+yQPv3LTC+7y0wv+eH8v1pobynL1b196n6ej/o8kxkNvI8qgbewoEO6BHub/rJkYFsvCAMrE3qiFLTz1yFGerMxQtOvbBpN+3csWNoeDNv2y1zpjbEwjYHq\
-9HRqIWHKnio5hvNaIYs/dCpF3NzWiGe1XOzDydIxUqTU2iKNlOCTGrFWfwVdM4a8t8VDhbJzAU9asxHGJQ7hHAIGBTcmTJDrZw01qIIpuQeCDmAwHF5juJFcnMTHPi0e/WaNWt6ujnCk\
-nB+qFQ7QYneCR+Qa4oFwMwxQGD62Ll3JAYEKjUjSsoLL0qN2CNoz+5NE/UoouhTuaBmLlpIfAkTXiXHl5zLV2u+tYB0dk5F5ZrBLKvGo4OrIHcWnrdI0c0T0t7ligkpl7thQtolP8TlN\
-1n9wqSMM1RU7a+flP6qF01Ke6DDk1Lud8ek9LPT7ecjub9fNiX9SV4/JfHF6JTUn/yxKj84Jc/zfeMS/l8ryfP/upKMUxSV5L3+5yXZ/7MlyVcECv7vjUt88K9TUt/47JSE56fq/S9UW\
-X9/vlqP/zMp9QcvVe3fouC7Rn2/ZlK2v21C4h/9/rQJia9ORnK856v3myZk/5tV+7q/pX5vzknYrAMFC7wIhTyhMpC/yK3bCGh45zppFz5tcihk/IDYe8PP2Ae+V5q54J1XWqlZsJQC+\
-xizEKkZLYX4Nce5XPWIX9DLoPYY6gSdKSh3E9aAEKfjpQmIpc1/2o+VMy4vB/9fUBCBtQr8KOqO0dGYvuzsBJrHjXjUYKOliyy6QYCYD6rTrQcZzdWiMcNKdHXZX8GekaGRLQUeEuWKH\
-i/hVWLuJVgTrIDeKFQrsLNAiB5iBhGxR2tkUaml9nIBR8CjdlzCQNsZ3H7tRxmPppMHAJq21CuSxwRtdkDsulo0HjZZeMhbiB8D7Wxlk/yGubMKOw35FGoBlfKefNJ+CnPLlw+MExKQg\
-DU1qaesfK0L7tYNRQy2ly361Hh/3nCFKMw1OwB6NRU7O+kWHm5Bp0MwHorJIZe/q2upjDWc/xl5/v95RtKDv5yR9Gh/RerXxyoSn3+ay6+z91FZ4a+K1H8/yeULrX6/SuUd9n6ryvvu0\
-1V535xflvj161Wpn3+6Ku/HN9RkfJ231KSfkIb/6LSE/901iX+P1iTf+sWa1Jv92pUKftV+vqz03Wq+7puW/f3TjKyvy39Yk2UN7/tqEp/r73V9Xb5FwVssy/cPz7RvX5f/oSq/1+W8q\
-v+M6u97Cp6vVGT/S4XnREX5+ajyfar+NTPKfky9f3RG0gtLheekqq/Ljebs2DRehW8ZNyiiXOVSsGnrzm3myGPSrD0BVati1GuSooPBEyN5lCwZXF/hdAJgeACkNYRNN3T7bHxzAVddJ\
-PacE76joJDRE2PWpNlPjzb2qYVhCJ4aNc3QtzdkGEEyAVEX5NoEyNMGC+8ORvV5X4+AlSmGaDQ+CEiWbxJ8UQyoxEK5CgX1A0RuL3hHcfDoi/QdBVCFqoUixbWNQ9/xV9HcWFTzQxK1E\
-2gkx9/uhitDPKSUCYDn9np1gyd3dm8P4BIbxgwi9/BC+1feIF5cAef+BVrA6SrxmmtgZky7nUD/MluvLPIihwlGnrkz5O6ocd9Byfe+sBwmbNrnoQbyvTUWI1fqTxqiHa8r/XFDnsOxh\
-owT95GGtAP+84aU43y1Ie+B6+rKHqAhy083pH3EOU15D+9pqvjdTakfulS1/yV+v4zLX2tK+H7UlHKcM2bbtz9Vl/fwvU1Z/pum5GuOLTDerap8ekPO/yN1iXdHVf2Fynr9DqjyQvV1G\
-Uk2EgN5YhziccJpLywSJeCF+Ios+6TUyuYsxhIiSzo7IVET0zLHNkvUSjv8uMFFtLYMGKeFw3wx49Ho7GTRUuZ1VEdUquS4gI78ka3OGDG+AeBLlo0UUVizJBblKo9EpaZiGlVius3wd\
-pLDawMgHZWq4bia1fq8gZR/+cAzHgElvJmtAHIdFkeLPHVQctJy59/al1+72q7DUkYxmj4KpAfn5L65f07e/w/NyXP/r3PSP+B35qVeZPm8pHeLqv1t87L9N89L+ckfz0v68/55KX/S7\
-edV+6+5Srb/e1dJPdBFV0n/xUuvkvaruv1TVPtTqv3aVRLPffoqqTf/X1dJ/kS3f/KQbP/fVfu/uErS54OHpXzs0sMSD+r2b1Htzx2W7V9zWM7/3x+W/MF/HW4P/x2HlP/bnJQ3Hzqs5\
-F8L1H/2KiX/nmtff1LVP3+B+q9W9WsL1N86L+vfskD9L6v9QgLwPP0J8uNk1Q8pukkwfMigU+bHbSghiNMI4aBynKFgIvBJCKSMY/nCQYoLtKD8vZsh6LbCKyEUAYxrIINY0SziAF0Y1\
-ogqzfJ8zhJSTDKXq9VpS2nVoxrcAkStkOqgGecnKCK9V/wVyr16eCQ9Hta3N4edOOIOaDphhqFPKSePS5i8tZcb7aUo/rAyqMhGQVEh1idgzhl2kqDxWWGSoT11gJQiSUpsbGaOZRk22\
-3vh9jEofUI940XkSwWnSNVIZoPKlqLW6AjdygL6nH4Gop91KkKDghG6ac+mw0ImTAAJygcTExNQBVilxCv6oqV2Jf92ef7+lMsvt3r3t0u670dvl/jqN6+R8p9LrpH483tvk+3/4TWy/\
-Zuukfj+W9fI++9JLl/eov2jqv2L3yHbD98h27/5HVLf+rfvaN/++ar9/Dtl+4PvlHbFR94p75ObuFxp0f4zR2T7Z7xLtn/2u2T7E1zO2vnk8q4W7QcK/tPepvQ/75L6q2t4fV9m7Wbfp\
-fC7aq+o2nvtO6Xdh27vjHfK+vep9u5Q7W18h9RP6faG3qHuN7WfT3m7fH/oGikf1O0dvEbJt1R7u1R77+Py/2jR3ntVfScN6N5WLkfmSGIW4y32qXsdpL8v2OAI80E5msDcmhAHgTO5u\
-Fi/7OVrw/nXQ07jN0HuEBF9FJaTopp8UlRTry9SVLNxy9ahi7ft3LvbXpgMdKOjhwczxLlfUsbbskohGJ0tT9sMDXQFhNJGNx/7cOswEbHrmR4YxrDpDjrNixr0gIM0T5I2JtI1ZVsFs\
-kHM1swVnTKM1NcFcgTiF3YdQBg1C9olutHCUrMI+du2F/2FwhCOmMMNFWGLGBeFY8GVg49xkGZcPQuMq28jZnrj4BwpI2tRgcJk2GgcEMkDq+F+HDVgTRu+Nworh6bMZVPkcDYbiwH+a\
-PjfpkW/1mOzpVmMN8PxFWHhRnHh6AGW9WgD5STVP0KhHFMGmnhVkAE16aep4JK1whPni1SGBHr0iNyS8pZ+CuaGrYDKcviLGXRimG3O4SnFayW+uelaeZ/82bXSr+bpayX/+dvvlnFu3\
-/xueZ/kVftXvlu2f/W75X301XfLuGi/VGXd/imq/c73yPYH3iPlbLX3SD+rG94j+Tvd/mnXqniU10p8nXuP4n8WqF97t7ofF6j/4Wtb3Aer4w242tCAY9MBmJygq1sIyeOBz5hnn0LG3\
-oQLV/e5UNtVpxkfmw4xrBfonikEBDWCvAg05F6YQovQU8BVpZjcre5fCuZfEw9rzahpmxIEFxA4GzOVYGPA7MMmU9mY9w0tGuvmMUrj6xwxn6bGYkscjWnWTpX/mNpOH6f5pMVhGohhH\
-2D2ktYEJtnTLVj3c2zfoAYUK9EF5Wyt/Wfe5FOozFS4YBLqnrrXLcBA99rehID6ufcp+9TrZfnI9VIO9Beq/N3rpZ739PdLOdWcar///VKee977JR9w7ful/Pgv36/yvqj2T3+fPBc/e\
-b88N8+9X9Jtp31A9nfZB6TcRbd/6XulvPhPPiDLf/EBGQfplx+QcTWG/0D2p9s/VcH/3HuVfFuVj71Xyo+vul7FD1ygrOE/rNb79g/I9bn1A7I//X3mfS8Mnh++X8rnNTxPqfk59gL76\
-3u/LOv+9Psp9f3p17+w/vX50v3r99Xpt3R1oYSFxNRjeN8jGeFHuJ3EDCfOB00rXkHrBjw9Sj/QPYDj+2Cb46XxNhYj3c9b17puXXDx0Pa9WzzwARfiMyBrq17eMIjsjTSRi0eu9IdIy\
-zgzGk74aHWlMA9suqkTkbUKQNlmTGZuqxZOBbt4TipUwuRlZ6NG3XHlnBeQHP02i+ZhEdYCxurLn1rBadF5WyIcJgfzSyPlDgmh3UUzGoEpLVishuDJgjDGGWriCJQZXydS3Dn61mis2\
-YXMRdbQrpNVIhPAsaQJ2cPmmnZa4gFSRBGhNfdpfNRp1Uu/UlX/Kad+UOKPL39Q6idPflDKoV7zIUnHXvIhiZ9v+ZCk+6b+SLb/tx+S5//BD8n741U3yPb3cHmfvS9ukPj/xFHZ/oM3S\
-Dn2t2+Qdken3yjvx803SrpVw3+6av/ojXJ+buLydi4/caOMT/yKP5bj0+3ffVTh56PK//2oyjPzQVl/ofL1N8rvv/RB2b5+r7///RvlfXbpHyl9sSo/9wLh1eun4T15g4RH139OwfOUK\
-h/7oxcGn96/Gr4vfUjCo+sfV+1dp74f+OALg+8LH2wP3xcWaP/uD0r4MThxA//FixRuik07N2+xtwbgnEPS3gbfs+8FMgr4C1l4wmuc0jkhMveEcEXAuEWPD8BLmK7eEDtA6Ubj/y9BW\
-gRCJPynkXY3gLLJ/CpWK0PjB8PKWFS0XFNO3BLLG8xCFQ33o218aEqJ16JMT/ZOICGjQf3pghsvzJNhzgiA4KyeBSeiNQfWjiqZrRwqVcbp30bor9pMOB75PFo5guBeMSPtM5IVOxFJ0\
-RtsKyt5W4QhF/HLhsqizVn3WTbJr3Gj+Af/wY0Umou1Ml6OUIw7nbKVBd9pL/ImxRrCrYzbEbRBa+xoKLCySz9uV5c7Sh8HfAqLFg9DkSy9afkFjn9YntcHb5J68W/cJPnLl39E3n9ru\
-LzG+hl8RN5PmQ9L/PFHH1H5mj8i/UQ+8xFpp/D4RyS/+6qPyvv7+DHZ/sqPSv5oFZfrXP7YR2V73/iojNOl23/kf8r5+d2bJX8b3Cz5zfrNkh+972ZJ3+j2jx1T+FyV51T5UjXerer9g\
-Cr/9s1yvn9LlX9Tle+/SX6v37/sZon/X3KznO/TP6zsco/J+rr9hcp6PU/c1H69j6n+t374hfWv96vu/wMfkf0fV98fU+XrVHlOlS9V7Z960wuD/+6b2sOv3+vv/+4mOb6/VeV7VVm3B\
-ya2pagBf8DO2dAA5idiPLAGa484cxDY0cOdJUidGo6/cJSfgul7lnabjzdANBmDZi1154MiYN1ieztlYeW8kB/Nki/YkplTj20eLzkbEAoVGVsRL286C2JIE51z0dI9pQlaEc4NFzknh\
-YHWBWkTttlsGDODZnvWJtHaSuI1V4T4NGzt0NW1SGd2MWoI2AP/NVbW8itH852jefMjIScgsEIbtnMiqOULQXEyamKkzyKMlMXZDfp2MCia1opksUkMcmDKpnkW3Ti7Zu4BVWU+KYVTQ\
-joyiJQMOjNnrATTmMZxdz8/QtPqtz+m/Ck+JvHEf35M6nMuuFXeU8dulffgA7cq/5lbZPs/uFW2//NbJZ+9/jYq7+Xyh26T/jm6/ZN/Ku/Ve26TdMf3b5N8cefHpRxBw1/7uLIv+VNlv\
-/JxdU98XN7TT3xc8vHn/pkc31v/TNIp9/2pxJN3qPKHPi7nS/d/zS1K/6TKRVXepcrnq3Jelb9zm+z/kdtk/1+/TfLBX7lNrscXb5N0jl6fXR9T8KhyXpVP3iLb/69b5fullv/3rXI8z\
-90q1/vHt0r4dX29n08qeO9T5TtU+RZVfuZjcnz/qs7jD9R7fV7RGBH/wchqTfynwfwqsIfkYVqw9naxghBREvomFnuCZneQD9YZRg4QY3dRu92Cm0nOu1Jzscj3kMJx5tog/Xctqk+FN\
-TD0A9RbAK6a2G24Z4q/0psLYaxHkw0rRG6w8N1JoXGGkpNgR0PI1eXvpWyOUbnsxUZ1Wdi9kUfo+AoWCLOVRg5wMPDka2h2SKkLLVFcn6aVLS/SZ8aaDHh/YYKt76q5hvAqss611BTeo\
-jQ0VLsW0RJiRW8w11McNP9Yabtj/fGznuVk04BqVxu0AcZQPUSGHS5ZO5psdqGzNpni+F47sBYLBKOFux7+8+PamF4blHCab3r2NqpUgllDZJTxagwxvh55KCXdkHw3cnKz7uxEsmI5x\
-rYbrY6aKejqWs7+W/QS7SEhGeHwYs1r/V7Ympa7MW2397vNHFf0vip/4bi003/ZJyT/t/sT8l7540/IuAxP3S7x2IOfUH6Rn5DtB5+U/PJOLr/d+gd9UsZxuO52SZ8/9UnZ/s8+Kf14L\
-/iU5O+PfErmFbj3U9Iu/tTbVV6QT8nys+r7/KfZ74AR6YY/l/fw2/9c+ivN3a70g6p8qSpvVeUnPyXtUh79lIzT8cin5Pxo+B9R7Z1Q5btV+d8/KfH+j1RZz//px1X+PFV+6BNKXqP2x\
-zFV/zpVnlPlKVX+q+OSLvjL47K/Tx9X8mi1/9EZHv4D9WB1pjE1OzFRjpzdH1LSaCpN1hRhxfP5AzRIwrIGRLmkT3LxA6xZFJ7yjCOwx6C7qwtcrYrkxd8IphivAVaHDrrRAwurGrz5g\
-nHFhjWMK7bsGdk2fKHNOGBYWTEy0g+D2A+N8jvArHOe/vFMggznmJbnzV6EYHzv/MniaHRwJ1LYBoP6oknkHoruowbFFWzOx6H02Oq00VYBGAqbvVFRGkMZY0I52JJ3CZo9QdKKD+eNE\
-hnQtA0BWBCwA+OV4j+N0VIlrM/HqZrNHYERhwoiBzaECYLwP17UEaJb8PbE/QH+spi3RtnTw0s/hba4AGluKX7qErcKQEVbBZJBT7ZMFg6aEfNfqWJ2wyxKsxve79Bq1dEG1T1mb16Cd\
-JCynae41CaUI7t3XmI4XLTKAuX2TPUg5BIybPooJJM083NlMGqIgtEy2XWhoRcIWti8i0QmoAyHZH0NoIui8kSARqvwj6ETYQOSRS7uhtp4hE9gq5BJa2AtW22y7ZrZlaDYJ069ZnMc1\
-WiTghK/gi1BjEV8DSkoaphrg01GrY0lG6iOkRFrMMZ6+GBM2xUvbgVxe3R20uQ6R0dDYVy4d+jCLbyI3po0w9EyBaZ75A5l93inxJdH75T+v1+4U/Khr/is5JMzn5V26pfeIfHtus/K9\
-sPPyviut3N53Mrv75L0wDl3yfv17s/I9i66S/ZXukvez5+4S9Ijuv2f3qXy3X5Gtvfqz0m+cuBzUm5x3eckvbBQ+8c/o+SvqnydKk99RtJbnZ+T913v51Qeis/JuIKvVfX1eLbeoeTzq\
-pxR5dNV+VRVDu+S7V+mynvukvAM39V+PU+o9u9W5eOqfEyVL/uskgt8VvLdGz8r/Uz1fs3cqcavyqeq8nN/qfTzqvyIKp9Q5btV+bgqH1Pl61T5PXfK8b1Nla+8U+6PKfX+Lap82Z1yv\
-UYUvthxp6THhu6U9Oq6O+V6anyDgUXwn/nKmMHhldJV0fiM+dOs1mdmzUVnyIfSxDz9O1Quj1Ur4yXAabsjsE4OK83t5uM90UxYM7wdOLRMhZXJqB7qDJvYRy7gptGfsmG/aviyUIrIF\
-DZtgie8rJlhb7gYS47CYIGx5yJQJJ890ydfkHH4kwYFYLxo6OIhjgQGuZU7yqAawFj3mw0nvB31t7Y0GTXxTejlewdqAZ0Z0b9RfmhT89mHfEMzHVeMCapew6gXHV3kiNJx8w2+sOMB3\
-5UiMcbMJ3OW4260FiN7u3wulriL4YsA8Yu6pd5aBWrCXIvjYWRWa/dspQLPt8xFY7Nm5XyuHGheJCds8H8mrZx3bMPaYjScGKDoqMgKaAPA+5PTUcWZjAdd3EYa9gT7Y2DgsthALmU4m\
-0v1yAzGULAdB6tmWQ3nHzarM6WxIfwXnHjM5rSRPMejMi4WRF0IeAdaMRcGEsAXMXFsCHRIEEQ5i9HVthHYbsxCRIb0KXZhsuPG7AwsLycuhhK3b6nPIpBI9pWjTA2++WuVv+Ie6Xdfv\
-kf6SXz8HunX8f17JD3wn/fI+/vE3RJfdNyr4gZy+SLrB3evtO/++3vl/fpdVc7creQF98rx/Pbnpfwg/LykD3T7n/689APZ+lcS/pOfV3EiuRxYeuBvJH2w7W9k/pjy38j5Of1udb+o8\
-nN/pe4XVX5ElU+o8t2q/MTn5Xz9v2o8j6vydz4v6ZFvq++/+XkVl019f7caz3FVPqbK16nynCq/SvW/TJVf/Hl5f/33vXL99P449teqf1WeU+UpVb5Ulbeq8oAqn6f677tX0iur1PlYq\
-eovV2V9nn5PjXfgHkXP3KPyG/y1sq9X8O66R8VduEfCe/E9sj/9fqHvG7XZeqk62zgUTkezNfq3YR8GVK5UnbVdw/n1gKl42ACnukbESncQZlvTJOAZQxThJCNC4R1VtZc/XJhF1B1Yp\
-zoU6rtbLe66UU3ICS5hvg4lLHRNdBj+Drwx4U8D/oFstJjK0OYzBIbREhtwu0+RWVmN0yeGaXl2mawg8QlL0ekDd8XTVz0uo6PppZjzxOl+CDKqs8DNrQwORmBAHSDPb5Jjo2HlS/X5R\
-jmKavNwGbGm3jTeaERWcmal8ai4PjRVtRZnOVZhoJZBOkU2gK8vKndFiltQix8CnRLUQf0Qx6kvQqqZIq2W+bWcKLwFVg267ChXq8D9o6p8vBqVG9FktVlFa7cwgJcUovStsyCbAAUMe\
-ivg+2I4aciKQtBljQlAZmEANODhGwjaOVqJ8E90JY0DRBz0ktYgIR4xbVDKh2olWjSzj36A9D3IfLohlCf+6A38/4VSsNR06SEwYsYyp0/DVD3YCP0c8JpwmXxafIzJQfFb/LW2Rf+xZ\
-BGqed8zjUZN2MJq+v7Q1Hzgk8cUAcMlGc1QYtKsa8vLumga81IBIiyu3GoouLPwU/w1oIaC2pgWn0KMvxzlEEj8b8HEBa4VGysEw4fkOFg60nABZ4HFGB/WmIejB/Icu1a8GMs5F2Ums\
-DMKVjUc0KXIoWNiAGyM35yNM+MNgz615kV8AmBS2MIZkJiNcePBApbEFJ5W/89F8lOTmqNzjgNwDaElLobeyWG0Qr8hTC/hOINlvpo4x94v4yXz0yysGEwoVc4N55rjAYDozDXJk4rq4\
-hzuiLjVQzoGIYcMAuSHZLhrZQNkYLMRydSkmBUpl+h246Br8R7jEEa4tzk6jHdMozjc0LIUw3T4yjNL50+4TM7383gjFALtzh4fEMMb52xwRDGfQUJYDAh33DJNrgUUbLb4H10RvlA6z\
-tjsoRvk9pGxzgXAUqoVuCg8CIbRDbp2YGuUcHNBS+D7ct+XJV2ly19S5RNflvFOHvmytNt9+f2SLjvtfskH9N4v6ebV90s6at39Mh/G1fdLOuqd90u5zh+q/m64X8YrfkD191XV3z/eL\
-/WmP1T9PXu/5At1fy86IeE9/4SKB39Cypm2n5By5akT0g+pfkLGO9P9ffyE5ON+ovp7doH+fqH6e8kDcv10fwMPyP7e9YCK5/yArH/9A5LPu+MBGcfziw9IOeTJB5Se+gHJB7/qQdnfq\
-x+U4/u9B6UcfN+Dsv3Sg8reTfV37YOSD39I9feNBfp7VPX39IOSj9b9vfIr0g9u6iuyv+mvtO+v+RW5/9/xFRmPSfd3m+4vLCP5S4aXSEOamyKTdY4qVjKUCBlgPT1IBdUI1kAI34SUa\
-dkM0oTQzTLQPS5r5svjJdB0hQadFjxP19i+ZzDAECFWz9zZ0923pm+gd3XfALx3pTVhsC6oDNZmwfGS/WaL64KDrWCwvqPLyHV0mQ/Tit6Z6kHUvRmq1jALhVhZG8MF/Y0OjlVrcAONc\
-o/tOus2nUGjSASndtsXjo+Dus90ayg403EuGGvdd7AyGKPxjprb1VxwYwzEIEnJwhoJagHJLwd5bRMj/bYHsWcZ/ugJepcBJESw13tSwe1vzI6CZpLARZA6Y5BmSpVfPUzQXXuYDA8Bb\
-MT27QXy/CbzMHbQqQdnsWiUthOxGcTKLEfJJrAyyAcD87e9WJ1utX+gE4iPaKGgWIkClh7D2IDGFuZne8t9NBgsCtTSRJAxc2wmOWvucAkmRF0Mg+jK2bBsZr79ZOaXAUg0hwvA32v4M\
-9A2I/zU/5lt+ieOBaGANwvA0WsXtXsZc4p2v+VhbaFfj1uUi7zW8IHATnqAndcOLowaRNzEC4RK8rAKqlNOueVrEr9+/GuSXvjk1+T999DXJP3wOJcv4XL/Q7K9tQ9JO7V3PiTvB12+V\
-n3/3ockfXP0IRmf738/JPXiur//UO0/95C83/X4/vshSQ++8iSVoxbjq/P7N1u/lpNy/nRZj++Bk1Lv9vBJad+u+/slvx+xcrmvy/Hs/bqcr/1fl/k1dP3G16U9/N9+Xd7Xenwnvi7n8\
-yuqPd3fya/L+H9PfF3SZ2d8Q8IbfEPSuyD/Q7uRxaHHMIB0xlUwyIWv5OFiDQq6uFpHDU7mjIEPTKVBSw2spriwHDwJJThxYKU2SBZhnQCeyMf18MC7wE3nMfo3BY+AUXAB3HEghiK0T\
-jaqjr7xSBoM5Ic0jRvGmgBEYJiaAYDOBUhgNOvz6OsE/xwG/uoIeTmhTg55smpFMJCBnkinnmP7O/QyXdzktZg4DEIVgtRuGc/T2mXWn2oZvSignVB9jURiq8mSCLo7gmLR+rybHFTGw\
-XCLaTOyBEioD17MNsD0YS8Ed9iCPGRAvMwQQJsWKD36AOoHvUixy9HKOsgU07zRs0Xq6mCRY5uEezD9X5f53YW2SeVKJswO4s9El25OBniP+UGpoMXnS4uC/uWbEk9c/015zj/4TalfO\
-/lNiXf+1zcln/Wv35R45plvSj7gTQ/L/oYfbt/f3odlf1c8LPurPSzxru6vqd7PPSzx/NselnjwxoclHvzUw1LfqMf3lYclH/c/viX7O+Nbsr83fkveGxd8S/JVe74l4+zp8b2L34dc/\
-pdvSXie/pacTz2+Z74l47K++NsSfj2+4W/L9SiPN0DpHQabWjJVm1ClEoGkEDEPme4mLoB1WIdoetSpb2rLW5HevVlthmW9t1nVTu9QJd/NBdz13Zq3aDbgCzMEbHKdOWAIREj9EyyAh\
-cHCEa0cW2GIEYSxa2y2DtodKmWy2BhqdpzTiTvMqZycs7StjvpnF7s2Zzb16KI3CBheogXmyEjB6dzazXqzy0UzzWTdT+cSOpILZitI0ZaaSQ/PtnCjXJwBR5DMQwIZ3xTYSLTFcHrcc\
-MapXshTW4qjsvLEdtvIVXh1uUnG8OZe7RxeH0F+MBgrR2GdhMrufQtsiYCbZ8vaAouuGqc9quweHpV61tc9KuUn+x+V8q+JR6Xfx02PynP3p1y+zNLD6v1/Pyrp6VO/I+NNX/QdSf9f9\
-h1pF5roj99PWPncY3J8L3us/fh+S70/4zEZN2L3Y1JeVeTyFdYO9jEVt+cxOV+6v689Ju1g/vkxOX7d3zmPy3vhmsfl+H7/8fbje//jEo/e9rj0i/mnx+W98czjEk+/+btyfJd8V/ITe\
-v3GvivXr/5d2d8nvivvjf+by9dY+fb3lHz7e7J+Yr98T8orJ7hcaNHfLfz+Rsv/fF+Ob/D7cj43fV/ee2/9vrzHr/6+hOcL35fr80UuX2XvRYON0eI8DHa1vIl2FZzesh1WtJ9msrHnh\
-FP+D5pqkzbkMVnmNdkPENQe0ThdV6wdHa+a1ruXtcAv1kcDai1z5u4oLjEP0i6rPjSoJ6t6M9I2QsNFj9aPyp0Z9YZsMx1ZuEKQtYHerdUUmOI8T8Lixu9EIS5wN9Y3g44no8ebjB51c\
-4M1JVpUwqKjj0Amyw4tOESbbgyUjSlAsy2GNdWEdctBQjgzermAPcsWe0db+84Y5tSLmnwh2CPCAT9UGd8cxZtPjCRa3FaUQ1poEAwzgbHEfRiGIdrk+tAPwURzxCoJf2zXiWndgASQ2\
-wgZeQTXrgPGOnzh60Fmw63Wg5xoYV3IsoXNcOlo+aMZzSYtckdjmkiMhem/lOEsdCxaUVCxdbA9IP5YmKISe08PsscbZMn63SSG6YLel0bL82bM5dJ0ZI1+ipR4UETAdww7zRpaPiBn2\
-vt8R4qho8FnZ5kLex8PGgeFbyUX75GUSK4laUkcfh/5F7GX0a5F4kesPQLJ5iuYfiGTbXIhokCj1pSMrcLA3AyNuhwhSkFWUGVu0CnYnaAgagk7Wu6FFlvabgMaXptdgPLEH8j7+eIfS\
-Pqq+AMVx1K9/+QPpLzvuz+Q9OO//EDGF1n9hLz/1z8h6R3d30VPSPqp+ISMg6n7e/cTUh76DdXfPy3Q3xP8/jXWTvUJqT/V/b3+SUmPH3xSzufVT7afz3c/KenVjzwp4/fr/r78pJTXv\
-/4p+b7jKSkX0f2tfErSv2ufknHbdH/RUzJ+yz1PSfrx/3lK8hu6v6+q999+Svql6/5+42kqT3G58rSSdz/dfnxXq/fXPi3jjOv+bn5a8jfkc8ieh78CGtKGFzLXoLqjrUlo3gpbGQ8A6\
-2oRSxoRyZfOmpbXOLuJtCM+7N3u7ngzUgPdbudVvIueO6jBUEcSgfXIc0IWEPa2hsxSFG1hYy9P5+1JsA1RaUHAyIiXKi+S7vHvS9dre6oHHVDZDZXg21sJlwAhpvDknuaj5iLnTwBKn\
-bcHEzYSeckaIEuNEbevHHTd7XafFZYsch69C4c6bbfOfey3a913aRZ3YUEeFnzkhGW5oNPCbMNiVyIL4FR11sBryAwu16tVML/lLvBtu82J5tp5/KrF3kSTcXQ05hNjfgpo4Z2D9VcBF\
-nbWFiiyi/qhvHfW/1DeO1t/KONVv/eHSi/7Q8lnf+OH8t596ofSX3j7j2R/u38k79nLuZyxeuIfyf7e+yMpB/rijyRf/2Uu/0/rD/Vj+f34j+W9osdX/bEc//yPZZ61W38s74Hbfyzph\
-n//scoz+mNJN+j+XvoTKbc44yfSDkr3N8jvj1j/nJ/I/u77Sfv+vqreP/ITKUfR/f2fn0j/K7LqH7NszsaW99zGQhxmuK3gHlrKZNsyeA4VHoKzO1NqNEqQjTLv6oO+rwXfZ0M3TUJs/\
-8UzfrF/KHzYnvWjYAE2p9ViB47VQUSkE2AV/BhUJBnxeQDmkPqQB1jK6DSbRLENlqmR4hDpVSqTxMOM66bwSRw2wUZPMNuk1KCsYcn7IyVjGF0eRMIsNEBeLe6pzXKZZeIgDi6Yg4HLw\
-DKMq8EuJcnbV7ga4wo870lPm2k7qxamhTacDUAxFlNgG+n+a088qMQNi51Xj/JqPbGoX/w3iWfX/JuUN1/wbzLvwPX/Ju2p/4LLe6w98rNSPvybXD5o5evPyv6uV/WPPSvjOz76rMR7T\
-3K5ZO1j/l3eWxNcblr6nhyXrP8SSj7aWz4umtRvI0AxbYMdvJCjlKwgxW5JRAf9cJ7GRPI5dFSCSKtoAuvcZFDmUmouSa4UI40y7AK2PFu7zHPnYhmLE7JCxXRbid5gLk94k74ec3O6s\
-a08emk3yqg3cWNCAKXmDcMFUIJCgY8mwFT2+U3n4m+ftIntNhPrOc/hp5ZEX8Ss8n7+qTwfl/xU5UX5qbQn++lPZTzSV/2H5KcP/YfKM8Xlj3GZd5DdSMNDO7YEu4Z2j2zbsifYxwTrr\
-gPmJzKZw+ZXBaIWB1ezRHTY/IqTBWw/AA0U3CIP2rYKAW6H1f39vf25OHEcO2YOBvu6ug6Y+UE7mbCcI49Q8L2E0FmV6FCATHU9QxDlLHrMzrhAWLEguT4YFBFIWE+Gkv2jPEhtIgjIK\
-N4MfNGeSniEbSaZjjzz5b3e8CfrEViKtaP6JWtP0K1diAFEXgB3DfbgTB7ywjINVchH/1PSlcf+U9qt3M3lSWuH8l+Sbh36L5n/+Ir/kvtnlMtjdv/wSXEnRu4gNtlvsy+63b4Y9KoXY\
-nMwlyKX4rexlV2DAlJsZ8O7Up3sBGGrbJofK5fGOM9phndKji3t9I4Zw8oWe+Ayi7Pfbb0OeG1bWREmKQReKr559UINPCfP+YbnpJxux3PSD+W65+Q99yfPSbnol55TflLPSbsCBtzCj\
-6u0XS/KdipQqBE03Qxb2rWbiWZDF4OuuzAoSEZPrvXliPOFgbghj7OcPpFtbV3wPv+Z5HNmfyb5vrf/TM7jB34m40zc/jMp//zHn8l5+zaXL7TzBmZAZHMEsyVnLKRgIFYLSgRnY8oce\
-DUR+GycjaHQFhNeHQzLswaRpE7HYs2c9Awd/bkcjy7f8HN5vv9Svf/cz+X9od+//heS/oOuYQCD7NcXljEKT5xXDV7GWWhsuDo/UozhBstlc6Ixum2R/L1tAAGelnwO3q3oLeKDiEJEm\
-mdzUJ8T+IIJ5cLOQEGwk1LWme4CdBIpsL/jDsgDxIUtBzEiAD2v1iNbZ8tcOFMrQzEkH+5E2Jsc8rbWrbyY4kK+y/MB72gf2mZRDujspvsWMYKtUbnGP2OY/aHsKmMAZfJgjoM5F53uf\
-LpC4QsalDCv0RVcVp3FsAlhY7qwbNmLfu3XX/yS33jpqS9b9vJXvPIUVzrlRf7/Tjml/AqyzNd/z385/R3ivy/hv1v5r7ULdfFFrH5mGb3/Jf99Edf//wB7CJPNSVgHAA==</script>\
-\n<script type=\"module\" id=\"script\">\"use strict\";\n// app/language.js\nconst m0 = (() => {\nconst KINDS = {\n__proto__: null,\nhalt: [\
-\"\"],\nldi: [\"rn\"],\nmov: [\"rr\"],\nadd: [\"rrr\"],\nsub: [\"rrr\"],\njmp: [\"L\"],\nbeq: [\"rrL\"],\nbne: [\"rrL\"],\nblt: [\"rrL\"],\n\
-call: [\"L\"],\nret: [\"\"],\ntry: [\"L\"],\nendtry: [\"\"],\nthrow: [\"r\"],\nout: [\"r\"],\nlds: [\"rC\"],\nsts: [\"rC\"],\nself: [\"r\"],\
-\nintr: [\"T\", \"@.interrupt()\"],\nintrd: [\"r\", \"Thread.interrupted()\"],\npreg: [\"rP\", \"register()\"],\npbulk: [\"rPr\", \"bulkRegi\
-ster($)\"],\nparr: [\"rP\", \"arrive()\"],\npdereg: [\"rP\", \"arriveAndDeregister()\"],\npaaa: [\"rP\", \"arriveAndAwaitAdvance()\"],\npawa\
-it: [\"rPr\", \"awaitAdvance($)\"],\npawaiti: [\"rPr\", \"awaitAdvanceInterruptibly($)\"],\npforce: [\"P\", \"forceTermination()\"],\npphase\
-: [\"rP\", \"getPhase()\"],\npparties: [\"rP\", \"getRegisteredParties()\"],\nparrived: [\"rP\", \"getArrivedParties()\"],\npunarr: [\"rP\", \
-\"getUnarrivedParties()\"],\npterm: [\"rP\", \"isTerminated()\"],\npparent: [\"rP\", \"getParent()\"],\nproot: [\"rP\", \"getRoot()\"],\ncaw\
-ait: [\"rB\", \"await()\"],\ncreset: [\"B\", \"reset()\"],\ncbroken: [\"rB\", \"isBroken()\"],\ncwaiting: [\"rB\", \"getNumberWaiting()\"],\n\
-cparties: [\"rB\", \"getParties()\"],\npawaitt: [\"rPrr\", \"awaitAdvanceInterruptibly($, $, unit)\"],\ncawaitt: [\"rBr\", \"await($, unit)\"\
-]\n};\nconst DIRECTIVES = [\".phaser\", \".barrier\", \".thread\", \".cell\"];\nconst THROWN = {\n1: \"IllegalStateException\",\n2: \"Illega\
-lArgumentException\",\n3: \"InterruptedException\",\n4: \"BrokenBarrierException\",\n5: \"TimeoutException\"\n};\nconst ARRIVES = new Set([\"\
-parr\", \"pdereg\", \"paaa\"]);\nconst KIND_OF = { \".phaser\": \"P\", \".barrier\": \"B\", \".thread\": \"T\", \".cell\": \"C\" };\nconst w\
-ordsOf = text => text.split(/[ \\t\\r]+/).filter(Boolean);\nfunction readListing(listing) {\nconst read = { phasers: [], barriers: [], threa\
-ds: [], rows: [] };\nfor (const line of listing.trimEnd().split(\"\\n\")) {\nconst words = wordsOf(line);\nconst behind = word => (words.inc\
-ludes(word) ? Number(words[words.indexOf(word) + 1].slice(1)) : -1);\nif (words[0] === \".phaser\") {\nread.phasers.push({ parties: Number(w\
-ords[2]), parent: behind(\"parent\"), routine: behind(\"onadvance\") });\n} else if (words[0] === \".barrier\") read.barriers.push({ parties\
-: Number(words[2]), action: behind(\"action\") });\nelse if (words[0] === \".thread\") read.threads.push({ row: Number(words[2].slice(1)) })\
-;\nelse read.rows.push({ word: words[0], kinds: KINDS[words[0]][0], operands: words.slice(1) });\n}\nreturn read;\n}\nfunction readWritten(t\
-ext) {\nconst read = { names: { P: [], B: [], T: [], C: [], L: {} }, lineOf: [], questions: [], head: [] };\nlet count = 0;\nlet isHead = tr\
-ue;\ntext.split(\"\\n\").forEach((line, number) => {\nconst cut = line.indexOf(\";\");\nconst code = wordsOf(cut < 0 ? line : line.slice(0, \
-cut));\nconst talk = cut < 0 ? \"\" : line.slice(cut + 1);\nconst asked = talk[0] === \"?\" ? talk.slice(1).trim() : \"\";\nif (code.length) \
-isHead = false;\nelse if (isHead && talk && talk[0] !== \"?\") read.head.push(talk.trim());\nif (code.length && code[0].endsWith(\":\")) {\n\
-(read.names.L[count] = read.names.L[count] || []).push(code.shift().slice(0, -1));\n}\nif (code.length && KIND_OF[code[0]]) read.names[KIND_\
-OF[code[0]]].push(code[1]);\nelse if (code.length) read.lineOf[count++] = number;\nif (asked) read.questions.push({ row: code.length ? count \
-- 1 : count, text: asked });\n});\nreturn read;\n}\nfunction readProgram(text, listing) {\nconst { names, lineOf, questions, head } = readWr\
-itten(text);\nconst program = { text, ...readListing(listing), names, lineOf, questions };\nconst about = head.join(\" \").replace(/`/g, \"\"\
-);\nconst cut = /^([^:.]{1,60})[:.]\\s*(.*)$/s.exec(about);\nconst isName = cut && names.T.some(name => cut[2].startsWith(name));\nprogram.t\
-itle = cut ? cut[1] : about.slice(0, 60);\nprogram.about = cut ? (isName ? cut[2] : cut[2].replace(/^[a-z]/, sign => sign.toUpperCase())) : \
-\"\";\nconst registers = p => program.rows.some(row => /^(preg|pbulk)$/.test(row.word) && operandOf(row, \"P\") === p);\nprogram.children = \
-program.phasers.map(\n(_, p) => program.phasers.flatMap((one, n) => (one.parent === p ? [n] : []))\n);\nprogram.everParties = program.phaser\
-s.map(\n({ parties }, p) => (program.children[p].length || registers(p) ? Infinity : parties)\n);\nreturn program;\n}\nconst nameOf = (progr\
-am, kind, n) => program.names[kind][n] || { P: \"p\", B: \"b\", T: \"t\", C: \"c\" }[kind] + n;\nfunction operandOf(row, kind) {\nconst at = \
-row ? row.kinds.indexOf(kind) : -1;\nreturn at < 0 ? -1 : Number(row.operands[at].slice(1));\n}\nfunction rootOf(program, p) {\nwhile (progr\
-am.phasers[p].parent >= 0) p = program.phasers[p].parent;\nreturn p;\n}\nreturn { KINDS, DIRECTIVES, THROWN, ARRIVES, readProgram, nameOf, o\
-perandOf, rootOf };\n})();\n// app/names.js\nconst m1 = (() => {\nconst { KINDS, THROWN, nameOf, operandOf } = m0;\nconst PHASES = 214748364\
-8;\nconst phaseOf = view => (view < 0 ? view + PHASES : view);\nconst threadName = (program, t) => nameOf(program, \"T\", t);\nconst labelOf \
-= (program, row) => (program.names.L[row] ? program.names.L[row][0] : \"row \" + row);\nconst strong = text => ({ strong: String(text) });\n\
-const hueOf = t => \"hue\" + (t % 8);\nfunction listed(list, and = \"and\") {\nreturn list.length < 2 ? list.join(\"\") : list.slice(0, -1).\
-join(\", \") + \" \" + and + \" \" + list[list.length - 1];\n}\nfunction spread(list, and = \"and\") {\nreturn list.flatMap((one, k) => (k =\
-== 0 ? [one] : [k === list.length - 1 ? \" \" + and + \" \" : \", \", one]));\n}\nconst OF_ROWS = {\n6: [\"the stack is full\", /^(call|try|\
-paaa|parr|pdereg|cawait|cawaitt)$/],\n7: [\"a return to nowhere\", /^ret$/],\n8: [\"the output is full\", /^out$/]\n};\nfunction thrown(code\
-, row) {\nif (THROWN[code]) return code + \" (\" + THROWN[code] + \")\";\nconst [text, words] = OF_ROWS[code] || [];\nreturn row && text && \
-words.test(row.word) ? code + \" (\" + text + \")\" : String(code);\n}\nfunction objectOf(program, row) {\nconst p = operandOf(row, \"P\");\n\
-const b = operandOf(row, \"B\");\nreturn p >= 0 ? nameOf(program, \"P\", p) : b >= 0 ? nameOf(program, \"B\", b) : \"\";\n}\nconst hasSevera\
-l = program => program.phasers.length + program.barriers.length > 1;\nfunction callOf(program, row, thread) {\nconst call = KINDS[row.word][\
-1];\nif (!call) return \"\";\nlet at = row.kinds.indexOf(\"P\") + row.kinds.indexOf(\"B\") + 2;\nconst object = objectOf(program, row);\ncon\
-st filled = call.replace(/\\$/g, () => {\nconst register = row.operands[at++];\nreturn thread ? thread.registers[Number(register[1])] : regi\
-ster;\n});\nreturn (object && object + \".\") + filled.replace(\"@\", () => threadName(program, operandOf(row, \"T\")));\n}\nfunction operan\
-dNames(program, row) {\nreturn row.operands.map((operand, k) => {\nconst kind = row.kinds[k];\nif (kind === \"r\" || kind === \"n\") return \
-operand;\nconst n = Number(operand.slice(1));\nreturn kind === \"L\" ? labelOf(program, n) : nameOf(program, kind, n);\n});\n}\nconst rowTex\
-t = (program, row) => [row.word, ...operandNames(program, row)].join(\" \");\nconst STATEMENTS = {\nhalt: \"return\",\nldi: \"$0 = $1\",\nmo\
-v: \"$0 = $1\",\nadd: \"$0 = $1 + $2\",\nsub: \"$0 = $1 - $2\",\njmp: \"goto $0\",\nbeq: \"if ($0 == $1) goto $2\",\nbne: \"if ($0 != $1) go\
-to $2\",\nblt: \"if ($0 < $1) goto $2\",\ncall: \"$0()\",\nret: \"return\",\ntry: \"try { // catch: $0\",\nendtry: \"}\",\nthrow: \"throw $0\
-\",\nout: \"System.out.println($0)\",\nlds: \"$0 = $1\",\nsts: \"$1 = $0\",\nself: \"$0 = Thread.currentThread().getId()\"\n};\nfunction jav\
-aText(program, row) {\nconst call = callOf(program, row, null);\nif (call) return (row.kinds[0] === \"r\" ? row.operands[0] + \" = \" : \"\"\
-) + call;\nconst operands = operandNames(program, row);\nreturn STATEMENTS[row.word].replace(/\\$(\\d)/g, (_, k) => operands[k]);\n}\nfuncti\
-on entryText(program, entry) {\nconst n = Number(entry.slice(1));\nconst said = {\nC: \"call\",\nH: \"handler\",\nA: \"onAdvance of \" + nam\
-eOf(program, \"P\", n),\nX: \"action of \" + nameOf(program, \"B\", n)\n};\nreturn said[entry[0]];\n}\nfunction plain(program, parts) {\ncon\
-st said = part => (\ntypeof part === \"string\" ? part : part.strong !== undefined ? part.strong : threadName(program, part.thread)\n);\nret\
-urn parts.map(said).join(\"\");\n}\nreturn { phaseOf, threadName, labelOf, strong, hueOf, listed, spread, thrown, objectOf, hasSeveral, call\
-Of, rowText, javaText, entryText, plain };\n})();\n// app/ending.js\nconst m2 = (() => {\nconst { listed, threadName } = m1;\nfunction endKi\
-nd(end) {\nif (end.word === \"stuck\") return \"stuck\";\nif (end.word !== \"all\") return \"open\";\nreturn end.threads.some(thread => thre\
-ad.status === \"died\") ? \"died\" : \"ended\";\n}\nconst KIND_TEXT = { stuck: \"\\u25A0 stuck\", ended: \"\\u25CF all end\", died: \"\\u271\
-6 dies\", open: \"\\u25CB open\" };\nconst few = list => (list.length > 4 ? listed([...list.slice(0, 3), list.length - 3 + \" more\"]) : lis\
-ted(list));\nfunction endText(program, end) {\nconst who = status => end.threads.flatMap((one, t) => (one.status === status ? [threadName(pr\
-ogram, t)] : []));\nconst waits = who(\"waits\");\nconst died = who(\"died\");\nconst parts = [];\nif (end.word === \"all\" && !died.length) \
-parts.push(\"all threads end\");\nif (end.word === \"live\") parts.push(\"open: threads could go on\");\nif (end.word === \"stuck\") {\npart\
-s.push(\nwaits.length ? \"stuck: \" + few(waits) + (waits.length === 1 ? \" waits\" : \" wait\") + \" for ever\" : \"stuck\"\n);\n}\nif (die\
-d.length) parts.push(few(died) + (died.length === 1 ? \" dies\" : \" die\"));\nreturn parts.join(\"; \");\n}\nconst lastOf = list => (list.l\
-ength > 5 ? \"\\u2026 \" : \"\") + list.slice(-5).join(\" \");\nfunction outputText(program, end) {\nconst said = (thread, t) => (thread.out\
-.length ? [threadName(program, t) + \" \" + lastOf(thread.out)] : []);\nreturn end.threads.flatMap(said).join(\", \");\n}\nfunction threadEn\
-d(end, t) {\nconst { status, code, out } = end.threads[t];\nconst word = {\nwaits: end.word === \"stuck\" ? \"waits for ever\" : \"waits\",\n\
-died: \"died of \" + code\n}[status] || status;\nreturn word + (status === \"throws\" ? \" \" + code : \"\") + (out.length ? \", output \" + \
-lastOf(out) : \"\");\n}\nreturn { endKind, KIND_TEXT, endText, outputText, threadEnd };\n})();\n// app/elements.js\nconst m3 = (() => {\ncon\
-st { hueOf, threadName } = m1;\nconst byId = name => document.getElementById(name);\nconst childrenOf = list => list.flat(Infinity).filter(\n\
-one => one !== null && one !== undefined && one !== false && one !== \"\"\n);\nfunction dress(element, classes, given, children) {\nif (clas\
-ses.length) element.setAttribute(\"class\", classes.join(\" \"));\nfor (const [name, value] of Object.entries(given)) {\nif (value === false \
-|| value === null || value === undefined) continue;\nif (name.startsWith(\"on\")) element.addEventListener(name.slice(2), value);\nelse if (\
-name === \"vars\") for (const [key, one] of Object.entries(value)) element.style.setProperty(key, one);\nelse element.setAttribute(name, val\
-ue === true ? \"\" : value);\n}\nelement.append(...childrenOf(children));\nreturn element;\n}\nfunction h(kind, given = {}, ...children) {\n\
-const [tag, ...classes] = kind.split(\".\");\nreturn dress(document.createElement(tag), classes, given, children);\n}\nfunction s(kind, give\
-n = {}, ...children) {\nconst [tag, ...classes] = kind.split(\".\");\nreturn dress(document.createElementNS(\"http://www.w3.org/2000/svg\", \
-tag), classes, given, children);\n}\nconst fill = (element, ...children) => element.replaceChildren(...childrenOf(children));\nfunction butt\
-on(text, onclick, given = {}) {\nconst { kind = \"\", ...rest } = given;\nreturn h(\"button\" + kind, { type: \"button\", onclick, ...rest }\
-, text);\n}\nconst who = (program, t) => h(\"b.who.\" + hueOf(t), {}, threadName(program, t));\nfunction shown(program, parts) {\nreturn par\
-ts.map(part => {\nif (typeof part === \"string\") return part;\nreturn part.strong !== undefined ? h(\"strong\", {}, part.strong) : who(prog\
-ram, part.thread);\n});\n}\nconst MOTION = 200;\nconst isCalm = () => matchMedia(\"(prefers-reduced-motion: reduce)\").matches;\nfunction pu\
-lse(element, frames) {\nif (element && !isCalm()) element.animate(frames, { duration: MOTION, easing: \"ease-out\" });\n}\nfunction fly(root\
-, change) {\nif (isCalm()) return change();\nconst places = new Map();\nfor (const one of root.querySelectorAll(\"[data-fly]\")) places.set(\
-one.dataset.fly, one.getBoundingClientRect());\nchange();\nfor (const one of root.querySelectorAll(\"[data-fly]\")) {\nconst from = places.g\
-et(one.dataset.fly);\nconst to = one.getBoundingClientRect();\nif (!from || (Math.abs(from.left - to.left) < 2 && Math.abs(from.top - to.top\
-) < 2)) continue;\npulse(one, [{ transform: `translate(${from.left - to.left}px, ${from.top - to.top}px)` }, { transform: \"none\" }]);\n}\n\
-}\nreturn { byId, h, s, fill, button, who, shown, MOTION, pulse, fly };\n})();\n// app/beside.js\nconst m4 = (() => {\nconst { threadEnd } = \
-m2;\nconst { h } = m3;\nconst { hueOf, threadName } = m1;\nconst SHOWN = 12;\nfunction endsBeside(program, left, right) {\nconst all = progr\
-am.threads.map((_, t) => t);\nconst differ = all.filter(t => threadEnd(left.end, t) !== threadEnd(right.end, t));\nconst row = t => {\nconst \
-other = h(\"td\", {}, h(\"b\", { \"aria-label\": \"differs: \" }, \"\\u2260 \"), threadEnd(right.end, t));\nreturn h(\n\"tr.is-other\",\n{},\
-\nh(\"th.\" + hueOf(t), { scope: \"row\" }, threadName(program, t)),\nh(\"td\", {}, threadEnd(left.end, t)),\nother\n);\n};\nconst isAlike = \
-left.end.key === right.end.key;\nconst said = isAlike\n? \"Both runs end alike: each thread, each output, each phaser and barrier.\"\n: diff\
-er.length\n? \"The other threads end alike.\"\n: \"The threads end alike; registers, phasers, barriers or cells differ.\";\nconst heads = [\"\
-End\", \"Run \" + (left.id + 1), \"Run \" + (right.id + 1)].map(text => h(\"th\", { scope: \"col\" }, text));\nconst rows = [...differ.slice\
-(0, SHOWN).map(row), h(\"tr\", {}, h(\"td\", { colspan: 3 }, said))];\nreturn h(\"table.beside\", {}, h(\"thead\", {}, h(\"tr\", {}, heads))\
-, h(\"tbody\", {}, rows));\n}\nreturn { endsBeside };\n})();\n// app/check.js\nconst m5 = (() => {\nconst { byId, fill, h } = m3;\nconst LIN\
-E = 80;\nfunction differenceOf(there, here) {\nif (there === here) return null;\nlet k = 0;\nwhile (k < there.length && there.charCodeAt(k) \
-=== here.charCodeAt(k)) k++;\nconst from = k ? there.lastIndexOf(\"\\n\", k - 1) + 1 : 0;\nlet number = 1;\nfor (let at = 0; (at = there.ind\
-exOf(\"\\n\", at) + 1) > 0 && at <= from; ) number++;\nconst start = k - from > LINE / 2 ? k - LINE / 2 : from;\nconst lineOf = text => (sta\
-rt > from ? \"\\u2026\" : \"\") + text.slice(start, start + LINE).split(\"\\n\", 1)[0];\nreturn { number, there: lineOf(there), here: lineOf\
-(here) };\n}\nfunction checkOf(page, listing, trace, count) {\nconst isOther = page.source && differenceOf(page.listing, listing);\nif (isOt\
-her) return { what: \"listing\", ...isOther };\nconst difference = differenceOf(page.trace, trace);\nreturn difference ? { what: \"trace\", \
-...difference } : { count };\n}\nconst shown = line => (line ? h(\"code\", {}, line) : \"nothing\");\nfunction drawCheck({ check, item, text\
-, plan }) {\nconst isShown = Boolean(check) && text === item.program && plan === item.plan;\nbyId(\"check\").hidden = !isShown;\nif (!isShow\
-n) return;\nbyId(\"check\").classList.toggle(\"is-wrong\", Boolean(check.what));\nif (!check.what) {\nconst choices = check.count + (check.c\
-ount === 1 ? \" choice\" : \" choices\");\nfill(byId(\"check\"), \"The machine in this page has played its \" + choices + \": the trace is t\
-he same.\");\nreturn;\n}\nconst told = \"This page isn\\u2019t what the machine plays. Line \" + check.number + \" of its \" + check.what + \
-\": \";\nfill(byId(\"check\"), h(\"strong\", {}, told), shown(check.there), \" \\u2014 the machine: \", shown(check.here));\n}\nreturn { dif\
-ferenceOf, checkOf, drawCheck };\n})();\n// web/bytes.mjs\nconst m6 = (() => {\nconst encoder = new TextEncoder();\nconst decoder = new Text\
-Decoder();\nfunction bytesOf(input) {\nif (typeof input === \"string\") return encoder.encode(input);\nif (input instanceof ArrayBuffer) ret\
-urn new Uint8Array(input);\nif (ArrayBuffer.isView(input)) return new Uint8Array(input.buffer, input.byteOffset, input.byteLength);\nif (inp\
-ut?.bytes instanceof Uint8Array) return input.bytes;\nif (typeof input?.text === \"string\") return encoder.encode(input.text);\nthrow new T\
-ypeError(\"an input is a text, bytes, a trace or a schedule\");\n}\nfunction textOf(bytes) {\nreturn decoder.decode(bytes);\n}\nfunction wri\
-teText(text, room) {\nreturn encoder.encodeInto(text, room).written;\n}\nreturn { bytesOf, textOf, writeText };\n})();\n// web/faults.mjs\nc\
-onst m7 = (() => {\nclass Fault extends Error {\nget name() {\nreturn this.constructor.name;\n}\n}\nclass Refused extends Fault {\nconstruct\
-or(told, output, explained) {\nconst said = (word) => explained.match(new RegExp(`^  ${word}: +(.*)$`, \"m\"))?.[1] ?? \"\";\nsuper(`${told}\
-\\n${explained}`.trimEnd());\nconst [, group, ...numbers] = told.split(\" \");\nthis.told = told;\nthis.group = group;\nthis.line = group ==\
-= \"asm\" || group === \"plan\" ? Number(numbers.shift()) : null;\nthis.kind = Number(numbers.shift());\nthis.place = numbers;\nthis.word = \
-null;\nthis.means = said(\"Means\");\nthis.help = said(\"Helps\");\nthis.output = output;\n}\n}\nclass Differs extends Fault {\nconstructor(\
-told) {\nsuper(told);\nthis.line = Number(told.split(\" \").pop());\n}\n}\nclass NotATrace extends Differs {\nconstructor(told, before = \"\"\
-) {\nsuper(told);\nthis.before = before;\n}\n}\nclass NoLine extends Fault {\nconstructor(words, told) {\nsuper(words);\nthis.told = told;\n\
-}\n}\nclass OutOfMemory extends Fault {\nconstructor(output = new Uint8Array()) {\nsuper(\"memory\");\nthis.output = output;\n}\n}\nclass To\
-oLong extends Fault {\nconstructor() {\nsuper(\"an input has more bytes than it may have\");\n}\n}\nclass Malformed extends Fault {}\nclass \
-NoHistory extends Fault {\nconstructor() {\nsuper(\"no choice is kept that could be taken back\");\n}\n}\nclass Closed extends Fault {\ncons\
-tructor() {\nsuper(\"the session is closed\");\n}\n}\nreturn { Fault, Refused, Differs, NotATrace, NoLine, OutOfMemory, TooLong, Malformed, \
-NoHistory, Closed };\n})();\n// web/library.mjs\nconst m8 = (() => {\nconst { bytesOf, textOf, writeText } = m6;\nconst { OutOfMemory } = m7\
-;\nconst ROOM = 1 << 16;\nconst KEPT_ROOM = 1 << 24;\nconst LINE_ROOM = 1 << 12;\nconst COMMAND_ROOM = 512;\nconst REPLY_ROOM = 512;\nconst \
-HANDLE = 16;\nconst STRUCTS = 8 + 4 * 4096;\nclass Room {\n#library;\nconstructor(library, size) {\nthis.#library = library;\nthis.size = si\
-ze;\nthis.at = library.take(size);\nthis.lengthAt = library.take(8);\nthis.words = [BigInt(this.at), BigInt(size), BigInt(this.lengthAt)];\n\
-}\nget length() {\nreturn this.#library.number(this.lengthAt);\n}\nget bytes() {\nreturn this.#library.bytes.slice(this.at, this.at + Math.m\
-in(this.length, this.size));\n}\nget text() {\nreturn this.#library.text(this.at, Math.min(this.length, this.size));\n}\nfree() {\nthis.#lib\
-rary.give(this.at);\nthis.#library.give(this.lengthAt);\n}\n}\nclass Library {\n#exports;\n#bytes = new Uint8Array();\n#view;\n#output;\n#li\
-ne;\n#command;\n#reply;\nstruct;\nconstructor(instance) {\nthis.#exports = instance.exports;\nthis.#line = new Room(this, LINE_ROOM);\nthis.\
-#command = new Room(this, COMMAND_ROOM);\nthis.#reply = new Room(this, REPLY_ROOM);\nconst at = this.take(STRUCTS);\nthis.struct = { at, wor\
-d: BigInt(at) };\n}\nget bytes() {\nif (this.#bytes.length === 0) {\nthis.#bytes = new Uint8Array(this.#exports.memory.buffer);\nthis.#view \
-= new DataView(this.#exports.memory.buffer);\n}\nreturn this.#bytes;\n}\nnumber(at) {\nconst { view } = this;\nreturn view.getUint32(at, tru\
-e) + view.getUint32(at + 4, true) * 2 ** 32;\n}\ntext(at, length) {\nreturn textOf(this.bytes.subarray(at, at + length));\n}\ntake(size) {\n\
-const at = Number(this.#exports.room(BigInt(size)));\nif (at === 0) throw new OutOfMemory();\nreturn at;\n}\ngive(at) {\nthis.#exports.room_\
-back(BigInt(at));\n}\nroom(size) {\nreturn new Room(this, size);\n}\ncall(name, ...words) {\nreturn this.#exports[`vuthgal_${name}`](...word\
-s) & 255;\n}\nwith(inputs, use) {\nconst taken = [];\ntry {\nconst words = [];\nfor (const input of inputs) {\ntaken.push(this.take(input.le\
-ngth));\nthis.bytes.set(input, taken.at(-1));\nwords.push(BigInt(taken.at(-1)), BigInt(input.length));\n}\nreturn use(words);\n} finally {\n\
-for (const at of taken) this.give(at);\n}\n}\n#outputRoom(size) {\nif (this.#output && this.#output.size < size) this.freeRoom();\nreturn (t\
-his.#output ??= new Room(this, size));\n}\nfreeRoom() {\nthis.#output?.free();\nthis.#output = undefined;\n}\ncalled(name, inputs, { first = \
-[], more = [], hasLine = true } = {}) {\nreturn this.with(inputs, (words) => {\nconst line = hasLine ? this.#line.words : [];\nconst ask = (\
-room) => this.call(name, ...first, ...words, ...more, ...room.words, ...line);\nlet room = this.#outputRoom(ROOM);\nlet status = ask(room);\n\
-while (room.length > room.size) {\nroom = this.#outputRoom(room.length);\nstatus = ask(room);\n}\nconst told = { status, output: room.bytes, \
-line: hasLine ? this.#line.text : \"\" };\nif (room.size > KEPT_ROOM) this.freeRoom();\nreturn told;\n});\n}\nversion() {\nthis.call(\"versi\
-on\", ...this.#line.words);\nreturn this.#line.text;\n}\nget view() {\nif (this.#bytes.length === 0) this.bytes;\nreturn this.#view;\n}\nhan\
-dle() {\nconst at = this.take(HANDLE);\nthis.bytes.fill(0, at, at + HANDLE);\nreturn at;\n}\nclose(handle) {\nthis.call(\"session_close\", B\
-igInt(handle));\nthis.give(handle);\n}\nopen(handle, program) {\nreturn this.with([program], (words) => {\nconst status = this.call(\"sessio\
-n_open\", BigInt(handle), ...words, ...this.#line.words);\nreturn { status, line: this.#line.text };\n});\n}\ncommand(handle, text) {\nconst \
-words = this.#written(text);\nreturn words ? this.#commanded(handle, words) : this.with([bytesOf(text)], (long) => this.#commanded(handle, l\
-ong));\n}\n#written(text) {\nif (text.length * 3 > COMMAND_ROOM) return undefined;\nconst room = this.bytes.subarray(this.#command.at, this.\
-#command.at + COMMAND_ROOM);\nreturn [this.#command.words[0], BigInt(writeText(text, room))];\n}\n#commanded(handle, words) {\nconst status \
-= this.call(\"session_command\", BigInt(handle), ...words, ...this.#reply.words);\nif (this.#reply.length <= REPLY_ROOM) return { status, re\
-ply: this.#reply.text };\nconst room = new Room(this, this.#reply.length);\ntry {\nreturn { status: this.call(\"session_reply\", BigInt(hand\
-le), ...room.words), reply: room.text };\n} finally {\nroom.free();\n}\n}\n}\nreturn { Library };\n})();\n// web/values.mjs\nconst m9 = (() \
-=> {\nconst { textOf } = m6;\nconst { Malformed } = m7;\nconst VALUED = new Set([\"=\", \"out\", \"throw\", \"catch\", \"die\"]);\nclass Lin\
-e {\nconstructor(step, choice, row, what, value = null, mark = null, view = null) {\nthis.step = step;\nthis.choice = choice;\nthis.thread = \
-Number(choice.slice(1));\nthis.row = row;\nthis.what = what;\nthis.value = value;\nthis.mark = mark;\nthis.view = view;\n}\nstatic parse(tex\
-t) {\nconst [step, choice, row, what, ...rest] = text.split(\" \");\nconst isOne = /^[1-9][0-9]*$/.test(step) && /^[tx][0-9]+$/.test(choice) \
-&& what;\nif (!isOne) throw new Malformed(`no line of a trace: ${text}`);\nconst value = VALUED.has(what) ? Number(rest.shift()) : null;\nco\
-nst [mark = null, view = null] = rest;\nreturn new Line(Number(step), choice, row === \"-\" ? null : Number(row), what, value, mark, view && \
-Number(view));\n}\nget text() {\nconst words = [this.step, this.choice, this.row ?? \"-\", this.what, this.value, this.mark, this.view];\nre\
-turn words.filter((word) => word !== null).join(\" \");\n}\ntoString() {\nreturn this.text;\n}\n}\nfunction threadOf(words) {\nconst [status\
-, exception] = words[2].split(\":\");\nconst stack = words.indexOf(\"stack\");\nconst out = words.indexOf(\"out\", stack);\nreturn {\nnumber\
-: Number(words[0].slice(1)),\nrow: Number(words[1]),\nstatus,\nexception: exception === undefined ? null : Number(exception),\ninterrupted: \
-words[3] === \"1\",\nregisters: words.slice(5, stack).map(Number),\nstack: words.slice(stack + 1, out),\nout: words.slice(out + 1).map(Numbe\
-r),\n};\n}\nfunction phaserOf([name, ...numbers]) {\nconst [view, parties, arrived, unarrived] = numbers.map(Number);\nreturn { number: Numb\
-er(name.slice(1)), view, parties, arrived, unarrived };\n}\nfunction barrierOf([name, waiting, broken]) {\nreturn { number: Number(name.slic\
-e(1)), waiting: Number(waiting), broken: broken === \"1\" };\n}\nclass State {\nconstructor(text, values) {\nthis.text = text;\nObject.assig\
-n(this, values);\n}\nstatic parse(text) {\nconst [head, ...lines] = text.trimEnd().split(\"\\n\").map((line) => line.split(\" \"));\nif (hea\
-d[0] !== \"state\" || head.length !== 4) throw new Malformed(`no state: ${text}`);\nconst of = (letter) => lines.filter((words) => words[0][\
-0] === letter);\nreturn new State(text, {\nchoices: Number(head[1]),\nsteps: Number(head[2]),\nword: head[3],\nthreads: of(\"t\").map(thread\
-Of),\nphasers: of(\"p\").map(phaserOf),\nbarriers: of(\"b\").map(barrierOf),\ncells: new Map(of(\"c\").map(([name, value]) => [Number(name.s\
-lice(1)), Number(value)])),\n});\n}\ntoString() {\nreturn this.text;\n}\n}\nclass Trace {\n#text;\n#lines;\n#state;\nconstructor(bytes) {\nt\
-his.bytes = bytes;\n}\nget text() {\nreturn (this.#text ??= textOf(this.bytes));\n}\n#end() {\nconst at = this.text.lastIndexOf(\"\\nstate \"\
-) + 1;\nif (at === 0 && !this.text.startsWith(\"state \")) throw new Malformed(\"a trace has a line that begins with `state`\");\nreturn at;\
-\n}\nget lines() {\nreturn (this.#lines ??= this.text.slice(0, this.#end()).split(\"\\n\").slice(0, -1).map(Line.parse));\n}\nget state() {\n\
-return (this.#state ??= State.parse(this.text.slice(this.#end())));\n}\n[Symbol.iterator]() {\nreturn this.lines[Symbol.iterator]();\n}\ntoS\
-tring() {\nreturn this.text;\n}\n}\nclass Schedule {\nconstructor(text, stopped = false) {\nthis.text = text;\nthis.stopped = stopped;\n}\n*\
-[Symbol.iterator]() {\nfor (const [token] of this.text.matchAll(/\\S+/g)) {\nconst [choice, count = 1] = token.split(\"*\");\nfor (let i = 0\
-; i < count; i++) yield choice;\n}\n}\ntoString() {\nreturn this.text;\n}\n}\nclass Went {\nconstructor(text) {\nconst [what, choices, why] \
-= text.split(\" \");\nthis.text = text;\nthis.what = what;\nthis.choices = Number(choices);\nthis.why = why ?? null;\n}\ntoString() {\nretur\
-n this.text;\n}\n}\nclass Ending {\nconstructor(text) {\nconst [runs, word, seed, ...schedule] = text.split(\" \");\nthis.text = text;\nthis\
-.runs = Number(runs);\n[this.word] = word.split(\"+\");\nthis.died = word.endsWith(\"+died\");\nthis.seed = Number(seed.slice(1));\nthis.sch\
-edule = new Schedule(schedule.join(\" \"));\n}\ntoString() {\nreturn this.text;\n}\n}\nreturn { VALUED, Line, State, Trace, Schedule, Went, \
-Ending };\n})();\n// web/looks.mjs\nconst m10 = (() => {\nconst { Line, VALUED } = m9;\nconst EVENT_SIZE = 24;\nconst STATE_SIZE = 16;\ncons\
-t THREAD_SIZE = 48;\nconst PHASER_SIZE = 12;\nconst BARRIER_SIZE = 8;\nconst ENTRY_SIZE = 4;\nconst NUMBER_SIZE = 4;\nconst NOTHING = 65535;\
-\nconst MOST_ENTRIES = 64;\nconst MOST_OUTPUTS = 4096;\nconst MOST_OBJECTS = 64;\nconst MOST_CELLS = 32;\nconst WHATS = [\"idle\", \"ok\", \"\
-=\", \"out\", \"wait\", \"throw\", \"enter\", \"unwind\", \"catch\", \"die\", \"end\"];\nconst HAS_VALUE = WHATS.map((what) => VALUED.has(wh\
-at));\nconst MARKS = [null, \"+p\", \"+b\", \"-b\"];\nconst STATUSES = [\"runs\", \"throws\", \"waits\", \"waits\", \"ended\", \"died\"];\nc\
-onst STANDINGS = [\"live\", \"stuck\", \"all\"];\nconst ENTRIES = [\"C\", \"H\", \"A\", \"X\"];\nconst numbered = (number) => (number === NO\
-THING ? null : number);\nfunction lineAt(view, at, choice) {\nconst step = view.getUint32(at, true) + view.getUint32(at + 4, true) * 2 ** 32\
-;\nconst what = view.getUint8(at + 20);\nconst value = HAS_VALUE[what] ? view.getInt32(at + 8, true) : null;\nconst mark = view.getUint8(at \
-+ 21);\nif (mark === 0) return new Line(step, choice, view.getUint16(at + 16, true), WHATS[what], value);\nconst name = MARKS[mark] + view.g\
-etUint16(at + 18, true);\nconst after = mark === 1 ? view.getInt32(at + 12, true) : null;\nreturn new Line(step, choice, view.getUint16(at + \
-16, true), WHATS[what], value, name, after);\n}\nconst LOOK = (() => {\nconst parts = [\n[\"threads\", THREAD_SIZE, MOST_OBJECTS],\n[\"phase\
-rs\", PHASER_SIZE, MOST_OBJECTS],\n[\"barriers\", BARRIER_SIZE, MOST_OBJECTS],\n[\"cells\", NUMBER_SIZE, MOST_CELLS],\n];\nlet size = STATE_\
-SIZE;\nconst rooms = parts.map(([name, each, most]) => ({ name, each, most, at: (size += each * most) - each * most }));\nreturn { rooms, si\
-ze };\n})();\nconst [THREADS, PHASERS, BARRIERS, CELLS] = LOOK.rooms;\nfunction threadAt(view, at, number) {\nconst status = STATUSES[view.g\
-etUint8(at + 43)];\nconst value = view.getInt32(at + 32, true);\nconst awaits = view.getUint8(at + 43) === 2 ? \"p\" : \"b\";\nconst object \
-= numbered(view.getUint16(at + 38, true));\nreturn {\nnumber,\nrow: view.getUint16(at + 36, true),\nstatus,\nexception: status === \"throws\" \
-|| status === \"died\" ? value : null,\nawaits: status === \"waits\" && object !== null ? `${awaits}${object}` : null,\nphase: status === \"\
-waits\" && awaits === \"p\" ? value : null,\ninterrupted: view.getUint8(at + 44) === 1,\nregisters: Array.from({ length: 8 }, (_, register) \
-=> view.getInt32(at + 4 * register, true)),\nentries: view.getUint8(at + 42),\noutputs: view.getUint16(at + 40, true),\n};\n}\nconst phaserA\
-t = (view, at, number) => ({\nnumber,\nview: view.getInt32(at, true),\nparties: view.getUint16(at + 4, true),\narrived: view.getUint16(at + \
-6, true),\nunarrived: view.getUint16(at + 8, true),\nparent: numbered(view.getUint16(at + 10, true)),\n});\nconst barrierAt = (view, at, num\
-ber) => ({\nnumber,\nparties: view.getUint16(at, true),\nwaiting: view.getUint16(at + 2, true),\nrunner: numbered(view.getUint16(at + 4, tru\
-e)),\nbroken: view.getUint8(at + 6) === 1,\n});\nfunction lookAt(view, at) {\nconst all = (count, room, one) => Array.from({ length: count }\
-, (_, i) => one(view, at + room.at + room.each * i, i));\nconst cells = all(CELLS.most, CELLS, (_, place, cell) => [cell, view.getInt32(plac\
-e, true)]);\nreturn {\nchoices: view.getUint32(at, true) + view.getUint32(at + 4, true) * 2 ** 32,\nsteps: view.getUint32(at + 8, true),\nwo\
-rd: STANDINGS[view.getUint8(at + 15)],\nthreads: all(view.getUint8(at + 12), THREADS, threadAt),\nphasers: all(view.getUint8(at + 13), PHASE\
-RS, phaserAt),\nbarriers: all(view.getUint8(at + 14), BARRIERS, barrierAt),\ncells: new Map(cells.filter(([, value]) => value !== 0)),\n};\n\
-}\nfunction entriesAt(view, at, count) {\nconst one = (_, i) => ENTRIES[view.getUint8(at + ENTRY_SIZE * i + 2)] + view.getUint16(at + ENTRY_\
-SIZE * i, true);\nreturn Array.from({ length: count }, one);\n}\nfunction numbersAt(view, at, count) {\nreturn Array.from({ length: count }, \
-(_, i) => view.getInt32(at + NUMBER_SIZE * i, true));\n}\nfunction bitsAt(view, at) {\nconst words = [view.getUint32(at, true), view.getUint\
-32(at + 4, true)];\nreturn Array.from({ length: 64 }, (_, bit) => bit).filter((bit) => (words[bit >> 5] >>> (bit & 31)) & 1);\n}\nreturn { E\
-VENT_SIZE, MOST_ENTRIES, MOST_OUTPUTS, lineAt, LOOK, lookAt, entriesAt, numbersAt, bitsAt };\n})();\n// web/session.mjs\nconst m11 = (() => \
-{\nconst { bytesOf, textOf } = m6;\nconst { NoHistory } = m7;\nconst { bitsAt, entriesAt, lineAt, LOOK, lookAt, MOST_ENTRIES, MOST_OUTPUTS, \
-numbersAt } = m10;\nconst { Line, Schedule, State, Went } = m9;\nconst NONE_KEPT = 1;\nconst NOT_READ = 3;\nconst NO_THREAD = 7;\nconst LIMI\
-T = 8;\nfunction namesOf(program) {\nconst text = textOf(program);\nif (/^PBW[12]/.test(text)) return [];\nconst lines = text.split(\"\\n\")\
-.map((line) => line.split(\";\")[0].trim().split(/\\s+/));\nconst end = lines.findIndex(([word]) => word === \".run\");\nconst head = end < \
-0 ? lines : lines.slice(0, end);\nreturn head.filter(([word, name]) => word === \".thread\" && name).map(([, name]) => name);\n}\nconst forg\
-otten = new FinalizationRegistry(({ library, handle }) => library.close(handle));\nclass Session {\n#library;\n#handle;\n#word;\n#answer;\nc\
-onstructor(library, answer, threads, fill) {\nconst handle = library.handle();\ntry {\nanswer(fill(handle));\n} catch (fault) {\nlibrary.clo\
-se(handle);\nthrow fault;\n}\nthis.#library = library;\nthis.#handle = handle;\nthis.#word = BigInt(handle);\nthis.#answer = answer;\nthis.t\
-hreads = threads;\nforgotten.register(this, { library, handle }, this);\n}\nstatic of(library, answer, program) {\nconst bytes = bytesOf(pro\
-gram);\nreturn new Session(library, answer, namesOf(bytes), (handle) => library.open(handle, bytes));\n}\nget isOpen() {\nreturn this.#handl\
-e !== 0;\n}\n#check(status) {\nif (status !== 0) this.#answer({ status, line: \"\" });\n}\n#open() {\nif (this.#handle === 0) this.#check(6)\
-;\nreturn this.#word;\n}\n#number(thread) {\nconst number = typeof thread === \"number\" ? thread : this.threads.indexOf(thread);\nif (Numbe\
-r.isInteger(number) && number >= 0 && number < 256) return number;\nthrow new RangeError(`there is no thread ${thread}`);\n}\n#choice(thread\
-, letter, expiry) {\nconst session = this.#open();\nconst number = this.#number(thread);\nconst { at, word } = this.#library.struct;\nconst \
-status = this.#library.call(\"session_step\", session, number, expiry, word);\nif (status === 0) return lineAt(this.#library.view, at, lette\
-r + number);\nif (status === NO_THREAD || status === LIMIT) return Line.parse(this.command(`s ${letter}${number}`).slice(0, -1));\nreturn th\
-is.#check(status);\n}\nstep(thread) {\nreturn this.#choice(thread, \"t\", 0);\n}\nexpire(thread) {\nreturn this.#choice(thread, \"x\", 1);\n\
-}\ngo(schedule) {\nconst tokens = String(schedule).trim().split(/\\s+/).join(\" \");\nconst reply = this.command(`g ${tokens}`).slice(0, -1)\
-;\nif (reply === \"?\") throw new RangeError(`no schedule: ${tokens}`);\nreturn new Went(reply);\n}\nback(count = 1) {\nfor (let i = 0; i < \
-count; i++) {\nconst status = this.#library.call(\"session_back\", this.#open());\nif (status === NONE_KEPT) throw new NoHistory();\nthis.#c\
-heck(status);\n}\n}\nget enabled() {\nconst { at } = this.#library.struct;\nconst words = [BigInt(at), BigInt(at + 8)];\nthis.#check(this.#l\
-ibrary.call(\"session_enabled\", this.#open(), ...words));\nreturn { turns: bitsAt(this.#library.view, at), expiries: bitsAt(this.#library.v\
-iew, at + 8) };\n}\nlook() {\nconst { at, word } = this.#library.struct;\nconst rooms = LOOK.rooms.flatMap((room) => [BigInt(at + room.at), \
-BigInt(room.most)]);\nthis.#check(this.#library.call(\"session_look\", this.#open(), word, ...rooms));\nreturn lookAt(this.#library.view, at\
-);\n}\n#listed(name, thread, most, read) {\nconst { at } = this.#library.struct;\nconst words = [this.#open(), this.#number(thread), BigInt(\
-at + 8), BigInt(most), BigInt(at)];\nconst status = this.#library.call(`session_${name}`, ...words);\nif (status === NO_THREAD) throw new Ra\
-ngeError(`there is no thread ${thread}`);\nthis.#check(status);\nreturn read(this.#library.view, at + 8, this.#library.number(at));\n}\nstac\
-k(thread) {\nreturn this.#listed(\"stack\", thread, MOST_ENTRIES, entriesAt);\n}\noutputs(thread) {\nreturn this.#listed(\"outputs\", thread\
-, MOST_OUTPUTS, numbersAt);\n}\ncopy() {\nconst from = this.#open();\nconst fill = (to) => ({ status: this.#library.call(\"session_copy\", f\
-rom, BigInt(to)), line: \"\" });\nreturn new Session(this.#library, this.#answer, this.threads, fill);\n}\nother(thread, { expires = false, \
-rest = \"\", most = 1_000_000 } = {}) {\nconst words = [this.#open(), this.#number(thread), expires ? 1 : 0, most];\nconst told = this.#libr\
-ary.called(\"session_other\", [bytesOf(rest)], { first: words, hasLine: false });\nif (told.status === NOT_READ) throw new RangeError(`no sc\
-hedule of at most 2,000 choices: ${rest}`);\nthis.#check(told.status);\nreturn new Schedule(textOf(told.output).trimEnd());\n}\nsetBreakpoin\
-t(row) {\nthis.#row(\"k\", row);\n}\nclearBreakpoint(row) {\nthis.#row(\"c\", row);\n}\n#row(letter, row) {\nif (this.command(`${letter} ${r\
-ow}`) === \"?\\n\") throw new RangeError(`there is no row ${row}`);\n}\nget state() {\nreturn State.parse(this.command(\"p\"));\n}\ncommand(\
-line) {\nthis.#open();\nconst { status, reply } = this.#library.command(this.#handle, line);\nthis.#check(status);\nreturn reply;\n}\nclose(\
-) {\nif (this.#handle === 0) return;\nforgotten.unregister(this);\nthis.#library.close(this.#handle);\nthis.#handle = 0;\n}\n[Symbol.dispose \
-?? Symbol.for(\"Symbol.dispose\")]() {\nthis.close();\n}\n}\nreturn { Session };\n})();\n// web/vuthgal.mjs\nconst m12 = (() => {\nconst { b\
-ytesOf, textOf } = m6;\nconst { Closed, Differs, Fault, NoLine, NotATrace, OutOfMemory, Refused, TooLong } = m7;\nconst { Library } = m8;\nc\
-onst { Session } = m11;\nconst { Ending, Line, Schedule, State, Trace, Went } = m9;\nconst MOST_PLANNED = 1_000_000;\nasync function fetched\
-(url) {\nif (url.protocol === \"file:\" && globalThis.process?.versions?.node) {\nconst files = \"node:fs/promises\"; // named here, so that \
-a bundler for browsers doesn't look for it\nreturn (await import(files)).readFile(url);\n}\nconst response = await fetch(url);\nif (!respons\
-e.ok) throw new Fault(`${url} has the status ${response.status}`);\nreturn response.arrayBuffer();\n}\nasync function load(source = new URL(\
-\"vuthgal.wasm\", self.location.href)) {\nconst what = typeof source === \"string\" ? new URL(source, globalThis.location?.href ?? self.loca\
-tion.href) : source;\nconst code = what instanceof URL ? await fetched(what) : what;\nconst made = await WebAssembly.instantiate(code).catch\
-((error) => {\nthrow error instanceof RangeError ? new OutOfMemory() : error; // no memory was to be had for the module\n});\nreturn new Vut\
-hgal(new Library(made instanceof WebAssembly.Instance ? made : made.instance));\n}\nclass Vuthgal {\n#library;\nconstructor(library) {\nthis\
-.#library = library;\n}\ncall(name, inputs, ...more) {\nreturn this.#library.called(name, inputs.map(bytesOf), { more });\n}\n#answer(told) \
-{\nif (told.status < 2) return told;\nif (told.status === 3) {\nconst line = told.line.trimEnd();\nthrow new Refused(line, told.output ?? ne\
-w Uint8Array(), this.#explained(line));\n}\nif (told.status === 4) throw new OutOfMemory(told.output);\nif (told.status === 5) throw new Too\
-Long();\nif (told.status === 6) throw new Closed();\nthrow new Fault(`the library returns status ${told.status}`);\n}\n#explained(words) {\n\
-const { status, output } = this.call(\"explain\", [words]);\nreturn status === 0 ? textOf(output) : \"\";\n}\n#bytes(name, inputs, ...more) \
-{\nreturn this.#answer(this.call(name, inputs, ...more)).output;\n}\n#text(name, inputs, ...more) {\nreturn textOf(this.#bytes(name, inputs, \
-...more));\n}\nrun(program, schedule) {\nreturn new Trace(schedule === undefined ? this.#bytes(\"both\", [program]) : this.#bytes(\"run\", [\
-program, schedule]));\n}\nasm(text) {\nreturn this.#bytes(\"asm\", [text]);\n}\nlist(program) {\nreturn this.#text(\"list\", [program]);\n}\n\
-compare(program, trace) {\nconst told = this.#text(\"compare\", [program, trace]).trimEnd();\nif (told !== \"same\") throw told.startsWith(\"\
-not\") ? new NotATrace(told) : new Differs(told);\n}\nchoices(trace) {\nconst { status, output } = this.#answer(this.call(\"choices\", [trac\
-e]));\nconst lines = textOf(output).trimEnd().split(\"\\n\");\nif (status === 1) throw new NotATrace(lines.at(-1), lines.length > 1 ? lines[\
-0] : \"\");\nreturn new Schedule(lines[0]);\n}\nplan(program, plan, { most = MOST_PLANNED, names = false } = {}) {\nconst { status, output } \
-= this.#answer(this.call(\"plan\", [program, plan], most, names ? 1 : 0));\nreturn new Schedule(textOf(output).trimEnd(), status === 1);\n}\n\
-seeds(program, { plan = \"\", first = 1, count = 1000, limit = 0, names = false } = {}) {\nif (!(first >= 0 && first + count <= 2 ** 32)) th\
-row new RangeError(\"a seed is from 0 to 4294967295\");\nconst told = this.#text(\"seeds\", [program, plan], first, count, limit, names ? 1 \
-: 0);\nreturn told.split(\"\\n\").slice(0, -1).map((line) => new Ending(line));\n}\npage(program, schedule) {\nreturn this.#text(\"show\", [\
-program, schedule]);\n}\ndraw(program, schedule, { width = 80 } = {}) {\nconst isFit = Number.isInteger(width) && width >= 60 && width <= 10\
-00;\nif (!isFit) throw new RangeError(\"the width is from 60 to 1000\");\nreturn this.#text(\"draw\", [program, schedule], width);\n}\nexpec\
-t(state, expectation) {\nconst inputs = [bytesOf(String(state)), bytesOf(expectation)];\nconst status = this.#library.with(inputs, (words) =\
-> this.#library.call(\"expect\", ...words));\nif (status === 3) throw new RangeError(`no expectation: ${expectation}`);\nreturn this.#answer\
-({ status }).status === 0;\n}\ndebug(program, commands) {\nconst lines = Array.isArray(commands) ? commands.map((line) => `${line}\\n`).join\
-(\"\") : commands;\nreturn this.#text(\"debug\", [program, lines]);\n}\nexplain(words = \"\") {\nconst told = this.call(\"explain\", [words]\
-);\nif (told.status === 2) throw new NoLine(words, told.line);\nreturn textOf(this.#answer(told).output);\n}\nsession(program) {\nreturn Ses\
-sion.of(this.#library, (told) => this.#answer(told), program);\n}\nget version() {\nreturn this.#library.version();\n}\nget memory() {\nretu\
-rn this.#library.bytes.length;\n}\n}\nreturn { ...m7, load, Ending, Line, Schedule, Session, State, Trace, Went };\n})();\n// app/machine.js\
-\nconst m13 = (() => {\nconst { load, Refused } = m12;\nlet machine = null;\nasync function startMachine(bytes) {\nmachine = await load(byte\
-s);\n}\nconst listProgram = program => machine.list(program);\nconst playRun = (program, schedule) => machine.run(program, schedule).text;\n\
-const planSchedule = (program, plan) => machine.plan(program, plan).text.trim();\nconst openSession = program => machine.session(program);\n\
-const versionOf = () => machine.version.split(\"\\n\")[0];\nreturn { startMachine, listProgram, playRun, planSchedule, openSession, versionO\
-f, Refused };\n})();\n// app/schedule.js\nconst m14 = (() => {\nfunction choicesOf(schedule, most = Infinity) {\nconst out = [];\nconst know\
-n = new Map();\nfor (const word of schedule.split(/\\s+/)) {\nif (!word) continue;\nconst [name, count] = word.split(\"*\");\nconst token = \
-known.get(name) || name;\nknown.set(name, token);\nfor (let n = Math.min(Number(count || 1), most + 1 - out.length); n > 0; n--) out.push(to\
-ken);\nif (out.length > most) break;\n}\nreturn out;\n}\nfunction scheduleOf(choices) {\nconst out = [];\nfor (let i = 0, n; i < choices.len\
-gth; i += n) {\nfor (n = 1; choices[i + n] === choices[i]; n++);\nout.push(choices[i] + (n > 1 ? \"*\" + n : \"\"));\n}\nreturn out.join(\" \
-\");\n}\nfunction commonOf(left, right) {\nlet n = 0;\nwhile (n < left.length && n < right.length && left[n] === right[n]) n++;\nreturn n;\n\
-}\nreturn { choicesOf, scheduleOf, commonOf };\n})();\n// app/plan.js\nconst m15 = (() => {\nconst { Refused, planSchedule, playRun } = m13;\
-\nconst { choicesOf, scheduleOf } = m14;\nconst { nameOf } = m0;\nconst MOST = 20000;\nconst LONGEST = 1000000;\nconst OPEN = /;[^\\n]*|(\\.\
-\\.|\\?[0-9]{1,20})(?=[\\s();]|$)/g;\nconst bounded = plan => plan.replace(OPEN, (whole, open) => (open ? open + \"*\" + (MOST + 1) : whole)\
-);\nconst TOKEN = /^([tx]\\d{1,2}(\\*\\d{1,10})?)?$/;\nconst isSchedule = plan => plan.trim().split(/\\s+/).every(word => TOKEN.test(word));\
-\nconst LONG = 20000;\nconst isHeavy = plan => plan.length > LONG || /\\*\\s*\\d{5,}|\\)\\*\\d{3,}/.test(plan);\nfunction choicesOfPlan(text\
-, plan) {\nlet all;\nif (isHeavy(plan) && isSchedule(plan)) all = choicesOf(plan, MOST);\nelse {\ntry {\nall = choicesOf(planSchedule(text, \
-bounded(plan)), MOST);\n} catch (fault) {\nif (!(fault instanceof Refused) || !isSchedule(plan)) throw fault;\nall = choicesOf(plan, MOST);\n\
-}\n}\nreturn { choices: all.slice(0, MOST), isCut: all.length > MOST };\n}\nfunction playedPlan(text, plan, schedule) {\nconst all = schedul\
-e ? choicesOf(schedule, LONGEST) : null;\nconst found = all ? { choices: all.slice(0, LONGEST), isCut: all.length > LONGEST } : choicesOfPla\
-n(text, plan);\nreturn { ...found, trace: playRun(text, scheduleOf(found.choices)) };\n}\nconst STOPS = /^(wait|end|die|idle)$/;\nfunction t\
-urnsFrom(events, i) {\nconst { token } = events.at(i);\nlet k = i;\nlet event = events.at(k);\nwhile (event && event.token === token && !STO\
-PS.test(event.what)) event = events.at(++k);\nconst isDone = Boolean(event) && event.token === token && event.what !== \"idle\";\nreturn { c\
-ount: isDone ? k + 1 - i : Math.max(1, k - i), isDone };\n}\nfunction planOf(program, events, most = 60) {\nconst out = [];\nfor (let i = 0; \
-i < events.length; ) {\nconst { thread, isLate } = events.at(i);\nconst name = nameOf(program, \"T\", thread);\nconst { count, isDone } = is\
-Late ? { count: 1, isDone: false } : turnsFrom(events, i);\nif (isLate) out.push(\"x\" + name);\nelse out.push(name + (isDone ? \".\" : coun\
-t > 1 ? \"*\" + count : \"\"));\ni += count;\nif (out.length >= most && i < events.length) return out.join(\" \") + \" \\u2026\";\n}\nreturn \
-out.join(\" \");\n}\nfunction readablePlan(program, run, plan) {\nif (run.choices.length > 300 || !/^[tx\\d*\\s]+$/.test(plan)) return plan;\
-\nconst named = planOf(program, run.events, Infinity);\ntry {\nconst again = choicesOfPlan(program.text, named).choices;\nreturn scheduleOf(\
-again) === scheduleOf(run.choices) ? named : plan;\n} catch (_) {\nreturn plan;\n}\n}\nreturn { MOST, LONGEST, isHeavy, choicesOfPlan, playe\
-dPlan, planOf, readablePlan };\n})();\n// app/trace.js\nconst m16 = (() => {\nconst EVENT = new RegExp(\n\"^(\\\\d+ )?([tx])(\\\\d+) (\\\\d+\
-|-) (idle|ok|wait|enter|unwind|end|none|limit|(=|out|throw|catch|die) (-?\\\\d+))\" +\n\"(?: ([+-])([pb])(\\\\d+)(?: (-?\\\\d+))?)?$\"\n);\n\
-function readEvent(line) {\nconst m = EVENT.exec(line);\nif (!m) throw new Error(\"no line of a choice: \" + line);\nreturn {\ntoken: m[2] + \
-m[3],\nisLate: m[2] === \"x\",\nthread: Number(m[3]),\nrow: m[4] === \"-\" ? -1 : Number(m[4]),\nwhat: m[6] || m[5],\nvalue: m[7] === undefi\
-ned ? null : Number(m[7]),\nmark: m[8] ? { kind: m[8] + m[9], on: Number(m[10]), view: m[11] === undefined ? null : Number(m[11]) } : null\n\
-};\n}\nclass Events {\n#text;\n#places;\nconstructor(text) {\nconst places = [];\nfor (let at = 0; at < text.length; at = text.indexOf(\"\\n\
-\", at) + 1) places.push(at);\nthis.length = places.length;\nthis.#text = text;\nthis.#places = Uint32Array.from([...places, text.length]);\n\
-}\n#line(i) {\nreturn this.#text.slice(this.#places[i], this.#places[i + 1] - 1);\n}\nat(i) {\nreturn i >= 0 && i < this.length ? readEvent(\
-this.#line(i)) : undefined;\n}\ntoken(i) {\nconst [, token] = this.#line(i).split(\" \", 2);\nreturn token;\n}\nisIdle(i) {\nreturn this.#te\
-xt.endsWith(\" idle\", this.#places[i + 1] - 1);\n}\n*[Symbol.iterator]() {\nfor (let i = 0; i < this.length; i++) yield this.at(i);\n}\nfin\
-dIndex(test) {\nfor (let i = 0; i < this.length; i++) if (test(this.at(i))) return i;\nreturn -1;\n}\n}\nfunction readTrace(trace) {\nconst \
-cut = trace.startsWith(\"state \") ? 0 : trace.lastIndexOf(\"\\nstate \") + 1;\nconst events = new Events(trace.slice(0, cut));\nconst last \
-= events.at(events.length - 1);\nconst refused = last && isRefused(last) ? last : null;\nif (refused) events.length--;\nreturn { events, ref\
-used, end: readState(trace.slice(cut)) };\n}\nfunction readThread(words) {\nconst stack = words.indexOf(\"stack\");\nconst out = words.index\
-Of(\"out\");\nconst [status, code] = words[2].split(\":\");\nreturn {\nrow: Number(words[1]),\nstatus,\ncode: code === undefined ? null : Nu\
-mber(code),\nisInterrupted: words[3] === \"1\",\nregisters: words.slice(5, 13).map(Number),\nstack: words.slice(stack + 1, out),\nout: words\
-.slice(out + 1).map(Number)\n};\n}\nfunction readState(text) {\nconst key = text.replace(/^state \\d+ \\d+/, \"\");\nconst state = { threads\
-: [], phasers: [], barriers: [], cells: {}, word: \"\", key };\nfor (const line of text.trimEnd().split(\"\\n\")) {\nconst words = line.spli\
-t(\" \");\nconst [, first, second, third, fourth] = words;\nif (words[0] === \"state\") state.word = third;\nelse if (words[0][0] === \"t\") \
-state.threads.push(readThread(words));\nelse if (words[0][0] === \"p\") {\nstate.phasers.push({\nview: Number(first),\nparties: Number(secon\
-d),\narrived: Number(third),\nmissing: Number(fourth)\n});\n} else if (words[0][0] === \"b\") state.barriers.push({ waiting: Number(first), \
-isBroken: second === \"1\" });\nelse state.cells[Number(words[0].slice(1))] = Number(first);\n}\nreturn state;\n}\nfunction doingOf(moment, \
-t) {\nconst { status } = moment.state.threads[t];\nif (status === \"ended\") return \"over\";\nif (status === \"died\") return \"dead\";\nif \
-(status === \"throws\") return \"throws\";\nif (status === \"waits\") return moment.next[t] ? \"free\" : \"waits\";\nreturn moment.next[t] ? \
-\"runs\" : \"held\";\n}\nconst isRefused = event => event.what === \"none\" || event.what === \"limit\";\nreturn { readEvent, readTrace, rea\
-dState, doingOf, isRefused };\n})();\n// app/player.js\nconst m17 = (() => {\nconst { openSession } = m13;\nconst { commonOf } = m14;\nconst \
-{ isRefused, readEvent, readState } = m16;\nconst BACK = 40;\nconst EVERY = 50000;\nfunction makePlayer(program) {\nlet session = null;\nlet \
-led = [];\nlet at = 0;\nlet base = 0;\nconst marks = new Map();\nfunction dropMarks(behind) {\nfor (const [i, mark] of marks) {\nif (i <= be\
-hind) continue;\nmark.close();\nmarks.delete(i);\n}\n}\nconst markBefore = i => Math.max(0, ...[...marks.keys()].filter(one => one <= i));\n\
-function startFrom(i) {\nif (session) session.close();\nsession = i ? marks.get(i).copy() : openSession(program.text);\nat = base = i;\n}\nf\
-unction goOn(i) {\nwhile (at < i) {\nconst next = Math.min(i, at - (at % EVERY) + EVERY);\nsession.command(\"g \" + led.slice(at, next).join\
-(\" \"));\nat = next;\nif (at % EVERY === 0 && !marks.has(at)) marks.set(at, session.copy());\n}\n}\nfunction lead(choices, i) {\nconst comm\
-on = choices === led ? Infinity : commonOf(led, choices);\ndropMarks(common);\nled = choices;\nconst kept = Math.min(at, i, common);\nconst \
-mark = markBefore(i);\nif (!session || kept < base || at - kept > BACK || mark > kept + BACK) startFrom(mark);\nelse for (; at > kept; at--) \
-session.command(\"b\");\ngoOn(i);\n}\nfunction tried(token) {\nconst event = readEvent(session.command(\"s \" + token).trim());\nif (!isRefu\
-sed(event)) session.command(\"b\");\nreturn isRefused(event) || event.what === \"idle\" ? null : event;\n}\nfunction momentAt(choices, i) {\n\
-lead(choices, i);\nconst moment = { i, state: readState(session.command(\"p\")), next: {}, late: {} };\nconst { turns, expiries } = session.\
-enabled;\nfor (const t of turns) moment.next[t] = tried(\"t\" + t);\nfor (const t of expiries) moment.late[t] = tried(\"x\" + t);\nfor (cons\
-t all of [moment.next, moment.late]) for (const t in all) if (!all[t]) delete all[t];\nreturn moment;\n}\nfunction close() {\nif (session) s\
-ession.close();\ndropMarks(-1);\nsession = null;\nled = [];\nat = base = 0;\n}\nreturn { momentAt, close };\n}\nreturn { makePlayer };\n})()\
-;\n// app/run.js\nconst m18 = (() => {\nconst { listProgram, planSchedule, playRun } = m13;\nconst { readProgram } = m0;\nconst { LONGEST } \
-= m15;\nconst { makePlayer } = m17;\nconst { choicesOf, commonOf, scheduleOf } = m14;\nconst { readTrace } = m16;\nconst MORE = 100;\nconst \
-KEPT = 3000;\nconst openProgram = text => readProgram(text, listProgram(text));\nfunction makeRun(tree, parent, fork, choices, trace = playR\
-un(tree.program.text, scheduleOf(choices))) {\nconst { events, refused, end } = readTrace(trace);\nconst played = choices.length === events.\
-length ? choices : choices.slice(0, events.length);\nconst kept = { moments: new Map(), folds: [] };\nreturn { id: tree.runs.length, parent, \
-fork, choices: played, trace, events, end, refused, kept };\n}\nconst withRun = (tree, run) => ({ tree: { ...tree, runs: [...tree.runs, run] \
-}, run });\nfunction plantTree(program, choices, trace) {\nconst tree = { program, runs: [], player: makePlayer(program) };\nreturn withRun(\
-tree, makeRun(tree, -1, 0, choices, trace)).tree;\n}\nconst lengthOf = run => run.choices.length;\nconst eventTo = (run, i) => run.events.at\
-(i - 1) || null;\nfunction ownerOf(tree, id, i) {\nwhile (id > 0 && i <= tree.runs[id].fork) id = tree.runs[id].parent;\nreturn tree.runs[id\
-];\n}\nfunction runBy(tree, id, i, token) {\nif (tree.runs[id].choices[i] === token) return tree.runs[id];\nconst owner = ownerOf(tree, id, \
-i);\nif (owner.choices[i] === token) return owner;\nreturn tree.runs.find(run => run.parent === owner.id && run.fork === i && run.choices[i] \
-=== token) || null;\n}\nfunction turnsOf(text, before, token) {\nconst again = Array(99).fill(\"t\" + token.slice(1));\nconst { events } = r\
-eadTrace(playRun(text, scheduleOf([...before, token, ...again])));\nconst made = [];\nfor (let k = before.length; k < events.length && !even\
-ts.isIdle(k); k++) {\nmade.push(events.token(k));\nif (/^(wait|end|die)$/.test(events.at(k).what)) break;\n}\nreturn made;\n}\nfunction rest\
-Of(text, before, rest) {\nconst { events } = readTrace(playRun(text, scheduleOf([...before, ...rest])));\nconst own = [];\nfor (let k = befo\
-re.length; k < events.length; k++) if (!events.isIdle(k)) own.push(events.token(k));\nreturn own;\n}\nfunction forkRun(tree, id, i, token) {\
-\nconst found = runBy(tree, id, i, token);\nif (found) return { tree, run: found };\nconst owner = ownerOf(tree, id, i);\nconst { text } = t\
-ree.program;\nconst before = owner.choices.slice(0, i);\nconst rest = owner.choices.slice(i);\nconst most = Math.min(rest.length + MORE, LON\
-GEST - i);\nlet made = turnsOf(text, before, token).slice(0, most);\nif (!made.length) throw new Error(\"this choice would do nothing here\"\
-);\nmade = [...made, ...restOf(text, [...before, ...made], rest)].slice(0, most);\nif (made.length < most) {\nconst plan = scheduleOf([...be\
-fore, ...made]) + \" ..*\" + (most - made.length);\nmade = choicesOf(planSchedule(text, plan)).slice(i);\n}\nreturn withRun(tree, makeRun(tr\
-ee, owner.id, i, [...before, ...made]));\n}\nfunction graftRun(tree, choices) {\nlet best = tree.runs[0];\nlet most = -1;\nfor (const run of \
-tree.runs) {\nconst common = commonOf(run.choices, choices);\nif (common === choices.length && lengthOf(run) === common) return { tree, run \
-};\nif (common > most) [best, most] = [run, common];\n}\nreturn withRun(tree, makeRun(tree, ownerOf(tree, best.id, most).id, most, choices))\
-;\n}\nconst firstAlone = tree => ({ ...tree, runs: tree.runs.slice(0, 1) });\nfunction depthOf(tree, run) {\nlet depth = 0;\nfor (let one = \
-run; one.parent >= 0; one = tree.runs[one.parent]) depth++;\nreturn depth;\n}\nfunction inOrder(tree, from = 0, level = 0) {\nconst forks = \
-tree.runs.filter(run => run.parent === from).sort((a, b) => a.fork - b.fork);\nreturn [{ run: tree.runs[from], level }, ...forks.flatMap(run \
-=> inOrder(tree, run.id, level + 1))];\n}\nconst hasMoment = (tree, id, i) => ownerOf(tree, id, i).kept.moments.has(i);\nfunction momentOf(t\
-ree, id, i) {\nconst run = ownerOf(tree, id, i);\nconst { moments } = run.kept;\nif (moments.has(i)) return moments.get(i);\nif (moments.siz\
-e > KEPT) moments.clear();\nconst moment = tree.player.momentAt(run.choices, i);\nmoments.set(i, moment);\nreturn moment;\n}\nfunction close\
-Tree(tree) {\nif (tree) tree.player.close();\n}\nreturn { openProgram, plantTree, lengthOf, eventTo, ownerOf, runBy, forkRun, graftRun, firs\
-tAlone, depthOf, inOrder, hasMoment, momentOf, closeTree };\n})();\n// app/link.js\nconst m19 = (() => {\nconst { forkRun, lengthOf } = m18;\
-\nconst MODES = { e: \"explore\", l: \"lesson\", q: \"quiz\", c: \"challenge\" };\nconst LONGEST = 2000000;\nconst MOST_LINK = 60000;\nfunct\
-ion addressOf(tree, run, at) {\nlet path = \"\";\nfor (let one = run; one.parent >= 0; one = tree.runs[one.parent]) {\npath = one.fork + 1 + \
-one.choices[one.fork] + \".\" + path;\n}\nreturn path + at;\n}\nconst ADDRESS = /^(\\d{1,7}[tx]\\d{1,2}\\.)*\\d{1,7}$/;\nfunction walkTo(tre\
-e, address) {\nlet run = tree.runs[0];\nconst parts = address.split(\".\");\nlet at = Number(parts.pop()) || 0;\nlet isWhole = true;\nfor (c\
-onst part of parts) {\nconst m = /^(\\d+)([tx]\\d+)$/.exec(part);\nconst i = Number(m && m[1]) - 1;\ntry {\nif (i < 0 || i > lengthOf(run)) \
-throw new Error(\"no such choice\");\n({ tree, run } = forkRun(tree, run.id, i, m[2]));\n} catch (_) {\nisWhole = false;\nat = i;\nbreak;\n}\
-\n}\nreturn { tree, run, at: Math.min(lengthOf(run), at), isWhole };\n}\nasync function through(bytes, stream) {\nconst reader = new Blob([b\
-ytes]).stream().pipeThrough(stream).getReader();\nconst parts = [];\nfor (let all = 0, one; !(one = await reader.read()).done; parts.push(on\
-e.value)) {\nall += one.value.length;\nif (all > LONGEST) throw new Error(\"the link holds too much\");\n}\nreturn new Uint8Array(await new \
-Blob(parts).arrayBuffer());\n}\nfunction base64(bytes) {\nlet signs = \"\";\nfor (const byte of bytes) signs += String.fromCharCode(byte);\n\
-return btoa(signs).replace(/\\+/g, \"-\").replace(/\\//g, \"_\").replace(/=/g, \"\");\n}\nconst unbase64 = text => Uint8Array.from(atob(text\
-.replace(/-/g, \"+\").replace(/_/g, \"/\")), sign => sign.charCodeAt(0));\nasync function linkOf({ text, plan, name, address, mode }) {\ncon\
-st packed = await through(\nnew TextEncoder().encode(JSON.stringify([text, plan, name])),\nnew CompressionStream(\"deflate-raw\")\n);\nretur\
-n \"#\" + [mode[0], address, base64(packed)].join(\"/\");\n}\nasync function readLink(hash) {\nif (hash.length < 2) return null;\nif (ADDRES\
-S.test(hash.slice(1))) return { address: hash.slice(1) };\nconst [sign, address, packed] = hash.slice(1).split(\"/\");\nif (!Object.hasOwn(M\
-ODES, sign) || !packed || !ADDRESS.test(address)) throw new Error(\"it isn\\u2019t whole\");\nconst bytes = await through(unbase64(packed), \
-new DecompressionStream(\"deflate-raw\"));\nconst read = JSON.parse(new TextDecoder().decode(bytes));\nif (\n!Array.isArray(read) || read.sl\
-ice(0, 2).some(one => typeof one !== \"string\")\n) throw new Error(\"it holds no program\");\nreturn { text: read[0], plan: read[1], name: \
-String(read[2] || \"\"), address, mode: MODES[sign] };\n}\nreturn { MOST_LINK, addressOf, walkTo, linkOf, readLink };\n})();\n// app/file.js\
-\nconst m20 = (() => {\nconst NAMES = [\"listing\", \"source\", \"schedule\", \"trace\"];\nconst unixText = text => text.replace(/\\r\\n/g, \
-\"\\n\").replace(/\\r/g, \" \");\nfunction runIn(page, name) {\nconst [listing, source, schedule, trace] = NAMES.map(one => page.getElementB\
-yId(one)?.textContent || \"\");\nreturn listing || source ? { name, listing, source: unixText(source), schedule, trace } : null;\n}\nfunctio\
-n takePage() {\nfor (const name of NAMES) document.getElementById(name).textContent = \"\";\nconst page = \"<!doctype html>\\n\" + document.\
-documentElement.outerHTML + \"\\n\";\ndocument.getElementById(\"texts\").remove();\nreturn page;\n}\nconst ESCAPED = { \"&\": \"&amp;\", \"<\
-\": \"&lt;\", \">\": \"&gt;\", \"\\r\": \"&#13;\" };\nconst escaped = text => text.replace(/[&<>\\r]/g, sign => ESCAPED[sign]);\nfunction pa\
-geWith(page, texts) {\nconst put = (made, name) => {\nconst [begin, end] = [`<pre id=\"${name}\">`, \"</pre>\"];\nreturn made.replace(begin \
-+ end, () => begin + \"\\n\" + escaped(texts[name]) + end);\n};\nreturn NAMES.reduce(put, page);\n}\nfunction itemOf({ name, listing, source\
-, schedule, trace }) {\nconst item = { group: \"This file\", name, title: name, program: source || listing, plan: schedule };\nreturn trace \
-? { ...item, schedule } : { ...item, plan: schedule || \"..\" };\n}\nconst bareName = path => path.split(\"/\").pop().replace(/\\.\\w+$/, \"\
-\") || \"run\";\nfunction save(name, text, type = \"text/plain\") {\nconst link = document.createElement(\"a\");\nlink.href = URL.createObje\
-ctURL(new Blob([text], { type }));\nlink.download = name;\nlink.click();\nsetTimeout(() => URL.revokeObjectURL(link.href), 1000);\n}\nfuncti\
-on readProgramFile(text) {\nconst cut = /^[ \\t]*\\.run[ \\t\\r]*(;.*)?$\\n?/m.exec(text);\nif (!cut) return { program: text, plan: \"..\" }\
-;\nreturn { program: text.slice(0, cut.index), plan: text.slice(cut.index + cut[0].length).trim() || \"..\" };\n}\nreturn { runIn, takePage, \
-pageWith, itemOf, bareName, save, readProgramFile };\n})();\n// app/keys.js\nconst m21 = (() => {\nconst isField = element => /^(INPUT|TEXTA\
-REA|SELECT)$/.test(element.tagName);\nconst isButton = element => element.tagName === \"BUTTON\" || element.tagName === \"A\";\nconst KEY_TE\
-XTS = [\n[\"\\u2190 \\u2192\", \"a choice back, forward\"],\n[\"Page Up, Down\", \"the same: a presenter\\u2019s keys\"],\n[\"Home End\", \"\
-start, end\"],\n[\"Space\", \"play\"],\n[\"1 \\u2026 9\", \"that name is next\"],\n[\"[ ]\", \"the run before, after\"],\n[\"Esc\", \"back t\
-o the fork\"],\n[\"+ \\u2212 0\", \"size\"],\n[\"p v o\", \"picture, values, orders\"],\n[\"f\", \"timeline alone\"],\n[\"e\", \"edit the pr\
-ogram\"],\n[\"s\", \"side by side\"],\n[\"a \\u2026 d\", \"an answer of the quiz\"]\n];\nfunction listenToKeys(act, hasLetters) {\ndocument.\
-addEventListener(\"keydown\", event => {\nif ((event.ctrlKey || event.metaKey) && event.key === \"p\") return act.print();\nif (event.ctrlKe\
-y || event.metaKey || event.altKey) return;\nif (event.key === \"Escape\") return act.escape(isField(event.target) ? event.target : null);\n\
-if (isField(event.target)) return;\nif (isButton(event.target) && (event.key === \" \" || event.key === \"Enter\")) return;\nif (event.targe\
-t.closest(\".sheet\")) return;\nconst go = act.keys[event.key];\nif (go) {\nevent.preventDefault();\nreturn go();\n}\nif (!hasLetters()) ret\
-urn;\nif (/^[1-9]$/.test(event.key)) return act.number(Number(event.key));\nif (act.letter(event.key)) event.preventDefault();\n});\n}\nretu\
-rn { KEY_TEXTS, listenToKeys };\n})();\n// app/menu.js\nconst m22 = (() => {\nconst { byId, fill, h } = m3;\nconst { KEY_TEXTS } = m21;\nfun\
-ction makeSheet() {\nconst sheet = byId(\"sheet\");\nlet opener = null;\nfunction close(isBack) {\nif (sheet.hidden) return;\nsheet.hidden = \
-true;\nopener.setAttribute(\"aria-expanded\", \"false\");\nif (isBack) opener.focus();\n}\nfunction open(button, label, content) {\nconst is\
-Same = !sheet.hidden && sheet.getAttribute(\"aria-label\") === label;\nclose(false);\nif (isSame) return;\nopener = button;\nfill(sheet, con\
-tent);\nsheet.setAttribute(\"aria-label\", label);\nsheet.hidden = false;\nbutton.setAttribute(\"aria-expanded\", \"true\");\nconst box = bu\
-tton.getBoundingClientRect();\nconst left = Math.max(8, Math.min(box.left, innerWidth - sheet.offsetWidth - 8));\nsheet.style.setProperty(\"\
-left\", left + \"px\");\nsheet.style.setProperty(\"top\", box.bottom + 6 + \"px\");\nsheet.style.setProperty(\"max-height\", innerHeight - b\
-ox.bottom - 14 + \"px\");\nsheet.querySelector(\"[aria-current], button, input, textarea\")?.focus();\n}\ndocument.addEventListener(\"pointe\
-rdown\", event => {\nif (!sheet.contains(event.target) && !event.target.closest(\"[aria-expanded]\")) close(false);\n});\nsheet.addEventList\
-ener(\"keydown\", event => {\nconst list = [...sheet.querySelectorAll(\"button, input, select, textarea\")];\nconst by = { ArrowDown: 1, Arr\
-owUp: -1 }[event.key];\nif (!by || event.target.tagName === \"TEXTAREA\" || event.target.tagName === \"SELECT\") return;\nevent.preventDefau\
-lt();\nlist[(list.indexOf(document.activeElement) + by + list.length) % list.length].focus();\n});\nreturn { open, close, isOpen: () => !she\
-et.hidden };\n}\nconst column = (title, ...content) => h(\"div.sheet-column\", {}, h(\"h2\", {}, title), content);\nfunction entryOf(sheet) \
-{\nreturn (text, act, key) => {\nconst onclick = () => {\nsheet.close(true);\nact();\n};\nreturn h(\"button.entry\", { type: \"button\", onc\
-lick }, h(\"span\", {}, text), key ? h(\"kbd\", {}, key) : null);\n};\n}\nfunction programsMenu(sheet, menu, current, act) {\nconst entry = \
-entryOf(sheet);\nconst groups = new Map();\nfor (const item of menu) groups.set(item.group, [...(groups.get(item.group) || []), item]);\ncon\
-st one = item => {\nconst made = entry(item.title, () => act.open(item));\nif (item === current) made.setAttribute(\"aria-current\", \"true\"\
-);\nreturn made;\n};\nconst chosen = event => {\nconst [file] = event.target.files;\nsheet.close(true);\nif (file) act.file(file);\n};\ncons\
-t input = h(\"input\", { type: \"file\", accept: \".asm,.txt,.html,text/plain\", onchange: chosen });\nreturn [\n[...groups].map(([group, it\
-ems]) => column(group, items.map(one))),\ncolumn(\n\"Yours\",\nentry(\"My own program\", act.own),\nentry(\"Keep this as my own\", act.keep)\
-,\nh(\"label.entry.entry-file\", {}, h(\"span\", {}, \"Open a file\\u2026\"), input)\n)\n];\n}\nconst SPEEDS = [0.5, 1, 2, 4, 8];\nfunction \
-mainMenu(sheet, state, settings, act) {\nconst entry = entryOf(sheet);\nconst box = (text, name) => {\nconst onchange = event => act.set(nam\
-e, event.target.checked);\nreturn h(\n\"label.entry\",\n{},\nh(\"input\", { type: \"checkbox\", checked: state[name], onchange }),\nh(\"span\
-\", {}, text)\n);\n};\nconst speed = h(\n\"select\",\n{ \"aria-label\": \"Speed of Play\", onchange: event => act.speed(Number(event.target.\
-value)) },\nSPEEDS.map(\none => h(\n\"option\",\n{ value: one, selected: one === settings.speed },\n\"every \" + (one === 1 ? \"second\" : o\
-ne + \" seconds\")\n)\n)\n);\nconst theme = name => {\nconst given = { type: \"button\", \"aria-pressed\": String(settings.theme === name), \
-onclick: () => act.theme(name) };\nreturn h(\"button\", given, name);\n};\nconst key = ([sign, text]) => h(\"p.sheet-key\", {}, h(\"kbd\", {\
-}, sign), \" \" + text);\nreturn [\nh(\n\"div.sheet-column\",\n{},\nh(\"h2\", {}, \"Show\"),\nbox(\"Hide what comes later\", \"isHidden\"),\n\
-box(\"Fold idle choices\", \"isFolded\"),\nbox(\"Java\\u2019s words\", \"isJava\"),\nbox(\"Timeline alone\", \"isAlone\"),\nbox(\"Keys of on\
-e letter or sign\", \"hasLetters\"),\nh(\"h2\", {}, \"Play\"),\nentry(\"Play, a choice after another\", act.play, \"Space\"),\nh(\"label.ent\
-ry\", {}, h(\"span\", {}, \"Speed\"), speed),\nh(\"h2\", {}, \"Colours\"),\nh(\"div.sheet-row\", {}, [\"auto\", \"light\", \"dark\"].map(the\
-me))\n),\nh(\n\"div.sheet-column\",\n{},\nh(\"h2\", {}, \"Run\"),\nentry(\"Start again\", act.again),\nentry(\"Side by side\", act.side, \"s\
-\"),\nentry(\"Make it the run\", act.makeFirst),\nentry(\"Only run 1\", act.onlyFirst),\nentry(\"Larger\", act.larger, \"+\"),\nentry(\"Smal\
-ler\", act.smaller, \"\\u2212\"),\nh(\"h2\", {}, \"Print\"),\nentry(\"Handout: all choices\", act.handout, \"Ctrl P\"),\nentry(\"Worksheet\"\
-, act.worksheet)\n),\nh(\n\"div.sheet-column\",\n{},\nh(\"h2\", {}, \"Take with you\"),\nentry(\"Copy a link\", act.copyLink),\nentry(\"Copy \
-the plan\", act.copyPlan),\nentry(\"Copy the schedule\", act.copySchedule),\nentry(\"Copy the command\", act.copyCommand),\nentry(\"Save the \
-program\", act.saveProgram),\nentry(\"Save the trace\", act.saveTrace),\nentry(\"Save this page with the run\", act.savePage),\nh(\"p.sheet-\
-key\", {}, settings.version)\n),\nh(\"div.sheet-column.sheet-keys\", {}, h(\"h2\", {}, \"Keys\"), KEY_TEXTS.map(key))\n];\n}\nconst copyShee\
-t = text => column(\n\"Copy this\",\nh(\"textarea.copied\", { rows: 4, readonly: true, \"aria-label\": \"The text to copy\" }, text)\n);\nre\
-turn { makeSheet, programsMenu, mainMenu, copySheet };\n})();\n// app/sentence.js\nconst m23 = (() => {\nconst { ARRIVES, KINDS, nameOf, ope\
-randOf } = m0;\nconst { callOf, entryText, hasSeveral, labelOf, objectOf, phaseOf, rowText, strong, threadName, thrown } = m1;\nfunction mar\
-kText(program, mark, before) {\nconst barrier = mark.kind[1] === \"b\" ? nameOf(program, \"B\", mark.on) : \"\";\nif (mark.kind === \"+b\") \
-return \"Barrier \" + barrier + \" trips: all who wait there may go on.\";\nif (mark.kind === \"-b\") return \"Barrier \" + barrier + \" bre\
-aks.\";\nconst name = nameOf(program, \"P\", mark.on);\nconst old = phaseOf(before.phasers[mark.on].view);\nif (mark.view < 0) return \"Phas\
-e \" + old + \" of \" + name + \" was its last: it is terminated.\";\nreturn \"Phase \" + old + \" of \" + name + \" ends, phase \" + mark.v\
-iew + \" begins.\";\n}\nfunction countText(program, row, state) {\nconst b = operandOf(row, \"B\");\nif (b >= 0) {\nreturn state.barriers[b]\
-.waiting + \" of \" + program.barriers[b].parties + \" wait at \" + nameOf(program, \"B\", b) +\n\".\";\n}\nlet p = operandOf(row, \"P\");\n\
-let child = -1;\nwhile (program.phasers[p].parent >= 0 && state.phasers[p].parties && !state.phasers[p].missing) {\nchild = p;\np = program.\
-phasers[p].parent;\n}\nconst one = state.phasers[p];\nconst name = nameOf(program, \"P\", p);\nif (one.view < 0) return \"\";\nif (!one.part\
-ies) return name + \" has no parties now.\";\nif (child < 0) return one.arrived + \" of \" + one.parties + \" parties of \" + name + \" have \
-arrived.\";\nreturn nameOf(program, \"P\", child) + \" is complete and arrives at \" + name + \": \" + one.arrived + \" of \" +\none.parties \
-+ \".\";\n}\nfunction valueText(program, event, row, thread, who) {\nconst call = callOf(program, row, thread);\nconst into = row.operands[0\
-] || \"\";\nconst value = strong(event.value);\nif (thread.status === \"waits\") return [\"The wait of \", who, \" at \" + call + \" is over\
-: it returns \", value, \".\"];\nif (row.word === \"ret\") {\nconst entry = entryText(program, thread.stack[thread.stack.length - 1]);\nretu\
-rn [who, \" ends the \" + entry + \"; its own call returns \", value, \".\"];\n}\nif (call) return [who, \" calls \" + call + \", which retu\
-rns \", value, \".\"];\nif (row.word === \"add\" || row.word === \"sub\") {\nconst [left, right] = row.operands.slice(1).map(register => thr\
-ead.registers[Number(register[1])]);\nreturn [who, \": \" + into + \" = \" + left + (row.word === \"add\" ? \" + \" : \" \\u2212 \") + right \
-+ \" = \", value, \".\"];\n}\nconst from = { mov: \" from \" + row.operands[1], self: \", its own number\" }[row.word] || \"\";\nconst cell \
-= row.word === \"lds\" ? \" from \" + nameOf(program, \"C\", operandOf(row, \"C\")) : \"\";\nreturn [who, \" puts \", value, from + cell + \" \
-into \" + into + \".\"];\n}\nfunction plainText(program, event, row, thread, who) {\nconst call = callOf(program, row, thread);\nconst there \
-= row.kinds.includes(\"L\") ? labelOf(program, operandOf(row, \"L\")) : \"\";\nif (call) return [who, \" calls \" + call + \".\"];\nconst sa\
-id = {\njmp: \" goes on at \" + there,\ncall: \" calls the rows at \" + there,\ntry: \" sets a handler: what is thrown from here on is caugh\
-t at \" + there,\nendtry: \" takes its handler away\",\nret: \" comes back from its call\"\n};\nif (said[row.word]) return [who, said[row.wo\
-rd] + \".\"];\nif (row.word === \"sts\") {\nconst value = thread.registers[Number(row.operands[0][1])];\nreturn [who, \" stores \", strong(v\
-alue), \" in \" + nameOf(program, \"C\", operandOf(row, \"C\")) + \".\"];\n}\nif (there) {\nconst both = row.operands.slice(0, 2).map(regist\
-er => register + \" = \" + thread.registers[Number(register[1])]);\nreturn [who, \" compares \" + both.join(\" with \") + \".\"];\n}\nreturn \
-[who, \": \" + rowText(program, row) + \".\"];\n}\nfunction idleText(event, thread, call, who) {\nif (event.isLate) return [\n\"The time-out \
-of \",\nwho,\n\" would come now, but it has no wait that can time out: nothing happens.\"\n];\nconst why = {\nwaits: \", which still waits a\
-t \" + call,\nended: \", which has ended\",\ndied: \", which is dead\"\n}[thread.status];\nreturn [\"It is the turn of \", who, (why || \", \
-which can\\u2019t go on yet\") + \": nothing happens.\"];\n}\nfunction throwText(program, event, row, thread, who, call) {\nconst waited = t\
-hread.status === \"waits\";\nconst cause = event.isLate\n? [\"The time of \", who, \"\\u2019s wait at \" + call + \" is up: it \"]\n: waited\
-\n? [\"The wait of \", who, \" at \" + call + \" ends: it \"]\n: [who, call ? \" calls \" + call + \", which \" : \" \"];\nreturn [...cause, \
-strong(\"throws \" + thrown(event.value, row)), \".\"];\n}\nfunction eventText(program, event, before) {\nconst who = { thread: event.thread \
-};\nif (event.what === \"none\") return [\"There is no thread \" + event.thread + \".\"];\nif (event.what === \"limit\") return [\"No more c\
-hoices are allowed.\"];\nconst row = program.rows[event.row];\nconst thread = before.threads[event.thread];\nconst call = callOf(program, ro\
-w, thread);\nconst top = thread.stack[thread.stack.length - 1] || \"\";\nswitch (event.what) {\ncase \"idle\":\nreturn idleText(event, threa\
-d, call, who);\ncase \"=\":\nreturn valueText(program, event, row, thread, who);\ncase \"ok\":\nreturn plainText(program, event, row, thread\
-, who);\ncase \"wait\":\nreturn [who, \" calls \" + call + \" and \", strong(\"waits\"), \".\"];\ncase \"out\":\nreturn [who, \" puts out \"\
-, strong(event.value), \".\"];\ncase \"end\":\nreturn [who, \" \", strong(\"ends\"), \".\"];\ncase \"die\":\nreturn [\"Nothing catches \" + \
-thrown(event.value) + \": \", who, \" \", strong(\"is dead\"), \".\"];\ncase \"catch\":\nreturn [\n\"A handler of \",\nwho,\n\" \",\nstrong(\
-\"catches \" + thrown(event.value)),\n\" at \" + labelOf(program, Number(top.slice(1))) + \".\"\n];\ncase \"unwind\":\nreturn [who, \", thro\
-wing \" + thrown(thread.code) + \", leaves the \" + entryText(program, top) + \".\"];\ncase \"enter\": {\nconst routine = operandOf(row, \"P\
-\") >= 0 ? \"enters onAdvance\" : \"enters the action\";\nreturn [who, \" calls \" + call + \", and as the last to arrive it \", strong(rout\
-ine), \".\"];\n}\ndefault:\nreturn throwText(program, event, row, thread, who, call);\n}\n}\nconst BRANCHES = { beq: [\"equal\", \"not equal\
-\"], bne: [\"not equal\", \"equal\"], blt: [\"less\", \"not less\"] };\nfunction branchText(program, event, after) {\nconst row = program.ro\
-ws[event.row];\nif (event.what !== \"ok\" || !row || !BRANCHES[row.word]) return \"\";\nconst target = operandOf(row, \"L\");\nconst [is, is\
-Not] = BRANCHES[row.word];\nconst there = \"it goes on at \" + labelOf(program, target);\nif (target === event.row + 1) return \"Either way \
-it goes on below.\";\nif (!after) return \"If \" + is + \", \" + there + \", else below.\";\nconst isThere = after.threads[event.thread].row \
-=== target;\nconst they = row.word === \"blt\" ? \"The first is \" : \"They are \";\nreturn they + (isThere ? is + \": \" + there : isNot + \
-\": it goes on below\") + \".\";\n}\nfunction refusedText({ what, thread }, number) {\nconst why = what === \"none\" ? \"there is no thread \
-\" + thread : \"no more choices or steps are allowed\";\nreturn \"Choice \" + number + \" is refused: \" + why + \". The run stops here.\";\n\
-}\nfunction sentenceOf(program, event, before, after) {\nconst said = eventText(program, event, before.state);\nconst row = program.rows[eve\
-nt.row];\nconst branch = branchText(program, event, after.state);\nif (branch) return [...said, \" \" + branch];\nif (event.mark) return [..\
-.said, \" \", strong(markText(program, event.mark, before.state))];\nconst isCall = row && before.state.threads[event.thread].status !== \"w\
-aits\";\nconst arrived = event.what === \"wait\" || (event.what === \"=\" && event.value >= 0 && row && ARRIVES.has(row.word));\nconst count \
-= isCall && arrived ? countText(program, row, after.state) : \"\";\nreturn count ? [...said, \" \" + count] : said;\n}\nfunction wouldText(p\
-rogram, event, moment) {\nconst [first, ...rest] = eventText(program, event, moment.state);\nconst branch = branchText(program, event);\ncon\
-st said = [typeof first === \"string\" ? first[0].toLowerCase() + first.slice(1) : first, ...rest];\nif (branch) return [...said, \" \" + br\
-anch];\nreturn event.mark ? [...said, \" \", strong(markText(program, event.mark, moment.state))] : said;\n}\nfunction tagOf(program, event, \
-isJava) {\nconst row = event.row < 0 ? null : program.rows[event.row];\nconst object = row ? objectOf(program, row) : \"\";\nconst call = ro\
-w ? KINDS[row.word][1] : \"\";\nlet head = row ? row.word + (hasSeveral(program) && object ? \" \" + object : \"\") : \"\";\nif (row && row.\
-word === \"intr\") head = rowText(program, row);\nif (row && row.kinds.includes(\"C\")) head += \" \" + nameOf(program, \"C\", operandOf(row\
-, \"C\"));\nif (call && isJava) {\nconst name = call.split(\"(\")[0].replace(\"@\", () => threadName(program, operandOf(row, \"T\")));\nhead \
-= (hasSeveral(program) && object ? object + \".\" : \"\") + name;\n}\nconst said = {\nnone: \"refused\",\nlimit: \"refused\",\nidle: \"can\\\
-u2019t go\",\nend: \"ends\",\nwait: head + \" waits\",\nenter: head + \" enters\",\nout: (isJava ? \"println \" : \"out \") + event.value,\n\
-\"=\": head + \" = \" + event.value,\ndie: \"dies of \" + event.value,\ncatch: \"catches \" + event.value,\nunwind: \"unwinds\",\nthrow: (ev\
-ent.isLate ? \"time is up: \" : \"\") + \"throws \" + event.value,\nok: head\n};\nreturn said[event.what];\n}\nfunction shortMark(program, m\
-ark) {\nconst name = hasSeveral(program) ? nameOf(program, mark.kind[1] === \"p\" ? \"P\" : \"B\", mark.on) : \"\";\nif (mark.kind === \"+b\"\
-) return (name && name + \" \") + \"trips\";\nif (mark.kind === \"-b\") return (name && name + \" \") + \"breaks\";\nreturn (name && name + \
-\": \") + (mark.view < 0 ? \"terminated\" : \"phase \" + mark.view + \" begins\");\n}\nreturn { markText, eventText, refusedText, sentenceOf\
-, wouldText, tagOf, shortMark };\n})();\n// app/paper.js\nconst m24 = (() => {\nconst { endText, outputText } = m2;\nconst { fill, h } = m3;\
-\nconst { nameOf } = m0;\nconst { phaseOf, plain, threadName } = m1;\nconst { planOf } = m15;\nconst { lengthOf, momentOf } = m18;\nconst { \
-sentenceOf, tagOf } = m23;\nconst LONGEST = 500;\nconst COLUMNS = 10;\nconst ASKED = [\n\"Beside each line: what does the call return, and w\
-ho waits behind it?\",\n\"How does the run end? Who waits for ever, and for whom?\",\n\"Before which choice could another have gone, so that \
-it ends otherwise? Who, and how does it end then?\"\n];\nfunction standing(program, { phasers, barriers, cells }) {\nconst phaser = ({ view, \
-parties, arrived }, p) => {\nconst stands = view < 0 ? \"terminated\" : \"phase \" + phaseOf(view) + \", \" + arrived + \" of \" + parties + \
-\" arrived\";\nreturn nameOf(program, \"P\", p) + \": \" + stands;\n};\nconst barrier = ({ waiting, isBroken }, b) => {\nconst stands = isBr\
-oken ? \"broken\" : waiting + \" of \" + program.barriers[b].parties + \" wait\";\nreturn nameOf(program, \"B\", b) + \": \" + stands;\n};\n\
-const cell = ([c, value]) => nameOf(program, \"C\", Number(c)) + \" = \" + value;\nreturn [...phasers.map(phaser), ...barriers.map(barrier), \
-...Object.entries(cells).map(cell)];\n}\nfunction changedText(program, before, after) {\nconst was = standing(program, before.state);\nretur\
-n standing(program, after.state).filter(text => !was.includes(text)).join(\"; \");\n}\nfunction lineOf(tree, run, k, columns, isBlank, isJav\
-a) {\nconst { program } = tree;\nconst event = run.events.at(k);\nconst after = momentOf(tree, run.id, k + 1);\nconst cell = t => {\nif (eve\
-nt.thread === t) return h(\"td.is-own\", {}, isBlank ? \"\\u25CF\" : tagOf(program, event, isJava));\nreturn h(\"td\", {}, after.state.threa\
-ds[t].status === \"waits\" && !isBlank ? \"\\u2502\" : \"\");\n};\nconst before = momentOf(tree, run.id, k);\nconst said = isBlank ? \"\" : \
-plain(program, sentenceOf(program, event, before, after));\nconst changed = isBlank ? \"\" : changedText(program, before, after);\nconst wor\
-ds = [said, changed ? h(\"small\", {}, changed) : null];\nreturn h(\"tr\", {}, h(\"td.paper-number\", {}, k + 1), columns.map(cell), h(\"td\"\
-, {}, words));\n}\nfunction drawPaper(paper, { tree, run, at, isJava, title, asked }, isSheet) {\nconst { program } = tree;\nconst columns = \
-program.threads.map((_, t) => t).slice(0, COLUMNS);\nconst last = Math.min(lengthOf(run), LONGEST);\nconst from = isSheet && at < lengthOf(r\
-un) ? at : 0;\nconst rows = [];\nfor (let k = 0; k < last; k++) rows.push(lineOf(tree, run, k, columns, isSheet && k >= from, isJava));\ncon\
-st heads = [\"\", ...columns.map(t => threadName(program, t)), isSheet ? \"What happens?\" : \"What happens\"];\nconst questions = program.q\
-uestions.length\n? program.questions.map(one => one.text)\n: asked && asked.length ? asked : ASKED;\nconst rest = lengthOf(run) > last\n? h(\
-\"p\", {}, \"The run has \" + lengthOf(run) + \" choices; the first \" + last + \" are printed.\")\n: null;\nconst output = outputText(progr\
-am, run.end);\nconst end = h(\"p\", {}, h(\"b\", {}, \"End: \"), endText(program, run.end), output ? \"; output: \" + output : \"\");\nconst \
-blanks = h(\"ol\", {}, questions.map(text => h(\"li\", {}, text, h(\"i.paper-rule\"), h(\"i.paper-rule\"))));\nfill(\npaper,\nh(\"h1\", {}, \
-title),\nisSheet ? h(\"p\", {}, \"Name ____________________________   Date ______________\") : null,\nh(\"p\", {}, program.about),\nh(\"pre\"\
-, {}, program.text),\nh(\"p\", {}, h(\"b\", {}, \"Order: \"), planOf(program, run.events, 200)),\nh(\"table\", {}, h(\"thead\", {}, h(\"tr\"\
-, {}, heads.map(text => h(\"th\", {}, text)))), h(\"tbody\", {}, rows)),\nrest,\nisSheet ? blanks : end\n);\n}\nreturn { drawPaper };\n})();\
-\n// app/quiz.js\nconst m25 = (() => {\nconst { button, h, shown } = m3;\nconst letter = k => String.fromCharCode(97 + k);\nfunction options\
-Of(question, chosen, act) {\nconst kind = option => {\nif (chosen === null) return \"\";\nreturn option === question.right ? \".is-right\" : \
-option === chosen ? \".is-wrong\" : \".is-rest\";\n};\nconst sign = option => {\nif (chosen === null) return \"\";\nreturn option === questi\
-on.right ? \" \\u2713\" : option === chosen ? \" \\u2717\" : \"\";\n};\nconst one = (option, k) => {\nconst given = { type: \"button\", \"ar\
-ia-disabled\": String(chosen !== null), onclick: () => act.answer(option) };\nreturn h(\"button.option\" + kind(option), given, h(\"kbd\", {\
-}, letter(k) + sign(option)), h(\"span\", {}, option));\n};\nreturn question.options.map(one);\n}\nfunction verdictOf(question, chosen, prog\
-ram) {\nconst word = chosen === question.right ? h(\"b.is-yes\", {}, \"Right. \") : h(\"b.is-no\", {}, \"Not here. \");\nreturn h(\"p.card-v\
-erdict\", { role: \"status\" }, question.own ? null : word, shown(program, question.why()));\n}\nconst plainCard = (small, large, text, ...t\
-urn) => [\nh(\"div.card-ask\", {}, h(\"p.card-small\", {}, small), h(\"p.card-large\", {}, large)),\nh(\"div.card-reply\", {}, h(\"p\", {}, \
-text)),\nh(\"div.card-turn\", {}, turn)\n];\nfunction quizCard(quiz, program, act) {\nif (!quiz) return plainCard(\n\"Quiz\",\n\"Random orde\
-rs are being played.\",\n\"Wrong answers come from them.\",\nbutton(\"Stop\", act.stop)\n);\nconst { list, k, chosen, right, answered, isOpe\
-n } = quiz;\nif (!list.length) {\nconst text =\n\"Every order does the same here, so there is nothing to ask. Take another program, \" +\n\"\
-or write a question: a comment that begins with ;?\";\nreturn plainCard(\"Quiz\", \"This run has only one way.\", text);\n}\nconst question \
-= list[k];\nif (!question) {\nconst text = right === answered\n? \"Now make a run that ends otherwise.\"\n: \"Step through the run again, an\
-d look at the picture.\";\nreturn plainCard(\n\"Quiz\",\nright + \" of \" + answered + \" right.\",\ntext,\nbutton(\"Again\", act.again, { k\
-ind: \".main\" })\n);\n}\nconst isDone = chosen !== null || isOpen;\nconst score = answered ? \" \\u2014 \" + right + \" right\" : \"\";\nco\
-nst hint = question.own && !isDone ? h(\"p\", {}, \"Say it aloud, then show what happens.\") : null;\nconst turn = isDone\n? button(\"Next\"\
-, act.next, { kind: \".main\" })\n: question.own\n? button(\"Show\", act.show, { kind: \".main\" })\n: button(\"Skip\", act.next);\nreturn [\
-\nh(\n\"div.card-ask\",\n{},\nh(\"p.card-small\", {}, \"Question \" + (k + 1) + \" of \" + list.length + score),\nh(\"p.card-large\", {}, sh\
-own(program, question.ask))\n),\nh(\"div.card-reply.options\", {}, optionsOf(question, chosen, act), hint),\nh(\"div.card-turn\", {}, isDone \
-? verdictOf(question, chosen, program) : null, turn)\n];\n}\nfunction optionAt(quiz, sign) {\nconst question = quiz && quiz.list[quiz.k];\ni\
-f (!question || quiz.chosen !== null) return null;\nreturn question.options[sign.charCodeAt(0) - 97] || null;\n}\nfunction challengeCard({ g\
-oal, changes, isDone }, act) {\nconst count = changes === 1 ? \"one change\" : changes + \" changes\";\nconst aim = goal === \"stuck\"\n? \"\
-Get it stuck: let somebody wait for ever.\"\n: \"This run is stuck. Get all threads to end.\";\nif (isDone) {\nconst done = goal === \"stuck\
-\" ? \"Stuck, with \" + count + \".\" : \"All end, with \" + count + \".\";\nreturn plainCard(\n\"Challenge\",\ndone,\n\"Is there a way with \
-fewer changes? Why does it end so? Click a thread.\",\nbutton(\"Again\", act.again, { kind: \".main\" })\n);\n}\nconst text = \"At any choic\
-e, click another name after \\u201CNext\\u201D, and step to the end. Your changes: \" +\nchanges + \".\";\nreturn plainCard(\"Challenge\", a\
-im, text, button(\"From the start\", act.again));\n}\nreturn { quizCard, optionAt, challengeCard };\n})();\n// app/lessons.js\nconst m26 = (\
-() => {\nconst LESSONS = {\n\"lost-meeting\": {\ntitle: \"A meeting lost to a stray arrival\",\naim: \"A phaser counts arrivals, and doesn\\\
-u2019t know who arrives.\",\nlast: \"A phaser counts, so each arrival needs a registration.\",\nsteps: [\n{\nat: 1,\nask: \"Ann waits. Who s\
-hould be next, and what will happen?\",\nanswer: \"If Cem is next, the phase ends without Bob: the phaser only counts two arrivals.\",\nvote\
-s: true\n},\n{\nat: 2,\nask: \"Whom does Ann believe to have met, and what does the phaser know?\",\nanswer: \"She believes that she met Bob\
-. The phaser only counted two arrivals, and phase 1 began.\"\n},\n{\nat: 7,\nask: \"Which phase does Bob wait for, and how many arrivals are \
-missing?\",\nanswer: \"He waits for the end of phase 1, and one is missing.\"\n},\n{\nat: 1,\nask: \"Choose a plan in which Cem arrives, and \
-no thread waits at the end. Is the program right, then?\",\nanswer: \"Let Bob go at 1: all threads end. At 0 with Cem first, Bob is stuck ag\
-ain. It only works by luck.\",\nfork: [1, \"t1\"],\nvotes: true\n},\n{\nat: 0,\nask: \"Let Cem call preg r0 meet before he arrives. Which pl\
-ans lose the meeting now?\",\nanswer: \"None. Write the row into the program, behind stray:, and try random orders.\",\ntab: \"orders\"\n}\n\
-]\n},\n\"broken-barrier\": {\ntitle: \"A barrier broken by an interrupt\",\naim: \"An interrupt ends one wait, and the barrier then breaks f\
-or all.\",\nlast: \"One interrupted thread breaks the meeting for all.\",\nsteps: [\n{\nat: 7,\nask: \"Why can Bob continue in choice 9, and \
-not in choice 7?\",\nanswer: \"The interrupt ends only Ann\\u2019s wait. The barrier breaks at her next turn, in choice 8.\"\n},\n{\nat: 6,\n\
-ask: \"Can Bob continue now?\",\nanswer: \"No: his name isn\\u2019t among those who may go next. He continues before Ann if Cem arrives firs\
-t.\"\n},\n{\nat: 6,\nask: \"What if Cem arrives between Eve\\u2019s interrupt and Ann\\u2019s next turn?\",\nanswer: \"The barrier trips, an\
-d they put out 2, 1 and 0. Ann\\u2019s interrupted status stays set.\",\nfork: [6, \"t2\"],\nvotes: true\n},\n{\nat: 0,\nask: \"What would t\
-he three get if Eve interrupted Cem before he arrived?\",\nanswer: \"Write intr cem. Cem gets 3 when he calls await, and the others get 4.\"\
-\n},\n{\nat: 9,\nask: \"Which call repairs the barrier, and what does it do to a wa";
+WDX7Jxt7pzYDawWQcsglWwmvQDZMARY3rGG+6AJbHT2dPet6RvoXd03AHPtSmvwEjWQDAa4CKv7+3v78RnkICnB7YwOBBjLAALyK+DjZsUgBhKDGNhIEqG0+TaPu6Hz3p6ATSdyDDb2+\
+xaigUJ6ZkPtnkVggpVXvwXqrTO1QM7m2gQga/neJ2CsaSXrQ6ZLNiYFZp6Lxs2X6HwhaAA/enJI1IdzWQvGI8OMG046qJlvMOYqBoKr21waUBFm0ofZwAO9qIs2OEfdg1x+DZf/nMt5L\
+j/G5UGLx8+l8goubzxX4vk7zpbtT5wr25/n8gYu332u7O8p1Z5u/3zV/iuWy/bfyOUBLl+yXN5TH10u+Ubd/smzZPt/r9p/ZLnkE1+ZofIQl4czki7R7QcK/mfOknjw6DmyfOM5Eo/+3\
+XL5va6feK/6K569tP6WLdCffn+K2l8nl9jf+Lnt+9Pva6q/889ZWn8fOqd9f/o98F35FoxXHo7/yCGMYwwpKMN62ZzRmE+xzpoe3U9CEsrcgGeesJM772QUy7F1G1MhZteA6vakY9a+Y\
+G5/hTPNBHPBWfklXmXd3cmxdO8oNVDMPb7ZEvEFnxMhrY3FVMgnCCbGVWx4uV1J+EZfoFVxXN9nG81gcFRjYhzdSYawu8dcADtrFCmyi3AjgNLF6JHnDf2ccNLxigCsyJG/duUIowbDK\
+PcNatVyaQxi7nAOJeRwBym9rcW51mIo2O7WwHY3GvQYBH8wqkvAk3xid+9ItbrDcFAFP2oNXQiWCeOlty7McIuASwt4RK3u44vA3GnmN3dPBdaI5ODiw8s1x/cvXLmN6Mqg0+2asXO68\
+hPLg95e74J4JivpsHNXUPlVXO5fIfmMPSvkfXCEy51c/uQKKee6T7X/JdX+P66QcqyXrqTyKywfyOWuFu0fVe1vXCnbf/NKed+8Y6Xkcz60Ut5Puv1bshIfBCskPhlaKfs/uUD9v1sh6\
+5+yon39c1T90kw4Gbnzi6Wgew9IOgp85MoRaSNhYwFKmu/usTISkiAwL2/OQ73k1PLzEIDIbvBdGy/phihXYRd2MGh3C2lo+CnimQt27t4xNLKH0Mw2eNyIBTkEXc+OcLI0VvAQwkR1t\
+k4ggS8BZhPClASUyRe/AgjgZJu/PeC4DAh2nkXMF2zbvoW8W0MMihW68wTS617Zey+LPWJ61j9M9iShNIQOknfmINZaODblz8r+7nz3/rz/fwvOE8sTuuQ638bl3+byX3VJuuvZLknHr\
+FlF5Uu4/Aer5D69u1O2/+lVko7521WSn39RXtItHVze2aL96zrlPqzn5Tl7B5ffaM9NXsof7slL+YRu/1LV/s9U+6d2U3kdl7d0S7zQUO91+1Nqfo51yXP2XF72f2yB+leq+qeq9X2kU\
+9IV+vvbV8nvj3P5xYusP6f629rVvr+bu+T3f6LeL1Qft3Ifnlp5wPqCjZeNbLmgFJXH7RmPwN2IU52Q4Hgixk2ksjtUB/cjtFGkq7nBrGMvHMWe/v4c3c2AoPBFL9/cHC81zyyl5TblG\
+ZUndH/vmjX7+/b3qKeLObstcRxer3Ii+oPdOy/ZXT1EszAgEVwYoEsTileBpAOLq3FUVZJEHvEdtkOcciMoWngMEVG0/gaQBVIM1R8OlLr7epc4xNVyFKu3zDXrYcFCj0QficchLKVhe\
+ZnXTb5pCZf5v7kFwRiQYAxcbLAyknkoZsZnnm0O3gtOUlJnp0ea1upsE2eTiDh7NVgJSy2ESaeQymP02wO8Z8k75Hs98txc2yfx+oe53G31dH1S7vzifsmfruyX9FatR57zi/qlni/ql\
+3Lk67mc4fJn+yXe1e3fp9o/2iPxyK4+iZe29Uu8UOX3L11k/Xyf4od7Zf07VLmmynlV1v2N9Mn+Dir4jnD51EV+X+LybyxyvPr7/er70SV+v7dPrselfUsbf7kajnfDATH/McdIf5h7o\
+j+OoaG/9izCx0F3sGv70KYtI2h4W+Bcsxg8wkYZqmP2coPxbSDTaM6cEHou43RyFKb8oGMkQT5m2yCcEktqLYvbDM5au79CnKJmdAVy3g7wIo/b6FgjBrEm2LV1aM+W3cEFQ3u3j2wmd\
+tsOhmbC5bOxzLjDwNGcGa9B0/yC2ihS2q5DU45qtgxpzUwZ85vAmnujyKeMwt6/a+W6/QOXf5PLj66V9M7LChJv5Lm8ksv7CvKcZ9bKc/e2guSDjhak/cUDBYlXflKQcjDd/t0Dsv1zB\
+mX7awYlfVsflPB/mMs9Ldrfqtr/qmr/8UEJ/++eJ+Ffd57kA3X7j6yR7VfOk+1fc57kU+86T9LX93O5t9X8K/ifWyPP9Ym18hzPnCf3w1UF+X6h+sdUf1MD7fv7yuDS+tP1T1X765EF+\
+jt7if3p+nOqv61r2/c3X1haf7r+cdWfrv/VtUm82yNQUM8FYbnc2DkxAXI1xgmUiBcs2zgUYExOAaLIBW+dqYEDfZMZVECSjVSqS2IZVqz0LwFf9voULQLcCwTtcHXP7NjULsRsjC8BC\
+ov6GeV5JicWe4ZOQIfyUHLgHfSkAKals/Lp4NdISGdGkIoy+wSYfTGYG63ELgGnveDSAbVvlw7pWD1qRC0we78Asz8Gk0KmpkDpLug0IPnl0mE0z+rBWd0pEK4WEK6OIdwUlcsp8KEUM\
+XnToxMQiB5Nd8CRndXb3WpbNnBRe3taXoTPrJPnbGY9lX+Hy+9aL++5v1gv8fR96+U99R/rFb27Tp7T394g79kOLp9l5Qzq/Z4NUq6g2z+p4C+ul3jiNRtk/+evl/VPWy/xmP5+fL38P\
+lov6dmF6sNKD6TSeQPBxqHdu7dt2c2naBfpbnkb2CMCfJZhuVix2x2re/lJiox8YRqoPWZaK8BcO1yNz48UpVeqfILkaZGqBrXjTtso5/tfuPy71k5ho7zXuzbJ/Xb+JsnfXblJ7oddQ\
+0o/tUm2f/smSVc8uknu39M2U3m4RftHz5ftv2WzbP/gZnlePsbl06xdLZfnWrR/2pDcT8+cL/frfar/xzZK/uZhVb5is9yPjy3w/uRG2f83N8r3C7V/UsF/x5CE/5qhpcH/h5vaw6/fL\
+xV+/f1R9X1to9J/blwa/N/Z2B5+/X6p8Ovv4cyuYTKhm2+zdM4M7FgdzpmIDtkQVXmgfTzxvY9t8gn8w8oCCo/EWkqUHnmqQYx/aE102uOennRYe5w6z5FApPXEEGiAeSgLugCNxsQFC\
+tfKKdrHIIkUCbbs63Aco6VFmrmsU5sGpfKDuZjbrC+IaHvThwPayc1RVCug/wTSpKMQGzsoRwcNj77W2ss261Fk9SMD9LJxOIjGpqqO2AuBuUfyBASbh/NdXWuOQIIRVevskllXBnv/W\
+WeXoAqE+6NabhD7z8rzMxgKxA3QfPPJC+X+//hWif/u5XKOy09ulfj7Z1slfjx7m8J/qv1N22T7l2+T+PsPtkm9x3Eu727R/q4LlF2cav/VF0n96gZVLl8k5Xu6/ZMXKPx3gcJ/qv+bt\
+8rzfKMq/3ybPN83L/D+6FbZ/w1b5fuF2j96ocJ/Fyr8d+HS4N+4APwbXyD8+vtd6vv8VmU/s3Vp8H90a3v49fulwq+/9/F3X1v83cc4kXhFCgIKug74j1FirHpNWjYsCnGTqUR7lN2fD\
+l4/wrWzggn7ChgbHZAu6Q3YSwy5TlIy09VTZGuRIiBDjNRdrUJw5PJ8Ei93p+NkbrV7Qdy8Oh3u1cPVXZxpNc7yqbjDODw7OdjXvbxC1hqHFezoIQEjN3V+FYLLO7bL/dy1Q+KvLTuk3\
+9U7dkg55md2SPz5zzukHvl81f6vD8v2Xzss9dr7uXw6l5vDUq6o2z/5Jtn+7ar9LwxLPfyv75R66VfvlPyBbj9Q8D/zJnnegx2Sf/u/huX5y+6Q+qWF6h9V/RW3t+/v15bYn65/yg5l/\
+7dAf5kdS+tP17chc7qFKtqlZ+tGbfQC7lBoEZZzNmxj1ZlaOYKa4ErZHM4Fc+a/5vCKN6GWcA5+IG2GnjeQC6F5KIoqQhmbdlYgcML+SjOfa6bYmo/sHtq0hbHXHgs9el/2JAbVg4Oyp\
+uZWTLS84dlw0ylf3Ztmv32oyobQTSSXm1ALB4bFudW9ixjE6r50OtLB2Isw7o5qEcZLBMkmoiki3wk8SAVD/2trZo5ChbjuYqZ4RcK/6Kndcl+O7pHy+lkun231D3vkOX+cyxdYumpE6\
+l3nVPvnj8j294xIf9D3jki+/gsj7ds/VbX/kr2y/dO5fL7VC+6VeO59e+V4dPvH3qzOrWr/n/dK+6AXXyzx+Plc3tyi/Yxq/9qLZfvHLpZytnsvlnj8vy9uD/+can/rm5WedI+kew7sk\
+Xjm9y+WeEXX1++fUv3dvcT+Htrbvr/Ee7X+md1L6+/FC/Sn359Q/R1bYn8bRtr3p98P7JH9nbpnaf3t39O+P/2+ZnC3dKCFJ7EHLXlwoqjTupSg8TAFtTJVw4rBUXmDOCsreuHfrmAOH\
+nV1mf9f0R9sWBNk6HF2RW/Ovy/I8QSDvjXa4TIyNWnONZnjXd5c2ePhNIIXKyQukF1lRKD+5RGPDmym2QjS80QCNbyPaJ1vks0fw3moG+g1bP2VYn0DjAlTtBAd370wrk6Ob0U+fXy9y\
+UH0mkHsiaJxfwwU4L/HJvpc3Wem3B+FjQKCHss2rfYhc8PPu/E48Af6+lav6evLr+ldk1/b39+9urt/SWPZMJc+lL7kUPqGq01wHKCxcOPprkFkEFFkCIoYWR+TN5ltZi5Q2ICczYl5p\
+ebwkqAO04HuTwLdH0vd04DGBWEDWuT46IlpwlrrcQB7ciEno5CSNzSKPb607dOdDj3fB5dJ/PLFy+T98zCXV1l8eLmUq3RzecrSB5er+AqXyvY/d7ls/wSXz+Hyjy6XcqGX7pP3v25/S\
+rU/vE+2H+6Tduu37JP3/zcWaP9u1f51l0r8e/dlEp/+zWUS/+7YJ/Grrq/fZ9R6PLfE/u66vH1/+v0x1d/UZUvr7/OXte9Pv4f9t7rF/bLaiVdD5q+nogZeNOARAxkLGqW5JrAUFMfKY\
+iX71H0TuQ9QbIy1l3RmMvp/pnpW/2/Jl86a5JDXGCS3sxZVIhS1FLNFq6ArZoqxtCKUResta6ovDRMELWAeSAI2YADbBCExCbBMDFi2SPp0sm0rcV4Nmydy1mBiWBQaDCFmm9WxjlwPZ\
+utG/IyEQDBaHTW0QM/S7kSzIOlDyRxQclsu/xaX/+iAxGf3HZD080uuoPJWez6vkHr1R/bL9ievkO3PXSHxi27/k6r9Z6+QevLTDyh/cNXf2BXyfF19QJb1+ynV3lY1P3MH2ren30Nsz\
+B5DwTjGFhLBwwOKQsVcrmNZKV9ig1hXTrGFGd/jpPNIOvJJhobsN5wQnpaW+GS7cYqGlDRVi4tieU3FbrGDRA77FmcW4iNCME87TPi9hGFSGC0a6QsDEjtuAST1Qh60zxTluu4KpT3tf\
+i6/0trrhlL+dp0q3x5KvvZkUfFBobwH/iGU/rw/CaWd4ULt36Haz4zKfZcblefoylFpv/3hUXmOdPtHVft3jkr4/2pU0gn/OSr1YR1jki7R7d+yQPv3LTC+7y0wv+eH8v1pobynL1b19\
+6n6ej/o8kxkNvI8qgbewoEO6BHub/rJkYFsvCAMrE3qiFLTz1yFGerMxQtOvbBpN+3csWNoeDNv2y1zpjbEwjYHq9HRqIWHKnio5hvNaIYs/dCpF3NzWiGe1XOzDydIxUqTU2iKNlOCT\
+GrFWfwVdM4a8t8VDhbJzAU9asxHGJQ7hHAIGBTcmTJDrZw01qIIpuQeCDmAwHF5juJFcnMTHPi0e/WaNWt6ujnCknB+qFQ7QYneCR+Qa4oFwMwxQGD62Ll3JAYEKjUjSsoLL0qN2CNoz\
++5NE/UoouhTuaBmLlpIfAkTXiXHl5zLV2u+tYB0dk5F5ZrBLKvGo4OrIHcWnrdI0c0T0t7ligkpl7thQtolP8TlN1n9wqSMM1RU7a+flP6qF01Ke6DDk1Lud8ek9LPT7ecjub9fNiX9S\
+V4/JfHF6JTUn/yxKj84Jc/zfeMS/l8ryfP/upKMUxSV5L3+5yXZ/7MlyVcECv7vjUt88K9TUt/47JSE56fq/S9UWX9/vlqP/zMp9QcvVe3fouC7Rn2/ZlK2v21C4h/9/rQJia9ORnK85\
+6v3myZk/5tV+7q/pX5vzknYrAMFC7wIhTyhMpC/yK3bCGh45zppFz5tcihk/IDYe8PP2Ae+V5q54J1XWqlZsJQC+xizEKkZLYX4Nce5XPWIX9DLoPYY6gSdKSh3E9aAEKfjpQmIpc1/2\
+o+VMy4vB/9fUBCBtQr8KOqO0dGYvuzsBJrHjXjUYKOliyy6QYCYD6rTrQcZzdWiMcNKdHXZX8GekaGRLQUeEuWKHi/hVWLuJVgTrIDeKFQrsLNAiB5iBhGxR2tkUaml9nIBR8CjdlzCQ\
+NsZ3H7tRxmPppMHAJq21CuSxwRtdkDsulo0HjZZeMhbiB8D7Wxlk/yGubMKOw35FGoBlfKefNJ+CnPLlw+MExKQgDU1qaesfK0L7tYNRQy2ly361Hh/3nCFKMw1OwB6NRU7O+kWHm5Bp\
+0MwHorJIZe/q2upjDWc/xl5/v95RtKDv5yR9Gh/RerXxyoSn3+ay6+z91FZ4a+K1H8/yeULrX6/SuUd9n6ryvvu01V535xflvj161Wpn3+6Ku/HN9RkfJ231KSfkIb/6LSE/901iX+P1\
+iTf+sWa1Jv92pUKftV+vqz03Wq+7puW/f3TjKyvy39Yk2UN7/tqEp/r73V9Xb5FwVssy/cPz7RvX5f/oSq/1+W8qv+M6u97Cp6vVGT/S4XnREX5+ajyfar+NTPKfky9f3RG0gtLheekq\
+q/Ljebs2DRehW8ZNyiiXOVSsGnrzm3myGPSrD0BVati1GuSooPBEyN5lCwZXF/hdAJgeACkNYRNN3T7bHxzAVddJPacE76joJDRE2PWpNlPjzb2qYVhCJ4aNc3QtzdkGEEyAVEX5NoEy\
+NMGC+8ORvV5X4+AlSmGaDQ+CEiWbxJ8UQyoxEK5CgX1A0RuL3hHcfDoi/QdBVCFqoUixbWNQ9/xV9HcWFTzQxK1E2gkx9/uhitDPKSUCYDn9np1gyd3dm8P4BIbxgwi9/BC+1feIF5cA\
+ef+BVrA6SrxmmtgZky7nUD/MluvLPIihwlGnrkz5O6ocd9Byfe+sBwmbNrnoQbyvTUWI1fqTxqiHa8r/XFDnsOxhowT95GGtAP+84aU43y1Ie+B6+rKHqAhy083pH3EOU15D+9pqvjdT\
+akfulS1/yV+v4zLX2tK+H7UlHKcM2bbtz9Vl/fwvU1Z/pum5GuOLTDerap8ekPO/yN1iXdHVf2Fynr9DqjyQvV1GUk2EgN5YhziccJpLywSJeCF+Ios+6TUyuYsxhIiSzo7IVET0zLHN\
+kvUSjv8uMFFtLYMGKeFw3wx49Ho7GTRUuZ1VEdUquS4gI78ka3OGDG+AeBLlo0UUVizJBblKo9EpaZiGlVius3wdpLDawMgHZWq4bia1fq8gZR/+cAzHgElvJmtAHIdFkeLPHVQctJy5\
+9/al1+72q7DUkYxmj4KpAfn5L65f07e/w/NyXP/r3PSP+B35qVeZPm8pHeLqv1t87L9N89L+ckfz0v68/55KX/S7edV+6+5Srb/e1dJPdBFV0n/xUuvkvaruv1TVPtTqv3aVRLPffoqq\
+Tf/X1dJ/kS3f/KQbP/fVfu/uErS54OHpXzs0sMSD+r2b1Htzx2W7V9zWM7/3x+W/MF/HW4P/x2HlP/bnJQ3Hzqs5F8L1H/2KiX/nmtff1LVP3+B+q9W9WsL1N86L+vfskD9L6v9QgLwP\
+P0J8uNk1Q8pukkwfMigU+bHbSghiNMI4aBynKFgIvBJCKSMY/nCQYoLtKD8vZsh6LbCKyEUAYxrIINY0SziAF0Y1ogqzfJ8zhJSTDKXq9VpS2nVoxrcAkStkOqgGecnKCK9V/wVyr16e\
+CQ9Hta3N4edOOIOaDphhqFPKSePS5i8tZcb7aUo/rAyqMhGQVEh1idgzhl2kqDxWWGSoT11gJQiSUpsbGaOZRk223vh9jEofUI940XkSwWnSNVIZoPKlqLW6AjdygL6nH4Gop91KkKDg\
+hG6ac+mw0ImTAAJygcTExNQBVilxCv6oqV2Jf92ef7+lMsvt3r3t0u670dvl/jqN6+R8p9LrpH483tvk+3/4TWy/Zuukfj+W9fI++9JLl/eov2jqv2L3yHbD98h27/5HVLf+rfvaN/++\
+ar9/Dtl+4PvlHbFR94p75ObuFxp0f4zR2T7Z7xLtn/2u2T7E1zO2vnk8q4W7QcK/tPepvQ/75L6q2t4fV9m7WbfpfC7aq+o2nvtO6Xdh27vjHfK+vep9u5Q7W18h9RP6faG3qHuN7WfT\
+3m7fH/oGikf1O0dvEbJt1R7u1R77+Py/2jR3ntVfScN6N5WLkfmSGIW4y32qXsdpL8v2OAI80E5msDcmhAHgTO5uFi/7OVrw/nXQ07jN0HuEBF9FJaTopp8UlRTry9SVLNxy9ahi7ft3\
+LvbXpgMdKOjhwczxLlfUsbbskohGJ0tT9sMDXQFhNJGNx/7cOswEbHrmR4YxrDpDjrNixr0gIM0T5I2JtI1ZVsFskHM1swVnTKM1NcFcgTiF3YdQBg1C9olutHCUrMI+du2F/2FwhCOm\
+MMNFWGLGBeFY8GVg49xkGZcPQuMq28jZnrj4BwpI2tRgcJk2GgcEMkDq+F+HDVgTRu+Nworh6bMZVPkcDYbiwH+aPjfpkW/1mOzpVmMN8PxFWHhRnHh6AGW9WgD5STVP0KhHFMGmnhVk\
+AE16aep4JK1whPni1SGBHr0iNyS8pZ+CuaGrYDKcviLGXRimG3O4SnFayW+uelaeZ/82bXSr+bpayX/+dvvlnFu3/xueZ/kVftXvlu2f/W75X301XfLuGi/VGXd/imq/c73yPYH3iPlb\
+LX3SD+rG94j+Tvd/mnXqniU10p8nXuP4n8WqF97t7ofF6j/4Wtb3Aer4w242tCAY9MBmJygq1sIyeOBz5hnn0LG3oQLV/e5UNtVpxkfmw4xrBfonikEBDWCvAg05F6YQovQU8BVpZjcr\
+e5fCuZfEw9rzahpmxIEFxA4GzOVYGPA7MMmU9mY9w0tGuvmMUrj6xwxn6bGYkscjWnWTpX/mNpOH6f5pMVhGohhH2D2ktYEJtnTLVj3c2zfoAYUK9EF5Wyt/Wfe5FOozFS4YBLqnrrXL\
+cBA99rehID6ufcp+9TrZfnI9VIO9Beq/N3rpZ739PdLOdWcar///VKee977JR9w7ful/Pgv36/yvqj2T3+fPBc/eb88N8+9X9Jtp31A9nfZB6TcRbd/6XulvPhPPiDLf/EBGQfplx+Qc\
+TWG/0D2p9s/VcH/3HuVfFuVj71Xyo+vul7FD1ygrOE/rNb79g/I9bn1A7I//X3mfS8Mnh++X8rnNTxPqfk59gL763u/LOv+9Psp9f3p17+w/vX50v3r99Xpt3R1oYSFxNRjeN8jGeFHu\
+J3EDCfOB00rXkHrBjw9Sj/QPYDj+2Cb46XxNhYj3c9b17puXXDx0Pa9WzzwARfiMyBrq17eMIjsjTSRi0eu9IdIyzgzGk74aHWlMA9suqkTkbUKQNlmTGZuqxZOBbt4TipUwuRlZ6NG3\
+XHlnBeQHP02i+ZhEdYCxurLn1rBadF5WyIcJgfzSyPlDgmh3UUzGoEpLVishuDJgjDGGWriCJQZXydS3Dn61mis2YXMRdbQrpNVIhPAsaQJ2cPmmnZa4gFSRBGhNfdpfNRp1Uu/UlX/K\
+ad+UOKPL39Q6idPflDKoV7zIUnHXvIhiZ9v+ZCk+6b+SLb/tx+S5//BD8n741U3yPb3cHmfvS9ukPj/xFHZ/oM3SDn2t2+Qdken3yjvx803SrpVw3+6av/ojXJ+buLydi4/caOMT/yKP\
+5bj0+3ffVTh56PK//2oyjPzQVl/ofL1N8rvv/RB2b5+r7///RvlfXbpHyl9sSo/9wLh1eun4T15g4RH139OwfOUKh/7oxcGn96/Gr4vfUjCo+sfV+1dp74f+OALg+8LH2wP3xcWaP/uD\
+0r4MThxA//FixRuik07N2+xtwbgnEPS3gbfs+8FMgr4C1l4wmuc0jkhMveEcEXAuEWPD8BLmK7eEDtA6Ubj/y9BWgRCJPynkXY3gLLJ/CpWK0PjB8PKWFS0XFNO3BLLG8xCFQ33o218a\
+EqJ16JMT/ZOICGjQf3pghsvzJNhzgiA4KyeBSeiNQfWjiqZrRwqVcbp30bor9pMOB75PFo5guBeMSPtM5IVOxFJ0RtsKyt5W4QhF/HLhsqizVn3WTbJr3Gj+Af/wY0Umou1Ml6OUIw7n\
+bKVBd9pL/ImxRrCrYzbEbRBa+xoKLCySz9uV5c7Sh8HfAqLFg9DkSy9afkFjn9YntcHb5J68W/cJPnLl39E3n9ruLzG+hl8RN5PmQ9L/PFHH1H5mj8i/UQ+8xFpp/D4RyS/+6qPyvv7+\
+DHZ/sqPSv5oFZfrXP7YR2V73/iojNOl23/kf8r5+d2bJX8b3Cz5zfrNkh+972ZJ3+j2jx1T+FyV51T5UjXerer9gCr/9s1yvn9LlX9Tle+/SX6v37/sZon/X3KznO/TP6zsco/J+rr9h\
+cp6PU/c1H69j6n+t374hfWv96vu/wMfkf0fV98fU+XrVHlOlS9V7Z960wuD/+6b2sOv3+vv/+4mOb6/VeV7VVm3Bya2pagBf8DO2dAA5idiPLAGa484cxDY0cOdJUidGo6/cJSfgul7l\
+nabjzdANBmDZi1154MiYN1ieztlYeW8kB/Nki/YkplTj20eLzkbEAoVGVsRL286C2JIE51z0dI9pQlaEc4NFzknhYHWBWkTttlsGDODZnvWJtHaSuI1V4T4NGzt0NW1SGd2MWoI2AP/N\
+VbW8itH852jefMjIScgsEIbtnMiqOULQXEyamKkzyKMlMXZDfp2MCia1opksUkMcmDKpnkW3Ti7Zu4BVWU+KYVTQjoyiJQMOjNnrATTmMZxdz8/QtPqtz+m/Ck+JvHEf35M6nMuuFXeU\
+8dulffgA7cq/5lbZPs/uFW2//NbJZ+9/jYq7+Xyh26T/jm6/ZN/Ku/Ve26TdMf3b5N8cefHpRxBw1/7uLIv+VNlv/JxdU98XN7TT3xc8vHn/pkc31v/TNIp9/2pxJN3qPKHPi7nS/d/z\
+S1K/6TKRVXepcrnq3Jelb9zm+z/kdtk/1+/TfLBX7lNrscXb5N0jl6fXR9T8KhyXpVP3iLb/69b5fullv/3rXI8z90q1/vHt0r4dX29n08qeO9T5TtU+RZVfuZjcnz/qs7jD9R7fV7RG\
+BH/wchqTfynwfwqsIfkYVqw9naxghBREvomFnuCZneQD9YZRg4QY3dRu92Cm0nOu1Jzscj3kMJx5tog/Xctqk+FNTD0A9RbAK6a2G24Z4q/0psLYaxHkw0rRG6w8N1JoXGGkpNgR0PI1\
+eXvpWyOUbnsxUZ1Wdi9kUfo+AoWCLOVRg5wMPDka2h2SKkLLVFcn6aVLS/SZ8aaDHh/YYKt76q5hvAqss611BTeojQ0VLsW0RJiRW8w11McNP9Yabtj/fGznuVk04BqVxu0AcZQPUSGH\
+S5ZO5psdqGzNpni+F47sBYLBKOFux7+8+PamF4blHCab3r2NqpUgllDZJTxagwxvh55KCXdkHw3cnKz7uxEsmI5xrYbrY6aKejqWs7+W/QS7SEhGeHwYs1r/V7Ympa7MW2397vNHFf0v\
+ip/4bi003/ZJyT/t/sT8l7540/IuAxP3S7x2IOfUH6Rn5DtB5+U/PJOLr/d+gd9UsZxuO52SZ8/9UnZ/s8+Kf14L/iU5O+PfErmFbj3U9Iu/tTbVV6QT8nys+r7/KfZ74AR6YY/l/fw2\
+/9c+ivN3a70g6p8qSpvVeUnPyXtUh79lIzT8cin5Pxo+B9R7Z1Q5btV+d8/KfH+j1RZz//px1X+PFV+6BNKXqP2xzFV/zpVnlPlKVX+q+OSLvjL47K/Tx9X8mi1/9EZHv4D9WB1pjE1O\
+zFRjpzdH1LSaCpN1hRhxfP5AzRIwrIGRLmkT3LxA6xZFJ7yjCOwx6C7qwtcrYrkxd8IphivAVaHDrrRAwurGrz5gnHFhjWMK7bsGdk2fKHNOGBYWTEy0g+D2A+N8jvArHOe/vFMggznm\
+JbnzV6EYHzv/MniaHRwJ1LYBoP6oknkHoruowbFFWzOx6H02Oq00VYBGAqbvVFRGkMZY0I52JJ3CZo9QdKKD+eNEhnQtA0BWBCwA+OV4j+N0VIlrM/HqZrNHYERhwoiBzaECYLwP17UE\
+aJb8PbE/QH+spi3RtnTw0s/hba4AGluKX7qErcKQEVbBZJBT7ZMFg6aEfNfqWJ2wyxKsxve79Bq1dEG1T1mb16CdJCynae41CaUI7t3XmI4XLTKAuX2TPUg5BIybPooJJM083NlMGqIg\
+tEy2XWhoRcIWti8i0QmoAyHZH0NoIui8kSARqvwj6ETYQOSRS7uhtp4hE9gq5BJa2AtW22y7ZrZlaDYJ069ZnMc1WiTghK/gi1BjEV8DSkoaphrg01GrY0lG6iOkRFrMMZ6+GBM2xUvb\
+gVxe3R20uQ6R0dDYVy4d+jCLbyI3po0w9EyBaZ75A5l93inxJdH75T+v1+4U/Khr/is5JMzn5V26pfeIfHtus/K9sPPyviut3N53Mrv75L0wDl3yfv17s/I9i66S/ZXukvez5+4S9Iju\
+v2f3qXy3X5Gtvfqz0m+cuBzUm5x3eckvbBQ+8c/o+SvqnydKk99RtJbnZ+T913v51Qeis/JuIKvVfX1eLbeoeTzqpxR5dNV+VRVDu+S7V+mynvukvAM39V+PU+o9u9W5eOqfEyVL/usk\
+gt8VvLdGz8r/Uz1fs3cqcavyqeq8nN/qfTzqvyIKp9Q5btV+bgqH1Pl61T5PXfK8b1Nla+8U+6PKfX+Lap82Z1yvUYUvthxp6THhu6U9Oq6O+V6anyDgUXwn/nKmMHhldJV0fiM+dOs1\
+mdmzUVnyIfSxDz9O1Quj1Ur4yXAabsjsE4OK83t5uM90UxYM7wdOLRMhZXJqB7qDJvYRy7gptGfsmG/aviyUIrIFDZtgie8rJlhb7gYS47CYIGx5yJQJJ890ydfkHH4kwYFYLxo6OIhj\
+gQGuZU7yqAawFj3mw0nvB31t7Y0GTXxTejlewdqAZ0Z0b9RfmhT89mHfEMzHVeMCapew6gXHV3kiNJx8w2+sOMB35UiMcbMJ3OW4260FiN7u3wulriL4YsA8Yu6pd5aBWrCXIvjYWRWa\
+/dspQLPt8xFY7Nm5XyuHGheJCds8H8mrZx3bMPaYjScGKDoqMgKaAPA+5PTUcWZjAdd3EYa9gT7Y2DgsthALmU4m0v1yAzGULAdB6tmWQ3nHzarM6WxIfwXnHjM5rSRPMejMi4WRF0Ie\
+AdaMRcGEsAXMXFsCHRIEEQ5i9HVthHYbsxCRIb0KXZhsuPG7AwsLycuhhK3b6nPIpBI9pWjTA2++WuVv+Ie6Xdfvkf6SXz8HunX8f17JD3wn/fI+/vE3RJfdNyr4gZy+SLrB3evtO/++\
+3vl/fpdVc7creQF98rx/Pbnpfwg/LykD3T7n/689APZ+lcS/pOfV3EiuRxYeuBvJH2w7W9k/pjy38j5Of1udb+o8nN/pe4XVX5ElU+o8t2q/MTn5Xz9v2o8j6vydz4v6ZFvq++/+XkVl\
+019f7caz3FVPqbK16nynCq/SvW/TJVf/Hl5f/33vXL99P449teqf1WeU+UpVb5Ulbeq8oAqn6f677tX0iur1PlYqeovV2V9nn5PjXfgHkXP3KPyG/y1sq9X8O66R8VduEfCe/E9sj/9f\
+qHvG7XZeqk62zgUTkezNfq3YR8GVK5UnbVdw/n1gKl42ACnukbESncQZlvTJOAZQxThJCNC4R1VtZc/XJhF1B1YpzoU6rtbLe66UU3ICS5hvg4lLHRNdBj+Drwx4U8D/oFstJjK0OYzB\
+IbREhtwu0+RWVmN0yeGaXl2mawg8QlL0ekDd8XTVz0uo6PppZjzxOl+CDKqs8DNrQwORmBAHSDPb5Jjo2HlS/X5RjmKavNwGbGm3jTeaERWcmal8ai4PjRVtRZnOVZhoJZBOkU2gK8vK\
+ndFiltQix8CnRLUQf0Qx6kvQqqZIq2W+bWcKLwFVg267ChXq8D9o6p8vBqVG9FktVlFa7cwgJcUovStsyCbAAUMeivg+2I4aciKQtBljQlAZmEANODhGwjaOVqJ8E90JY0DRBz0ktYgI\
+R4xbVDKh2olWjSzj36A9D3IfLohlCf+6A38/4VSsNR06SEwYsYyp0/DVD3YCP0c8JpwmXxafIzJQfFb/LW2Rf+xZBGqed8zjUZN2MJq+v7Q1Hzgk8cUAcMlGc1QYtKsa8vLumga81IBI\
+iyu3GoouLPwU/w1oIaC2pgWn0KMvxzlEEj8b8HEBa4VGysEw4fkOFg60nABZ4HFGB/WmIejB/Icu1a8GMs5F2UmsDMKVjUc0KXIoWNiAGyM35yNM+MNgz615kV8AmBS2MIZkJiNcePBA\
+pbEFJ5W/89F8lOTmqNzjgNwDaElLobeyWG0Qr8hTC/hOINlvpo4x94v4yXz0yysGEwoVc4N55rjAYDozDXJk4rq4hzuiLjVQzoGIYcMAuSHZLhrZQNkYLMRydSkmBUpl+h246Br8R7jE\
+Ea4tzk6jHdMozjc0LIUw3T4yjNL50+4TM7383gjFALtzh4fEMMb52xwRDGfQUJYDAh33DJNrgUUbLb4H10RvlA6ztjsoRvk9pGxzgXAUqoVuCg8CIbRDbp2YGuUcHNBS+D7ct+XJV2ly\
+19S5RNflvFOHvmytNt9+f2SLjvtfskH9N4v6ebV90s6at39Mh/G1fdLOuqd90u5zh+q/m64X8YrfkD191XV3z/eL/WmP1T9PXu/5At1fy86IeE9/4SKB39Cypm2n5By5akT0g+pfkLGO\
+9P9ffyE5ON+ovp7doH+fqH6e8kDcv10fwMPyP7e9YCK5/yArH/9A5LPu+MBGcfziw9IOeTJB5Se+gHJB7/qQdnfqx+U4/u9B6UcfN+Dsv3Sg8reTfV37YOSD39I9feNBfp7VPX39IOSj\
+9b9vfIr0g9u6iuyv+mvtO+v+RW5/9/xFRmPSfd3m+4vLCP5S4aXSEOamyKTdY4qVjKUCBlgPT1IBdUI1kAI34SUadkM0oTQzTLQPS5r5svjJdB0hQadFjxP19i+ZzDAECFWz9zZ0923p\
+m+gd3XfALx3pTVhsC6oDNZmwfGS/WaL64KDrWCwvqPLyHV0mQ/Tit6Z6kHUvRmq1jALhVhZG8MF/Y0OjlVrcAONco/tOus2nUGjSASndtsXjo+Dus90ayg403EuGGvdd7AyGKPxjprb1\
+VxwYwzEIEnJwhoJagHJLwd5bRMj/bYHsWcZ/ugJepcBJESw13tSwe1vzI6CZpLARZA6Y5BmSpVfPUzQXXuYDA8BbMT27QXy/CbzMHbQqQdnsWiUthOxGcTKLEfJJrAyyAcD87e9WJ1ut\
+X+gE4iPaKGgWIkClh7D2IDGFuZne8t9NBgsCtTSRJAxc2wmOWvucAkmRF0Mg+jK2bBsZr79ZOaXAUg0hwvA32v4M9A2I/zU/5lt+ieOBaGANwvA0WsXtXsZc4p2v+VhbaFfj1uUi7zW8\
+IHATnqAndcOLowaRNzEC4RK8rAKqlNOueVrEr9+/GuSXvjk1+T999DXJP3wOJcv4XL/Q7K9tQ9JO7V3PiTvB12+Vn3/3ockfXP0IRmf738/JPXiur//UO0/95C83/X4/vshSQ++8iSVo\
+xbjq/P7N1u/lpNy/nRZj++Bk1Lv9vBJad+u+/slvx+xcrmvy/Hs/bqcr/1fl/k1dP3G16U9/N9+Xd7Xenwnvi7n8yuqPd3fya/L+H9PfF3SZ2d8Q8IbfEPSuyD/Q7uRxaHHMIB0xlUwy\
+IWv5OFiDQq6uFpHDU7mjIEPTKVBSw2spriwHDwJJThxYKU2SBZhnQCeyMf18MC7wE3nMfo3BY+AUXAB3HEghiK0Tjaqjr7xSBoM5Ic0jRvGmgBEYJiaAYDOBUhgNOvz6OsE/xwG/uoIe\
+TmhTg55smpFMJCBnkinnmP7O/QyXdzktZg4DEIVgtRuGc/T2mXWn2oZvSignVB9jURiq8mSCLo7gmLR+rybHFTGwXCLaTOyBEioD17MNsD0YS8Ed9iCPGRAvMwQQJsWKD36AOoHvUixy\
+9HKOsgU07zRs0Xq6mCRY5uEezD9X5f53YW2SeVKJswO4s9El25OBniP+UGpoMXnS4uC/uWbEk9c/015zj/4TalfO/lNiXf+1zcln/Wv35R45plvSj7gTQ/L/oYfbt/f3odlf1c8LPurP\
+Szxru6vqd7PPSzx/NselnjwxoclHvzUw1LfqMf3lYclH/c/viX7O+Nbsr83fkveGxd8S/JVe74l4+zp8b2L34dc/pdvSXie/pacTz2+Z74l47K++NsSfj2+4W/L9SiPN0DpHQabWjJVm\
+1ClEoGkEDEPme4mLoB1WIdoetSpb2rLW5HevVlthmW9t1nVTu9QJd/NBdz13Zq3aDbgCzMEbHKdOWAIREj9EyyAhcHCEa0cW2GIEYSxa2y2DtodKmWy2BhqdpzTiTvMqZycs7StjvpnF\
+7s2Zzb16KI3CBheogXmyEjB6dzazXqzy0UzzWTdT+cSOpILZitI0ZaaSQ/PtnCjXJwBR5DMQwIZ3xTYSLTFcHrccMapXshTW4qjsvLEdtvIVXh1uUnG8OZe7RxeH0F+MBgrR2GdhMruf\
+QtsiYCbZ8vaAouuGqc9quweHpV61tc9KuUn+x+V8q+JR6Xfx02PynP3p1y+zNLD6v1/Pyrp6VO/I+NNX/QdSf9f9h1pF5roj99PWPncY3J8L3us/fh+S70/4zEZN2L3Y1JeVeTyFdYO9\
+jEVt+cxOV+6v689Ju1g/vkxOX7d3zmPy3vhmsfl+H7/8fbje//jEo/e9rj0i/mnx+W98czjEk+/+btyfJd8V/ITev3GvivXr/5d2d8nvivvjf+by9dY+fb3lHz7e7J+Yr98T8orJ7hca\
+NHfLfz+Rsv/fF+Ob/D7cj43fV/ee2/9vrzHr/6+hOcL35fr80UuX2XvRYON0eI8DHa1vIl2FZzesh1WtJ9msrHnhFP+D5pqkzbkMVnmNdkPENQe0ThdV6wdHa+a1ruXtcAv1kcDai1z5\
+u4oLjEP0i6rPjSoJ6t6M9I2QsNFj9aPyp0Z9YZsMx1ZuEKQtYHerdUUmOI8T8Lixu9EIS5wN9Y3g44no8ebjB51c4M1JVpUwqKjj0Amyw4tOESbbgyUjSlAsy2GNdWEdctBQjgzermAP\
+csWe0db+84Y5tSLmnwh2CPCAT9UGd8cxZtPjCRa3FaUQ1poEAwzgbHEfRiGIdrk+tAPwURzxCoJf2zXiWndgASQ2wgZeQTXrgPGOnzh60Fmw63Wg5xoYV3IsoXNcOlo+aMZzSYtckdjm\
+kiMhem/lOEsdCxaUVCxdbA9IP5YmKISe08PsscbZMn63SSG6YLel0bL82bM5dJ0ZI1+ipR4UETAdww7zRpaPiBn2vt8R4qho8FnZ5kLex8PGgeFbyUX75GUSK4laUkcfh/5F7GX0a5F4\
+kesPQLJ5iuYfiGTbXIhokCj1pSMrcLA3AyNuhwhSkFWUGVu0CnYnaAgagk7Wu6FFlvabgMaXptdgPLEH8j7+eIfSPqq+AMVx1K9/+QPpLzvuz+Q9OO//EDGF1n9hLz/1z8h6R3d30VPS\
+Pqp+ISMg6n7e/cTUh76DdXfPy3Q3xP8/jXWTvUJqT/V/b3+SUmPH3xSzufVT7afz3c/KenVjzwp4/fr/r78pJTXv/4p+b7jKSkX0f2tfErSv2ufknHbdH/RUzJ+yz1PSfrx/3lK8hu6v\
+6+q999+Svql6/5+42kqT3G58rSSdz/dfnxXq/fXPi3jjOv+bn5a8jfkc8ieh78CGtKGFzLXoLqjrUlo3gpbGQ8A62oRSxoRyZfOmpbXOLuJtCM+7N3u7ngzUgPdbudVvIueO6jBUEcSg\
+fXIc0IWEPa2hsxSFG1hYy9P5+1JsA1RaUHAyIiXKi+S7vHvS9dre6oHHVDZDZXg21sJlwAhpvDknuaj5iLnTwBKnbcHEzYSeckaIEuNEbevHHTd7XafFZYsch69C4c6bbfOfey3a913a\
+RZ3YUEeFnzkhGW5oNPCbMNiVyIL4FR11sBryAwu16tVML/lLvBtu82J5tp5/KrF3kSTcXQ05hNjfgpo4Z2D9VcBFnbWFiiyi/qhvHfW/1DeO1t/KONVv/eHSi/7Q8lnf+OH8t596ofSX\
+3j7j2R/u38k79nLuZyxeuIfyf7e+yMpB/rijyRf/2Uu/0/rD/Vj+f34j+W9osdX/bEc//yPZZ61W38s74Hbfyzphn//scoz+mNJN+j+XvoTKbc44yfSDkr3N8jvj1j/nJ/I/u77Sfv+v\
+qreP/ITKUfR/f2fn0j/K7LqH7NszsaW99zGQhxmuK3gHlrKZNsyeA4VHoKzO1NqNEqQjTLv6oO+rwXfZ0M3TUJs/8UzfrF/KHzYnvWjYAE2p9ViB47VQUSkE2AV/BhUJBnxeQDmkPqQB\
+1jK6DSbRLENlqmR4hDpVSqTxMOM66bwSRw2wUZPMNuk1KCsYcn7IyVjGF0eRMIsNEBeLe6pzXKZZeIgDi6Yg4HLwDKMq8EuJcnbV7ga4wo870lPm2k7qxamhTacDUAxFlNgG+n+a088q\
+MQNi51Xj/JqPbGoX/w3iWfX/JuUN1/wbzLvwPX/Ju2p/4LLe6w98rNSPvybXD5o5evPyv6uV/WPPSvjOz76rMR7T3K5ZO1j/l3eWxNcblr6nhyXrP8SSj7aWz4umtRvI0AxbYMdvJCjl\
+KwgxW5JRAf9cJ7GRPI5dFSCSKtoAuvcZFDmUmouSa4UI40y7AK2PFu7zHPnYhmLE7JCxXRbid5gLk94k74ec3O6sa08emk3yqg3cWNCAKXmDcMFUIJCgY8mwFT2+U3n4m+ftIntNhPrO\
+c/hp5ZEX8Ss8n7+qTwfl/xU5UX5qbQn++lPZTzSV/2H5KcP/YfKM8Xlj3GZd5DdSMNDO7YEu4Z2j2zbsifYxwTrrgPmJzKZw+ZXBaIWB1ezRHTY/IqTBWw/AA0U3CIP2rYKAW6H1f39v\
+f25OHEcO2YOBvu6ug6Y+UE7mbCcI49Q8L2E0FmV6FCATHU9QxDlLHrMzrhAWLEguT4YFBFIWE+Gkv2jPEhtIgjIKN4MfNGeSniEbSaZjjzz5b3e8CfrEViKtaP6JWtP0K1diAFEXgB3D\
+fbgTB7ywjINVchH/1PSlcf+U9qt3M3lSWuH8l+Sbh36L5n/+Ir/kvtnlMtjdv/wSXEnRu4gNtlvsy+63b4Y9KoXYnMwlyKX4rexlV2DAlJsZ8O7Up3sBGGrbJofK5fGOM9phndKji3t9\
+I4Zw8oWe+Ayi7Pfbb0OeG1bWREmKQReKr559UINPCfP+YbnpJxux3PSD+W65+Q99yfPSbnol55TflLPSbsCBtzCj6u0XS/KdipQqBE03Qxb2rWbiWZDF4OuuzAoSEZPrvXliPOFgbghj\
+7OcPpFtbV3wPv+Z5HNmfyb5vrf/TM7jB34m40zc/jMp//zHn8l5+zaXL7TzBmZAZHMEsyVnLKRgIFYLSgRnY8oceDUR+GycjaHQFhNeHQzLswaRpE7HYs2c9Awd/bkcjy7f8HN5vv9Sv\
+f/cz+X9od+//heS/oOuYQCD7NcXljEKT5xXDV7GWWhsuDo/UozhBstlc6Ixum2R/L1tAAGelnwO3q3oLeKDiEJEmmdzUJ8T+IIJ5cLOQEGwk1LWme4CdBIpsL/jDsgDxIUtBzEiAD2v1\
+iNbZ8tcOFMrQzEkH+5E2Jsc8rbWrbyY4kK+y/MB72gf2mZRDujspvsWMYKtUbnGP2OY/aHsKmMAZfJgjoM5F53ufLpC4QsalDCv0RVcVp3FsAlhY7qwbNmLfu3XX/yS33jpqS9b9vJXv\
+PIUVzrlRf7/Tjml/AqyzNd/z385/R3ivy/hv1v5r7ULdfFFrH5mGb3/Jf99Edf//wB7CJPNSVgHAA==</script>\n<script type=\"module\" id=\"script\">\"use strict\
+\";\n// app/language.js\nconst m0 = (() => {\nconst KINDS = {\n__proto__: null,\nhalt: [\"\"],\nldi: [\"rn\"],\nmov: [\"rr\"],\nadd: [\"rrr\"\
+],\nsub: [\"rrr\"],\njmp: [\"L\"],\nbeq: [\"rrL\"],\nbne: [\"rrL\"],\nblt: [\"rrL\"],\ncall: [\"L\"],\nret: [\"\"],\ntry: [\"L\"],\nendtry: \
+[\"\"],\nthrow: [\"r\"],\nout: [\"r\"],\nlds: [\"rC\"],\nsts: [\"rC\"],\nself: [\"r\"],\nintr: [\"T\", \"@.interrupt()\"],\nintrd: [\"r\", \"\
+Thread.interrupted()\"],\npreg: [\"rP\", \"register()\"],\npbulk: [\"rPr\", \"bulkRegister($)\"],\nparr: [\"rP\", \"arrive()\"],\npdereg: [\"\
+rP\", \"arriveAndDeregister()\"],\npaaa: [\"rP\", \"arriveAndAwaitAdvance()\"],\npawait: [\"rPr\", \"awaitAdvance($)\"],\npawaiti: [\"rPr\", \
+\"awaitAdvanceInterruptibly($)\"],\npforce: [\"P\", \"forceTermination()\"],\npphase: [\"rP\", \"getPhase()\"],\npparties: [\"rP\", \"getReg\
+isteredParties()\"],\nparrived: [\"rP\", \"getArrivedParties()\"],\npunarr: [\"rP\", \"getUnarrivedParties()\"],\npterm: [\"rP\", \"isTermin\
+ated()\"],\npparent: [\"rP\", \"getParent()\"],\nproot: [\"rP\", \"getRoot()\"],\ncawait: [\"rB\", \"await()\"],\ncreset: [\"B\", \"reset()\"\
+],\ncbroken: [\"rB\", \"isBroken()\"],\ncwaiting: [\"rB\", \"getNumberWaiting()\"],\ncparties: [\"rB\", \"getParties()\"],\npawaitt: [\"rPrr\
+\", \"awaitAdvanceInterruptibly($, $, unit)\"],\ncawaitt: [\"rBr\", \"await($, unit)\"]\n};\nconst DIRECTIVES = [\".phaser\", \".barrier\", \
+\".thread\", \".cell\"];\nconst THROWN = {\n1: \"IllegalStateException\",\n2: \"IllegalArgumentException\",\n3: \"InterruptedException\",\n4\
+: \"BrokenBarrierException\",\n5: \"TimeoutException\"\n};\nconst ARRIVES = new Set([\"parr\", \"pdereg\", \"paaa\"]);\nconst KIND_OF = { \"\
+.phaser\": \"P\", \".barrier\": \"B\", \".thread\": \"T\", \".cell\": \"C\" };\nconst wordsOf = text => text.split(/[ \\t\\r]+/).filter(Bool\
+ean);\nfunction readListing(listing) {\nconst read = { phasers: [], barriers: [], threads: [], rows: [] };\nfor (const line of listing.trimE\
+nd().split(\"\\n\")) {\nconst words = wordsOf(line);\nconst behind = word => (words.includes(word) ? Number(words[words.indexOf(word) + 1].s\
+lice(1)) : -1);\nif (words[0] === \".phaser\") {\nread.phasers.push({ parties: Number(words[2]), parent: behind(\"parent\"), routine: behind\
+(\"onadvance\") });\n} else if (words[0] === \".barrier\") read.barriers.push({ parties: Number(words[2]), action: behind(\"action\") });\ne\
+lse if (words[0] === \".thread\") read.threads.push({ row: Number(words[2].slice(1)) });\nelse read.rows.push({ word: words[0], kinds: KINDS\
+[words[0]][0], operands: words.slice(1) });\n}\nreturn read;\n}\nfunction readWritten(text) {\nconst read = { names: { P: [], B: [], T: [], \
+C: [], L: {} }, lineOf: [], questions: [], head: [] };\nlet count = 0;\nlet isHead = true;\ntext.split(\"\\n\").forEach((line, number) => {\n\
+const cut = line.indexOf(\";\");\nconst code = wordsOf(cut < 0 ? line : line.slice(0, cut));\nconst talk = cut < 0 ? \"\" : line.slice(cut + \
+1);\nconst asked = talk[0] === \"?\" ? talk.slice(1).trim() : \"\";\nif (code.length) isHead = false;\nelse if (isHead && talk && talk[0] !=\
+= \"?\") read.head.push(talk.trim());\nif (code.length && code[0].endsWith(\":\")) {\n(read.names.L[count] = read.names.L[count] || []).push\
+(code.shift().slice(0, -1));\n}\nif (code.length && KIND_OF[code[0]]) read.names[KIND_OF[code[0]]].push(code[1]);\nelse if (code.length) rea\
+d.lineOf[count++] = number;\nif (asked) read.questions.push({ row: code.length ? count - 1 : count, text: asked });\n});\nreturn read;\n}\nf\
+unction readProgram(text, listing) {\nconst { names, lineOf, questions, head } = readWritten(text);\nconst program = { text, ...readListing(\
+listing), names, lineOf, questions };\nconst about = head.join(\" \").replace(/`/g, \"\");\nconst cut = /^([^:.]{1,60})[:.]\\s*(.*)$/s.exec(\
+about);\nconst isName = cut && names.T.some(name => cut[2].startsWith(name));\nprogram.title = cut ? cut[1] : about.slice(0, 60);\nprogram.a\
+bout = cut ? (isName ? cut[2] : cut[2].replace(/^[a-z]/, sign => sign.toUpperCase())) : \"\";\nconst registers = p => program.rows.some(row \
+=> /^(preg|pbulk)$/.test(row.word) && operandOf(row, \"P\") === p);\nprogram.children = program.phasers.map(\n(_, p) => program.phasers.flat\
+Map((one, n) => (one.parent === p ? [n] : []))\n);\nprogram.everParties = program.phasers.map(\n({ parties }, p) => (program.children[p].len\
+gth || registers(p) ? Infinity : parties)\n);\nreturn program;\n}\nconst nameOf = (program, kind, n) => program.names[kind][n] || { P: \"p\"\
+, B: \"b\", T: \"t\", C: \"c\" }[kind] + n;\nfunction operandOf(row, kind) {\nconst at = row ? row.kinds.indexOf(kind) : -1;\nreturn at < 0 \
+? -1 : Number(row.operands[at].slice(1));\n}\nfunction rootOf(program, p) {\nwhile (program.phasers[p].parent >= 0) p = program.phasers[p].p\
+arent;\nreturn p;\n}\nreturn { KINDS, DIRECTIVES, THROWN, ARRIVES, readProgram, nameOf, operandOf, rootOf };\n})();\n// app/names.js\nconst \
+m1 = (() => {\nconst { KINDS, THROWN, nameOf, operandOf } = m0;\nconst PHASES = 2147483648;\nconst phaseOf = view => (view < 0 ? view + PHAS\
+ES : view);\nconst threadName = (program, t) => nameOf(program, \"T\", t);\nconst labelOf = (program, row) => (program.names.L[row] ? progra\
+m.names.L[row][0] : \"row \" + row);\nconst strong = text => ({ strong: String(text) });\nconst hueOf = t => \"hue\" + (t % 8);\nfunction li\
+sted(list, and = \"and\") {\nreturn list.length < 2 ? list.join(\"\") : list.slice(0, -1).join(\", \") + \" \" + and + \" \" + list[list.len\
+gth - 1];\n}\nfunction spread(list, and = \"and\") {\nreturn list.flatMap((one, k) => (k === 0 ? [one] : [k === list.length - 1 ? \" \" + an\
+d + \" \" : \", \", one]));\n}\nconst OF_ROWS = {\n6: [\"the stack is full\", /^(call|try|paaa|parr|pdereg|cawait|cawaitt)$/],\n7: [\"a retu\
+rn to nowhere\", /^ret$/],\n8: [\"the output is full\", /^out$/]\n};\nfunction thrown(code, row) {\nif (THROWN[code]) return code + \" (\" + \
+THROWN[code] + \")\";\nconst [text, words] = OF_ROWS[code] || [];\nreturn row && text && words.test(row.word) ? code + \" (\" + text + \")\" \
+: String(code);\n}\nfunction objectOf(program, row) {\nconst p = operandOf(row, \"P\");\nconst b = operandOf(row, \"B\");\nreturn p >= 0 ? n\
+ameOf(program, \"P\", p) : b >= 0 ? nameOf(program, \"B\", b) : \"\";\n}\nconst hasSeveral = program => program.phasers.length + program.bar\
+riers.length > 1;\nfunction callOf(program, row, thread) {\nconst call = KINDS[row.word][1];\nif (!call) return \"\";\nlet at = row.kinds.in\
+dexOf(\"P\") + row.kinds.indexOf(\"B\") + 2;\nconst object = objectOf(program, row);\nconst filled = call.replace(/\\$/g, () => {\nconst reg\
+ister = row.operands[at++];\nreturn thread ? thread.registers[Number(register[1])] : register;\n});\nreturn (object && object + \".\") + fil\
+led.replace(\"@\", () => threadName(program, operandOf(row, \"T\")));\n}\nfunction operandNames(program, row) {\nreturn row.operands.map((op\
+erand, k) => {\nconst kind = row.kinds[k];\nif (kind === \"r\" || kind === \"n\") return operand;\nconst n = Number(operand.slice(1));\nretu\
+rn kind === \"L\" ? labelOf(program, n) : nameOf(program, kind, n);\n});\n}\nconst rowText = (program, row) => [row.word, ...operandNames(pr\
+ogram, row)].join(\" \");\nconst STATEMENTS = {\nhalt: \"return\",\nldi: \"$0 = $1\",\nmov: \"$0 = $1\",\nadd: \"$0 = $1 + $2\",\nsub: \"$0 \
+= $1 - $2\",\njmp: \"goto $0\",\nbeq: \"if ($0 == $1) goto $2\",\nbne: \"if ($0 != $1) goto $2\",\nblt: \"if ($0 < $1) goto $2\",\ncall: \"$\
+0()\",\nret: \"return\",\ntry: \"try { // catch: $0\",\nendtry: \"}\",\nthrow: \"throw $0\",\nout: \"System.out.println($0)\",\nlds: \"$0 = \
+$1\",\nsts: \"$1 = $0\",\nself: \"$0 = Thread.currentThread().getId()\"\n};\nfunction javaText(program, row) {\nconst call = callOf(program, \
+row, null);\nif (call) return (row.kinds[0] === \"r\" ? row.operands[0] + \" = \" : \"\") + call;\nconst operands = operandNames(program, ro\
+w);\nreturn STATEMENTS[row.word].replace(/\\$(\\d)/g, (_, k) => operands[k]);\n}\nfunction entryText(program, entry) {\nconst n = Number(ent\
+ry.slice(1));\nconst said = {\nC: \"call\",\nH: \"handler\",\nA: \"onAdvance of \" + nameOf(program, \"P\", n),\nX: \"action of \" + nameOf(\
+program, \"B\", n)\n};\nreturn said[entry[0]];\n}\nfunction plain(program, parts) {\nconst said = part => (\ntypeof part === \"string\" ? pa\
+rt : part.strong !== undefined ? part.strong : threadName(program, part.thread)\n);\nreturn parts.map(said).join(\"\");\n}\nreturn { phaseOf\
+, threadName, labelOf, strong, hueOf, listed, spread, thrown, objectOf, hasSeveral, callOf, rowText, javaText, entryText, plain };\n})();\n/\
+/ app/ending.js\nconst m2 = (() => {\nconst { listed, threadName } = m1;\nfunction endKind(end) {\nif (end.word === \"stuck\") return \"stuc\
+k\";\nif (end.word !== \"all\") return \"open\";\nreturn end.threads.some(thread => thread.status === \"died\") ? \"died\" : \"ended\";\n}\n\
+const KIND_TEXT = { stuck: \"\\u25A0 stuck\", ended: \"\\u25CF all end\", died: \"\\u2716 dies\", open: \"\\u25CB open\" };\nconst few = lis\
+t => (list.length > 4 ? listed([...list.slice(0, 3), list.length - 3 + \" more\"]) : listed(list));\nfunction endText(program, end) {\nconst \
+who = status => end.threads.flatMap((one, t) => (one.status === status ? [threadName(program, t)] : []));\nconst waits = who(\"waits\");\nco\
+nst died = who(\"died\");\nconst parts = [];\nif (end.word === \"all\" && !died.length) parts.push(\"all threads end\");\nif (end.word === \"\
+live\") parts.push(\"open: threads could go on\");\nif (end.word === \"stuck\") {\nparts.push(\nwaits.length ? \"stuck: \" + few(waits) + (w\
+aits.length === 1 ? \" waits\" : \" wait\") + \" for ever\" : \"stuck\"\n);\n}\nif (died.length) parts.push(few(died) + (died.length === 1 ? \
+\" dies\" : \" die\"));\nreturn parts.join(\"; \");\n}\nconst lastOf = list => (list.length > 5 ? \"\\u2026 \" : \"\") + list.slice(-5).join\
+(\" \");\nfunction outputText(program, end) {\nconst said = (thread, t) => (thread.out.length ? [threadName(program, t) + \" \" + lastOf(thr\
+ead.out)] : []);\nreturn end.threads.flatMap(said).join(\", \");\n}\nfunction threadEnd(end, t) {\nconst { status, code, out } = end.threads\
+[t];\nconst word = {\nwaits: end.word === \"stuck\" ? \"waits for ever\" : \"waits\",\ndied: \"died of \" + code\n}[status] || status;\nretu\
+rn word + (status === \"throws\" ? \" \" + code : \"\") + (out.length ? \", output \" + lastOf(out) : \"\");\n}\nreturn { endKind, KIND_TEXT\
+, endText, outputText, threadEnd };\n})();\n// app/elements.js\nconst m3 = (() => {\nconst { hueOf, threadName } = m1;\nconst byId = name => \
+document.getElementById(name);\nconst childrenOf = list => list.flat(Infinity).filter(\none => one !== null && one !== undefined && one !== \
+false && one !== \"\"\n);\nfunction dress(element, classes, given, children) {\nif (classes.length) element.setAttribute(\"class\", classes.\
+join(\" \"));\nfor (const [name, value] of Object.entries(given)) {\nif (value === false || value === null || value === undefined) continue;\
+\nif (name.startsWith(\"on\")) element.addEventListener(name.slice(2), value);\nelse if (name === \"vars\") for (const [key, one] of Object.\
+entries(value)) element.style.setProperty(key, one);\nelse element.setAttribute(name, value === true ? \"\" : value);\n}\nelement.append(...\
+childrenOf(children));\nreturn element;\n}\nfunction h(kind, given = {}, ...children) {\nconst [tag, ...classes] = kind.split(\".\");\nretur\
+n dress(document.createElement(tag), classes, given, children);\n}\nfunction s(kind, given = {}, ...children) {\nconst [tag, ...classes] = k\
+ind.split(\".\");\nreturn dress(document.createElementNS(\"http://www.w3.org/2000/svg\", tag), classes, given, children);\n}\nconst fill = (\
+element, ...children) => element.replaceChildren(...childrenOf(children));\nfunction button(text, onclick, given = {}) {\nconst { kind = \"\"\
+, ...rest } = given;\nreturn h(\"button\" + kind, { type: \"button\", onclick, ...rest }, text);\n}\nconst who = (program, t) => h(\"b.who.\" \
++ hueOf(t), {}, threadName(program, t));\nfunction shown(program, parts) {\nreturn parts.map(part => {\nif (typeof part === \"string\") retu\
+rn part;\nreturn part.strong !== undefined ? h(\"strong\", {}, part.strong) : who(program, part.thread);\n});\n}\nconst MOTION = 200;\nconst \
+isCalm = () => matchMedia(\"(prefers-reduced-motion: reduce)\").matches;\nfunction pulse(element, frames) {\nif (element && !isCalm()) eleme\
+nt.animate(frames, { duration: MOTION, easing: \"ease-out\" });\n}\nfunction fly(root, change) {\nif (isCalm()) return change();\nconst plac\
+es = new Map();\nfor (const one of root.querySelectorAll(\"[data-fly]\")) places.set(one.dataset.fly, one.getBoundingClientRect());\nchange(\
+);\nfor (const one of root.querySelectorAll(\"[data-fly]\")) {\nconst from = places.get(one.dataset.fly);\nconst to = one.getBoundingClientR\
+ect();\nif (!from || (Math.abs(from.left - to.left) < 2 && Math.abs(from.top - to.top) < 2)) continue;\npulse(one, [{ transform: `translate(\
+${from.left - to.left}px, ${from.top - to.top}px)` }, { transform: \"none\" }]);\n}\n}\nreturn { byId, h, s, fill, button, who, shown, MOTIO\
+N, pulse, fly };\n})();\n// app/beside.js\nconst m4 = (() => {\nconst { threadEnd } = m2;\nconst { h } = m3;\nconst { hueOf, threadName } = \
+m1;\nconst SHOWN = 12;\nfunction endsBeside(program, left, right) {\nconst all = program.threads.map((_, t) => t);\nconst differ = all.filte\
+r(t => threadEnd(left.end, t) !== threadEnd(right.end, t));\nconst row = t => {\nconst other = h(\"td\", {}, h(\"b\", { \"aria-label\": \"di\
+ffers: \" }, \"\\u2260 \"), threadEnd(right.end, t));\nreturn h(\n\"tr.is-other\",\n{},\nh(\"th.\" + hueOf(t), { scope: \"row\" }, threadNam\
+e(program, t)),\nh(\"td\", {}, threadEnd(left.end, t)),\nother\n);\n};\nconst isAlike = left.end.key === right.end.key;\nconst said = isAlik\
+e\n? \"Both runs end alike: each thread, each output, each phaser and barrier.\"\n: differ.length\n? \"The other threads end alike.\"\n: \"T\
+he threads end alike; registers, phasers, barriers or cells differ.\";\nconst heads = [\"End\", \"Run \" + (left.id + 1), \"Run \" + (right.\
+id + 1)].map(text => h(\"th\", { scope: \"col\" }, text));\nconst rows = [...differ.slice(0, SHOWN).map(row), h(\"tr\", {}, h(\"td\", { cols\
+pan: 3 }, said))];\nreturn h(\"table.beside\", {}, h(\"thead\", {}, h(\"tr\", {}, heads)), h(\"tbody\", {}, rows));\n}\nreturn { endsBeside \
+};\n})();\n// app/check.js\nconst m5 = (() => {\nconst { byId, fill, h } = m3;\nconst LINE = 80;\nfunction differenceOf(there, here) {\nif (\
+there === here) return null;\nlet k = 0;\nwhile (k < there.length && there.charCodeAt(k) === here.charCodeAt(k)) k++;\nconst from = k ? ther\
+e.lastIndexOf(\"\\n\", k - 1) + 1 : 0;\nlet number = 1;\nfor (let at = 0; (at = there.indexOf(\"\\n\", at) + 1) > 0 && at <= from; ) number+\
++;\nconst start = k - from > LINE / 2 ? k - LINE / 2 : from;\nconst lineOf = text => (start > from ? \"\\u2026\" : \"\") + text.slice(start, \
+start + LINE).split(\"\\n\", 1)[0];\nreturn { number, there: lineOf(there), here: lineOf(here) };\n}\nfunction checkOf(page, listing, trace) \
+{\nconst isOther = page.source && differenceOf(page.listing, listing);\nif (isOther) return { what: \"listing\", ...isOther };\nconst differ\
+ence = differenceOf(page.trace, trace);\nreturn difference ? { what: \"trace\", ...difference } : { what: \"\" };\n}\nconst shown = line => \
+(line ? h(\"code\", {}, line) : \"nothing\");\nfunction drawCheck({ check, item, text, plan }) {\nconst isShown = Boolean(check) && text === \
+item.program && plan === item.plan;\nbyId(\"check\").hidden = !isShown;\nif (!isShown) return;\nbyId(\"check\").classList.toggle(\"is-wrong\"\
+, Boolean(check.what));\nif (!check.what) {\nfill(byId(\"check\"), \"Played again in this page: the trace is the same.\");\nreturn;\n}\ncons\
+t told = \"This page isn\\u2019t what the machine plays. Line \" + check.number + \" of its \" + check.what + \": \";\nfill(byId(\"check\"), \
+h(\"strong\", {}, told), shown(check.there), \" \\u2014 the machine: \", shown(check.here));\n}\nreturn { differenceOf, checkOf, drawCheck }\
+;\n})();\n// web/bytes.mjs\nconst m6 = (() => {\nconst encoder = new TextEncoder();\nconst decoder = new TextDecoder();\nfunction bytesOf(in\
+put) {\nif (typeof input === \"string\") return encoder.encode(input);\nif (input instanceof ArrayBuffer) return new Uint8Array(input);\nif \
+(ArrayBuffer.isView(input)) return new Uint8Array(input.buffer, input.byteOffset, input.byteLength);\nif (input?.bytes instanceof Uint8Array\
+) return input.bytes;\nif (typeof input?.text === \"string\") return encoder.encode(input.text);\nthrow new TypeError(\"an input is a text, \
+bytes, a trace or a schedule\");\n}\nfunction textOf(bytes) {\nreturn decoder.decode(bytes);\n}\nfunction writeText(text, room) {\nreturn en\
+coder.encodeInto(text, room).written;\n}\nreturn { bytesOf, textOf, writeText };\n})();\n// web/faults.mjs\nconst m7 = (() => {\nclass Fault \
+extends Error {\nget name() {\nreturn this.constructor.name;\n}\n}\nclass Refused extends Fault {\nconstructor(told, output, explained) {\nc\
+onst said = (word) => explained.match(new RegExp(`^  ${word}: +(.*)$`, \"m\"))?.[1] ?? \"\";\nsuper(`${told}\\n${explained}`.trimEnd());\nco\
+nst [, group, ...numbers] = told.split(\" \");\nthis.told = told;\nthis.group = group;\nthis.line = group === \"asm\" || group === \"plan\" \
+? Number(numbers.shift()) : null;\nthis.kind = Number(numbers.shift());\nthis.place = numbers;\nthis.word = null;\nthis.means = said(\"Means\
+\");\nthis.help = said(\"Helps\");\nthis.output = output;\n}\n}\nclass Differs extends Fault {\nconstructor(told) {\nsuper(told);\nthis.line \
+= Number(told.split(\" \").pop());\n}\n}\nclass NotATrace extends Differs {\nconstructor(told, before = \"\") {\nsuper(told);\nthis.before = \
+before;\n}\n}\nclass NoLine extends Fault {\nconstructor(words, told) {\nsuper(words);\nthis.told = told;\n}\n}\nclass OutOfMemory extends F\
+ault {\nconstructor(output = new Uint8Array()) {\nsuper(\"memory\");\nthis.output = output;\n}\n}\nclass TooLong extends Fault {\nconstructo\
+r() {\nsuper(\"an input has more bytes than it may have\");\n}\n}\nclass Malformed extends Fault {}\nclass NoHistory extends Fault {\nconstr\
+uctor() {\nsuper(\"no choice is kept that could be taken back\");\n}\n}\nclass Closed extends Fault {\nconstructor() {\nsuper(\"the session \
+is closed\");\n}\n}\nreturn { Fault, Refused, Differs, NotATrace, NoLine, OutOfMemory, TooLong, Malformed, NoHistory, Closed };\n})();\n// w\
+eb/library.mjs\nconst m8 = (() => {\nconst { bytesOf, textOf, writeText } = m6;\nconst { OutOfMemory } = m7;\nconst ROOM = 1 << 16;\nconst K\
+EPT_ROOM = 1 << 24;\nconst LINE_ROOM = 1 << 12;\nconst INPUTS = [\"program\", \"plan\", \"schedule\"];\nconst COMMAND_ROOM = 512;\nconst REP\
+LY_ROOM = 512;\nconst HANDLE = 16;\nconst STRUCTS = 8 + 4 * 4096;\nclass Room {\n#library;\nconstructor(library, size) {\nthis.#library = li\
+brary;\nthis.size = size;\nthis.at = library.take(size);\nthis.lengthAt = library.take(8);\nthis.words = [BigInt(this.at), BigInt(size), Big\
+Int(this.lengthAt)];\n}\nget length() {\nreturn this.#library.number(this.lengthAt);\n}\nget bytes() {\nreturn this.#library.bytes.slice(thi\
+s.at, this.at + Math.min(this.length, this.size));\n}\nget text() {\nreturn this.#library.text(this.at, Math.min(this.length, this.size));\n\
+}\nfree() {\nthis.#library.give(this.at);\nthis.#library.give(this.lengthAt);\n}\n}\nclass Library {\n#exports;\n#bytes = new Uint8Array();\n\
+#view;\n#output;\n#line;\n#command;\n#reply;\nstruct;\nconstructor(instance) {\nthis.#exports = instance.exports;\nthis.#line = new Room(thi\
+s, LINE_ROOM);\nthis.#command = new Room(this, COMMAND_ROOM);\nthis.#reply = new Room(this, REPLY_ROOM);\nconst at = this.take(STRUCTS);\nth\
+is.struct = { at, word: BigInt(at) };\n}\nget bytes() {\nif (this.#bytes.length === 0) {\nthis.#bytes = new Uint8Array(this.#exports.memory.\
+buffer);\nthis.#view = new DataView(this.#exports.memory.buffer);\n}\nreturn this.#bytes;\n}\nnumber(at) {\nconst { view } = this;\nreturn v\
+iew.getUint32(at, true) + view.getUint32(at + 4, true) * 2 ** 32;\n}\ntext(at, length) {\nreturn textOf(this.bytes.subarray(at, at + length)\
+);\n}\ntake(size) {\nconst at = Number(this.#exports.room(BigInt(size)));\nif (at === 0) throw new OutOfMemory();\nreturn at;\n}\ngive(at) {\
+\nthis.#exports.room_back(BigInt(at));\n}\nroom(size) {\nreturn new Room(this, size);\n}\ncall(name, ...words) {\nreturn this.#exports[`vuth\
+gal_${name}`](...words) & 255;\n}\nwith(inputs, use) {\nconst taken = [];\ntry {\nconst words = [];\nfor (const input of inputs) {\ntaken.pu\
+sh(this.take(input.length));\nthis.bytes.set(input, taken.at(-1));\nwords.push(BigInt(taken.at(-1)), BigInt(input.length));\n}\nreturn use(w\
+ords);\n} finally {\nfor (const at of taken) this.give(at);\n}\n}\n#outputRoom(size) {\nif (this.#output && this.#output.size < size) this.f\
+reeRoom();\nreturn (this.#output ??= new Room(this, size));\n}\nfreeRoom() {\nthis.#output?.free();\nthis.#output = undefined;\n}\ncalled(na\
+me, inputs, { first = [], more = [], hasLine = true, arrange = (words) => words } = {}) {\nreturn this.with(inputs, (taken) => {\nconst word\
+s = arrange(taken);\nconst line = hasLine ? this.#line.words : [];\nconst ask = (room) => this.call(name, ...first, ...words, ...more, ...ro\
+om.words, ...line);\nlet room = this.#outputRoom(ROOM);\nlet status = ask(room);\nwhile (room.length > room.size) {\nroom = this.#outputRoom\
+(room.length);\nstatus = ask(room);\n}\nconst told = { status, output: room.bytes, line: hasLine ? this.#line.text : \"\" };\nif (room.size \
+> KEPT_ROOM) this.freeRoom();\nreturn told;\n});\n}\nmistaken(program, kind, input) {\nconst { at, word } = this.struct;\nconst arrange = ([\
+where, length, ...rest]) => [where, length, kind, ...rest, word];\nconst told = this.called(\"mistake\", [program, input], { arrange });\nco\
+nst [line, column, length] = [0, 8, 16].map((offset) => this.number(at + offset));\nconst place = { input: INPUTS[this.view.getUint8(at + 24\
+)], line: line || null, column: column || null, length };\nreturn { ...told, place };\n}\nversion() {\nthis.call(\"version\", ...this.#line.\
+words);\nreturn this.#line.text;\n}\nget view() {\nif (this.#bytes.length === 0) this.bytes;\nreturn this.#view;\n}\nhandle() {\nconst at = \
+this.take(HANDLE);\nthis.bytes.fill(0, at, at + HANDLE);\nreturn at;\n}\nclose(handle) {\nthis.call(\"session_close\", BigInt(handle));\nthi\
+s.give(handle);\n}\nopen(handle, program) {\nreturn this.with([program], (words) => {\nconst status = this.call(\"session_open\", BigInt(han\
+dle), ...words, ...this.#line.words);\nreturn { status, line: this.#line.text };\n});\n}\ncommand(handle, text) {\nconst words = this.#writt\
+en(text);\nreturn words ? this.#commanded(handle, words) : this.with([bytesOf(text)], (long) => this.#commanded(handle, long));\n}\n#written\
+(text) {\nif (text.length * 3 > COMMAND_ROOM) return undefined;\nconst room = this.bytes.subarray(this.#command.at, this.#command.at + COMMA\
+ND_ROOM);\nreturn [this.#command.words[0], BigInt(writeText(text, room))];\n}\n#commanded(handle, words) {\nconst status = this.call(\"sessi\
+on_command\", BigInt(handle), ...words, ...this.#reply.words);\nif (this.#reply.length <= REPLY_ROOM) return { status, reply: this.#reply.te\
+xt };\nconst room = new Room(this, this.#reply.length);\ntry {\nreturn { status: this.call(\"session_reply\", BigInt(handle), ...room.words)\
+, reply: room.text };\n} finally {\nroom.free();\n}\n}\n}\nreturn { Library };\n})();\n// web/page.mjs\nconst m9 = (() => {\nconst NAMES = [\
+\"listing\", \"source\", \"schedule\", \"trace\"];\nconst ESCAPED = { \"&\": \"&amp;\", \"<\": \"&lt;\", \">\": \"&gt;\", \"\\r\": \"&#13;\" \
+};\nconst MOST_CHOICES = 1_000_000;\nconst MOST_TRACE = 16_777_216;\nfunction pageWith(app, texts) {\nconst put = (page, name) => {\nconst [\
+begin, end] = [`<pre id=\"${name}\">`, \"</pre>\"];\nconst text = texts[name].replace(/[&<>\\r]/g, (sign) => ESCAPED[sign]);\nreturn page.re\
+place(begin + end, () => `${begin}\\n${text}${end}`);\n};\nreturn NAMES.reduce(put, app);\n}\nfunction choicesIn(schedule) {\nlet count = 0;\
+\nfor (const [, times] of schedule.matchAll(/[tx]\\d+(?:\\*(\\d{1,10}))?/g)) count += Number(times ?? 1);\nreturn count;\n}\nreturn { MOST_C\
+HOICES, MOST_TRACE, pageWith, choicesIn };\n})();\n// web/values.mjs\nconst m10 = (() => {\nconst { textOf } = m6;\nconst { Malformed } = m7\
+;\nconst VALUED = new Set([\"=\", \"out\", \"throw\", \"catch\", \"die\"]);\nclass Line {\nconstructor(step, choice, row, what, value = null\
+, mark = null, view = null) {\nthis.step = step;\nthis.choice = choice;\nthis.thread = Number(choice.slice(1));\nthis.row = row;\nthis.what \
+= what;\nthis.value = value;\nthis.mark = mark;\nthis.view = view;\n}\nstatic parse(text) {\nconst [step, choice, row, what, ...rest] = text\
+.split(\" \");\nconst isOne = /^[1-9][0-9]*$/.test(step) && /^[tx][0-9]+$/.test(choice) && what;\nif (!isOne) throw new Malformed(`no line o\
+f a trace: ${text}`);\nconst value = VALUED.has(what) ? Number(rest.shift()) : null;\nconst [mark = null, view = null] = rest;\nreturn new L\
+ine(Number(step), choice, row === \"-\" ? null : Number(row), what, value, mark, view && Number(view));\n}\nget text() {\nconst words = [thi\
+s.step, this.choice, this.row ?? \"-\", this.what, this.value, this.mark, this.view];\nreturn words.filter((word) => word !== null).join(\" \
+\");\n}\ntoString() {\nreturn this.text;\n}\n}\nfunction threadOf(words) {\nconst [status, exception] = words[2].split(\":\");\nconst stack \
+= words.indexOf(\"stack\");\nconst out = words.indexOf(\"out\", stack);\nreturn {\nnumber: Number(words[0].slice(1)),\nrow: Number(words[1])\
+,\nstatus,\nexception: exception === undefined ? null : Number(exception),\ninterrupted: words[3] === \"1\",\nregisters: words.slice(5, stac\
+k).map(Number),\nstack: words.slice(stack + 1, out),\nout: words.slice(out + 1).map(Number),\n};\n}\nfunction phaserOf([name, ...numbers]) {\
+\nconst [view, parties, arrived, unarrived] = numbers.map(Number);\nreturn { number: Number(name.slice(1)), view, parties, arrived, unarrive\
+d };\n}\nfunction barrierOf([name, waiting, broken]) {\nreturn { number: Number(name.slice(1)), waiting: Number(waiting), broken: broken === \
+\"1\" };\n}\nclass State {\nconstructor(text, values) {\nthis.text = text;\nObject.assign(this, values);\n}\nstatic parse(text) {\nconst [he\
+ad, ...lines] = text.trimEnd().split(\"\\n\").map((line) => line.split(\" \"));\nif (head[0] !== \"state\" || head.length !== 4) throw new M\
+alformed(`no state: ${text}`);\nconst of = (letter) => lines.filter((words) => words[0][0] === letter);\nreturn new State(text, {\nchoices: \
+Number(head[1]),\nsteps: Number(head[2]),\nword: head[3],\nthreads: of(\"t\").map(threadOf),\nphasers: of(\"p\").map(phaserOf),\nbarriers: o\
+f(\"b\").map(barrierOf),\ncells: new Map(of(\"c\").map(([name, value]) => [Number(name.slice(1)), Number(value)])),\n});\n}\ntoString() {\nr\
+eturn this.text;\n}\n}\nclass Trace {\n#text;\n#lines;\n#state;\nconstructor(bytes) {\nthis.bytes = bytes;\n}\nget text() {\nreturn (this.#t\
+ext ??= textOf(this.bytes));\n}\n#end() {\nconst at = this.text.lastIndexOf(\"\\nstate \") + 1;\nif (at === 0 && !this.text.startsWith(\"sta\
+te \")) throw new Malformed(\"a trace has a line that begins with `state`\");\nreturn at;\n}\nget lines() {\nreturn (this.#lines ??= this.te\
+xt.slice(0, this.#end()).split(\"\\n\").slice(0, -1).map(Line.parse));\n}\nget state() {\nreturn (this.#state ??= State.parse(this.text.slic\
+e(this.#end())));\n}\n[Symbol.iterator]() {\nreturn this.lines[Symbol.iterator]();\n}\ntoString() {\nreturn this.text;\n}\n}\nclass Schedule \
+{\nconstructor(text, stopped = false) {\nthis.text = text;\nthis.stopped = stopped;\n}\n*[Symbol.iterator]() {\nfor (const [token] of this.t\
+ext.matchAll(/\\S+/g)) {\nconst [choice, count = 1] = token.split(\"*\");\nfor (let i = 0; i < count; i++) yield choice;\n}\n}\ntoString() {\
+\nreturn this.text;\n}\n}\nclass Went {\nconstructor(text) {\nconst [what, choices, why] = text.split(\" \");\nthis.text = text;\nthis.what \
+= what;\nthis.choices = Number(choices);\nthis.why = why ?? null;\n}\ntoString() {\nreturn this.text;\n}\n}\nclass Ending {\nconstructor(tex\
+t) {\nconst [runs, word, seed, ...schedule] = text.split(\" \");\nthis.text = text;\nthis.runs = Number(runs);\n[this.word] = word.split(\"+\
+\");\nthis.died = word.endsWith(\"+died\");\nthis.seed = Number(seed.slice(1));\nthis.schedule = new Schedule(schedule.join(\" \"));\n}\ntoS\
+tring() {\nreturn this.text;\n}\n}\nreturn { VALUED, Line, State, Trace, Schedule, Went, Ending };\n})();\n// web/looks.mjs\nconst m11 = (() \
+=> {\nconst { Line, VALUED } = m10;\nconst EVENT_SIZE = 24;\nconst STATE_SIZE = 16;\nconst THREAD_SIZE = 48;\nconst PHASER_SIZE = 12;\nconst \
+BARRIER_SIZE = 8;\nconst ENTRY_SIZE = 4;\nconst NUMBER_SIZE = 4;\nconst NOTHING = 65535;\nconst MOST_ENTRIES = 64;\nconst MOST_OUTPUTS = 409\
+6;\nconst MOST_OBJECTS = 64;\nconst MOST_CELLS = 32;\nconst WHATS = [\"idle\", \"ok\", \"=\", \"out\", \"wait\", \"throw\", \"enter\", \"unw\
+ind\", \"catch\", \"die\", \"end\"];\nconst HAS_VALUE = WHATS.map((what) => VALUED.has(what));\nconst MARKS = [null, \"+p\", \"+b\", \"-b\"]\
+;\nconst STATUSES = [\"runs\", \"throws\", \"waits\", \"waits\", \"ended\", \"died\"];\nconst STANDINGS = [\"live\", \"stuck\", \"all\"];\nc\
+onst ENTRIES = [\"C\", \"H\", \"A\", \"X\"];\nconst numbered = (number) => (number === NOTHING ? null : number);\nfunction lineAt(view, at, \
+choice) {\nconst step = view.getUint32(at, true) + view.getUint32(at + 4, true) * 2 ** 32;\nconst what = view.getUint8(at + 20);\nconst valu\
+e = HAS_VALUE[what] ? view.getInt32(at + 8, true) : null;\nconst mark = view.getUint8(at + 21);\nif (mark === 0) return new Line(step, choic\
+e, view.getUint16(at + 16, true), WHATS[what], value);\nconst name = MARKS[mark] + view.getUint16(at + 18, true);\nconst after = mark === 1 \
+? view.getInt32(at + 12, true) : null;\nreturn new Line(step, choice, view.getUint16(at + 16, true), WHATS[what], value, name, after);\n}\nc\
+onst LOOK = (() => {\nconst parts = [\n[\"threads\", THREAD_SIZE, MOST_OBJECTS],\n[\"phasers\", PHASER_SIZE, MOST_OBJECTS],\n[\"barriers\", \
+BARRIER_SIZE, MOST_OBJECTS],\n[\"cells\", NUMBER_SIZE, MOST_CELLS],\n];\nlet size = STATE_SIZE;\nconst rooms = parts.map(([name, each, most]\
+) => ({ name, each, most, at: (size += each * most) - each * most }));\nreturn { rooms, size };\n})();\nconst [THREADS, PHASERS, BARRIERS, C\
+ELLS] = LOOK.rooms;\nfunction threadAt(view, at, number) {\nconst status = STATUSES[view.getUint8(at + 43)];\nconst value = view.getInt32(at \
++ 32, true);\nconst awaits = view.getUint8(at + 43) === 2 ? \"p\" : \"b\";\nconst object = numbered(view.getUint16(at + 38, true));\nreturn \
+{\nnumber,\nrow: view.getUint16(at + 36, true),\nstatus,\nexception: status === \"throws\" || status === \"died\" ? value : null,\nawaits: s\
+tatus === \"waits\" && object !== null ? `${awaits}${object}` : null,\nphase: status === \"waits\" && awaits === \"p\" ? value : null,\ninte\
+rrupted: view.getUint8(at + 44) === 1,\nregisters: Array.from({ length: 8 }, (_, register) => view.getInt32(at + 4 * register, true)),\nentr\
+ies: view.getUint8(at + 42),\noutputs: view.getUint16(at + 40, true),\n};\n}\nconst phaserAt = (view, at, number) => ({\nnumber,\nview: view\
+.getInt32(at, true),\nparties: view.getUint16(at + 4, true),\narrived: view.getUint16(at + 6, true),\nunarrived: view.getUint16(at + 8, true\
+),\nparent: numbered(view.getUint16(at + 10, true)),\n});\nconst barrierAt = (view, at, number) => ({\nnumber,\nparties: view.getUint16(at, \
+true),\nwaiting: view.getUint16(at + 2, true),\nrunner: numbered(view.getUint16(at + 4, true)),\nbroken: view.getUint8(at + 6) === 1,\n});\n\
+function lookAt(view, at) {\nconst all = (count, room, one) => Array.from({ length: count }, (_, i) => one(view, at + room.at + room.each * \
+i, i));\nconst cells = all(CELLS.most, CELLS, (_, place, cell) => [cell, view.getInt32(place, true)]);\nreturn {\nchoices: view.getUint32(at\
+, true) + view.getUint32(at + 4, true) * 2 ** 32,\nsteps: view.getUint32(at + 8, true),\nword: STANDINGS[view.getUint8(at + 15)],\nthreads: \
+all(view.getUint8(at + 12), THREADS, threadAt),\nphasers: all(view.getUint8(at + 13), PHASERS, phaserAt),\nbarriers: all(view.getUint8(at + \
+14), BARRIERS, barrierAt),\ncells: new Map(cells.filter(([, value]) => value !== 0)),\n};\n}\nfunction entriesAt(view, at, count) {\nconst o\
+ne = (_, i) => ENTRIES[view.getUint8(at + ENTRY_SIZE * i + 2)] + view.getUint16(at + ENTRY_SIZE * i, true);\nreturn Array.from({ length: cou\
+nt }, one);\n}\nfunction numbersAt(view, at, count) {\nreturn Array.from({ length: count }, (_, i) => view.getInt32(at + NUMBER_SIZE * i, tr\
+ue));\n}\nfunction bitsAt(view, at) {\nconst words = [view.getUint32(at, true), view.getUint32(at + 4, true)];\nreturn Array.from({ length: \
+64 }, (_, bit) => bit).filter((bit) => (words[bit >> 5] >>> (bit & 31)) & 1);\n}\nreturn { EVENT_SIZE, MOST_ENTRIES, MOST_OUTPUTS, lineAt, L\
+OOK, lookAt, entriesAt, numbersAt, bitsAt };\n})();\n// web/session.mjs\nconst m12 = (() => {\nconst { bytesOf, textOf } = m6;\nconst { NoHi\
+story } = m7;\nconst { bitsAt, entriesAt, lineAt, LOOK, lookAt, MOST_ENTRIES, MOST_OUTPUTS, numbersAt } = m11;\nconst { Line, Schedule, Stat\
+e, Went } = m10;\nconst NONE_KEPT = 1;\nconst FEWER = 1;\nconst NOT_READ = 3;\nconst NO_THREAD = 7;\nconst LIMIT = 8;\nfunction namesOf(prog\
+ram) {\nconst text = textOf(program);\nif (/^PBW[12]/.test(text)) return [];\nconst lines = text.split(\"\\n\").map((line) => line.split(\";\
+\")[0].trim().split(/\\s+/));\nconst end = lines.findIndex(([word]) => word === \".run\");\nconst head = end < 0 ? lines : lines.slice(0, en\
+d);\nreturn head.filter(([word, name]) => word === \".thread\" && name).map(([, name]) => name);\n}\nconst forgotten = new FinalizationRegis\
+try(({ library, handle }) => library.close(handle));\nclass Session {\n#library;\n#handle;\n#word;\n#answer;\nconstructor(library, answer, t\
+hreads, fill) {\nconst handle = library.handle();\ntry {\nanswer(fill(handle));\n} catch (fault) {\nlibrary.close(handle);\nthrow fault;\n}\n\
+this.#library = library;\nthis.#handle = handle;\nthis.#word = BigInt(handle);\nthis.#answer = answer;\nthis.threads = threads;\nforgotten.r\
+egister(this, { library, handle }, this);\n}\nstatic of(library, answer, program) {\nconst bytes = bytesOf(program);\nreturn new Session(lib\
+rary, answer, namesOf(bytes), (handle) => library.open(handle, bytes));\n}\nget isOpen() {\nreturn this.#handle !== 0;\n}\n#check(status) {\n\
+if (status !== 0) this.#answer({ status, line: \"\" });\n}\n#open() {\nif (this.#handle === 0) this.#check(6);\nreturn this.#word;\n}\n#numb\
+er(thread) {\nconst number = typeof thread === \"number\" ? thread : this.threads.indexOf(thread);\nif (Number.isInteger(number) && number >\
+= 0 && number < 256) return number;\nthrow new RangeError(`there is no thread ${thread}`);\n}\n#choice(thread, letter, expiry) {\nconst sess\
+ion = this.#open();\nconst number = this.#number(thread);\nconst { at, word } = this.#library.struct;\nconst status = this.#library.call(\"s\
+ession_step\", session, number, expiry, word);\nif (status === 0) return lineAt(this.#library.view, at, letter + number);\nif (status === NO\
+_THREAD || status === LIMIT) return Line.parse(this.command(`s ${letter}${number}`).slice(0, -1));\nreturn this.#check(status);\n}\nstep(thr\
+ead) {\nreturn this.#choice(thread, \"t\", 0);\n}\nexpire(thread) {\nreturn this.#choice(thread, \"x\", 1);\n}\ngo(schedule) {\nconst tokens \
+= String(schedule).trim().split(/\\s+/).join(\" \");\nconst reply = this.command(`g ${tokens}`).slice(0, -1);\nif (reply === \"?\") throw ne\
+w RangeError(`no schedule: ${tokens}`);\nreturn new Went(reply);\n}\nback(count = 1) {\nfor (let i = 0; i < count; i++) {\nconst status = th\
+is.#library.call(\"session_back\", this.#open());\nif (status === NONE_KEPT) throw new NoHistory();\nthis.#check(status);\n}\n}\ngoTo(played\
+, number) {\nconst status = this.#library.with([bytesOf(String(played))], (words) =>\nthis.#library.call(\"session_go_to\", this.#open(), ..\
+.words, BigInt(number)),\n);\nif (status === FEWER) throw new RangeError(`fewer than ${number} choices were played`);\nif (status === NOT_RE\
+AD) throw new RangeError(`no schedule: ${played}`);\nif (status === NO_THREAD) throw new RangeError(`there is no such thread: ${played}`);\n\
+this.#check(status);\n}\nget enabled() {\nconst { at } = this.#library.struct;\nconst words = [BigInt(at), BigInt(at + 8)];\nthis.#check(thi\
+s.#library.call(\"session_enabled\", this.#open(), ...words));\nreturn { turns: bitsAt(this.#library.view, at), expiries: bitsAt(this.#libra\
+ry.view, at + 8) };\n}\nlook() {\nconst { at, word } = this.#library.struct;\nconst rooms = LOOK.rooms.flatMap((room) => [BigInt(at + room.a\
+t), BigInt(room.most)]);\nthis.#check(this.#library.call(\"session_look\", this.#open(), word, ...rooms));\nreturn lookAt(this.#library.view\
+, at);\n}\n#listed(name, thread, most, read) {\nconst { at } = this.#library.struct;\nconst words = [this.#open(), this.#number(thread), Big\
+Int(at + 8), BigInt(most), BigInt(at)];\nconst status = this.#library.call(`session_${name}`, ...words);\nif (status === NO_THREAD) throw ne\
+w RangeError(`there is no thread ${thread}`);\nthis.#check(status);\nreturn read(this.#library.view, at + 8, this.#library.number(at));\n}\n\
+stack(thread) {\nreturn this.#listed(\"stack\", thread, MOST_ENTRIES, entriesAt);\n}\noutputs(thread) {\nreturn this.#listed(\"outputs\", th\
+read, MOST_OUTPUTS, numbersAt);\n}\ncopy() {\nconst from = this.#open();\nconst fill = (to) => ({ status: this.#library.call(\"session_copy\"\
+, from, BigInt(to)), line: \"\" });\nreturn new Session(this.#library, this.#answer, this.threads, fill);\n}\nother(thread, { expires = fals\
+e, rest = \"\", most = 1_000_000 } = {}) {\nconst words = [this.#open(), this.#number(thread), expires ? 1 : 0, most];\nconst told = this.#l\
+ibrary.called(\"session_other\", [bytesOf(rest)], { first: words, hasLine: false });\nif (told.status === NOT_READ) throw new RangeError(`no \
+schedule of at most 2,000 choices: ${rest}`);\nthis.#check(told.status);\nreturn new Schedule(textOf(told.output).trimEnd());\n}\nsetBreakpo\
+int(row) {\nthis.#row(\"k\", row);\n}\nclearBreakpoint(row) {\nthis.#row(\"c\", row);\n}\n#row(letter, row) {\nif (this.command(`${letter} $\
+{row}`) === \"?\\n\") throw new RangeError(`there is no row ${row}`);\n}\nget state() {\nreturn State.parse(this.command(\"p\"));\n}\ncomman\
+d(line) {\nthis.#open();\nconst { status, reply } = this.#library.command(this.#handle, line);\nthis.#check(status);\nreturn reply;\n}\nclos\
+e() {\nif (this.#handle === 0) return;\nforgotten.unregister(this);\nthis.#library.close(this.#handle);\nthis.#handle = 0;\n}\n[Symbol.dispo\
+se ?? Symbol.for(\"Symbol.dispose\")]() {\nthis.close();\n}\n}\nreturn { Session };\n})();\n// web/vuthgal.mjs\nconst m13 = (() => {\nconst \
+{ bytesOf, textOf } = m6;\nconst { Closed, Differs, Fault, NoLine, NotATrace, OutOfMemory, Refused, TooLong } = m7;\nconst { Library } = m8;\
+\nconst { choicesIn, MOST_CHOICES, MOST_TRACE, pageWith } = m9;\nconst { Session } = m12;\nconst { Ending, Line, Schedule, State, Trace, Wen\
+t } = m10;\nconst MOST_PLANNED = 1_000_000;\nasync function fetched(url) {\nif (url.protocol === \"file:\" && globalThis.process?.versions?.\
+node) {\nconst files = \"node:fs/promises\"; // named here, so that a bundler for browsers doesn't look for it\nreturn (await import(files))\
+.readFile(url);\n}\nconst response = await fetch(url);\nif (!response.ok) throw new Fault(`${url} has the status ${response.status}`);\nretu\
+rn response.arrayBuffer();\n}\nasync function load(source = new URL(\"vuthgal.wasm\", self.location.href)) {\nconst what = typeof source === \
+\"string\" ? new URL(source, globalThis.location?.href ?? self.location.href) : source;\nconst code = what instanceof URL ? await fetched(wh\
+at) : what;\nconst made = await WebAssembly.instantiate(code).catch((error) => {\nthrow error instanceof RangeError ? new OutOfMemory() : er\
+ror; // no memory was to be had for the module\n});\nreturn new Vuthgal(new Library(made instanceof WebAssembly.Instance ? made : made.insta\
+nce));\n}\nclass Vuthgal {\n#library;\nconstructor(library) {\nthis.#library = library;\n}\ncall(name, inputs, ...more) {\nreturn this.#libr\
+ary.called(name, inputs.map(bytesOf), { more });\n}\n#answer(told) {\nif (told.status < 2) return told;\nif (told.status === 3) {\nconst lin\
+e = told.line.trimEnd();\nthrow new Refused(line, told.output ?? new Uint8Array(), this.#explained(line));\n}\nif (told.status === 4) throw \
+new OutOfMemory(told.output);\nif (told.status === 5) throw new TooLong();\nif (told.status === 6) throw new Closed();\nthrow new Fault(`the \
+library returns status ${told.status}`);\n}\n#explained(words) {\nconst { status, output } = this.call(\"explain\", [words]);\nreturn status \
+=== 0 ? textOf(output) : \"\";\n}\n#bytes(name, inputs, ...more) {\nreturn this.#answer(this.call(name, inputs, ...more)).output;\n}\n#text(\
+name, inputs, ...more) {\nreturn textOf(this.#bytes(name, inputs, ...more));\n}\nrun(program, schedule) {\nreturn new Trace(schedule === und\
+efined ? this.#bytes(\"both\", [program]) : this.#bytes(\"run\", [program, schedule]));\n}\nasm(text) {\nreturn this.#bytes(\"asm\", [text])\
+;\n}\nlist(program) {\nreturn this.#text(\"list\", [program]);\n}\ncompare(program, trace) {\nconst told = this.#text(\"compare\", [program, \
+trace]).trimEnd();\nif (told !== \"same\") throw told.startsWith(\"not\") ? new NotATrace(told) : new Differs(told);\n}\nchoices(trace) {\nc\
+onst { status, output } = this.#answer(this.call(\"choices\", [trace]));\nconst lines = textOf(output).trimEnd().split(\"\\n\");\nif (status \
+=== 1) throw new NotATrace(lines.at(-1), lines.length > 1 ? lines[0] : \"\");\nreturn new Schedule(lines[0]);\n}\nplan(program, plan, { most \
+= MOST_PLANNED, names = false } = {}) {\nconst { status, output } = this.#answer(this.call(\"plan\", [program, plan], most, names ? 1 : 0));\
+\nreturn new Schedule(textOf(output).trimEnd(), status === 1);\n}\nseeds(program, { plan = \"\", first = 1, count = 1000, limit = 0, names = \
+false } = {}) {\nif (!(first >= 0 && first + count <= 2 ** 32)) throw new RangeError(\"a seed is from 0 to 4294967295\");\nconst told = this\
+.#text(\"seeds\", [program, plan], first, count, limit, names ? 1 : 0);\nreturn told.split(\"\\n\").slice(0, -1).map((line) => new Ending(li\
+ne));\n}\npage(program, schedule, app) {\nif (choicesIn(textOf(bytesOf(schedule))) > MOST_CHOICES) throw new TooLong();\nconst trace = this.\
+#text(\"run\", [program, schedule]);\nif (trace.length > MOST_TRACE) throw new TooLong();\nconst source = textOf(bytesOf(program));\nreturn \
+pageWith(app, {\nlisting: this.list(program),\nsource: /^PBW[12]/.test(source) ? \"\" : source,\nschedule: `${this.choices(trace)}\\n`,\ntra\
+ce,\n});\n}\nmistake(program, { plan, schedule } = {}) {\nconst text = bytesOf(program);\nconst isWhole = plan === undefined && schedule === \
+undefined && /^\\.run\\s*$/m.test(textOf(text));\nconst kind = plan !== undefined ? 1 : schedule !== undefined ? 2 : isWhole ? 3 : 0;\nconst \
+told = this.#library.mistaken(text, kind, bytesOf(plan ?? schedule ?? \"\"));\nif (told.status !== 3) return this.#answer(told) && null;\nre\
+turn { told: told.line.trimEnd(), ...told.place, hint: textOf(told.output).trimEnd() };\n}\ndraw(program, schedule, { width = 80 } = {}) {\n\
+const isFit = Number.isInteger(width) && width >= 60 && width <= 1000;\nif (!isFit) throw new RangeError(\"the width is from 60 to 1000\");\n\
+return this.#text(\"draw\", [program, schedule], width);\n}\nexpect(state, expectation) {\nconst inputs = [bytesOf(String(state)), bytesOf(e\
+xpectation)];\nconst status = this.#library.with(inputs, (words) => this.#library.call(\"expect\", ...words));\nif (status === 3) throw new \
+RangeError(`no expectation: ${expectation}`);\nreturn this.#answer({ status }).status === 0;\n}\ndebug(program, commands) {\nconst lines = A\
+rray.isArray(commands) ? commands.map((line) => `${line}\\n`).join(\"\") : commands;\nreturn this.#text(\"debug\", [program, lines]);\n}\nex\
+plain(words = \"\") {\nconst told = this.call(\"explain\", [words]);\nif (told.status === 2) throw new NoLine(words, told.line);\nreturn tex\
+tOf(this.#answer(told).output);\n}\nsession(program) {\nreturn Session.of(this.#library, (told) => this.#answer(told), program);\n}\nget ver\
+sion() {\nreturn this.#library.version();\n}\nget memory() {\nreturn this.#library.bytes.length;\n}\n}\nreturn { ...m7, load, Ending, Line, \
+Schedule, Session, State, Trace, Went };\n})();\n// app/machine.js\nconst m14 = (() => {\nconst { load, Refused } = m13;\nlet machine = null\
+;\nasync function startMachine(bytes) {\nmachine = await load(bytes);\n}\nconst listProgram = program => machine.list(program);\nconst playR\
+un = (program, schedule) => machine.run(program, schedule).text;\nconst planSchedule = (program, plan) => machine.plan(program, plan).text.t\
+rim();\nconst openSession = program => machine.session(program);\nconst versionOf = () => machine.version.split(\"\\n\")[0];\nreturn { start\
+Machine, listProgram, playRun, planSchedule, openSession, versionOf, Refused };\n})();\n// app/schedule.js\nconst m15 = (() => {\nfunction c\
+hoicesOf(schedule, most = Infinity) {\nconst out = [];\nconst known = new Map();\nfor (const word of schedule.split(/\\s+/)) {\nif (!word) c\
+ontinue;\nconst [name, count] = word.split(\"*\");\nconst token = known.get(name) || name;\nknown.set(name, token);\nfor (let n = Math.min(N\
+umber(count || 1), most + 1 - out.length); n > 0; n--) out.push(token);\nif (out.length > most) break;\n}\nreturn out;\n}\nfunction schedule\
+Of(choices) {\nconst out = [];\nfor (let i = 0, n; i < choices.length; i += n) {\nfor (n = 1; choices[i + n] === choices[i]; n++);\nout.push\
+(choices[i] + (n > 1 ? \"*\" + n : \"\"));\n}\nreturn out.join(\" \");\n}\nfunction commonOf(left, right) {\nlet n = 0;\nwhile (n < left.len\
+gth && n < right.length && left[n] === right[n]) n++;\nreturn n;\n}\nreturn { choicesOf, scheduleOf, commonOf };\n})();\n// app/plan.js\ncon\
+st m16 = (() => {\nconst { Refused, planSchedule, playRun } = m14;\nconst { choicesOf, scheduleOf } = m15;\nconst { nameOf } = m0;\nconst MO\
+ST = 20000;\nconst LONGEST = 1000000;\nconst OPEN = /;[^\\n]*|(\\.\\.|\\?[0-9]{1,20})(?=[\\s();]|$)/g;\nconst bounded = plan => plan.replace\
+(OPEN, (whole, open) => (open ? open + \"*\" + (MOST + 1) : whole));\nconst TOKEN = /^([tx]\\d{1,2}(\\*\\d{1,10})?)?$/;\nconst isSchedule = \
+plan => plan.trim().split(/\\s+/).every(word => TOKEN.test(word));\nconst LONG = 20000;\nconst isHeavy = plan => plan.length > LONG || /\\*\\\
+s*\\d{5,}|\\)\\*\\d{3,}/.test(plan);\nfunction choicesOfPlan(text, plan) {\nlet all;\nif (isHeavy(plan) && isSchedule(plan)) all = choicesOf\
+(plan, MOST);\nelse {\ntry {\nall = choicesOf(planSchedule(text, bounded(plan)), MOST);\n} catch (fault) {\nif (!(fault instanceof Refused) \
+|| !isSchedule(plan)) throw fault;\nall = choicesOf(plan, MOST);\n}\n}\nreturn { choices: all.slice(0, MOST), isCut: all.length > MOST };\n}\
+\nfunction playedPlan(text, plan, schedule) {\nconst all = schedule ? choicesOf(schedule, LONGEST) : null;\nconst found = all ? { choices: a\
+ll.slice(0, LONGEST), isCut: all.length > LONGEST } : choicesOfPlan(text, plan);\nreturn { ...found, trace: playRun(text, scheduleOf(found.c\
+hoices)) };\n}\nconst STOPS = /^(wait|end|die|idle)$/;\nfunction turnsFrom(events, i) {\nconst { token } = events.at(i);\nlet k = i;\nlet ev\
+ent = events.at(k);\nwhile (event && event.token === token && !STOPS.test(event.what)) event = events.at(++k);\nconst isDone = Boolean(event\
+) && event.token === token && event.what !== \"idle\";\nreturn { count: isDone ? k + 1 - i : Math.max(1, k - i), isDone };\n}\nfunction plan\
+Of(program, events, most = 60) {\nconst out = [];\nfor (let i = 0; i < events.length; ) {\nconst { thread, isLate } = events.at(i);\nconst n\
+ame = nameOf(program, \"T\", thread);\nconst { count, isDone } = isLate ? { count: 1, isDone: false } : turnsFrom(events, i);\nif (isLate) o\
+ut.push(\"x\" + name);\nelse out.push(name + (isDone ? \".\" : count > 1 ? \"*\" + count : \"\"));\ni += count;\nif (out.length >= most && i \
+< events.length) return out.join(\" \") + \" \\u2026\";\n}\nreturn out.join(\" \");\n}\nfunction readablePlan(program, run, plan) {\nif (run\
+.choices.length > 300 || !/^[tx\\d*\\s]+$/.test(plan)) return plan;\nconst named = planOf(program, run.events, Infinity);\ntry {\nconst agai\
+n = choicesOfPlan(program.text, named).choices;\nreturn scheduleOf(again) === scheduleOf(run.choices) ? named : plan;\n} catch (_) {\nreturn \
+plan;\n}\n}\nreturn { MOST, LONGEST, isHeavy, choicesOfPlan, playedPlan, planOf, readablePlan };\n})();\n// app/trace.js\nconst m17 = (() => \
+{\nconst EVENT = new RegExp(\n\"^(\\\\d+ )?([tx])(\\\\d+) (\\\\d+|-) (idle|ok|wait|enter|unwind|end|none|limit|(=|out|throw|catch|die) (-?\\\
+\\d+))\" +\n\"(?: ([+-])([pb])(\\\\d+)(?: (-?\\\\d+))?)?$\"\n);\nfunction readEvent(line) {\nconst m = EVENT.exec(line);\nif (!m) throw new \
+Error(\"no line of a choice: \" + line);\nreturn {\ntoken: m[2] + m[3],\nisLate: m[2] === \"x\",\nthread: Number(m[3]),\nrow: m[4] === \"-\" \
+? -1 : Number(m[4]),\nwhat: m[6] || m[5],\nvalue: m[7] === undefined ? null : Number(m[7]),\nmark: m[8] ? { kind: m[8] + m[9], on: Number(m[\
+10]), view: m[11] === undefined ? null : Number(m[11]) } : null\n};\n}\nclass Events {\n#text;\n#places;\nconstructor(text) {\nconst places \
+= [];\nfor (let at = 0; at < text.length; at = text.indexOf(\"\\n\", at) + 1) places.push(at);\nthis.length = places.length;\nthis.#text = t\
+ext;\nthis.#places = Uint32Array.from([...places, text.length]);\n}\n#line(i) {\nreturn this.#text.slice(this.#places[i], this.#places[i + 1\
+] - 1);\n}\nat(i) {\nreturn i >= 0 && i < this.length ? readEvent(this.#line(i)) : undefined;\n}\ntoken(i) {\nconst [, token] = this.#line(i\
+).split(\" \", 2);\nreturn token;\n}\nisIdle(i) {\nreturn this.#text.endsWith(\" idle\", this.#places[i + 1] - 1);\n}\n*[Symbol.iterator]() \
+{\nfor (let i = 0; i < this.length; i++) yield this.at(i);\n}\nfindIndex(test) {\nfor (let i = 0; i < this.length; i++) if (test(this.at(i))\
+) return i;\nreturn -1;\n}\n}\nfunction readTrace(trace) {\nconst cut = trace.startsWith(\"state \") ? 0 : trace.lastIndexOf(\"\\nstate \") \
++ 1;\nconst events = new Events(trace.slice(0, cut));\nconst last = events.at(events.length - 1);\nconst refused = last && isRefused(last) ? \
+last : null;\nif (refused) events.length--;\nreturn { events, refused, end: readState(trace.slice(cut)) };\n}\nfunction readThread(words) {\n\
+const stack = words.indexOf(\"stack\");\nconst out = words.indexOf(\"out\");\nconst [status, code] = words[2].split(\":\");\nreturn {\nrow: \
+Number(words[1]),\nstatus,\ncode: code === undefined ? null : Number(code),\nisInterrupted: words[3] === \"1\",\nregisters: words.slice(5, 1\
+3).map(Number),\nstack: words.slice(stack + 1, out),\nout: words.slice(out + 1).map(Number)\n};\n}\nfunction readState(text) {\nconst key = \
+text.replace(/^state \\d+ \\d+/, \"\");\nconst state = { threads: [], phasers: [], barriers: [], cells: {}, word: \"\", key };\nfor (const l\
+ine of text.trimEnd().split(\"\\n\")) {\nconst words = line.split(\" \");\nconst [, first, second, third, fourth] = words;\nif (words[0] === \
+\"state\") state.word = third;\nelse if (words[0][0] === \"t\") state.threads.push(readThread(words));\nelse if (words[0][0] === \"p\") {\ns\
+tate.phasers.push({\nview: Number(first),\nparties: Number(second),\narrived: Number(third),\nmissing: Number(fourth)\n});\n} else if (words\
+[0][0] === \"b\") state.barriers.push({ waiting: Number(first), isBroken: second === \"1\" });\nelse state.cells[Number(words[0].slice(1))] \
+= Number(first);\n}\nreturn state;\n}\nfunction doingOf(moment, t) {\nconst { status } = moment.state.threads[t];\nif (status === \"ended\") \
+return \"over\";\nif (status === \"died\") return \"dead\";\nif (status === \"throws\") return \"throws\";\nif (status === \"waits\") return \
+moment.next[t] ? \"free\" : \"waits\";\nreturn moment.next[t] ? \"runs\" : \"held\";\n}\nconst isRefused = event => event.what === \"none\" \
+|| event.what === \"limit\";\nreturn { readEvent, readTrace, readState, doingOf, isRefused };\n})();\n// app/player.js\nconst m18 = (() => {\
+\nconst { openSession } = m14;\nconst { commonOf } = m15;\nconst { isRefused, readEvent, readState } = m17;\nconst BACK = 40;\nconst EVERY = \
+50000;\nfunction makePlayer(program) {\nlet session = null;\nlet led = [];\nlet at = 0;\nlet base = 0;\nconst marks = new Map();\nfunction d\
+ropMarks(behind) {\nfor (const [i, mark] of marks) {\nif (i <= behind) continue;\nmark.close();\nmarks.delete(i);\n}\n}\nconst markBefore = \
+i => Math.max(0, ...[...marks.keys()].filter(one => one <= i));\nfunction startFrom(i) {\nif (session) session.close();\nsession = i ? marks\
+.get(i).copy() : openSession(program.text);\nat = base = i;\n}\nfunction goOn(i) {\nwhile (at < i) {\nconst next = Math.min(i, at - (at % EV\
+ERY) + EVERY);\nsession.command(\"g \" + led.slice(at, next).join(\" \"));\nat = next;\nif (at % EVERY === 0 && !marks.has(at)) marks.set(at\
+, session.copy());\n}\n}\nfunction lead(choices, i) {\nconst common = choices === led ? Infinity : commonOf(led, choices);\ndropMarks(common\
+);\nled = choices;\nconst kept = Math.min(at, i, common);\nconst mark = markBefore(i);\nif (!session || kept < base || at - kept > BACK || m\
+ark > kept + BACK) startFrom(mark);\nelse for (; at > kept; at--) session.command(\"b\");\ngoOn(i);\n}\nfunction tried(token) {\nconst event \
+= readEvent(session.command(\"s \" + token).trim());\nif (!isRefused(event)) session.command(\"b\");\nreturn isRefused(event) || event.what \
+=== \"idle\" ? null : event;\n}\nfunction momentAt(choices, i) {\nlead(choices, i);\nconst moment = { i, state: readState(session.command(\"\
+p\")), next: {}, late: {} };\nconst { turns, expiries } = session.enabled;\nfor (const t of turns) moment.next[t] = tried(\"t\" + t);\nfor (\
+const t of expiries) moment.late[t] = tried(\"x\" + t);\nfor (const all of [moment.next, moment.late]) for (const t in all) if (!all[t]) del\
+ete all[t];\nreturn moment;\n}\nfunction close() {\nif (session) session.close();\ndropMarks(-1);\nsession = null;\nled = [];\nat = base = 0\
+;\n}\nreturn { momentAt, close };\n}\nreturn { makePlayer };\n})();\n// app/run.js\nconst m19 = (() => {\nconst { listProgram, planSchedule, \
+playRun } = m14;\nconst { readProgram } = m0;\nconst { LONGEST } = m16;\nconst { makePlayer } = m18;\nconst { choicesOf, commonOf, scheduleO\
+f } = m15;\nconst { readTrace } = m17;\nconst MORE = 100;\nconst KEPT = 3000;\nconst openProgram = text => readProgram(text, listProgram(tex\
+t));\nfunction makeRun(tree, parent, fork, choices, trace = playRun(tree.program.text, scheduleOf(choices))) {\nconst { events, refused, end \
+} = readTrace(trace);\nconst played = choices.length === events.length ? choices : choices.slice(0, events.length);\nconst kept = { moments: \
+new Map(), folds: [] };\nreturn { id: tree.runs.length, parent, fork, choices: played, trace, events, end, refused, kept };\n}\nconst withRu\
+n = (tree, run) => ({ tree: { ...tree, runs: [...tree.runs, run] }, run });\nfunction plantTree(program, choices, trace) {\nconst tree = { p\
+rogram, runs: [], player: makePlayer(program) };\nreturn withRun(tree, makeRun(tree, -1, 0, choices, trace)).tree;\n}\nconst lengthOf = run \
+=> run.choices.length;\nconst eventTo = (run, i) => run.events.at(i - 1) || null;\nfunction ownerOf(tree, id, i) {\nwhile (id > 0 && i <= tr\
+ee.runs[id].fork) id = tree.runs[id].parent;\nreturn tree.runs[id];\n}\nfunction runBy(tree, id, i, token) {\nif (tree.runs[id].choices[i] =\
+== token) return tree.runs[id];\nconst owner = ownerOf(tree, id, i);\nif (owner.choices[i] === token) return owner;\nreturn tree.runs.find(r\
+un => run.parent === owner.id && run.fork === i && run.choices[i] === token) || null;\n}\nfunction turnsOf(text, before, token) {\nconst aga\
+in = Array(99).fill(\"t\" + token.slice(1));\nconst { events } = readTrace(playRun(text, scheduleOf([...before, token, ...again])));\nconst \
+made = [];\nfor (let k = before.length; k < events.length && !events.isIdle(k); k++) {\nmade.push(events.token(k));\nif (/^(wait|end|die)$/.\
+test(events.at(k).what)) break;\n}\nreturn made;\n}\nfunction restOf(text, before, rest) {\nconst { events } = readTrace(playRun(text, sched\
+uleOf([...before, ...rest])));\nconst own = [];\nfor (let k = before.length; k < events.length; k++) if (!events.isIdle(k)) own.push(events.\
+token(k));\nreturn own;\n}\nfunction forkRun(tree, id, i, token) {\nconst found = runBy(tree, id, i, token);\nif (found) return { tree, run: \
+found };\nconst owner = ownerOf(tree, id, i);\nconst { text } = tree.program;\nconst before = owner.choices.slice(0, i);\nconst rest = owner\
+.choices.slice(i);\nconst most = Math.min(rest.length + MORE, LONGEST - i);\nlet made = turnsOf(text, before, token).slice(0, most);\nif (!m\
+ade.length) throw new Error(\"this choice would do nothing here\");\nmade = [...made, ...restOf(text, [...before, ...made], rest)].slice(0, \
+most);\nif (made.length < most) {\nconst plan = scheduleOf([...before, ...made]) + \" ..*\" + (most - made.length);\nmade = choicesOf(planSc\
+hedule(text, plan)).slice(i);\n}\nreturn withRun(tree, makeRun(tree, owner.id, i, [...before, ...made]));\n}\nfunction graftRun(tree, choice\
+s) {\nlet best = tree.runs[0];\nlet most = -1;\nfor (const run of tree.runs) {\nconst common = commonOf(run.choices, choices);\nif (common =\
+== choices.length && lengthOf(run) === common) return { tree, run };\nif (common > most) [best, most] = [run, common];\n}\nreturn withRun(tr\
+ee, makeRun(tree, ownerOf(tree, best.id, most).id, most, choices));\n}\nconst firstAlone = tree => ({ ...tree, runs: tree.runs.slice(0, 1) }\
+);\nfunction depthOf(tree, run) {\nlet depth = 0;\nfor (let one = run; one.parent >= 0; one = tree.runs[one.parent]) depth++;\nreturn depth;\
+\n}\nfunction inOrder(tree, from = 0, level = 0) {\nconst forks = tree.runs.filter(run => run.parent === from).sort((a, b) => a.fork - b.for\
+k);\nreturn [{ run: tree.runs[from], level }, ...forks.flatMap(run => inOrder(tree, run.id, level + 1))];\n}\nconst hasMoment = (tree, id, i\
+) => ownerOf(tree, id, i).kept.moments.has(i);\nfunction momentOf(tree, id, i) {\nconst run = ownerOf(tree, id, i);\nconst { moments } = run\
+.kept;\nif (moments.has(i)) return moments.get(i);\nif (moments.size > KEPT) moments.clear();\nconst moment = tree.player.momentAt(run.choic\
+es, i);\nmoments.set(i, moment);\nreturn moment;\n}\nfunction closeTree(tree) {\nif (tree) tree.player.close();\n}\nreturn { openProgram, pl\
+antTree, lengthOf, eventTo, ownerOf, runBy, forkRun, graftRun, firstAlone, depthOf, inOrder, hasMoment, momentOf, closeTree };\n})();\n// ap\
+p/link.js\nconst m20 = (() => {\nconst { forkRun, lengthOf } = m19;\nconst MODES = { e: \"explore\", l: \"lesson\", q: \"quiz\", c: \"challe\
+nge\" };\nconst LONGEST = 2000000;\nconst MOST_LINK = 60000;\nfunction addressOf(tree, run, at) {\nlet path = \"\";\nfor (let one = run; one\
+.parent >= 0; one = tree.runs[one.parent]) {\npath = one.fork + 1 + one.choices[one.fork] + \".\" + path;\n}\nreturn path + at;\n}\nconst AD\
+DRESS = /^(\\d{1,7}[tx]\\d{1,2}\\.)*\\d{1,7}$/;\nfunction walkTo(tree, address) {\nlet run = tree.runs[0];\nconst parts = address.split(\".\"\
+);\nlet at = Number(parts.pop()) || 0;\nlet isWhole = true;\nfor (const part of parts) {\nconst m = /^(\\d+)([tx]\\d+)$/.exec(part);\nconst \
+i = Number(m && m[1]) - 1;\ntry {\nif (i < 0 || i > lengthOf(run)) throw new Error(\"no such choice\");\n({ tree, run } = forkRun(tree, run.\
+id, i, m[2]));\n} catch (_) {\nisWhole = false;\nat = i;\nbreak;\n}\n}\nreturn { tree, run, at: Math.min(lengthOf(run), at), isWhole };\n}\n\
+async function through(bytes, stream) {\nconst reader = new Blob([bytes]).stream().pipeThrough(stream).getReader();\nconst parts = [];\nfor \
+(let all = 0, one; !(one = await reader.read()).done; parts.push(one.value)) {\nall += one.value.length;\nif (all > LONGEST) throw new Error\
+(\"the link holds too much\");\n}\nreturn new Uint8Array(await new Blob(parts).arrayBuffer());\n}\nfunction base64(bytes) {\nlet signs = \"\"\
+;\nfor (const byte of bytes) signs += String.fromCharCode(byte);\nreturn btoa(signs).replace(/\\+/g, \"-\").replace(/\\//g, \"_\").replace(/\
+=/g, \"\");\n}\nconst unbase64 = text => Uint8Array.from(atob(text.replace(/-/g, \"+\").replace(/_/g, \"/\")), sign => sign.charCodeAt(0));\n\
+async function linkOf({ text, plan, name, address, mode }) {\nconst packed = await through(\nnew TextEncoder().encode(JSON.stringify([text, \
+plan, name])),\nnew CompressionStream(\"deflate-raw\")\n);\nreturn \"#\" + [mode[0], address, base64(packed)].join(\"/\");\n}\nasync functio\
+n readLink(hash) {\nif (hash.length < 2) return null;\nif (ADDRESS.test(hash.slice(1))) return { address: hash.slice(1) };\nconst [sign, add\
+ress, packed] = hash.slice(1).split(\"/\");\nif (!Object.hasOwn(MODES, sign) || !packed || !ADDRESS.test(address)) throw new Error(\"it isn\\\
+u2019t whole\");\nconst bytes = await through(unbase64(packed), new DecompressionStream(\"deflate-raw\"));\nconst read = JSON.parse(new Text\
+Decoder().decode(bytes));\nif (\n!Array.isArray(read) || read.slice(0, 2).some(one => typeof one !== \"string\")\n) throw new Error(\"it hol\
+ds no program\");\nreturn { text: read[0], plan: read[1], name: String(read[2] || \"\"), address, mode: MODES[sign] };\n}\nreturn { MOST_LIN\
+K, addressOf, walkTo, linkOf, readLink };\n})();\n// app/file.js\nconst m21 = (() => {\nconst NAMES = [\"listing\", \"source\", \"schedule\"\
+, \"trace\"];\nconst unixText = text => text.replace(/\\r\\n/g, \"\\n\").replace(/\\r/g, \" \");\nfunction runIn(page, name) {\nconst [listi\
+ng, source, schedule, trace] = NAMES.map(one => page.getElementById(one)?.textContent || \"\");\nreturn listing || source ? { name, listing, \
+source: unixText(source), schedule, trace } : null;\n}\nfunction takePage() {\nfor (const name of NAMES) document.getElementById(name).textC\
+ontent = \"\";\nconst page = \"<!doctype html>\\n\" + document.documentElement.outerHTML + \"\\n\";\ndocument.getElementById(\"texts\").remo\
+ve();\nreturn page;\n}\nconst ESCAPED = { \"&\": \"&amp;\", \"<\": \"&lt;\", \">\": \"&gt;\", \"\\r\": \"&#13;\" };\nconst escaped = text => \
+text.replace(/[&<>\\r]/g, sign => ESCAPED[sign]);\nfunction pageWith(page, texts) {\nconst put = (made, name) => {\nconst [begin, end] = [`<\
+pre id=\"${name}\">`, \"</pre>\"];\nreturn made.replace(begin + end, () => begin + \"\\n\" + escaped(texts[name]) + end);\n};\nreturn NAMES.\
+reduce(put, page);\n}\nfunction itemOf(page) {\nconst { name, listing, source, schedule, trace } = page;\nconst item = { group: \"This file\"\
+, name, title: name, program: source || listing, plan: schedule };\nreturn trace ? { ...item, schedule, page } : { ...item, plan: schedule |\
+| \"..\" };\n}\nconst bareName = path => path.split(\"/\").pop().replace(/\\.\\w+$/, \"\") || \"run\";\nfunction save(name, text, type = \"t\
+ext/plain\") {\nconst link = document.createElement(\"a\");\nlink.href = URL.createObjectURL(new Blob([text], { type }));\nlink.download = n\
+ame;\nlink.click();\nsetTimeout(() => URL.revokeObjectURL(link.href), 1000);\n}\nfunction readProgramFile(text) {\nconst cut = /^[ \\t]*\\.r\
+un[ \\t\\r]*(;.*)?$\\n?/m.exec(text);\nif (!cut) return { program: text, plan: \"..\" };\nreturn { program: text.slice(0, cut.index), plan: \
+text.slice(cut.index + cut[0].length).trim() || \"..\" };\n}\nreturn { runIn, takePage, pageWith, itemOf, bareName, save, readProgramFile };\
+\n})();\n// app/keys.js\nconst m22 = (() => {\nconst isField = element => /^(INPUT|TEXTAREA|SELECT)$/.test(element.tagName);\nconst isButton \
+= element => element.tagName === \"BUTTON\" || element.tagName === \"A\";\nconst KEY_TEXTS = [\n[\"\\u2190 \\u2192\", \"a choice back, forwa\
+rd\"],\n[\"Page Up, Down\", \"the same: a presenter\\u2019s keys\"],\n[\"Home End\", \"start, end\"],\n[\"Space\", \"play\"],\n[\"1 \\u2026 \
+9\", \"that name is next\"],\n[\"[ ]\", \"the run before, after\"],\n[\"Esc\", \"back to the fork\"],\n[\"+ \\u2212 0\", \"size\"],\n[\"p v \
+o\", \"picture, values, orders\"],\n[\"f\", \"timeline alone\"],\n[\"e\", \"edit the program\"],\n[\"s\", \"side by side\"],\n[\"a \\u2026 d\
+\", \"an answer of the quiz\"]\n];\nfunction listenToKeys(act, hasLetters) {\ndocument.addEventListener(\"keydown\", event => {\nif ((event.\
+ctrlKey || event.metaKey) && event.key === \"p\") return act.print();\nif (event.ctrlKey || event.metaKey || event.altKey) return;\nif (even\
+t.key === \"Escape\") return act.escape(isField(event.target) ? event.target : null);\nif (isField(event.target)) return;\nif (isButton(even\
+t.target) && (event.key === \" \" || event.key === \"Enter\")) return;\nif (event.target.closest(\".sheet\")) return;\nconst go = act.keys[e\
+vent.key];\nif (go) {\nevent.preventDefault();\nreturn go();\n}\nif (!hasLetters()) return;\nif (/^[1-9]$/.test(event.key)) return act.numbe\
+r(Number(event.key));\nif (act.letter(event.key)) event.preventDefault();\n});\n}\nreturn { KEY_TEXTS, listenToKeys };\n})();\n// app/menu.j\
+s\nconst m23 = (() => {\nconst { byId, fill, h } = m3;\nconst { KEY_TEXTS } = m22;\nfunction makeSheet() {\nconst sheet = byId(\"sheet\");\n\
+let opener = null;\nfunction close(isBack) {\nif (sheet.hidden) return;\nsheet.hidden = true;\nopener.setAttribute(\"aria-expanded\", \"fals\
+e\");\nif (isBack) opener.focus();\n}\nfunction open(button, label, content) {\nconst isSame = !sheet.hidden && sheet.getAttribute(\"aria-la\
+bel\") === label;\nclose(false);\nif (isSame) return;\nopener = button;\nfill(sheet, content);\nsheet.setAttribute(\"aria-label\", label);\n\
+sheet.hidden = false;\nbutton.setAttribute(\"aria-expanded\", \"true\");\nconst box = button.getBoundingClientRect();\nconst left = Math.max\
+(8, Math.min(box.left, innerWidth - sheet.offsetWidth - 8));\nsheet.style.setProperty(\"left\", left + \"px\");\nsheet.style.setProperty(\"t\
+op\", box.bottom + 6 + \"px\");\nsheet.style.setProperty(\"max-height\", innerHeight - box.bottom - 14 + \"px\");\nsheet.querySelector(\"[ar\
+ia-current], button, input, textarea\")?.focus();\n}\ndocument.addEventListener(\"pointerdown\", event => {\nif (!sheet.contains(event.targe\
+t) && !event.target.closest(\"[aria-expanded]\")) close(false);\n});\nsheet.addEventListener(\"keydown\", event => {\nconst list = [...sheet\
+.querySelectorAll(\"button, input, select, textarea\")];\nconst by = { ArrowDown: 1, ArrowUp: -1 }[event.key];\nif (!by || event.target.tagN\
+ame === \"TEXTAREA\" || event.target.tagName === \"SELECT\") return;\nevent.preventDefault();\nlist[(list.indexOf(document.activeElement) + \
+by + list.length) % list.length].focus();\n});\nreturn { open, close, isOpen: () => !sheet.hidden };\n}\nconst column = (title, ...content) \
+=> h(\"div.sheet-column\", {}, h(\"h2\", {}, title), content);\nfunction entryOf(sheet) {\nreturn (text, act, key) => {\nconst onclick = () \
+=> {\nsheet.close(true);\nact();\n};\nreturn h(\"button.entry\", { type: \"button\", onclick }, h(\"span\", {}, text), key ? h(\"kbd\", {}, \
+key) : null);\n};\n}\nfunction programsMenu(sheet, menu, current, act) {\nconst entry = entryOf(sheet);\nconst groups = new Map();\nfor (con\
+st item of menu) groups.set(item.group, [...(groups.get(item.group) || []), item]);\nconst one = item => {\nconst made = entry(item.title, (\
+) => act.open(item));\nif (item === current) made.setAttribute(\"aria-current\", \"true\");\nreturn made;\n};\nconst chosen = event => {\nco\
+nst [file] = event.target.files;\nsheet.close(true);\nif (file) act.file(file);\n};\nconst input = h(\"input\", { type: \"file\", accept: \"\
+.asm,.txt,.html,text/plain\", onchange: chosen });\nreturn [\n[...groups].map(([group, items]) => column(group, items.map(one))),\ncolumn(\n\
+\"Yours\",\nentry(\"My own program\", act.own),\nentry(\"Keep this as my own\", act.keep),\nh(\"label.entry.entry-file\", {}, h(\"span\", {}\
+, \"Open a file\\u2026\"), input)\n)\n];\n}\nconst SPEEDS = [0.5, 1, 2, 4, 8];\nfunction mainMenu(sheet, state, settings, act) {\nconst entr\
+y = entryOf(sheet);\nconst box = (text, name) => {\nconst onchange = event => act.set(name, event.target.checked);\nreturn h(\n\"label.entry\
+\",\n{},\nh(\"input\", { type: \"checkbox\", checked: state[name], onchange }),\nh(\"span\", {}, text)\n);\n};\nconst speed = h(\n\"select\"\
+,\n{ \"aria-label\": \"Speed of Play\", onchange: event => act.speed(Number(event.target.value)) },\nSPEEDS.map(\none => h(\n\"option\",\n{ \
+value: one, selected: one === settings.speed },\n\"every \" + (one === 1 ? \"second\" : one + \" seconds\")\n)\n)\n);\nconst theme = name => \
+{\nconst given = { type: \"button\", \"aria-pressed\": String(settings.theme === name), onclick: () => act.theme(name) };\nreturn h(\"button\
+\", given, name);\n};\nconst key = ([sign, text]) => h(\"p.sheet-key\", {}, h(\"kbd\", {}, sign), \" \" + text);\nreturn [\nh(\n\"div.sheet-\
+column\",\n{},\nh(\"h2\", {}, \"Show\"),\nbox(\"Hide what comes later\", \"isHidden\"),\nbox(\"Fold idle choices\", \"isFolded\"),\nbox(\"Ja\
+va\\u2019s words\", \"isJava\"),\nbox(\"Timeline alone\", \"isAlone\"),\nbox(\"Keys of one letter or sign\", \"hasLetters\"),\nh(\"h2\", {}, \
+\"Play\"),\nentry(\"Play, a choice after another\", act.play, \"Space\"),\nh(\"label.entry\", {}, h(\"span\", {}, \"Speed\"), speed),\nh(\"h\
+2\", {}, \"Colours\"),\nh(\"div.sheet-row\", {}, [\"auto\", \"light\", \"dark\"].map(theme))\n),\nh(\n\"div.sheet-column\",\n{},\nh(\"h2\", \
+{}, \"Run\"),\nentry(\"Start again\", act.again),\nentry(\"Side by side\", act.side, \"s\"),\nentry(\"Make it the run\", act.makeFirst),\nen\
+try(\"Only run 1\", act.onlyFirst),\nentry(\"Larger\", act.larger, \"+\"),\nentry(\"Smaller\", act.smaller, \"\\u2212\"),\nh(\"h2\", {}, \"P\
+rint\"),\nentry(\"Handout: all choices\", act.handout, \"Ctrl P\"),\nentry(\"Worksheet\", act.worksheet)\n),\nh(\n\"div.sheet-column\",\n{},\
+\nh(\"h2\", {}, \"Take with you\"),\nentry(\"Copy a link\", act.copyLink),\nentry(\"Copy the plan\", act.copyPlan),\nentry(\"Copy the schedu\
+le\", act.copySchedule),\nentry(\"Copy the command\", act.copyCommand),\nentry(\"Save the program\", act.saveProgram),\nentry(\"Save the tra\
+ce\", act.saveTrace),\nentry(\"Save this page with the run\", act.savePage),\nh(\"p.sheet-key\", {}, settings.version)\n),\nh(\"div.sheet-co\
+lumn.sheet-keys\", {}, h(\"h2\", {}, \"Keys\"), KEY_TEXTS.map(key))\n];\n}\nconst copySheet = text => column(\n\"Copy this\",\nh(\"textarea.\
+copied\", { rows: 4, readonly: true, \"aria-label\": \"The text to copy\" }, text)\n);\nreturn { makeSheet, programsMenu, mainMenu, copyShee\
+t };\n})();\n// app/sentence.js\nconst m24 = (() => {\nconst { ARRIVES, KINDS, nameOf, operandOf } = m0;\nconst { callOf, entryText, hasSeve\
+ral, labelOf, objectOf, phaseOf, rowText, strong, threadName, thrown } = m1;\nfunction markText(program, mark, before) {\nconst barrier = ma\
+rk.kind[1] === \"b\" ? nameOf(program, \"B\", mark.on) : \"\";\nif (mark.kind === \"+b\") return \"Barrier \" + barrier + \" trips: all who \
+wait there may go on.\";\nif (mark.kind === \"-b\") return \"Barrier \" + barrier + \" breaks.\";\nconst name = nameOf(program, \"P\", mark.\
+on);\nconst old = phaseOf(before.phasers[mark.on].view);\nif (mark.view < 0) return \"Phase \" + old + \" of \" + name + \" was its last: it \
+is terminated.\";\nreturn \"Phase \" + old + \" of \" + name + \" ends, phase \" + mark.view + \" begins.\";\n}\nfunction countText(program, \
+row, state) {\nconst b = operandOf(row, \"B\");\nif (b >= 0) {\nreturn state.barriers[b].waiting + \" of \" + program.barriers[b].parties + \
+\" wait at \" + nameOf(program, \"B\", b) +\n\".\";\n}\nlet p = operandOf(row, \"P\");\nlet child = -1;\nwhile (program.phasers[p].parent >= \
+0 && state.phasers[p].parties && !state.phasers[p].missing) {\nchild = p;\np = program.phasers[p].parent;\n}\nconst one = state.phasers[p];\n\
+const name = nameOf(program, \"P\", p);\nif (one.view < 0) return \"\";\nif (!one.parties) return name + \" has no parties now.\";\nif (chil\
+d < 0) return one.arrived + \" of \" + one.parties + \" parties of \" + name + \" have arrived.\";\nreturn nameOf(program, \"P\", child) + \" \
+is complete and arrives at \" + name + \": \" + one.arrived + \" of \" +\none.parties + \".\";\n}\nfunction valueText(program, event, row, t\
+hread, who) {\nconst call = callOf(program, row, thread);\nconst into = row.operands[0] || \"\";\nconst value = strong(event.value);\nif (th\
+read.status === \"waits\") return [\"The wait of \", who, \" at \" + call + \" is over: it returns \", value, \".\"];\nif (row.word === \"re\
+t\") {\nconst entry = entryText(program, thread.stack[thread.stack.length - 1]);\nreturn [who, \" ends the \" + entry + \"; its own call ret\
+urns \", value, \".\"];\n}\nif (call) return [who, \" calls \" + call + \", which returns \", value, \".\"];\nif (row.word === \"add\" || ro\
+w.word === \"sub\") {\nconst [left, right] = row.operands.slice(1).map(register => thread.registers[Number(register[1])]);\nreturn [who, \": \
+\" + into + \" = \" + left + (row.word === \"add\" ? \" + \" : \" \\u2212 \") + right + \" = \", value, \".\"];\n}\nconst from = { mov: \" f\
+rom \" + row.operands[1], self: \", its own number\" }[row.word] || \"\";\nconst cell = row.word === \"lds\" ? \" from \" + nameOf(program, \
+\"C\", operandOf(row, \"C\")) : \"\";\nreturn [who, \" puts \", value, from + cell + \" into \" + into + \".\"];\n}\nfunction plainText(prog\
+ram, event, row, thread, who) {\nconst call = callOf(program, row, thread);\nconst there = row.kinds.includes(\"L\") ? labelOf(program, oper\
+andOf(row, \"L\")) : \"\";\nif (call) return [who, \" calls \" + call + \".\"];\nconst said = {\njmp: \" goes on at \" + there,\ncall: \" ca\
+lls the rows at \" + there,\ntry: \" sets a handler: what is thrown from here on is caught at \" + there,\nendtry: \" takes its handler away\
+\",\nret: \" comes back from its call\"\n};\nif (said[row.word]) return [who, said[row.word] + \".\"];\nif (row.word === \"sts\") {\nconst v\
+alue = thread.registers[Number(row.operands[0][1])];\nreturn [who, \" stores \", strong(value), \" in \" + nameOf(program, \"C\", operandOf(\
+row, \"C\")) + \".\"];\n}\nif (there) {\nconst both = row.operands.slice(0, 2).map(register => register + \" = \" + thread.registers[Number(\
+register[1])]);\nreturn [who, \" compares \" + both.join(\" with \") + \".\"];\n}\nreturn [who, \": \" + rowText(program, row) + \".\"];\n}\n\
+function idleText(event, thread, call, who) {\nif (event.isLate) return [\n\"The time-out of \",\nwho,\n\" would come now, but it has no wai\
+t that can time out: nothing happens.\"\n];\nconst why = {\nwaits: \", which still waits at \" + call,\nended: \", which has ended\",\ndied: \
+\", which is dead\"\n}[thread.status];\nreturn [\"It is the turn of \", who, (why || \", which can\\u2019t go on yet\") + \": nothing happen\
+s.\"];\n}\nfunction throwText(program, event, row, thread, who, call) {\nconst waited = thread.status === \"waits\";\nconst cause = event.is\
+Late\n? [\"The time of \", who, \"\\u2019s wait at \" + call + \" is up: it \"]\n: waited\n? [\"The wait of \", who, \" at \" + call + \" en\
+ds: it \"]\n: [who, call ? \" calls \" + call + \", which \" : \" \"];\nreturn [...cause, strong(\"throws \" + thrown(event.value, row)), \"\
+.\"];\n}\nfunction eventText(program, event, before) {\nconst who = { thread: event.thread };\nif (event.what === \"none\") return [\"There \
+is no thread \" + event.thread + \".\"];\nif (event.what === \"limit\") return [\"No more choices are allowed.\"];\nconst row = program.rows\
+[event.row];\nconst thread = before.threads[event.thread];\nconst call = callOf(program, row, thread);\nconst top = thread.stack[thread.stac\
+k.length - 1] || \"\";\nswitch (event.what) {\ncase \"idle\":\nreturn idleText(event, thread, call, who);\ncase \"=\":\nreturn valueText(pro\
+gram, event, row, thread, who);\ncase \"ok\":\nreturn plainText(program, event, row, thread, who);\ncase \"wait\":\nreturn [who, \" calls \" \
++ call + \" and \", strong(\"waits\"), \".\"];\ncase \"out\":\nreturn [who, \" puts out \", strong(event.value), \".\"];\ncase \"end\":\nret\
+urn [who, \" \", strong(\"ends\"), \".\"];\ncase \"die\":\nreturn [\"Nothing catches \" + thrown(event.value) + \": \", who, \" \", strong(\"\
+is dead\"), \".\"];\ncase \"catch\":\nreturn [\n\"A handler of \",\nwho,\n\" \",\nstrong(\"catches \" + thrown(event.value)),\n\" at \" + la\
+belOf(program, Number(top.slice(1))) + \".\"\n];\ncase \"unwind\":\nreturn [who, \", throwing \" + thrown(thread.code) + \", leaves the \" + \
+entryText(program, top) + \".\"];\ncase \"enter\": {\nconst routine = operandOf(row, \"P\") >= 0 ? \"enters onAdvance\" : \"enters the actio\
+n\";\nreturn [who, \" calls \" + call + \", and as the last to arrive it \", strong(routine), \".\"];\n}\ndefault:\nreturn throwText(program\
+, event, row, thread, who, call);\n}\n}\nconst BRANCHES = { beq: [\"equal\", \"not equal\"], bne: [\"not equal\", \"equal\"], blt: [\"less\"\
+, \"not less\"] };\nfunction branchText(program, event, after) {\nconst row = program.rows[event.row];\nif (event.what !== \"ok\" || !row || \
+!BRANCHES[row.word]) return \"\";\nconst target = operandOf(row, \"L\");\nconst [is, isNot] = BRANCHES[row.word];\nconst there = \"it goes o\
+n at \" + labelOf(program, target);\nif (target === event.row + 1) return \"Either way it goes on below.\";\nif (!after) return \"If \" + is \
++ \", \" + there + \", else below.\";\nconst isThere = after.threads[event.thread].row === target;\nconst they = row.word === \"blt\" ? \"Th\
+e first is \" : \"They are \";\nreturn they + (isThere ? is + \": \" + there : isNot + \": it goes on below\") + \".\";\n}\nfunction refused\
+Text({ what, thread }, number) {\nconst why = what === \"none\" ? \"there is no thread \" + thread : \"no more choices or steps are allowed\"\
+;\nreturn \"Choice \" + number + \" is refused: \" + why + \". The run stops here.\";\n}\nfunction sentenceOf(program, event, before, after) \
+{\nconst said = eventText(program, event, before.state);\nconst row = program.rows[event.row];\nconst branch = branchText(program, event, af\
+ter.state);\nif (branch) return [...said, \" \" + branch];\nif (event.mark) return [...said, \" \", strong(markText(program, event.mark, bef\
+ore.state))];\nconst isCall = row && before.state.threads[event.thread].status !== \"waits\";\nconst arrived = event.what === \"wait\" || (e\
+vent.what === \"=\" && event.value >= 0 && row && ARRIVES.has(row.word));\nconst count = isCall && arrived ? countText(program, row, after.s\
+tate) : \"\";\nreturn count ? [...said, \" \" + count] : said;\n}\nfunction wouldText(program, event, moment) {\nconst [first, ...rest] = ev\
+entText(program, event, moment.state);\nconst branch = branchText(program, event);\nconst said = [typeof first === \"string\" ? first[0].toL\
+owerCase() + first.slice(1) : first, ...rest];\nif (branch) return [...said, \" \" + branch];\nreturn event.mark ? [...said, \" \", strong(m\
+arkText(program, event.mark, moment.state))] : said;\n}\nfunction tagOf(program, event, isJava) {\nconst row = event.row < 0 ? null : progra\
+m.rows[event.row];\nconst object = row ? objectOf(program, row) : \"\";\nconst call = row ? KINDS[row.word][1] : \"\";\nlet head = row ? row\
+.word + (hasSeveral(program) && object ? \" \" + object : \"\") : \"\";\nif (row && row.word === \"intr\") head = rowText(program, row);\nif \
+(row && row.kinds.includes(\"C\")) head += \" \" + nameOf(program, \"C\", operandOf(row, \"C\"));\nif (call && isJava) {\nconst name = call.\
+split(\"(\")[0].replace(\"@\", () => threadName(program, operandOf(row, \"T\")));\nhead = (hasSeveral(program) && object ? object + \".\" : \
+\"\") + name;\n}\nconst said = {\nnone: \"refused\",\nlimit: \"refused\",\nidle: \"can\\u2019t go\",\nend: \"ends\",\nwait: head + \" waits\"\
+,\nenter: head + \" enters\",\nout: (isJava ? \"println \" : \"out \") + event.value,\n\"=\": head + \" = \" + event.value,\ndie: \"dies of \
+\" + event.value,\ncatch: \"catches \" + event.value,\nunwind: \"unwinds\",\nthrow: (event.isLate ? \"time is up: \" : \"\") + \"throws \" + \
+event.value,\nok: head\n};\nreturn said[event.what];\n}\nfunction shortMark(program, mark) {\nconst name = hasSeveral(program) ? nameOf(prog\
+ram, mark.kind[1] === \"p\" ? \"P\" : \"B\", mark.on) : \"\";\nif (mark.kind === \"+b\") return (name && name + \" \") + \"trips\";\nif (mar\
+k.kind === \"-b\") return (name && name + \" \") + \"breaks\";\nreturn (name && name + \": \") + (mark.view < 0 ? \"terminated\" : \"phase \" \
++ mark.view + \" begins\");\n}\nreturn { markText, eventText, refusedText, sentenceOf, wouldText, tagOf, shortMark };\n})();\n// app/paper.j\
+s\nconst m25 = (() => {\nconst { endText, outputText } = m2;\nconst { fill, h } = m3;\nconst { nameOf } = m0;\nconst { phaseOf, plain, threa\
+dName } = m1;\nconst { planOf } = m16;\nconst { lengthOf, momentOf } = m19;\nconst { sentenceOf, tagOf } = m24;\nconst LONGEST = 500;\nconst \
+COLUMNS = 10;\nconst ASKED = [\n\"Beside each line: what does the call return, and who waits behind it?\",\n\"How does the run end? Who wait\
+s for ever, and for whom?\",\n\"Before which choice could another have gone, so that it ends otherwise? Who, and how does it end then?\"\n];\
+\nfunction standing(program, { phasers, barriers, cells }) {\nconst phaser = ({ view, parties, arrived }, p) => {\nconst stands = view < 0 ? \
+\"terminated\" : \"phase \" + phaseOf(view) + \", \" + arrived + \" of \" + parties + \" arrived\";\nreturn nameOf(program, \"P\", p) + \": \
+\" + stands;\n};\nconst barrier = ({ waiting, isBroken }, b) => {\nconst stands = isBroken ? \"broken\" : waiting + \" of \" + program.barri\
+ers[b].parties + \" wait\";\nreturn nameOf(program, \"B\", b) + \": \" + stands;\n};\nconst cell = ([c, value]) => nameOf(program, \"C\", Nu\
+mber(c)) + \" = \" + value;\nreturn [...phasers.map(phaser), ...barriers.map(barrier), ...Object.entries(cells).map(cell)];\n}\nfunction cha\
+ngedText(program, before, after) {\nconst was = standing(program, before.state);\nreturn standing(program, after.state).filter(text => !was.\
+includes(text)).join(\"; \");\n}\nfunction lineOf(tree, run, k, columns, isBlank, isJava) {\nconst { program } = tree;\nconst event = run.ev\
+ents.at(k);\nconst after = momentOf(tree, run.id, k + 1);\nconst cell = t => {\nif (event.thread === t) return h(\"td.is-own\", {}, isBlank \
+? \"\\u25CF\" : tagOf(program, event, isJava));\nreturn h(\"td\", {}, after.state.threads[t].status === \"waits\" && !isBlank ? \"\\u2502\" \
+: \"\");\n};\nconst before = momentOf(tree, run.id, k);\nconst said = isBlank ? \"\" : plain(program, sentenceOf(program, event, before, aft\
+er));\nconst changed = isBlank ? \"\" : changedText(program, before, after);\nconst words = [said, changed ? h(\"small\", {}, changed) : nul\
+l];\nreturn h(\"tr\", {}, h(\"td.paper-number\", {}, k + 1), columns.map(cell), h(\"td\", {}, words));\n}\nfunction drawPaper(paper, { tree, \
+run, at, isJava, title, asked }, isSheet) {\nconst { program } = tree;\nconst columns = program.threads.map((_, t) => t).slice(0, COLUMNS);\n\
+const last = Math.min(lengthOf(run), LONGEST);\nconst from = isSheet && at < lengthOf(run) ? at : 0;\nconst rows = [];\nfor (let k = 0; k < \
+last; k++) rows.push(lineOf(tree, run, k, columns, isSheet && k >= from, isJava));\nconst heads = [\"\", ...columns.map(t => threadName(prog\
+ram, t)), isSheet ? \"What happens?\" : \"What happens\"];\nconst questions = program.questions.length\n? program.questions.map(one => one.t\
+ext)\n: asked && asked.length ? asked : ASKED;\nconst rest = lengthOf(run) > last\n? h(\"p\", {}, \"The run has \" + lengthOf(run) + \" choi\
+ces; the first \" + last + \" are printed.\")\n: null;\nconst output = outputText(program, run.end);\nconst end = h(\"p\", {}, h(\"b\", {}, \
+\"End: \"), endText(program, run.end), output ? \"; output: \" + output : \"\");\nconst blanks = h(\"ol\", {}, questions.map(text => h(\"li\"\
+, {}, text, h(\"i.paper-rule\"), h(\"i.paper-rule\"))));\nfill(\npaper,\nh(\"h1\", {}, title),\nisSheet ? h(\"p\", {}, \"Name ______________\
+______________   Date ______________\") : null,\nh(\"p\", {}, program.about),\nh(\"pre\", {}, program.text),\nh(\"p\", {}, h(\"b\", {}, \"Or\
+der: \"), planOf(program, run.events, 200)),\nh(\"table\", {}, h(\"thead\", {}, h(\"tr\", {}, heads.map(text => h(\"th\", {}, text)))), h(\"\
+tbody\", {}, rows)),\nrest,\nisSheet ? blanks : end\n);\n}\nreturn { drawPaper };\n})();\n// app/quiz.js\nconst m26 = (() => {\nconst { butt\
+on, h, shown } = m3;\nconst letter = k => String.fromCharCode(97 + k);\nfunction optionsOf(question, chosen, act) {\nconst kind = option => \
+{\nif (chosen === null) return \"\";\nreturn option === question.right ? \".is-right\" : option === chosen ? \".is-wrong\" : \".is-rest\";\n\
+};\nconst sign = option => {\nif (chosen === null) return \"\";\nreturn option === question.right ? \" \\u2713\" : option === chosen ? \" \\\
+u2717\" : \"\";\n};\nconst one = (option, k) => {\nconst given = { type: \"button\", \"aria-disabled\": String(chosen !== null), onclick: () \
+=> act.answer(option) };\nreturn h(\"button.option\" + kind(option), given, h(\"kbd\", {}, letter(k) + sign(option)), h(\"span\", {}, option\
+));\n};\nreturn question.options.map(one);\n}\nfunction verdictOf(question, chosen, program) {\nconst word = chosen === question.right ? h(\"\
+b.is-yes\", {}, \"Right. \") : h(\"b.is-no\", {}, \"Not here. \");\nreturn h(\"p.card-verdict\", { role: \"status\" }, question.own ? null : \
+word, shown(program, question.why()));\n}\nconst plainCard = (small, large, text, ...turn) => [\nh(\"div.card-ask\", {}, h(\"p.card-small\", \
+{}, small), h(\"p.card-large\", {}, large)),\nh(\"div.card-reply\", {}, h(\"p\", {}, text)),\nh(\"div.card-turn\", {}, turn)\n];\nfunction q\
+uizCard(quiz, program, act) {\nif (!quiz) return plainCard(\n\"Quiz\",\n\"Random orders are being played.\",\n\"Wrong answers come from them\
+.\",\nbutton(\"Stop\", act.stop)\n);\nconst { list, k, chosen, right, answered, isOpen } = quiz;\nif (!list.length) {\nconst text =\n\"Every \
+order does the same here, so there is nothing to ask. Take another program, \" +\n\"or write a question: a comment that begins with ;?\";\nr\
+eturn plainCard(\"Quiz\", \"This run has only one way.\", text);\n}\nconst question = list[k];\nif (!question) {\nconst text = right === ans\
+wered\n? \"Now make a run that ends otherwise.\"\n: \"Step through the run again, and look at the picture.\";\nreturn plainCard(\n\"Quiz\",\n\
+right + \" of \" + answered + \" right.\",\ntext,\nbutton(\"Again\", act.again, { kind: \".main\" })\n);\n}\nconst isDone = chosen !== null \
+|| isOpen;\nconst score = answered ? \" \\u2014 \" + right + \" right\" : \"\";\nconst hint = question.own && !isDone ? h(\"p\", {}, \"Say i\
+t aloud, then show what happens.\") : null;\nconst turn = isDone\n? button(\"Next\", act.next, { kind: \".main\" })\n: question.own\n? butto\
+n(\"Show\", act.show, { kind: \".main\" })\n: button(\"Skip\", act.next);\nreturn [\nh(\n\"div.card-ask\",\n{},\nh(\"p.card-small\", {}, \"Q\
+uestion \" + (k + 1) + \" of \" + list.length + score),\nh(\"p.card-large\", {}, shown(program, question.ask))\n),\nh(\"div.card-reply.optio\
+ns\", {}, optionsOf(question, chosen, act), hint),\nh(\"div.card-turn\", {}, isDone ? verdictOf(question, chosen, program) : null, turn)\n];\
+\n}\nfunction optionAt(quiz, sign) {\nconst question = quiz && quiz.list[quiz.k];\nif (!question || quiz.chosen !== null) return null;\nretu\
+rn question.options[sign.charCodeAt(0) - 97] || null;\n}\nfunction challengeCard({ goal, changes, isDone }, act) {\nconst count = changes ==\
+= 1 ? \"one change\" : changes + \" changes\";\nconst aim = goal === \"stuck\"\n? \"Get it stuck: let somebody wait for ever.\"\n: \"This ru\
+n is stuck. Get all threads to end.\";\nif (isDone) {\nconst done = goal === \"stuck\" ? \"Stuck, with \" + count + \".\" : \"All end, with \
+\" + count + \".\";\nreturn plainCard(\n\"Challenge\",\ndone,\n\"Is there a way with fewer changes? Why does it end so? Click a thread.\",\n\
+button(\"Again\", act.again, { kind: \".main\" })\n);\n}\nconst text = \"At any choice, click another name after \\u201CNext\\u201D, and ste\
+p to the end. Your changes: \" +\nchanges + \".\";\nreturn plainCard(\"Challenge\", aim, text, button(\"From the start\", act.again));\n}\nr\
+eturn { quizCard, optionAt, challengeCard };\n})();\n// app/lessons.js\nconst m27 = (() => {\nconst LESSONS = {\n\"lost-meeting\": {\ntitle: \
+\"A meeting lost to a stray arrival\",\naim: \"A phaser counts arrivals, and doesn\\u2019t know who arrives.\",\nlast: \"A phaser counts, so \
+each arrival needs a registration.\",\nsteps: [\n{\nat: 1,\nask: \"Ann waits. Who should be next, and what will happen?\",\nanswer: \"If Cem \
+is next, the phase ends without Bob: the phaser only counts two arrivals.\",\nvotes: true\n},\n{\nat: 2,\nask: \"Whom does Ann believe to ha\
+ve met, and what does the phaser know?\",\nanswer: \"She believes that she met Bob. The phaser only counted two arrivals, and phase 1 began.\
+\"\n},\n{\nat: 7,\nask: \"Which phase does Bob wait for, and how many arrivals are missing?\",\nanswer: \"He waits for the end of phase 1, a\
+nd one is missing.\"\n},\n{\nat: 1,\nask: \"Choose a plan in which Cem arrives, and no thread waits at the end. Is the program right, then?\"\
+,\nanswer: \"Let Bob go at 1: all threads end. At 0 with Cem first, Bob is stuck again. It only works by luck.\",\nfork: [1, \"t1\"],\nvotes\
+: true\n},\n{\nat: 0,\nask: \"Let Cem call preg r0 meet before he arrives. Which plans lose the meeting now?\",\nanswer: \"None. Write the r\
+ow into the program, behind stray:, and try random orders.\",\ntab: \"orders\"\n}\n]\n},\n\"broken-barrier\": {\ntitle: \"A barrier broken b\
+y an interrupt\",\naim: \"An interrupt ends one wait, and the barrier then breaks for all.\",\nlast: \"One interrupted thread breaks the mee\
+ting for all.\",\nsteps: [\n{\nat: 7,\nask: \"Why can Bob continue in choice 9, and not in choice 7?\",\nanswer: \"The interrupt ends only A\
+nn\\u2019s wait. The barrier breaks at her next turn, in choice 8.\"\n},\n{\nat: 6,\nask: \"Can Bob continue now?\",\nanswer: \"No: his name \
+isn\\u2019t among those who may go next. He continues before Ann if Cem arrives first.\"\n},\n{\nat: 6,\nask: \"What if Cem arrives between \
+Eve\\u2019s interrupt and Ann\\u2019s ";
 
 /// Part 4 of what a page ends with: the app, and the machine in it.
 #[rattlefmt::skip]
 pub const TAIL_4: &[u8] = b"\
-iting thread?\",\nanswer:\n\"reset(), which is creset gate. The waiting thread gets BrokenBarrierException. \" +\n\"Later calls use the repa\
-ired barrier.\"\n}\n]\n},\n\"two-orders\": {\ntitle: \"Two phasers in different orders\",\naim: \"Two meetings in different orders deadlock \
-in every run. Two locks deadlock only in some runs.\",\nlast: \"Meet in the same order everywhere, or arrive first and wait later.\",\nsteps\
-: [\n{\nat: 0,\nask: \"Is there a plan with which this program ends?\",\nanswer:\n\"No: each thread waits at its first phaser, and the other \
-never arrives there. \" +\n\"Both runs end in the same state.\",\nfork: [0, \"t1\"],\nvotes: true\n},\n{\nat: 2,\nask: \"With two locks in d\
-ifferent orders, some schedules end. What is the difference?\",\nanswer: \"A lock may be free again before the second thread needs it. A mee\
-ting needs both threads.\"\n},\n{\nat: 0,\nask: \"Change as few rows as you can so that every schedule ends.\",\nanswer: \"Swap the two rows \
-of other, or of one.\",\ntab: \"orders\"\n},\n{\nat: 0,\nask:\n\"Let Bob arrive at both and then wait (parr r1 right, paaa r0 left, pawait r\
-0 right r1). \" +\n\"Does every schedule end now?\",\nanswer: \"Yes: he arrives at right and doesn\\u2019t wait there for Ann.\",\ntab: \"or\
-ders\"\n}\n]\n},\n\"late-team\": {\ntitle: \"A team that joins late\",\naim: \"When all parties of a child have arrived, it arrives once at \
-its parent.\",\nlast: \"Register before the others meet, or leave when you are done.\",\nsteps: [\n{\nat: 2,\nask: \"In choice 2 Bob arrives \
-at red. Why does a phase of both end?\",\nanswer: \"He is the last party of red, so red arrives at both. It is the only party there.\"\n},\n\
-{\nat: 10,\nask: \"At which phaser is a party missing at the end, and who would have to arrive?\",\nanswer: \"At both: Ann and Bob would hav\
-e to arrive at red again.\"\n},\n{\nat: 1,\nask:\n\"Cem\\u2019s preg returns 1. What does it return if he registers before Bob arrives, \" +\
-\n\"and how does the run end?\",\nanswer: \"It returns 0, and all threads end.\",\nfork: [1, \"t2\"],\nvotes: true\n},\n{\nat: 2,\nask: \"Af\
-ter which choice is it too late for Cem?\",\nanswer: \"After choice 2: if he is next now, he is stuck.\",\nfork: [2, \"t2\"]\n},\n{\nat: 0,\n\
-ask: \"Let Cem call pdereg r0 blue, arriveAndDeregister(), instead of paaa r0 blue. Is anybody stuck?\",\nanswer: \"No: blue leaves both wit\
-h its last party.\",\ntab: \"orders\"\n}\n]\n}\n};\nfunction lessonOf(name, program, run) {\nif (Object.hasOwn(LESSONS, name)) return LESSON\
-S[name];\nconst steps = program.questions.flatMap(one => {\nconst at = run.events.findIndex(event => event.row === one.row);\nreturn at < 0 \
-? [] : [{ at, ask: one.text, answer: \"Step on, and see.\", next: true }];\n});\nreturn {\ntitle: program.title || name,\naim: program.about \
-|| \"Step through the run, and say before each step what it will do.\",\nlast: \"Which order would end otherwise?\",\nsteps\n};\n}\nreturn { \
-LESSONS, lessonOf };\n})();\n// app/mistake.js\nconst m27 = (() => {\nconst { DIRECTIVES, KINDS } = m0;\nconst JAVA = new Map();\nfor (const \
-[word, [, call]] of Object.entries(KINDS)) {\nconst name = call ? call.split(\"(\")[0].replace(\"@.\", \"\").toLowerCase() : \"\";\nif (name \
-&& !JAVA.has(name)) JAVA.set(name, word);\n}\nfunction distance(a, b) {\nlet last = [...Array(b.length + 1).keys()];\nfor (let i = 1; i <= a\
-.length; i++) {\nconst next = [i];\nfor (let k = 1; k <= b.length; k++) {\nnext[k] = Math.min(last[k] + 1, next[k - 1] + 1, last[k - 1] + (a\
-[i - 1] === b[k - 1] ? 0 : 1));\n}\nlast = next;\n}\nreturn last[b.length];\n}\nfunction nearest(word) {\nconst bare = word.toLowerCase().re\
-place(/^.*\\./, \"\").replace(/[^a-z]/g, \"\");\nif (JAVA.has(bare)) return JAVA.get(bare);\nlet best = \"\";\nlet least = Math.min(3, word.\
-length);\nfor (const one of [...Object.keys(KINDS), ...DIRECTIVES]) {\nconst far = distance(word.toLowerCase(), one);\nif (far < least) [bes\
-t, least] = [one, far];\n}\nfor (const [name, one] of JAVA) {\nconst far = distance(bare, name);\nif (far < least && far * 3 < name.length) \
-[best, least] = [one, far];\n}\nreturn best;\n}\nconst wordsIn = line =>\n[...line.split(\";\")[0].matchAll(/\\S+/g)].map(m => ({ text: m[0]\
-, from: m.index, to: m.index + m[0].length }));\nfunction wordOf(line, kind) {\nconst found = wordsIn(line);\nif (!found.length) return null\
-;\nconst isLabel = found[0].text.endsWith(\":\");\nconst [head, ...operands] = isLabel ? found.slice(1) : found;\nconst kinds = head && KIND\
-S[head.text] ? KINDS[head.text][0] : \"\";\nconst isNumber = one => /^-?\\d+$/.test(one.text);\nconst picked = {\n3: head,\n5: operands.find\
-((one, k) => kinds[k] === \"r\" && !/^r[0-7]$/.test(one.text)),\n6: operands.find((one, k) => (kinds ? kinds[k] === \"n\" && !isNumber(one) \
-: k === 1)),\n9: operands.find((one, k) => !kinds || \"LPBTC\".includes(kinds[k])),\n10: isLabel ? found[0] : operands[0]\n};\nreturn found.\
-find(one => one.text.includes(\",\")) || picked[kind] || head || found[0];\n}\nconst plainly = text => text.replace(/`/g, \"\").replace(/^\\\
-w+: /, \"\");\nconst sentence = text => plainly(text).replace(/^[a-z](?=[a-z]* )/, sign => sign.toUpperCase());\nfunction mistakeOf(fault, t\
-ext) {\nconst isProgram = fault.group !== \"plan\" && fault.group !== \"schedule\";\nconst mistake = {\nisProgram,\nline: fault.line,\nword: \
-fault.word,\nnear: \"\",\nmeans: sentence(fault.means || fault.told),\nhelps: sentence(fault.help || \"\")\n};\nif (fault.group !== \"asm\") \
-return mistake;\nconst line = text.split(\"\\n\")[fault.line - 1] || \"\";\nconst word = wordOf(line, fault.kind);\nif (!mistake.word && wor\
-d) mistake.word = [word.from, word.to];\nif (word && word.text.includes(\",\")) Object.assign(\nmistake,\n{ means: \"There are no commas\", \
-helps: \"Put blanks between operands\" }\n);\nelse if (fault.kind === 3 && word) mistake.near = nearest(word.text);\nreturn mistake;\n}\nret\
-urn { nearest, mistakeOf };\n})();\n// app/arrivals.js\nconst m28 = (() => {\nconst { ARRIVES, operandOf, rootOf } = m0;\nconst { ownerOf } \
-= m18;\nconst EVERY = 256;\nconst copyOf = fold => ({\ncame: fold.came.map(all => new Set(all)),\nwaits: new Map(fold.waits),\narrived: fold\
-.arrived.map(list => list.slice()),\nended: fold.ended.map(list => list.slice())\n});\nconst emptyOf = program => ({\ncame: program.phasers.\
-map(() => new Set()),\nwaits: new Map(),\narrived: program.phasers.map(() => []),\nended: program.phasers.map(() => [])\n});\nfunction isArr\
-ival(row, event, isOfWait) {\nif (isOfWait || !row || !ARRIVES.has(row.word)) return false;\nreturn event.what === \"wait\" || event.what ==\
-= \"enter\" || (\nevent.what === \"=\" && (event.value >= 0 || Boolean(event.mark))\n);\n}\nfunction step(program, fold, event) {\nif (event\
-.what === \"idle\" || event.row < 0) return;\nconst row = program.rows[event.row];\nconst isOfWait = fold.waits.delete(event.thread);\nif (i\
-sArrival(row, event, isOfWait)) {\nconst p = operandOf(row, \"P\");\nfold.arrived[p].push({ thread: event.thread, row: event.row });\nfold.c\
-ame[p].add(event.thread);\n}\nif (event.what === \"wait\") fold.waits.set(event.thread, event.row);\nif (!event.mark || event.mark.kind !== \
-\"+p\") return;\nprogram.phasers.forEach((_, q) => {\nif (rootOf(program, q) !== event.mark.on) return;\nfold.ended[q] = fold.arrived[q];\nf\
-old.arrived[q] = [];\n});\n}\nfunction arrivalsOf(tree, id, i) {\nconst run = ownerOf(tree, id, i);\nconst { folds } = run.kept;\nconst star\
-t = Math.min(Math.floor(i / EVERY), folds.length);\nconst fold = start ? copyOf(folds[start - 1]) : emptyOf(tree.program);\nfor (let k = sta\
-rt * EVERY; k < i; k++) {\nstep(tree.program, fold, run.events.at(k));\nif ((k + 1) % EVERY === 0 && folds.length < (k + 1) / EVERY) folds.p\
-ush(copyOf(fold));\n}\nreturn fold;\n}\nreturn { isArrival, arrivalsOf };\n})();\n// app/reason.js\nconst m29 = (() => {\nconst { nameOf, op\
-erandOf, rootOf } = m0;\nconst { callOf, phaseOf, spread, strong } = m1;\nconst { arrivalsOf } = m28;\nconst { eventTo, momentOf } = m18;\nc\
-onst COUNTS = {\npparties: \"how many parties are registered now\",\nparrived: \"how many parties have arrived in this phase\",\npunarr: \"h\
-ow many parties are still to arrive\",\npphase: \"the number of the phase that goes on\",\npterm: \"1 if it is terminated, else 0\",\ncwaiti\
-ng: \"how many wait there now\",\ncparties: \"how many parties it has\",\ncbroken: \"1 if it is broken, else 0\"\n};\nfunction phaserNumber(\
-program, event, row, before, after) {\nconst p = operandOf(row, \"P\");\nconst name = nameOf(program, \"P\", p);\nconst was = before.state.p\
-hasers[p].view;\nconst is = after.state.phasers[p].view;\nif (event.value < 0 && event.value === is) {\nreturn \"It is negative, since \" + \
-name + \" is terminated: its last phase was \" + phaseOf(is) + \".\";\n}\nif (before.state.threads[event.thread].status === \"waits\" && eve\
-nt.value === was) {\nreturn event.value + \" is the phase of \" + name + \" now: the phase for whose end it waited is over.\";\n}\nif (/^(pa\
-rr|pdereg)$/.test(row.word) && event.value === was) {\nreturn event.value + \" is the phase in which it arrived.\";\n}\nif (/^(preg|pbulk)$/\
-.test(row.word) && event.value === was) {\nreturn event.value + \" is the phase for which it registered.\";\n}\nif (row.word === \"paaa\" && \
-event.mark && event.value === is) {\nreturn event.value + \" is the phase that begins: it was the last to arrive, so it didn\\u2019t have to \
-wait.\";\n}\nif (/^pawait/.test(row.word) && event.value === was) {\nreturn event.value + \" is the phase of \" + name +\n\" now: the one th\
-at it named is over, so it didn\\u2019t have to wait.\";\n}\nreturn \"\";\n}\nfunction barrierNumber(program, event, row, before) {\nconst b \
-= operandOf(row, \"B\");\nconst { parties } = program.barriers[b];\nconst came = parties - event.value;\nconst waited = before.state.threads\
-[event.thread].status === \"waits\";\nif (!/^cawait/.test(row.word) || came < 1) return \"\";\nconst turn = event.value === 0 ? \"the last\" \
-: came === 1 ? \"the first\" : \"number \" + came;\nreturn event.value + \": of \" + parties + \" it was \" + turn + \" to come\" + (\nwaite\
-d || !came ? \"\" : \", so it didn\\u2019t have to wait\"\n) + \".\";\n}\nfunction throwReason(program, event, row, before) {\nconst p = ope\
-randOf(row, \"P\");\nconst b = operandOf(row, \"B\");\nconst thread = before.state.threads[event.thread];\nif (event.isLate) return \"Nobody \
-brought what it waited for before its time was up.\";\nif (\nevent.value === 3 && thread.isInterrupted\n) return \"Somebody had interrupted \
-it: its interrupted status was set.\";\nif (b >= 0 && event.value === 4) {\nreturn \"The barrier \" + nameOf(program, \"B\", b) + \" broke w\
-hile it waited, or was broken before it came.\";\n}\nif (p >= 0 && event.value === 1 && /^(parr|pdereg|paaa)$/.test(row.word) && before.stat\
-e.phasers[p].missing === 0) {\nconst name = nameOf(program, \"P\", p);\nreturn \"No party of \" + name + \" is still to arrive, so there is \
-no place for one more arrival.\";\n}\nreturn \"\";\n}\nfunction reasonOf(tree, id, i) {\nconst { program } = tree;\nconst event = eventTo(tr\
-ee.runs[id], i);\nif (!event || event.row < 0 || !/^(=|throw)$/.test(event.what)) return \"\";\nconst row = program.rows[event.row];\nconst \
-before = momentOf(tree, id, i - 1);\nif (event.what === \"throw\") return throwReason(program, event, row, before);\nif (COUNTS[row.word]) r\
-eturn event.value + \": \" + COUNTS[row.word] + \".\";\nif (operandOf(row, \"P\") >= 0) return phaserNumber(program, event, row, before, mom\
-entOf(tree, id, i));\nif (operandOf(row, \"B\") >= 0) return barrierNumber(program, event, row, before);\nreturn \"\";\n}\nfunction strayTex\
-t(tree, id, i, p) {\nconst came = arrivalsOf(tree, id, i).came[p].size;\nconst parties = tree.program.everParties[p];\nif (came <= parties) \
-return \"\";\nreturn \"By now \" + came + \" threads have arrived at \" + nameOf(tree.program, \"P\", p) + \", and it has only \" + parties \
-+\n\" parties: one arrival was a stray, and nobody can know which.\";\n}\nfunction strayOf(tree, id, i) {\nconst event = eventTo(tree.runs[i\
-d], i);\nconst p = event && event.row >= 0 ? operandOf(tree.program.rows[event.row], \"P\") : -1;\nconst text = p < 0 ? \"\" : strayText(tre\
-e, id, i, p);\nreturn text === \"\" || strayText(tree, id, i - 1, p) === text ? \"\" : text;\n}\nconst BACK = 400;\nfunction lastNumberOf(tr\
-ee, run, i, t) {\nfor (let k = i; k > Math.max(0, i - BACK); k--) {\nconst event = eventTo(run, k);\nif (event.thread !== t || !/^(=|throw)$\
-/.test(event.what) || event.row < 0) continue;\nconst row = tree.program.rows[event.row];\nif (operandOf(row, \"P\") < 0 && operandOf(row, \"\
-B\") < 0) continue;\nconst reason = reasonOf(tree, run.id, k);\nconst call = callOf(tree.program, row, null);\nconst got = event.what === \"\
-=\" ? \" returned \" : \" threw \";\nreturn reason ? [\"In choice \" + k + \" \" + call + got, strong(event.value), \". \" + reason] : null;\
-\n}\nreturn null;\n}\nconst namesOf = list => spread(list.map(one => ({ thread: one.thread })));\nfunction arrivalsText(tree, run, i, p) {\n\
-const { program } = tree;\nconst { arrived, ended } = arrivalsOf(tree, run.id, i);\nconst { state } = momentOf(tree, run.id, i);\nconst name \
-= nameOf(program, \"P\", p);\nconst one = state.phasers[p];\nconst view = phaseOf(state.phasers[rootOf(program, p)].view);\nconst said = [\n\
-strong(name),\n\" is in phase \" + view + \" and has \" + one.parties + (one.parties === 1 ? \" party\" : \" parties\") + \". \"\n];\nif (on\
-e.view < 0) said.splice(1, 1, \" is terminated. \");\nif (arrived[p].length) said.push(\n\"In this phase \",\n...namesOf(arrived[p]),\narriv\
-ed[p].length > 1 ? \" have arrived. \" : \" has arrived. \"\n);\nif (ended[p].length) said.push(\"In the phase before it was \", ...namesOf(\
-ended[p]), \". \");\nconst stray = strayText(tree, run.id, i, p);\nif (stray) said.push(\"A phaser counts arrivals, and doesn\\u2019t ask wh\
-o arrives. \" + stray);\nelse if (arrived[p].length || ended[p].length) {\nsaid.push(\n\"A phaser counts arrivals, and doesn\\u2019t ask who \
-arrives. If one of them was surplus, nobody can know which.\"\n);\n}\nreturn said;\n}\nreturn { reasonOf, strayOf, lastNumberOf, arrivalsTex\
-t };\n})();\n// app/why.js\nconst m30 = (() => {\nconst { ARRIVES, nameOf, operandOf, rootOf } = m0;\nconst { callOf, listed, phaseOf, sprea\
-d, strong, thrown } = m1;\nconst { wouldText } = m23;\nconst { doingOf } = m16;\nconst reached = new WeakMap();\nfunction rowsFrom(program, \
-start) {\nif (!reached.has(program)) reached.set(program, new Map());\nconst known = reached.get(program);\nif (known.has(start)) return kno\
-wn.get(start);\nconst seen = new Set();\nconst open = [start];\nwhile (open.length) {\nconst at = open.pop();\nconst row = program.rows[at];\
-\nif (!row || seen.has(at)) continue;\nseen.add(at);\nconst there = operandOf(row, \"L\");\nif (there >= 0) open.push(there);\nif (!/^(halt|\
-jmp|ret|throw)$/.test(row.word)) open.push(at + 1);\n}\nconst rows = [...seen].sort((a, b) => a - b);\nknown.set(start, rows);\nreturn rows;\
-\n}\nfunction startsOf(program, thread) {\nconst starts = [thread.status === \"waits\" ? thread.row + 1 : thread.row];\nfor (const entry of \
-thread.stack) {\nconst n = Number(entry.slice(1));\nif (entry[0] === \"C\" || entry[0] === \"H\") starts.push(n);\nelse return program.rows.\
-map((_, at) => at);\n}\nreturn starts;\n}\nfunction couldCall(program, moment, t, isWanted) {\nconst thread = moment.state.threads[t];\nif (\
-/ended|died/.test(thread.status)) return null;\nfor (const start of startsOf(program, thread)) {\nfor (const at of rowsFrom(program, start)) \
-if (isWanted(program.rows[at])) return program.rows[at];\n}\nreturn null;\n}\nfunction missingIn(program, state, p) {\nconst out = [];\ncons\
-t look = q => {\nconst isOpen = child => state.phasers[child].parties > 0 && state.phasers[child].missing > 0;\nconst open = program.childre\
-n[q].filter(isOpen);\nopen.forEach(look);\nconst own = state.phasers[q].missing - open.length;\nif (own > 0) out.push({ phaser: q, count: ow\
-n });\n};\nlook(rootOf(program, p));\nreturn out;\n}\nconst countText = count => (count === 1 ? \"one arrival is missing\" : count + \" arri\
-vals are missing\");\nfunction missingText(program, missing, p) {\nreturn listed(\nmissing.map(one => countText(one.count) + (one.phaser === \
-p ? \"\" : \" at \" + nameOf(program, \"P\", one.phaser)))\n);\n}\nfunction findIn(program, moment, t, isWanted) {\nreturn program.threads.f\
-latMap((_, n) => {\nconst found = n === t ? null : couldCall(program, moment, n, isWanted);\nreturn found ? [[n, found]] : [];\n});\n}\nfunc\
-tion runnersOf(program, moment, t, entry) {\nconst { threads } = moment.state;\nreturn threads.flatMap((one, n) => (n !== t && one.stack.inc\
-ludes(entry) ? [[n, null]] : []));\n}\nconst once = list => list.filter(([n], k) => list.findIndex(([other]) => other === n) === k);\nfuncti\
-on helpersOfPhaser(program, moment, t, p) {\nconst root = rootOf(program, p);\nconst running = runnersOf(program, moment, t, \"A\" + root);\n\
-const isPlace = q => q >= 0 && rootOf(program, q) === root && moment.state.phasers[q].missing > 0;\nconst { word } = program.rows[moment.sta\
-te.threads[t].row];\nconst find = isWanted => findIn(program, moment, t, isWanted);\nconst helpers = [\n...running,\n...find(row => ARRIVES.\
-has(row.word) && isPlace(operandOf(row, \"P\"))),\n...find(row => row.word === \"pforce\" && rootOf(program, operandOf(row, \"P\")) === root\
-)\n];\nconst isInterruptible = word === \"pawaiti\" || word === \"pawaitt\";\nif (isInterruptible) helpers.push(...find(row => row.word === \
-\"intr\" && operandOf(row, \"T\") === t));\nreturn once(helpers);\n}\nfunction helpersOfBarrier(program, moment, t, b) {\nconst { threads } \
-= moment.state;\nconst waitsHere = n => threads[n] && threads[n].status === \"waits\" &&\noperandOf(program.rows[threads[n].row], \"B\") === \
-b;\nconst find = isWanted => findIn(program, moment, t, isWanted);\nreturn once([\n...runnersOf(program, moment, t, \"X\" + b),\n...find(row \
-=> /^cawait/.test(row.word) && operandOf(row, \"B\") === b),\n...find(row => row.word === \"intr\" && waitsHere(operandOf(row, \"T\"))),\n..\
-.find(row => row.word === \"creset\" && operandOf(row, \"B\") === b)\n]);\n}\nfunction releaseText(program, moment, helpers, isStuck) {\ncon\
-st said = (n, row) => (row ? callOf(program, row, null) : \"it runs the routine\");\nconst call = ([n, row]) => [\n{ thread: n },\n\" (\" + \
-said(n, row) + (doingOf(moment, n) === \"waits\" ? \", but waits itself\" : \"\") + \")\"\n];\nif (!helpers.length) return [strong(\"Nobody \
-is left who could\"), \": it waits for ever.\"];\nif (!isStuck) {\nconst more = helpers.length > 4 ? \" or others\" : \"\";\nconst names = s\
-pread(helpers.slice(0, 4).map(call), more ? \",\" : \"or\").flat();\nreturn [...names, more + \" could release it.\"];\n}\nconst names = spr\
-ead(helpers.slice(0, 4).map(([n]) => ({ thread: n })));\nconst wait = helpers.length > 1\n? \" could bring that, and they wait themselves: \"\
-\n: \" could bring that, and waits itself: \";\nreturn [strong(\"Only \"), ...names, wait, strong(\"for ever\"), \".\"];\n}\nfunction phaser\
-Text(program, moment, t, p) {\nconst { state } = moment;\nconst missing = missingIn(program, state, p);\nconst text = [{ thread: t }, \" wai\
-ts at \" + nameOf(program, \"P\", p) + \" for the end of phase \"];\ntext.push(String(phaseOf(state.phasers[rootOf(program, p)].view)), \": \
-\" + missingText(program, missing, p) + \". \");\nreturn text;\n}\nfunction routineText(program, moment, t, p, b) {\nconst entry = p >= 0 ? \
-\"A\" + rootOf(program, p) : \"X\" + b;\nconst runner = moment.state.threads.findIndex((thread, n) => n !== t && thread.stack.includes(entry\
-));\nconst routine = p >= 0\n? \"onAdvance of \" + nameOf(program, \"P\", rootOf(program, p))\n: \"the action of \" + nameOf(program, \"B\", \
-b);\nif (runner < 0) return [{ thread: t }, \" can\\u2019t go on yet.\"];\nreturn [\n{ thread: t },\n\" may not go: \",\n{ thread: runner },\
-\n\" runs \" + routine + \", and this call has to wait until that is done.\"\n];\n}\nfunction goesText(program, moment, t, doing) {\nconst [\
-head, ...rest] = wouldText(program, moment.next[t], moment);\nconst isWho = head.thread === t;\nconst would = isWho ? [{ thread: t }, ...res\
-t] : [head, ...rest];\nreturn [\n{ thread: t },\ndoing === \"free\" ? \" waited, and may go on. If it\\u2019s next: \" : \" may go. If it\\u\
-2019s next: \",\n...would\n];\n}\nfunction waitText(program, moment, t, p, b, doing) {\nconst isStuck = moment.state.word === \"stuck\";\nif \
-(doing === \"held\") return { text: routineText(program, moment, t, p, b), helpers: [] };\nif (p >= 0) {\nconst text = phaserText(program, m\
-oment, t, p);\nconst helpers = helpersOfPhaser(program, moment, t, p);\nreturn { text, helpers, release: releaseText(program, moment, helper\
-s, isStuck) };\n}\nconst need = program.barriers[b].parties - moment.state.barriers[b].waiting;\nconst come = need === 1 ? \"one more has to \
-come\" : need + \" more have to come\";\nconst helpers = helpersOfBarrier(program, moment, t, b);\nconst text = [{ thread: t }, \" waits at \
-\" + nameOf(program, \"B\", b) + \": \" + come + \". \"];\nconst timed = Object.keys(moment.late).map(Number);\nconst others = timed.filter(\
-n => n !== t && operandOf(program.rows[moment.state.threads[n].row], \"B\") === b);\nconst breaks = others.length\n? [\"The time of \", { th\
-read: others[0] }, \"\\u2019s wait may run out, which breaks the barrier. \"]\n: [];\nconst breaker = Object.values(moment.next).find(\neven\
-t => event.mark && event.mark.kind === \"-b\" && event.mark.on === b\n);\nif (breaker) breaks.push({ thread: breaker.thread }, \" breaks the \
-barrier at its next turn. \");\nconst release = breaks.length && !helpers.length ? [] : releaseText(program, moment, helpers, isStuck);\nret\
-urn { text: [...text, ...breaks], helpers, release, isSoon: breaks.length > 0 };\n}\nfunction whyOf(program, moment, t) {\nconst thread = mo\
-ment.state.threads[t];\nconst doing = doingOf(moment, t);\nif (doing === \"over\") return { thread: t, kind: \"over\", could: [], text: [{ t\
-hread: t }, \" has ended.\"] };\nif (doing === \"dead\") {\nconst text = [{ thread: t }, \" is dead: nothing caught \" + thrown(thread.code) \
-+ \".\"];\nreturn { thread: t, kind: \"dead\", could: [], text };\n}\nif (moment.next[t]) {\nconst kind = doing === \"free\" ? \"free\" : \"\
-runs\";\nreturn { thread: t, kind, could: [], text: goesText(program, moment, t, doing) };\n}\nconst row = program.rows[thread.row];\nconst \
-p = operandOf(row, \"P\");\nconst b = operandOf(row, \"B\");\nif (p < 0 && b < 0) return { thread: t, kind: \"waits\", could: [], text: [{ t\
-hread: t }, \" can\\u2019t go on yet.\"] };\nconst { text, helpers, release, isSoon } = waitText(program, moment, t, p, b, doing);\nconst is\
-Late = Boolean(moment.late[t]);\nconst said = !release || (isLate && !helpers.length) ? text : [...text, ...release];\nif (isLate) said.push\
-(\" Its time may run out.\");\nconst isStuck = moment.state.word === \"stuck\" || (doing === \"waits\" && !helpers.length && !isLate && !isS\
-oon);\nconst could = moment.state.word === \"stuck\" ? [] : helpers.map(([n]) => n);\nreturn { thread: t, kind: isStuck ? \"stuck\" : \"wait\
-s\", could, text: said };\n}\nconst RANK = { stuck: 0, waits: 1, free: 2, runs: 3, dead: 4, over: 5 };\nconst told = new WeakMap();\nfunctio\
-n whysOf(program, moment) {\nif (!told.has(moment)) {\nconst all = program.threads.map((_, t) => whyOf(program, moment, t));\ntold.set(momen\
-t, all.sort((a, b) => RANK[a.kind] - RANK[b.kind]));\n}\nreturn told.get(moment);\n}\nreturn { couldCall, whyOf, whysOf };\n})();\n// app/qu\
-estions.js\nconst m31 = (() => {\nconst { callOf, listed, plain, rowText, strong, threadName, thrown } = m1;\nconst { endText, outputText } \
-= m2;\nconst { planOf } = m15;\nconst { reasonOf } = m29;\nconst { eventTo, lengthOf, momentOf } = m18;\nconst { whyOf } = m30;\nconst LONGE\
-ST = 200;\nconst MOST_OPTIONS = 4;\nconst ASKED = /^(p|c[awrb])/;\nconst PLAIN = /^(idle|ok|end|out|catch|unwind|none|limit)$/;\nfunction op\
-tionOf(program, event, isOfWait) {\nconst row = program.rows[event.row];\nconst said = {\n\"=\": (isOfWait ? \"its wait ends: it returns \" \
-: \"it returns \") + event.value,\nwait: \"it waits\",\nthrow: \"it throws \" + thrown(event.value, row),\ndie: \"it dies of \" + thrown(eve\
-nt.value, row),\nenter: \"it is the last, and enters the routine\"\n};\nconst mark = event.mark && {\n\"+p\": event.mark.view < 0 ? \", and \
-the phaser is terminated\" : \", and phase \" + event.mark.view + \" begins\",\n\"+b\": \", and the barrier trips\",\n\"-b\": \", and the ba\
-rrier breaks\"\n};\nreturn said[event.what] + (mark ? mark[event.mark.kind] : \"\");\n}\nconst keyOf = (row, isOfWait) => row + (isOfWait ? \
-\" wait\" : \"\");\nfunction happenedIn(program, outcomes) {\nconst happened = new Map();\nfor (const one of outcomes) {\nconst waits = new \
-Set();\nfor (const event of one.events) {\nif (event.row < 0 || event.what === \"idle\") continue;\nconst isOfWait = waits.delete(event.thre\
-ad);\nif (event.what === \"wait\") waits.add(event.thread);\nif (PLAIN.test(event.what)) continue;\nconst key = keyOf(event.row, isOfWait);\n\
-if (!happened.has(key)) happened.set(key, new Set());\nhappened.get(key).add(optionOf(program, event, isOfWait));\n}\n}\nreturn happened;\n}\
-\nfunction shuffled(list, seed) {\nconst keyed = list.map((one, k) => [Math.sin(seed * 97 + k * 131 + one.length * 17) * 1e4 % 1, one]);\nre\
-turn keyed.sort((a, b) => a[0] - b[0]).map(one => one[1]);\n}\nfunction optionsOf(right, others, seed) {\nconst wrong = [...new Set(others)]\
-.filter(one => one !== right).slice(0, MOST_OPTIONS - 1);\nreturn wrong.length ? shuffled([right, ...wrong], seed) : null;\n}\nfunction reas\
-onAt(tree, run, i) {\nconst reason = reasonOf(tree, run.id, i);\nif (reason) return [reason];\nconst { what, thread } = eventTo(run, i);\nif \
-(what !== \"wait\") return [\"The line below says what happened.\"];\nconst { text } = whyOf(tree.program, momentOf(tree, run.id, i), thread\
-);\nreturn text.slice(0, text.findIndex(part => typeof part === \"string\" && part.endsWith(\". \")) + 1);\n}\nfunction callQuestion(tree, r\
-un, i, happened) {\nconst { program } = tree;\nconst event = run.events.at(i);\nconst row = program.rows[event.row];\nif (event.row < 0 || P\
-LAIN.test(event.what) || !ASKED.test(row.word)) return null;\nconst thread = momentOf(tree, run.id, i).state.threads[event.thread];\nconst i\
-sOfWait = thread.status === \"waits\";\nconst right = optionOf(program, event, isOfWait);\nconst options = optionsOf(right, happened.get(key\
-Of(event.row, isOfWait)) || [], i + 1);\nif (!options) return null;\nconst call = callOf(program, row, thread) || rowText(program, row);\nco\
-nst who = { thread: event.thread };\nconst ask = event.isLate\n? [\"Choice \" + (i + 1) + \": the time of \", who, \"\\u2019s wait at \" + c\
-all + \" is up. What happens?\"]\n: isOfWait\n? [\"Choice \" + (i + 1) + \": \", who, \" was waiting at \" + call + \". What happens?\"]\n: \
-[\"Choice \" + (i + 1) + \": \", who, \" calls \" + call + \". What happens?\"];\nreturn { at: i, leads: i + 1, ask, right, options, why: () \
-=> reasonAt(tree, run, i + 1) };\n}\nfunction whoQuestion(tree, run, i) {\nconst { program } = tree;\nconst event = run.events.at(i);\nif (e\
-vent.what !== \"wait\" && !event.mark) return null;\nconst say = k => {\nconst names = Object.keys(momentOf(tree, run.id, k).next).map(t => \
-threadName(program, Number(t)));\nreturn names.length ? listed(names) : \"nobody\";\n};\nconst near = [];\nfor (let k = Math.max(0, i - 4); \
-k <= Math.min(lengthOf(run), i + 6); k++) near.push(say(k));\nconst right = say(i + 1);\nconst options = optionsOf(right, near, i + 7);\nif \
-(!options || options.length < 3) return null;\nconst moment = momentOf(tree, run.id, i + 1);\nconst why = () => {\nconst waits = program.thr\
-eads.map((_, t) => t).filter(\nt => !moment.next[t] && moment.state.threads[t].status === \"waits\"\n);\nreturn waits.length ? whyOf(program\
-, moment, waits[0]).text : [\"Nobody waits.\"];\n};\nreturn { at: i + 1, leads: i + 1, ask: [\"Who may go next, after choice \" + (i + 1) + \
-\"?\"], right, options, why };\n}\nfunction ownQuestions(tree, run, i) {\nconst { program } = tree;\nconst { row } = run.events.at(i);\ncons\
-t isFirst = run.events.findIndex(event => event.row === row && event.what !== \"idle\") === i;\nif (!isFirst) return [];\nconst asked = prog\
-ram.questions.filter(one => one.row === row);\nreturn asked.map(\none => ({ at: i, leads: i + 1, ask: [one.text], own: true, options: [], wh\
-y: () => reasonAt(tree, run, i + 1) })\n);\n}\nfunction endQuestion(tree, run, outcomes) {\nconst { program } = tree;\nconst say = end => {\n\
-const output = outputText(program, end);\nreturn endText(program, end) + (output ? \" \\u2014 output: \" + output : \"\");\n};\nconst right \
-= say(run.end);\nconst options = optionsOf(right, outcomes.map(one => say(one.end)), 3);\nif (!options) return null;\nconst ask = [\"The ord\
-er is \", strong(planOf(program, run.events, 24)), \". How does it end?\"];\nreturn { at: 0, leads: lengthOf(run), ask, right, options, why: \
-() => [\"It ends so: \", strong(right), \".\"] };\n}\nfunction questionsOf(tree, run, outcomes) {\nconst happened = happenedIn(tree.program, \
-outcomes);\nconst out = [];\nfor (let i = 0; i < Math.min(lengthOf(run), LONGEST); i++) {\nout.push(...ownQuestions(tree, run, i), callQuest\
-ion(tree, run, i, happened), whoQuestion(tree, run, i));\n}\nreturn [...out, endQuestion(tree, run, outcomes)].filter(Boolean);\n}\nconst as\
-kText = (program, question) => plain(program, question.ask);\nreturn { questionsOf, askText };\n})();\n// app/state.js\nconst m32 = (() => {\
-\nconst { endKind } = m2;\nconst { lessonOf } = m26;\nconst { walkTo, addressOf } = m19;\nconst { Refused } = m13;\nconst { mistakeOf } = m2\
-7;\nconst { playedPlan, readablePlan } = m15;\nconst { questionsOf } = m31;\nconst { depthOf, firstAlone, forkRun, graftRun, inOrder, length\
-Of, openProgram, plantTree } = m18;\nconst OWN = {\ngroup: \"Yours\",\nname: \"own\",\ntitle: \"My own program\",\nplan: \"..\",\nprogram:\n\
-\"; My own: two threads meet.\\n.phaser meet 2\\n.thread ann main\\n.thread bob main\\n\" +\n\"main: paaa r0 meet ; arriveAndAwaitAdvance\\n      \
-out r0\\n      halt\\n\"\n};\nfunction firstState() {\nreturn {\nitem: null,\ntext: \"\",\nplan: \"..\",\ntree: null,\nid: 0,\nat: 0,\nisCut\
-: false,\nmistake: null,\nmode: \"explore\",\ntab: \"picture\",\npane: \"time\",\nselected: null,\npreview: \"\",\norders: null,\nisJava: fa\
-lse,\nisHidden: false,\nisFolded: false,\nisAlone: false,\nhasLetters: true,\nother: null,\nzoom: 1,\nlesson: null,\nquiz: null,\nchallenge: \
-null,\ncheck: null\n};\n}\nconst runOf = state => state.tree.runs[state.id];\nconst otherOf = state => (\nstate.other === null || state.othe\
-r === state.id ? null : state.tree.runs[state.other] || null\n);\nfunction planted(state, program, text, plan, { choices, isCut, trace }) {\n\
-const tree = plantTree(program, choices, trace);\nconst next = { ...state, text, plan, tree, id: 0, isCut, mistake: null, orders: null };\nr\
-eturn { ...next, selected: null, preview: \"\", other: null, challenge: null };\n}\nconst scheduleIn = (item, plan) => (item && plan === ite\
-m.plan && item.schedule) || \"\";\nfunction edited(state, text, plan, played) {\nconst isSamePlan = state.tree && plan === state.plan;\ncons\
-t place = isSamePlan ? addressOf(state.tree, runOf(state), state.at) : String(state.at);\nlet next;\ntry {\nconst program = openProgram(text\
-);\nnext = planted(state, program, text, plan, played || playedPlan(text, plan, scheduleIn(state.item, plan)));\n} catch (fault) {\nif (!(fa\
-ult instanceof Refused)) throw fault;\nreturn { ...state, text, plan, mistake: mistakeOf(fault, text) };\n}\nconst { tree, run, at } = walkT\
-o(next.tree, place);\nnext = { ...next, tree, id: run.id, at };\nreturn state.mode === \"lesson\" && state.lesson ? { ...next, lesson: begun\
-Lesson(next) } : next;\n}\nconst begunLesson = state => ({\nlesson: lessonOf(state.item.name, state.tree.program, state.tree.runs[0]),\nstep\
-: -1,\nisOpen: false,\nvotes: {}\n});\nfunction opened(state, item, mode, played) {\nconst fresh = { ...state, item, at: 0, id: 0, tree: nul\
-l, check: null, mode: \"explore\", quiz: null };\nlet next = edited(fresh, item.program, item.plan, played);\nif (!next.tree) {\nconst stand \
-= edited(fresh, OWN.program, OWN.plan);\nreturn { ...stand, text: item.program, plan: item.plan, mistake: next.mistake };\n}\nif (!next.mist\
-ake) next = { ...next, plan: readablePlan(next.tree.program, runOf(next), next.plan) };\nif (item.schedule) next = { ...next, item: { ...ite\
-m, plan: next.plan } };\nnext = { ...next, lesson: begunLesson(next) };\nreturn inMode(next, mode || \"explore\");\n}\nfunction at(state, i) \
-{\nreturn { ...state, at: Math.max(0, Math.min(lengthOf(runOf(state)), i)), preview: \"\" };\n}\nfunction walked(state, id, i) {\nconst othe\
-r = state.other === id ? state.id : state.other;\nreturn at({ ...state, id, other }, i);\n}\nfunction forked(state, i, token) {\nconst { tre\
-e, run } = forkRun(state.tree, state.id, i, token);\nconst isOn = runOf(state).choices[i] === token;\nreturn at({ ...state, tree, id: isOn ? \
-state.id : run.id }, i + 1);\n}\nfunction addressed(state, address) {\nconst { tree, run, at: i } = walkTo(state.tree, address);\nreturn at(\
-{ ...state, tree, id: run.id }, i);\n}\nfunction ordered(state, outcome) {\nconst { tree, run } = graftRun(state.tree, outcome.choices);\nco\
-nst from = run.parent < 0 ? 0 : run.fork + 1;\nreturn at({ ...state, tree, id: run.id }, Math.min(from, lengthOf(run)));\n}\nfunction backTo\
-Fork(state) {\nconst run = runOf(state);\nreturn run.parent < 0 ? state : walked(state, run.parent, Math.min(run.fork, state.at));\n}\nfunct\
-ion besideInTree(state, by) {\nconst list = inOrder(state.tree).map(one => one.run);\nconst run = list[list.findIndex(one => one.id === stat\
-e.id) + by];\nif (!run) return state;\nreturn walked(state, run.id, Math.max(state.at, run.parent < 0 ? 0 : run.fork + 1));\n}\nfunction mad\
-eFirst(state) {\nconst run = runOf(state);\nif (run.parent < 0) return state;\nconst plan = readablePlan(state.tree.program, run, run.choice\
-s.join(\" \"));\nreturn at(planted(state, state.tree.program, state.text, plan, { choices: run.choices, isCut: false }), state.at);\n}\nfunc\
-tion firstOnly(state) {\nconst run = runOf(state);\nconst i = run.parent < 0 ? state.at : Math.min(state.at, run.fork);\nreturn at({ ...stat\
-e, tree: firstAlone(state.tree), id: 0, other: null }, i);\n}\nfunction sideBySide(state) {\nif (state.other !== null) return { ...state, ot\
-her: null };\nif (state.tree.runs.length < 2) return state;\nconst run = runOf(state);\nreturn { ...state, other: run.parent >= 0 ? run.pare\
-nt : state.tree.runs.length - 1 };\n}\nfunction selectedThread(state, thread) {\nconst isSame = state.selected && state.selected.thread === \
-thread;\nreturn { ...state, selected: isSame ? null : { thread }, tab: isSame ? state.tab : \"picture\" };\n}\nfunction selectedPhaser(state\
-, phaser) {\nconst isSame = state.selected && state.selected.phaser === phaser;\nreturn { ...state, selected: isSame ? null : { phaser } };\n\
-}\nfunction inMode(state, mode) {\nconst next = { ...state, mode, pane: \"time\", preview: \"\", quiz: null, challenge: null };\nif (mode ==\
-= \"quiz\") return quizOf(next);\nif (mode === \"challenge\") {\nconst isStuck = endKind(state.tree.runs[0].end) === \"stuck\";\nreturn { ..\
-.at({ ...next, id: 0 }, 0), other: null, challenge: { goal: isStuck ? \"ended\" : \"stuck\" } };\n}\nreturn next;\n}\nfunction quizOf(state) \
-{\nconst next = at({ ...state, id: 0, other: null, tab: \"picture\" }, 0);\nif (!state.orders) return { ...next, quiz: null };\nconst list = \
-questionsOf(state.tree, state.tree.runs[0], state.orders.all);\nconst quiz = { list, k: 0, chosen: null, isOpen: false, right: 0, answered: \
-0 };\nreturn at({ ...next, quiz }, list.length ? list[0].at : 0);\n}\nfunction withOrders(state, orders) {\nconst next = { ...state, orders \
-};\nreturn state.mode === \"quiz\" && !state.quiz ? quizOf(next) : next;\n}\nfunction answered(state, option) {\nconst { quiz } = state;\nco\
-nst question = quiz.list[quiz.k];\nif (!question || quiz.chosen !== null) return state;\nconst right = quiz.right + (option === question.rig\
-ht ? 1 : 0);\nreturn at({ ...state, quiz: { ...quiz, chosen: option, right, answered: quiz.answered + 1 } }, question.leads);\n}\nfunction s\
-hownOwn(state) {\nconst question = state.quiz.list[state.quiz.k];\nreturn at({ ...state, quiz: { ...state.quiz, isOpen: true } }, question.l\
-eads);\n}\nfunction nextQuestion(state) {\nconst { quiz } = state;\nconst question = quiz.list[quiz.k + 1];\nconst next = { ...state, quiz: \
-{ ...quiz, k: quiz.k + 1, chosen: null, isOpen: false } };\nreturn question ? at({ ...next, id: 0 }, question.at) : next;\n}\nfunction isVei\
-led(state) {\nconst { quiz } = state;\nif (state.mode !== \"quiz\") return false;\nreturn !quiz || (Boolean(quiz.list[quiz.k]) && quiz.chose\
-n === null && !quiz.isOpen);\n}\nfunction isLaterHidden(state) {\nconst { quiz } = state;\nreturn state.isHidden || (state.mode === \"quiz\" \
-&& (!quiz || Boolean(quiz.list[quiz.k])));\n}\nfunction lessonStep(state, by) {\nconst { lesson } = state.lesson;\nconst step = Math.max(-1, \
-Math.min(lesson.steps.length, state.lesson.step + by));\nconst place = lesson.steps[step] ? lesson.steps[step].at : 0;\nreturn at({ ...state\
-, id: 0, lesson: { ...state.lesson, step, isOpen: false, votes: {} } }, place);\n}\nfunction lessonAnswer(state) {\nconst one = state.lesson\
-.lesson.steps[state.lesson.step];\nif (!one) return state;\nconst next = { ...state, lesson: { ...state.lesson, isOpen: true } };\nreturn on\
-e.next ? at(next, one.at + 1) : next;\n}\nfunction voted(state, thread, by) {\nconst count = Math.max(0, (state.lesson.votes[thread] || 0) + \
-by);\nreturn { ...state, lesson: { ...state.lesson, votes: { ...state.lesson.votes, [thread]: count } } };\n}\nfunction challengeOf(state) {\
-\nconst { goal } = state.challenge;\nconst run = runOf(state);\nconst changes = depthOf(state.tree, run);\nconst isDone = changes > 0 && sta\
-te.at === lengthOf(run) && endKind(run.end) === goal;\nreturn { goal, changes, isDone };\n}\nreturn { OWN, firstState, runOf, otherOf, sched\
-uleIn, edited, opened, at, walked, forked, addressed, ordered, backToFork, besideInTree, madeFirst, firstOnly, sideBySide, selectedThread, s\
-electedPhaser, inMode, quizOf, withOrders, answered, shownOwn, nextQuestion, isVeiled, isLaterHidden, lessonStep, lessonAnswer, voted, chall\
-engeOf };\n})();\n// app/commands.js\nconst m33 = (() => {\nconst { MOST_LINK } = m19;\nconst { button, byId, fill } = m3;\nconst { bareName\
-, pageWith, readProgramFile, runIn, save } = m20;\nconst { listenToKeys } = m21;\nconst { listProgram } = m13;\nconst { copySheet, mainMenu, \
-programsMenu } = m22;\nconst { drawPaper } = m24;\nconst { planOf } = m15;\nconst { optionAt } = m25;\nconst { lengthOf } = m18;\nconst { sc\
-heduleOf } = m14;\nconst change = m32;\nconst ZOOM = 1.12;\nconst STORE = \"vuthgal\";\nfunction stored() {\ntry {\nreturn JSON.parse(localS\
-torage.getItem(STORE)) || {};\n} catch (_) {\nreturn {};\n}\n}\nfunction keep(more) {\ntry {\nlocalStorage.setItem(STORE, JSON.stringify({ .\
-..stored(), ...more }));\nreturn true;\n} catch (_) {\nreturn false;\n}\n}\nfunction makeCommands(app, given) {\nconst settings = { speed: 1\
-, theme: \"auto\", version: given.version };\nlet playing = 0;\nconst state = () => app.get();\nconst run = () => change.runOf(app.get());\n\
-const go = i => app.set(change.at(state(), i));\nfunction setZoom(zoom, isKept = true) {\nconst next = Math.max(0.7, Math.min(2.5, zoom));\n\
-document.documentElement.style.setProperty(\"--zoom\", next);\nif (isKept) keep({ zoom: next });\nsetColumns();\nif (state().tree) app.set({ \
-...state(), zoom: next });\napp.fitted();\n}\nconst zoomBy = by => setZoom(state().zoom * by);\nfunction setTheme(theme) {\nsettings.theme = \
-theme;\nif (theme === \"auto\") delete document.documentElement.dataset.theme;\nelse document.documentElement.dataset.theme = theme;\nkeep({ \
-theme });\n}\nfunction setColumns() {\nconst rem = parseFloat(getComputedStyle(document.documentElement).fontSize);\nconst isTwo = innerWidt\
-h > 900 && innerWidth / rem < 62;\nif (isTwo) document.body.dataset.columns = \"2\";\nelse delete document.body.dataset.columns;\n}\nfunctio\
-n play() {\nclearInterval(playing);\nconst step = () => (state().at >= lengthOf(run()) ? play() : go(state().at + 1));\nplaying = playing ? \
-0 : setInterval(step, settings.speed * 1000);\nif (playing) step();\n}\nasync function copy(text) {\ntry {\nawait navigator.clipboard.writeT\
-ext(text);\napp.note(\"Copied.\");\n} catch (_) {\napp.sheet.open(byId(\"more\"), \"Copy this\", copySheet(text));\nbyId(\"sheet\").querySel\
-ector(\"textarea\").select();\n}\n}\nasync function copyLink() {\nif (state().mistake) return app.note(\"The program is refused now, so ther\
-e is no link to it. Mend it first.\");\nconst link = location.href.split(\"#\")[0] + (await app.linkNow());\nif (link.length > MOST_LINK) re\
-turn app.note(\"This program is too long for a link. Save the page with the run.\");\nreturn copy(link);\n}\nfunction savePage() {\nconst { \
-text: source } = state().tree.program;\nconst { choices, trace } = run();\nconst texts = { listing: listProgram(source), source, schedule: s\
-cheduleOf(choices), trace };\nreturn save(state().item.name + \".html\", pageWith(given.page, texts), \"text/html\");\n}\nfunction copyComma\
-nd() {\nconst plan = planOf(state().tree.program, run().events, Infinity);\ncopy(\"vuthgal show \" + state().item.name + \".asm --plan '\" + \
-plan + \"' > \" + state().item.name + \".html\");\n}\nlet isSheet = false;\nfunction drawForPaper() {\nconst { tree, at, isJava, lesson, ite\
-m } = state();\nconst asked = lesson ? lesson.lesson.steps.map(one => one.ask) : [];\nconst title = (lesson && lesson.lesson.title) || tree.\
-program.title || item.title;\ndrawPaper(byId(\"paper\"), { tree, run: run(), at, isJava, title, asked }, isSheet);\n}\nfunction print(sheet) \
-{\nisSheet = sheet;\nwindow.print();\n}\nwindow.addEventListener(\"beforeprint\", () => state().tree && drawForPaper());\nwindow.addEventLis\
-tener(\"afterprint\", () => {\nisSheet = false;\nfill(byId(\"paper\"));\n});\nfunction startAgain() {\nconst { text, plan, item } = state();\
-\napp.open(item, state().mode);\nif (text !== item.program) app.note(\"As it was at first. \", button(\"Undo\", () => app.edit(text, plan)))\
-;\n}\nfunction openOwn() {\nconst { own } = stored();\napp.open(own && own.program ? { ...change.OWN, ...own } : change.OWN, \"explore\");\n\
-}\nfunction keepOwn() {\nconst { text, plan } = state();\nconst isKept = keep({ own: { program: text, plan } });\napp.note(\nisKept ? \"Kept \
-in this browser: \\u201CMy own program\\u201D.\" : \"This browser keeps nothing. Save the program.\"\n);\n}\nasync function openFile(file) {\
-\nconst text = await file.text();\nconst name = bareName(file.name);\nif (/\\.html?$/i.test(file.name)) {\nconst found = runIn(new DOMParser\
-().parseFromString(text, \"text/html\"), name);\nreturn found ? app.openRun(found) : app.note(\"There is no run in this page.\");\n}\nreturn \
-app.open({ group: \"Yours\", name, title: file.name, ...readProgramFile(text) }, \"explore\");\n}\nbyId(\"pick\").onclick = () => {\nconst a\
-ct = {\nopen: item => app.open(item, item.group === \"Lessons\" && state().mode === \"explore\" ? \"lesson\" : state().mode),\nown: openOwn,\
-\nkeep: keepOwn,\nfile: openFile\n};\napp.sheet.open(byId(\"pick\"), \"Programs\", programsMenu(app.sheet, given.menu, state().item, act));\n\
-};\nconst acts = {\nset: (name, value) => {\nif (name === \"hasLetters\") keep({ letters: value });\napp.set({ ...state(), [name]: value });\
-\napp.fitted();\n},\nspeed: speed => (settings.speed = speed),\ntheme: setTheme,\nplay,\nagain: startAgain,\nside: app.setSide,\nmakeFirst: \
-() => (run().parent < 0 ? app.note(\"This is run 1.\") : app.set(change.madeFirst(state()), true)),\nonlyFirst: () => app.set(change.firstOn\
-ly(state()), true),\nlarger: () => zoomBy(ZOOM),\nsmaller: () => zoomBy(1 / ZOOM),\nhandout: () => print(false),\nworksheet: () => print(tru\
-e),\ncopyLink,\ncopyPlan: () => copy(planOf(state().tree.program, run().events, Infinity)),\ncopySchedule: () => copy(scheduleOf(run().choic\
-es)),\ncopyCommand,\nsaveTrace: () => save(state().item.name + \".trace\", run().trace),\nsaveProgram: () => save(state().item.name + \".asm\
-\", state().text),\nsavePage\n};\nbyId(\"more\").onclick = () => app.sheet.open(byId(\"more\"), \"Menu\", mainMenu(app.sheet, state(), setti\
-ngs, acts));\nbyId(\"again\").onclick = startAgain;\nbyId(\"first\").onclick = () => go(0);\nbyId(\"back\").onclick = () => go(state().at - \
-1);\nbyId(\"forth\").onclick = () => go(state().at + 1);\nbyId(\"last\").onclick = () => go(lengthOf(run()));\nbyId(\"smaller\").onclick = (\
-) => zoomBy(1 / ZOOM);\nbyId(\"larger\").onclick = () => zoomBy(ZOOM);\nfor (const one of document.querySelectorAll(\"#modes button\")) one.\
-onclick = () => app.setMode(one.dataset.mode);\nfor (const one of document.querySelectorAll(\"#tabs button\")) {\none.onclick = () => {\napp\
-.set({ ...state(), pane: one.dataset.pane });\napp.fitted();\n};\n}\nconst moves = {\nArrowRight: () => go(state().at + 1),\nPageDown: () => \
-go(state().at + 1),\nArrowLeft: () => go(state().at - 1),\nPageUp: () => go(state().at - 1),\nHome: () => go(0),\nEnd: () => go(lengthOf(run\
-()))\n};\nconst letters = {\n\" \": play,\n\"+\": () => zoomBy(ZOOM),\n\"=\": () => zoomBy(ZOOM),\n\"-\": () => zoomBy(1 / ZOOM),\n0: () => \
-setZoom(1),\n\"[\": () => app.set(change.besideInTree(state(), -1)),\n\"]\": () => app.set(change.besideInTree(state(), 1)),\np: () => app.s\
-etTab(\"picture\"),\nv: () => app.setTab(\"values\"),\no: () => app.setTab(\"orders\"),\nf: () => acts.set(\"isAlone\", !state().isAlone),\n\
-e: () => {\napp.set({ ...state(), pane: \"code\", isAlone: false });\napp.program.focus();\n},\ns: app.setSide\n};\nconst keys = {\nkeys: mo\
-ves,\nnumber: n => byId(\"next\").querySelectorAll(\".chip\")[n - 1]?.click(),\nletter: sign => {\nconst option = state().mode === \"quiz\" \
-? optionAt(state().quiz, sign) : null;\nif (option !== null) app.set(change.answered(state(), option));\nelse if (letters[sign]) letters[sig\
-n]();\nreturn option !== null || Boolean(letters[sign]);\n},\nescape: field => {\nif (app.sheet.isOpen()) return app.sheet.close(true);\nif \
-(field) return field.blur();\nif (state().isAlone) return acts.set(\"isAlone\", false);\nreturn app.set(change.backToFork(state()));\n},\npr\
-int: () => (isSheet = false)\n};\nlistenToKeys(keys, () => state().hasLetters);\nwindow.addEventListener(\"resize\", () => {\nsetColumns();\n\
-app.fitted();\n});\nconst kept = stored();\nif (kept.theme) setTheme(kept.theme);\nif (kept.letters === false) app.set({ ...state(), hasLett\
-ers: false });\nsetColumns();\nif (kept.zoom) {\ndocument.documentElement.style.setProperty(\"--zoom\", kept.zoom);\napp.set({ ...state(), z\
-oom: kept.zoom });\nsetColumns();\n}\n}\nreturn { makeCommands };\n})();\n// app/lesson.js\nconst m34 = (() => {\nconst { button, h } = m3;\n\
-const { hueOf, threadName } = m1;\nfunction votesOf(program, moment, votes, act) {\nconst able = Object.keys(moment.next).map(Number);\ncons\
-t most = Math.max(0, ...able.map(t => votes[t] || 0));\nconst first = able.filter(t => (votes[t] || 0) === most && most > 0);\nconst name = \
-t => threadName(program, t);\nconst one = t => {\nconst count = votes[t] || 0;\nconst given = {\ntype: \"button\",\ntitle: \"A click counts \
-up, Shift+click down\",\n\"aria-label\": name(t) + \", \" + count + (count === 1 ? \" vote\" : \" votes\"),\nonclick: event => act.vote(t, e\
-vent.shiftKey ? -1 : 1),\noncontextmenu: event => {\nevent.preventDefault();\nact.vote(t, -1);\n}\n};\nreturn h(\"button.vote.\" + hueOf(t), \
-given, h(\"span\", {}, name(t)), h(\"b\", {}, count));\n};\nconst play = button(first.length === 1 ? \"Play \" + name(first[0]) : \"Play\", \
-() => act.choose(\"t\" + first[0]), {\nkind: \".main\",\ndisabled: first.length !== 1\n});\nreturn [\nh(\"p.card-small\", {}, \"Votes: who i\
-s next?\"),\nh(\"div.votes\", {}, able.map(one), play)\n];\n}\nfunction answerOf(one, act) {\nconst run = one.fork ? button(\"Show this run\"\
-, () => act.showFork(...one.fork), { kind: \".card-show\" }) : null;\nconst tab = one.tab ? button(\"Random orders\", () => act.tab(one.tab)\
-, { kind: \".card-show\" }) : null;\nreturn [h(\"p.card-small\", {}, \"Answer\"), h(\"p.card-answer\", {}, one.answer, run, tab)];\n}\nfunct\
-ion dotsOf(step, count) {\nconst label = step < 0 ? \"start\" : step >= count ? \"end\" : \"question \" + (step + 1) + \" of \" + count;\nco\
-nst dot = (_, k) => h(\"i.dot\" + (k === step ? \".is-here\" : k < step ? \".is-done\" : \"\"));\nreturn h(\"span.dots\", { role: \"img\", \"\
-aria-label\": label }, Array.from({ length: count }, dot));\n}\nfunction edgeOf(lesson, step, act) {\nconst isStart = step < 0;\nconst count \
-= lesson.steps.length;\nconst text = isStart\n? \"Step through the run first. Let the class say what each choice does, before you step.\"\n: \
-\"Ask for the quiz, or change a row, and look again.\";\nconst next = isStart && count ? button(\"First question\", () => act.step(1), { kin\
-d: \".main\" }) : null;\nconst back = isStart ? null : button(\"Back\", () => act.step(-1));\nconst head = isStart ? \"Aim\" : \"To remember\
-\";\nreturn [\nh(\"div.card-ask\", {}, h(\"p.card-small\", {}, head), h(\"p.card-large\", {}, isStart ? lesson.aim : lesson.last)),\nh(\"div\
-.card-reply\", {}, h(\"p.card-small\", {}, isStart ? lesson.title : \"End of the lesson\"), h(\"p\", {}, text)),\nh(\"div.card-turn\", {}, d\
-otsOf(step, count), next, back)\n];\n}\nfunction lessonCard({ lesson, step, isOpen, votes }, program, moment, act) {\nconst one = lesson.ste\
-ps[step];\nconst count = lesson.steps.length;\nif (!one) return edgeOf(lesson, step, act);\nconst reply = isOpen\n? answerOf(one, act)\n: on\
-e.votes ? votesOf(program, moment, votes, act) : h(\"p.card-small\", {}, \"\\u00a0\");\nconst next = isOpen\n? button(step + 1 < count ? \"N\
-ext question\" : \"End\", () => act.step(1), { kind: \".main\" })\n: button(\"Answer\", act.answer, { kind: \".main\" });\nreturn [\nh(\n\"d\
-iv.card-ask\",\n{},\nh(\"p.card-small\", {}, \"Question \" + (step + 1) + \" of \" + count),\nh(\"p.card-large\", {}, one.ask)\n),\nh(\"div.\
-card-reply\", {}, reply),\nh(\"div.card-turn\", {}, dotsOf(step, count), button(\"Back\", () => act.step(-1)), next)\n];\n}\nreturn { lesson\
-Card };\n})();\n// app/outcomes.js\nconst m35 = (() => {\nconst { playRun } = m13;\nconst { choicesOfPlan } = m15;\nconst { openProgram } = \
-m18;\nconst { scheduleOf } = m14;\nconst { readTrace } = m16;\nconst SEEDS = 300;\nconst LONGEST = 2000;\nconst outcomeKey = end => JSON.str\
-ingify([end.word, end.threads.map(one => [one.status, one.code, one.out])]);\nfunction outcomesOf(text, seeds, told = () => {}) {\nconst pro\
-gram = openProgram(text);\nconst found = new Map();\nfor (let seed = 1; seed <= seeds; seed++) {\nconst plan = \"?\" + seed + \"*\" + LONGES\
-T;\nconst { choices } = choicesOfPlan(program.text, plan);\nconst { events: read, end } = readTrace(playRun(program.text, scheduleOf(choices\
-)));\nconst events = [...read];\nconst key = outcomeKey(end);\nconst one = found.get(key) || { key, count: 0, plan, end, choices, events };\n\
-found.set(key, one);\none.count++;\nif (choices.length < one.choices.length) Object.assign(one, { plan, choices, events, end });\nif (seed % \
-10 === 0) told(seed);\n}\nreturn { tried: seeds, all: [...found.values()].sort((a, b) => b.count - a.count) };\n}\nreturn { SEEDS, outcomeKe\
-y, outcomesOf };\n})();\n// app/orders.js\nconst m36 = (() => {\nconst { endKind, endText, outputText } = m2;\nconst { button, h } = m3;\nco\
-nst { SEEDS } = m35;\nconst { planOf } = m15;\nconst SHOWN = 40;\nfunction outcomeOf(program, one, most, take) {\nconst output = outputText(\
-program, one.end);\nreturn h(\n\"button.outcome.outcome-\" + endKind(one.end),\n{ type: \"button\", onclick: () => take(one), title: \"Show \
-this run\" },\nh(\"span.outcome-count\", {}, one.count),\nh(\"span.meter\", { vars: { \"--part\": one.count / most } }, h(\"i\")),\nh(\n\"sp\
-an.outcome-said\",\n{},\nh(\"b\", {}, endText(program, one.end)),\nh(\"span\", {}, output ? \"output: \" + output : \"no output\"),\nh(\"cod\
-e\", {}, planOf(program, one.events, 8))\n)\n);\n}\nfunction ordersOf(program, orders, working, act) {\nif (working) {\nreturn [\nh(\"p.hint\
-\", { role: \"status\" }, working.done + \" of \" + SEEDS + \" random orders are played.\"),\nh(\"span.meter\", { vars: { \"--part\": workin\
-g.done / SEEDS } }, h(\"i\")),\nbutton(\"Stop\", act.stop)\n];\n}\nif (!orders) {\nreturn [\nh(\n\"p.hint\",\n{},\n\"Plays \" + SEEDS + \" r\
-andom orders of this program, and groups them by how they end and what they put out.\"\n),\nbutton(\"Play \" + SEEDS + \" random orders\", a\
-ct.play, { kind: \".main\" })\n];\n}\nconst most = Math.max(...orders.all.map(one => one.count));\nconst said = orders.all.length === 1\n? \"\
-one outcome.\"\n: orders.all.length + \" outcomes. Click one to see such a run.\";\nconst rest = orders.all.length - SHOWN;\nreturn [\nh(\"p\
-.hint\", {}, orders.tried + \" random orders: \" + said),\nh(\"div.outcomes\", {}, orders.all.slice(0, SHOWN).map(one => outcomeOf(program, \
-one, most, act.take))),\nrest > 0 ? h(\"p.hint\", {}, rest + \" more outcomes\") : null\n];\n}\nreturn { ordersOf };\n})();\n// app/program.\
-js\nconst m37 = (() => {\nconst { DIRECTIVES, KINDS } = m0;\nconst { byId, fill, h } = m3;\nconst { hueOf, javaText, threadName } = m1;\ncon\
-st LONG = 20000;\nconst OPTIONS = /^(parent|phase|never|until|onadvance|action)$/;\nfunction kindOf(word) {\nif (word.endsWith(\":\")) retur\
-n \"label\";\nif (DIRECTIVES.includes(word)) return \"directive\";\nif (KINDS[word]) return \"word\";\nif (OPTIONS.test(word)) return \"opti\
-on\";\nreturn /^(r[0-7]|-?\\d+)$/.test(word) ? \"register\" : \"object\";\n}\nfunction coloured(line) {\nconst cut = line.indexOf(\";\");\nc\
-onst code = cut < 0 ? line : line.slice(0, cut);\nconst parts = code.split(/(\\s+)/).map(part => (part.trim() ? h(\"span.code-\" + kindOf(pa\
-rt), {}, part) : part));\nconst talk = cut < 0 ? null : h(\"span.code-\" + (line[cut + 1] === \"?\" ? \"asked\" : \"talk\"), {}, line.slice(\
-cut));\nreturn [...parts, talk];\n}\nfunction makeProgram(changed, planned) {\nconst margin = h(\"div.code-margin\", { \"aria-hidden\": \"tr\
-ue\" });\nconst copy = h(\"pre.code-copy\", { \"aria-hidden\": \"true\" });\nconst marks = h(\"div.code-marks\", { \"aria-hidden\": \"true\" \
-});\nconst bubble = h(\"div.code-bubble\", { role: \"status\", \"aria-live\": \"polite\", id: \"mistake\", hidden: true });\nconst plainly = \
-{ spellcheck: \"false\", autocapitalize: \"off\", autocomplete: \"off\" };\nconst text = h(\"textarea.code-typed\", {\n...plainly,\nwrap: \"\
-off\",\n\"aria-label\": \"Program. It is played again as you type\",\n\"aria-describedby\": \"mistake\",\noninput: () => {\ngrow();\npaint()\
-;\nchanged(text.value);\n}\n});\nconst sheet = h(\"div.code-sheet\", {}, margin, h(\"div.code-over\", {}, marks, copy, text, bubble));\ncons\
-t scroll = h(\"div.scroll.code-scroll\", {}, sheet);\nconst plan = h(\"input.plan-typed\", {\n...plainly,\ntype: \"text\",\nid: \"plan\",\n\"\
-aria-describedby\": \"planhelp\",\ntitle: \"ann. is ann until she waits or ends, ann is one turn, .. is all until the end, ?7 a random order\
-\",\noninput: () => planned(plan.value)\n});\nconst help = h(\"span.plan-help\", { role: \"status\", id: \"planhelp\" });\nfill(byId(\"code\"\
-), scroll, h(\"div.plan\", {}, h(\"label\", { for: \"plan\" }, \"Plan\"), plan, help));\nlet shown = null;\nfunction grow() {\nconst lines = \
-text.value.split(\"\\n\");\nsheet.style.setProperty(\"--lines\", lines.length + 1);\nsheet.style.setProperty(\"--columns\", lines.reduce((mo\
-st, line) => Math.max(most, line.length), 20) + 2);\n}\nfunction paint() {\nfill(copy, text.value.split(\"\\n\").map((line, n) => h(\"span\"\
-, {}, coloured(line), javaOf(n), \"\\n\")));\n}\nfunction javaOf(line) {\nif (!shown || !shown.isJava || shown.mistake) return null;\nconst \
-row = shown.tree.program.lineOf.indexOf(line);\nreturn row < 0\n? null\n: h(\"span.code-java\", {}, \"  \" + javaText(shown.tree.program, sh\
-own.tree.program.rows[row]));\n}\nfunction show(what, moment, event) {\nconst isOther = text.value !== what.text;\nconst wasJava = shown && \
-shown.isJava;\nconst isMended = Boolean(shown && shown.mistake) !== Boolean(what.mistake);\nshown = what;\nif (isOther) {\ntext.value = what\
-.text;\nscroll.scrollTop = 0;\n}\nshowPlan(what.plan);\nif (isOther || !copy.firstChild || wasJava !== what.isJava || (what.isJava && isMend\
-ed)) {\ngrow();\npaint();\n}\nshowPlaces(moment, event);\nshowMistake(what.mistake);\n}\nfunction showPlan(written) {\nconst isLong = writte\
-n.length > LONG;\nplan.placeholder = isLong ? \"the schedule of this page\" : \"\";\nif (plan !== document.activeElement && plan.value !== w\
-ritten) plan.value = isLong ? \"\" : written;\n}\nfunction showPlaces(moment, event) {\nfill(margin);\nfill(marks);\nif (shown.mistake && sh\
-own.mistake.isProgram) return;\nconst { program } = shown.tree;\nconst at = new Map();\nmoment.state.threads.forEach((thread, t) => {\nif (/\
-ended|died/.test(thread.status)) return;\nconst line = program.lineOf[thread.row];\nat.set(line, [...(at.get(line) || []), t]);\n});\nconst \
-sign = (t, list) => {\nconst room = list.length > 2 ? 1 : list.length > 1 ? 2 : 4;\nreturn h(\"i.place.\" + hueOf(t), { title: threadName(pr\
-ogram, t) }, threadName(program, t).slice(0, room));\n};\nconst places = ([line, list]) => {\nconst more = list.length > 3 ? h(\"i.place\", \
-{}, \"+\" + (list.length - 3)) : null;\nreturn h(\"span.places\", { vars: { \"--line\": line } }, list.slice(0, 3).map(t => sign(t, list)), \
-more);\n};\nfill(margin, [...at].map(places));\nconst line = event && event.row >= 0 ? program.lineOf[event.row] : -1;\nif (line < 0) return\
-;\nfill(marks, h(\"span.code-now\", { vars: { \"--line\": line } }));\nif (document.activeElement !== text) requestAnimationFrame(() => brin\
-gIn(line));\n}\nfunction bringIn(line) {\nconst high = text.offsetHeight / (text.value.split(\"\\n\").length + 1);\nconst top = line * high;\
-\nconst isIn = top >= scroll.scrollTop && top + high * 2 <= scroll.scrollTop + scroll.clientHeight;\nif (!isIn) scroll.scrollTop = Math.max(\
-0, top - scroll.clientHeight / 2);\n}\nfunction showMistake(mistake) {\nconst isPlan = Boolean(mistake) && !mistake.isProgram;\nbubble.hidde\
-n = !mistake || isPlan;\ntext.setAttribute(\"aria-invalid\", String(!bubble.hidden));\nplan.setAttribute(\"aria-invalid\", String(isPlan));\n\
-help.textContent = isPlan ? mistake.means + \".\" + (mistake.helps ? \" \" + mistake.helps + \".\" : \"\") : \"\";\nif (bubble.hidden) retur\
-n;\nconst line = mistake.line === null ? 0 : mistake.line - 1;\nmarks.append(h(\"span.code-bad\", { vars: { \"--line\": line } }));\nif (mis\
-take.word) {\nconst [from, to] = mistake.word;\nmarks.append(\nh(\"span.code-wave\", { vars: { \"--line\": line, \"--from\": from, \"--wide\"\
-: Math.max(1, to - from) } })\n);\n}\nbubble.style.setProperty(\"--line\", line);\nconst where = mistake.line === null ? \"\" : \"Line \" + \
-mistake.line + \": \";\nconst mend = h(\"button.code-mend\", { type: \"button\", onclick: () => mended(mistake) }, mistake.near);\nconst hel\
-ps = mistake.near ? [\" Did you mean \", mend, \"?\"] : mistake.helps ? \" \" + mistake.helps + \".\" : \"\";\nfill(bubble, h(\"b\", {}, whe\
-re, mistake.means + \".\"), helps);\n}\nfunction mended(mistake) {\nconst lines = text.value.split(\"\\n\");\nconst line = lines[mistake.lin\
-e - 1];\nlines[mistake.line - 1] = line.slice(0, mistake.word[0]) + mistake.near + line.slice(mistake.word[1]);\ntext.value = lines.join(\"\\\
-n\");\ngrow();\npaint();\nchanged(text.value);\ntext.focus();\n}\nreturn { show, focus: () => text.focus() };\n}\nreturn { makeProgram };\n}\
-)();\n// app/scene.js\nconst m38 = (() => {\nconst { arrivalsOf } = m28;\nconst { fill, fly, h, pulse, s, shown } = m3;\nconst { nameOf, ope\
-randOf, rootOf } = m0;\nconst { hueOf, phaseOf, threadName } = m1;\nconst { arrivalsText, lastNumberOf } = m29;\nconst { eventTo } = m18;\nc\
-onst { doingOf } = m16;\nconst { whyOf, whysOf } = m30;\nconst MANY = 12;\nconst SHOWN = 24;\nfunction makeScene(act) {\nconst edges = s(\"s\
-vg.edges\", { \"aria-hidden\": \"true\" });\nconst cards = h(\"div.cards\");\nconst crowd = h(\"div.crowd\");\nconst whys = h(\"ul.whys\", { \
-\"aria-label\": \"Who waits, and for whom\" });\nconst space = h(\"div.space\", {}, edges, cards, crowd);\nconst label = \"Phasers, barriers \
-and threads\";\nconst element = h(\"div.scene.scroll\", { tabindex: 0, role: \"group\", \"aria-label\": label }, space, whys);\nlet last = n\
-ull;\nnew ResizeObserver(() => drawEdges(space, edges)).observe(space);\nfunction show(what) {\nconst before = last;\nlast = what;\nconst is\
-Step = before && before.tree.program === what.tree.program && before.run === what.run &&\nbefore.at + 1 === what.at;\nfly(space, () => draw(\
-what));\ndrawEdges(space, edges);\nif (isStep) move(space, what.tree.program, eventTo(what.run, what.at));\n}\nfunction draw(what) {\nconst \
-{ program } = what.tree;\nconst { state } = what.moment;\nconst things = program.phasers.length + program.barriers.length;\nconst scene = {\n\
-...what,\nprogram,\nstate,\nseated: new Set(),\nfold: arrivalsOf(what.tree, what.run.id, what.at),\nkeepsRoom: program.threads.length <= 8 &\
-& things <= 2,\nact\n};\nconst roots = program.phasers.flatMap((one, p) => (one.parent < 0 ? [p] : []));\nfill(cards, roots.map(p => branchO\
-f(scene, p)), program.barriers.map((_, b) => barrierCard(scene, b)));\ncards.classList.toggle(\"is-stuck\", state.word === \"stuck\");\nelem\
-ent.classList.toggle(\"is-roomy\", program.threads.length + things <= 8);\nfill(crowd, crowdOf(scene));\ndrawWhys(scene);\n}\nfunction drawW\
-hys({ program, moment, selected, tree, run, at }) {\nconst all = whysOf(program, moment);\nconst isTold = one => /stuck|waits|free|dead/.tes\
-t(one.kind);\nconst chosen = selected && selected.thread !== undefined ? whyOf(program, moment, selected.thread) : null;\nconst lines = [];\n\
-if (selected && selected.phaser !== undefined) {\nlines.push(h(\"li.why.is-selected\", {}, shown(program, arrivalsText(tree, run, at, select\
-ed.phaser))));\n}\nif (chosen) {\nconst number = lastNumberOf(tree, run, at, chosen.thread);\nconst more = number ? h(\"span.why-number\", {\
-}, shown(program, number)) : null;\nlines.push(h(\"li.why.is-selected.why-\" + chosen.kind, {}, h(\"span\", {}, shown(program, chosen.text))\
-, more));\n}\nconst rest = all.filter(one => isTold(one) && (!chosen || one.thread !== chosen.thread));\nfor (const one of rest.slice(0, SHO\
-WN)) lines.push(h(\"li.why.why-\" + one.kind, {}, shown(program, one.text)));\nif (rest.length > SHOWN) lines.push(h(\"li.why\", {}, \"and \" \
-+ (rest.length - SHOWN) + \" more\"));\nif (!lines.length) lines.push(\nh(\"li.why.why-hint\", {}, \"Nobody waits. Click a thread or a phase\
-r: its line stands here.\")\n);\nfill(whys, lines);\nfor (const t of chosen ? chosen.could : []) {\nspace.querySelector('[data-fly=\"t' + t \
-+ '\"]')?.classList.add(\"is-able\");\n}\n}\nreturn { element, show };\n}\nfunction tokenOf({ program, moment, selected, act }, t, kind = \"\
-\") {\nconst doing = doingOf(moment, t);\nconst isSelected = Boolean(selected) && selected.thread === t;\nconst given = {\ntype: \"button\",\
-\n\"data-fly\": \"t\" + t,\n\"aria-pressed\": String(isSelected),\ntitle: threadName(program, t) + \": why?\",\nonclick: () => act.thread(t)\
-\n};\nreturn h(\"button.token.\" + hueOf(t) + \".token-\" + doing + kind, given, threadName(program, t));\n}\nconst standsAt = ({ program, s\
-tate }, t, kind) =>\nstate.threads[t].status === \"waits\" ? operandOf(program.rows[state.threads[t].row], kind) : -1;\nfunction visitorsOf(\
-scene, label, list) {\nif (!list.length && !scene.keepsRoom) return null;\nconst more = list.length > 16 ? \"+\" + (list.length - 16) : null\
-;\nconst said = list.length ? h(\"span\", {}, label) : null;\nreturn h(\"div.visitors\", {}, said, list.slice(0, 16).map(t => tokenOf(scene, \
-t, \".is-visitor\")), more);\n}\nfunction seatOf(scene, p, k, taken, who) {\nconst { program, seated, moment } = scene;\nif (k >= taken) ret\
-urn h(\"span.seat\", { role: \"img\", \"aria-label\": \"an arrival is missing\" });\nconst t = who[k] ? who[k].thread : undefined;\nconst is\
-Here = t !== undefined && !seated.has(t) && standsAt(scene, t, \"P\") === p && doingOf(moment, t) === \"waits\";\nif (isHere) {\nseated.add(\
-t);\nreturn h(\"span.seat.is-full\", {}, tokenOf(scene, t));\n}\nif (t === undefined) return h(\"span.seat.is-full.is-gone\", { title: \"arr\
-ived\" }, \"\\u2713\");\nconst name = threadName(program, t);\nreturn h(\n\"span.seat.is-full.is-gone\",\n{ title: name + \" arrived, and we\
-nt on\" },\nh(\"span.seat-been.\" + hueOf(t), {}, \"\\u2713 \" + name)\n);\n}\nfunction phaserCard(scene, p) {\nconst { program, state, fold\
-, seated, moment, selected, act } = scene;\nconst one = state.phasers[p];\nconst isRoot = program.phasers[p].parent < 0;\nconst kids = progr\
-am.children[p].filter(child => state.phasers[child].parties > 0);\nconst kidsIn = kids.filter(child => state.phasers[child].missing === 0);\n\
-const taken = Math.max(0, one.arrived - kidsIn.length);\nconst own = Math.max(0, one.parties - kids.length);\nconst who = taken ? fold.arriv\
-ed[p].slice(-taken) : [];\nconst kid = child => {\nconst given = { \"data-child\": child };\nreturn h(\"span.seat.seat-child\" + (kidsIn.inc\
-ludes(child) ? \".is-full\" : \"\"), given, nameOf(program, \"P\", child));\n};\nconst seats = kids.map(kid);\nif (own > MANY) seats.push(h(\
-\"span.meter\", { vars: { \"--part\": taken / own } }, h(\"i\")));\nelse for (let k = 0; k < own; k++) seats.push(seatOf(scene, p, k, taken, \
-who));\nconst visitors = program.threads.map((_, t) => t).filter(t => !seated.has(t) && standsAt(scene, t, \"P\") === p);\nvisitors.forEach(\
-t => seated.add(t));\nconst isOver = one.view < 0;\nconst name = nameOf(program, \"P\", p);\nconst phase = isOver ? \"terminated\" : h(\"spa\
-n\", {}, \"phase \", h(\"b\", {}, phaseOf(one.view)));\nconst isSaid = isRoot || one.view !== state.phasers[rootOf(program, p)].view;\nconst \
-isSelected = Boolean(selected) && selected.phaser === p;\nconst given = {\ntype: \"button\",\n\"aria-pressed\": String(isSelected),\ntitle: \
-name + \": who arrived?\",\nonclick: () => act.phaser(p)\n};\nconst head = h(\n\"p.thing-head\",\n{},\nh(\"button.thing-name\", given, name)\
-,\nisSaid ? h(\"span.thing-phase\", {}, phase) : null,\nh(\"span.thing-count\", {}, one.parties ? one.arrived + \" of \" + one.parties : \"e\
-mpty\")\n);\nconst label = visitors.some(t => doingOf(moment, t) === \"free\") ? \"released\" : \"waiting\";\nconst kinds = (isOver ? \".is-\
-terminated\" : \"\") + (isRoot ? \"\" : \".is-child\");\nconst group = { \"data-phaser\": p, role: \"group\", \"aria-label\": \"Phaser \" + \
-name };\nreturn h(\"div.thing.phaser\" + kinds, group, head, h(\"div.seats\", {}, seats), visitorsOf(scene, label, visitors));\n}\nfunction \
-branchOf(scene, p) {\nconst kids = scene.program.children[p];\nconst card = phaserCard(scene, p);\nreturn h(\"div.branch\", {}, card, kids.l\
-ength ? h(\"div.kids\", {}, kids.map(child => branchOf(scene, child))) : null);\n}\nfunction barrierCard(scene, b) {\nconst { program, state\
-, seated, moment } = scene;\nconst { isBroken, waiting } = state.barriers[b];\nconst { parties } = program.barriers[b];\nconst name = nameOf\
-(program, \"B\", b);\nconst here = program.threads.map((_, t) => t).filter(t => standsAt(scene, t, \"B\") === b);\nconst inside = here.filte\
-r(t => doingOf(moment, t) === \"waits\");\nconst freed = here.filter(t => doingOf(moment, t) !== \"waits\");\nconst keeps = isBroken ? [] : \
-[...inside, ...freed].slice(0, waiting);\nconst out = here.filter(t => !keeps.includes(t));\nhere.forEach(t => seated.add(t));\nconst seats \
-= [];\nif (parties > MANY) seats.push(h(\"span.meter\", { vars: { \"--part\": waiting / parties } }, h(\"i\")));\nelse {\nfor (let k = 0; k \
-< parties; k++) {\nconst missing = { role: \"img\", \"aria-label\": \"one has to come\" };\nseats.push(k < keeps.length ? h(\"span.seat.is-f\
-ull\", {}, tokenOf(scene, keeps[k])) : h(\"span.seat\", missing));\n}\n}\nconst head = h(\n\"p.thing-head\",\n{},\nh(\"b.thing-name\", {}, n\
-ame),\nh(\"span.thing-phase\", {}, isBroken ? \"broken\" : \"barrier\"),\nh(\"span.thing-count\", {}, waiting + \" of \" + parties)\n);\ncon\
-st group = { \"data-barrier\": b, role: \"group\", \"aria-label\": \"Barrier \" + name };\nconst gateway = h(\"div.gateway\", {}, h(\"div.se\
-ats\", {}, seats), gateOf(isBroken));\nconst visitors = visitorsOf(scene, isBroken ? \"will throw\" : \"released\", out);\nreturn h(\"div.th\
-ing.barrier\" + (isBroken ? \".is-broken\" : \"\"), group, head, gateway, visitors);\n}\nfunction gateOf(isBroken) {\nconst whole = [\"M16 1\
-0V52\", \"M26 10V52\", \"M36 10V52\", \"M46 10V52\"];\nconst bars = isBroken ? [\"M14 12L22 40\", \"M23 9L40 26\", \"M30 48L47 32\", \"M44 8\
-L50 18\"] : whole;\nconst given = { viewBox: \"0 0 62 60\", role: \"img\", \"aria-label\": isBroken ? \"a broken gate\" : \"a gate\" };\ncon\
-st rail = isBroken ? null : s(\"path.gate-rail\", { d: \"M5 16H57M5 46H57\" });\nreturn s(\n\"svg.gate\",\ngiven,\ns(\"path.gate-post\", { d\
-: \"M5 4V56M57 4V56\" }),\nrail,\nbars.map(d => s(\"path.gate-bar\", { d }))\n);\n}\nfunction crowdOf(scene) {\nconst { program, state, mome\
-nt, seated } = scene;\nconst rest = program.threads.map((_, t) => t).filter(t => !seated.has(t));\nconst isOver = t => /over|dead/.test(doin\
-gOf(moment, t));\nconst member = t => {\nconst { out, isInterrupted } = state.threads[t];\nconst output = out.length ? h(\"span.crowd-output\
-\", { title: \"its output\" }, out.slice(-4).join(\" \")) : null;\nconst flag = isInterrupted\n? h(\"span.crowd-flag\", { title: \"interrupt\
-ed\", role: \"img\", \"aria-label\": \"interrupted\" }, \"\\u26A1\\uFE0E\")\n: null;\nreturn h(\"span.crowd-one\", {}, tokenOf(scene, t), ou\
-tput, flag);\n};\nconst group = (label, list) => {\nif (!list.length) return null;\nconst more = list.length > SHOWN ? \"and \" + (list.leng\
-th - SHOWN) + \" more\" : null;\nreturn h(\"div.crowd-group\", {}, h(\"span.crowd-label\", {}, label), list.slice(0, SHOWN).map(member), mor\
-e);\n};\nreturn [group(\"on the way\", rest.filter(t => !isOver(t))), group(\"over\", rest.filter(isOver))];\n}\nfunction drawEdges(space, e\
-dges) {\nif (!space.querySelector(\".is-child\")) return fill(edges);\nconst frame = space.getBoundingClientRect();\nconst list = [];\nfor (\
-const card of space.querySelectorAll(\".thing.is-child\")) {\nconst parent = card.closest(\".kids\").previousElementSibling;\nconst seat = p\
-arent.querySelector('[data-child=\"' + card.dataset.phaser + '\"]');\nconst from = card.getBoundingClientRect();\nconst to = (seat || parent\
-).getBoundingClientRect();\nconst x1 = from.left + from.width / 2 - frame.left;\nconst y1 = from.top - frame.top;\nconst x2 = to.left + to.w\
-idth / 2 - frame.left;\nconst y2 = to.bottom - frame.top;\nconst middle = (y1 + y2) / 2;\nconst kind = !seat ? \"loose\" : seat.classList.co\
-ntains(\"is-full\") ? \"full\" : \"open\";\nlist.push(s(\"path.edge-\" + kind, { d: `M${x1} ${y1}C${x1} ${middle} ${x2} ${middle} ${x2} ${y2\
-}` }));\n}\nedges.setAttribute(\"width\", frame.width);\nedges.setAttribute(\"height\", frame.height);\nfill(edges, list);\n}\nfunction move\
-(space, program, event) {\nif (event.mark) {\nconst isBarrier = event.mark.kind[1] === \"b\";\nconst things = isBarrier\n? [...space.querySe\
-lectorAll('[data-barrier=\"' + event.mark.on + '\"]')]\n: [...space.querySelectorAll(\"[data-phaser]\")].filter(\ncard => rootOf(program, Nu\
-mber(card.dataset.phaser)) === event.mark.on\n);\nconst shakes = [{ transform: \"rotate(-1.2deg)\" }, { transform: \"rotate(1deg)\" }, { tra\
-nsform: \"none\" }];\nconst grows = [{ transform: \"scale(1.05)\", boxShadow: \"0 0 0 .4rem var(--go)\" }, { transform: \"none\" }];\nfor (c\
-onst thing of things) pulse(thing, event.mark.kind === \"-b\" ? shakes : grows);\n}\nif (/^(throw|die)$/.test(event.what)) {\nconst shift = \
-x => ({ transform: \"translateX(\" + x + \"rem)\" });\npulse(\nspace.querySelector('[data-fly=\"t' + event.thread + '\"]'),\n[shift(-0.4), s\
-hift(0.4), shift(-0.2), shift(0)]\n);\n}\n}\nreturn { makeScene };\n})();\n// app/stage.js\nconst m39 = (() => {\nconst { endKind, endText, \
-outputText } = m2;\nconst { byId, fill, h, shown } = m3;\nconst { hueOf, threadName } = m1;\nconst { reasonOf, strayOf } = m29;\nconst { eve\
-ntTo, lengthOf, momentOf } = m18;\nconst { refusedText, sentenceOf, wouldText } = m23;\nconst { isVeiled, runOf } = m32;\nconst eventOf = (m\
-oment, token) => (token[0] === \"x\" ? moment.late : moment.next)[Number(token.slice(1))];\nfunction saidOf(state) {\nconst { tree, at, mist\
-ake } = state;\nconst run = runOf(state);\nconst { program } = tree;\nif (mistake) {\nconst where = mistake.isProgram\n? \"The program has a \
-mistake\" + (mistake.line ? \" in line \" + mistake.line : \"\")\n: \"The plan has a mistake\";\nreturn { badge: \"!\", kind: \"wrong\", par\
-ts: [where + \". The run below is the last that could be played.\"] };\n}\nconst moment = momentOf(tree, run.id, at);\nconst tried = state.p\
-review && eventOf(moment, state.preview);\nif (tried) return {\nbadge: \"?\",\nkind: \"would\",\nparts: [\"If it\\u2019s next: \", ...wouldT\
-ext(program, tried, moment)]\n};\nconst { word } = moment.state;\nconst kind = { stuck: \"stuck\", all: \"ended\" }[word] || \"\";\nconst en\
-d = { stuck: \" Stuck: no thread can ever go on.\", all: \" All threads are over.\" }[word] || \"\";\nconst isRefused = run.refused && at ==\
-= lengthOf(run);\nconst verdict = isRefused ? \" \" + refusedText(run.refused, at + 1) : end;\nif (!at) return {\nbadge: 0,\nkind,\nverdict,\
-\nparts: [program.about || \"Each thread is at its first row. Who goes first?\"]\n};\nconst parts = sentenceOf(program, eventTo(run, at), mo\
-mentOf(tree, run.id, at - 1), moment);\nconst reasons = isVeiled(state) ? [] : [reasonOf(tree, run.id, at), strayOf(tree, run.id, at)];\ncon\
-st reason = reasons.filter(Boolean).join(\" \");\nreturn { badge: at, kind, verdict, parts, reason };\n}\nfunction drawSaid(state) {\nconst \
-{ badge, kind, parts, verdict, reason } = saidOf(state);\nbyId(\"said\").dataset.kind = kind;\nconst end = verdict ? h(\"strong.said-verdict\
-\", {}, verdict) : null;\nconst why = reason ? h(\"span.said-reason\", {}, \" \" + reason) : null;\nfill(\nbyId(\"said\"),\nh(\"span.said-ba\
-dge\", {}, badge),\nh(\"span.said-text\", {}, shown(state.tree.program, parts), end, why)\n);\n}\nfunction drawNext(state, act) {\nconst { t\
-ree, at } = state;\nconst run = runOf(state);\nconst { program } = tree;\nconst moment = momentOf(tree, run.id, at);\nconst own = state.isHi\
-dden || isVeiled(state) || state.mode === \"quiz\" ? \"\" : run.choices[at];\nconst all = [...Object.values(moment.next), ...Object.values(m\
-oment.late)];\nconst key = [program.text.length, at, run.id, own, ...all.map(one => one.token)].join(\" \");\nif (byId(\"next\").dataset.key \
-=== key) return;\nconst hadFocus = byId(\"next\").contains(document.activeElement);\nbyId(\"next\").dataset.key = key;\nconst chip = (event, \
-k) => {\nconst isOwn = event.token === own;\nconst kinds = \".chip.\" + hueOf(event.thread) + (event.isLate ? \".chip-late\" : \"\") + (isOw\
-n ? \".chip-own\" : \"\");\nconst given = {\ntype: \"button\",\n\"data-token\": event.token,\ntitle: (isOwn ? \"The run goes on so\" : \"Ano\
-ther run\") + (k < 9 ? \" (key \" + (k + 1) + \")\" : \"\"),\nonclick: () => act.choose(event.token),\nonpointerenter: () => act.tryOut(even\
-t.token),\nonpointerleave: () => act.tryOut(\"\"),\nonfocus: () => act.tryOut(event.token),\nonblur: () => act.tryOut(\"\")\n};\nconst name \
-= threadName(program, event.thread);\nif (event.isLate) given[\"aria-label\"] = \"the time-out of \" + name;\nreturn h(\"button\" + kinds, g\
-iven, (event.isLate ? \"\\u23F1\\uFE0E \" : \"\") + name);\n};\nconst label = all.length ? \"Next:\" : moment.state.word === \"stuck\" ? \"N\
-obody may go\" : \"All are over\";\nfill(byId(\"next\"), h(\"span.next-label\", {}, label), all.map(chip));\nif (hadFocus) (byId(\"next\").q\
-uerySelector(\".chip-own, .chip\") || byId(\"forth\")).focus();\n}\nfunction drawStage(state, act) {\nconst { tree, at } = state;\nconst run \
-= runOf(state);\ndrawSaid(state);\nconst isCut = state.isCut && run.parent < 0;\nconst all = state.isHidden ? \"\" : \" of \" + lengthOf(run\
-) + (isCut ? \"\\u2026\" : \"\");\nfill(byId(\"where\"), h(\"b\", {}, at), all);\nbyId(\"where\").title = isCut ? \"The plan goes on; the fi\
-rst \" + lengthOf(run) + \" choices are shown\" : \"\";\ndrawNext(state, act);\nbyId(\"first\").disabled = byId(\"back\").disabled = at === \
-0;\nbyId(\"forth\").disabled = byId(\"last\").disabled = at === lengthOf(run);\nconst kind = endKind(run.end);\nconst isQuiet = state.isHidd\
-en || state.mode === \"quiz\";\nconst end = \"Run \" + (run.id + 1) + (kind === \"open\" ? \" stays open\" : \": \" + endText(tree.program, \
-run.end));\nfill(byId(\"ends\"), isQuiet ? \"\" : h(\"span.end.end-\" + kind, { title: outputText(tree.program, run.end) }, end));\n}\nretur\
-n { drawStage };\n})();\n// app/timeline.js\nconst m40 = (() => {\nconst { fill, h } = m3;\nconst { hueOf, threadName } = m1;\nconst { event\
-To, hasMoment, lengthOf, momentOf } = m18;\nconst { shortMark, tagOf } = m23;\nconst { doingOf } = m16;\nconst BUDGET = 8;\nconst ROOM = 100\
-000;\nconst EDGE = 1000;\nconst AROUND = 6;\nconst DOING = {\nruns: \"runs\",\nwaits: \"waits\",\nfree: \"may go on\",\nheld: \"can\\u2019t \
-go on\",\nthrows: \"throws\",\nover: \"is over\",\ndead: \"is dead\"\n};\nfunction makeTimeline(go, select) {\nconst names = h(\"div.time-na\
-mes\", { role: \"row\" });\nconst lanes = h(\"div.time-lanes\", { \"aria-hidden\": \"true\" });\nconst lines = h(\"div.time-lines\", { role: \
-\"rowgroup\" });\nconst body = h(\"div.time-body\", { role: \"presentation\" }, lanes, lines);\nconst label = \"Timeline: a column for each \
-thread, a row for each choice\";\nconst scroll = h(\n\"div.scroll.time-scroll\",\n{ tabindex: 0, role: \"table\", \"aria-label\": label, ons\
-croll: () => scrolled() },\nnames,\nbody\n);\nconst head = h(\"p.time-head\");\nconst element = h(\"div.time\", {}, head, scroll);\nlet show\
-n = null;\nlet rows = null;\nlet whole = 0;\nlet origin = 0;\nlet size = { row: 30, number: 50, column: 80, rem: 16 };\nlet view = { top: 0, \
-left: 0, height: 0, width: 0 };\nlet drawn = \"\";\nlet pending = 0;\nbody.addEventListener(\"click\", event => {\nconst k = Math.floor((eve\
-nt.clientY - body.getBoundingClientRect().top) / size.row);\nif (shown && k >= 0 && k < count()) go(choiceAt(k));\n});\nnew ResizeObserver((\
-) => redraw()).observe(scroll);\nfunction scrolled() {\nview = { ...view, top: scroll.scrollTop, left: scroll.scrollLeft };\ndraw();\n}\nfun\
-ction scrollTo(top, left) {\nconst most = bodyHeight() + 2.3 * size.rem - view.height;\nview = { ...view, top: Math.max(0, Math.min(top, mos\
-t)), left: Math.max(0, left) };\nscroll.scrollTo(view.left, view.top);\n}\nconst bodyHeight = () => (count() + 0.6) * size.row;\nconst count \
-= () => Math.min(ROOM, whole - origin);\nconst choiceAt = k => (rows ? rows[origin + k] : origin + k);\nconst rowOf = i => (rows ? rows.inde\
-xOf(i) : i) - origin;\nfunction fold() {\nconst { run, at, isFolded, isHidden } = shown;\nconst last = isHidden ? at : lengthOf(run);\nrows \
-= isFolded ? [] : null;\nif (isFolded) for (let i = 0; i <= last; i++) if (!i || i === at || !run.events.isIdle(i - 1)) rows.push(i);\nwhole \
-= rows ? rows.length : last + 1;\nconst here = rows ? rows.indexOf(at) : at;\nconst most = Math.max(0, whole - ROOM);\nconst isBelow = here \
-< origin + EDGE && origin > 0;\nconst isAbove = here > origin + ROOM - EDGE && origin < most;\nif (isBelow || isAbove || origin > most) orig\
-in = Math.max(0, Math.min(most, here - ROOM / 2));\n}\nfunction measure() {\nsize.rem = parseFloat(getComputedStyle(document.documentElement\
-).fontSize);\nview = { top: scroll.scrollTop, left: scroll.scrollLeft, height: scroll.clientHeight, width: scroll.clientWidth };\ndivide();\n\
-}\nfunction divide() {\nconst { rem } = size;\nconst threads = shown.tree.program.threads.length;\nconst number = Math.max(2.6, String(lengt\
-hOf(shown.run)).length * 0.62 + 1.2) * rem;\nconst least = (threads <= 8 ? 5.4 : 3.2) * rem;\nconst column = Math.max(least, (view.width - n\
-umber - 4) / threads);\nconst isWide = number + column * threads > view.width + 4;\nsize = { row: Math.round(2.1 * rem), number, column, rem\
-, isWide };\nelement.style.setProperty(\"--number\", number + \"px\");\nelement.style.setProperty(\"--row\", size.row + \"px\");\nbody.style\
-.width = names.style.width = number + column * threads + \"px\";\nscroll.setAttribute(\"aria-rowcount\", lengthOf(shown.run) + 2);\nscroll.s\
-etAttribute(\"aria-colcount\", threads + 1);\n}\nfunction show(what) {\nconst isNew = !shown || shown.zoom !== what.zoom || !view.height;\nc\
-onst isOther = isNew || shown.run !== what.run || shown.tree.program !== what.tree.program;\nconst isMoved = isOther || shown.at !== what.at\
-;\nshown = what;\nfold();\nif (isNew) measure();\nelse if (isOther) divide();\nconst part = whole > count() ? \"Choices \" + choiceAt(0) + \" \
-to \" + choiceAt(count() - 1) + \" stand here.\" : \"\";\nfill(head, what.title || \"\", part);\nhead.hidden = !what.title && !part;\nbody.s\
-tyle.height = bodyHeight() + \"px\";\nif (isMoved) follow();\ndraw(true);\n}\nfunction follow() {\nconst place = rowOf(shown.at) * size.row;\
-\nconst room = view.height - 2.3 * size.rem;\nlet { top, left } = view;\nif (place < top + size.row || place + size.row * 2.5 > top + room) \
-top = place - room * 0.55;\nconst event = eventTo(shown.run, shown.at);\nconst column = event ? placeOf(event.thread) : 0;\nconst isOut = co\
-lumn < left + size.number || column + size.column * 2 > left + view.width;\nif (event && size.isWide && isOut) left = column - view.width / \
-2;\nif (top !== view.top || left !== view.left) scrollTo(top, left);\n}\nconst placeOf = t => size.number + t * size.column;\nfunction draw(\
-isForced) {\nif (!shown || !view.height) return;\nconst from = Math.max(0, Math.floor(view.top / size.row) - AROUND);\nconst to = Math.min(c\
-ount() - 1, Math.ceil((view.top + view.height) / size.row) + AROUND);\nconst threads = shown.tree.program.threads.length;\nconst left = Math\
-.max(0, Math.floor((view.left - size.number) / size.column) - 1);\nconst right = Math.min(threads - 1, Math.ceil((view.left + view.width) / \
-size.column) + 1);\nconst key = [from, to, left, right].join();\nif (!isForced && key === drawn) return;\ndrawn = key;\ndrawNames(left, righ\
-t);\nconst isWhole = drawLanes(from, to, left, right);\ndrawLines(from, to);\nif (!isWhole && !pending) {\npending = requestAnimationFrame((\
-) => {\npending = 0;\ndraw(true);\n});\n}\n}\nfunction drawNames(left, right) {\nconst { program } = shown.tree;\nconst moment = momentOf(sh\
-own.tree, shown.run.id, shown.at);\nconst list = [];\nfor (let t = left; t <= right; t++) {\nconst doing = doingOf(moment, t);\nconst name = \
-threadName(program, t);\nconst isSelected = Boolean(shown.selected) && shown.selected.thread === t;\nconst given = {\ntype: \"button\",\nvar\
-s: { left: placeOf(t) + \"px\", width: size.column + \"px\" },\ntitle: name + \" \" + DOING[doing] + \": why?\",\n\"aria-pressed\": String(i\
-sSelected),\n\"data-doing\": doing,\nonclick: () => select(t)\n};\nconst cell = h(\n\"span.time-namecell\",\n{ role: \"columnheader\", \"ari\
-a-colindex\": t + 2 },\nh(\"button.time-name.\" + hueOf(t), given, name)\n);\nlist.push(cell);\n}\nfill(names, h(\"span.time-corner\", { rol\
-e: \"columnheader\", \"aria-colindex\": 1, \"aria-label\": \"choice\" }), list);\n}\nfunction drawLanes(from, to, left, right) {\nconst unti\
-l = performance.now() + BUDGET;\nconst { tree, run } = shown;\nconst moments = [];\nlet isWhole = true;\nfor (let k = from; k <= to && isWho\
-le; k++) {\nconst i = choiceAt(k);\nisWhole = hasMoment(tree, run.id, i) || performance.now() < until || !moments.length;\nif (isWhole) mome\
-nts.push(momentOf(tree, run.id, i));\n}\nconst list = [];\nfor (let t = left; t <= right; t++) {\nfor (let k = 0, n; k < moments.length; k +\
-= n) {\nconst doing = doingOf(moments[k], t);\nconst isLater = moments[k].i >= shown.at;\nconst isSame = one => one && doingOf(one, t) === d\
-oing && one.i >= shown.at === isLater;\nfor (n = 1; isSame(moments[k + n]); n++);\nif (doing === \"over\" || doing === \"dead\") continue;\n\
-const isLast = k + n === moments.length && from + k + n === count();\nconst vars = {\nleft: placeOf(t) + \"px\",\ntop: (from + k + 0.5) * si\
-ze.row + \"px\",\nheight: (n - (isLast ? 0.45 : 0)) * size.row + \"px\"\n};\nlist.push(h(\"i.lane.lane-\" + doing + \".\" + hueOf(t) + (isLa\
-ter ? \".is-later\" : \"\"), { vars }));\n}\n}\nfill(lanes, list);\nreturn isWhole;\n}\nfunction drawLines(from, to) {\nconst list = [];\nfo\
-r (let k = from; k <= to; k++) list.push(lineOf(k, choiceAt(k)));\nfill(lines, list);\n}\nfunction lineOf(k, i) {\nconst event = eventTo(sho\
-wn.run, i);\nconst isHere = i === shown.at;\nconst kinds = (\nisHere ? \".is-here\" : i > shown.at ? \".is-later\" : \"\"\n) + (shown.differ\
-s && i > shown.differs ? \".is-other\" : \"\");\nconst number = h(\"span.line-number\" + (i ? \"\" : \".is-start\"), { role: \"rowheader\" }\
-, i || \"start\");\nconst inside = [number];\nif (event) inside.push(eventOf(event), event.mark ? markOf(event) : null);\nif (shown.isSide &\
-& shown.differs === i - 1 && i > 0) inside.push(h(\"span.line-part\", {}, \"they part here\"));\nconst given = {\nrole: \"row\",\n\"aria-row\
-index\": i + 2,\n\"aria-current\": isHere ? \"step\" : null,\nvars: { top: k * size.row + \"px\" }\n};\nreturn h(\"div.line\" + kinds, given\
-, inside);\n}\nfunction eventOf(event) {\nconst { program } = shown.tree;\nconst at = placeOf(event.thread);\nconst tag = tagOf(program, eve\
-nt, shown.isJava);\nconst name = threadName(program, event.thread);\nconst given = { role: \"cell\", \"aria-colindex\": event.thread + 2, \"\
-aria-label\": name + \": \" + tag };\nif (at < view.left + size.number - size.column || at > view.left + view.width) {\nconst sign = at < vi\
-ew.left + size.number ? \"\\u25C2 \" : \"\\u25B8 \";\nreturn h(\"span.line-far.\" + hueOf(event.thread), given, sign + name + \" \" + tag);\n\
-}\nconst isOnLeft = size.column < 5 * size.rem && at - view.left > view.width * 0.6;\nconst kinds = \".event.event-\" + (\nevent.what === \"\
-=\" ? \"value\" : event.what\n) + \".\" + hueOf(event.thread) + (isOnLeft ? \".is-onleft\" : \"\");\nreturn h(\"span\" + kinds, { ...given, \
-vars: { left: at + \"px\" } }, h(\"i.event-dot\"), h(\"span.event-tag\", {}, tag));\n}\nfunction markOf(event) {\nconst { program } = shown.\
-tree;\nconst text = shortMark(program, event.mark);\nconst at = placeOf(event.thread);\nconst wide = (text.length * 0.47 + 1.3) * size.rem;\n\
-const own = (tagOf(program, event, shown.isJava).length * 0.55 + 2) * size.rem;\nconst hasRight = view.width - at - own > wide;\nconst side \
-= size.isWide\n? \".is-left.is-under\"\n: hasRight ? \"\" : at - size.number > wide ? \".is-left\" : \".is-under\";\nreturn h(\n\"span.mark\" \
-+ (event.mark.kind[0] === \"-\" ? \".mark-broke\" : \"\") + side,\n{ role: \"note\" },\nh(\"span\", {}, text)\n);\n}\nfunction redraw() {\ni\
-f (!shown) return;\nmeasure();\nbody.style.height = bodyHeight() + \"px\";\ndraw(true);\n}\nreturn { element, show, redraw };\n}\nreturn { m\
-akeTimeline };\n})();\n// app/tree.js\nconst m41 = (() => {\nconst { endKind, endText, KIND_TEXT, outputText } = m2;\nconst { fill, h, who } \
-= m3;\nconst { threadName } = m1;\nconst { inOrder, lengthOf } = m18;\nfunction runName(tree, run) {\nif (run.parent < 0) return \"Run 1\";\n\
-const event = run.events.at(run.fork);\nconst old = tree.runs[run.parent].events.at(run.fork);\nif (!event) return \"Run \" + (run.id + 1);\n\
-const name = threadName(tree.program, event.thread) + (event.isLate ? \"\\u2019s time-out\" : \"\");\nreturn \"Run \" + (run.id + 1) + \": a\
-t \" + run.fork + \" \" + name + (\nold ? \", not \" + threadName(tree.program, old.thread) : \"\"\n);\n}\nfunction makeTree(walk) {\nconst \
-element = h(\"div.tracks.scroll\", { role: \"list\", \"aria-label\": \"Runs\" });\nfunction show({ tree, run, at, isQuiet }) {\nconst most = \
-Math.max(1, ...tree.runs.map(lengthOf));\nconst part = i => (100 * i) / most + \"%\";\nconst all = inOrder(tree);\nconst track = ({ run: one \
-}, lane) => {\nconst isHere = one === run;\nconst begins = one.parent < 0 ? 0 : one.fork;\nconst kind = endKind(one.end);\nconst event = one\
-.events.at(one.fork);\nconst first = Math.min(begins + (one.parent < 0 ? 0 : 1), lengthOf(one));\nconst name = {\ntype: \"button\",\n\"aria-\
-current\": isHere ? \"true\" : null,\ntitle: runName(tree, one) + (isQuiet ? \"\" : \" \\u2014 \" + endText(tree.program, one.end)),\nonclic\
-k: () => walk(one.id, isHere ? at : first)\n};\nconst said = one.parent < 0 || !event\n? \" the run\"\n: [\" at \" + one.fork + \" \", who(t\
-ree.program, event.thread), event.isLate ? \" late\" : \"\"];\nconst click = pressed => {\nconst box = pressed.currentTarget.getBoundingClie\
-ntRect();\nconst i = Math.round(((pressed.clientX - box.left) / box.width) * most);\nwalk(one.id, Math.max(begins, Math.min(lengthOf(one), i\
-)));\n};\nconst up = lane - all.findIndex(other => other.run.id === one.parent);\nreturn h(\n\"div.track\" + (isHere ? \".is-here\" : \"\"),\
-\n{ role: \"listitem\" },\nh(\"button.track-name\", name, h(\"b\", {}, one.id + 1), said),\nh(\n\"div.rail\",\n{ onclick: click },\nh(\n\"i.\
-rail-bar.rail-\" + (isQuiet ? \"open\" : kind),\n{ vars: { left: part(begins), width: part(lengthOf(one) - begins) } }\n),\none.parent >= 0 \
-? h(\"i.rail-fork\", { vars: { left: part(begins), \"--up\": up } }) : null,\nisHere ? h(\"i.rail-at\", { vars: { left: part(at) } }) : null\
-\n),\nisQuiet ? h(\"span\") : h(\"span.end.end-\" + kind, { title: outputText(tree.program, one.end) }, KIND_TEXT[kind])\n);\n};\nfill(eleme\
-nt, all.map(track));\nconst here = element.querySelector(\".is-here\");\nif (here) element.scrollTop = Math.max(0, here.offsetTop - element.\
-clientHeight + here.offsetHeight + 2);\n}\nreturn { element, show };\n}\nreturn { runName, makeTree };\n})();\n// app/values.js\nconst m42 = \
-(() => {\nconst { h } = m3;\nconst { nameOf } = m0;\nconst { hueOf, labelOf, phaseOf, rowText, thrown, threadName } = m1;\nconst { doingOf } \
-= m16;\nconst DOES = {\nover: \"ended\",\ndead: \"died of\",\nthrows: \"throws\",\nheld: \"can\\u2019t go on\",\nwaits: \"waits\",\nfree: \"\
-may go on\",\nruns: \"runs\"\n};\nconst cell = (text, was) => h(\"td\" + (was !== undefined && String(was) !== String(text) ? \".is-new\" : \
-\"\"), {}, text);\nfunction tableOf(caption, heads, rows) {\nconst head = h(\"thead\", {}, h(\"tr\", {}, heads.map(one => h(\"th\", { scope: \
-\"col\" }, one))));\nreturn h(\"table.values-table\", {}, h(\"caption\", {}, caption), head, h(\"tbody\", {}, rows));\n}\nconst rowHead = (t\
-ext, kind = \"\") => h(\"th\" + kind, { scope: \"row\" }, text);\nfunction entryOf(program, entry) {\nif (entry[0] === \"H\") return \"try \" \
-+ labelOf(program, Number(entry.slice(1)));\nif (entry[0] === \"C\") return \"call \" + entry.slice(1);\nreturn (entry[0] === \"A\" ? \"onAd\
-vance \" : \"action \") + nameOf(\nprogram,\nentry[0] === \"A\" ? \"P\" : \"B\",\nNumber(entry.slice(1))\n);\n}\nfunction threadsOf(program, \
-moment, old) {\nconst { threads } = moment.state;\nconst isUsed = r => program.rows.some(row => row.operands.includes(\"r\" + r)) ||\nthread\
-s.some(one => one.registers[r]);\nconst used = [0, 1, 2, 3, 4, 5, 6, 7].filter(isUsed);\nconst row = (thread, t) => {\nconst was = old && ol\
-d.threads[t];\nconst does = DOES[doingOf(moment, t)] + (thread.code === null ? \"\" : \" \" + thrown(thread.code));\nconst out = thread.out.\
-slice(-6).join(\" \");\nreturn h(\n\"tr\",\n{},\nrowHead(threadName(program, t), \".\" + hueOf(t)),\ncell(does + (thread.isInterrupted ? \", \
-interrupted\" : \"\")),\nh(\"td\", {}, h(\"code\", {}, rowText(program, program.rows[thread.row]))),\nused.map(r => cell(thread.registers[r]\
-, was ? was.registers[r] : undefined)),\ncell(out, was ? was.out.slice(-6).join(\" \") : undefined),\ncell(thread.stack.map(one => entryOf(p\
-rogram, one)).join(\", \"))\n);\n};\nreturn tableOf(\n\"Threads\",\n[\"thread\", \"does\", \"row\", ...used.map(r => \"r\" + r), \"output\", \
-\"stack\"],\nthreads.map(row)\n);\n}\nfunction phasersOf(program, state, old) {\nconst phase = one => (one.view < 0 ? \"terminated in \" + p\
-haseOf(one.view) : one.view);\nconst row = (one, p) => {\nconst was = old ? old.phasers[p] : {};\nconst cells = [cell(phase(one), old ? phas\
-e(was) : undefined), cell(one.parties, was.parties)];\nreturn h(\n\"tr\",\n{},\nrowHead(nameOf(program, \"P\", p)),\ncells,\ncell(one.arrive\
-d, was.arrived),\ncell(one.missing, was.missing)\n);\n};\nreturn tableOf(\"Phasers\", [\"phaser\", \"phase\", \"parties\", \"arrived\", \"mi\
-ssing\"], state.phasers.map(row));\n}\nfunction barriersOf(program, state, old) {\nconst broken = one => (one.isBroken ? \"yes\" : \"no\");\n\
-const row = (one, b) => {\nconst was = old ? old.barriers[b] : null;\nconst cells = [cell(program.barriers[b].parties), cell(one.waiting, wa\
-s ? was.waiting : undefined)];\nreturn h(\"tr\", {}, rowHead(nameOf(program, \"B\", b)), cells, cell(broken(one), was ? broken(was) : undefi\
-ned));\n};\nreturn tableOf(\"Barriers\", [\"barrier\", \"parties\", \"waiting\", \"broken\"], state.barriers.map(row));\n}\nfunction cellsOf\
-(program, state, old) {\nconst row = ([c, value]) => h(\n\"tr\",\n{},\nrowHead(nameOf(program, \"C\", Number(c))),\ncell(value, old ? old.ce\
-lls[c] || 0 : undefined)\n);\nreturn tableOf(\"Cells that aren\\u2019t 0\", [\"cell\", \"value\"], Object.entries(state.cells).map(row));\n}\
-\nfunction valuesOf(program, moment, before) {\nconst { state } = moment;\nconst old = before ? before.state : null;\nreturn [\nthreadsOf(pr\
-ogram, moment, old),\nprogram.phasers.length ? phasersOf(program, state, old) : null,\nprogram.barriers.length ? barriersOf(program, state, \
-old) : null,\nObject.keys(state.cells).length ? cellsOf(program, state, old) : null\n];\n}\nreturn { valuesOf };\n})();\n// app/app.js\ncons\
-t m43 = (() => {\nconst { endsBeside } = m4;\nconst { checkOf, drawCheck } = m5;\nconst { endKind, endText } = m2;\nconst { button, byId, fi\
-ll, h } = m3;\nconst { makeCommands } = m33;\nconst { itemOf } = m20;\nconst { lessonCard } = m34;\nconst { addressOf, linkOf, MOST_LINK, re\
-adLink } = m19;\nconst { makeSheet } = m22;\nconst { ordersOf } = m36;\nconst { SEEDS } = m35;\nconst { listProgram } = m13;\nconst { isHeav\
-y } = m15;\nconst { makeProgram } = m37;\nconst { challengeCard, quizCard } = m25;\nconst { closeTree, eventTo, momentOf, lengthOf } = m18;\n\
-const { makeScene } = m38;\nconst { choicesOf, commonOf } = m14;\nconst { drawStage } = m39;\nconst change = m32;\nconst { makeTimeline } = \
-m40;\nconst { makeTree, runName } = m41;\nconst { valuesOf } = m42;\nconst TYPING = 250;\nconst SAVING = 300;\nconst KEPT = 40;\nfunction ma\
-keApp(given) {\nlet state = change.firstState();\nlet working = null;\nlet typing = 0;\nlet typed = {};\nlet saving = 0;\nlet noteTimer = 0;\
-\nconst past = new Map();\nlet entry = 0;\nconst sheet = makeSheet();\nconst timeline = makeTimeline(i => set(change.at(state, i)), t => set\
-(change.selectedThread(state, t)));\nconst second = makeTimeline(\ni => set(change.walked(state, state.other, i)),\nt => set(change.selected\
-Thread(state, t))\n);\nconst scene = makeScene({\nthread: t => set(change.selectedThread(state, t)),\nphaser: p => set(change.selectedPhaser\
-(state, p))\n});\nconst tree = makeTree((id, i) => set(change.walked(state, id, i)));\nconst program = makeProgram(\ntext => later({ text })\
-,\nplan => later({ plan })\n);\nconst ends = h(\"div.ends\");\nconst tabs = { picture: \"Picture\", values: \"Values\", orders: \"Random ord\
-ers\" };\nconst viewButton = name => button(tabs[name], () => setTab(name), { \"data-tab\": name });\nconst views = h(\n\"div.views\",\n{ ro\
-le: \"group\", \"aria-label\": \"What the pane shows\" },\nObject.keys(tabs).map(viewButton)\n);\nconst values = h(\"div.values.scroll\", { \
-tabindex: 0 });\nconst orders = h(\"div.orders.scroll\", { tabindex: 0 });\nconst side = button(\"Side by side\", () => setSide());\nconst o\
-nly = button(\"Only run 1\", () => set(change.firstOnly(state), true));\nfill(byId(\"time\"), h(\"div.time-two\", {}, timeline.element, seco\
-nd.element), ends);\nfill(byId(\"picture\"), views, scene.element, values, orders);\nfill(byId(\"runs\"), tree.element, h(\"div.runs-tools\"\
-, {}, side, only));\nfunction set(next, isNew) {\nconst before = state;\nstate = next;\nif (before.text !== next.text || before.plan !== nex\
-t.plan) {\nclearTimeout(typing);\ntyped = {};\n}\nif (before.tree && next.tree && before.tree.program !== next.tree.program) closeTree(befor\
-e.tree);\nif (isNew && before.tree) {\npast.set(entry, before);\npast.delete(entry - KEPT);\nremember(\"replaceState\");\nentry++;\nremember\
-(\"pushState\");\n}\ndraw();\n}\nfunction later(what) {\ntyped = { ...typed, ...what };\nclearTimeout(typing);\ntyping = setTimeout(() => ed\
-it(typed.text ?? state.text, typed.plan ?? state.plan), TYPING);\n}\nasync function edit(text, plan) {\nconst isQuiz = state.mode === \"quiz\
-\";\nconst played = await playedInWorker(text, plan, change.scheduleIn(state.item, plan));\nif (played === null) return;\nset(change.edited(\
-state, text, plan, played));\nif (isQuiz && !state.mistake) setMode(\"quiz\");\n}\nasync function open(item, mode, isNew = true) {\nconst { \
-program: text, plan } = item;\nconst played = await playedInWorker(text, plan, item.schedule);\nif (played === null) return;\nset(change.ope\
-ned(state, item, mode, played), isNew);\nif (state.mode === \"quiz\") playOrders();\nfitted();\n}\nasync function openRun(run, isNew = true, \
-isOfPage = false) {\nconst item = { ...itemOf(run), isOfPage };\ngiven.menu.unshift(item);\nawait open(item, \"explore\", isNew);\nif (state\
-.mistake || !run.trace) return;\nconst [played] = state.tree.runs;\nset({ ...state, check: checkOf(run, listProgram(state.text), played.trac\
-e, lengthOf(played)) });\n}\nasync function playedInWorker(text, plan, schedule = \"\") {\nif (!isHeavy(schedule || plan)) return undefined;\
-\nconst played = await inWorker(\"plan\", { text, plan, schedule });\nreturn played && { ...played, choices: choicesOf(played.schedule) };\n\
-}\nasync function inWorker(task, what) {\nworking = { task, done: 0 };\ndraw();\ntry {\nreturn await given.work.ask(task, what, done => {\nw\
-orking = { task, done };\nif (state.tab === \"orders\") drawOrders();\n});\n} catch (fault) {\nif (fault.message === \"stopped\") return nul\
-l;\nif (!fault.told) note(\"The worker stopped: \" + fault.message);\nreturn undefined;\n} finally {\nworking = null;\ndraw();\n}\n}\nasync \
-function playOrders() {\nconst { tree: asked } = state;\nconst found = await inWorker(\"orders\", { text: asked.program.text, seeds: SEEDS }\
-);\nif (found && state.tree.program === asked.program) set(change.withOrders(state, found));\n}\nfunction stopWork() {\ngiven.work.stop();\n\
-if (state.mode === \"quiz\" && !state.quiz) set(change.inMode(state, \"explore\"));\n}\nfunction setTab(tab) {\nset({ ...state, tab, pane: \"\
-picture\" });\nif (tab === \"orders\" && !state.orders) playOrders();\n}\nfunction setMode(mode) {\nset(change.inMode(state, mode));\nif (mo\
-de === \"quiz\" && !state.quiz) playOrders();\nfitted();\n}\nfunction setSide() {\nif (state.tree.runs.length < 2) return note(\"There is on\
-ly one run: choose another name first.\");\nset(change.sideBySide(state));\nfitted();\n}\nfunction choose(token) {\ntry {\nconst isNew = cha\
-nge.runOf(state).choices[state.at] !== token;\nset(change.forked(state, state.at, token), isNew);\n} catch (fault) {\nnote(fault.message);\n\
-}\n}\nfunction fitted() {\nrequestAnimationFrame(() => {\ntimeline.redraw();\nsecond.redraw();\n});\n}\nfunction note(...what) {\nfill(byId(\
-\"note\"), what);\nbyId(\"note\").classList.add(\"is-shown\");\nclearTimeout(noteTimer);\nnoteTimer = setTimeout(() => byId(\"note\").classL\
-ist.remove(\"is-shown\"), 6000);\n}\nconst moment = i => momentOf(state.tree, state.id, i);\nfunction draw() {\nif (!state.tree) return;\nco\
-nst { at } = state;\nconst run = change.runOf(state);\nconst { program: model } = state.tree;\nconst now = moment(at);\nconst event = eventT\
-o(run, at);\nconst title = model.title || state.item.title;\nObject.assign(document.body.dataset, { mode: state.mode, tab: state.tab, pane: \
-state.pane });\ndocument.body.classList.toggle(\"is-refused\", Boolean(state.mistake));\ndocument.body.classList.toggle(\"is-side\", Boolean\
-(change.otherOf(state)));\ndocument.body.classList.toggle(\"is-alone\", state.isAlone);\ndocument.body.classList.toggle(\"is-working\", Bool\
-ean(working));\nbyId(\"title\").textContent = title;\ndocument.title = title + \" \\u2014 Vuthgal\";\npressed(\"#modes button\", one => one.\
-dataset.mode === state.mode);\npressed(\"#tabs button\", one => one.dataset.pane === state.pane);\npressed(\".views button\", one => one.dat\
-aset.tab === state.tab);\nif (state.tab === \"picture\") scene.show({ tree: state.tree, run, at, moment: now, selected: state.selected });\n\
-drawStage(state, { choose, tryOut: token => tryOut(token) });\ndrawCheck(state);\nprogram.show(state, now, event);\ndrawTime(run);\nif (stat\
-e.tab === \"values\") fill(values, valuesOf(model, now, at ? moment(at - 1) : null));\nif (state.tab === \"orders\") drawOrders();\ntree.sho\
-w({ tree: state.tree, run, at, isQuiet: state.mode === \"quiz\" || state.isHidden });\nside.disabled = only.disabled = state.tree.runs.lengt\
-h < 2;\nside.setAttribute(\"aria-pressed\", String(Boolean(change.otherOf(state))));\ndrawCard(model, now);\nclearTimeout(saving);\nsaving = \
-setTimeout(keepLink, SAVING);\n}\nfunction pressed(which, isPressed) {\nfor (const one of document.querySelectorAll(which)) one.setAttribute\
-(\"aria-pressed\", String(isPressed(one)));\n}\nfunction drawTime(run) {\nconst other = change.otherOf(state);\nconst parts = other ? common\
-Of(run.choices, other.choices) : run.parent >= 0 ? run.fork : 0;\nconst { isJava, isFolded, selected, zoom, tree: all } = state;\nconst isHi\
-dden = change.isLaterHidden(state);\nconst common = { tree: all, isJava, isFolded, selected, zoom, isHidden, differs: parts, isSide: Boolean\
-(other) };\nconst head = one => {\nconst end = h(\"span.end.end-\" + endKind(one.end), {}, isHidden ? \"\" : endText(all.program, one.end));\
-\nreturn other ? [h(\"b\", {}, runName(all, one)), end] : \"\";\n};\nsecond.element.hidden = !other;\ntimeline.show({ ...common, run, at: st\
-ate.at, title: head(run) });\nif (other) second.show({ ...common, run: other, at: Math.min(state.at, lengthOf(other)), title: head(other) })\
-;\nfill(ends, other && !isHidden ? endsBeside(all.program, run, other) : null);\n}\nfunction drawOrders() {\nconst act = { take: one => set(\
-change.ordered(state, one), true), play: playOrders, stop: stopWork };\nfill(orders, ordersOf(state.tree.program, state.orders, working, act\
-));\n}\nfunction drawCard(model, now) {\nconst card = byId(\"card\");\ncard.hidden = state.mode === \"explore\";\nif (state.mode === \"lesso\
-n\") fill(card, lessonCard(state.lesson, model, now, lessonActs));\nif (state.mode === \"quiz\") fill(card, quizCard(state.quiz, model, quiz\
-Acts));\nif (state.mode === \"challenge\") fill(\ncard,\nchallengeCard(change.challengeOf(state), { again: () => setMode(\"challenge\") })\n\
-);\n}\nconst lessonActs = {\nstep: by => focused(() => set(change.lessonStep(state, by))),\nanswer: () => focused(() => set(change.lessonAns\
-wer(state))),\nvote: (t, by) => set(change.voted(state, t, by)),\nchoose,\nshowFork: (i, token) => set(change.forked({ ...state, id: 0 }, i, \
-token), true),\ntab: setTab\n};\nconst quizActs = {\nanswer: option => focused(() => set(change.answered(state, option))),\nshow: () => focu\
-sed(() => set(change.shownOwn(state))),\nnext: () => focused(() => set(change.nextQuestion(state))),\nagain: () => setMode(\"quiz\"),\nstop: \
-stopWork\n};\nfunction focused(what) {\nwhat();\nconst card = byId(\"card\");\n(\ncard.querySelector(\".card-turn .main\") || card.querySele\
-ctor(\".card-turn button\")\n)?.focus({ preventScroll: true });\n}\nfunction tryOut(preview) {\nif (change.isVeiled(state) || state.preview \
-=== preview) return;\nstate = { ...state, preview };\ndrawStage(state, { choose, tryOut });\n}\nfunction remember(how, hash) {\ntry {\nhisto\
-ry[how]({ entry }, \"\", hash);\n} catch (_) {\npast.clear();\n}\n}\nconst linkNow = () => {\nconst { text } = state.tree.program;\nconst ad\
-dress = addressOf(state.tree, change.runOf(state), state.at);\nif (isOfPage()) return \"#\" + address;\nreturn linkOf({ text, plan: state.pl\
-an, name: state.item.name, address, mode: state.mode });\n};\nconst isOfPage = () => {\nconst { item, mode, text, plan } = state;\nreturn it\
-em.isOfPage && mode === \"explore\" && text === item.program && plan === item.plan;\n};\nasync function keepLink() {\nif (!state.tree || sta\
-te.mistake) return;\nconst saved = state;\nconst hash = await linkNow();\nif (state === saved && hash.length < MOST_LINK) remember(\"replace\
-State\", hash);\n}\nwindow.addEventListener(\"popstate\", event => {\nconst kept = event.state && past.get(event.state.entry);\nif (!kept) r\
-eturn openLink();\npast.set(entry, state);\nentry = event.state.entry;\nstate = kept;\ndraw();\nfitted();\n});\nasync function openLink() {\n\
-let link;\ntry {\nlink = await readLink(location.hash);\n} catch (fault) {\nnote(\"This link can\\u2019t be read: \" + fault.message + \". A \
+next turn?\",\nanswer: \"The barrier trips, and they put out 2, 1 and 0. Ann\\u2019s interrupted status stays set.\",\nfork: [6, \"t2\"],\nv\
+otes: true\n},\n{\nat: 0,\nask: \"What would the three get if Eve interrupted Cem before he arrived?\",\nanswer: \"Write intr cem. Cem gets \
+3 when he calls await, and the others get 4.\"\n},\n{\nat: 9,\nask: \"Which call repairs the barrier, and what does it do to a waiting threa\
+d?\",\nanswer:\n\"reset(), which is creset gate. The waiting thread gets BrokenBarrierException. \" +\n\"Later calls use the repaired barrie\
+r.\"\n}\n]\n},\n\"two-orders\": {\ntitle: \"Two phasers in different orders\",\naim: \"Two meetings in different orders deadlock in every ru\
+n. Two locks deadlock only in some runs.\",\nlast: \"Meet in the same order everywhere, or arrive first and wait later.\",\nsteps: [\n{\nat: \
+0,\nask: \"Is there a plan with which this program ends?\",\nanswer:\n\"No: each thread waits at its first phaser, and the other never arriv\
+es there. \" +\n\"Both runs end in the same state.\",\nfork: [0, \"t1\"],\nvotes: true\n},\n{\nat: 2,\nask: \"With two locks in different or\
+ders, some schedules end. What is the difference?\",\nanswer: \"A lock may be free again before the second thread needs it. A meeting needs \
+both threads.\"\n},\n{\nat: 0,\nask: \"Change as few rows as you can so that every schedule ends.\",\nanswer: \"Swap the two rows of other, \
+or of one.\",\ntab: \"orders\"\n},\n{\nat: 0,\nask:\n\"Let Bob arrive at both and then wait (parr r1 right, paaa r0 left, pawait r0 right r1\
+). \" +\n\"Does every schedule end now?\",\nanswer: \"Yes: he arrives at right and doesn\\u2019t wait there for Ann.\",\ntab: \"orders\"\n}\n\
+]\n},\n\"late-team\": {\ntitle: \"A team that joins late\",\naim: \"When all parties of a child have arrived, it arrives once at its parent.\
+\",\nlast: \"Register before the others meet, or leave when you are done.\",\nsteps: [\n{\nat: 2,\nask: \"In choice 2 Bob arrives at red. Wh\
+y does a phase of both end?\",\nanswer: \"He is the last party of red, so red arrives at both. It is the only party there.\"\n},\n{\nat: 10,\
+\nask: \"At which phaser is a party missing at the end, and who would have to arrive?\",\nanswer: \"At both: Ann and Bob would have to arriv\
+e at red again.\"\n},\n{\nat: 1,\nask:\n\"Cem\\u2019s preg returns 1. What does it return if he registers before Bob arrives, \" +\n\"and ho\
+w does the run end?\",\nanswer: \"It returns 0, and all threads end.\",\nfork: [1, \"t2\"],\nvotes: true\n},\n{\nat: 2,\nask: \"After which \
+choice is it too late for Cem?\",\nanswer: \"After choice 2: if he is next now, he is stuck.\",\nfork: [2, \"t2\"]\n},\n{\nat: 0,\nask: \"Le\
+t Cem call pdereg r0 blue, arriveAndDeregister(), instead of paaa r0 blue. Is anybody stuck?\",\nanswer: \"No: blue leaves both with its las\
+t party.\",\ntab: \"orders\"\n}\n]\n}\n};\nfunction lessonOf(name, program, run) {\nif (Object.hasOwn(LESSONS, name)) return LESSONS[name];\n\
+const steps = program.questions.flatMap(one => {\nconst at = run.events.findIndex(event => event.row === one.row);\nreturn at < 0 ? [] : [{ \
+at, ask: one.text, answer: \"Step on, and see.\", next: true }];\n});\nreturn {\ntitle: program.title || name,\naim: program.about || \"Step \
+through the run, and say before each step what it will do.\",\nlast: \"Which order would end otherwise?\",\nsteps\n};\n}\nreturn { LESSONS, \
+lessonOf };\n})();\n// app/mistake.js\nconst m28 = (() => {\nconst { DIRECTIVES, KINDS } = m0;\nconst JAVA = new Map();\nfor (const [word, [\
+, call]] of Object.entries(KINDS)) {\nconst name = call ? call.split(\"(\")[0].replace(\"@.\", \"\").toLowerCase() : \"\";\nif (name && !JAV\
+A.has(name)) JAVA.set(name, word);\n}\nfunction distance(a, b) {\nlet last = [...Array(b.length + 1).keys()];\nfor (let i = 1; i <= a.length\
+; i++) {\nconst next = [i];\nfor (let k = 1; k <= b.length; k++) {\nnext[k] = Math.min(last[k] + 1, next[k - 1] + 1, last[k - 1] + (a[i - 1] \
+=== b[k - 1] ? 0 : 1));\n}\nlast = next;\n}\nreturn last[b.length];\n}\nfunction nearest(word) {\nconst bare = word.toLowerCase().replace(/^\
+.*\\./, \"\").replace(/[^a-z]/g, \"\");\nif (JAVA.has(bare)) return JAVA.get(bare);\nlet best = \"\";\nlet least = Math.min(3, word.length);\
+\nfor (const one of [...Object.keys(KINDS), ...DIRECTIVES]) {\nconst far = distance(word.toLowerCase(), one);\nif (far < least) [best, least\
+] = [one, far];\n}\nfor (const [name, one] of JAVA) {\nconst far = distance(bare, name);\nif (far < least && far * 3 < name.length) [best, l\
+east] = [one, far];\n}\nreturn best;\n}\nconst wordsIn = line =>\n[...line.split(\";\")[0].matchAll(/\\S+/g)].map(m => ({ text: m[0], from: \
+m.index, to: m.index + m[0].length }));\nfunction wordOf(line, kind) {\nconst found = wordsIn(line);\nif (!found.length) return null;\nconst \
+isLabel = found[0].text.endsWith(\":\");\nconst [head, ...operands] = isLabel ? found.slice(1) : found;\nconst kinds = head && KINDS[head.te\
+xt] ? KINDS[head.text][0] : \"\";\nconst isNumber = one => /^-?\\d+$/.test(one.text);\nconst picked = {\n3: head,\n5: operands.find((one, k) \
+=> kinds[k] === \"r\" && !/^r[0-7]$/.test(one.text)),\n6: operands.find((one, k) => (kinds ? kinds[k] === \"n\" && !isNumber(one) : k === 1)\
+),\n9: operands.find((one, k) => !kinds || \"LPBTC\".includes(kinds[k])),\n10: isLabel ? found[0] : operands[0]\n};\nreturn found.find(one =\
+> one.text.includes(\",\")) || picked[kind] || head || found[0];\n}\nconst plainly = text => text.replace(/`/g, \"\").replace(/^\\w+: /, \"\"\
+);\nconst sentence = text => plainly(text).replace(/^[a-z](?=[a-z]* )/, sign => sign.toUpperCase());\nfunction mistakeOf(fault, text) {\ncon\
+st isProgram = fault.group !== \"plan\" && fault.group !== \"schedule\";\nconst mistake = {\nisProgram,\nline: fault.line,\nword: fault.word\
+,\nnear: \"\",\nmeans: sentence(fault.means || fault.told),\nhelps: sentence(fault.help || \"\")\n};\nif (fault.group !== \"asm\") return mi\
+stake;\nconst line = text.split(\"\\n\")[fault.line - 1] || \"\";\nconst word = wordOf(line, fault.kind);\nif (!mistake.word && word) mistak\
+e.word = [word.from, word.to];\nif (word && word.text.includes(\",\")) Object.assign(\nmistake,\n{ means: \"There are no commas\", helps: \"\
+Put blanks between operands\" }\n);\nelse if (fault.kind === 3 && word) mistake.near = nearest(word.text);\nreturn mistake;\n}\nreturn { nea\
+rest, mistakeOf };\n})();\n// app/arrivals.js\nconst m29 = (() => {\nconst { ARRIVES, operandOf, rootOf } = m0;\nconst { ownerOf } = m19;\nc\
+onst EVERY = 256;\nconst copyOf = fold => ({\ncame: fold.came.map(all => new Set(all)),\nwaits: new Map(fold.waits),\narrived: fold.arrived.\
+map(list => list.slice()),\nended: fold.ended.map(list => list.slice())\n});\nconst emptyOf = program => ({\ncame: program.phasers.map(() => \
+new Set()),\nwaits: new Map(),\narrived: program.phasers.map(() => []),\nended: program.phasers.map(() => [])\n});\nfunction isArrival(row, \
+event, isOfWait) {\nif (isOfWait || !row || !ARRIVES.has(row.word)) return false;\nreturn event.what === \"wait\" || event.what === \"enter\" \
+|| (\nevent.what === \"=\" && (event.value >= 0 || Boolean(event.mark))\n);\n}\nfunction step(program, fold, event) {\nif (event.what === \"\
+idle\" || event.row < 0) return;\nconst row = program.rows[event.row];\nconst isOfWait = fold.waits.delete(event.thread);\nif (isArrival(row\
+, event, isOfWait)) {\nconst p = operandOf(row, \"P\");\nfold.arrived[p].push({ thread: event.thread, row: event.row });\nfold.came[p].add(e\
+vent.thread);\n}\nif (event.what === \"wait\") fold.waits.set(event.thread, event.row);\nif (!event.mark || event.mark.kind !== \"+p\") retu\
+rn;\nprogram.phasers.forEach((_, q) => {\nif (rootOf(program, q) !== event.mark.on) return;\nfold.ended[q] = fold.arrived[q];\nfold.arrived[\
+q] = [];\n});\n}\nfunction arrivalsOf(tree, id, i) {\nconst run = ownerOf(tree, id, i);\nconst { folds } = run.kept;\nconst start = Math.min\
+(Math.floor(i / EVERY), folds.length);\nconst fold = start ? copyOf(folds[start - 1]) : emptyOf(tree.program);\nfor (let k = start * EVERY; \
+k < i; k++) {\nstep(tree.program, fold, run.events.at(k));\nif ((k + 1) % EVERY === 0 && folds.length < (k + 1) / EVERY) folds.push(copyOf(f\
+old));\n}\nreturn fold;\n}\nreturn { isArrival, arrivalsOf };\n})();\n// app/reason.js\nconst m30 = (() => {\nconst { nameOf, operandOf, roo\
+tOf } = m0;\nconst { callOf, phaseOf, spread, strong } = m1;\nconst { arrivalsOf } = m29;\nconst { eventTo, momentOf } = m19;\nconst COUNTS \
+= {\npparties: \"how many parties are registered now\",\nparrived: \"how many parties have arrived in this phase\",\npunarr: \"how many part\
+ies are still to arrive\",\npphase: \"the number of the phase that goes on\",\npterm: \"1 if it is terminated, else 0\",\ncwaiting: \"how ma\
+ny wait there now\",\ncparties: \"how many parties it has\",\ncbroken: \"1 if it is broken, else 0\"\n};\nfunction phaserNumber(program, eve\
+nt, row, before, after) {\nconst p = operandOf(row, \"P\");\nconst name = nameOf(program, \"P\", p);\nconst was = before.state.phasers[p].vi\
+ew;\nconst is = after.state.phasers[p].view;\nif (event.value < 0 && event.value === is) {\nreturn \"It is negative, since \" + name + \" is \
+terminated: its last phase was \" + phaseOf(is) + \".\";\n}\nif (before.state.threads[event.thread].status === \"waits\" && event.value === \
+was) {\nreturn event.value + \" is the phase of \" + name + \" now: the phase for whose end it waited is over.\";\n}\nif (/^(parr|pdereg)$/.\
+test(row.word) && event.value === was) {\nreturn event.value + \" is the phase in which it arrived.\";\n}\nif (/^(preg|pbulk)$/.test(row.wor\
+d) && event.value === was) {\nreturn event.value + \" is the phase for which it registered.\";\n}\nif (row.word === \"paaa\" && event.mark &\
+& event.value === is) {\nreturn event.value + \" is the phase that begins: it was the last to arrive, so it didn\\u2019t have to wait.\";\n}\
+\nif (/^pawait/.test(row.word) && event.value === was) {\nreturn event.value + \" is the phase of \" + name +\n\" now: the one that it named \
+is over, so it didn\\u2019t have to wait.\";\n}\nreturn \"\";\n}\nfunction barrierNumber(program, event, row, before) {\nconst b = operandOf\
+(row, \"B\");\nconst { parties } = program.barriers[b];\nconst came = parties - event.value;\nconst waited = before.state.threads[event.thre\
+ad].status === \"waits\";\nif (!/^cawait/.test(row.word) || came < 1) return \"\";\nconst turn = event.value === 0 ? \"the last\" : came === \
+1 ? \"the first\" : \"number \" + came;\nreturn event.value + \": of \" + parties + \" it was \" + turn + \" to come\" + (\nwaited || !came \
+? \"\" : \", so it didn\\u2019t have to wait\"\n) + \".\";\n}\nfunction throwReason(program, event, row, before) {\nconst p = operandOf(row, \
+\"P\");\nconst b = operandOf(row, \"B\");\nconst thread = before.state.threads[event.thread];\nif (event.isLate) return \"Nobody brought wha\
+t it waited for before its time was up.\";\nif (\nevent.value === 3 && thread.isInterrupted\n) return \"Somebody had interrupted it: its int\
+errupted status was set.\";\nif (b >= 0 && event.value === 4) {\nreturn \"The barrier \" + nameOf(program, \"B\", b) + \" broke while it wai\
+ted, or was broken before it came.\";\n}\nif (p >= 0 && event.value === 1 && /^(parr|pdereg|paaa)$/.test(row.word) && before.state.phasers[p\
+].missing === 0) {\nconst name = nameOf(program, \"P\", p);\nreturn \"No party of \" + name + \" is still to arrive, so there is no place fo\
+r one more arrival.\";\n}\nreturn \"\";\n}\nfunction reasonOf(tree, id, i) {\nconst { program } = tree;\nconst event = eventTo(tree.runs[id]\
+, i);\nif (!event || event.row < 0 || !/^(=|throw)$/.test(event.what)) return \"\";\nconst row = program.rows[event.row];\nconst before = mo\
+mentOf(tree, id, i - 1);\nif (event.what === \"throw\") return throwReason(program, event, row, before);\nif (COUNTS[row.word]) return event\
+.value + \": \" + COUNTS[row.word] + \".\";\nif (operandOf(row, \"P\") >= 0) return phaserNumber(program, event, row, before, momentOf(tree, \
+id, i));\nif (operandOf(row, \"B\") >= 0) return barrierNumber(program, event, row, before);\nreturn \"\";\n}\nfunction strayText(tree, id, \
+i, p) {\nconst came = arrivalsOf(tree, id, i).came[p].size;\nconst parties = tree.program.everParties[p];\nif (came <= parties) return \"\";\
+\nconst name = nameOf(tree.program, \"P\", p);\nconst its = \" for its \" + parties + (parties === 1 ? \" party\" : \" parties\");\nreturn c\
+ame + \" threads have arrived at \" + name + its + \": one was a stray.\";\n}\nfunction strayOf(tree, id, i) {\nconst event = eventTo(tree.r\
+uns[id], i);\nconst p = event && event.row >= 0 ? operandOf(tree.program.rows[event.row], \"P\") : -1;\nconst text = p < 0 ? \"\" : strayTex\
+t(tree, id, i, p);\nreturn text === \"\" || strayText(tree, id, i - 1, p) === text ? \"\" : text;\n}\nconst BACK = 400;\nfunction lastNumber\
+Of(tree, run, i, t) {\nfor (let k = i; k > Math.max(0, i - BACK); k--) {\nconst event = eventTo(run, k);\nif (event.thread !== t || !/^(=|th\
+row)$/.test(event.what) || event.row < 0) continue;\nconst row = tree.program.rows[event.row];\nif (operandOf(row, \"P\") < 0 && operandOf(r\
+ow, \"B\") < 0) continue;\nconst reason = reasonOf(tree, run.id, k);\nconst call = callOf(tree.program, row, null);\nconst got = event.what \
+=== \"=\" ? \" returned \" : \" threw \";\nreturn reason ? [\"In choice \" + k + \" \" + call + got, strong(event.value), \". \" + reason] : \
+null;\n}\nreturn null;\n}\nconst namesOf = list => spread(list.map(one => ({ thread: one.thread })));\nconst COUNTED = \"A phaser counts arr\
+ivals, and doesn\\u2019t ask who arrives. \";\nfunction arrivalsText(tree, run, i, p) {\nconst { program } = tree;\nconst { arrived, ended } \
+= arrivalsOf(tree, run.id, i);\nconst { state } = momentOf(tree, run.id, i);\nconst name = nameOf(program, \"P\", p);\nconst one = state.pha\
+sers[p];\nconst view = phaseOf(state.phasers[rootOf(program, p)].view);\nconst said = [\nstrong(name),\n\" is in phase \" + view + \" and ha\
+s \" + one.parties + (one.parties === 1 ? \" party\" : \" parties\") + \". \"\n];\nif (one.view < 0) said.splice(1, 1, \" is terminated. \")\
+;\nif (arrived[p].length) said.push(\n\"In this phase \",\n...namesOf(arrived[p]),\narrived[p].length > 1 ? \" have arrived. \" : \" has arr\
+ived. \"\n);\nif (ended[p].length) said.push(\"In the phase before it was \", ...namesOf(ended[p]), \". \");\nconst stray = strayText(tree, \
+run.id, i, p);\nif (stray) said.push(COUNTED + stray + \" Nobody can know which.\");\nelse if (arrived[p].length || ended[p].length) {\nsaid\
+.push(COUNTED + \"If one of them was surplus, nobody can know which.\");\n}\nreturn said;\n}\nreturn { reasonOf, strayOf, lastNumberOf, arri\
+valsText };\n})();\n// app/why.js\nconst m31 = (() => {\nconst { ARRIVES, nameOf, operandOf, rootOf } = m0;\nconst { callOf, listed, phaseOf\
+, spread, strong, thrown } = m1;\nconst { wouldText } = m24;\nconst { doingOf } = m17;\nconst reached = new WeakMap();\nfunction rowsFrom(pr\
+ogram, start) {\nif (!reached.has(program)) reached.set(program, new Map());\nconst known = reached.get(program);\nif (known.has(start)) ret\
+urn known.get(start);\nconst seen = new Set();\nconst open = [start];\nwhile (open.length) {\nconst at = open.pop();\nconst row = program.ro\
+ws[at];\nif (!row || seen.has(at)) continue;\nseen.add(at);\nconst there = operandOf(row, \"L\");\nif (there >= 0) open.push(there);\nif (!/\
+^(halt|jmp|ret|throw)$/.test(row.word)) open.push(at + 1);\n}\nconst rows = [...seen].sort((a, b) => a - b);\nknown.set(start, rows);\nretur\
+n rows;\n}\nfunction startsOf(program, thread) {\nconst starts = [thread.status === \"waits\" ? thread.row + 1 : thread.row];\nfor (const en\
+try of thread.stack) {\nconst n = Number(entry.slice(1));\nif (entry[0] === \"C\" || entry[0] === \"H\") starts.push(n);\nelse return progra\
+m.rows.map((_, at) => at);\n}\nreturn starts;\n}\nfunction couldCall(program, moment, t, isWanted) {\nconst thread = moment.state.threads[t]\
+;\nif (/ended|died/.test(thread.status)) return null;\nfor (const start of startsOf(program, thread)) {\nfor (const at of rowsFrom(program, \
+start)) if (isWanted(program.rows[at])) return program.rows[at];\n}\nreturn null;\n}\nfunction missingIn(program, state, p) {\nconst out = [\
+];\nconst look = q => {\nconst isOpen = child => state.phasers[child].parties > 0 && state.phasers[child].missing > 0;\nconst open = program\
+.children[q].filter(isOpen);\nopen.forEach(look);\nconst own = state.phasers[q].missing - open.length;\nif (own > 0) out.push({ phaser: q, c\
+ount: own });\n};\nlook(rootOf(program, p));\nreturn out;\n}\nconst countText = count => (count === 1 ? \"one arrival is missing\" : count + \
+\" arrivals are missing\");\nfunction missingText(program, missing, p) {\nreturn listed(\nmissing.map(one => countText(one.count) + (one.pha\
+ser === p ? \"\" : \" at \" + nameOf(program, \"P\", one.phaser)))\n);\n}\nfunction findIn(program, moment, t, isWanted) {\nreturn program.t\
+hreads.flatMap((_, n) => {\nconst found = n === t ? null : couldCall(program, moment, n, isWanted);\nreturn found ? [[n, found]] : [];\n});\n\
+}\nfunction runnersOf(program, moment, t, entry) {\nconst { threads } = moment.state;\nreturn threads.flatMap((one, n) => (n !== t && one.st\
+ack.includes(entry) ? [[n, null]] : []));\n}\nconst once = list => list.filter(([n], k) => list.findIndex(([other]) => other === n) === k);\n\
+function helpersOfPhaser(program, moment, t, p) {\nconst root = rootOf(program, p);\nconst running = runnersOf(program, moment, t, \"A\" + r\
+oot);\nconst isPlace = q => q >= 0 && rootOf(program, q) === root && moment.state.phasers[q].missing > 0;\nconst { word } = program.rows[mom\
+ent.state.threads[t].row];\nconst find = isWanted => findIn(program, moment, t, isWanted);\nconst helpers = [\n...running,\n...find(row => A\
+RRIVES.has(row.word) && isPlace(operandOf(row, \"P\"))),\n...find(row => row.word === \"pforce\" && rootOf(program, operandOf(row, \"P\")) =\
+== root)\n];\nconst isInterruptible = word === \"pawaiti\" || word === \"pawaitt\";\nif (isInterruptible) helpers.push(...find(row => row.wo\
+rd === \"intr\" && operandOf(row, \"T\") === t));\nreturn once(helpers);\n}\nfunction helpersOfBarrier(program, moment, t, b) {\nconst { thr\
+eads } = moment.state;\nconst waitsHere = n => threads[n] && threads[n].status === \"waits\" &&\noperandOf(program.rows[threads[n].row], \"B\
+\") === b;\nconst find = isWanted => findIn(program, moment, t, isWanted);\nreturn once([\n...runnersOf(program, moment, t, \"X\" + b),\n...\
+find(row => /^cawait/.test(row.word) && operandOf(row, \"B\") === b),\n...find(row => row.word === \"intr\" && waitsHere(operandOf(row, \"T\"\
+))),\n...find(row => row.word === \"creset\" && operandOf(row, \"B\") === b)\n]);\n}\nfunction releaseText(program, moment, helpers, isStuck\
+) {\nconst said = (n, row) => (row ? callOf(program, row, null) : \"it runs the routine\");\nconst call = ([n, row]) => [\n{ thread: n },\n\" \
+(\" + said(n, row) + (doingOf(moment, n) === \"waits\" ? \", but waits itself\" : \"\") + \")\"\n];\nif (!helpers.length) return [strong(\"N\
+obody is left who could\"), \": it waits for ever.\"];\nif (!isStuck) {\nconst more = helpers.length > 4 ? \" or others\" : \"\";\nconst nam\
+es = spread(helpers.slice(0, 4).map(call), more ? \",\" : \"or\").flat();\nreturn [...names, more + \" could release it.\"];\n}\nconst names \
+= spread(helpers.slice(0, 4).map(([n]) => ({ thread: n })));\nconst wait = helpers.length > 1\n? \" could bring that, and they wait themselv\
+es: \"\n: \" could bring that, and waits itself: \";\nreturn [strong(\"Only \"), ...names, wait, strong(\"for ever\"), \".\"];\n}\nfunction \
+phaserText(program, moment, t, p) {\nconst { state } = moment;\nconst missing = missingIn(program, state, p);\nconst text = [{ thread: t }, \
+\" waits at \" + nameOf(program, \"P\", p) + \" for the end of phase \"];\ntext.push(String(phaseOf(state.phasers[rootOf(program, p)].view))\
+, \": \" + missingText(program, missing, p) + \". \");\nreturn text;\n}\nfunction routineText(program, moment, t, p, b) {\nconst entry = p >\
+= 0 ? \"A\" + rootOf(program, p) : \"X\" + b;\nconst runner = moment.state.threads.findIndex((thread, n) => n !== t && thread.stack.includes\
+(entry));\nconst routine = p >= 0\n? \"onAdvance of \" + nameOf(program, \"P\", rootOf(program, p))\n: \"the action of \" + nameOf(program, \
+\"B\", b);\nif (runner < 0) return [{ thread: t }, \" can\\u2019t go on yet.\"];\nreturn [\n{ thread: t },\n\" may not go: \",\n{ thread: ru\
+nner },\n\" runs \" + routine + \", and this call has to wait until that is done.\"\n];\n}\nfunction goesText(program, moment, t, doing) {\n\
+const [head, ...rest] = wouldText(program, moment.next[t], moment);\nconst isWho = head.thread === t;\nconst would = isWho ? [{ thread: t }, \
+...rest] : [head, ...rest];\nreturn [\n{ thread: t },\ndoing === \"free\" ? \" waited, and may go on. If it\\u2019s next: \" : \" may go. If \
+it\\u2019s next: \",\n...would\n];\n}\nfunction waitText(program, moment, t, p, b, doing) {\nconst isStuck = moment.state.word === \"stuck\"\
+;\nif (doing === \"held\") return { text: routineText(program, moment, t, p, b), helpers: [] };\nif (p >= 0) {\nconst text = phaserText(prog\
+ram, moment, t, p);\nconst helpers = helpersOfPhaser(program, moment, t, p);\nreturn { text, helpers, release: releaseText(program, moment, \
+helpers, isStuck) };\n}\nconst need = program.barriers[b].parties - moment.state.barriers[b].waiting;\nconst come = need === 1 ? \"one more \
+has to come\" : need + \" more have to come\";\nconst helpers = helpersOfBarrier(program, moment, t, b);\nconst text = [{ thread: t }, \" wa\
+its at \" + nameOf(program, \"B\", b) + \": \" + come + \". \"];\nconst timed = Object.keys(moment.late).map(Number);\nconst others = timed.\
+filter(n => n !== t && operandOf(program.rows[moment.state.threads[n].row], \"B\") === b);\nconst breaks = others.length\n? [\"The time of \"\
+, { thread: others[0] }, \"\\u2019s wait may run out, which breaks the barrier. \"]\n: [];\nconst breaker = Object.values(moment.next).find(\
+\nevent => event.mark && event.mark.kind === \"-b\" && event.mark.on === b\n);\nif (breaker) breaks.push({ thread: breaker.thread }, \" brea\
+ks the barrier at its next turn. \");\nconst release = breaks.length && !helpers.length ? [] : releaseText(program, moment, helpers, isStuck\
+);\nreturn { text: [...text, ...breaks], helpers, release, isSoon: breaks.length > 0 };\n}\nfunction whyOf(program, moment, t) {\nconst thre\
+ad = moment.state.threads[t];\nconst doing = doingOf(moment, t);\nif (doing === \"over\") return { thread: t, kind: \"over\", could: [], tex\
+t: [{ thread: t }, \" has ended.\"] };\nif (doing === \"dead\") {\nconst text = [{ thread: t }, \" is dead: nothing caught \" + thrown(threa\
+d.code) + \".\"];\nreturn { thread: t, kind: \"dead\", could: [], text };\n}\nif (moment.next[t]) {\nconst kind = doing === \"free\" ? \"fre\
+e\" : \"runs\";\nreturn { thread: t, kind, could: [], text: goesText(program, moment, t, doing) };\n}\nconst row = program.rows[thread.row];\
+\nconst p = operandOf(row, \"P\");\nconst b = operandOf(row, \"B\");\nif (p < 0 && b < 0) return { thread: t, kind: \"waits\", could: [], te\
+xt: [{ thread: t }, \" can\\u2019t go on yet.\"] };\nconst { text, helpers, release, isSoon } = waitText(program, moment, t, p, b, doing);\n\
+const isLate = Boolean(moment.late[t]);\nconst said = !release || (isLate && !helpers.length) ? text : [...text, ...release];\nif (isLate) s\
+aid.push(\" Its time may run out.\");\nconst isStuck = moment.state.word === \"stuck\" || (doing === \"waits\" && !helpers.length && !isLate \
+&& !isSoon);\nconst could = moment.state.word === \"stuck\" ? [] : helpers.map(([n]) => n);\nreturn { thread: t, kind: isStuck ? \"stuck\" : \
+\"waits\", could, text: said };\n}\nconst RANK = { stuck: 0, waits: 1, free: 2, runs: 3, dead: 4, over: 5 };\nconst told = new WeakMap();\nf\
+unction whysOf(program, moment) {\nif (!told.has(moment)) {\nconst all = program.threads.map((_, t) => whyOf(program, moment, t));\ntold.set\
+(moment, all.sort((a, b) => RANK[a.kind] - RANK[b.kind]));\n}\nreturn told.get(moment);\n}\nreturn { couldCall, whyOf, whysOf };\n})();\n// \
+app/questions.js\nconst m32 = (() => {\nconst { callOf, listed, plain, rowText, strong, threadName, thrown } = m1;\nconst { endText, outputT\
+ext } = m2;\nconst { planOf } = m16;\nconst { reasonOf } = m30;\nconst { eventTo, lengthOf, momentOf } = m19;\nconst { whyOf } = m31;\nconst \
+LONGEST = 200;\nconst MOST_OPTIONS = 4;\nconst ASKED = /^(p|c[awrb])/;\nconst PLAIN = /^(idle|ok|end|out|catch|unwind|none|limit)$/;\nfuncti\
+on optionOf(program, event, isOfWait) {\nconst row = program.rows[event.row];\nconst said = {\n\"=\": (isOfWait ? \"its wait ends: it return\
+s \" : \"it returns \") + event.value,\nwait: \"it waits\",\nthrow: \"it throws \" + thrown(event.value, row),\ndie: \"it dies of \" + throw\
+n(event.value, row),\nenter: \"it is the last, and enters the routine\"\n};\nconst mark = event.mark && {\n\"+p\": event.mark.view < 0 ? \", \
+and the phaser is terminated\" : \", and phase \" + event.mark.view + \" begins\",\n\"+b\": \", and the barrier trips\",\n\"-b\": \", and th\
+e barrier breaks\"\n};\nreturn said[event.what] + (mark ? mark[event.mark.kind] : \"\");\n}\nconst keyOf = (row, isOfWait) => row + (isOfWai\
+t ? \" wait\" : \"\");\nfunction happenedIn(program, outcomes) {\nconst happened = new Map();\nfor (const one of outcomes) {\nconst waits = \
+new Set();\nfor (const event of one.events) {\nif (event.row < 0 || event.what === \"idle\") continue;\nconst isOfWait = waits.delete(event.\
+thread);\nif (event.what === \"wait\") waits.add(event.thread);\nif (PLAIN.test(event.what)) continue;\nconst key = keyOf(event.row, isOfWai\
+t);\nif (!happened.has(key)) happened.set(key, new Set());\nhappened.get(key).add(optionOf(program, event, isOfWait));\n}\n}\nreturn happene\
+d;\n}\nfunction shuffled(list, seed) {\nconst keyed = list.map((one, k) => [Math.sin(seed * 97 + k * 131 + one.length * 17) * 1e4 % 1, one])\
+;\nreturn keyed.sort((a, b) => a[0] - b[0]).map(one => one[1]);\n}\nfunction optionsOf(right, others, seed) {\nconst wrong = [...new Set(oth\
+ers)].filter(one => one !== right).slice(0, MOST_OPTIONS - 1);\nreturn wrong.length ? shuffled([right, ...wrong], seed) : null;\n}\nfunction \
+reasonAt(tree, run, i) {\nconst reason = reasonOf(tree, run.id, i);\nif (reason) return [reason];\nconst { what, thread } = eventTo(run, i);\
+\nif (what !== \"wait\") return [\"The line below says what happened.\"];\nconst { text } = whyOf(tree.program, momentOf(tree, run.id, i), t\
+hread);\nreturn text.slice(0, text.findIndex(part => typeof part === \"string\" && part.endsWith(\". \")) + 1);\n}\nfunction callQuestion(tr\
+ee, run, i, happened) {\nconst { program } = tree;\nconst event = run.events.at(i);\nconst row = program.rows[event.row];\nif (event.row < 0 \
+|| PLAIN.test(event.what) || !ASKED.test(row.word)) return null;\nconst thread = momentOf(tree, run.id, i).state.threads[event.thread];\ncon\
+st isOfWait = thread.status === \"waits\";\nconst right = optionOf(program, event, isOfWait);\nconst options = optionsOf(right, happened.get\
+(keyOf(event.row, isOfWait)) || [], i + 1);\nif (!options) return null;\nconst call = callOf(program, row, thread) || rowText(program, row);\
+\nconst who = { thread: event.thread };\nconst ask = event.isLate\n? [\"Choice \" + (i + 1) + \": the time of \", who, \"\\u2019s wait at \" \
++ call + \" is up. What happens?\"]\n: isOfWait\n? [\"Choice \" + (i + 1) + \": \", who, \" was waiting at \" + call + \". What happens?\"]\n\
+: [\"Choice \" + (i + 1) + \": \", who, \" calls \" + call + \". What happens?\"];\nreturn { at: i, leads: i + 1, ask, right, options, why: \
+() => reasonAt(tree, run, i + 1) };\n}\nfunction whoQuestion(tree, run, i) {\nconst { program } = tree;\nconst event = run.events.at(i);\nif \
+(event.what !== \"wait\" && !event.mark) return null;\nconst say = k => {\nconst names = Object.keys(momentOf(tree, run.id, k).next).map(t =\
+> threadName(program, Number(t)));\nreturn names.length ? listed(names) : \"nobody\";\n};\nconst near = [];\nfor (let k = Math.max(0, i - 4)\
+; k <= Math.min(lengthOf(run), i + 6); k++) near.push(say(k));\nconst right = say(i + 1);\nconst options = optionsOf(right, near, i + 7);\ni\
+f (!options || options.length < 3) return null;\nconst moment = momentOf(tree, run.id, i + 1);\nconst why = () => {\nconst waits = program.t\
+hreads.map((_, t) => t).filter(\nt => !moment.next[t] && moment.state.threads[t].status === \"waits\"\n);\nreturn waits.length ? whyOf(progr\
+am, moment, waits[0]).text : [\"Nobody waits.\"];\n};\nreturn { at: i + 1, leads: i + 1, ask: [\"Who may go next, after choice \" + (i + 1) \
++ \"?\"], right, options, why };\n}\nfunction ownQuestions(tree, run, i) {\nconst { program } = tree;\nconst { row } = run.events.at(i);\nco\
+nst isFirst = run.events.findIndex(event => event.row === row && event.what !== \"idle\") === i;\nif (!isFirst) return [];\nconst asked = pr\
+ogram.questions.filter(one => one.row === row);\nreturn asked.map(\none => ({ at: i, leads: i + 1, ask: [one.text], own: true, options: [], \
+why: () => reasonAt(tree, run, i + 1) })\n);\n}\nfunction endQuestion(tree, run, outcomes) {\nconst { program } = tree;\nconst say = end => \
+{\nconst output = outputText(program, end);\nreturn endText(program, end) + (output ? \" \\u2014 output: \" + output : \"\");\n};\nconst rig\
+ht = say(run.end);\nconst options = optionsOf(right, outcomes.map(one => say(one.end)), 3);\nif (!options) return null;\nconst ask = [\"The \
+order is \", strong(planOf(program, run.events, 24)), \". How does it end?\"];\nreturn { at: 0, leads: lengthOf(run), ask, right, options, w\
+hy: () => [\"It ends so: \", strong(right), \".\"] };\n}\nfunction questionsOf(tree, run, outcomes) {\nconst happened = happenedIn(tree.prog\
+ram, outcomes);\nconst out = [];\nfor (let i = 0; i < Math.min(lengthOf(run), LONGEST); i++) {\nout.push(...ownQuestions(tree, run, i), call\
+Question(tree, run, i, happened), whoQuestion(tree, run, i));\n}\nreturn [...out, endQuestion(tree, run, outcomes)].filter(Boolean);\n}\ncon\
+st askText = (program, question) => plain(program, question.ask);\nreturn { questionsOf, askText };\n})();\n// app/state.js\nconst m33 = (() \
+=> {\nconst { endKind } = m2;\nconst { lessonOf } = m27;\nconst { walkTo, addressOf } = m20;\nconst { Refused } = m14;\nconst { mistakeOf } \
+= m28;\nconst { playedPlan, readablePlan } = m16;\nconst { questionsOf } = m32;\nconst { depthOf, firstAlone, forkRun, graftRun, inOrder, le\
+ngthOf, openProgram, plantTree } = m19;\nconst OWN = {\ngroup: \"Yours\",\nname: \"own\",\ntitle: \"My own program\",\nplan: \"..\",\nprogra\
+m:\n\"; My own: two threads meet.\\n.phaser meet 2\\n.thread ann main\\n.thread bob main\\n\" +\n\"main: paaa r0 meet ; arriveAndAwaitAdvanc\
+e\\n      out r0\\n      halt\\n\"\n};\nfunction firstState() {\nreturn {\nitem: null,\ntext: \"\",\nplan: \"..\",\ntree: null,\nid: 0,\nat: \
+0,\nisCut: false,\nmistake: null,\nmode: \"explore\",\ntab: \"picture\",\npane: \"time\",\nselected: null,\npreview: \"\",\norders: null,\ni\
+sJava: false,\nisHidden: false,\nisFolded: false,\nisAlone: false,\nhasLetters: true,\nother: null,\nzoom: 1,\nlesson: null,\nquiz: null,\nc\
+hallenge: null,\ncheck: null\n};\n}\nconst runOf = state => state.tree.runs[state.id];\nconst otherOf = state => (\nstate.other === null || \
+state.other === state.id ? null : state.tree.runs[state.other] || null\n);\nfunction planted(state, program, text, plan, { choices, isCut, t\
+race }) {\nconst tree = plantTree(program, choices, trace);\nconst next = { ...state, text, plan, tree, id: 0, isCut, mistake: null, orders: \
+null };\nreturn { ...next, selected: null, preview: \"\", other: null, challenge: null };\n}\nconst scheduleIn = (item, plan) => (item && pl\
+an === item.plan && item.schedule) || \"\";\nfunction edited(state, text, plan, played) {\nconst isSamePlan = state.tree && plan === state.p\
+lan;\nconst place = isSamePlan ? addressOf(state.tree, runOf(state), state.at) : String(state.at);\nlet next;\ntry {\nconst program = openPr\
+ogram(text);\nnext = planted(state, program, text, plan, played || playedPlan(text, plan, scheduleIn(state.item, plan)));\n} catch (fault) {\
+\nif (!(fault instanceof Refused)) throw fault;\nreturn { ...state, text, plan, mistake: mistakeOf(fault, text) };\n}\nconst { tree, run, at \
+} = walkTo(next.tree, place);\nnext = { ...next, tree, id: run.id, at };\nreturn state.mode === \"lesson\" && state.lesson ? { ...next, less\
+on: begunLesson(next) } : next;\n}\nconst begunLesson = state => ({\nlesson: lessonOf(state.item.name, state.tree.program, state.tree.runs[0\
+]),\nstep: -1,\nisOpen: false,\nvotes: {}\n});\nfunction opened(state, item, mode, played) {\nconst fresh = { ...state, item, at: 0, id: 0, \
+tree: null, check: null, mode: \"explore\", quiz: null };\nlet next = edited(fresh, item.program, item.plan, played);\nif (!next.tree) {\nco\
+nst stand = edited(fresh, OWN.program, OWN.plan);\nreturn { ...stand, text: item.program, plan: item.plan, mistake: next.mistake };\n}\nif (\
+!next.mistake) next = { ...next, plan: readablePlan(next.tree.program, runOf(next), next.plan) };\nif (item.schedule) next = { ...next, item\
+: { ...item, plan: next.plan } };\nnext = { ...next, lesson: begunLesson(next) };\nreturn inMode(next, mode || \"explore\");\n}\nfunction at\
+(state, i) {\nreturn { ...state, at: Math.max(0, Math.min(lengthOf(runOf(state)), i)), preview: \"\" };\n}\nfunction walked(state, id, i) {\n\
+const other = state.other === id ? state.id : state.other;\nreturn at({ ...state, id, other }, i);\n}\nfunction forked(state, i, token) {\nc\
+onst { tree, run } = forkRun(state.tree, state.id, i, token);\nconst isOn = runOf(state).choices[i] === token;\nreturn at({ ...state, tree, \
+id: isOn ? state.id : run.id }, i + 1);\n}\nfunction addressed(state, address) {\nconst { tree, run, at: i } = walkTo(state.tree, address);\n\
+return at({ ...state, tree, id: run.id }, i);\n}\nfunction ordered(state, outcome) {\nconst { tree, run } = graftRun(state.tree, outcome.cho\
+ices);\nconst from = run.parent < 0 ? 0 : run.fork + 1;\nreturn at({ ...state, tree, id: run.id }, Math.min(from, lengthOf(run)));\n}\nfunct\
+ion backToFork(state) {\nconst run = runOf(state);\nreturn run.parent < 0 ? state : walked(state, run.parent, Math.min(run.fork, state.at));\
+\n}\nfunction besideInTree(state, by) {\nconst list = inOrder(state.tree).map(one => one.run);\nconst run = list[list.findIndex(one => one.i\
+d === state.id) + by];\nif (!run) return state;\nreturn walked(state, run.id, Math.max(state.at, run.parent < 0 ? 0 : run.fork + 1));\n}\nfu\
+nction madeFirst(state) {\nconst run = runOf(state);\nif (run.parent < 0) return state;\nconst plan = readablePlan(state.tree.program, run, \
+run.choices.join(\" \"));\nreturn at(planted(state, state.tree.program, state.text, plan, { choices: run.choices, isCut: false }), state.at)\
+;\n}\nfunction firstOnly(state) {\nconst run = runOf(state);\nconst i = run.parent < 0 ? state.at : Math.min(state.at, run.fork);\nreturn at\
+({ ...state, tree: firstAlone(state.tree), id: 0, other: null }, i);\n}\nfunction sideBySide(state) {\nif (state.other !== null) return { ..\
+.state, other: null };\nif (state.tree.runs.length < 2) return state;\nconst run = runOf(state);\nreturn { ...state, other: run.parent >= 0 \
+? run.parent : state.tree.runs.length - 1 };\n}\nfunction selectedThread(state, thread) {\nconst isSame = state.selected && state.selected.t\
+hread === thread;\nreturn { ...state, selected: isSame ? null : { thread }, tab: isSame ? state.tab : \"picture\" };\n}\nfunction selectedPh\
+aser(state, phaser) {\nconst isSame = state.selected && state.selected.phaser === phaser;\nreturn { ...state, selected: isSame ? null : { ph\
+aser } };\n}\nfunction inMode(state, mode) {\nconst next = { ...state, mode, pane: \"time\", preview: \"\", quiz: null, challenge: null };\n\
+if (mode === \"quiz\") return quizOf(next);\nif (mode === \"challenge\") {\nconst isStuck = endKind(state.tree.runs[0].end) === \"stuck\";\n\
+return { ...at({ ...next, id: 0 }, 0), other: null, challenge: { goal: isStuck ? \"ended\" : \"stuck\" } };\n}\nreturn next;\n}\nfunction qu\
+izOf(state) {\nconst next = at({ ...state, id: 0, other: null, tab: \"picture\" }, 0);\nif (!state.orders) return { ...next, quiz: null };\n\
+const list = questionsOf(state.tree, state.tree.runs[0], state.orders.all);\nconst quiz = { list, k: 0, chosen: null, isOpen: false, right: \
+0, answered: 0 };\nreturn at({ ...next, quiz }, list.length ? list[0].at : 0);\n}\nfunction withOrders(state, orders) {\nconst next = { ...s\
+tate, orders };\nreturn state.mode === \"quiz\" && !state.quiz ? quizOf(next) : next;\n}\nfunction answered(state, option) {\nconst { quiz } \
+= state;\nconst question = quiz.list[quiz.k];\nif (!question || quiz.chosen !== null) return state;\nconst right = quiz.right + (option === \
+question.right ? 1 : 0);\nreturn at({ ...state, quiz: { ...quiz, chosen: option, right, answered: quiz.answered + 1 } }, question.leads);\n}\
+\nfunction shownOwn(state) {\nconst question = state.quiz.list[state.quiz.k];\nreturn at({ ...state, quiz: { ...state.quiz, isOpen: true } }\
+, question.leads);\n}\nfunction nextQuestion(state) {\nconst { quiz } = state;\nconst question = quiz.list[quiz.k + 1];\nconst next = { ...s\
+tate, quiz: { ...quiz, k: quiz.k + 1, chosen: null, isOpen: false } };\nreturn question ? at({ ...next, id: 0 }, question.at) : next;\n}\nfu\
+nction isVeiled(state) {\nconst { quiz } = state;\nif (state.mode !== \"quiz\") return false;\nreturn !quiz || (Boolean(quiz.list[quiz.k]) &\
+& quiz.chosen === null && !quiz.isOpen);\n}\nfunction isLaterHidden(state) {\nconst { quiz } = state;\nreturn state.isHidden || (state.mode \
+=== \"quiz\" && (!quiz || Boolean(quiz.list[quiz.k])));\n}\nfunction lessonStep(state, by) {\nconst { lesson } = state.lesson;\nconst step = \
+Math.max(-1, Math.min(lesson.steps.length, state.lesson.step + by));\nconst place = lesson.steps[step] ? lesson.steps[step].at : 0;\nreturn \
+at({ ...state, id: 0, lesson: { ...state.lesson, step, isOpen: false, votes: {} } }, place);\n}\nfunction lessonAnswer(state) {\nconst one = \
+state.lesson.lesson.steps[state.lesson.step];\nif (!one) return state;\nconst next = { ...state, lesson: { ...state.lesson, isOpen: true } }\
+;\nreturn one.next ? at(next, one.at + 1) : next;\n}\nfunction voted(state, thread, by) {\nconst count = Math.max(0, (state.lesson.votes[thr\
+ead] || 0) + by);\nreturn { ...state, lesson: { ...state.lesson, votes: { ...state.lesson.votes, [thread]: count } } };\n}\nfunction challen\
+geOf(state) {\nconst { goal } = state.challenge;\nconst run = runOf(state);\nconst changes = depthOf(state.tree, run);\nconst isDone = chang\
+es > 0 && state.at === lengthOf(run) && endKind(run.end) === goal;\nreturn { goal, changes, isDone };\n}\nreturn { OWN, firstState, runOf, o\
+therOf, scheduleIn, edited, opened, at, walked, forked, addressed, ordered, backToFork, besideInTree, madeFirst, firstOnly, sideBySide, sele\
+ctedThread, selectedPhaser, inMode, quizOf, withOrders, answered, shownOwn, nextQuestion, isVeiled, isLaterHidden, lessonStep, lessonAnswer, \
+voted, challengeOf };\n})();\n// app/commands.js\nconst m34 = (() => {\nconst { MOST_LINK } = m20;\nconst { button, byId, fill } = m3;\ncons\
+t { bareName, pageWith, readProgramFile, runIn, save } = m21;\nconst { listenToKeys } = m22;\nconst { listProgram } = m14;\nconst { copyShee\
+t, mainMenu, programsMenu } = m23;\nconst { drawPaper } = m25;\nconst { planOf } = m16;\nconst { optionAt } = m26;\nconst { lengthOf } = m19\
+;\nconst { scheduleOf } = m15;\nconst change = m33;\nconst ZOOM = 1.12;\nconst STORE = \"vuthgal\";\nfunction stored() {\ntry {\nreturn JSON\
+.parse(localStorage.getItem(STORE)) || {};\n} catch (_) {\nreturn {};\n}\n}\nfunction keep(more) {\ntry {\nlocalStorage.setItem(STORE, JSON.\
+stringify({ ...stored(), ...more }));\nreturn true;\n} catch (_) {\nreturn false;\n}\n}\nfunction makeCommands(app, given) {\nconst settings \
+= { speed: 1, theme: \"auto\", version: given.version };\nlet playing = 0;\nconst state = () => app.get();\nconst run = () => change.runOf(a\
+pp.get());\nconst go = i => app.set(change.at(state(), i));\nfunction setZoom(zoom, isKept = true) {\nconst next = Math.max(0.7, Math.min(2.\
+5, zoom));\ndocument.documentElement.style.setProperty(\"--zoom\", next);\nif (isKept) keep({ zoom: next });\nsetColumns();\nif (state().tre\
+e) app.set({ ...state(), zoom: next });\napp.fitted();\n}\nconst zoomBy = by => setZoom(state().zoom * by);\nfunction setTheme(theme) {\nset\
+tings.theme = theme;\nif (theme === \"auto\") delete document.documentElement.dataset.theme;\nelse document.documentElement.dataset.theme = \
+theme;\nkeep({ theme });\n}\nfunction setColumns() {\nconst rem = parseFloat(getComputedStyle(document.documentElement).fontSize);\nconst is\
+Two = innerWidth > 900 && innerWidth / rem < 62;\nif (isTwo) document.body.dataset.columns = \"2\";\nelse delete document.body.dataset.colum\
+ns;\n}\nfunction play() {\nclearInterval(playing);\nconst step = () => (state().at >= lengthOf(run()) ? play() : go(state().at + 1));\nplayi\
+ng = playing ? 0 : setInterval(step, settings.speed * 1000);\nif (playing) step();\n}\nasync function copy(text) {\ntry {\nawait navigator.c\
+lipboard.writeText(text);\napp.note(\"Copied.\");\n} catch (_) {\napp.sheet.open(byId(\"more\"), \"Copy this\", copySheet(text));\nbyId(\"sh\
+eet\").querySelector(\"textarea\").select();\n}\n}\nasync function copyLink() {\nif (state().mistake) return app.note(\"The program is refus\
+ed now, so there is no link to it. Mend it first.\");\nconst link = location.href.split(\"#\")[0] + (await app.linkNow());\nif (link.length \
+> MOST_LINK) return app.note(\"This program is too long for a link. Save the page with the run.\");\nreturn copy(link);\n}\nfunction savePag\
+e() {\nconst { text: source } = state().tree.program;\nconst { choices, trace } = run();\nconst texts = { listing: listProgram(source), sour\
+ce, schedule: scheduleOf(choices), trace };\nreturn save(state().item.name + \".html\", pageWith(given.page, texts), \"text/html\");\n}\nfun\
+ction copyCommand() {\nconst plan = planOf(state().tree.program, run().events, Infinity);\ncopy(\"vuthgal show \" + state().item.name + \".a\
+sm --plan '\" + plan + \"' > \" + state().item.name + \".html\");\n}\nlet isSheet = false;\nfunction drawForPaper() {\nconst { tree, at, isJ\
+ava, lesson, item } = state();\nconst asked = lesson ? lesson.lesson.steps.map(one => one.ask) : [];\nconst title = (lesson && lesson.lesson\
+.title) || tree.program.title || item.title;\ndrawPaper(byId(\"paper\"), { tree, run: run(), at, isJava, title, asked }, isSheet);\n}\nfunct\
+ion print(sheet) {\nisSheet = sheet;\nwindow.print();\n}\nwindow.addEventListener(\"beforeprint\", () => state().tree && drawForPaper());\nw\
+indow.addEventListener(\"afterprint\", () => {\nisSheet = false;\nfill(byId(\"paper\"));\n});\nfunction startAgain() {\nconst { text, plan, \
+item } = state();\napp.open(item, state().mode);\nif (text !== item.program) app.note(\"As it was at first. \", button(\"Undo\", () => app.e\
+dit(text, plan)));\n}\nfunction openOwn() {\nconst { own } = stored();\napp.open(own && own.program ? { ...change.OWN, ...own } : change.OWN\
+, \"explore\");\n}\nfunction keepOwn() {\nconst { text, plan } = state();\nconst isKept = keep({ own: { program: text, plan } });\napp.note(\
+\nisKept ? \"Kept in this browser: \\u201CMy own program\\u201D.\" : \"This browser keeps nothing. Save the program.\"\n);\n}\nasync functio\
+n openFile(file) {\nconst text = await file.text();\nconst name = bareName(file.name);\nif (/\\.html?$/i.test(file.name)) {\nconst found = r\
+unIn(new DOMParser().parseFromString(text, \"text/html\"), name);\nreturn found ? app.openRun(found) : app.note(\"There is no run in this pa\
+ge.\");\n}\nreturn app.open({ group: \"Yours\", name, title: file.name, ...readProgramFile(text) }, \"explore\");\n}\nbyId(\"pick\").onclick \
+= () => {\nconst act = {\nopen: item => app.open(item, item.group === \"Lessons\" && state().mode === \"explore\" ? \"lesson\" : state().mod\
+e),\nown: openOwn,\nkeep: keepOwn,\nfile: openFile\n};\napp.sheet.open(byId(\"pick\"), \"Programs\", programsMenu(app.sheet, given.menu, sta\
+te().item, act));\n};\nconst acts = {\nset: (name, value) => {\nif (name === \"hasLetters\") keep({ letters: value });\napp.set({ ...state()\
+, [name]: value });\napp.fitted();\n},\nspeed: speed => (settings.speed = speed),\ntheme: setTheme,\nplay,\nagain: startAgain,\nside: app.se\
+tSide,\nmakeFirst: () => (run().parent < 0 ? app.note(\"This is run 1.\") : app.set(change.madeFirst(state()), true)),\nonlyFirst: () => app\
+.set(change.firstOnly(state()), true),\nlarger: () => zoomBy(ZOOM),\nsmaller: () => zoomBy(1 / ZOOM),\nhandout: () => print(false),\nworkshe\
+et: () => print(true),\ncopyLink,\ncopyPlan: () => copy(planOf(state().tree.program, run().events, Infinity)),\ncopySchedule: () => copy(sch\
+eduleOf(run().choices)),\ncopyCommand,\nsaveTrace: () => save(state().item.name + \".trace\", run().trace),\nsaveProgram: () => save(state()\
+.item.name + \".asm\", state().text),\nsavePage\n};\nbyId(\"more\").onclick = () => app.sheet.open(byId(\"more\"), \"Menu\", mainMenu(app.sh\
+eet, state(), settings, acts));\nbyId(\"again\").onclick = startAgain;\nbyId(\"first\").onclick = () => go(0);\nbyId(\"back\").onclick = () \
+=> go(state().at - 1);\nbyId(\"forth\").onclick = () => go(state().at + 1);\nbyId(\"last\").onclick = () => go(lengthOf(run()));\nbyId(\"sma\
+ller\").onclick = () => zoomBy(1 / ZOOM);\nbyId(\"larger\").onclick = () => zoomBy(ZOOM);\nfor (const one of document.querySelectorAll(\"#mo\
+des button\")) one.onclick = () => app.setMode(one.dataset.mode);\nfor (const one of document.querySelectorAll(\"#tabs button\")) {\none.onc\
+lick = () => {\napp.set({ ...state(), pane: one.dataset.pane });\napp.fitted();\n};\n}\nconst moves = {\nArrowRight: () => go(state().at + 1\
+),\nPageDown: () => go(state().at + 1),\nArrowLeft: () => go(state().at - 1),\nPageUp: () => go(state().at - 1),\nHome: () => go(0),\nEnd: (\
+) => go(lengthOf(run()))\n};\nconst letters = {\n\" \": play,\n\"+\": () => zoomBy(ZOOM),\n\"=\": () => zoomBy(ZOOM),\n\"-\": () => zoomBy(1 \
+/ ZOOM),\n0: () => setZoom(1),\n\"[\": () => app.set(change.besideInTree(state(), -1)),\n\"]\": () => app.set(change.besideInTree(state(), 1\
+)),\np: () => app.setTab(\"picture\"),\nv: () => app.setTab(\"values\"),\no: () => app.setTab(\"orders\"),\nf: () => acts.set(\"isAlone\", !\
+state().isAlone),\ne: () => {\napp.set({ ...state(), pane: \"code\", isAlone: false });\napp.program.focus();\n},\ns: app.setSide\n};\nconst \
+keys = {\nkeys: moves,\nnumber: n => byId(\"next\").querySelectorAll(\".chip\")[n - 1]?.click(),\nletter: sign => {\nconst option = state().\
+mode === \"quiz\" ? optionAt(state().quiz, sign) : null;\nif (option !== null) app.set(change.answered(state(), option));\nelse if (letters[\
+sign]) letters[sign]();\nreturn option !== null || Boolean(letters[sign]);\n},\nescape: field => {\nif (app.sheet.isOpen()) return app.sheet\
+.close(true);\nif (field) return field.blur();\nif (state().isAlone) return acts.set(\"isAlone\", false);\nreturn app.set(change.backToFork(\
+state()));\n},\nprint: () => (isSheet = false)\n};\nlistenToKeys(keys, () => state().hasLetters);\nwindow.addEventListener(\"resize\", () => \
+{\nsetColumns();\napp.fitted();\n});\nconst kept = stored();\nif (kept.theme) setTheme(kept.theme);\nif (kept.letters === false) app.set({ .\
+..state(), hasLetters: false });\nsetColumns();\nif (kept.zoom) {\ndocument.documentElement.style.setProperty(\"--zoom\", kept.zoom);\napp.s\
+et({ ...state(), zoom: kept.zoom });\nsetColumns();\n}\n}\nreturn { makeCommands };\n})();\n// app/lesson.js\nconst m35 = (() => {\nconst { \
+button, h } = m3;\nconst { hueOf, threadName } = m1;\nfunction votesOf(program, moment, votes, act) {\nconst able = Object.keys(moment.next)\
+.map(Number);\nconst most = Math.max(0, ...able.map(t => votes[t] || 0));\nconst first = able.filter(t => (votes[t] || 0) === most && most > \
+0);\nconst name = t => threadName(program, t);\nconst one = t => {\nconst count = votes[t] || 0;\nconst given = {\ntype: \"button\",\ntitle: \
+\"A click counts up, Shift+click down\",\n\"aria-label\": name(t) + \", \" + count + (count === 1 ? \" vote\" : \" votes\"),\nonclick: event \
+=> act.vote(t, event.shiftKey ? -1 : 1),\noncontextmenu: event => {\nevent.preventDefault();\nact.vote(t, -1);\n}\n};\nreturn h(\"button.vot\
+e.\" + hueOf(t), given, h(\"span\", {}, name(t)), h(\"b\", {}, count));\n};\nconst play = button(first.length === 1 ? \"Play \" + name(first\
+[0]) : \"Play\", () => act.choose(\"t\" + first[0]), {\nkind: \".main\",\ndisabled: first.length !== 1\n});\nreturn [\nh(\"p.card-small\", {\
+}, \"Votes: who is next?\"),\nh(\"div.votes\", {}, able.map(one), play)\n];\n}\nfunction answerOf(one, act) {\nconst run = one.fork ? button\
+(\"Show this run\", () => act.showFork(...one.fork), { kind: \".card-show\" }) : null;\nconst tab = one.tab ? button(\"Random orders\", () =\
+> act.tab(one.tab), { kind: \".card-show\" }) : null;\nreturn [h(\"p.card-small\", {}, \"Answer\"), h(\"p.card-answer\", {}, one.answer, run\
+, tab)];\n}\nfunction dotsOf(step, count) {\nconst label = step < 0 ? \"start\" : step >= count ? \"end\" : \"question \" + (step + 1) + \" \
+of \" + count;\nconst dot = (_, k) => h(\"i.dot\" + (k === step ? \".is-here\" : k < step ? \".is-done\" : \"\"));\nreturn h(\"span.dots\", \
+{ role: \"img\", \"aria-label\": label }, Array.from({ length: count }, dot));\n}\nfunction edgeOf(lesson, step, act) {\nconst isStart = ste\
+p < 0;\nconst count = lesson.steps.length;\nconst text = isStart\n? \"Step through the run first. Let the class say what each choice does, b\
+efore you step.\"\n: \"Ask for the quiz, or change a row, and look again.\";\nconst next = isStart && count ? button(\"First question\", () \
+=> act.step(1), { kind: \".main\" }) : null;\nconst back = isStart ? null : button(\"Back\", () => act.step(-1));\nconst head = isStart ? \"\
+Aim\" : \"To remember\";\nreturn [\nh(\"div.card-ask\", {}, h(\"p.card-small\", {}, head), h(\"p.card-large\", {}, isStart ? lesson.aim : le\
+sson.last)),\nh(\"div.card-reply\", {}, h(\"p.card-small\", {}, isStart ? lesson.title : \"End of the lesson\"), h(\"p\", {}, text)),\nh(\"d\
+iv.card-turn\", {}, dotsOf(step, count), next, back)\n];\n}\nfunction lessonCard({ lesson, step, isOpen, votes }, program, moment, act) {\nc\
+onst one = lesson.steps[step];\nconst count = lesson.steps.length;\nif (!one) return edgeOf(lesson, step, act);\nconst reply = isOpen\n? ans\
+werOf(one, act)\n: one.votes ? votesOf(program, moment, votes, act) : h(\"p.card-small\", {}, \"\\u00a0\");\nconst next = isOpen\n? button(s\
+tep + 1 < count ? \"Next question\" : \"End\", () => act.step(1), { kind: \".main\" })\n: button(\"Answer\", act.answer, { kind: \".main\" }\
+);\nreturn [\nh(\n\"div.card-ask\",\n{},\nh(\"p.card-small\", {}, \"Question \" + (step + 1) + \" of \" + count),\nh(\"p.card-large\", {}, o\
+ne.ask)\n),\nh(\"div.card-reply\", {}, reply),\nh(\"div.card-turn\", {}, dotsOf(step, count), button(\"Back\", () => act.step(-1)), next)\n]\
+;\n}\nreturn { lessonCard };\n})();\n// app/outcomes.js\nconst m36 = (() => {\nconst { playRun } = m14;\nconst { choicesOfPlan } = m16;\ncon\
+st { openProgram } = m19;\nconst { scheduleOf } = m15;\nconst { readTrace } = m17;\nconst SEEDS = 300;\nconst LONGEST = 2000;\nconst outcome\
+Key = end => JSON.stringify([end.word, end.threads.map(one => [one.status, one.code, one.out])]);\nfunction outcomesOf(text, seeds, told = (\
+) => {}) {\nconst program = openProgram(text);\nconst found = new Map();\nfor (let seed = 1; seed <= seeds; seed++) {\nconst plan = \"?\" + \
+seed + \"*\" + LONGEST;\nconst { choices } = choicesOfPlan(program.text, plan);\nconst { events: read, end } = readTrace(playRun(program.tex\
+t, scheduleOf(choices)));\nconst events = [...read];\nconst key = outcomeKey(end);\nconst one = found.get(key) || { key, count: 0, plan, end\
+, choices, events };\nfound.set(key, one);\none.count++;\nif (choices.length < one.choices.length) Object.assign(one, { plan, choices, event\
+s, end });\nif (seed % 10 === 0) told(seed);\n}\nreturn { tried: seeds, all: [...found.values()].sort((a, b) => b.count - a.count) };\n}\nre\
+turn { SEEDS, outcomeKey, outcomesOf };\n})();\n// app/orders.js\nconst m37 = (() => {\nconst { endKind, endText, outputText } = m2;\nconst \
+{ button, h } = m3;\nconst { SEEDS } = m36;\nconst { planOf } = m16;\nconst SHOWN = 40;\nfunction outcomeOf(program, one, most, take) {\ncon\
+st output = outputText(program, one.end);\nreturn h(\n\"button.outcome.outcome-\" + endKind(one.end),\n{ type: \"button\", onclick: () => ta\
+ke(one), title: \"Show this run\" },\nh(\"span.outcome-count\", {}, one.count),\nh(\"span.meter\", { vars: { \"--part\": one.count / most } \
+}, h(\"i\")),\nh(\n\"span.outcome-said\",\n{},\nh(\"b\", {}, endText(program, one.end)),\nh(\"span\", {}, output ? \"output: \" + output : \"\
+no output\"),\nh(\"code\", {}, planOf(program, one.events, 8))\n)\n);\n}\nfunction ordersOf(program, orders, working, act) {\nif (working) {\
+\nreturn [\nh(\"p.hint\", { role: \"status\" }, working.done + \" of \" + SEEDS + \" random orders are played.\"),\nh(\"span.meter\", { vars\
+: { \"--part\": working.done / SEEDS } }, h(\"i\")),\nbutton(\"Stop\", act.stop)\n];\n}\nif (!orders) {\nreturn [\nh(\n\"p.hint\",\n{},\n\"P\
+lays \" + SEEDS + \" random orders of this program, and groups them by how they end and what they put out.\"\n),\nbutton(\"Play \" + SEEDS + \
+\" random orders\", act.play, { kind: \".main\" })\n];\n}\nconst most = Math.max(...orders.all.map(one => one.count));\nconst said = orders.\
+all.length === 1\n? \"one outcome.\"\n: orders.all.length + \" outcomes. Click one to see such a run.\";\nconst rest = orders.all.length - S\
+HOWN;\nreturn [\nh(\"p.hint\", {}, orders.tried + \" random orders: \" + said),\nh(\"div.outcomes\", {}, orders.all.slice(0, SHOWN).map(one \
+=> outcomeOf(program, one, most, act.take))),\nrest > 0 ? h(\"p.hint\", {}, rest + \" more outcomes\") : null\n];\n}\nreturn { ordersOf };\n\
+})();\n// app/program.js\nconst m38 = (() => {\nconst { DIRECTIVES, KINDS } = m0;\nconst { byId, fill, h } = m3;\nconst { hueOf, javaText, t\
+hreadName } = m1;\nconst LONG = 20000;\nconst MARGIN = 2;\nconst OPTIONS = /^(parent|phase|never|until|onadvance|action)$/;\nfunction kindOf\
+(word) {\nif (word.endsWith(\":\")) return \"label\";\nif (DIRECTIVES.includes(word)) return \"directive\";\nif (KINDS[word]) return \"word\"\
+;\nif (OPTIONS.test(word)) return \"option\";\nreturn /^(r[0-7]|-?\\d+)$/.test(word) ? \"register\" : \"object\";\n}\nfunction coloured(line\
+) {\nconst cut = line.indexOf(\";\");\nconst code = cut < 0 ? line : line.slice(0, cut);\nconst parts = code.split(/(\\s+)/).map(part => (pa\
+rt.trim() ? h(\"span.code-\" + kindOf(part), {}, part) : part));\nconst talk = cut < 0 ? null : h(\"span.code-\" + (line[cut + 1] === \"?\" \
+? \"asked\" : \"talk\"), {}, line.slice(cut));\nreturn [...parts, talk];\n}\nfunction makeProgram(changed, planned) {\nconst margin = h(\"di\
+v.code-margin\", { \"aria-hidden\": \"true\" });\nconst copy = h(\"pre.code-copy\", { \"aria-hidden\": \"true\" });\nconst marks = h(\"div.c\
+ode-marks\", { \"aria-hidden\": \"true\" });\nconst bubble = h(\"div.code-bubble\", { role: \"status\", \"aria-live\": \"polite\", id: \"mis\
+take\", hidden: true });\nconst plainly = { spellcheck: \"false\", autocapitalize: \"off\", autocomplete: \"off\" };\nconst text = h(\"texta\
+rea.code-typed\", {\n...plainly,\nwrap: \"off\",\n\"aria-label\": \"Program. It is played again as you type\",\n\"aria-describedby\": \"mist\
+ake\",\noninput: () => {\ngrow();\npaint();\nchanged(text.value);\n}\n});\nconst sheet = h(\"div.code-sheet\", {}, margin, h(\"div.code-over\
+\", {}, marks, copy, text, bubble));\nconst scroll = h(\"div.scroll.code-scroll\", {}, sheet);\nconst plan = h(\"input.plan-typed\", {\n...p\
+lainly,\ntype: \"text\",\nid: \"plan\",\n\"aria-describedby\": \"planhelp\",\ntitle: \"ann. is ann until she waits or ends, ann is one turn, \
+.. is all until the end, ?7 a random order\",\noninput: () => planned(plan.value)\n});\nconst help = h(\"span.plan-help\", { role: \"status\"\
+, id: \"planhelp\" });\nfill(byId(\"code\"), scroll, h(\"div.plan\", {}, h(\"label\", { for: \"plan\" }, \"Plan\"), plan, help));\nlet shown \
+= null;\nfunction grow() {\nconst lines = text.value.split(\"\\n\");\nsheet.style.setProperty(\"--lines\", lines.length + 1);\nsheet.style.s\
+etProperty(\"--columns\", lines.reduce((most, line) => Math.max(most, line.length), 20) + 2);\n}\nfunction paint() {\nfill(copy, text.value.\
+split(\"\\n\").map((line, n) => h(\"span\", {}, coloured(line), javaOf(n), \"\\n\")));\n}\nfunction javaOf(line) {\nif (!shown || !shown.isJ\
+ava || shown.mistake) return null;\nconst row = shown.tree.program.lineOf.indexOf(line);\nreturn row < 0\n? null\n: h(\"span.code-java\", {}\
+, \"  \" + javaText(shown.tree.program, shown.tree.program.rows[row]));\n}\nfunction show(what, moment, event) {\nconst isOther = text.value \
+!== what.text;\nconst wasJava = shown && shown.isJava;\nconst isMended = Boolean(shown && shown.mistake) !== Boolean(what.mistake);\nshown = \
+what;\nif (isOther) {\ntext.value = what.text;\nscroll.scrollTop = 0;\n}\nshowPlan(what.plan);\nif (isOther || !copy.firstChild || wasJava !\
+== what.isJava || (what.isJava && isMended)) {\ngrow();\npaint();\n}\nshowPlaces(moment, event);\nshowMistake(what.mistake);\n}\nfunction sh\
+owPlan(written) {\nconst isLong = written.length > LONG;\nplan.placeholder = isLong ? \"the schedule of this page\" : \"\";\nif (plan !== do\
+cument.activeElement && plan.value !== written) plan.value = isLong ? \"\" : written;\n}\nfunction showPlaces(moment, event) {\nfill(margin)\
+;\nfill(marks);\nif (shown.mistake && shown.mistake.isProgram) return;\nconst { program } = shown.tree;\nconst at = new Map();\nmoment.state\
+.threads.forEach((thread, t) => {\nif (/ended|died/.test(thread.status)) return;\nconst line = program.lineOf[thread.row];\nat.set(line, [..\
+.(at.get(line) || []), t]);\n});\nconst sign = (t, list) => {\nconst room = list.length > MARGIN ? 1 : list.length > 1 ? 2 : 4;\nreturn h(\"\
+i.place.\" + hueOf(t), { title: threadName(program, t) }, threadName(program, t).slice(0, room));\n};\nconst places = ([line, list]) => {\nc\
+onst some = list.length > MARGIN ? list.slice(0, 1) : list;\nconst more = list.length > some.length ? h(\"i.place\", {}, \"+\" + (list.lengt\
+h - 1)) : null;\nreturn h(\"span.places\", { vars: { \"--line\": line } }, some.map(t => sign(t, list)), more);\n};\nfill(margin, [...at].ma\
+p(places));\nconst line = event && event.row >= 0 ? program.lineOf[event.row] : -1;\nif (line < 0) return;\nfill(marks, h(\"span.code-now\", \
+{ vars: { \"--line\": line } }));\nif (document.activeElement !== text) requestAnimationFrame(() => bringIn(line));\n}\nfunction bringIn(lin\
+e) {\nconst high = text.offsetHeight / (text.value.split(\"\\n\").length + 1);\nconst top = line * high;\nconst isIn = top >= scroll.scrollT\
+op && top + high * 2 <= scroll.scrollTop + scroll.clientHeight;\nif (!isIn) scroll.scrollTop = Math.max(0, top - scroll.clientHeight / 2);\n\
+}\nfunction showMistake(mistake) {\nconst isPlan = Boolean(mistake) && !mistake.isProgram;\nbubble.hidden = !mistake || isPlan;\ntext.setAtt\
+ribute(\"aria-invalid\", String(!bubble.hidden));\nplan.setAttribute(\"aria-invalid\", String(isPlan));\nhelp.textContent = isPlan ? mistake\
+.means + \".\" + (mistake.helps ? \" \" + mistake.helps + \".\" : \"\") : \"\";\nif (bubble.hidden) return;\nconst line = mistake.line === n\
+ull ? 0 : mistake.line - 1;\nmarks.append(h(\"span.code-bad\", { vars: { \"--line\": line } }));\nif (mistake.word) {\nconst [from, to] = mi\
+stake.word;\nmarks.append(\nh(\"span.code-wave\", { vars: { \"--line\": line, \"--from\": from, \"--wide\": Math.max(1, to - from) } })\n);\n\
+}\nbubble.style.setProperty(\"--line\", line);\nconst where = mistake.line === null ? \"\" : \"Line \" + mistake.line + \": \";\nconst mend \
+= h(\"button.code-mend\", { type: \"button\", onclick: () => mended(mistake) }, mistake.near);\nconst helps = mistake.near ? [\" Did you mea\
+n \", mend, \"?\"] : mistake.helps ? \" \" + mistake.helps + \".\" : \"\";\nfill(bubble, h(\"b\", {}, where, mistake.means + \".\"), helps);\
+\n}\nfunction mended(mistake) {\nconst lines = text.value.split(\"\\n\");\nconst line = lines[mistake.line - 1];\nlines[mistake.line - 1] = \
+line.slice(0, mistake.word[0]) + mistake.near + line.slice(mistake.word[1]);\ntext.value = lines.join(\"\\n\");\ngrow();\npaint();\nchanged(\
+text.value);\ntext.focus();\n}\nreturn { show, focus: () => text.focus() };\n}\nreturn { makeProgram };\n})();\n// app/scene.js\nconst m39 = \
+(() => {\nconst { arrivalsOf } = m29;\nconst { fill, fly, h, pulse, s, shown } = m3;\nconst { nameOf, operandOf, rootOf } = m0;\nconst { hue\
+Of, phaseOf, threadName } = m1;\nconst { arrivalsText, lastNumberOf } = m30;\nconst { eventTo } = m19;\nconst { doingOf } = m17;\nconst { wh\
+yOf, whysOf } = m31;\nconst MANY = 12;\nconst SHOWN = 24;\nfunction makeScene(act) {\nconst edges = s(\"svg.edges\", { \"aria-hidden\": \"tr\
+ue\" });\nconst cards = h(\"div.cards\");\nconst crowd = h(\"div.crowd\");\nconst whys = h(\"ul.whys\", { \"aria-label\": \"Who waits, and f\
+or whom\" });\nconst space = h(\"div.space\", {}, edges, cards, crowd);\nconst label = \"Phasers, barriers and threads\";\nconst element = h\
+(\"div.scene.scroll\", { tabindex: 0, role: \"group\", \"aria-label\": label }, space, whys);\nlet last = null;\nnew ResizeObserver(() => dr\
+awEdges(space, edges)).observe(space);\nfunction show(what) {\nconst before = last;\nlast = what;\nconst isStep = before && before.tree.prog\
+ram === what.tree.program && before.run === what.run &&\nbefore.at + 1 === what.at;\nfly(space, () => draw(what));\ndrawEdges(space, edges);\
+\nif (isStep) move(space, what.tree.program, eventTo(what.run, what.at));\n}\nfunction draw(what) {\nconst { program } = what.tree;\nconst { \
+state } = what.moment;\nconst things = program.phasers.length + program.barriers.length;\nconst scene = {\n...what,\nprogram,\nstate,\nseate\
+d: new Set(),\nfold: arrivalsOf(what.tree, what.run.id, what.at),\nkeepsRoom: program.threads.length <= 8 && things <= 2,\nact\n};\nconst ro\
+ots = program.phasers.flatMap((one, p) => (one.parent < 0 ? [p] : []));\nfill(cards, roots.map(p => branchOf(scene, p)), program.barriers.ma\
+p((_, b) => barrierCard(scene, b)));\ncards.classList.toggle(\"is-stuck\", state.word === \"stuck\");\nelement.classList.toggle(\"is-roomy\"\
+, program.threads.length + things <= 8);\nfill(crowd, crowdOf(scene));\ndrawWhys(scene);\n}\nfunction drawWhys({ program, moment, selected, \
+tree, run, at }) {\nconst all = whysOf(program, moment);\nconst isTold = one => /stuck|waits|free|dead/.test(one.kind);\nconst chosen = sele\
+cted && selected.thread !== undefined ? whyOf(program, moment, selected.thread) : null;\nconst lines = [];\nif (selected && selected.phaser \
+!== undefined) {\nlines.push(h(\"li.why.is-selected\", {}, shown(program, arrivalsText(tree, run, at, selected.phaser))));\n}\nif (chosen) {\
+\nconst number = lastNumberOf(tree, run, at, chosen.thread);\nconst more = number ? h(\"span.why-number\", {}, shown(program, number)) : nul\
+l;\nlines.push(h(\"li.why.is-selected.why-\" + chosen.kind, {}, h(\"span\", {}, shown(program, chosen.text)), more));\n}\nconst rest = all.f\
+ilter(one => isTold(one) && (!chosen || one.thread !== chosen.thread));\nfor (const one of rest.slice(0, SHOWN)) lines.push(h(\"li.why.why-\" \
++ one.kind, {}, shown(program, one.text)));\nif (rest.length > SHOWN) lines.push(h(\"li.why\", {}, \"and \" + (rest.length - SHOWN) + \" mor\
+e\"));\nif (!lines.length) lines.push(\nh(\"li.why.why-hint\", {}, \"Nobody waits. Click a thread or a phaser: its line stands here.\")\n);\n\
+fill(whys, lines);\nfor (const t of chosen ? chosen.could : []) {\nspace.querySelector('[data-fly=\"t' + t + '\"]')?.classList.add(\"is-able\
+\");\n}\n}\nreturn { element, show };\n}\nfunction tokenOf({ program, moment, selected, act }, t, kind = \"\") {\nconst doing = doingOf(mome\
+nt, t);\nconst isSelected = Boolean(selected) && selected.thread === t;\nconst given = {\ntype: \"button\",\n\"data-fly\": \"t\" + t,\n\"ari\
+a-pressed\": String(isSelected),\ntitle: threadName(program, t) + \": why?\",\nonclick: () => act.thread(t)\n};\nreturn h(\"button.token.\" \
++ hueOf(t) + \".token-\" + doing + kind, given, threadName(program, t));\n}\nconst standsAt = ({ program, state }, t, kind) =>\nstate.thread\
+s[t].status === \"waits\" ? operandOf(program.rows[state.threads[t].row], kind) : -1;\nfunction visitorsOf(scene, label, list) {\nif (!list.\
+length && !scene.keepsRoom) return null;\nconst more = list.length > 16 ? \"+\" + (list.length - 16) : null;\nconst said = list.length ? h(\"\
+span\", {}, label) : null;\nreturn h(\"div.visitors\", {}, said, list.slice(0, 16).map(t => tokenOf(scene, t, \".is-visitor\")), more);\n}\n\
+function seatOf(scene, p, k, taken, who) {\nconst { program, seated, moment } = scene;\nif (k >= taken) return h(\"span.seat\", { role: \"im\
+g\", \"aria-label\": \"an arrival is missing\" });\nconst t = who[k] ? who[k].thread : undefined;\nconst isHere = t !== undefined && !seated\
+.has(t) && standsAt(scene, t, \"P\") === p && doingOf(moment, t) === \"waits\";\nif (isHere) {\nseated.add(t);\nreturn h(\"span.seat.is-full\
+\", {}, tokenOf(scene, t));\n}\nif (t === undefined) return h(\"span.seat.is-full.is-gone\", { title: \"arrived\" }, \"\\u2713\");\nconst na\
+me = threadName(program, t);\nreturn h(\n\"span.seat.is-full.is-gone\",\n{ title: name + \" arrived, and went on\" },\nh(\"span.seat-been.\" \
++ hueOf(t), {}, \"\\u2713 \" + name)\n);\n}\nfunction phaserCard(scene, p) {\nconst { program, state, fold, seated, moment, selected, act } \
+= scene;\nconst one = state.phasers[p];\nconst isRoot = program.phasers[p].parent < 0;\nconst kids = program.children[p].filter(child => sta\
+te.phasers[child].parties > 0);\nconst kidsIn = kids.filter(child => state.phasers[child].missing === 0);\nconst taken = Math.max(0, one.arr\
+ived - kidsIn.length);\nconst own = Math.max(0, one.parties - kids.length);\nconst who = taken ? fold.arrived[p].slice(-taken) : [];\nconst \
+kid = child => {\nconst given = { \"data-child\": child };\nreturn h(\"span.seat.seat-child\" + (kidsIn.includes(child) ? \".is-full\" : \"\"\
+), given, nameOf(program, \"P\", child));\n};\nconst seats = kids.map(kid);\nif (own > MANY) seats.push(h(\"span.meter\", { vars: { \"--part\
+\": taken / own } }, h(\"i\")));\nelse for (let k = 0; k < own; k++) seats.push(seatOf(scene, p, k, taken, who));\nconst visitors = program.\
+threads.map((_, t) => t).filter(t => !seated.has(t) && standsAt(scene, t, \"P\") === p);\nvisitors.forEach(t => seated.add(t));\nconst isOve\
+r = one.view < 0;\nconst name = nameOf(program, \"P\", p);\nconst phase = isOver ? \"terminated\" : h(\"span\", {}, \"phase \", h(\"b\", {}, \
+phaseOf(one.view)));\nconst isSaid = isRoot || one.view !== state.phasers[rootOf(program, p)].view;\nconst isSelected = Boolean(selected) && \
+selected.phaser === p;\nconst given = {\ntype: \"button\",\n\"aria-pressed\": String(isSelected),\ntitle: name + \": who arrived?\",\nonclic\
+k: () => act.phaser(p)\n};\nconst head = h(\n\"p.thing-head\",\n{},\nh(\"button.thing-name\", given, name),\nisSaid ? h(\"span.thing-phase\"\
+, {}, phase) : null,\nh(\"span.thing-count\", {}, one.parties ? one.arrived + \" of \" + one.parties : \"empty\")\n);\nconst label = visitor\
+s.some(t => doingOf(moment, t) === \"free\") ? \"released\" : \"waiting\";\nconst kinds = (isOver ? \".is-terminated\" : \"\") + (isRoot ? \"\
+\" : \".is-child\");\nconst group = { \"data-phaser\": p, role: \"group\", \"aria-label\": \"Phaser \" + name };\nreturn h(\"div.thing.phase\
+r\" + kinds, group, head, h(\"div.seats\", {}, seats), visitorsOf(scene, label, visitors));\n}\nfunction branchOf(scene, p) {\nconst kids = \
+scene.program.children[p];\nconst card = phaserCard(scene, p);\nreturn h(\"div.branch\", {}, card, kids.length ? h(\"div.kids\", {}, kids.ma\
+p(child => branchOf(scene, child))) : null);\n}\nfunction barrierCard(scene, b) {\nconst { program, state, seated, moment } = scene;\nconst \
+{ isBroken, waiting } = state.barriers[b];\nconst { parties } = program.barriers[b];\nconst name = nameOf(program, \"B\", b);\nconst here = \
+program.threads.map((_, t) => t).filter(t => standsAt(scene, t, \"B\") === b);\nconst inside = here.filter(t => doingOf(moment, t) === \"wai\
+ts\");\nconst freed = here.filter(t => doingOf(moment, t) !== \"waits\");\nconst keeps = isBroken ? [] : [...inside, ...freed].slice(0, wait\
+ing);\nconst out = here.filter(t => !keeps.includes(t));\nhere.forEach(t => seated.add(t));\nconst seats = [];\nif (parties > MANY) seats.pu\
+sh(h(\"span.meter\", { vars: { \"--part\": waiting / parties } }, h(\"i\")));\nelse {\nfor (let k = 0; k < parties; k++) {\nconst missing = \
+{ role: \"img\", \"aria-label\": \"one has to come\" };\nseats.push(k < keeps.length ? h(\"span.seat.is-full\", {}, tokenOf(scene, keeps[k])\
+) : h(\"span.seat\", missing));\n}\n}\nconst head = h(\n\"p.thing-head\",\n{},\nh(\"b.thing-name\", {}, name),\nh(\"span.thing-phase\", {}, \
+isBroken ? \"broken\" : \"barrier\"),\nh(\"span.thing-count\", {}, waiting + \" of \" + parties)\n);\nconst group = { \"data-barrier\": b, r\
+ole: \"group\", \"aria-label\": \"Barrier \" + name };\nconst gateway = h(\"div.gateway\", {}, h(\"div.seats\", {}, seats), gateOf(isBroken)\
+);\nconst visitors = visitorsOf(scene, isBroken ? \"will throw\" : \"released\", out);\nreturn h(\"div.thing.barrier\" + (isBroken ? \".is-b\
+roken\" : \"\"), group, head, gateway, visitors);\n}\nfunction gateOf(isBroken) {\nconst whole = [\"M16 10V52\", \"M26 10V52\", \"M36 10V52\"\
+, \"M46 10V52\"];\nconst bars = isBroken ? [\"M14 12L22 40\", \"M23 9L40 26\", \"M30 48L47 32\", \"M44 8L50 18\"] : whole;\nconst given = { \
+viewBox: \"0 0 62 60\", role: \"img\", \"aria-label\": isBroken ? \"a broken gate\" : \"a gate\" };\nconst rail = isBroken ? null : s(\"path\
+.gate-rail\", { d: \"M5 16H57M5 46H57\" });\nreturn s(\n\"svg.gate\",\ngiven,\ns(\"path.gate-post\", { d: \"M5 4V56M57 4V56\" }),\nrail,\nba\
+rs.map(d => s(\"path.gate-bar\", { d }))\n);\n}\nfunction crowdOf(scene) {\nconst { program, state, moment, seated } = scene;\nconst rest = \
+program.threads.map((_, t) => t).filter(t => !seated.has(t));\nconst isOver = t => /over|dead/.test(doingOf(moment, t));\nconst member = t =\
+> {\nconst { out, isInterrupted } = state.threads[t];\nconst output = out.length ? h(\"span.crowd-output\", { title: \"its output\" }, out.s\
+lice(-4).join(\" \")) : null;\nconst flag = isInterrupted\n? h(\"span.crowd-flag\", { title: \"interrupted\", role: \"img\", \"aria-label\": \
+\"interrupted\" }, \"\\u26A1\\uFE0E\")\n: null;\nreturn h(\"span.crowd-one\", {}, tokenOf(scene, t), output, flag);\n};\nconst group = (labe\
+l, list) => {\nif (!list.length) return null;\nconst more = list.length > SHOWN ? \"and \" + (list.length - SHOWN) + \" more\" : null;\nretu\
+rn h(\"div.crowd-group\", {}, h(\"span.crowd-label\", {}, label), list.slice(0, SHOWN).map(member), more);\n};\nreturn [group(\"on the way\"\
+, rest.filter(t => !isOver(t))), group(\"over\", rest.filter(isOver))];\n}\nfunction drawEdges(space, edges) {\nif (!space.querySelector(\".\
+is-child\")) return fill(edges);\nconst frame = space.getBoundingClientRect();\nconst list = [];\nfor (const card of space.querySelectorAll(\
+\".thing.is-child\")) {\nconst parent = card.closest(\".kids\").previousElementSibling;\nconst seat = parent.querySelector('[data-child=\"' \
++ card.dataset.phaser + '\"]');\nconst from = card.getBoundingClientRect();\nconst to = (seat || parent).getBoundingClientRect();\nconst x1 \
+= from.left + from.width / 2 - frame.left;\nconst y1 = from.top - frame.top;\nconst x2 = to.left + to.width / 2 - frame.left;\nconst y2 = to\
+.bottom - frame.top;\nconst middle = (y1 + y2) / 2;\nconst kind = !seat ? \"loose\" : seat.classList.contains(\"is-full\") ? \"full\" : \"op\
+en\";\nlist.push(s(\"path.edge-\" + kind, { d: `M${x1} ${y1}C${x1} ${middle} ${x2} ${middle} ${x2} ${y2}` }));\n}\nedges.setAttribute(\"widt\
+h\", frame.width);\nedges.setAttribute(\"height\", frame.height);\nfill(edges, list);\n}\nfunction move(space, program, event) {\nif (event.\
+mark) {\nconst isBarrier = event.mark.kind[1] === \"b\";\nconst things = isBarrier\n? [...space.querySelectorAll('[data-barrier=\"' + event.\
+mark.on + '\"]')]\n: [...space.querySelectorAll(\"[data-phaser]\")].filter(\ncard => rootOf(program, Number(card.dataset.phaser)) === event.\
+mark.on\n);\nconst shakes = [{ transform: \"rotate(-1.2deg)\" }, { transform: \"rotate(1deg)\" }, { transform: \"none\" }];\nconst grows = [\
+{ transform: \"scale(1.05)\", boxShadow: \"0 0 0 .4rem var(--go)\" }, { transform: \"none\" }];\nfor (const thing of things) pulse(thing, ev\
+ent.mark.kind === \"-b\" ? shakes : grows);\n}\nif (/^(throw|die)$/.test(event.what)) {\nconst shift = x => ({ transform: \"translateX(\" + \
+x + \"rem)\" });\npulse(\nspace.querySelector('[data-fly=\"t' + event.thread + '\"]'),\n[shift(-0.4), shift(0.4), shift(-0.2), shift(0)]\n);\
+\n}\n}\nreturn { makeScene };\n})();\n// app/stage.js\nconst m40 = (() => {\nconst { endKind, endText, outputText } = m2;\nconst { byId, fil\
+l, h, shown } = m3;\nconst { hueOf, threadName } = m1;\nconst { reasonOf, strayOf } = m30;\nconst { eventTo, lengthOf, momentOf } = m19;\nco\
+nst { refusedText, sentenceOf, wouldText } = m24;\nconst { isVeiled, runOf } = m33;\nconst eventOf = (moment, token) => (token[0] === \"x\" \
+? moment.late : moment.next)[Number(token.slice(1))];\nfunction saidOf(state) {\nconst { tree, at, mistake } = state;\nconst run = runOf(sta\
+te);\nconst { program } = tree;\nif (mistake) {\nconst where = mistake.isProgram\n? \"The program has a mistake\" + (mistake.line ? \" in li\
+ne \" + mistake.line : \"\")\n: \"The plan has a mistake\";\nreturn { badge: \"!\", kind: \"wrong\", parts: [where + \". The run below is th\
+e last that could be played.\"] };\n}\nconst moment = momentOf(tree, run.id, at);\nconst tried = state.preview && eventOf(moment, state.prev\
+iew);\nif (tried) return {\nbadge: \"?\",\nkind: \"would\",\nparts: [\"If it\\u2019s next: \", ...wouldText(program, tried, moment)]\n};\nco\
+nst { word } = moment.state;\nconst kind = { stuck: \"stuck\", all: \"ended\" }[word] || \"\";\nconst end = { stuck: \" Stuck: no thread can \
+ever go on.\", all: \" All threads are over.\" }[word] || \"\";\nconst isRefused = run.refused && at === lengthOf(run);\nconst verdict = isR\
+efused ? \" \" + refusedText(run.refused, at + 1) : end;\nif (!at) return {\nbadge: 0,\nkind,\nverdict,\nparts: [program.about || \"Each thr\
+ead is at its first row. Who goes first?\"]\n};\nconst parts = sentenceOf(program, eventTo(run, at), momentOf(tree, run.id, at - 1), moment)\
+;\nconst reasons = isVeiled(state) ? [] : [reasonOf(tree, run.id, at), strayOf(tree, run.id, at)];\nconst reason = reasons.filter(Boolean).j\
+oin(\" \");\nreturn { badge: at, kind, verdict, parts, reason };\n}\nfunction drawSaid(state) {\nconst { badge, kind, parts, verdict, reason \
+} = saidOf(state);\nbyId(\"said\").dataset.kind = kind;\nconst end = verdict ? h(\"strong.said-verdict\", {}, verdict) : null;\nconst why = \
+reason ? h(\"span.said-reason\", {}, \" \" + reason) : null;\nfill(\nbyId(\"said\"),\nh(\"span.said-badge\", {}, badge),\nh(\"span.said-text\
+\", {}, shown(state.tree.program, parts), end, why)\n);\n}\nfunction drawNext(state, act) {\nconst { tree, at } = state;\nconst run = runOf(\
+state);\nconst { program } = tree;\nconst moment = momentOf(tree, run.id, at);\nconst own = state.isHidden || isVeiled(state) || state.mode \
+=== \"quiz\" ? \"\" : run.choices[at];\nconst all = [...Object.values(moment.next), ...Object.values(moment.late)];\nconst key = [program.te\
+xt.length, at, run.id, own, ...all.map(one => one.token)].join(\" \");\nif (byId(\"next\").dataset.key === key) return;\nconst hadFocus = by\
+Id(\"next\").contains(document.activeElement);\nbyId(\"next\").dataset.key = key;\nconst chip = (event, k) => {\nconst isOwn = event.token =\
+== own;\nconst kinds = \".chip.\" + hueOf(event.thread) + (event.isLate ? \".chip-late\" : \"\") + (isOwn ? \".chip-own\" : \"\");\nconst gi\
+ven = {\ntype: \"button\",\n\"data-token\": event.token,\ntitle: (isOwn ? \"The run goes on so\" : \"Another run\") + (k < 9 ? \" (key \" + \
+(k + 1) + \")\" : \"\"),\nonclick: () => act.choose(event.token),\nonpointerenter: () => act.tryOut(event.token),\nonpointerleave: () => act\
+.tryOut(\"\"),\nonfocus: () => act.tryOut(event.token),\nonblur: () => act.tryOut(\"\")\n};\nconst name = threadName(program, event.thread);\
+\nif (event.isLate) given[\"aria-label\"] = \"the time-out of \" + name;\nreturn h(\"button\" + kinds, given, (event.isLate ? \"\\u23F1\\uFE\
+0E \" : \"\") + name);\n};\nconst label = all.length ? \"Next:\" : moment.state.word === \"stuck\" ? \"Nobody may go\" : \"All are over\";\n\
+fill(byId(\"next\"), h(\"span.next-label\", {}, label), all.map(chip));\nif (hadFocus) (byId(\"next\").querySelector(\".chip-own, .chip\") |\
+| byId(\"forth\")).focus();\n}\nfunction drawStage(state, act) {\nconst { tree, at } = state;\nconst run = runOf(state);\ndrawSaid(state);\n\
+const isCut = state.isCut && run.parent < 0;\nconst all = state.isHidden ? \"\" : \" of \" + lengthOf(run) + (isCut ? \"\\u2026\" : \"\");\n\
+fill(byId(\"where\"), h(\"b\", {}, at), all);\nbyId(\"where\").title = isCut ? \"The plan goes on; the first \" + lengthOf(run) + \" choices \
+are shown\" : \"\";\ndrawNext(state, act);\nbyId(\"first\").disabled = byId(\"back\").disabled = at === 0;\nbyId(\"forth\").disabled = byId(\
+\"last\").disabled = at === lengthOf(run);\nconst kind = endKind(run.end);\nconst isQuiet = state.isHidden || state.mode === \"quiz\";\ncons\
+t end = \"Run \" + (run.id + 1) + (kind === \"open\" ? \" stays open\" : \": \" + endText(tree.program, run.end));\nfill(byId(\"ends\"), isQ\
+uiet ? \"\" : h(\"span.end.end-\" + kind, { title: outputText(tree.program, run.end) }, end));\n}\nreturn { drawStage };\n})();\n// app/time\
+line.js\nconst m41 = (() => {\nconst { fill, h } = m3;\nconst { hueOf, threadName } = m1;\nconst { eventTo, hasMoment, lengthOf, momentOf } \
+= m19;\nconst { shortMark, tagOf } = m24;\nconst { doingOf } = m17;\nconst BUDGET = 8;\nconst ROOM = 100000;\nconst EDGE = 1000;\nconst AROU\
+ND = 6;\nconst DOING = {\nruns: \"runs\",\nwaits: \"waits\",\nfree: \"may go on\",\nheld: \"can\\u2019t go on\",\nthrows: \"throws\",\nover: \
+\"is over\",\ndead: \"is dead\"\n};\nfunction makeTimeline(go, select) {\nconst names = h(\"div.time-names\", { role: \"row\" });\nconst lan\
+es = h(\"div.time-lanes\", { \"aria-hidden\": \"true\" });\nconst lines = h(\"div.time-lines\", { role: \"rowgroup\" });\nconst body = h(\"d\
+iv.time-body\", { role: \"presentation\" }, lanes, lines);\nconst label = \"Timeline: a column for each thread, a row for each choice\";\nco\
+nst scroll = h(\n\"div.scroll.time-scroll\",\n{ tabindex: 0, role: \"table\", \"aria-label\": label, onscroll: () => scrolled() },\nnames,\n\
+body\n);\nconst head = h(\"p.time-head\");\nconst element = h(\"div.time\", {}, head, scroll);\nlet shown = null;\nlet rows = null;\nlet who\
+le = 0;\nlet origin = 0;\nlet size = { row: 30, number: 50, column: 80, rem: 16 };\nlet view = { top: 0, left: 0, height: 0, width: 0 };\nle\
+t drawn = \"\";\nlet pending = 0;\nbody.addEventListener(\"click\", event => {\nconst k = Math.floor((event.clientY - body.getBoundingClient\
+Rect().top) / size.row);\nif (shown && k >= 0 && k < count()) go(choiceAt(k));\n});\nnew ResizeObserver(() => redraw()).observe(scroll);\nfu\
+nction scrolled() {\nview = { ...view, top: scroll.scrollTop, left: scroll.scrollLeft };\ndraw();\n}\nfunction scrollTo(top, left) {\nconst \
+most = bodyHeight() + 2.3 * size.rem - view.height;\nview = { ...view, top: Math.max(0, Math.min(top, most)), left: Math.max(0, left) };\nsc\
+roll.scrollTo(view.left, view.top);\n}\nconst bodyHeight = () => (count() + 0.6) * size.row;\nconst count = () => Math.min(ROOM, whole - ori\
+gin);\nconst choiceAt = k => (rows ? rows[origin + k] : origin + k);\nconst rowOf = i => (rows ? rows.indexOf(i) : i) - origin;\nfunction fo\
+ld() {\nconst { run, at, isFolded, isHidden } = shown;\nconst last = isHidden ? at : lengthOf(run);\nrows = isFolded ? [] : null;\nif (isFol\
+ded) for (let i = 0; i <= last; i++) if (!i || i === at || !run.events.isIdle(i - 1)) rows.push(i);\nwhole = rows ? rows.length : last + 1;\n\
+const here = rows ? rows.indexOf(at) : at;\nconst most = Math.max(0, whole - ROOM);\nconst isBelow = here < origin + EDGE && origin > 0;\nco\
+nst isAbove = here > origin + ROOM - EDGE && origin < most;\nif (isBelow || isAbove || origin > most) origin = Math.max(0, Math.min(most, he\
+re - ROOM / 2));\n}\nfunction measure() {\nsize.rem = parseFloat(getComputedStyle(document.documentElement).fontSize);\nview = { top: scroll\
+.scrollTop, left: scroll.scrollLeft, height: scroll.clientHeight, width: scroll.clientWidth };\ndivide();\n}\nfunction divide() {\nconst { r\
+em } = size;\nconst threads = shown.tree.program.threads.length;\nconst number = Math.max(2.6, String(lengthOf(shown.run)).length * 0.62 + 1\
+.2) * rem;\nconst least = (threads <= 8 ? 5.4 : 3.2) * rem;\nconst column = Math.max(least, (view.width - number - 4) / threads);\nconst isW\
+ide = number + column * threads > view.width + 4;\nsize = { row: Math.round(2.1 * rem), number, column, rem, isWide };\nelement.style.setPro\
+perty(\"--number\", number + \"px\");\nelement.style.setProperty(\"--row\", size.row + \"px\");\nbody.style.width = names.style.width = numb\
+er + column * threads + \"px\";\nscroll.setAttribute(\"aria-rowcount\", lengthOf(shown.run) + 2);\nscroll.setAttribute(\"aria-colcount\", th\
+reads + 1);\n}\nfunction show(what) {\nconst isNew = !shown || shown.zoom !== what.zoom || !view.height;\nconst isOther = isNew || shown.run \
+!== what.run || shown.tree.program !== what.tree.program;\nconst isMoved = isOther || shown.at !== what.at;\nshown = what;\nfold();\nif (isN\
+ew) measure();\nelse if (isOther) divide();\nconst part = whole > count() ? \"Choices \" + choiceAt(0) + \" to \" + choiceAt(count() - 1) + \
+\" stand here.\" : \"\";\nfill(head, what.title || \"\", part);\nhead.hidden = !what.title && !part;\nbody.style.height = bodyHeight() + \"p\
+x\";\nif (isMoved) follow();\ndraw(true);\n}\nfunction follow() {\nconst place = rowOf(shown.at) * size.row;\nconst room = view.height - 2.3 \
+* size.rem;\nlet { top, left } = view;\nif (place < top + size.row || place + size.row * 2.5 > top + room) top = place - room * 0.55;\nconst \
+event = eventTo(shown.run, shown.at);\nconst column = event ? placeOf(event.thread) : 0;\nconst isOut = column < left + size.number || colum\
+n + size.column * 2 > left + view.width;\nif (event && size.isWide && isOut) left = column - view.width / 2;\nif (top !== view.top || left !\
+== view.left) scrollTo(top, left);\n}\nconst placeOf = t => size.number + t * size.column;\nfunction draw(isForced) {\nif (!shown || !view.h\
+eight) return;\nconst from = Math.max(0, Math.floor(view.top / size.row) - AROUND);\nconst to = Math.min(count() - 1, Math.ceil((view.top + \
+view.height) / size.row) + AROUND);\nconst threads = shown.tree.program.threads.length;\nconst left = Math.max(0, Math.floor((view.left - si\
+ze.number) / size.column) - 1);\nconst right = Math.min(threads - 1, Math.ceil((view.left + view.width) / size.column) + 1);\nconst key = [f\
+rom, to, left, right].join();\nif (!isForced && key === drawn) return;\ndrawn = key;\ndrawNames(left, right);\nconst isWhole = drawLanes(fro\
+m, to, left, right);\ndrawLines(from, to);\nif (!isWhole && !pending) {\npending = requestAnimationFrame(() => {\npending = 0;\ndraw(true);\n\
+});\n}\n}\nfunction drawNames(left, right) {\nconst { program } = shown.tree;\nconst moment = momentOf(shown.tree, shown.run.id, shown.at);\n\
+const list = [];\nfor (let t = left; t <= right; t++) {\nconst doing = doingOf(moment, t);\nconst name = threadName(program, t);\nconst isSe\
+lected = Boolean(shown.selected) && shown.selected.thread === t;\nconst number = program.names.T[t] ? \" (t\" + t + \") \" : \" \";\nconst g\
+iven = {\ntype: \"button\",\nvars: { left: placeOf(t) + \"px\", width: size.column + \"px\" },\ntitle: name + number + DOING[doing] + \": wh\
+y?\",\n\"aria-pressed\": String(isSelected),\n\"data-doing\": doing,\nonclick: () => select(t)\n};\nconst cell = h(\n\"span.time-namecell\",\
+\n{ role: \"columnheader\", \"aria-colindex\": t + 2 },\nh(\"button.time-name.\" + hueOf(t), given, name)\n);\nlist.push(cell);\n}\nfill(nam\
+es, h(\"span.time-corner\", { role: \"columnheader\", \"aria-colindex\": 1, \"aria-label\": \"choice\" }), list);\n}\nfunction drawLanes(fro\
+m, to, left, right) {\nconst until = performance.now() + BUDGET;\nconst { tree, run } = shown;\nconst moments = [];\nlet isWhole = true;\nfo\
+r (let k = from; k <= to && isWhole; k++) {\nconst i = choiceAt(k);\nisWhole = hasMoment(tree, run.id, i) || performance.now() < until || !m\
+oments.length;\nif (isWhole) moments.push(momentOf(tree, run.id, i));\n}\nconst list = [];\nfor (let t = left; t <= right; t++) {\nfor (let \
+k = 0, n; k < moments.length; k += n) {\nconst doing = doingOf(moments[k], t);\nconst isLater = moments[k].i >= shown.at;\nconst isSame = on\
+e => one && doingOf(one, t) === doing && one.i >= shown.at === isLater;\nfor (n = 1; isSame(moments[k + n]); n++);\nif (doing === \"over\" |\
+| doing === \"dead\") continue;\nconst isLast = k + n === moments.length && from + k + n === count();\nconst vars = {\nleft: placeOf(t) + \"\
+px\",\ntop: (from + k + 0.5) * size.row + \"px\",\nheight: (n - (isLast ? 0.45 : 0)) * size.row + \"px\"\n};\nlist.push(h(\"i.lane.lane-\" + \
+doing + \".\" + hueOf(t) + (isLater ? \".is-later\" : \"\"), { vars }));\n}\n}\nfill(lanes, list);\nreturn isWhole;\n}\nfunction drawLines(f\
+rom, to) {\nconst list = [];\nfor (let k = from; k <= to; k++) list.push(lineOf(k, choiceAt(k)));\nfill(lines, list);\n}\nfunction lineOf(k, \
+i) {\nconst event = eventTo(shown.run, i);\nconst isHere = i === shown.at;\nconst kinds = (\nisHere ? \".is-here\" : i > shown.at ? \".is-la\
+ter\" : \"\"\n) + (shown.differs && i > shown.differs ? \".is-other\" : \"\");\nconst number = h(\"span.line-number\" + (i ? \"\" : \".is-st\
+art\"), { role: \"rowheader\" }, i || \"start\");\nconst inside = [number];\nif (event) inside.push(eventOf(event), event.mark ? markOf(even\
+t) : null);\nif (shown.isSide && shown.differs === i - 1 && i > 0) inside.push(h(\"span.line-part\", {}, \"they part here\"));\nconst given \
+= {\nrole: \"row\",\n\"aria-rowindex\": i + 2,\n\"aria-current\": isHere ? \"step\" : null,\nvars: { top: k * size.row + \"px\" }\n};\nretur\
+n h(\"div.line\" + kinds, given, inside);\n}\nfunction eventOf(event) {\nconst { program } = shown.tree;\nconst at = placeOf(event.thread);\n\
+const tag = tagOf(program, event, shown.isJava);\nconst name = threadName(program, event.thread);\nconst given = { role: \"cell\", \"aria-co\
+lindex\": event.thread + 2, \"aria-label\": name + \": \" + tag };\nif (at < view.left + size.number - size.column || at > view.left + view.\
+width) {\nconst sign = at < view.left + size.number ? \"\\u25C2 \" : \"\\u25B8 \";\nreturn h(\"span.line-far.\" + hueOf(event.thread), given\
+, sign + name + \" \" + tag);\n}\nconst isOnLeft = size.column < 5 * size.rem && at - view.left > view.width * 0.6;\nconst kinds = \".event.\
+event-\" + (\nevent.what === \"=\" ? \"value\" : event.what\n) + \".\" + hueOf(event.thread) + (isOnLeft ? \".is-onleft\" : \"\");\nreturn h\
+(\"span\" + kinds, { ...given, vars: { left: at + \"px\" } }, h(\"i.event-dot\"), h(\"span.event-tag\", {}, tag));\n}\nfunction markOf(event\
+) {\nconst { program } = shown.tree;\nconst text = shortMark(program, event.mark);\nconst at = placeOf(event.thread);\nconst wide = (text.le\
+ngth * 0.47 + 1.3) * size.rem;\nconst own = (tagOf(program, event, shown.isJava).length * 0.55 + 2) * size.rem;\nconst hasRight = view.width \
+- at - own > wide;\nconst side = size.isWide\n? \".is-left.is-under\"\n: hasRight ? \"\" : at - size.number > wide ? \".is-left\" : \".is-un\
+der\";\nreturn h(\n\"span.mark\" + (event.mark.kind[0] === \"-\" ? \".mark-broke\" : \"\") + side,\n{ role: \"note\" },\nh(\"span\", {}, tex\
+t)\n);\n}\nfunction redraw() {\nif (!shown) return;\nmeasure();\nbody.style.height = bodyHeight() + \"px\";\ndraw(true);\n}\nreturn { elemen\
+t, show, redraw };\n}\nreturn { makeTimeline };\n})();\n// app/tree.js\nconst m42 = (() => {\nconst { endKind, endText, KIND_TEXT, outputTex\
+t } = m2;\nconst { fill, h, who } = m3;\nconst { threadName } = m1;\nconst { inOrder, lengthOf } = m19;\nfunction runName(tree, run) {\nif (\
+run.parent < 0) return \"Run 1\";\nconst event = run.events.at(run.fork);\nconst old = tree.runs[run.parent].events.at(run.fork);\nif (!even\
+t) return \"Run \" + (run.id + 1);\nconst name = threadName(tree.program, event.thread) + (event.isLate ? \"\\u2019s time-out\" : \"\");\nre\
+turn \"Run \" + (run.id + 1) + \": at \" + run.fork + \" \" + name + (\nold ? \", not \" + threadName(tree.program, old.thread) : \"\"\n);\n\
+}\nfunction makeTree(walk) {\nconst element = h(\"div.tracks.scroll\", { role: \"list\", \"aria-label\": \"Runs\" });\nfunction show({ tree, \
+run, at, isQuiet }) {\nconst most = Math.max(1, ...tree.runs.map(lengthOf));\nconst part = i => (100 * i) / most + \"%\";\nconst all = inOrd\
+er(tree);\nconst track = ({ run: one }, lane) => {\nconst isHere = one === run;\nconst begins = one.parent < 0 ? 0 : one.fork;\nconst kind = \
+endKind(one.end);\nconst event = one.events.at(one.fork);\nconst first = Math.min(begins + (one.parent < 0 ? 0 : 1), lengthOf(one));\nconst \
+name = {\ntype: \"button\",\n\"aria-current\": isHere ? \"true\" : null,\ntitle: runName(tree, one) + (isQuiet ? \"\" : \" \\u2014 \" + endT\
+ext(tree.program, one.end)),\nonclick: () => walk(one.id, isHere ? at : first)\n};\nconst said = one.parent < 0 || !event\n? \" the run\"\n: \
+[\" at \" + one.fork + \" \", who(tree.program, event.thread), event.isLate ? \" late\" : \"\"];\nconst click = pressed => {\nconst box = pr\
+essed.currentTarget.getBoundingClientRect();\nconst i = Math.round(((pressed.clientX - box.left) / box.width) * most);\nwalk(one.id, Math.ma\
+x(begins, Math.min(lengthOf(one), i)));\n};\nconst up = lane - all.findIndex(other => other.run.id === one.parent);\nreturn h(\n\"div.track\" \
++ (isHere ? \".is-here\" : \"\"),\n{ role: \"listitem\" },\nh(\"button.track-name\", name, h(\"b\", {}, one.id + 1), said),\nh(\n\"div.rail\"\
+,\n{ onclick: click },\nh(\n\"i.rail-bar.rail-\" + (isQuiet ? \"open\" : kind),\n{ vars: { left: part(begins), width: part(lengthOf(one) - b\
+egins) } }\n),\none.parent >= 0 ? h(\"i.rail-fork\", { vars: { left: part(begins), \"--up\": up } }) : null,\nisHere ? h(\"i.rail-at\", { va\
+rs: { left: part(at) } }) : null\n),\nisQuiet ? h(\"span\") : h(\"span.end.end-\" + kind, { title: outputText(tree.program, one.end) }, KIND\
+_TEXT[kind])\n);\n};\nfill(element, all.map(track));\nconst here = element.querySelector(\".is-here\");\nif (here) element.scrollTop = Math.\
+max(0, here.offsetTop - element.clientHeight + here.offsetHeight + 2);\n}\nreturn { element, show };\n}\nreturn { runName, makeTree };\n})()\
+;\n// app/values.js\nconst m43 = (() => {\nconst { h } = m3;\nconst { nameOf } = m0;\nconst { hueOf, labelOf, phaseOf, rowText, thrown, thre\
+adName } = m1;\nconst { doingOf } = m17;\nconst DOES = {\nover: \"ended\",\ndead: \"died of\",\nthrows: \"throws\",\nheld: \"can\\u2019t go \
+on\",\nwaits: \"waits\",\nfree: \"may go on\",\nruns: \"runs\"\n};\nconst cell = (text, was) => h(\"td\" + (was !== undefined && String(was) \
+!== String(text) ? \".is-new\" : \"\"), {}, text);\nfunction tableOf(caption, heads, rows) {\nconst head = h(\"thead\", {}, h(\"tr\", {}, he\
+ads.map(one => h(\"th\", { scope: \"col\" }, one))));\nreturn h(\"table.values-table\", {}, h(\"caption\", {}, caption), head, h(\"tbody\", \
+{}, rows));\n}\nconst rowHead = (text, kind = \"\") => h(\"th\" + kind, { scope: \"row\" }, text);\nfunction entryOf(program, entry) {\nif (\
+entry[0] === \"H\") return \"try \" + labelOf(program, Number(entry.slice(1)));\nif (entry[0] === \"C\") return \"call \" + entry.slice(1);\n\
+return (entry[0] === \"A\" ? \"onAdvance \" : \"action \") + nameOf(\nprogram,\nentry[0] === \"A\" ? \"P\" : \"B\",\nNumber(entry.slice(1))\n\
+);\n}\nfunction threadsOf(program, moment, old) {\nconst { threads } = moment.state;\nconst isUsed = r => program.rows.some(row => row.opera\
+nds.includes(\"r\" + r)) ||\nthreads.some(one => one.registers[r]);\nconst used = [0, 1, 2, 3, 4, 5, 6, 7].filter(isUsed);\nconst row = (thr\
+ead, t) => {\nconst was = old && old.threads[t];\nconst does = DOES[doingOf(moment, t)] + (thread.code === null ? \"\" : \" \" + thrown(thre\
+ad.code));\nconst out = thread.out.slice(-6).join(\" \");\nreturn h(\n\"tr\",\n{},\nrowHead(threadName(program, t), \".\" + hueOf(t)),\ncell\
+(does + (thread.isInterrupted ? \", interrupted\" : \"\")),\nh(\"td\", {}, h(\"code\", {}, rowText(program, program.rows[thread.row]))),\nus\
+ed.map(r => cell(thread.registers[r], was ? was.registers[r] : undefined)),\ncell(out, was ? was.out.slice(-6).join(\" \") : undefined),\nce\
+ll(thread.stack.map(one => entryOf(program, one)).join(\", \"))\n);\n};\nreturn tableOf(\n\"Threads\",\n[\"thread\", \"does\", \"row\", ...u\
+sed.map(r => \"r\" + r), \"output\", \"stack\"],\nthreads.map(row)\n);\n}\nfunction phasersOf(program, state, old) {\nconst phase = one => (\
+one.view < 0 ? \"terminated in \" + phaseOf(one.view) : one.view);\nconst row = (one, p) => {\nconst was = old ? old.phasers[p] : {};\nconst \
+cells = [cell(phase(one), old ? phase(was) : undefined), cell(one.parties, was.parties)];\nreturn h(\n\"tr\",\n{},\nrowHead(nameOf(program, \
+\"P\", p)),\ncells,\ncell(one.arrived, was.arrived),\ncell(one.missing, was.missing)\n);\n};\nreturn tableOf(\"Phasers\", [\"phaser\", \"pha\
+se\", \"parties\", \"arrived\", \"missing\"], state.phasers.map(row));\n}\nfunction barriersOf(program, state, old) {\nconst broken = one => \
+(one.isBroken ? \"yes\" : \"no\");\nconst row = (one, b) => {\nconst was = old ? old.barriers[b] : null;\nconst cells = [cell(program.barrie\
+rs[b].parties), cell(one.waiting, was ? was.waiting : undefined)];\nreturn h(\"tr\", {}, rowHead(nameOf(program, \"B\", b)), cells, cell(bro\
+ken(one), was ? broken(was) : undefined));\n};\nreturn tableOf(\"Barriers\", [\"barrier\", \"parties\", \"waiting\", \"broken\"], state.barr\
+iers.map(row));\n}\nfunction cellsOf(program, state, old) {\nconst row = ([c, value]) => h(\n\"tr\",\n{},\nrowHead(nameOf(program, \"C\", Nu\
+mber(c))),\ncell(value, old ? old.cells[c] || 0 : undefined)\n);\nreturn tableOf(\"Cells that aren\\u2019t 0\", [\"cell\", \"value\"], Objec\
+t.entries(state.cells).map(row));\n}\nfunction valuesOf(program, moment, before) {\nconst { state } = moment;\nconst old = before ? before.s\
+tate : null;\nreturn [\nthreadsOf(program, moment, old),\nprogram.phasers.length ? phasersOf(program, state, old) : null,\nprogram.barriers.\
+length ? barriersOf(program, state, old) : null,\nObject.keys(state.cells).length ? cellsOf(program, state, old) : null\n];\n}\nreturn { val\
+uesOf };\n})();\n// app/app.js\nconst m44 = (() => {\nconst { endsBeside } = m4;\nconst { checkOf, drawCheck } = m5;\nconst { endKind, endTe\
+xt } = m2;\nconst { button, byId, fill, h } = m3;\nconst { makeCommands } = m34;\nconst { itemOf } = m21;\nconst { lessonCard } = m35;\ncons\
+t { addressOf, linkOf, MOST_LINK, readLink } = m20;\nconst { makeSheet } = m23;\nconst { ordersOf } = m37;\nconst { SEEDS } = m36;\nconst { \
+listProgram } = m14;\nconst { isHeavy } = m16;\nconst { makeProgram } = m38;\nconst { challengeCard, quizCard } = m26;\nconst { closeTree, e\
+ventTo, momentOf, lengthOf } = m19;\nconst { makeScene } = m39;\nconst { choicesOf, commonOf } = m15;\nconst { drawStage } = m40;\nconst cha\
+nge = m33;\nconst { makeTimeline } = m41;\nconst { makeTree, runName } = m42;\nconst { valuesOf } = m43;\nconst TYPING = 250;\nconst SAVING \
+= 300;\nconst KEPT = 40;\nfunction makeApp(given) {\nlet state = change.firstState();\nlet working = null;\nlet typing = 0;\nlet typed = {};\
+\nlet saving = 0;\nlet noteTimer = 0;\nconst past = new Map();\nlet entry = 0;\nconst sheet = makeSheet();\nconst timeline = makeTimeline(i \
+=> set(change.at(state, i)), t => set(change.selectedThread(state, t)));\nconst second = makeTimeline(\ni => set(change.walked(state, state.\
+other, i)),\nt => set(change.selectedThread(state, t))\n);\nconst scene = makeScene({\nthread: t => set(change.selectedThread(state, t)),\np\
+haser: p => set(change.selectedPhaser(state, p))\n});\nconst tree = makeTree((id, i) => set(change.walked(state, id, i)));\nconst program = \
+makeProgram(\ntext => later({ text }),\nplan => later({ plan })\n);\nconst ends = h(\"div.ends\");\nconst tabs = { picture: \"Picture\", val\
+ues: \"Values\", orders: \"Random orders\" };\nconst viewButton = name => button(tabs[name], () => setTab(name), { \"data-tab\": name });\nc\
+onst views = h(\n\"div.views\",\n{ role: \"group\", \"aria-label\": \"What the pane shows\" },\nObject.keys(tabs).map(viewButton)\n);\nconst \
+values = h(\"div.values.scroll\", { tabindex: 0 });\nconst orders = h(\"div.orders.scroll\", { tabindex: 0 });\nconst side = button(\"Side b\
+y side\", () => setSide());\nconst only = button(\"Only run 1\", () => set(change.firstOnly(state), true));\nfill(byId(\"time\"), h(\"div.ti\
+me-two\", {}, timeline.element, second.element), ends);\nfill(byId(\"picture\"), views, scene.element, values, orders);\nfill(byId(\"runs\")\
+, tree.element, h(\"div.runs-tools\", {}, side, only));\nfunction set(next, isNew) {\nconst before = state;\nstate = next;\nif (before.text \
+!== next.text || before.plan !== next.plan) {\nclearTimeout(typing);\ntyped = {};\n}\nif (before.tree && next.tree && before.tree.program !=\
+= next.tree.program) closeTree(before.tree);\nif (isNew && before.tree) {\npast.set(entry, before);\npast.delete(entry - KEPT);\nremember(\"\
+replaceState\");\nentry++;\nremember(\"pushState\");\n}\ndraw();\n}\nfunction later(what) {\ntyped = { ...typed, ...what };\nclearTimeout(ty\
+ping);\ntyping = setTimeout(() => edit(typed.text ?? state.text, typed.plan ?? state.plan), TYPING);\n}\nasync function edit(text, plan) {\n\
+const isQuiz = state.mode === \"quiz\";\nconst played = await playedInWorker(text, plan, change.scheduleIn(state.item, plan));\nif (played =\
+== null) return;\nset(change.edited(state, text, plan, played));\nif (isQuiz && !state.mistake) setMode(\"quiz\");\n}\nasync function open(i\
+tem, mode, isNew = true) {\nconst { program: text, plan } = item;\nconst played = await playedInWorker(text, plan, item.schedule);\nif (play\
+ed === null) return;\nset(checked(change.opened(state, item, mode, played)), isNew);\nif (state.mode === \"quiz\") playOrders();\nfitted();\n\
+}\nfunction checked(next) {\nconst { page } = next.item;\nif (!page || next.mistake) return next;\nreturn { ...next, check: checkOf(page, li\
+stProgram(next.text), next.tree.runs[0].trace) };\n}\nfunction openRun(run, isNew = true, isOfPage = false) {\nconst item = { ...itemOf(run)\
+, isOfPage };\ngiven.menu.unshift(item);\nreturn open(item, \"explore\", isNew);\n}\nasync function playedInWorker(text, plan, schedule = \"\
+\") {\nif (!isHeavy(schedule || plan)) return undefined;\nconst played = await inWorker(\"plan\", { text, plan, schedule });\nreturn played \
+&& { ...played, choices: choicesOf(played.schedule) };\n}\nasync function inWorker(task, what) {\nworking = { task, done: 0 };\nif (!state.t\
+ree) fill(byId(\"said\").lastChild, \"The machine plays the run.\");\ndraw();\ntry {\nreturn await given.work.ask(task, what, done => {\nwor\
+king = { task, done };\nif (state.tab === \"orders\") drawOrders();\n});\n} catch (fault) {\nif (fault.message === \"stopped\") return null;\
+\nif (!fault.told) note(\"The worker stopped: \" + fault.message);\nreturn undefined;\n} finally {\nworking = null;\ndraw();\n}\n}\nasync fu\
+nction playOrders() {\nconst { tree: asked } = state;\nconst found = await inWorker(\"orders\", { text: asked.program.text, seeds: SEEDS });\
+\nif (found && state.tree.program === asked.program) set(change.withOrders(state, found));\n}\nfunction stopWork() {\ngiven.work.stop();\nif \
+(state.mode === \"quiz\" && !state.quiz) set(change.inMode(state, \"explore\"));\n}\nfunction setTab(tab) {\nset({ ...state, tab, pane: \"pi\
+cture\" });\nif (tab === \"orders\" && !state.orders) playOrders();\n}\nfunction setMode(mode) {\nset(change.inMode(state, mode));\nif (mode \
+=== \"quiz\" && !state.quiz) playOrders();\nfitted();\n}\nfunction setSide() {\nif (state.tree.runs.length < 2) return note(\"There is only \
+one run: choose another name first.\");\nset(change.sideBySide(state));\nfitted();\n}\nfunction choose(token) {\ntry {\nconst isNew = change\
+.runOf(state).choices[state.at] !== token;\nset(change.forked(state, state.at, token), isNew);\n} catch (fault) {\nnote(fault.message);\n}\n\
+}\nfunction fitted() {\nrequestAnimationFrame(() => {\ntimeline.redraw();\nsecond.redraw();\n});\n}\nfunction note(...what) {\nfill(byId(\"n\
+ote\"), what);\nbyId(\"note\").classList.add(\"is-shown\");\nclearTimeout(noteTimer);\nnoteTimer = setTimeout(() => byId(\"note\").classList\
+.remove(\"is-shown\"), 6000);\n}\nconst moment = i => momentOf(state.tree, state.id, i);\nfunction draw() {\nif (!state.tree) return;\nconst \
+{ at } = state;\nconst run = change.runOf(state);\nconst { program: model } = state.tree;\nconst now = moment(at);\nconst event = eventTo(ru\
+n, at);\nconst title = model.title || state.item.title;\nObject.assign(document.body.dataset, { mode: state.mode, tab: state.tab, pane: stat\
+e.pane });\ndocument.body.classList.toggle(\"is-refused\", Boolean(state.mistake));\ndocument.body.classList.toggle(\"is-side\", Boolean(cha\
+nge.otherOf(state)));\ndocument.body.classList.toggle(\"is-alone\", state.isAlone);\ndocument.body.classList.toggle(\"is-working\", Boolean(\
+working));\nbyId(\"title\").textContent = title;\ndocument.title = title + \" \\u2014 Vuthgal\";\npressed(\"#modes button\", one => one.data\
+set.mode === state.mode);\npressed(\"#tabs button\", one => one.dataset.pane === state.pane);\npressed(\".views button\", one => one.dataset\
+.tab === state.tab);\nif (state.tab === \"picture\") scene.show({ tree: state.tree, run, at, moment: now, selected: state.selected });\ndraw\
+Stage(state, { choose, tryOut: token => tryOut(token) });\ndrawCheck(state);\nprogram.show(state, now, event);\ndrawTime(run);\nif (state.ta\
+b === \"values\") fill(values, valuesOf(model, now, at ? moment(at - 1) : null));\nif (state.tab === \"orders\") drawOrders();\ntree.show({ \
+tree: state.tree, run, at, isQuiet: state.mode === \"quiz\" || state.isHidden });\nside.disabled = only.disabled = state.tree.runs.length < \
+2;\nside.setAttribute(\"aria-pressed\", String(Boolean(change.otherOf(state))));\ndrawCard(model, now);\nclearTimeout(saving);\nsaving = set\
+Timeout(keepLink, SAVING);\n}\nfunction pressed(which, isPressed) {\nfor (const one of document.querySelectorAll(which)) one.setAttribute(\"\
+aria-pressed\", String(isPressed(one)));\n}\nfunction drawTime(run) {\nconst other = change.otherOf(state);\nconst parts = other ? commonOf(\
+run.choices, other.choices) : run.parent >= 0 ? run.fork : 0;\nconst { isJava, isFolded, selected, zoom, tree: all } = state;\nconst isHidde\
+n = change.isLaterHidden(state);\nconst common = { tree: all, isJava, isFolded, selected, zoom, isHidden, differs: parts, isSide: Boolean(ot\
+her) };\nconst head = one => {\nconst end = h(\"span.end.end-\" + endKind(one.end), {}, isHidden ? \"\" : endText(all.program, one.end));\nr\
+eturn other ? [h(\"b\", {}, runName(all, one)), end] : \"\";\n};\nsecond.element.hidden = !other;\ntimeline.show({ ...common, run, at: state\
+.at, title: head(run) });\nif (other) second.show({ ...common, run: other, at: Math.min(state.at, lengthOf(other)), title: head(other) });\n\
+fill(ends, other && !isHidden ? endsBeside(all.program, run, other) : null);\n}\nfunction drawOrders() {\nconst act = { take: one => set(cha\
+nge.ordered(state, one), true), play: playOrders, stop: stopWork };\nfill(orders, ordersOf(state.tree.program, state.orders, working, act));\
+\n}\nfunction drawCard(model, now) {\nconst card = byId(\"card\");\ncard.hidden = state.mode === \"explore\";\nif (state.mode === \"lesson\"\
+) fill(card, lessonCard(state.lesson, model, now, lessonActs));\nif (state.mode === \"quiz\") fill(card, quizCard(state.quiz, model, quizAct\
+s));\nif (state.mode === \"challenge\") fill(\ncard,\nchallengeCard(change.challengeOf(state), { again: () => setMode(\"challenge\") })\n);\n\
+}\nconst lessonActs = {\nstep: by => focused(() => set(change.lessonStep(state, by))),\nanswer: () => focused(() => set(change.lessonAnswer(\
+state))),\nvote: (t, by) => set(change.voted(state, t, by)),\nchoose,\nshowFork: (i, token) => set(change.forked({ ...state, id: 0 }, i, tok\
+en), true),\ntab: setTab\n};\nconst quizActs = {\nanswer: option => focused(() => set(change.answered(state, option))),\nshow: () => focused\
+(() => set(change.shownOwn(state))),\nnext: () => focused(() => set(change.nextQuestion(state))),\nagain: () => setMode(\"quiz\"),\nstop: st\
+opWork\n};\nfunction focused(what) {\nwhat();\nconst card = byId(\"card\");\n(\ncard.querySelector(\".card-turn .main\") || card.querySelect\
+or(\".card-turn button\")\n)?.focus({ preventScroll: true });\n}\nfunction tryOut(preview) {\nif (change.isVeiled(state) || state.preview ==\
+= preview) return;\nstate = { ...state, preview };\ndrawStage(state, { choose, tryOut });\n}\nfunction remember(how, hash) {\ntry {\nhistory\
+[how]({ entry }, \"\", hash);\n} catch (_) {\npast.clear();\n}\n}\nconst linkNow = () => {\nconst { text } = state.tree.program;\nconst addr\
+ess = addressOf(state.tree, change.runOf(state), state.at);\nif (isOfPage()) return \"#\" + address;\nreturn linkOf({ text, plan: state.plan\
+, name: state.item.name, address, mode: state.mode });\n};\nconst isOfPage = () => {\nconst { item, mode, text, plan } = state;\nreturn item\
+.isOfPage && mode === \"explore\" && text === item.program && plan === item.plan;\n};\nasync function keepLink() {\nif (!state.tree || state\
+.mistake) return;\nconst saved = state;\nconst hash = await linkNow();\nif (state === saved && hash.length < MOST_LINK) remember(\"replaceSt\
+ate\", hash);\n}\nwindow.addEventListener(\"popstate\", event => {\nconst kept = event.state && past.get(event.state.entry);\nif (!kept) ret\
+urn openLink();\npast.set(entry, state);\nentry = event.state.entry;\nstate = kept;\ndraw();\nfitted();\n});\nasync function openLink() {\nl\
+et link;\ntry {\nlink = await readLink(location.hash);\n} catch (fault) {\nnote(\"This link can\\u2019t be read: \" + fault.message + \". A \
 program that is here is shown.\");\nreturn false;\n}\nif (!link) return false;\nif (link.text === undefined) {\nif (!state.tree) return fals\
 e;\nset(change.addressed(state, link.address));\nreturn true;\n}\nconst known = given.menu.find(one => one.name === link.name);\nconst item \
 = {\ngroup: \"Link\",\nname: link.name || \"link\",\ntitle: known ? known.title : \"From a link\",\nprogram: link.text,\nplan: link.plan\n};\
@@ -3337,8 +3359,8 @@ e;\nset(change.addressed(state, link.address));\nreturn true;\n}\nconst known = 
 ));\nif (isKnown) state = { ...state, item: known };\nif (state.mistake) return true;\nif (link.mode === \"quiz\" || link.mode === \"challen\
 ge\") setMode(link.mode);\nelse set({ ...change.addressed(state, link.address), mode: link.mode });\nfitted();\nreturn true;\n}\nconst app = \
 {\nget: () => state,\nset,\nopen,\nopenRun,\nedit,\nopenLink,\nsetTab,\nsetMode,\nsetSide,\nchoose,\nnote,\nlinkNow,\nplayOrders,\nstopWork,\
-\nfitted,\nsheet,\nprogram\n};\nmakeCommands(app, given);\nreturn app;\n}\nreturn { makeApp };\n})();\n// app/work.js\nconst m44 = (() => {\n\
-const { startMachine } = m13;\nconst { outcomesOf } = m35;\nconst { playedPlan } = m15;\nconst { scheduleOf } = m14;\nconst packed = ({ choi\
+\nfitted,\nsheet,\nprogram\n};\nmakeCommands(app, given);\nreturn app;\n}\nreturn { makeApp };\n})();\n// app/work.js\nconst m45 = (() => {\n\
+const { startMachine } = m14;\nconst { outcomesOf } = m36;\nconst { playedPlan } = m16;\nconst { scheduleOf } = m15;\nconst packed = ({ choi\
 ces, isCut, trace }) => ({ schedule: scheduleOf(choices), isCut, trace });\nconst TASKS = {\norders: ({ text, seeds }, told) => outcomesOf(t\
 ext, seeds, told),\nplan: ({ text, plan, schedule }) => packed(playedPlan(text, plan, schedule))\n};\nfunction startWorker() {\nlet ready = \
 null;\nself.onmessage = async ({ data }) => {\nif (data.machine) {\nready = startMachine(data.machine);\nreturn;\n}\ntry {\nawait ready;\nse\
@@ -3350,15 +3372,16 @@ urn new Promise((answer, refuse) => {\ncurrent = { answer, refuse };\nworker.onm
 n told(data.done);\ncurrent = null;\nif (data.fault) refuse(Object.assign(new Error(data.fault.message), data.fault));\nelse answer(data.ans\
 wer);\n};\nworker.onerror = event => {\ncurrent = null;\nworker = null;\nrefuse(new Error(event.message || \"the worker can\\u2019t be start\
 ed\"));\n};\nworker.postMessage({ task, given });\n});\n}\nreturn { ask, stop };\n}\nreturn { startWorker, makeWork };\n})();\n// app/start.\
-js\nconst m45 = (() => {\nconst { makeApp } = m43;\nconst { bareName, runIn, takePage } = m20;\nconst { byId } = m3;\nconst { startMachine, \
-versionOf } = m13;\nconst { makeWork, startWorker } = m44;\nasync function unpacked(text) {\nconst zipped = Uint8Array.from(atob(text.trim()\
+js\nconst m46 = (() => {\nconst { makeApp } = m44;\nconst { bareName, runIn, takePage } = m21;\nconst { byId } = m3;\nconst { startMachine, \
+versionOf } = m14;\nconst { makeWork, startWorker } = m45;\nasync function unpacked(text) {\nconst zipped = Uint8Array.from(atob(text.trim()\
 ), sign => sign.charCodeAt(0));\nconst stream = new Blob([zipped]).stream().pipeThrough(new DecompressionStream(\"gzip\"));\nreturn new Resp\
 onse(stream).arrayBuffer();\n}\nfunction spawn() {\nconst address = URL.createObjectURL(new Blob([byId(\"script\").textContent], { type: \"t\
-ext/javascript\" }));\nconst worker = new Worker(address);\nsetTimeout(() => URL.revokeObjectURL(address), 10000);\nreturn worker;\n}\nasync \
-function startPage() {\nconst run = runIn(document, location.protocol === \"about:\" ? \"run\" : bareName(decodeURI(location.pathname)));\nc\
-onst page = takePage();\nconst menu = JSON.parse(byId(\"programs\").textContent);\nconst bytes = await unpacked(byId(\"machine\").textConten\
-t);\nawait startMachine(bytes);\nconst app = makeApp({ menu, work: makeWork(spawn, bytes), page, version: versionOf() });\nif (run) await ap\
-p.openRun(run, false, true);\nconst isOpen = await app.openLink();\nif (!isOpen && !run) await app.open(menu[0], \"explore\", false);\nwindo\
-w.vuthgal = { get: app.get, ready: performance.now() };\n}\nif (typeof document === \"undefined\") startWorker();\nelse {\nstartPage().catch\
-(fault => {\nbyId(\"said\").dataset.kind = \"wrong\";\nbyId(\"said\").textContent = \"This browser can\\u2019t start the machine: \" + fault\
-.message;\n});\n}\nreturn {  };\n})();\n</script>\n</body>\n</html>\n";
+ext/javascript\" }));\nconst worker = new Worker(address);\nsetTimeout(() => URL.revokeObjectURL(address), 10000);\nreturn worker;\n}\nfunct\
+ion nameOfPage() {\ntry {\nreturn location.protocol === \"about:\" ? \"run\" : bareName(decodeURI(location.pathname));\n} catch (_) {\nretur\
+n \"run\";\n}\n}\nasync function startPage() {\nconst run = runIn(document, nameOfPage());\nconst page = takePage();\nconst menu = JSON.pars\
+e(byId(\"programs\").textContent);\nconst bytes = await unpacked(byId(\"machine\").textContent);\nawait startMachine(bytes);\nconst app = ma\
+keApp({ menu, work: makeWork(spawn, bytes), page, version: versionOf() });\nif (run) await app.openRun(run, false, true);\nconst isOpen = aw\
+ait app.openLink();\nif (!isOpen && !run) await app.open(menu[0], \"explore\", false);\nwindow.vuthgal = { get: app.get, ready: performance.\
+now() };\n}\nif (typeof document === \"undefined\") startWorker();\nelse {\nstartPage().catch(fault => {\nbyId(\"said\").dataset.kind = \"wr\
+ong\";\nbyId(\"said\").textContent = \"This browser can\\u2019t start the machine: \" + fault.message;\n});\n}\nreturn {  };\n})();\n</scrip\
+t>\n</body>\n</html>\n";
