@@ -115,7 +115,7 @@ see_the_rows file first last calls (is, (world, (begins, session)), reply) calle
     let all = left calls image [] first last (world_of world, (begins, refl, begun)) called in
     let now = all.1.1.0 in
     let begins_now = all.1.1.1.0 in
-    let history = all.1.1.1.1.1 in
+    let history = all.1.1.1.2 in
     let alike = stored_alike image now begins_now.1 all.0 in (
       image,
       (

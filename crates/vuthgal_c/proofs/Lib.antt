@@ -5,4 +5,5 @@ pub mod Values
 mod Conversations
 mod Filled
 mod Behind
+mod Results
 mod Events

@@ -9,6 +9,7 @@ ghost use Rattle.vuthgal_c.specs.Beyond.{IsTooMuch};
 ghost use Rattle.vuthgal_c.specs.Mistakes.{HasNames, IsNotLoaded, IsPlaced, IsPlacedLoad, IsProgramOf, IsRight, IsRightPlan, IsWrongPlan, IsWrongSchedule, LacksProgram, Mistakes, Refuses, is_text, kind_of, offset_of, text_in, text_place};
 ghost use Rattle.vuthgal_c.specs.Places.{no_place};
 ghost use Rattle.vuthgal_c.specs.Shows.{Shows};
+ghost use Rattle.vuthgal_c.specs.declared.mistake.Mistake.{Mistake};
 
 use crate::files::is_within;
 use crate::place::PlaceLook;
@@ -237,7 +238,8 @@ fn looked_at(alloc: Global, kind: Kind, file: &[u8], input: &[u8]) -> Result<(),
     ensures right { OnOk result (IsRight kind file.now input.now) }
     ensures mistake { IfErr result (λ mistake. unplanned_status mistake.why ≡ 3
         → Refuses kind file.now input.now mistake.why mistake.place) }
-    ensures limit { IsTooMuch file.now input.now → IfErr result (λ mistake. mistake.why ≡ why.Fault Fault.Read) }
+    ensures limit { IsTooMuch file.now input.now
+        → (mistake : Mistake) × ((result ≡ Err mistake) × (mistake.why ≡ why.Fault Fault.Read)) }
 {
     if !is_within(file) || !is_within(input) {
         return Err(Mistake::nowhere(Fault::Read));
