@@ -7,3 +7,4 @@ mod Filled
 mod Behind
 mod Results
 mod Events
+mod Mistaken
