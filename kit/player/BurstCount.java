@@ -149,7 +149,7 @@ final class BurstCount {
             few |= tellEach(kindsPlayed, withPoints ? ", with points and without" : "", many, to) && order.isByTime();
         }
         tooFew = few && order.isByTime() && findings == 0;
-        if (few) {
+        if (few && findings == 0) {
             to.println(String.format(Locale.ROOT, "too few: at a load of %.0f on %d processors, leave off other work, play longer, or"
                 + " take --kind; %s", Load.now(), Load.PROCESSORS, fewest(withPoints ? kindsWithPoints : kindsPlayed)));
         }

@@ -15,7 +15,10 @@ fn word(line: &[u8], number: usize) -> &[u8] {
 
 /// What a thread's line says of its output, with the word `out`.
 fn output_of(line: &[u8]) -> &[u8] {
-    match line.windows(4).position(|bytes| bytes == b" out".as_slice()) {
+    match line
+        .windows(4)
+        .position(|bytes| bytes == b" out".as_slice())
+    {
         Some(at) => line.get(at.saturating_add(1)..).unwrap_or(&[]),
         None => &[],
     }
@@ -34,7 +37,10 @@ fn name_of<'a>(names: &[&'a [u8]], line: &'a [u8]) -> &'a [u8] {
     match subject {
         [b't', digits @ ..] => {
             let number = str::from_utf8(digits).unwrap_or("").parse::<usize>();
-            names.get(number.unwrap_or(usize::MAX)).copied().unwrap_or(subject)
+            names
+                .get(number.unwrap_or(usize::MAX))
+                .copied()
+                .unwrap_or(subject)
         }
         _ => subject,
     }
@@ -50,11 +56,23 @@ fn push_thread<E: Sink>(errors: &mut E, line: &[u8], first: &[u8]) -> Result<(),
         errors.push(word(line, 2))?;
     }
     if is_other_output {
-        errors.push(if is_other_status { b", " } else { b" ".as_slice() })?;
-        errors.push(if output == b"out".as_slice() { b"out nothing" } else { output })?;
+        errors.push(if is_other_status {
+            b", "
+        } else {
+            b" ".as_slice()
+        })?;
+        errors.push(if output == b"out".as_slice() {
+            b"out nothing"
+        } else {
+            output
+        })?;
     }
     if !is_other_status && !is_other_output {
-        errors.push(if word(line, 1) == word(first, 1) { b" other registers" } else { b" another row".as_slice() })?;
+        errors.push(if word(line, 1) == word(first, 1) {
+            b" other registers"
+        } else {
+            b" another row".as_slice()
+        })?;
     }
     Ok(())
 }

@@ -57,7 +57,11 @@ fn hint_at_read(rt: &HostRuntime, name: &str, error: &io::Error) -> Hint {
     for program in programs.iter() {
         names.push(program.as_bytes())?;
     }
-    help_by_names(rt.alloc(), b"this is a folder; its programs are ", names.as_slice())
+    help_by_names(
+        rt.alloc(),
+        b"this is a folder; its programs are ",
+        names.as_slice(),
+    )
 }
 
 /// Reports a fault of a file with the system's reason.

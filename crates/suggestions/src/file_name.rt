@@ -90,7 +90,9 @@ pub fn programs_in(rt: &HostRuntime, folder: &str) -> Option<Vec<String>> {
     for entry in fs::read_dir(rt, folder).ok()? {
         let entry = entry.ok()?;
         if is_of_program(entry.file_name()) {
-            names.push(String::from_str(rt.alloc(), entry.file_name()).ok()?).ok()?;
+            names
+                .push(String::from_str(rt.alloc(), entry.file_name()).ok()?)
+                .ok()?;
         }
     }
     names.sort_unstable();

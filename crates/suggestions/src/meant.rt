@@ -205,9 +205,9 @@ fn is_like_register(word: &[u8]) -> bool {
 
 /// Whether a word stands behind this one in a line.
 fn is_behind(words: &[&[u8]], before: &[u8], word: &[u8]) -> bool {
-    words
-        .windows(2)
-        .any(|pair| matches!(pair, [first, second] if *first == before && *second == word))
+    words.windows(2).any(
+        |pair| matches!(pair, [first, second] if *first == before && *second == word),
+    )
 }
 
 /// What helps at a number that is out of range: the range. `first` is the row's or directive's word of its line.

@@ -31,7 +31,10 @@ fn word_meant(alloc: Global, word: &str) -> Result<Option<&'static str>, AllocEr
 
 /// Whether these words are the sentence of an entry, behind the name of its kind if it has one.
 fn are_sentence(means: &str, words: &[&str]) -> bool {
-    let mut said = means.split_once(": ").map_or(means, |(_, sentence)| sentence).split_ascii_whitespace();
+    let mut said = means
+        .split_once(": ")
+        .map_or(means, |(_, sentence)| sentence)
+        .split_ascii_whitespace();
     for word in words {
         if said.next() != Some(*word) {
             return false;

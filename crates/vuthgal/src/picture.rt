@@ -107,7 +107,13 @@ fn picture<P: Picture>(
 /// Writes the page of the program in a file.
 pub fn show(report: &Report<'_>, name: &str, steps: Steps<'_>) -> Result<Done, Reported> {
     notes::push_page_on_terminal(report);
-    picture(report, &Page { frame: frame() }, MOST_PAGE_CHOICES, name, steps)
+    picture(
+        report,
+        &Page { frame: frame() },
+        MOST_PAGE_CHOICES,
+        name,
+        steps,
+    )
 }
 
 /// Draws the run of the program in a file, in lines of at most so many bytes.

@@ -49,10 +49,9 @@ gone : (image : Image) (choices : List Choice) (kept next : Kept) (played : List
     → HasGone kept played number next → Leaves image choices kept (GoTo played number 0) (Some next)
 gone image choices kept next played number same (all, ((runs, (is, named)), enough, again)) =
     let read : choices_of (finished_schedule played).runs ≡ all = ap (λ (s : Schedule). choices_of s.runs) is ∙ sym named in
-    inr (next, (refl, (take number all, (
-      ap (take number) (sym read),
-      (again.first, (subst (λ (i : Image). Begins i again.first) same again.begins, again.image ∙ same, again.history)),
-    ))))
+    let begins = subst (λ (i : Image). Begins i again.first) same again.begins in
+    let stand : StandIn image (take number all) next = (again.first, (begins, again.image ∙ same, again.history)) in
+    inr (next, (refl, (take number all, (ap (take number) (sym read), stand))))
 
 one_call : (call : Call) (image : Image) (choices : List Choice) (kept : Kept) (after : Option Kept) → StandIn image choices kept
     → IsCall (Some kept) call after → Leaves image choices kept call after
@@ -65,8 +64,8 @@ one_call (Command command (suc n) reply) image choices kept after stands (inr (m
     inr (kept, (same, (choices, (refl, stands))))
 one_call (Command command (suc n) reply) image choices kept after stands (inr (memory, empty, inr (closed, long))) = inl closed
 one_call (Choose choice zero b a) image choices kept after (world, (begins, same, history)) (inl (done, (next, (is, (stepped, reply, image_is, event))))) =
-    inr (next, (is, (choices ++ choice ∷ [], (refl, (world, (begins, image_is ∙ same,
-        history_on world choices choice kept.debugger next.debugger history stepped))))))
+    let on = history_on world choices choice kept.debugger next.debugger history stepped in
+    inr (next, (is, (choices ++ choice ∷ [], (refl, (world, (begins, image_is ∙ same, on))))))
 one_call (Choose choice zero b a) image choices kept after stands (inr (same, event, (fault, (status, refuses)))) =
     absurd (never_zero fault status)
 one_call (Choose choice (suc n) b a) image choices kept after stands (inl (done, rest)) = absurd (omega (arith, done))
@@ -116,7 +115,7 @@ see_the_rows file first last calls (is, (world, (begins, session)), reply) calle
     let all = left calls image [] first last (world_of world, (begins, refl, begun)) called in
     let now = all.1.1.0 in
     let begins_now = all.1.1.1.0 in
-    let history = all.1.1.1.1.1 in
+    let history = all.1.1.1.2 in
     let alike = stored_alike image now begins_now.1 all.0 in (
       image,
       (

@@ -5,4 +5,6 @@ pub mod Values
 mod Conversations
 mod Filled
 mod Behind
+mod Results
 mod Events
+mod Mistaken

@@ -1,5 +1,5 @@
 -- Where a program, a plan or a schedule is refused.
-use Rattle.std.specs.Prelude.{◌≡◌, ◌≢◌, ◌⊎◌, ◌+◌, ◌-◌, ◌==◌, ℕ, if◌then◌else◌, List, [], length, take, Option, Some, None, Result, Ok, Err, IfErr, OnOk}
+use Rattle.std.specs.Prelude.{◌≡◌, ◌≢◌, ◌⊎◌, ◌+◌, ◌-◌, ◌==◌, ℕ, Bool, true, false, if◌then◌else◌, List, [], length, take, Option, Some, None, Result, Ok, Err, IfErr, OnOk}
 use Rattle.assembler.specs.Meaning.{StandsFor}
 use Rattle.assembler.specs.Symbols.{symbols_in}
 use Rattle.commands.specs.Pictures.{program_of}
@@ -8,7 +8,8 @@ use Rattle.commands.specs.Unplanned.{unplanned_status}
 use Rattle.commands.specs.declared.unplanned.Unplanned.{Unplanned}
 use Rattle.commands.specs.declared.unplanned.Unplanned.TheVariants as why
 use Rattle.plans.specs.Plan.{words_in_plan}
-use Rattle.plans.specs.declared.words.Words.{Words}
+use Rattle.plans.specs.declared.fault.PlanFault.{PlanFault}
+use Rattle.plans.specs.declared.word.Word.{Word}
 use Rattle.schedule_reader.specs.Schedule.{finished_schedule}
 use Rattle.schedule_reader.specs.declared.fault.ScheduleFault.{ScheduleFault}
 use Rattle.schedule_reader.specs.declared.fault.ScheduleFault.TheVariants as schedule
@@ -35,50 +36,26 @@ text_in kind.Plan file = program_of file
 text_in kind.Schedule file = file
 text_in kind.Text file = program_part file
 
--- the program there, or why there is none; that of a text is never an image
+-- whether that is never an image
+abbrev pub is_text : Kind → Bool
+is_text kind.Text = true
+is_text _ = false
+
+-- the program in a part of a file, or why there is none
+abbrev pub IsProgramHere : (only_text : Bool) → (part : List ℕ) → Program → Type 0
+IsProgramHere true part program = StandsFor part program.image × (symbols_in part ≡ Ok program.names)
+IsProgramHere false part program = IsProgramIn part program
+
+abbrev pub HasNone : (only_text : Bool) → Fault → (part : List ℕ) → Type 0
+HasNone true f part = IsNoTextFor f part
+HasNone false f part = IsNoProgramFor f part
+
 abbrev pub IsProgramOf : Kind → (file : List ℕ) → Program → Type 0
-IsProgramOf kind.Text file program = StandsFor (program_part file) program.image × (symbols_in (program_part file) ≡ Ok program.names)
-IsProgramOf k file program = IsProgramIn (text_in k file) program
+IsProgramOf k file program = IsProgramHere (is_text k) (text_in k file) program
 
-abbrev pub HasNoProgram : Kind → Fault → (file : List ℕ) → Type 0
-HasNoProgram kind.Text f file = IsNoTextFor f (program_part file)
-HasNoProgram k f file = IsNoProgramFor f (text_in k file)
-
--- the schedule that is looked at
-abbrev pub schedule_in : Kind → (file input : List ℕ) → List ℕ
-schedule_in kind.Text file input = schedule_part file
-schedule_in k file input = input
-
--- a plan has no fault, for threads of these names
-abbrev pub IsRightPlan : (names : List (List ℕ)) → (plan : List ℕ) → Type 0
-IsRightPlan names plan = (words : Words) × (words_in_plan names plan ≡ Ok words)
-
--- nothing is wrong with what is looked at
-abbrev pub IsRightInput : Kind → (names : List (List ℕ)) → (file input : List ℕ) → Type 0
-IsRightInput kind.Program names file input = Unit {0}
-IsRightInput kind.Plan names file input = IsRightPlan names input
-IsRightInput k names file input = (finished_schedule (schedule_in k file input)).fault ≡ None
-
-abbrev pub IsRight : Kind → (file input : List ℕ) → Type 0
-IsRight k file input =
-    (program : Program) × (IsProgramOf k file program × ((names : List (List ℕ)) × (HasThreads program.image program.names names
-    × IsRightInput k names file input)))
-
--- it is refused for this: the plan, for threads of the program's names; the schedule; or the program, which isn't one or isn't loaded
-abbrev pub IsMistake : Unplanned → Kind → (file input : List ℕ) → Type 0
-IsMistake (why.Plan f) k file input =
-    (k ≡ kind.Plan) × ((program : Program) × (IsProgramOf k file program × ((names : List (List ℕ))
-    × (HasThreads program.image program.names names × (words_in_plan names input ≡ Err f)))))
-IsMistake (why.Fault (fault.Schedule f)) k file input = (finished_schedule (schedule_in k file input)).fault ≡ Some f
-IsMistake (why.Fault f) k file input =
-    HasNoProgram k f file ⊎ ((program : Program) × (IsProgramOf k file program × IsUnloadedFor f program.image))
-
--- the offset of a fault of a schedule
-abbrev pub offset_of : ScheduleFault → ℕ
-offset_of (schedule.Byte at) = at
-offset_of (schedule.Number at) = at
-offset_of (schedule.Repeat at) = at
-offset_of schedule.Memory = 0
+-- it is loaded, and its threads have these names
+abbrev pub HasNames : Kind → (file : List ℕ) → (names : List (List ℕ)) → Type 0
+HasNames k file names = (program : Program) × (IsProgramOf k file program × HasThreads program.image program.names names)
 
 -- the place of the word of a text that makes its fault; another fault of a program has none
 abbrev pub text_place : Fault → PlaceLook
@@ -90,44 +67,73 @@ abbrev pub IsPlacedLoad : Fault → PlaceLook → Type 0
 IsPlacedLoad (fault.Load f) place = place.input ≡ 0
 IsPlacedLoad _ place = place ≡ no_place
 
--- a plan has this fault, and its line; and a schedule, which is the end of a file, and its byte
-abbrev pub IsWrongPlan : Unplanned → PlaceLook → (names : List (List ℕ)) → (plan : List ℕ) → Type 0
-IsWrongPlan (why.Plan f) place names plan = (unplanned_status (why.Plan f) ≡ 3 → words_in_plan names plan ≡ Err f)
-    × (place.line ≡ f.line) × (place.input ≡ 1)
-IsWrongPlan (why.Fault f) place names plan = ⊥
+-- a file is refused, and where: it holds no program; or its program isn't loaded
+abbrev pub LacksProgram : Kind → (file : List ℕ) → Unplanned → PlaceLook → Type 0
+LacksProgram k file reason place =
+    (f : Fault) × ((reason ≡ why.Fault f) × HasNone (is_text k) f (text_in k file) × (place ≡ text_place f))
 
-abbrev pub IsWrongSchedule : Unplanned → PlaceLook → (file schedule : List ℕ) → (input : ℕ) → Type 0
-IsWrongSchedule (why.Fault (fault.Schedule f)) place file schedule input =
-    (unplanned_status (why.Fault (fault.Schedule f)) ≡ 3 → (finished_schedule schedule).fault ≡ Some f)
-    × IsByteAt (take (length file - length schedule + offset_of f) file) input place
-IsWrongSchedule _ place file schedule input = ⊥
+abbrev pub IsNotLoaded : Kind → (file : List ℕ) → Unplanned → PlaceLook → Type 0
+IsNotLoaded k file reason place =
+    (f : Fault) × ((reason ≡ why.Fault f) × IsPlacedLoad f place
+    × ((program : Program) × (IsProgramOf k file program × IsUnloadedFor f program.image)))
 
--- where the schedule is: behind the line `.run` of the file, or the other input
-abbrev pub IsAtOffset : Kind → (file input : List ℕ) → (offset : ℕ) → PlaceLook → Type 0
-IsAtOffset kind.Text file input offset place =
-    IsByteAt (take (length file - length (schedule_part file) + offset) file) 0 place
-IsAtOffset k file input offset place = IsByteAt (take (length input - length input + offset) input) 2 place
+-- a plan has no fault, for threads of these names; or it has, in this line
+abbrev pub IsRightPlan : (names : List (List ℕ)) → (plan : List ℕ) → Type 0
+IsRightPlan names plan = (words : List Word) × (words_in_plan names plan ≡ Ok words)
 
--- where it is refused: at the word of a text that makes the fault; in a line of the plan; at a byte of the schedule; at a row or a
--- declaration of a text that isn't loaded; or nowhere
-abbrev pub IsMistakenAt : Unplanned → Kind → (file input : List ℕ) → PlaceLook → Type 0
-IsMistakenAt (why.Plan f) k file input place = (place.line ≡ f.line) × (place.input ≡ 1)
-IsMistakenAt (why.Fault (fault.Schedule f)) k file input place = IsAtOffset k file input (offset_of f) place
-IsMistakenAt (why.Fault (fault.Load f)) k file input place = place.input ≡ 0
-IsMistakenAt (why.Fault f) k file input place = place ≡ text_place f
+abbrev pub IsWrongPlan : (names : List (List ℕ)) → (plan : List ℕ) → Unplanned → PlaceLook → Type 0
+IsWrongPlan names plan reason place =
+    (f : PlanFault) × ((reason ≡ why.Plan f) × (unplanned_status reason ≡ 3 → words_in_plan names plan ≡ Err f)
+    × (place.line ≡ f.line) × (place.input ≡ 1))
 
--- what is looked at is refused for a reason and at a place; or it is right; or too long, or out of memory
+-- the offset of a fault of a schedule
+abbrev pub offset_of : ScheduleFault → ℕ
+offset_of (schedule.Byte at) = at
+offset_of (schedule.Number at) = at
+offset_of (schedule.Repeat at) = at
+offset_of schedule.Memory = 0
+
+-- a schedule, which is the end of a file, has a fault, at this byte
+abbrev pub IsWrongSchedule : (file schedule : List ℕ) → (input : ℕ) → Unplanned → PlaceLook → Type 0
+IsWrongSchedule file schedule input reason place =
+    (f : ScheduleFault) × ((reason ≡ why.Fault (fault.Schedule f))
+    × (unplanned_status reason ≡ 3 → (finished_schedule schedule).fault ≡ Some f)
+    × IsByteAt (take (length file - length schedule + offset_of f) file) input place)
+
+-- nothing is wrong with what is looked at: a program alone, a plan, a schedule, or one behind the line `.run` of a text
+abbrev pub IsRightInput : Kind → (names : List (List ℕ)) → (file input : List ℕ) → Type 0
+IsRightInput kind.Program names file input = Unit {0}
+IsRightInput kind.Plan names file input = IsRightPlan names input
+IsRightInput kind.Schedule names file input = (finished_schedule input).fault ≡ None
+IsRightInput kind.Text names file input = (finished_schedule (schedule_part file)).fault ≡ None
+
+abbrev pub IsRight : Kind → (file input : List ℕ) → Type 0
+IsRight k file input = (names : List (List ℕ)) × (HasNames k file names × IsRightInput k names file input)
+
+-- it is refused, and where
+abbrev pub IsWrongInput : Kind → (names : List (List ℕ)) → (file input : List ℕ) → Unplanned → PlaceLook → Type 0
+IsWrongInput kind.Program names file input reason place = ⊥
+IsWrongInput kind.Plan names file input reason place = IsWrongPlan names input reason place
+IsWrongInput kind.Schedule names file input reason place = IsWrongSchedule input input 2 reason place
+IsWrongInput kind.Text names file input reason place = IsWrongSchedule file (schedule_part file) 0 reason place
+
+-- what is looked at is refused for a reason, and where: it has no program, or none that is loaded; or the rest is wrong
 abbrev pub Refuses : Kind → (file input : List ℕ) → Unplanned → PlaceLook → Type 0
-Refuses k file input reason place = IsMistake reason k file input × IsMistakenAt reason k file input place
+Refuses k file input reason place =
+    LacksProgram k file reason place
+    ⊎ (IsNotLoaded k file reason place
+    ⊎ ((names : List (List ℕ)) × (HasNames k file names × IsWrongInput k names file input reason place)))
 
+-- the place that is told with a status
 abbrev pub IsPlaced : Kind → (file input : List ℕ) → (status : ℕ) → PlaceLook → Type 0
 IsPlaced k file input status place =
     ((status ≡ 3) × ((reason : Unplanned) × Refuses k file input reason place)) ⊎ ((status ≢ 3) × (place ≡ no_place))
 
+-- what is looked at is right; or it is refused, by the line of the reason; or it is too long, or out of memory
 abbrev pub Mistakes : Kind → (file input : List ℕ) → (status : ℕ) (hint line : List ℕ) → Type 0
 Mistakes k file input status hint line =
     (answer : Result (Unit {0}) Unplanned) × (OnOk answer (IsRight k file input)
-    × IfErr answer (λ reason. unplanned_status reason ≡ 3 → IsMistake reason k file input)
+    × IfErr answer (λ reason. unplanned_status reason ≡ 3 → (place : PlaceLook) × Refuses k file input reason place)
     × (IsTooMuch file input → answer ≡ Err (why.Fault fault.Read))
     × (status ≢ 3 → hint ≡ [])
     × SettlesSeeds answer status false (Some []) (Some line))

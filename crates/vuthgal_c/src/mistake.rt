@@ -1,14 +1,15 @@
 //! Where a program, a plan or a schedule is refused, and what helps.
-ghost use Rattle.std.specs.Prelude.{◌≡◌, ◌≢◌, ◌≤◌, Err, IfErr, IfOk, None, OnOk, length, map};
+ghost use Rattle.std.specs.Prelude.{◌≡◌, ◌≢◌, ◌≤◌, ◌⊎◌, Err, IfErr, IfOk, None, OnOk, length, map};
 ghost use Rattle.commands.specs.Unplanned.{unplanned_status};
 ghost use Rattle.commands.specs.declared.unplanned.Unplanned.TheVariants as why;
 ghost use Rattle.line_reader.specs.Seen.{name_seen};
 ghost use Rattle.schedule_reader.specs.Schedule.{finished_schedule};
 ghost use Rattle.workbench.specs.declared.fault.Fault.{Fault};
 ghost use Rattle.vuthgal_c.specs.Beyond.{IsTooMuch};
-ghost use Rattle.vuthgal_c.specs.Mistakes.{HasNoProgram, IsPlaced, IsPlacedLoad, IsProgramOf, IsRight, IsRightPlan, IsWrongPlan, IsWrongSchedule, Mistakes, Refuses, kind_of, offset_of, text_in, text_place};
+ghost use Rattle.vuthgal_c.specs.Mistakes.{HasNames, IsNotLoaded, IsPlaced, IsPlacedLoad, IsProgramOf, IsRight, IsRightPlan, IsWrongPlan, IsWrongSchedule, LacksProgram, Mistakes, Refuses, is_text, kind_of, offset_of, text_in, text_place};
 ghost use Rattle.vuthgal_c.specs.Places.{no_place};
 ghost use Rattle.vuthgal_c.specs.Shows.{Shows};
+ghost use Rattle.vuthgal_c.specs.declared.mistake.Mistake.{Mistake};
 
 use crate::files::is_within;
 use crate::place::PlaceLook;
@@ -39,6 +40,7 @@ const LONGEST_LINE: usize = 64;
 
 /// The number of a plan, and of a schedule, as a kind of input.
 const PLAN: u8 = 1;
+
 const SCHEDULE: u8 = 2;
 
 /// What is looked at: a program alone, a plan or a schedule of it, or a text with its schedule.
@@ -129,14 +131,23 @@ fn not_loaded(alloc: Global, file: &[u8], text: &[u8], fault: Fault) -> Mistake
     }
 }
 
+/// Returns whether the program is never an image.
+fn is_text(kind: Kind) -> bool
+    ensures { result ≡ is_text kind }
+{
+    match kind {
+        Kind::Program | Kind::Plan | Kind::Schedule => false,
+        Kind::Text => true,
+    }
+}
+
 /// Returns the program of a file.
 fn program_of(alloc: Global, kind: Kind, file: &[u8]) -> Result<Program<'_>, Mistake>
     ensures program { IfOk result (λ program. IsProgramOf kind file.now program) }
-    ensures none { IfErr result (λ mistake. (f : Fault) × ((mistake.why ≡ why.Fault f) × HasNoProgram kind f file.now
-        × (mistake.place ≡ text_place f))) }
+    ensures none { IfErr result (λ mistake. LacksProgram kind file.now mistake.why mistake.place) }
 {
     let text = text_in(kind, file);
-    let program = if kind == Kind::Text {
+    let program = if is_text(kind) {
         program_of_text(alloc, text)
     } else {
         program_in(alloc, text)
@@ -147,11 +158,28 @@ fn program_of(alloc: Global, kind: Kind, file: &[u8]) -> Result<Program<'_>, Mis
     }
 }
 
+/// Returns the names of the threads of a file's program, which is loaded.
+fn names_of(alloc: Global, kind: Kind, file: &[u8]) -> Result<Vec<&[u8]>, Mistake>
+    ensures names { IfOk result (λ names. HasNames kind file.now (map name_seen names.items)) }
+    ensures few { IfOk result (λ names. length names.items ≤ 64) }
+    ensures none { IfErr result (λ mistake. unplanned_status mistake.why ≡ 3
+        → LacksProgram kind file.now mistake.why mistake.place ⊎ IsNotLoaded kind file.now mistake.why mistake.place) }
+{
+    let Program { image, names, .. } = match program_of(alloc, kind, file) {
+        Ok(program) => program,
+        Err(mistake) => return Err(mistake),
+    };
+    match loaded_program(alloc, image, &names) {
+        Ok((_, names)) => Ok(names),
+        Err(fault) => Err(not_loaded(alloc, file, text_in(kind, file), fault)),
+    }
+}
+
 /// Returns the mistake of a plan for threads of these names, if it has one.
 fn plan_read(alloc: Global, plan: &[u8], names: &[&[u8]]) -> Result<(), Mistake>
     requires { length names.now ≤ 64 }
     ensures read { OnOk result (IsRightPlan (map name_seen names.now) plan.now) }
-    ensures mistake { IfErr result (λ mistake. IsWrongPlan mistake.why mistake.place (map name_seen names.now) plan.now) }
+    ensures mistake { IfErr result (λ mistake. IsWrongPlan (map name_seen names.now) plan.now mistake.why mistake.place) }
 {
     let fault = match read_plan(alloc, plan, names) {
         Ok(_) => return Ok(()),
@@ -186,7 +214,7 @@ fn schedule_read(
     requires part { length schedule.now ≤ length file.now }
     requires few { length file.now ≤ 16777216 }
     ensures read { OnOk result ((finished_schedule schedule.now).fault ≡ None) }
-    ensures mistake { IfErr result (λ mistake. IsWrongSchedule mistake.why mistake.place file.now schedule.now input) }
+    ensures mistake { IfErr result (λ mistake. IsWrongSchedule file.now schedule.now input mistake.why mistake.place) }
 {
     let fault = match read_schedule(alloc, schedule) {
         Ok(_) => return Ok(()),
@@ -210,18 +238,15 @@ fn looked_at(alloc: Global, kind: Kind, file: &[u8], input: &[u8]) -> Result<(),
     ensures right { OnOk result (IsRight kind file.now input.now) }
     ensures mistake { IfErr result (λ mistake. unplanned_status mistake.why ≡ 3
         → Refuses kind file.now input.now mistake.why mistake.place) }
-    ensures limit { IsTooMuch file.now input.now → IfErr result (λ mistake. mistake.why ≡ why.Fault Fault.Read) }
+    ensures limit { IsTooMuch file.now input.now
+        → (mistake : Mistake) × ((result ≡ Err mistake) × (mistake.why ≡ why.Fault Fault.Read)) }
 {
     if !is_within(file) || !is_within(input) {
         return Err(Mistake::nowhere(Fault::Read));
     }
-    let Program { image, names, .. } = match program_of(alloc, kind, file) {
-        Ok(program) => program,
+    let names = match names_of(alloc, kind, file) {
+        Ok(names) => names,
         Err(mistake) => return Err(mistake),
-    };
-    let names = match loaded_program(alloc, image, &names) {
-        Ok((_, names)) => names,
-        Err(fault) => return Err(not_loaded(alloc, file, text_in(kind, file), fault)),
     };
     match kind {
         Kind::Program => Ok(()),
@@ -303,7 +328,14 @@ pub extern "C" fn vuthgal_mistake(
     ensures place { IsPlaced (kind_of kind) program.now input.now result place.new }
 {
     let mut reply = Reply::new(alloc, output.len(), line.len());
-    let answer = told(alloc, kind_of(kind), program, input, &mut reply.shown, place);
+    let answer = told(
+        alloc,
+        kind_of(kind),
+        program,
+        input,
+        &mut reply.shown,
+        place,
+    );
     let status = settled_done(answer, &mut reply.told);
     let status = reply.hand(status, output, output_length, line, line_length);
     if status != 3 {

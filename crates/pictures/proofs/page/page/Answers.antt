@@ -1,4 +1,4 @@
-use Rattle.std.proofs.Common.{rules, ◌≡◌, ◌∙◌, ◌≤◌, ◌<◌, List, length, Err, ap, subst}
+use Rattle.std.proofs.Common.{rules, ◌≡◌, ◌∙◌, ◌≤◌, ◌<◌, List, length, Err, ap, refl, subst}
 use Rattle.std.proofs.lemmas.Result.{IfOk-weaker}
 use Rattle.line_reader.specs.Listing.{canonical}
 use Rattle.schedule_reader.specs.declared.run.Run.{Run}
@@ -23,55 +23,33 @@ returns-clause-page c =
     let begins : Begins image world = (c.in-Ok-loaded.ensures.none, is_first image c.in-Ok-loaded.program 1000000000 c.in-Ok-loaded.ensures.program) in
     let listed : c.as_slice.result.now ≡ canonical image = search rules in
     let same : c.as_slice-2.result.now ≡ runs = search rules in
-    IfOk-weaker c.show_runs.result _ _ (λ shown is. (
-      world,
-      (
-        runs,
-        (
-          begins,
-          c.in_ok-runs.ensures.runs,
-          c.in_ok-runs.ensures.few,
-          subst (λ (rs : List Run). length (trace_of world (choices_of rs)) ≤ 16777216) same is.0,
-          is.1 ∙ ap (λ l. page_text parts l source (schedule_text c.as_slice-2.result.now) (trace_of world (choices_of c.as_slice-2.result.now))) listed
-              ∙ ap (λ (rs : List Run). page_text parts (canonical image) source (schedule_text rs) (trace_of world (choices_of rs))) same,
-        ),
-      ),
-    )) c.show_runs.ensures.page
+    IfOk-weaker c.show_runs.result _ _ (λ shown is.
+    let short = subst (λ (rs : List Run). length (trace_of world (choices_of rs)) ≤ 16777216) same is.0 in
+    let whole = is.1
+    ∙ ap (λ l. page_text parts l source (schedule_text c.as_slice-2.result.now) (trace_of world (choices_of c.as_slice-2.result.now))) listed
+    ∙ ap (λ (rs : List Run). page_text parts (canonical image) source (schedule_text rs) (trace_of world (choices_of rs))) same in
+    (world, (runs, (begins, c.in_ok-runs.ensures.runs, c.in_ok-runs.ensures.few, short, whole)))) c.show_runs.ensures.page
 
 pub returns-clause-missing : goal.returns-clause-missing
 returns-clause-missing c =
     let image = c.args.image in
     let world = first_world c.in-Ok-loaded.program 1000000000 in
     let begins : Begins image world = (c.in-Ok-loaded.ensures.none, is_first image c.in-Ok-loaded.program 1000000000 c.in-Ok-loaded.ensures.program) in
-    let same : c.as_slice-2.result.now ≡ c.in_ok-runs.runs.items = search rules in
-    IfOk-weaker c.show_runs.result _ _ (λ shown is. (
-      world,
-      (
-        choices_of c.in_ok-runs.runs.items,
-        (
-          begins,
-          (c.in_ok-runs.runs.items, (c.in_ok-runs.ensures.runs, search rules)),
-          is ∙ ap (λ (rs : List Run). missing_in world (choices_of rs)) same,
-        ),
-      ),
-    )) c.show_runs.ensures.missing
+    let runs = c.in_ok-runs.runs.items in
+    let same : c.as_slice-2.result.now ≡ runs = search rules in
+    IfOk-weaker c.show_runs.result _ _ (λ shown is.
+    let told = is ∙ ap (λ (rs : List Run). missing_in world (choices_of rs)) same in
+    (world, (choices_of runs, (begins, (runs, (c.in_ok-runs.ensures.runs, refl)), told)))) c.show_runs.ensures.missing
 
 pub returns-clause-long : goal.returns-clause-long
 returns-clause-long c = λ is.
     let image = c.args.image in
     let world = first_world c.in-Ok-loaded.program 1000000000 in
     let begins : Begins image world = (c.in-Ok-loaded.ensures.none, is_first image c.in-Ok-loaded.program 1000000000 c.in-Ok-loaded.ensures.program) in
-    let same : c.as_slice-2.result.now ≡ c.in_ok-runs.runs.items = search rules in (
-      world,
-      (
-        c.in_ok-runs.runs.items,
-        (
-          begins,
-          c.in_ok-runs.ensures.runs,
-          subst (λ (rs : List Run). 16777216 < length (trace_of world (choices_of rs))) same (c.show_runs.ensures.long is),
-        ),
-      ),
-    )
+    let runs = c.in_ok-runs.runs.items in
+    let same : c.as_slice-2.result.now ≡ runs = search rules in
+    let more = subst (λ (rs : List Run). 16777216 < length (trace_of world (choices_of rs))) same (c.show_runs.ensures.long is) in
+    (world, (runs, (begins, c.in_ok-runs.ensures.runs, more)))
 
 pub returns-in-Err-clause-load : goal.returns-in-Err-clause-load
 returns-in-Err-clause-load c = λ told is.

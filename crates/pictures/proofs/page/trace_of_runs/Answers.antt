@@ -1,4 +1,4 @@
-use Rattle.std.proofs.Common.{◌∙◌, ap, refl}
+use Rattle.std.proofs.Common.{◌∙◌, [], ap, refl}
 use Rattle.schedule_reader.specs.Schedule.{choices_of}
 use Rattle.thread_machine.specs.World.{first_world}
 use Rattle.pictures.specs.Missing.{missing_told}
@@ -8,4 +8,4 @@ use Rattle.pictures.proofs.page.trace_of_runs.Goals as goal
 pub returns-clause-missing : goal.returns-clause-missing
 returns-clause-missing c =
     c.missing_told-missing.ensures ∙ ap missing_told c.in-Ok.ensures.traced.0.2
-    ∙ told-missing (first_world c.args.program 1000000000) (choices_of c.args.runs.now) refl
+    ∙ told-missing (choices_of c.args.runs.now) (first_world c.args.program 1000000000) [] refl
