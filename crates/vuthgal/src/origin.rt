@@ -2,4 +2,4 @@
 
 /// The version, and the sum of the sources but for this file.
 pub const VERSION: &str =
-    "2.0.0\nsources 2fe3029e8c5284fcd87afae01626805f2aa42e814f7185bfaf89a4ee9a20733b";
+    "2.0.0\nsources 9b4e4f4601a47b26d55dd63be0844e7550084d2919c2aed8c43e59e74b34571a";
