@@ -154,9 +154,9 @@ func TestMistakes(t *testing.T) {
 	same(t, done(FindMistake(program, InProgram, nil))(t) == nil, true)
 	same(t, *done(FindMistake([]byte("ldi r8 1\n"), InProgram, nil))(t),
 		Mistake{"refused asm 1 5", InProgram, 1, 5, 2, "help: the registers are r0 to r7: a small r and one digit"})
-	same(t, *done(FindMistake(program, InPlan, []byte("aa.")))(t), Mistake{"refused plan 1 2", InPlan, 1, 1, 3, "near: a."})
+	same(t, *done(FindMistake(program, InPlan, []byte("aa.")))(t), Mistake{"refused plan 1 4", InPlan, 1, 1, 3, "near: a."})
 	same(t, *done(FindMistake(program, InSchedule, []byte("t0\nt1;")))(t),
-		Mistake{"refused schedule 0 5", InSchedule, 2, 3, 1, "help: a schedule can't have comments; a program text can, above its line `.run`"})
+		Mistake{"refused schedule 1 5", InSchedule, 2, 3, 1, "help: a schedule can't have comments; a program text can, above its line `.run`"})
 }
 
 func TestSession(t *testing.T) {

@@ -137,6 +137,12 @@ for (const call of CALLS) {
  */
 function little(blocks) {
   const it = new Raw(limited(limited(0).least + Math.ceil(blocks / 8)).bytes);
+  // what the first pages have left behind the data is taken, since it is another count in each build
+  const { memory } = it.calls;
+  const size = memory.buffer.byteLength;
+  let at = 1n;
+  while (at !== 0n && memory.buffer.byteLength === size) at = it.calls.room(1008n);
+  if (at !== 0n) it.calls.room_back(at);
   for (let n = blocks % 8; n > 0 && n < 8; n++) it.calls.room(8176n);
   return it;
 }
@@ -262,8 +268,8 @@ look("a session at any choice", going());
 function mistakes() {
   const wanted = [
     [["ldi r8 1\n"], { told: "refused asm 1 5", input: "program", line: 1, column: 5, length: 2 }],
-    [[meeting, { plan: "aa." }], { told: "refused plan 1 2", input: "plan", line: 1, column: 1, length: 3, hint: "near: a." }],
-    [[meeting, { schedule: "t0\nt1;" }], { told: "refused schedule 0 5", input: "schedule", line: 2, column: 3, length: 1 }],
+    [[meeting, { plan: "aa." }], { told: "refused plan 1 4", input: "plan", line: 1, column: 1, length: 3, hint: "near: a." }],
+    [[meeting, { schedule: "t0\nt1;" }], { told: "refused schedule 1 5", input: "schedule", line: 2, column: 3, length: 1 }],
   ];
   const wrong = [loaded.mistake(meeting) ?? ""];
   for (const [words, its] of wanted) {

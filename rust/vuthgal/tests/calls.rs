@@ -215,7 +215,7 @@ fn finds_mistakes() {
     assert_eq!((found.told.as_str(), found.line, found.column, found.length, found.is_in_steps), ("refused asm 1 5", 1, 5, 2, false));
     assert_eq!(found.hint, "help: the registers are r0 to r7: a small r and one digit");
     let found = vuthgal::mistake(PROGRAM, Input::Schedule(b"t0\nt1;")).unwrap().unwrap();
-    assert_eq!((found.told.as_str(), found.line, found.column, found.is_in_steps), ("refused schedule 0 5", 2, 3, true));
+    assert_eq!((found.told.as_str(), found.line, found.column, found.is_in_steps), ("refused schedule 1 5", 2, 3, true));
 }
 
 #[test]
