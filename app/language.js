@@ -64,8 +64,9 @@ const wordsOf = text => text.split(/[ \t\r]+/).filter(Boolean);
 
 function readListing(listing) {
   const read = { phasers: [], barriers: [], threads: [], rows: [] };
-  for (const line of listing.trimEnd().split("\n")) {
+  for (const line of listing.split("\n")) {
     const words = wordsOf(line);
+    if (!words.length) continue;
     const behind = word => (words.includes(word) ? Number(words[words.indexOf(word) + 1].slice(1)) : -1);
     if (words[0] === ".phaser") {
       read.phasers.push({ parties: Number(words[2]), parent: behind("parent"), routine: behind("onadvance") });

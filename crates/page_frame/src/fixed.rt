@@ -4,8 +4,8 @@
 #[rattlefmt::skip]
 pub const HEAD: &[u8] = b"\
 <!doctype html>\n<html lang=\"en\">\n<head>\n<meta charset=\"utf-8\">\n<meta name=\"viewport\" content=\"width=device-width, initial-scale=1\
-\">\n<meta http-equiv=\"Content-Security-Policy\" content=\"default-src 'none'; style-src 'sha256-15DRPnoq2HABmhgLIPqcYtTxlfAWX7Jfg/GQmgY3fW\
-0='; script-src 'sha256-q36K7o5cg1jWQWSLmsX3ZEK5rSIsT/4AWQSZWfROTzo=' 'wasm-unsafe-eval'; worker-src blob:; base-uri 'none'; form-action 'no\
+\">\n<meta http-equiv=\"Content-Security-Policy\" content=\"default-src 'none'; style-src 'sha256-AcI4a9PriORtzBNHLBWkFm3LQuBUEVI12oxkkGmPT4\
+U='; script-src 'sha256-+QB1YMq/yqnSZ7aDlBMCntSFFk0Fvu3KqbI0Fz9+u70=' 'wasm-unsafe-eval'; worker-src blob:; base-uri 'none'; form-action 'no\
 ne'\">\n<meta name=\"generator\" content=\"vuthgal\">\n<title>Vuthgal</title>\n<style>:root {\n--zoom: 1;\n--paper: #f3f1ea;\n--pane: #fffef\
 b;\n--ink: #1d1b17;\n--soft: #5f5a4f;\n--line: #d9d4c7;\n--hover: #ece8dc;\n--now: #ffe27a;\n--now-ink: #1d1b17;\n--red: #b3201a;\n--red-sof\
 t: #fbe3df;\n--go: #1a7038;\n--go-soft: #ddf1e1;\n--later: #716b5f;\n--focus: #1747c4;\n--hue0: #1d4fc4;\n--hue1: #a0420a;\n--hue2: #7a2aa8;\
@@ -247,27 +247,27 @@ overflow: visible; }\n.card-reply:not(:has(.card-answer, .votes, .option, p:not(
 0; padding: 0; }\n.card-verdict { flex: 1 0 100%; overflow: visible; }\nbody:not([data-mode=\"explore\"]) #runs { display: none; }\n#runs { \
 height: 3.6rem; }\n.track { grid-template-columns: 6.5rem 1fr 4.4rem; }\n.sheet { flex-direction: column; left: 8px !important; right: 8px; \
 gap: 0.3rem; }\n.entry { min-height: 2.4rem; }\n.sheet-keys { display: none; }\n}\n@media (max-width: 900px) and (max-height: 520px) {\nbody \
-{\ndisplay: grid;\ngrid-template: \"head head\" auto \"check check\" auto \"stage panes\" auto \"card panes\" auto \"tabs panes\" 1fr / minm\
-ax(16rem, 44%) 1fr;\noverflow: auto;\n}\n#head { grid-area: head; flex-wrap: nowrap; padding: 0; height: 2.4rem; }\n#check { grid-area: chec\
-k; }\n#check:not(.is-wrong) { display: none; }\n#modes { order: 0; flex: none; }\n#modes button { padding: 0.1rem 0.5rem; }\n#stage { grid-a\
-rea: stage; min-height: max-content; }\n#said { height: 6rem; }\n.said-text { -webkit-line-clamp: 4; }\n#panes { grid-area: panes; min-heigh\
-t: 0; height: calc(100dvh - 3.4rem); position: sticky; top: 0; }\n#tabs { grid-area: tabs; align-self: end; }\n#card, [data-mode=\"quiz\"] #\
-card { grid-area: card; max-height: none; }\n#runs { display: none; }\n}\n@media (forced-colors: active) {\n.chip, .token, .seat, .thing, .p\
-ane, .vote, .option, #card, .why, .sheet, #check.is-wrong { border: 1px solid; }\n.chip-own { border: 3px solid; }\n.line.is-here { backgrou\
-nd: Highlight; color: HighlightText; forced-color-adjust: none; }\n.code-now { border: 2px solid Highlight; }\n.places { border: 1px solid; \
-background: Canvas; }\n.line.is-here .event, .line.is-here .line-number, .line.is-here .event-tag {\ncolor: HighlightText;\nbackground: none\
-;\n}\n.lane, .event-dot, .rail-bar, .rail-at, .meter i, .dot { forced-color-adjust: none; }\n#modes [aria-pressed=\"true\"], .views [aria-pr\
-essed=\"true\"], #tabs [aria-pressed=\"true\"] {\noutline: 2px solid Highlight;\n}\n.code-typed { color: transparent; forced-color-adjust: n\
-one; caret-color: CanvasText; }\n.code-wave { border-color: Highlight; }\n}\n@media print {\nhtml { font-size: 11pt; color-scheme: light; }\n\
-body { display: block; height: auto; overflow: visible; background: #fff; color: #000; padding: 0; }\nbody > *:not(#paper) { display: none !\
-important; }\n#paper { display: block; }\n#paper h1 { font-size: 16pt; }\n#paper p { margin: 4pt 0; }\n#paper pre { font: 9.5pt var(--mono); \
-border: 1pt solid #999; padding: 6pt; white-space: pre-wrap; }\n#paper table { width: 100%; font-size: 9.5pt; }\n#paper td, #paper th { bord\
-er-bottom: 0.5pt solid #999; padding: 2pt 5pt; text-align: left; vertical-align: top; }\n#paper .is-own { font-weight: 700; }\n#paper small \
-{ display: block; color: #555; }\n#paper .paper-number { color: #555; }\n#paper tr { break-inside: avoid; }\n.paper-rule { display: block; h\
-eight: 18pt; border-bottom: 0.5pt solid #999; }\n}\n</style>\n</head>\n<body data-mode=\"explore\" data-pane=\"time\" data-tab=\"picture\">\n\
-<section id=\"texts\">\n<p>This page plays a run of a program. It needs its script, which it holds itself. Without it, the run stands here a\
-s text. In the trace t0, p0, b0 and c0 are the first thread, phaser, barrier and cell of the program.</p>\n<h2>Program, in canonical form</h\
-2>\n<pre id=\"listing\">\n";
+{\ndisplay: grid;\ngrid-template: \"head head\" auto \"check check\" auto \"stage panes\" max-content \"card panes\" max-content \"tabs pane\
+s\" 1fr / minmax(16rem, 44%) 1fr;\noverflow: auto;\n}\n#head { grid-area: head; flex-wrap: nowrap; padding: 0; height: 2.4rem; }\n#check { g\
+rid-area: check; }\n#check:not(.is-wrong) { display: none; }\n#modes { order: 0; flex: none; }\n#modes button { padding: 0.1rem 0.5rem; }\n#\
+stage { grid-area: stage; min-height: max-content; }\n#said { height: 6rem; }\n.said-text { -webkit-line-clamp: 4; }\n#panes { grid-area: pa\
+nes; min-height: 0; height: calc(100dvh - 3.4rem); position: sticky; top: 0; }\n#tabs { grid-area: tabs; align-self: end; }\n#card, [data-mo\
+de=\"quiz\"] #card { grid-area: card; max-height: none; min-height: max-content; overflow: visible; }\n#runs { display: none; }\n}\n@media (\
+forced-colors: active) {\n.chip, .token, .seat, .thing, .pane, .vote, .option, #card, .why, .sheet, #check.is-wrong { border: 1px solid; }\n\
+.chip-own { border: 3px solid; }\n.line.is-here { background: Highlight; color: HighlightText; forced-color-adjust: none; }\n.code-now { bor\
+der: 2px solid Highlight; }\n.places { border: 1px solid; background: Canvas; }\n.line.is-here .event, .line.is-here .line-number, .line.is-\
+here .event-tag {\ncolor: HighlightText;\nbackground: none;\n}\n.lane, .event-dot, .rail-bar, .rail-at, .meter i, .dot { forced-color-adjust\
+: none; }\n#modes [aria-pressed=\"true\"], .views [aria-pressed=\"true\"], #tabs [aria-pressed=\"true\"] {\noutline: 2px solid Highlight;\n}\
+\n.code-typed { color: transparent; forced-color-adjust: none; caret-color: CanvasText; }\n.code-wave { border-color: Highlight; }\n}\n@medi\
+a print {\nhtml { font-size: 11pt; color-scheme: light; }\nbody { display: block; height: auto; overflow: visible; background: #fff; color: \
+#000; padding: 0; }\nbody > *:not(#paper) { display: none !important; }\n#paper { display: block; }\n#paper h1 { font-size: 16pt; }\n#paper \
+p { margin: 4pt 0; }\n#paper pre { font: 9.5pt var(--mono); border: 1pt solid #999; padding: 6pt; white-space: pre-wrap; }\n#paper table { w\
+idth: 100%; font-size: 9.5pt; }\n#paper td, #paper th { border-bottom: 0.5pt solid #999; padding: 2pt 5pt; text-align: left; vertical-align: \
+top; }\n#paper .is-own { font-weight: 700; }\n#paper small { display: block; color: #555; }\n#paper .paper-number { color: #555; }\n#paper t\
+r { break-inside: avoid; }\n.paper-rule { display: block; height: 18pt; border-bottom: 0.5pt solid #999; }\n}\n</style>\n</head>\n<body data\
+-mode=\"explore\" data-pane=\"time\" data-tab=\"picture\">\n<section id=\"texts\">\n<p>This page plays a run of a program. It needs its scri\
+pt, which it holds itself. Without it, the run stands here as text. In the trace t0, p0, b0 and c0 are the first thread, phaser, barrier and \
+cell of the program.</p>\n<h2>Program, in canonical form</h2>\n<pre id=\"listing\">\n";
 
 /// What stands between the listing and the program's text.
 #[rattlefmt::skip]
@@ -1004,2215 +1004,2215 @@ ShTx1eTQnC7q31iTheDUhokYW9mrPkh4s7uC6YmvFirXkk0XycSajo2xGYIuVNUNgsKp+qOUmPBdxtsb
 j86b2mqdkys/PL84EUrJ03aSLnhYTa0AV0LNNhFz5jekofnefkh4ew7V5Xq5m0vq90zmuV2PGSqHebBrJLcspruLp+mXJ1A3HiD1iOAq4yY7KbJ2S+T8ua2FCumpttiHcJcVvTMN8GuL\
 gkE3JpBEb5YOem9d23JDekG6UN20ENKFrhCTK2+RBeoM9iqqN2IhGsDvQFzem2UP8meY3SjBLb1JoNN9VuDHdKCWlnCvbNgGVMgXJemsAFSfGT5xuwG65weTX6NV0jXzilDwZ4/jEKsF\
 UvXFVtmY4tntVA59rabg9WAer2rvMhIgA6dARxk+QrlNdLZ8zaZLawlOQ8hwB/ZaOgcIu3hEtpmtIWDLaTtdL+fVpR0XtY/CHfkRZt/H1TPIxw+680c3tbgzzrPacTPG4MKJr8TirF2h\
-9/YNZjEKdevvVriS/ZLa9wjq6ftvWjxUaKTwD4Dvk6YDLgOJbfH4L1kv5YTjVYjvdbryPOqnneRq/";
+9/YNZjEKdevvVriS/ZLa9wjq6ftvWjxUaKTwD4Dvk6YDLgOJbfH4L1kv5YTjVYjvdbryPOqnneRq/Kwqa";
 
 /// Part 2 of what a page ends with: the app, and the machine in it.
 #[rattlefmt::skip]
 pub const TAIL_2: &[u8] = b"\
-KwqaVSsFsmxzVcuNlI3OO5BTrcvA1J2aV14pZgz8exZuNdX5GeH1mmCqukz9xl7CmQgZL+H+ibPPv/A9bzl5/sRBOW2aSsm3qpT8/rQ1SLO3SKdDN7IlBcgkzZu8HiDOemmkAX4q5Haq\
-Cs/K7xC6IPtnUHI0SUjF/BAF2q6ROUv6nLssmnzBV+VogJTG1JSeCZK83XvxpZe8Z3odLM92L30tzdrap470F95Y2LURSjFWoV7HmF+BjIVV2cibYAL5xo3BWkrj/XlrB3WN5e2xbHQ7\
-IIiiSiXJLTWqa6GQp7JE5QT5xhmybDJ/25xGETjwLRnF5pxqz1c5P80dAzY+pbhlBTGLaoG3398IGgdCTJWEvJNCHEF+k9zJonly/2LlfuV17NWcMssonjrkG8HeHECb7aWet4daIE0y\
-xDhgkhIYk9JpYWBvbpBNQZth5sKw1mVYG2262sPd8ZFuU/loVk2dHvdWexKu+iRa9Ult1Sfxyk86TVxcY8ryB67Cev2dm4Y2UkyN2r1UUJb9WjWrjI8IJUGV8NTx72Go7827kLIDBpYL\
-mUvqH4FGTcnzQR4XN3vUTklGHfd6GQwsnzqv1vH8skY22MjGHORQdMyCI5grD3FdedxQZRwPfgPtTeqaJiPakvXxIf9h83jc7n3Sh9pqBwBGNtJ5p/fBg/+UXKUmb0MOiq/3WeaFCKwb\
-anboZHaXrASqCLSPNdruxa9Pu0/1Ft508Km820vlrf1Q5lS3dzF+GF4z+qGEF+oPT8ub4MwZygv+soYMVotoWI3yLR1sePKm75I3dXrJw2B0wRq4dyx4mHIvgKACfrD3efmIGO8K+BVg\
-omWddu/Ewd6xg72Fg5Ljsv/QtPxclJ/eaf8ZrTvvvFa+qNN7x8Hemw7Km1kT8/1P5JMceN4gE85WQyDZ0P1viAgx13+DfDF677FpBVrj3WHVCRhhyCLYdXLwFGhMFlVG363y039DkCmG\
-LjSvlHpoqehjVUVhysVk4/gLMzU7PcBzPenu/Sdc4PgAv2KAg7GgHFggDVxR7F7HkAiS3ywlFgu+MVspn5CEo37yP5Q10MhKFW3Vj/6BkmPeP/Pes55l4EPTL9CHV3528OGbqiVP/OfB\
-h6Z7oA8v/Lw95CMzi6CwoH/lF8+yi0PtuYJXDaarE7GUn9t3poaVLiZLusrlJvcEN+wg8A8GB3qKIAvFoUYeqtyXsnDVPVGNooxWWqrH41XV8vwBq8QhrUC/0IVeQSvQL3SjV9AKhHYY\
-9C3CpON6jff6nu8gGSNnG1koCOKyD37AIzwlolIpu6IraHmCRzj6QamrXagNkjqWPI+Tudfzv6P9WViEBQf7U2Yr9RkP3N8p6q0CFzePoDWe+jnuXp/xFnJkObB/MY8VYPLb8npv9llQ\
-U+BCCIGV1nutb/0WSwulMG66/Td9zNON119Uikhe1VJ9zxAqRXjHshprq9ZIHWeC6eUhS/Jh29UmxXpqmbzYn0rD/RVbsfZfBULsmb5ZYKpcoZeHnFBOXWK/qtB2UjDN/p6CLZczC00p\
-jQoUSmQYv8OZidbAPVVNBY/1SRIQE/z9Kdi5UDU7RBlqoHMu6M8fUnqFoIYx1HL1zIN5KaUi1GvjTalMCZgSVFJCpoRFCvTsIidxa83B1grVyqWiQdueeb6RFx4rgZOAVxfiiLbQwS0S\
-cMpHCtRQhioiXG9cjw1VEVHVD6ctAvw10GGddtppv88P4oLf5Sw8ferCQnWNjpj4Zm4gNdO0xEUPKyWkFVCdljYh73gNKmvEGIsUZ618TWO/VNDzkxeMDUtDKN7GMujgxnqH8sjvMlBI\
-IDFKYD/Ej2nw2HTPs9I8vto/1wim9FpwMbBNG1qL2JCOK9LLypatao+ITupfLHYlKcjkZE+xUR/zjaN4IjAjx+OBtJXcRqjkkY8M9V9yHeFXO1RHrU0GLoO0QOAS6GMELmLGInAByqbK\
-Fs5GjFucjRoTOUsYOO1nY8bSzcaN15utMSYw3BFQxJetdYxpx8U+Eygf/UIApwC0vFX0BCZl63pwbrY2m8TNGnrmyvp2pc+5wBKW7xKkHL1aOp18j4rOl4JsozY8yKa04QHR+tmaICWi\
-bNg/Gcwn/zZ40HjtJ4NsnX5SAB4m7ttQZ9qwmMIz+UaYkW6cBjEvKetVfok4bxzYPSGEkM+b7vlPSdMnMecnDcDduOtnAlNt1reoGN3eDYGtx3mRVhGValX7/YrpvmE7ETigUcF/srsI\
-QRWMmiCoQnsVIDqzGiNIgsEh7CyBD2ZL2AWoSK8tmfhjJX9/vCRa1pQnqkJgFbzrk/6gXfEJf1AD+7iLTw0w388Ejl1+MrALOv3+TlgkqfoB7Fa9/REMo1OF/HHOSaKqtom7x4FAiAtF\
-clmab9KlWWl5MtTyxlDLvfLuZ5V2+GQmeIuvGnstxrf7P+DfX7w0uN/1Xg9146Xk7wegPv7I94ODBe0Bmj0sTvJegbVdyqBGWl5dDuKoFtfr2FNlV+ehnXxvMKpRebud4xJ46FUnom0r\
-0RD+CkQDqxjK+RAJiPYfNuU6XKja12/xzP55p/3O2u+M/aalvTSmN1nP71fSFVyTfeo6BFxq+p6RwBPLFagKzzNk7yxSeCBXafBRUOLJvDkvJ24jbe6dpkXmE3KEhY/I3Y3bfePxfHQa\
-bPT6Is8CRPYgMnpqR+ju5g38wccAOa+yrcqfwdjDlAEWtZ0CgB4/h2SfbYPzO5Al3NWXXky7HM5UyIuumRBIEyTVdxYFeTItG3ZHmjCfJqdg6crrknwGT+4RGkL7LMF6ylpcMRyzdXLz\
-ceftJGNUY0B37DHXJuDtYyscnWbyHD8d/URPIrnUDj/ACIJIaMvHy+mJeTJKJpIPtzbysx/A5ORojOKNV2wQf6McxOfUeYWf6XBQElpXSSgxkXya+6CQOk/4iY+dBbfmQ8rftkfqcuEP\
-9dFHikejJBHvR/3v+jif/WrxLKDxgNl9Y8klg4D0iYLQt/nULxDSXyd1EXG+DQvqgffchvf85ceHngWKa8539N548KneFwxyG9byviE/sY5Pwt7WLFM3PMy5rRU/+tTIuO8N/ecTKIsV\
-EFlgtPeiZJ1Bk/sv/MZZr/++82c9JZIx8O3+b3n9/4pBzHz1Olwniwg8MPhZRu8rZQb2SFoHJDWta5waMnaucBh9pBBqTgwq7peSTHdSTZUH1WyZYWcZxNHkwjzWaiVWkNtoz1eOsnOV\
-Iw5YOu71nyrCWMwpp9VWb0roGUXUcfn+pBLmkTp637KjlkdzvbQuWnDx2eoRbacd5jetVNo/MxF0DnTcNlcq2EJmh1d+p/4Gzw2JQmdXkeE5Gd++igwQG9yTKgM7ChlYWgnvrITnNAAW\
-uQwH2dBgZMNKEexDp75behYBk6JTAVLwHZBCS4XMFSCFQI0aW4PF2lasCnfXqiKWtQzuTo4H7HnFsdZRB1BdtaIaYTWddKSC2d41h06spgvDIHne/94Py2z3k1Y3YPT7EA0Qdfx/xQ14\
-4CFQ+ZIjGaXO4TVeoN4XRtIujCWJbEiUtA6ttGiiJBvgG92rcXWBg6luYfmxbXc3Zp6D88nog924ra80zvnqrw2K1768XkDKPHdfeY5jZpQlZpWEGAO/F5pTfdn2D39dOopc+5Pvg9+M\
-cZPlJrLfVzILQTOVrVGf9XACtKZ93e3B9LzfP+zbPD3iW8qCS3m+akuD1pcdOTik2N9iILLwP58OzyaKUsVQ6z4+oq7DOs51CVgCE+YPiz6b5HvNnAPwA71AvnSUvVcdNZQ67CtQQ0eL\
-vUmLvYA7EAKH/e6I9NNaacw6Jhzx88mebLTj3W5PCNV0fJryWwjGxuRvfU/R9TdgIlEA7Wp3Vb/BVb3gd7tUn37ehxe/Naf6U0eISCN1pmPU4Dx8mN0wLi2AxHgNJqPqKpQ9FWQk2ibb\
-6Wh/ITg0Jxez0f7Oo4vS3lHis0obH5Try+giG7dB/qZUTweNeDIf743+HzIXatJDXOPjFLvJZh4+DaEbnNik0oCnZBOy71xX+dYNaJrT0UZ1E1JXLHU10dJ0oncQBZEpXdPz0VsbWEvA\
-XipqalsfTyEwzSlocsBZ1eJ41NQ+kmOBvKAhL4hdjj2qpP4ofRJ+/7LHT6jWwqMU9v1A+VhesrHXqQLGFtN0YiT0Ip+mBZMmnVrbhc38mK6bMBuXPUO+YTxdn200lyWAAJRyfuC1exGu\
-rtPEqB1Jp9BR6RokjMms6MW9evFQe9E9lEY1ek0J91q9tvxA+S/Ym08wcxqnEhhhmoQWqwVr+Jr16QY0z++NSLs2wO8dVepzFZnO5LJ05fI7KqOJ42+UfKP196lIbYTmPDNoEsxVutwG\
-Nl5PDRtXqEE23zEsDqH38nFigepWUa1rlHUlVlcy0JpRrQvz5fW932g942S9O3WkpWxwBDfWe4NK9l2cvL2RZ8geUtUUHXrJD+m43IbDSv59sM3t7s+4vZNMbpdu3lopeaWQhWZNdxR2\
-QOL6aWeeBJ826QlTmpkD9gC1YrqmhtQ2NaSRwt7oSV1Zst16W5QkYPgOIROobYA8M6Y9ssuUi/YBHFxFMqqj03RHXVy9I7errvVU1j1EgHC21WUi+QUliaOxi9Nc/kb7ZMh5A3p/46U2\
-YLO0wcZx8dy9BXYiPuE7711GqC1VcLh3DlCEjqybKWUiacnPcMD26vJobLiXR4Z62RmczDptgbTaLa1qt4wMMQjGBrTz0rFlH7u+zJCVwS1l8M4y+DVl8GyFvD3nVUxPlGR8H+QP4YFi\
-s1EuQKA0/UMlWkzfG8WVSL1nBgp++FpKEAOeDVXYulDlK0Qv8OD0MnLOLqPB2mucuL7WLLdcWO1CJyLobVEkq7B3W+X+j4sOzAIP0HBd7p3KmFUy8lqNCiqNitAozzVq6JMDXU0wWUKG\
-wrWX/Fq4/ae+M2RL5UZKBLe4MAIPofxu+ush/h6bVidUBQ8/ks0mhxZg7bFp/kbF8bnkwQdQ/yX7r+4QwshTgrqHcurBkQcgfnSk30jeRnlRmCzycKC9cjjlJFk1zfNWzeNpHp+RBsVU\
-FXa4gmLKkQdtB0WTi9u/GARxVenEoAfCQeiBkNAD4QD0QKkVCuiMlDoqClyInCCNKF7amzemOZAxyxx8AbLQaVVPqFP+1JA7vmGsKTA0AGFoTxE6oOJwEKjYVxWDOilDmpUrXJRPFRKI\
-avbTNtjMYKbsl/YrkBiaThXeQ4VQmW9RBr5CIGRslGzMm9CzbgKns0EqyGWwjy3Q+Brtv4VRaeDwJnEni+b0+lNct6iJ6qsGqg6T2Tz6hc7W1OrKrEDrhDFD8imnGzlDzka4yzajnYoG\
-0OxGdgbEaUggyUaoPpe8vNVLn5JTplVhA6h30/pVH+82mTyxcHzc8BpYw405WdlA5B5onGvaQypfAzYMiewBi1PzGNpQHJ0Cbs93SAb1vq/WqFUT1EbJFSbbumYokpd8Z0E0a1PXQQ8o\
-4QQKXzkZoQGeKKymc+Yalu+FJlDf2UF5ZgfljKAcmqtaQEHSS634ULXiA6r9RvxN6QMPy9OnIVQCmQ9N8eyjSpTgitFAxUrRHzLVD9QG7AuF5fLlKqgp8VJWEf0MGP09obKSz8LCdq7U\
-FQpxX0+D5It+ARD6hOOXz708gFC/EFI8AeOJ2dKAsFaRWczlsQktYrN8rO2gcAZ6kiaRkvO7ArygdoohbUELeJhw1w5v1IV37vAAcFRXcBOVUu1xX7FzBVMDKNTVB8wNvNFBkJdJU5K/\
-zGn2j+k0+NHADw6YnWpENftaCYRbCytSUQPChbiUZv3g2tTaFchixWiJyAx0eM977HfOfvfZ76z97rRfE0cQFhiQMFBuTT7vk76Y5eJGcyzzjMNLptYhiKBKfurNzimYMsP7tMCd3h5D\
-cK3aXQ7C2Bbox5GZtP6ZzgTVy1Rss3pYhRnkfFWdDm45quhBoke9iwJG+E5aaxkecDxIWBEyw6CFlVG0iibgKE1NifWzyEIHX5g30AS8BHcOqh/iHKi5pRHoam7TC/1V7E+xIbXP+w7G\
-drYwPL2+HdK2IIW5NY2goIDyMEgwRc6ec6ouZJBgVQEn1xBEHiwy2wOHNFI+UHBueVSgjhC3pUAdUeDcWQXO/UQtqKvS5HkHtC2bDbSxa0Qcp1620T/1Qfqn7qiSCv1TkCDKWqs76KV6\
-Ab1UJ/QSYM/a2tZ2ytMOgDVDE75cINj/wCwnnlKspumewRvVHARSxFXMZRYYMrgtM87tnTI+tKFMbS1s51c0TZTJj2lW1nG9qodbz5rKatW7muuJpgO1bjnqzHOT2BsCtW4u7xsoCDMd\
-fdNkHegbamZo33TSVgbF4HqpeCibuQraI+hGtgbxllpXw1tqXQ1vqbUa3hLhzDrwrk7vIS1V0Eg6eZfu1X16kA8MOG2oOdSJComfVoARB1WdKOhDhYRRK8CIgwLjiAxk+dzH+SpcUBoZ\
-9Ga6z/YM3xTAXSBFmW4AVl3sd+exNaXd9qcAfhe52V0KB6aG7J4apUHTfzfQha1emrdOcc7gw1RvT82ZYqMp66vjOWDCCoGYfEJJwJ1afHWMnx4V12UdBEQm7JSCAuW/chfF18lche5+\
-ra0BIphFEEDW94MUpdKQtCK01rzzFI3bFYGZzUo+o+5X3EndmDNnOkK4Oxy/vNH/Or1jNI7Ywfw9C6kpjgOcdT/h2hKZtVjAVLtUuwqd44S2UmpYYUmERkbmlDTf8uZxpjcB/FZtonYi\
-1YrxbyO54hOpDRnbZEe4jm0bS6JujJtYhSOgdMkDViRgKW8Czq4N5ZSVSDikQpLmHTUVUCZAi4G0o4AwDeUA9W6/z9upSlix3cJjEPMxOQYfescS3vtrnmLV+IpsR8LDSHrZBFX4qh+o\
-EAjt/vNacAktVpGhVxD5Samb4oBo2ipXkvP3j2GuGFwbdcvgFRXEjYYtxoY35MXIEGjzuHc7pzp74nYu/7i3tUQp3rpbQfWn5vunAeqwtr+InyD5rF9Ab1SxKzTTEHaFmjPKXJvacU3A\
-fMN8+M0CHz8xSxBilYWlZy0UU0wh5V7QQ/dBtdcv4JPUVB/WQLxL2Bkhv997YskUxOi2Wy4vMg/VA0FN61YrBzBFsPSwZmsOOB8vIKjY8neg/CAsvioEUvX4zEanChspq0ZxanxnR+A7\
-zdd7aEy+8wgkGi+Gh/ozRw7zUJ+fz2U/vUf5AkdyGbfDMCBf+GL9UH+KuRcWroweAvzCYYzHEUvAOB3RfEhvHGW14BQePSw5gxVfSDvW4l3Bq3xXoO96ZLRdMtxki1FYub5/NDcfq40j\
-8v0IJPbNYJnx0WEqlbpMQZEpSO251e2gk7dwxOXfRxy6sbQGLZIrR00NGFgUOZ5JqR+Ov9WeurTQ0kYL9e3+WY/DhqsvZo9a/1Swm3czkjCS7Faw5acB25TCJIIvVARxvjJXeH9ki+cd\
-xiJNcFw61CZYma81jzEyJo9CPiKYmsQIk6F6/rvlGH29FlUn9aEWXcPIGiuqsEKhFVUTAYn1wtczc8DMgZYcZ2TcSqqsLbCS6rpTYr3g9c8+2xt9hiUiloi0+AQjE1Y8UnA3K67e+iL7\
-VGUg1LTYWkbWWrGa4sBZsRqL1SqfWmfuuhadZGTSitYVKs6KqmfNevmpMTPHWnIdI+uspJ4esZWMWTJ2nxq9/lkSVSjWYbGO1rGRkY1Wh55nHatDHaV27Hu7zNnVYjcwcoMV67JY14qp\
-09Ju5XtHmXtUi97EyE1WdJRFR63oKIuOlt87wswjWvJGRm60kiMsOWIl1ePqiPvejhZvKJNHi08xMmXFG3rYWvEGizfsU5vM2dRi6xlZb8WaLNa0Yk0Wa1Y+VaG121p0mpFpK6oQhW0r\
-qq7N2uWntpi5pSU3MLLBSrZYsmUlWyzZKmdxr4Hfl14Kn+l5u3kUhLtkw496ivSZqKx/t6I2pm4ZI5YqjWmxWUXv2v3st/S8PVZYZdRju4eWMGIZY5nF7mTsTiss3WEVrGH6mt1DCxmx\
-mxm72WJ3M3a3VRC+3sqPM3l899ByRixnLLfYXYzdZeXZNVrDBB9M7B5a0YjdwtgtFnsNY68Z+P61TFu7e2hdI3YrY7da7B7G7ln2/ZNMn9w9tLoR28zYZovtYGzH8PerusG63UNrHLFN\
-jG2y2L2M3Vv9/qhoxUY+3Lh7aJUjdgdjd1jsaxn72oE+uIFpN+weWuuIbWVsq8W+jrGvW9YHNzH9pt1DKx6x7Yxtt9gDjD0w3AcKVHDj7qF1j9g2xrZZ7OsZ+/pqH3RcJVN8NrV7aPUj\
-NqMscovtVKJ+oAvWM2397qE9ALEtjG2x2Ncw9jXLumCa6dO7h3YCxG5n7HaL3c/Y/cNdsIHJG3YP7QeI3cbYbRa7j7H7ql1QbA+EqAFefaisejia7u/CiX/We5w3V9IAu+bdyZ+UJ/9X\
-94+v7h9f3T/+ce8fJC/agLf6Dv623+sH0UH/gJAld1CSD9MosNpon907+E8N99zvPfCMIpj0vokueXrx63tLQn5Hz2bgvMV6ewVMnmSkYKP37cgYwZA4xBgsXAyfeTatIX+o+Wt4FoHS\
-C3vjkmHhsvfMs3ZDkGqQMypElnrpDe8NvPY7CszPwgscr739g99oUh4nISIkVinscXIl3Ash7Qmq0h4VLprdITK8VTMUop7AwbE6eaKKekIV9USF4Dpq/6uqYapfirMgon9MNTvgxseH\
-MXq/8dh07lesFCHTigBBBjfHsP+tSLSSL/pqlfE5v+IIr2TXVEDQwUm4ad78gJb4U2akkkeQS0fS+xW5tMM3U2z7AtB4rhuQCWdizMQJAL2XLcZc7tnQG2TUNAahyRITFhKX4Y21qiHK\
-oAeSzauAw5vw1ttt8V2reCp5rmJ/zQLfXJHuDkK8smPfCL2zp0ukhzmCviJZoSGUg3XFA9euTG6YqJzMVRjgH5k33+GQd3+BUAYEzWipflprnjBvAAoiDAHUM5qLaRvacs1+NG9IEtAD\
-IA4YhVoq+H0avw39MHCMFnxl2x2lZSqMQADFEKWN/fRUCHEs60oOBWZguOCbxeJzWSPtUPOn8ajLK6vjUGGcV83ZNusfZyWkrLqn8xqMXaC6h8YTjqxBIIu5aTCrC08z1laTYj9X/Zia\
-OTqJd3jfpBm9b65Kf7Qlbm4+zblpPky+ERgjTsDtfVMe7JDzyGLfDA8qm+mvbUWM7mAIgDA05a9vKl1auKWr5sWBruJHKUeLUi85HKhtsRkUc8lsIYOQuoy+KcyEisOOvQz78r+83vpl\
-KJz18rI3oHpyCZdV/zYg39IOCmtJKMm9jrOVqQiLXsaS+ZLXdZjbmwvNFqFGEZoqQjNFaOdqqB0+qVfsb7vAPnvATMdhrB4N7e3xypuobaFA74kGt1BTC/BNLcAfVgvwC7WAmwbUAion\
-hZxpR2Aed6QfXf2gqGmel3dWxMVZEX/5VCBGV1eBCI9wNl5bBSJ8dSoQ3+PzYHQ7Zs+je5PIZvlOY1CakMschuR0VPr3v05MiSNYS5ifLsE0WYKK8IT6vCnNniA/QJFBhyO6At4RmPNF\
-c+kHVUoe2LDoI1KClypCipyVSgcpqFsICGsuLjyr4Vkg52j/YTi16O3CH1S8vGfk2QOvpUVL1HvidfTzFDqMjGCoHsKuoBq0L2YRkk8xqCPQSU8JebTnKalyIXm4CwoKft4WTocPA9+2\
-922vU6euPmWuK1YdC4klRTqs6Yv/Cv8uea/rBkJiYaeEKEeGey8lFbBDaP+mr/oqAMdWgf6CWsZfVmSSaAC5Y8AYyUGQYI26eUyFisiwPMwpBc6SA/PLMEHMB3cyTwIEc3s/ELAjhTdp\
-W0sIxVaUHUYN0TwFZkhkyNg/G/rh8n0PFYHp7zYp/wBUZxUcjCAZEfYaJrwwhMU7CMBbwE1cK+MhVVXj7nrtnLPXnbNx3TmnrjvnzHXn3Fnk9FbN6V0Vqnm1Y2EpqroeLx25N4aUPZKq\
-llRg7tl9U2TyqauEyQXtDVX6pHf3vGFqnwD97jcyv/+Os2dNomk+4GVPBMGE7TCv93/sLG2dFP1mEXljVaWB6HrhbUvlw3cNPfyu6sOfcg8x8/sxHSUh06lq9f+RmfrvYYvKiv5TNU8k\
-xT+g+WrS+p91efs0RGf+D1bzv/RWFROvkO+Xq/nwKZIPwEi/UuQNi7wfq+b9bX3/x10+5rhQ5vD7/0NzRFLb7zIXdn+51vXSElnZo5fqcJo+9cLCjYh5OoQuROEwBIXN508xouV4qq6s\
-ua5PG+1f82XlU+prl0W3L+lpOGWgiyZk91UnXs+DwHR900B9mcfOyB4KOYBfoXMtyuRrpoivNyaTLccVLKIKqEHVQCM2bzyxaRqBYBhdHavuH5Pe5I+bk4aBi+7Uatq5Be5VROid6eQt\
-vjrkoI283YyrcHuFZ6zkAdMmINDFlAsn2v/uetpwYU9vA7yaHr4KFkQFASLy/CD0VoVwGMZfuP5E5Qn8UOQmhWkp9ZzLeeho8Gw3hNk+fbJBMy5VLwqpP28O5DIV63qF8fzDqlruF95q\
-HFKtu+dGgDqq23uix8uHTqkhAvZRo5pKLCBFMoj7rb6X/EhInzVmFRZTz1IF1NIO6s0AXEltBOXSu/fUfFks1WKzeekBb7jQzmWFkvnCiq1A9RoqNDNciBCZNTsJCrivopTP3Bl84kaA\
-ZIpU448IpvgeKpLUBj6Zuiw1pXLNI9vy6szUBhpQpU9WX71f70vjOfhQn85b0wbu7RunrGXwp9TueREeGGum3UP9NVgXOGTpN8OiuF5Yt804JbWt3hZugg2nAx7Kbh3NuTmtLc6bvSvm\
-4T6xKmGfgiknFavgMocKVN7Gum/1Gq9XgUIvTNs0hXjWXqB4To/kbdlCmkRyCFhNpvYwzuHMHMmEg8VMzVqOC9KqTlrlhsCNRD/oP1Bp1PcFvcgG31+kSL1mjm/Q+sefhf9wO1f8R2j2\
-DvVK+8hX0Z5A27OsMdWuL6wrWr2ImmLW1AY8t6F1bBxCewFLyM5sWB9WdfFBHjfu5wSY/bLq2T+w+nnh47zwjyjn9WrnBfO88vPiy/atN63+rcERchCUeXC1b3XMg6/0b/0KYB58XC7s\
-B0Nw1WsF21UVyOmID1zVgq5zblyV7oKuZgyr8UEHro2rOXBtXM2Ba+NqDlwbFQeuQBU1361QEG+s4ru1WbRlZd+tzaI5g75bm+a71fkfrJjuQa0wVvSkLC50B+P7PN/pDrb3OxGCXamQ\
-S60BhBj6QecnZfB+NTtsGFLet5QKh3+15OtSj1elhl6crDLasBg9XoMQxz8QOA7njOmpFY54K9Ka/YRi1QuzbpHqdXYm8B7EHAKfVyGh/dF28QF3W/tRDGCLgYo9nM9auc1LR8yAg5PW\
-et7ub+lBVuU/NH2vR76U137A9w/2jBPU/5U349rm3HG9JSgqtwdB9QEZKv+oaPSPFuKoY8otMiOjiieToJ/0PWWSGtc4FEL1fR9RiNkc3klAjdRO7c/CggV0A40Efojez8j+qTJ4DBbW\
-ATAaJBCyPV1B4MMMfK4C/RNRTlDBBoqIYKW2SMrb/+nQqQgfCx25dDogs+uig6l17kVOBs5DhgscD9RBVoFhZkYNNAuk7bhxv9wVlLvFDwcFEXDMLwmwK7gg1xzXjKUHPtocOB4LzCEH\
-Y0cDClEstiCx5/qmO1obZq1F6N0aOWuqWvB0RtQZfK+67Rp+11Hfvtqg/u3T1QMJP7+hmu71qrGpNh+1Dg9YFS6RXgKCymjViJ1ZGa2aIjKStDkWYrROFKN1OnCjdd5febTOLXNsAlcn\
-1x4t59KaHfYjKw/VcR2qZBAW1DrmtF8doJN+dYBO+MsH6KJXGaEfXnGEzvtXG6FzfnWElvzKCMknrz5CqPVaI2SOusoRWvKHRuicryN0mlCJbyhG6LI37GLoySEfOfuGrLR3XsNHzjLX\
-Q0MuimYGx3N2xcX3o+WIzroBvabDVPpcp56I2XQsX1o/MjhwCQfOeUQNn3ThVD/f/KhKF6w2PPVBn6v7Bn2uPjHoc/VJHQI1tH0/7POqvIHKEFzFj+wA1Jl3rS6v+j5QlxDRHE3QyBpA\
-Qr/gsBUD4ACh/s53WX27EBcsunqZR9l+Hcd7QE87g5imXs5ahBpXZwwKLqr8jNQBpuvpOtdV522eGpvSQsXwbP3+D73vjz6Kv/WPdQMjHDruLtd8LU7PfuuA3NA7p/qjh0wgGThEZXj4\
-AqYB7uuROYPmdRuOo+XOJrOtp3CTQWnXHxlrL72mI/eaYwD/Ds5OsFa75Ivq1xRfyPSe+iips7toAVu2wWamgtOkmb+iJRMsCMP2dbeNePp1h3FIwiEt+ZxTgzM4HnQhjqmuJlIDdkm/\
-GjhdnwW/RCLwlFbsGYcJeBOoiLgWaodTyGHUfLYQeKhVbSF9UWPbQsihNriFxEX9uBaCDXXvapA4jO8iKZP6yY/pPJkib1n9RPeiXqgCvV4DqOzW0Og+D65jVaSsvmPhcMVbf6/3iAtv\
-vNfb6/Kk6nJWsRDUEy3Ds+qdluGd6rSW4V3Qmwhgqp18jSolLfiqlfSG0HUltmGYPnlm6kQ9AofcUO1gmaTeCrBa0Uiz7imYbUOGO8g8+MEIM8zOfpTBe2C/lnE+xBk4H/165qn/UTDF\
-+78LrMtucpfZMz9pv0/Y7z77nbNf6SP9Il4tfEdEgjqVOnxHg3vJ9/sb1FzuC2qyfFfZ5xz1sJgMY/Og/e+laYDCHzG6cXCqpINTZWZwqswOTpWdg1Nll6oT+MnODRgE3Yb/IvRvBC/7\
-hM8rAWWMR30TNj5HQJ0tHhzI4feJrMbffbIY8QvDRPzugsxEfmdly8PvjOx5+J3K2ia07PA3ybq6hxp4NSHNeazLw9NRNsLAiQgwmxI4HmWJNijKxhhYiLJxBi6H2RoGLoXZBAMXwmwt\
-A+fDbB0DS2E2qTWH2ZTWHGbrtZ4w26CZg2xaMwMEHIEzQXYDAyeD7MYUGmUO8alTBYt2qFiNKlh0TADhKnJ0zSKKwEEVIB9ImskJcOZvQOqNlmUakY3MskHfOoWU9fZ4HSKTFplAZG0V\
-43rNShjXFb9VPqCoZby/2/drB2wwnCeKirMKVToRWk+VbvpPz5tDKs3J23h/HxNpzd/fw7BzrkUMB1XCA6GWeeYuoUQ/K32CfuUrTf7FmLNAHRTxJkOiXiiP6RX/Pb5yGUqwbd7+vEVD\
-79MC3o5r8y4We637vAf6mzNVkzv2MbrI2ExygDwNIHHAaV8a5OgRybCQM5/5yYBq7We8b8vrp+Tavrjd+/ybdyn79YC5t/iM963fIqfbS+GhgQywvCQi10tnf2f7YzpqbMIfeGq5GfSb\
-j5EVhEZgdH26UVFvGMql5pMD9qRauwpf2Hq2I1iEG4SysfEqreJr/7heee9+rd2ccJT1mt1oGg98dvnW/WC99HGYvPdtu+6jmZ/Etnun38avB+fj9tTfn/wE/YN/dbj+Nw/XPIar94ef\
-+P5Dwb02PHfY8BQ+hbDCksoKA0bsdXAHMe4z3s+9bde9/n0a2+79gswC/+v7+eAw5l8dxlc5jP/GVt127/1YZ5GuuhnvfdL7NqzbqqsOStnXPYTvfKtU8jUutojY1/azwSHMvjqEX74h\
-9NvXM3Qnfu8H/+yvf/0TP98SQrWfDg5X+tXh+rINVyECaX93GPgHW5BnqYhhynxBkQE16LmqpqrfsXJD4LmKXqveGQx4raqVKuB19S8QG8EUGwFVh9eqZsVrFbCC4Ayi6rWqM+S1CsCy\
-gDtspw3zWtUwxIDSa1W8zGtVvMxrVVzxWtWFW0Ln+6JjXqvowVdaJIF5vrFR8VrVINyT47F0MEM6w16r2sNeq1ql16pa6bWqqbQnpAyqJ/wPaK/z44Hq5vxOWMFTdPIRaiZFZsCy0nY7\
-SPyC6NkuVE6NLIaC6Klx7TbmYeYZc+2GObx0cu2Gbu365XJoDK7dWL2/pY3V1i42BJlc9aG1GxZrN3RrF40wWA3I5Cprl08O2JPla5etZztCaWpaaay/+toNi7XL2vdr7X517fLBvD1Y\
-tnb1rbJ24WFGnkRYuXVlwaiXCfnobdA+1m3W6//22whRo8uYmhW/NRasK62SCiw3YiSsjOHmF3YapmsYXZv9YcyPt/qOvSrLYg8xWHnBegJIkDtdbB+QIGddDKxq08WupTH3DhhoSG1v\
-890FbSexNIlvyuszcb0BzTRxIIcH4jTaL70tkRZ2Cbm2hpB6qyecTulYMXTbxQjSqV42Mp+3eJcdTVvUhUzSJhLHZHFKLyf3ekk6RkdWDfwSLLIFdoyV6W/UoOSCyFcSbpl3ozOGh+oD\
-a4wA1lZ6piw9W5YmdDX+LUrPlqVnytJfW5b+iFcW/yi9dvGnqADPXQ1f62oYoaOOEdniOtji6NgbnjPolbGDThwDk1p2uXRM1tVYuCvVHhqxHuqkQ53Tsc4ZcV+ajbGP4HYWq03RzjtR\
-2zwAwkYsQhXYB7H8OMS81WNgl1vtFZKyEjo2BBPJJ+crRGdc3wwdTY77K8/P7sD8bK40P+HeolnOz9Hkhyrzs2vzs1nOz/G02Y9lS0nSzv50VII6O0dV3YLuedR30yh8NzXk58Ahmt9h\
-drbNI4bMzu3S91MFcFy2Pk04QWXwMODyr2S4nz2Pc209g4vp1P2cLfF8Ub7hyo/RmVgL/xZFG0VRFNHSI/0OJkokoxg4PysNTpSOJMWYKCs3b+z6mgfOPedDInPo6vPBcZPq15wcapQj\
-S8Inp/NlbF9R8sOrTI41A5NjYqXJEaVr0olyckTJj1QmxxqbHBPl5FibTuBcXgc3Ycn+lMoUnB7QxlGVVbd5Rbp5UUt10kD0sXk10hb3qQS/I4PdPELFXZcSMaU6FDFT4iIFs0OW6+Ty\
-PSGBp5MjuiesTdcVewL3gMo7ueaD1de80ErJNceYjNXxlzfgAL7HMI9I+LyFW9c55K3kR1cZ8jalFG7IxyryiznIA+Qr0zEZbr2mXGJVbye5FNDOVL/v6WzMfepz7lOftK9bU+XZvvzv\
-tsY8STm9RMYwCTqU4VOgIgmyXyeLQZETTu23I9bZQUAouEEAEQB/CaPOpcKaikuFiTSaL70qrF3Rq0IzHZ0vpbrjFXlvRY6WhvPDIuLCzpret4IShvmCi09WvHYhfhOlboFpwHzA96MD\
-5T0B2s5H5HqSBvup65f7Rgf4qkluXovxcwjuTbHTxoYNzqslfPZCcwi/9O1eabAJnpwjbSGLVCc791V0yttBxCbQE7ADSlOkXnK4YesD2p+Ef/u/3RzcocrO55tVeN2LgQUuQJy0NODm\
-NYBjCIm+w6KrIpQvQSEkedeAe0dO7yXfZuD5wJDKzwUGXb4UGH11Bj5fA3VjWmfgJHy+BuogtsnA8YDLiw5idW4fhUl2oA5i9Ry8Ap+vgTqIHWXgEny+BuogdoyBC/D5GqiDWN0gz8EH\
-kHWF27QvucBlF1hygXMucN4C3u+4lBMucNIFTrvAGRdYcIGjLnDM1fM22GZcCgb7/wp2UV8FVQsmqJJooDvOWgkft/A619LYtdQFzseupS7lksNMvkyhsGxLzXn5/AYEPLq5XJRbwLrk\
-3YGN3mWcwNqTDdkjoMBpK/xyI5+0mrXLG/nUDu/jRfxiI1+/w/sVxtfLOxiYkiYwMClNAF7/lXi+X5/PNuibsaNPS/B4nakbsQAbDN6AtlLtK7tRghfqDN4kCyqFaFHncd0NpwtccoHL\
-LnDcBU64wEkLeP+hKN5YsbcQuIIA3YA1XYrr2gVX/Kir8E11bWnyL4pVcaGuu/5NNJvIJHPDRRt5LpUUUVRdlyMwle1eqLqbScbLaN9ia+xmZw98a5qluZECV+rz6a3Jc44UONrIMl0p\
-jSw3DhOWSz3flOb9Gal2c3rL/vRWCeaT2MJu1S1sfXprNiPdeku6fj6fxEkOgnxLOgk3sQjeJkG7lNwuQbuU3JFO4jKQbUs3o+AUbyiT+NcO7qnFdBuuClO8qdyxg0HcVG7XIJzQ3qZB\
-zP4tCiUqv+Ex9sttMn4M3C7jx8AdMn6NdL10jjR6BpTATIULMonNcPNieos0w7ggUuZm+yBZnHWNdyy+ZPEJi5+z+EaLn69LBIfVVn7lzbzxzPhetl3C5yx9VsKOMLhdwhcsPJneDNum\
-7M70RmND3VigmLuFeK7BQZqcy+/ieMqMTyeTBbeVXiCqMPcuLkY5mG9YtCfQP7HIedplWeRcw3rxBv2G0w0XwXoNzxTRJL9FesAaIEM/ZXPqNNvw/7o5tdTIbtHNu5FNtdOpdHI+u9km\
-1umGTKipfnAk3zqf35Hevl9GXyJTmFp3dWOJCZ25RSbYbXiH0pmToDOhlQZa8zaZdDKLZO7IGON3PbSage+hM2I9/i1SeInAv0VKhymdImUSB+hkOpPeBjrzNh6gW+a69bbUfhubhseb\
-063plNCZU/L2KUyVyjvlroEFILm2YHZt0dlVx+yamuvW0jukobKtKZ1Za1sXOerrdIN0VUZwaSPNjhaDeKWebWqnm5hFtr94PvmpAHXk6a2YzhsXrQ4MoERuxqjK7y0Y6mkb6voOf8pF\
-zkmkeLIkkYaLnJGIB2fgGx1pYeGGOQlHmJZ93Ly3y/Z2v3+m2MqvNGTexOXGL4uusu3LWqxs+rJEXUw2QNkEi2dH67LdFbEFiS2Ub4hlu6sVO9RlJQsuxfnUo6oTIJ3z04Gbg5diTD2+\
-L5ZR4gY5uZjeiT1mUis8Hu/wAhc5IZGWi5yUyLiLnJbIBo1slw++38sRmb3P24Pf7fd6/wS/smntwm+2w9uJXznXZvG7aYc3I79wR3aL1Sjfu8N7wlV/VCL/wkUWJPKIi1wRivVhnogE\
-IpFDMYXCe5que5RmEtyp7rzfv9hwXSRf5H+6iMkn+X9axOSb/L8sYvJR/t813FDKV/nP47TCZ51kYPu9wTsZ2HZvcIIBOYmON+2kPsbAJhmsJg+7e4PDzWKcpNnvKmL4op8pYvjYn2sW\
-Yy+xpaYe68mpoJzgK9wzFkLeM76ktEVZV8y6oqKumHUV8Ysx64pcXZGrK3J1gTw7EUHscTKYT/4vO8pPRLQuWDIq7BbcDQO31XPRRVmu4xFlt+owRaBulPxwZIOtJN3/j8du/9/GaX88\
-xt77HkeMnYzd1nE8tv2/mAD5DTu8v6lMD3zkZyuTBx/5xw03xA37SD1Ob8Bxahv/DcXGf4wb/38oVt2JBqgwVMadX2j/SEizw0Kl8RC4ydbusUaeyayuHclTIVtAX0wiwkNgm+yYqx4C\
-m0F52CGglIcjMMgHvIO/STaT3kzqYpFxmiZLeAab1xSJigZ+SVFMmqoaiZSZgkhxbNAZaeZOkig7iyvXFK+cMxqcKamUdL6o07QdWek5r6z1vFdWy3vlpJ79rmLePa1m3n6tat5+re6L\
-lbovVeq+XKn7itZ9pVr35Urdlyp1XyzqXo9rupwqm4fOQlkot0hSzc7CLE2Ls1D7f731/23W/7enQ11/u3X9bdb1612P8exMh8/O2M7OSOghUGZ2dkZtm2Tu7DzWMAZFjpRpd0pG3ET8\
-MlwooU1Y/tGqElrpINH8ihS6c1SXc+8IC3W51Tancq0dk0Pzu7g53CTHW6QLqLzE2d2tuLQF7nQNr4QuIqfk5SKCi0ZIPh4OMa2k0E203fRtkSnqcmuNTG8Tke+KVIiCUkBG2ybhy7YP\
-TUn4iqVvhxVFMG9D6vcvBI6qV21I5xqM/sKjqv1Cxbghrlg+mOrypYqvcc62ZoWz0qr4PG/vWNmVZrdk+oyUTJ/RkumTlByfsZLjM15yfNaU3JOJKrtHrw4XArezQ4J8HJ80WdH95Aae\
-5lrFGYRv1TAtfqY1fDgsHa0vgOmyXcPo3NR8LXw+KPNgAPSq4/FQULU/6wwXt++64OJWz0UXv2B2PpdcwsXAmFLnm2BK/c1YcOOAKvjLF7E5D0vKYO5/EU7b0gFWjulkphCQnXbn0Kw7\
-htLBU2g2Jyqd084GzNzrCr3tvA7cwQATR7W2Y9PYrhl04IBE7iIFfD9THD5PG8voyaw82Z/IG6aTDJ4fpCgz2lQg+YVgRhbCm1YpvGlf7dvT9lye0nZBqmkn7w1Mp3MWbPLii0Pjt7qt\
-6okVN45jZOVoZuuezkD3dAe6J7TuCa17utY9Hdc99Odb6Z528r5K93Sse7qO6f9EPpJ2wUsfhUyotR/u64/kIY7hVD6mTZgKOW7HULUew20cw+PGqATXPUG/xotwTwRtDLvGU5cB1rjz\
-ZUrElKiSEjOl5PnDEkMm4DgFBPmYQ4OQfb8lSdK0GI9H0tE0lvMnpkPJNKy+k+APwRD4g/L8Q5PrtFCkyvMfHCPH7m5cbcB8N0N2lez7AXb+viG/ZNWZpAZDgaJ5yE5WkIu7rB37jDE5\
-Z1zIPWBL0kuSEy2UgoXkPwZWOgWvP8GyGy+WHEQ9EybqWWu+IdeVTRhoUulKzVcag1SqrzQGT4pVJReuK/hJU8k/K3hZu0oBxj6hLisii3xDxRhjj8xn20ym0vXphsoMnkpeV07g9TaB\
-N5QTeDrdAMJk43x+Qzq5X4lKTuApDPdUdQZP6Qyewgy+0XBFMYMngZwS8qRrEeCykY3yN8luElo34vQOHTUT80xP8Du6gy4U9AgLHSEJa6pCnh46QvImmZ47qclREpIxj7GbNFjI02Me\
-Y1anIyRRqSMkR9VTZlEtj9GwSkjGepxazee8suolr6z7YqXuS5W6L1fqvqJ1X6nWfblS96VK3ReLuokkJyfIjUMLWRbUpCTVbCFPpxuLhRyaGr/2/5j1fysd6vqWdf2YdX3keowLPx1e\
-+KEtfB+srsli4fvFwveLha/0IhfZlWKRgbrRReaWmJ+uL2hNZ+ewrmraML4SVXntHSVoVyyTpioWS0nFkqnhiKz1FSJrgxDjFTprukJnTVTorLUVOmtdhc5KKnTWmpLOGi/prE5JZ3XT\
-dkW4NrKicK1ZklqNQcnagj9I5hz1B8mcY36FzFHDxpfXi4XpVvt9q5lu/PynP3bhzX/9kbdDHHc9JhzgHHETPKCIAFcz5dBMr9yc4//2owNmauYsnZICVTEsbGBotxPS/sVslRbl1RXz\
-40xNRcFSqZpULjPzUQOrf67wjoUGn98/+KgCjdIvAvAoDWqhosIXkFCA8h5V+IJBFb53B+17/eCAmWSpFc9cYcWzc86Ac52MvWJyc3q1cXP1R9c7bjWA0daOXHvUakde1aBdtyLkCqi7\
-V1eEfI8pQl6zT5Lr7ZPwCGXC1wLotTxfiX1y2vrkZ67VJ0ve9XaKj07xj/SDa1pqIc9XYqe81zrl3bWg/SXwy/0XVb/c+UjFM/c3fsU45g4UYrZGSpFOuoPksQfNQH2PgavvAnxODQrc\
-dQNfk9M1bxAvK2/O5y1qcRM0BhTjSNdXdW6n5jSs0h2YmlMLyL+1RXXmGENid78Pnd9CibtIiZgSVVJipsRFCoyhZY8fVn2kdjfVnGp43EibaQ0qxUQcIM++eCduvfgJBtScFDoNo9Si\
-infNhJvWh/itW586t+Wapq7Mha6alKk6olDxI6u4MR955W7M/ygKOiW6Ap1KrsaBmF3d17NiJ727quM7VV45wGtw1uLKa+B9zdmI71zGUdiJ2n62uDHvMYbCLjAUwD9QWAybRbHT8qVi\
-D+ZNy5Qoq7q9HdOcbArllKNj8dt1KvqErsIVfL5MCZgSVFJCppSmANB1jJz6Y8v0ZNugfeHHtS3zBG9sLypsFkq0YQPQdriILcyT1vDVWFVgB6/Ge9zV2Ia8sryLFb/CMlf6sFjxjrDN\
-QwPur5tImz7ZyYDZSm3eIWcXy3ywVijNrOSkkRS9z0CqNJUcMM6zfzg7hZ8yvyJfrAetAiiSm67zw/p+fxkMAN3o2DJKbZtK1DyBOMnxXE4XuZAnyyeMAiGR7r4xI+8JvLyxF1wm3TT8\
-tLE/8+3CozjuQE0b2u2ndFffPo9O7+JcQ6Q/e3Qx62owleCIBqckOKrBRIIJg4vZWN/QJuE4NhHqL3y0i+tz0Iu4M8ItMqNB1q0CnkJUDZY5w1GbtXGZNA1jo+1cLcsqbNO7A/y3+tKk\
-PIChTSOlvUI9bTxG8Tg49GndbG/Y0UFyRhZsTXsyp7mOetBo6G1eTnBqQEsV6p9eTfz5yXVu8/KO/bJ8c5KhdeC6wtl2XQZfOll3jG5ptzPiDHYwALS6cgCj8ob9/Xk0t5F2MDAt7uDD\
-ldTLSnAYWGqtTI3K1LD6wpWaofOAtlYVjyBNGfW2uTNJ0gZQcbAD5LKLcc8I5fwYwejLb4e7+1avTabHVq+FQZd0uYQPggQ4yBJbh81lq3MELbyfQShZjGiwDQaBrk7oeCfl+h5ThWs3\
-993p0lgGT1DBgG6VOwwufpG+Y3wFSiOgj3KbAX61jqlBHGljoXfKDaWF4P1FO/lNIbcmeJuRuM+DjMYsX17nGw+s7nzDkbH+tZxvOKzQV+h84+2TwWh1uzMa+0dDypAIuXAiNI/NPQeC\
-DKlKYEwVAtbk0WPd8jEzHAsdhuFRDalDZkpTkv8cEMWIHhvKuqyScfcOE2rBNfKJt/z7773hke4QFEsa8Ht1OO8NlrnqVpQEes9Ovs3VesG97ehizyAMLyvUG/3DdOBuy8nQTBYjoYe6\
-sbI0Mv5aywC8ecmjiVCtUBNbY4NYA1mXT5jlFtSHm8ZAz2C54ROtR/GpK5/UJNjS2p45parDB8aarro7oq7dGj1Omul4b+HF8Jle419n6wZqQNmRBuBpGmFUqwMks6Wuh1AmeH3vi/Vn\
-ThUKUxM9/ynp8sFs6ySbZllW5qlKofgqdQ/U8i2VQnKGrGG4KLvSax6alqxyxDDjmmtnDa+r1j3IGugUXTMSenUfCGMqJZW7o8zRWCbgmr6frj2VN49gof6vl+C/AU8wOP11j3DmriED\
-yxQyudVh8cbpeBol364eaw1GTW2k4MNq4l6aEmKa9HwJd1rtobH3oG6Stzm1Oum4Lq0u1TZrBskjRGpHDteagT3Nm+/5fK1mHoFi5+i8y5y80C+xa6X1B/85ZxIohHHF0Wou0tIwl356\
-mM8OytQCvTj+oMz4JpyNvzR6aI5hPlLWqNaUWE0RaxISIx/jZF8cCWJgI7jikhG732W0xTt0OB2TqpjxsBzmRKi2A8g1rdseLCLh6DAPfuupbjrySLHuKz7PcIPopN3kafb4RlloIHGm\
-FkeiUT+sja74Ml5it3rrXR+iwzPJ2jbL427y2rxJ+mmdTI6JgsAZxah05hVvJfICvyWfvI7d+WA2gWotohiFM+6VPUKWPvMNz2YT8pJ0bTqRPFPuKbAtrukUJunAOcGWNGkMgZ/q4MNr\
-i0wQaKziDePpmmksNoLpyf4jK0Jvlph20km+1wFOdmUHa/DyirbUh989bjVNrFBLu1ILKBIU1sdvAA8LZzbH9iOebVvVHWrktmiV/2TXGoiHUYSVPdgL49waZ7711DV6Ix9/qNtIr/eL\
-OrSaeRWv8l7Gq1wUnTWrOIXg3/PC1Gl/+VrSvnpLWl++lrSu3pImbrbFabOmPFAIKDmO2gbXkDuPu/W+X5zId/seryXSUOzuH3zxpVnZ3B/p1gdWhZSXZTmerjOpCpIgWOdKSZ6FNwOh\
-ApInFHGQsAPU4ag4cKSOBy63OCSv9l28hV2berE9ihsasPqBvhzjgKw2mjfPNav0+Wrbge9WqeQsDyjC38Rymr2+E7RX61nvmj37aJducIDS9R1tpbRyw/n0lN5SYksT5YSWBsLBqWnd\
-sHeLw1EIybyhs9BupC1a6KkLA5mJ4ZG8Nd9/ziys8nhREckhUsRh8vShvKOk+NJ7f/1+Qk/LE7k7focSgvVFOTsUx7rfODKfRvPMncwb40N6FRcMlyGNDuvzwxjTxiJpuh3q3uQ4PQ/K\
-xxjZrCS1QW7LvV/IeEBuy6fqzUZmsa6q4KHMd7eR1P+KgrePrgPe/tVA+f9iPUgO1EuPrkrhP2j+d5Usc/5NSFbj3nFEVp9DvO+fevG3P/NbL/z9yQvegf57irAKk2V11Hswo+J9AwCC\
-WKMAEMTIAEAQF53MBg+M4QHSbI3De2ro5WEfKcV1sgfJqa5LANM9n5yGDmQ36hBHQGdrN+0QmNMHW7KptqThrhT2pPINeg0J0y4/Tm3+2qy7S7JL86uZIf1tDJTzB8qZmxqwRaZIqakn\
-y8V8KjlYyfpIt0HvTDIA6xSydGSZ19KG2b0PutG13hg1d683zWdC59KQo6seXyUF3KWuQ5KVhhQXGxXCu6bT/aG8n26tpH0yWdCewslu2qWz1eTnZQpEttOOGStI6MMx3ZHz8cV0HTD9\
-5XeK/FVlwMLeXrb00UrnmO/ebNIqS2Rnou3mWnzM2lPZeGUCEb91pO/L1/jZqPZ6OnJACLB0vO8fmsunpmkQ7M+no0ItYmqmU9Pp2AFpo4QPyJKXfEfzccO/HUvjA1jZXRiGyHevl78p\
-fn+wslthjk0d5tE+rPH9/taj8rrpoy/ARvD+o4vPnUq7z+uZJFNritdAKbMetU2CNierZX03wCGBYeCcUu8AU+m65OeC0onYOqXqW3rl59xrc4MP5TLpP5WvTeVywMt6GbVJ6pwTp+v+\
-UblY+UqCtSxAbc97xb65HIh6mayw/3GpOTARnu8gWwe9Qu/U5f9xiBBnqAilSkzJB81PNuuHToKOREO5o8jYS5MlsGe4dtWBLjVNXS1pUUnB+IysJjRKV+tOWS0ROAZsxsx86f43co7M\
-aEcZGF88Uimoc28G/TiO5tQgcZZUfG/Dmwp52QoXYB3CsIWo1wB2+KBIxAlKCtcitfsG4ZxDk1l8exAc9A/0AHLrC1kcUSIG1g9E3F7vitf7vHMx7z8zbb3mkWb6kPUQBB5pqK6RCJbb\
-u62SLzxlGVWC8XIcJ58NXrbj5N9/uSzSFUQx12aRev/naqzRa6Ow1l4VR/S3A7eNOSVrdl44IMTcN4j/EPwT2E2l91KeCGL+G5B+ULUqdZswhI+wipxcgiqrC3b9fboEhaYujuwAyR/6\
-CvtRBX7+sJrQmzDON8XoQlI6NSApTdQzmpeYJ3HPAetDloK5k9cfdMePIWCz52X1ktGSRnv/P/bePbqu7KwTPPucc+899557dY+styXb+xyXy3KRolxVjGVcobHuwpWqyayJK5PJ8mTm\
-j/Ra80etCguqksCq7pZsFVUxgg6NIFRF3UCiEGibhxlBZ6YNJEQhLwUCUegEBDPQCsk04tEdhaeATDLf7/u+fR5X8itJhfRMqpZ1v33OPvv57W9/e3+vDsdK48C6wgMVwXXZ1JFfmthF\
-J2FO2PnebsR/6ftNh5Ylx26BjG4ody0Q3MI1PDt3e1/VuVtQoClLp+qFN1znlL/QDRDnbhE8gjWrzt1afZoAsYajb0ICzM7d6uqGrpDOhHucu4V7nLuFJYmuxMTM6k6iy+L/ukj+a2Vl\
-59y5m4tiL87dyhLdwrlbs9+5W1Q4dwsK524NWavt2Lbjs74R0hNKNGe+rv9i8KzsszZ41WTywSKSzy+zF3F9Iov9zmftQ1+ftS931l48IfeHVbXoa94V9ufv9Y9c7F7S4Nv1u9g00l02\
-qjfHp/X3Sf19XH9fK8rLvSvv+oDXqycf8fsYInhufC1HxbB1iQdz0sFPghor/HjFMKYHWXIwT8gJGfZkBkf0D3o+JNo2oh2rKcx7eky0ssHQ4IgZiny8wb4cBe8jxXtp7KpR4LoD1hyw\
-XtqYY25V77PYic9KFTaerdljya/7efz3VTqMtKhVXgYBsffKa/PckbMQFEP7I/kNDlsMjazcLI5HY9UQp18XBykx619Tr1q40rkImXydI95kbQbWTPJRqRIYE+eO6u0x3MYdgzy/CMHG\
-X5yEIzUaLsR7rbPhS4d/p5MPSEF14njPdWqEhMdwDZc3kBuvjYRBzjmnM1Cqta7GSQJZPTkdY8N8XFrCTQyL7bpQo+fYUXTmr8MqDGCCqyEBBwXF2DhjiX6HELOAfofh0oN+R8RQDwYX\
-uLGCyS9u/WBIges8NmQ9qDFlD/LRtAGejoakwdcXd+u0ntbfk/o7rb92b5gJRtcDvN7ulvuO6ELHOTO9oL/n9fcR/cU3w+LbtJCbKuMwxM8nbcRSyynImiCjPF6SUTaUaqbTNJEqcjxB\
-oEou75HeZN9wTWk2TftT2UvOcbPA+aztQehV3GLebY8JhjpB7IhcJzoh7DB8uRHeTAodvJf+fSP9u4/+naR/90MkxG4a7KiIY42dlhhBhwjXaTlkh7nVD+Tj9g2zl57IHiyEqPCvcQ+O\
-yQ+wvlU6yUWb9H57T3qsMuIPlqWnsz7lmLSH5N55koooCxSzk7hdPc6o396b+YFCjtr/5ROVT+u3qKdS1usqn3IM8fvtCU7nJexX5cOTlD2U7Jz5xK2zB7dd+iPI7oPyfMBj23AayQcG\
-Ai80RNjHnXw1oFF/oGdsoypchTp8wwlXHxABbVwSr9Yh2Ovae2yUfCeTrHERrx4BrZ72p2hEPLhXYcEqFJFyd+35rA4w7h+x98hKsixWjeF0OOXb4sP2iEXr+wSrxyQ7nOdkR3PBalwR\
-rB4WcehhFiieFMHqYRWsHhfB6mFIT2OMz3EIVg+XBKv6io/+sZQUa0ksWD0MwepdFcGq+5wyVgSrdxWCVSK+qZrgutIG42p+karGhVTV2uyxfCGX16/sLUesTZ7k8X6XSUG+7qed48pA\
-OGSC2tDe6oxsLr9g3BhiyNOjsc5ETKW9PJtkweqDhBXH82bE9ihmpixaxVniQRWtHkfJmqDKVLQ6WRWtHqdqiOQcT54SomdB7AR7xVuhUsJJ1EU/+0mxdK65ZHvSPjAp6y6mfpZkKXEh\
-S6FiRM5gbS+6/FzP0OhiXbcPxHkrqFEn7YN2gpO2ECoBaZki1Sn/YJyT6ikRz1J/AGeTpT5wayav8NKklqAEakHeGq65qyWlk1JAVUTLldJcEitBeYn5PML0vkQO7TfcmawWO0JpcO8p\
-RIU3GGQVFZ6EqDDu71ycdw70/3AhQsPWQCPfJzJ9cWpu37zm1otXc3zzmpsvXs2tm9cc4XiTb1Ynit2Id7EThFAo7BiVBNFJvv4KwSFK7Lk4VvENhYc13ODT+St5Az7ANd3tMhkx06k1\
-k97LROg94MMAvNtQV/DqupAwpmX3K6FKjys7LFfjLeoUBpR2mm6sTLfHEePvnjXJb/qc+WxngFnPC6xNXuZzH4FWOdtUKJ/ruXh8rBPJ7G7ChpQD/IT51q7y364ej+qZdY23Wtdp5b3K\
-tU1rbSfz2lCBbTDXLNVQ2exEbIDrBpcFviMgmoPVb2JxT2Z4cjCRRTa/oF8aV/ABSA7C9H7KRwQtPQ7ShSL6iWMfjqFY0HqUrKwCId0pz5FRe0z371i3kXuxIy/iXBVfSe+Tuu+frQN/\
-75NZwjaDUwohSvJaHoIoZa8kdWeKOCKmi8J33j8bgnHo0lC8kTsact+/PDw1FTyNwc0Ol0TcY+pizAm3j/EFyzcyxwvCfKvz7KAeGQf1CMmXL4fUzUEDnAl0lVa+B3HRAC0T1GBoiaAp\
-hhYJKp8iFyCFekBnuLL/7nMGoU2g7ZkwbNZqtWa72Y6iRiNqRg2/0Wj4frOh/wEI/Dbw5kGiAg/YacLoFpIMEqP9IJSCTtDbe9ITkCedAEN+nFKSgd7gBMhs+vHKZ40YP/gA+z43/DgX\
-X5PatIR2kNcGWxePv36As+DPcRfDh099hJ1Txf0XDc3xM94vgqDYB88QNQBw7AxRAxd27QHiwY98V3bsDfbY69h3UaHuLoeiY7MXn5itPcoL/diA72Gu417wWCfUY+bPLcN7vrJTMeNR\
-8lvSgJpadWCtSeYPl6/jXBG2xVyNnvo5pGI5t30g+Zi8osHFUY7wIMK9VCQGBXwlkU3hkoDvURAcNxXCsWjYPvvWlxIIrYDLBSFC1NWXgGunhUXVvnH2+7qskZsoqib5bYdDPDhIlwO4\
-vd+eTDby8edBkUYtm6zFwIpJfsNn6KqB870W6BefeI7lT41+IoYJh9m2gQaxqS1o7mnBhmE6oKQ9r7l37V0fgLL/SyZ7dRrml0xK/p6XfNxnTlwxZ8NAuPXbBU3nR6XOnNO7iy1Dg87u\
-zyTFdys3qor91GqvNw1ViVuOunS47krILzo2jLvpiNX04nDMxx5f3i/xaMn8uq1FS5E7Hr7JSQ/r3Q7jAjY+Kk+viJZMYZ59TDCqQIE+pCjvwjcf9pvQmPv4kAB23/g+6yYcox4d6onn\
-Aiohi9IWPT0O5kSGnEngbGC/MV8PbqTdOKaHdLgIyW/WMnvvrPffA5P4jmgNN4dtt/J8vpQqVRjmFeLWM5/pELRNCvgoCojsvdd0dZ/rFFN4rhMII/MlNRQDxZgbPMyYi9r+nVx0flCr\
-quXIEjLucZ5fehfHmXd5wn0R9DwYrhy9XCsF19TJOp77SDCvxB/pUqQ+HHF9aCmm9zy+JvUya5nmyKXpxXnoaE3ZKWtfPUmr4BAtgSOE8aCasHBUMfjxHP/0jtJz+BvJDa8ySZPE9zWs\
-Q2VdQmsm+Q++I9yuxLhwfM6XwGCNauKHnh+7m0O+FqY1UeavHlf+6knHX5kKN4crv7nsoK3h3pNZu4B5LlOwdr6Qrfb5TqAwR/6BUog0qbfDsrJj8W/6vpHr+a2y5W8unj/dJ6af7pPu\
-l23FJBQLC9395BN+xXRtmu+sxbhW7IbVejQ47+CTbF3KvuxhA6dLwuSGvly4mvmKabIYl854XY5N7N+BNTEPiqj6XHC6MI8449SwapzarRqnjlWNU4+oceoWC+AvG2MuiqyjCKq5T3wh\
-NfSzQfL9vkb6u9eLZI/wONBmwn/HnYgsEOUl1QgMLgPvPvBttAsHbuFzjCURagTxW4LytBZNuWHII7VoNXmMH7TtI760K60Vgc/O6u8+Mex44qGSxHu2SkO4hGnxGx+62VeYZ1/hk2yf\
-TYXQ/M9+wcs3Pff+EWkswxekIwyfF2cS1kCWr+XR7zgrW4g5mJvkMJ/kGwxG0cs9r+L9dC/CwgNJosnxAjtCNhZmpzaCHK8h3GCvZ+fES0ZZYym07OaffuahKAZVnmLnN6paBp0RUaZj\
-FxuYIkGP+JdrJrqoegR1DjjfuNXdvZMF9MkGTvbJDoqAZnXFmLqODB8eDVHZEKIqnvPe74D2D7D0JxeAWaWmpyENYSGN0M3pNO47fjwp+88XoQPk3DrVcjYHz9MI8yCsKARvn0F9NGm8\
-LBx/K1zak+dT2Z4eV/bztSlvrh63GVYv3Hb+q/tEB9b0vE80hBfEwUy2XQRrl2M5L1sR2Oi5CzbUVvoUqegqkS2hUQ6uXCu5hCycRbJyBA73BVrVharlMSeE4Dm0qgstVAPIunNDVi+5\
-IauUftsU8U58MdysO7dXiB4maFnMO1KloYgxw6xDUNoFvBtTnf71CuIVinn/tygtjWSlOlpay+MC2lp88UWr/bK5jer/H+PdgEk1yqTGGvydTsEtVvj+m+fp+BVqaSAEvb9/niOllZ58\
-np9QDz5WPPsCf1d99j0v9Jd1GU/q1VxvxrNaOdcPca7yk7fu892Pv7C3xnfgWU63LgfGv6i7FETvt0ez9qFFjpbR+GOF29o84vLRfjbJZLJCkKJCIm+F0MkSL0nnEyaIHP3I1gpWxFEA\
-uQWr6S1YLus+XTY8/hJX9R2vw7zi+v4Bx26xBmVruhNFvg/duSLfVt00nIOq1l3wLCLLp6XT1tJpbOm0tqAGYnAHVuIjWW34Xi8RzyQtcWx21sE8kwrzTLZ0a2npzVZLUaulqNVS1GpR\
-bRIy61v4Y4g2WkLKe7VXd+BM5Z/PpSFq6p0sHccD1voRJVJsyrc/bTjhUFHwuZmfkoxoRRN/JJ5XgFd36B+nx5o1vZL+Cm1GwTw0NLCrIfQo65G0kSZuiQM11YQkwbRcFRh8KDCIHkLC\
-jEg99dXfAatKQ5KPjx6GTU7a7n2CtmAXFN525faSZXAx+87nC04WrtUDz9B5O4h7n+RPCNW5gGfeThTh+bet4QaHv16E1vskKwzDb05v661rlJ0HCMMW2oFcX8SnIfyoI9IdnZHHRK33\
-yxxQX8crbec1t3mYwD1w5XR8LiqveiDh+orF3hJHOW6xc7PyBfxlNBKIJF5xrhcHj8JZb1Ry1ktTmptWqE63NcmHfQl/62wCfGcTcEeOmap991Xd2XlJKJShx0te+5wGVrzsm+Bisf/e\
-JCZrWZlvOt+KC6U/PhL0vrXsZphPRND7oz3g1/PNPL8r8HqvhBlqzXqwEVgUlj2TXXsaLCDr+RENYNY+ZfVhJg31fEtn93qsRl/ncQvkLCZnGr3zQABcfdDxpZLUEwdJ+XMMo5xNlDcI\
-4v/BmEvIwkT578Dp5lqVjtXFqP4D3oR8NOx780W8aeZHSGrc15I1wYfbfutinRXvovmsBnaot1Jjp4yrEqiq1tuAoxNzpbciWo0wGZTQVcDELc89pM/kFf425pJtIw8RocWwOeLP14iq\
-Afi5WpoQcK/3s7V0kIGfqaUHGPjpGjweEHC1VtheIxgDWN3aFdt9yAzgN3nItPE7eMYTi9AzXgu/Q2e8JpucnvEi/BqJtJQ4OAJaK5xg21N4HOissAVKKzyNLQ32i+v1tM7AWp2OIQCu\
-19EvkWPVels0ar3NfDRw312TG4YGH1bC5Pd87smy6Rj+fjtKfQY2IcGqSdyFgIHFKG0ysAA/OAB2GmksX9E2IF810o4Mq3HDatywGjesxg2rccOKmGg1vmpPB3hsEWOGdyGOKVP2f9rR\
-RKvsVZ/Rs8n4RZ02MKWr4e6Pl4hf9vHpqNQofMiIQxaEgkoEHJrjyVMHMJg/gINzPIWObg0XFG2geuVTOKoSp7OFl9NAIt04/6fqf9Z5RkXSlpymIj1dcqhKHMmW77xxXg8Kl/irQeEr\
-52qgTmiwQelUBm4qW24qfTeVbTeVDTeVA24q624qoxvPRSWOQaPsUtUvH22D/Oqz5C3nKzL2Fdc71bE31bE31bE31bE3fWNvqmM/C9Ng56D7S0Xs+70VodY8anKV3b/Y8hkyL/oMmUJ1\
-VVaJcdP2osyU87r21Zop9GonAgfxB4k/JhvJ2jAd+2DNTN8s4vIewIIhggbgaXjqp98n05h/H4e2MDua7fDvBZhZssPZLv8+gsi79HsWhpZwP0vzjt+TNO3cKpp1bi0iJqIT6aj0Dd7P\
-2Rv1uIxECgH4YdtwcRg3uQOUTipJdiMVy68f0etddi3V2/A0O6VxHmVu5s9KIi6WCe+2z7Fh+b3eYmc2elnHzNKuQQx2wO7VvPQI/bP0L6V/GYhHA/tIJ51gYLUDB9gQc3bA7oNId9KD\
-DCx3EJAeONdJQwaWOukkA4uddIqBhU56qGjw1UAb/Lkmp783KDrobzfV8HcL+tub9eqIrNXKkSobbMNwdRBAcyZYYaA1EywzEM8ESwwgViwDnZlggYGBmWA3AdCdCXYYoA13m4FBqpmB\
-AzPBJgNDM8EGA8MzwToDIzPBGgOjM8F1BsZmglUGaLO+yoCh9hDQWx3kFi+6PlOa/q4kc8mjOjOrgx2eveZcZhCD9fogIriIv0QdNPA4+ROJ+JgosJjowC25J8tcf/2U/yMMTFA/MKYw\
-bthg4CD1g4Ea9YOBKeoHA4eoHww0eu8eJk55t0vQVnNOsYua35xLft/ndm81z3UEKRYG4C0Q1KlDawXAdodWF4DNTpowsNFJY4cmQw65BhxOjTqcGnQY1GRgt02LUFFpWOeffhYHSmFq\
-8Hq9S4uKC+3S6mSM7UIjBYV20wPOobrbkAZzTgHquGVX6yyYG9IEi+ySMr0U+Ri1oz6XvMd3DIhzzc4xH7uSBW3mMxN3o6s5JvHkUHmPrJW90gV9lHewcraare/Z9yaKDGkBnijA+wvw\
-mwtQNTML3oJpDS8zYS/Y05oe2t7B7MWVaT8SL3Y/qWkvPsW3FYjZ4eYImHGfudxJjzDwXAd0jXDl2U6aMfA9nTRl4JlOahkg2lDPB8/s5/5+sDwnA+U5icu8YLTf3jVeOOLDNnak2MYO\
-F9tYVmxjabGN2WIbq+/ZxmxpVYMpQE+WE+4tY22U98319ojrv3UjkroxytyoHXXjGLtlMOBo7KBbIcNuzYw5ytxSMgPa0aFpXPPdwpBlCwcmmZ4qFoaZOMlxY3fIJRBndkjprZaWY4Ps\
-S/rSPb0xLtvDs3SaPLwHpUuo52IzcQC0YqcfLniAwX2DAcTFRB4tJjIrJjItJtIWE3lk34mMKujPga8K/H9HKegS1oI9fCbHfXUES0RgGOzFz0d0TmVnIUt+WUS+14vODZ1l04n3/8Qe\
-3IFnZPrXVam4JxJf3ITA3hfHVUT0pqONC0wBAy8L1Sp5mrCPUn6awLrIqEcRIx5FhB0ICsH7/V50Be5EQvZJMe2/RH12TrOvTtxDtNXbz6B4+2GvP9P+MJFwhMcZVN+eCTvE5F0bXCQ8\
-zQ6xqwPbtd3Z6LthmZOoowc2rxqAD83A3dqKf0dx9FCzHTv0qKhDEPQKOCEegEbvgO3gp8OFJoXXCAnqFvA2v83qAMSVfooB4km5PYloWD3Ml2ii/ZgOxGyUSKNGHPGvuGtWsb/Hdlpo\
-NvAnVG/E3oKEcVU4ctFC8iAmAvPzwtnAWQdH6iE74HjhJeWGXVPSeljwnct0jjiOW2q44WGR0+/7POAnaefF7zcJhnATEXPpYVZWmPZPpw7NNox2aNPQOMACBL502QpQHKGIJSDDker4\
-NNxzhSPBVqeesWIK5Yrgqil3aNWUe3TdlLu0Zsp9Ws9T6waqeC61RqmlPHWdUot5atVAW9SlrhpoqmpixUA+HLBulBFn4G6sNkwn1BHq2oGH2ftM8ihhsOJTl1BrSDzc8kJ0S+9h0Z/B\
-guyIRgiDPL7ttItHisgAuizU6RT0pSvUg008TrEThiUf9OLPI795sXsJHAVfqvnswUYI5LT+Wv0d199EfyNHSLuxkO0scG6IYrFBC4u4YzW5BwMID0FttBQLbtZID7OBN85+8k89dX/T\
-UbGt+rMSITpjfhveRjTwUENjmREYqbdlGEQPzH6BVnh3tvUycYal6kiiF4zRgW+eQXhUhVNL+C6EAyR4baF/Y+qAZuJmSnlVA6qBbknqGQ+1O6ylhwIHuTL4NY2lItEx3/PYttORdgdf\
-De95TSW12/u+4q9iKdBwZ5L+DlG2Mfn6QOnrfbPcqBS4wWneuAQjowZ1Zp/BG7VlzIZpsx1JSS7rTbLdqrQWZavfujTNhsk29NrnbEOiBD2EJI0ij2jsPhP/Pfg4drgg19/jlHUiZrP1\
-3qU54L+5wp7sQWuH+Np6wA7PRm+EU0f4IPf6UbgGk7Ya29PDt8aQHXg9e0vKPb4b4QvE/4RgMN+USBkN5u1QBrSXYUqti0Hu23gxOE7iYMEyTICxOZPzLaNncmZl5JRjVhx7PVi4tE6K\
-exQc+pJThUtrBnOu9nDhSPoliNp0KmecxgvX9XAtGi+FzoeIE6AY5waZCYTzbVdn9kLXuK9uzNJIPAwQJ1HVZJju03Q4vceXQlU8M152KyxbFkteYLNeJ7bxD9jZTcjwr/aLVXzJK5KV\
-mkpW/tAvs5yhxtASudRDX52zk6iDQXGJL9FV5s/ymuQBwlJ1YvEAjfKy+HZIm1VOuSIYc+XDYUTzdiIgyIw78GQBnt6nsbngKH5H7qUJGFFT73YSyomYGnWFodNZ630rsZ6zuhBqJa8x\
-NUWImiIE3CaycC2fa/Zwy/pQcE+c/MdCvnZpLquf53gBtKJCKZlGD49qrNXIqr0sXUYZszbZcioWNcdsBUm1hqRSA8qlRS8VBezFab8q3ENTPJRuouDcrwgPhCjsgRPCaEh+bjvk6v3j\
-RqSrwfxAo6QNWMg8a4UIdFyT0YzzeElT9A++c2z0ZcXb+Ww53k4p2s4f+V8z4XYkxA4Y20+7ySv0dscKnlOCx7iAMoqPGOUbBJBpfOkBZP6m5UcXm+x1yReKGbCvLDkJiet/iSoitG3B\
-KLBoRML8Rei2PF2ieB31DR8ixt7srqfYfE51ThdhTMGhWu2AmCfXLoD4ITd7iAsvq9MnXjAsgv+0O7C4Eui0xXEJgNTyKBUh9IITIkONnMss3RmHqlcZqjJMqOgTKjqFqgwTqjJMVfh+\
-q93grPahAf1bmuLiTpoJ9tOF9i7Y/B3jUqsGwXW38zR4+608tWwQbXczTy8aPuRoasFkLT5chGJXIvL0qyaVJ0swOQlFoae3buaI3S+16BHdmojt/V/oZItHr0kT/v2fiG3B7wViBPGL\
-EKqsyOeK4afsC8B3F1Ot8s2hyCX983LIvGkWWEypeYO4+Sa25cDrdXkMso/ZAVaxsYntvGH20hueIsbFPPxUOnyTcqsi0GGgToNGp54aQZl7vUUzGz1MaMQO5kJ3eBRgs4zb62XZAvdf\
-Xcd12G3cVlUrctmVsVRZKJWl87Rj7Pmg/mnv5bxa3q6iW3naxMOB2ZOvTzs9w+pBlOVtkFuhaRx6C8zKX73l7BnvbYYZl79+y1nK7LvMP85BiijzgBb5Ge87sg79/fbXid68uXzlPhTw\
-kKECOlJVAD9FQSoEj4933OMyzTIcySoUyxPBsw236tbR1JBPiprD6XisG9luKq+84hXPQ6wBkU0uy2uouVXHDpzrBBrjgkU+ny6sbRErp+2c9HXYSd+XMitOXxWLuJ18xu9TWJUK4QLV\
-KFpzbYYR2FcExpM6dtiG7q5Mi8QSpYNZWcCp2HbuSMfwU3euY/jiubL6o/9aXFnduQu1T33dhdqX60JtU3g561+jhTzNGOHPLv2W9yidL6dZb9RAabLWm0MZWZ3aQW8XCOfo5+L8lcxn\
-O2OmVY1rBYlidvEipBu24UgYPCeVM4RUKPPBX3zf7973alGxYp7r0564iwl6TeC+UYenzA8R2Tuj+o30+KI+LpcrnmvDOa4+uMIuxPM2+jdoDNf2xw1X3byU62ttUiLCTYXi2Lz0JUsP\
-iMeY5zjFV7hquHT896GpXyzH+XM4ykdX1WTMDWhoTTs/nhpFDz2gQf9vPFqwl6kfBDznwgoVgcYMu5PsmUVxXRFd5mtz7zn5Xh1aJJefS2WBWu9NPQy8udx7fven//6t//4Pf/Rtl+hR\
-8qOBrlS14U/l/Gg98ZUf9gZflbfvO+d64WJmtA0yOmzh0zPPEoqa3hfU//ARCULu5THSqfdMw8QLeaUFomtga64xfKOsnmX6c+pVgITqk1CFb9LvcP5MNXafuPh8E+T/QJSGepius7oi\
-x7y+g/bgJCYRFN+Uss+0ZE7G+On9Pg54lJ9E7GAmy3N7ChvXkU7SImofz0/8br+8FzCdUjKfW1uVSPI49cwlXykBhjF76qDUFAjFvuHpNf19WadwEM/8mldKyEu//NLvexmUXwbVl8AZ\
-Gybtbo6nsPfqSSDnShsoW8q4+xjrYgd5k/LmFHn8x5jl8vOW5a16eJJVQ234GtnmPhaUb5RMHqhry3POtT3Zqut8K5Fsu6N7nkWUtffsQDL0uv/ULXthfhM07EMOi9r75M/I/9C6Fzom\
-rp5Pun2U+PGLOLlLRG0uBDThpOyU4mH7tNw3GNb7lawvFFlt2Uf3dBq6TbWmmyq7kp3l2zK5fXGttzdqvSet93va+E/6jgwFhctwvbGnT05exMLs60Cf53DpgMtXan2f93Bu/fSceA13\
-RoeyM7EDcdEjrsf/seY3yt7S8ygX1k0oWJ2mTGrUdn51ZcU0L2JL020F+Yx4VjdQnAbZfLU44h1314yeC6UhAxD06pczVVubhchaVLc4romfpBi9ebUvZeV9ehXCVzPRPSNRa9mFM7S7\
-qS20fTZoKTKzTB9mtWKWGpS+oE4S8lATF7RPop6MS+Y3lR85lbnqLHEcCpwhL3IgillVJHPTFOo0NdymJhlfKDJ6ZYTkIIoyT/VinhozJb4wRVt67AF5HgwC6F1WL7jkwHUM6tSlDnCF\
-HgeYTf7EBwJVSpQJcFc9Acds8MuXgTJVdb0Gx/PSkr2gjsH/lIMi7Mci+rErgVe7DzanwVasmHNWDgC7Vb+MGwniID8vVjJuGPbhqRDApVFMhMPQhGNlnNR1Sugd5f7xoy4Vess45/7t\
-hvSuIxZi/TbinNe/VuOc/4keVhZ9E5aYJ2WWusye9fxX8S50aY73DMJf2sV71y/NsXTx4hytajDJNYmsof6fgteo+3x4E6dvVJMCtzJ5KrwiOdwDYa5M8WU1b7WcypcxWw7wziXtYkWO\
-FPGG8jAbwrd7bKtpEAEjmEdfYHv5534RyPcJsYyhgUgDdqB6kYaWSzUcQGBvj0yRYnFUqV1UEX+Zt4djEvhq4PCJwK/nARLEv4BaTfhuFHSwdy7yAUXO9txq4q6uw3sOkB9OLxsKZK1X\
-yD1aQ3y7P+LgSIzxGdZLOYanRDzD8F1qNQ/4JXKxx/A3qQU94JfKBR9rfH3bKf8ka13mHdbADs6vjxOZ1XEI5Pa7dtoWnE9GEtKvoWo3xbhx75iZbaqbIBd2tonuM5FE3N6GM/f3WLlR\
-XAZ4kYPZigpKoKe8cfcsmvGmHJzMeHc5eHzGe4mD7Yz3TQ6envFeKvC0f/KU9204Sq577mxIpx2Tx8OFBDHeEPLCcsl8MzTsqsKFS0T/a8z+EPQoX9HUsbW9hoUginIwqwn4ehzZ2dNF\
-FsgHgQ2AnLoHOtzmjZ9LMbdRyitQV7UU6oTPbAIrRkU5h/PssD9wMXSBPGo5S2B6KbAUjTc8zzzDQUfWWJjssAcXYl8XafoaF3kq/csSWJQeI1pKD6EwW5Q/6q344tkSSDwkVB3g8KPZ\
-CL/fDYr3o3bo0TdM2hE7aocJYK+qFoW1qLgo+ZyfOw/FUnoVOy4F2rRYWpSkbVHLSSORHkmMoBu8svpx1kKc1KKBuhD1yaNi9NN0q0thXoEK8wpkWFeOPp8SSRHDd6kBUNOtQIW/SQ2A\
-mroCxR2pLrGmiJ2asmHDXddj3GM+Hca9i89ylKauy8Khl8AJdHGloeg49IpseJIGz7fNeTs8yV1jG5Oc0NEnLYezyD6C7MMcag8fwbPBSP4dL+j826YduQb9s646vB7gO5vMLx0PpUVK\
-226/VdwCxOps8j2N9J4KYPrJHlvNvIumyzW09q3Bp4w3qCHGMm5RDlSEWxDa8WyMAeaiOGCWFD0wl3X7i6UPS8V2q8PZ7RtOriOTjyrD2a0Op8/D6dsBHk7Ef2phOFuyhD0hkTQvIkpk\
-2qgw00aFmTY2EbGQaGMzFztOOZhpo8JMGxVm2qgw08amRMgDbfRLW1SWzBFXGs3jbDKfNfhRk0OjWzpdIpx88Cwj5YCsUo1p3nBXgMBVDG7dNvkaMMJvaWJ8NYPqGxuMCZ7ip/R0U55u\
-lp82ieYALWMaSWJGBxgdu3w5GNEjNFgCsdmEDm1q5Ig1WMyibutN/gWCXwISFNeETTG1F4064VRCqCZ6vM+yXmAIQwQohM1eeiJ1AmfCLkzgLYgJKMk4WxXtISovVSF8P/EoE5UysZly\
-Xn3ujKg0lbA4ojJUJSuP3gZRGSrIyqMvAlEZ2ktWHr1torKXopRoCgS2TQlU5SpS6uJXK2pVKvL30JbmrWjLUJW6PHobtGWooC6PfuVoS8R0Mhv82iAwB26DwABJ470EJlHcjR2BaSmB\
-KQ2j4Fv/AAllEawrP92Up/sSmIQd+2cxo+aAEhjHVDCBOUDrnVBBHFQ0+9oAFFECMwACM/ClERi24Wcyk8HI97O+HcQttWGHDYZ4dIwNOLpYDtZh8hdQidFz0beJOyrH87HA8y989iwl\
-pylK70AkKIwuapp3jwyr0v6VH/+t8UM6yfKdQiRTBQ60j5fCPY0cNPMn9UcR2ETLdg+JawIX2KDBrBMgbYHYZzELidGEnAniysZFrF647CC+0PAw0OKHw1JfH/JFPbWkaQM8DuRx9pVr\
-WvzOut8Wo8NSCFHTS4qx/EslJDyYIT+wnlwXYTDDeXnkM5NaE/VxnEFUR+9WRgU00BBPwB4A6nsc/IVQBewuZLRMamiddWzs+N28L12LIMPlJ8mj2eDkS0XvvU2E17NteX9e3h8Avao8\
-GQLNukKoB9HaAIKBv+LaPJGXNpGl+RQ+Rro2ecU1hDnt2EH67QhHJ6e/NCoL4FiRAU4/VGpzxcbc7var0KZYgrC/mv2It8VB3ZK5KDExn+X+Y1/r8MLvzGVtbLYxi22YIOZLry3Ln/e8\
-uX3eM/GGM/8OSEHW0ZZFcpHVmbtBuU5EX58XPMpiXgdMq3DXsoiDEGtTx0z9YyqazmP4bReVd6Rx7Spt6ghtaldpU0doU7tKm0CAiDoVRMlwJXLeyXmdzl5eh6uGvkE/KWJNE/ZkRP0W\
-UuTzmZgditRBinxRlM0xnXD6P/suUmf8vYkfXxoVKhO9ii8jEZPT6101wiYj6JJuacFkNlAcEkOVJvAKfcU12inp9G0pT8LN5svSGj5yKAyernJ8y8JJHCDpma3kGqjmqk3q5qdPcINt\
-g2uE8QlhcG3ShpPZUCVDoEt2WJfqiCzdbPQK85UH6Is+xBrlQ/oY3g/SPh4QBaGW78kEpBtHpiHKts97mu1sAu/BGtX633u9eg93p+uBG9qlsBjabi/s4bL8uu/eLgT5OGVJr9GrW52B\
-Wi9Epyujsnfcgsn+EUfD+megb+hqPAIDNEo0OVTdgb6RH2UEPog+Duw/Btv0flLG6AC0ifcdyNUAjqd5Ex7ar5DdAD7Neba6e2aLQ3BhsEZdv0bdqL0iYwQcFQQssIqwdbQ6Fhk1rEHs\
-2QC9IER9xTWg1GEwfOVM+Gyg/7OIPhukF135cC47UsnRpFeVqclaj2bxtbleRLM/6pYTsCkszQKlA5nWAxUqTr20Q5UndSLjmaXHB6BG8WjWpmS65xu795uMHqfyTYeSR/d8k+35BrT8\
-CNhp6qY9Kt/W5DFRnVFavCtY83N9JOsKRtseto29S4CpJQ0qnO7vfbspbwcRfmfv2xWf3x61GRYXotuYZ/dk2pZMqbW2c8NM7K9jlLGvfcNMu5yJ2kQQTUzxrhelicYUIhQdne+9N3Qj\
-smcgxvZ0fnxPhyf2dPLgnh5N7mn+1J62Hqpc60tz1kLZF3ohYlz7bOLJm8Oobg4jwqcaHLhpZ+jC5dco7wfh/9f2A6v7QXqb+0FyO/vBgVvsB4M32g8K9Hm7f0P0Sfagz4E96DO4z7Sv\
-+AU7YPtmPEWwnxDhujHto8IQ/Jchf+BicInZIfDCF+DplgW4F56C9b5yz89YIMWBc8w/PbNAKMLKq6a3YF9tD8yaNzylkZJpuOsqXWmoqSuGPLKeY8JCZsLOi7bFs7khm+KdcXdSIZ7D\
-WBLCS+YcQ7Bn/Txjp8qWCT+m3Fnp6aY8rbBlIR8Z2UUsjox87sYhj4+MfCuQtVnAZemnLSKddvlzMGehNIT46iaYtGaJSQvFEk8kcbIYPb2R90uGUvnFuabZik+OzG0ICSzb6+LEQENB\
-XHzkTgDj7gQQ6dklvzHHCaAPKUO++IDwtS1HAhpUUQwMbUePRuiA0bsKwhji7SN3JDtf1NXZe9qQJ9cvlTlhd/Do8H3IPO5cONRJi5vANbuTNrWA8ImOwm3uoP8qLjCtOUorczGA4F2s\
-1NjFPURrPgvl3lAOt63HWHOfMKrTE3OfVn4PEQKpDO7O8CrAvZIPPUcEbKnw+uG+vH64L68f7svr+4xUOOU2gVRNRqoOIxVYp6YsgTmnDgkImoh+RQIrwST9HMU6mJlOv0pkjJuoXCWS\
-TT0ktLOzgW6IuaqsygFZibnsM1GRTU21YkTJYF7ve9pyp+/wFEPaZkOJ8pLt1yRt65KlSZzLgPj4LS3ZaN8lG+27ZKN9l2ybR7e935INFU2iOdaghcEgNaVdlpjmS5UbgiAL/Uu2LXrg\
-WLLtfMl2SgPRVteXKjZ2Q0PrNOIjpJxFQxv2LdIhK90vngw/mh2AQ2tajv1r1R372rS/DOcr1VDmA5SImFiwzz7Ul7VcZRktjXgenjfnhZ3N+N6H0o91fDoBBLIGmrIAdWl0MXnd0tJo\
-yZKQJRLtobfRvvQ22pfeRvsvjW55aYjKOuhFUykuIz4tDUBtWRrtvUvDTaUSLZ7CAFMYYWdp4VxMM6+bo2K3oHaMq0w+7LfnbY0fDZauMmuOhHQrV5k1jBOE5F3rya0OjxVfFRCjHH+F\
-x8pdZ7b4t2UbNFE0Zt0SOQnlUMdV3wHO76Elg3qt2QZHUVybOGFu2hWtvZIuCu0K8Dorngw8h3546zYFzR/mTwTb21Q3z9henDeC6/OpwYqgY0qb42ZofTQ3rEQtNcELGLMonBiUldCF\
-IKM+b/fMpdElDHvkXvAqN5ctxXneWxXn6y8azrdo3EO9uQLO83bQlb00x3mia3eM88UUNvk6aLDYDgZ0Owh1O2Dnrh+EymHodEgLl8+nddLDV6rL3FNeU4MqqHaC55631RXChL4f1/fO\
-VYIV05pBwhK2RZdy51k/kBBaA2yEyX/x1cduRBt7SDNuWUetQWgjH4qh4QFxLq1SIOPuadvJn4Gl4BalWPDUEqvpu/T3fjw/cMY7qelvQjoUf9ZwUjbNv1SfjS4ydxXMXXzTP7uSDc2a\
-J7JheCJp9e4HJW710jl2tFy3Qy+Xu3RuBd/ltpwpbJiJg+ppbvFJO8yX0s3kr31xfi0qKvzSZsO29noNe+zYwJqkB6hJAZFw2539AiHJP7sya974OirmsxxYl/EffpoksyHER5iDeTpv\
-JciflPPDZz5noQ1BVqJ1kq1XcE1QbOTqKP9fUfltNaSX3yAf1zq78ThN65itOgh+KU0wd5MniINGxPsgDIafESQWBIE9/V34HT7FvjaopmnPIRvgQBDMduT5hIPp+RS2fbHT/acmuJWz\
-XNyr5oqF6hXXucTl4+vNneD+r7eugcu4aSUnb1HJnxqn0S0KwLOisplrHfq9S6LUC/24AK6Q51jpOXGmFeZyBo3d2qsn+TesqBxSpU7ftpGbYBRatapSG16mFoaXWfF5P6VnX7Rpa5Ln\
-hWA/hWc/rqiNiuIzlKRyddB6fMSJXx5gAVCI39xSf9aL/03XT8Sb0wZhf3QXn50MbGIjFbREKniJ1NY1UhvYiOu1mj6rv+fxvA45PnYpOqjCufT5yTlY10Yg1B8L5iC2KeCT+uW2UWDH\
-AbsOWPAVWHTAkgOWHbDigKv8lYF5b03qr1H9tKv7kvKRalHtJyHdiHrbZg77hzeXyFxFtLy2jbpzWfB5E9/05zi5Y7IOA7smCfLcm77mvh4Qww9gNSAKAGAloG0TwHKAswcscoM0YWAx\
-oLXMdQSpkUJ9WtVcjZ8OMbDtp8MMbPnpSO9SOsqJq0E2BnsfXgS4mCX8HIW6+v3puARMgL32OCM0rYRxOKuZnX4ZnMY8kI7HGPvxM96HAgJmf9c7432QoY3nzEPe+wN29fRS7zcF6EWL\
-L/V+i2H/pd5vCMAPP8qwean3EQH44a8zPPxS78MC8MP1gF2J0J/3B3O9dvKA83c3ol61JY50OiFuQO7TtovFRnqQVudkrqIfivOfKRexzvc946uCPsqYFD25uhQz6cbiEFozecpbxRzA\
-fcjPMTB1xvtpX4fjZwSYjb77jPezDB+cvWQPqSetyTPeVd9146rP3WAPJzS+w6A0w32U5gD3DRgprX5QrK7YyOR+6sHw+Un6MLn8HAKdUXp8duELwVPXnqMWUI3XniM8rtQXcX111Fdi\
-ROLczDnR+qS4U371a1n2/h4FXeekfExnIpRRPCztxBBOFTNxaFZmA/5qJm/uv4hagU76V+44eumkPZwetIcIkdmPEoN2iua1GdObSQIPt9nnXvTdhDBTmoHeIFTgFD+tfNaI8YMPOHop\
-2j/BxdekNi1BopcKyHwUvj7IWfBnghfNxOz4G+0kY0Tyxtdfy6BQ//nGs3ZcrKmjy9Z/7jlRs9/tPmsPXqMZf+4GM8krE8wx8dOq+Kvky9GxVQdcd8CaA9YdsIHNcYjXUtl3pPPP2c19\
-R3KPWAY6pmbJTIA3ffb64Yl39Q1fEIjdrq/niXGtmROJtocTkbZSdjW0HT6MXE9WjS4tpshCuXx2kqapVXGSpqnr4iRNU2s+W+Nrat1nk3xNbfjsHyHCNbmNk1NslT3OEf3YOabrnvpo\
-e9IldtmBmibgoW0hLxIe2hbz1JLPduKaWvbZfFxTKz47hIvg0J8qn5HKY5nhcShXEHvXhH5J8k/Scd4haAidezDxRjAuH+nLs+6lBLuIaCfG3j0e/2KD+BTWqVhqlPfmCzrAUd8e7XZS\
-q3tz/579iO7NZ/fszecFHX6wMafe8RSedkgZuDl1wHUHrDlg3QEbDth0wFagW/JrK1uyV9mSacPsTfMNHZy6YxgqW/LVQEdpDfodutsat9u2XJV1V6UDth2wU2dvdjRxgfgyFR/LEdx8\
-4tYy+VbBmDq4Auy9dd76d2qy9XPJtBHXE2xnuzX2H65t26nJnTMdbhYarDNCzEtdqrLAlV2qIkqQ+X5vW5p9n/kb4RbuM38lTMK93l8G7HbxXu8vhEm41/ucMAlURcAnM8YAWa0roUvQ\
-al3OE7Ral/IErdbFPEGrdSFPgL0KeoZdcbMLTnVtxk7ruJqBh8zPM9Z3HzI/x0CHdkYGEtouGRikDZSBA26VG10dK+yd84qMAbvU2TXujpHeEUO6aMSbAm4SjUTbLdbtagD+zVGGoLSI\
-14LSIl4Pyot4Iygv4s2gvIi3AlnEHL3U12XbwdV2R+L4sOEY1mxHl2WSu/TjZdmRL/TlafdyWtfsUkO8Ovz+EK3ZgE/6tfKaXTalRegYZXFGE6kTGlm0bnE/7Vheo6t2wfQt55MlVtwt\
-+zKrnuxZ5jocvffW5pQKKPz4l8Ro57uQa9mmA7bMrZn6FVNh2N2GoVGNIxfnOHKRjxnwV7D6NsRv/Lo49YnY3ef6nl2Stya8uu7fguxse0J3qNzk+24eKxlrcUP4fWXnqaJavo1Q6mqe\
-WqDUSp7axTaSp3awxeSpbWw/eWoLW1Oe2qTUbihUEb1eM6Ve/xhTVvgQ3Q4dk7GLmxVckyX/0lTaHXGz7/WaqR5iQiWgSzUlqcs1pqTw0vYXIQMPmZ2Q9XuzFvE14as78Au4E4KsNXH3\
-10p+wAiBCuELCK2+z/tcmA2AFeuyMygX7bvnp01EkI56azhOwVWvaCawJT/3L/lBKWzN7wTaf/8DfhbLvNPpFz3uBbhNZyFltbP8KSJURuq4qr+TLdfJ9j6dbEO41ZZOmryTLVz1t6mT\
-jtSH6leXHv4rc44rA93fCcv9kM9nW8mSAeNaGRM3Ig93bncoajccCtYhzJq9Z1d+5Kd+4BBfczIa1lx06Vs0jmUx7AzTfdcx+ajFGrNj/4sA20d9HDU6PRulnXa7KLAlI3BnZdSpDEIV\
-4BdG2Uj784uLWMnwYq0ILfIV5FQ85YX5lQO2HLDtgB0H7DpgwX2+6AC3clND/aH9tlkMDF/xRL3VW2HAqi9YBgx4l3+z2cznUKdOPSPJ2C2+lcaubZvJD/HGmw2cK6gYXBLvFry3UXot\
-u69RMi4bs1HqLvy8KfPlK+yZbLbJ+2rBcp8uM+Mnc5Jn9BKJKZ5RrpUJnhEMkT3dFGjzNTi3Ax2mIOaM93HdQFL25N0/E+VTR1I+dIyXzxy2fOSYLp84TpZPUKfdEH9tDkose5P3TE2Z\
-Rt7LMEa7ob56Lt/dkvLGN17eE215u5wu76Qny5vsadl/sRGkvJ40KLGweDfg7c479u3sPrzd0+7l48rbrdWEt/v4/+yPiqfElREnxbHisLvFvNvTfZE8T/ZF12Tjh5pE5ixH30RUTrhW\
-QlTOKse2wEWX+BUwjAjr2Xv7yJyECnXwI1rYdV+BNQesO2DDAZsO2HLAtgN2HLDkgGUHrDjgqgNW85KNK9kBWw7YdsCOA3YdsOA+X8yb6l6tOeC6A1YdcNUBKw5YdsASrHl2YfqAYMrJ\
-D/fxciw62fU7Tvy2GrpKHLDmgHUHbDhg0QFLDlh2wIoDrjpgK3C9d8COA3YdsADlic2wHOCn1VuOOb1S0/Rio8zqtnAcreTfaHBnabeYzXu40WCR33UOtYkcbLHv4unwC1Z3LphJqVe/\
-cVqMaObq1tozz15+8zItua0uHmBv2Oz2vdruqqjv+xIAtNIXE9dJBgxH1tGPaKHsuA/e7PItO2DFAVfdl6tJCcuXEhkU4tO5r4sN4hRbva3uHMepZaHYeoPy5ak1Si3mqeuUWshTq5Ta\
-bbnUVUrt5KkVSm3nqWVKbeWppUaGcUCs3I0uhMOt3m93RWS51oFVWat3tQ2bPR5YDDa7WNuhPDDMGsTOj9b/Nrf+zpbbfWazkVoGfqeRplzOJxtpxsAnGunRWT+9q12PHdIHZ9VXEt5/\
-f6KBVRdFaLoQZ958dqC367GYGANayHzpVDTEwW4OpMOBCI0XB+CUa069jSH/X3YzO3taxLNcYvJKiUjsJt/aWfPEGcqHTiOq53fBLTmNyIiVNux2qQ24Sjd6yT8312MVX+p0yLGohMyu\
-J/pkjZ+McCwqweawFyZTMpT5F8neL6AsMTfX/9059kYr4gWMwgi7gzLiLyqwI2W/Vqbi1wov/fJLv+9lUH4ZVF+yXM5L2uILF0JMGmvoAlfqZ99Vj3UM9ITzpuTNkPfQuqDD1Wjemrwl\
-D4MBGbU0uX5shy0Ncw2uTjAQGUtGZu3L2FOVNvz8E1nGzGEK96OGL/LpKEUz/OZLTwzUPN/3PXZmhcdBdnTW4iyU4hh0FB+nznOpzzlCFO/b1GazrW/Xome/9eUdXyZ+tWMzcQA8dqFj\
-Cvxa4NMMVEns7K73cHqXrM5ONmrHEEQ5G0br7zNedlT87qXjtwyhgJIkcghfFjgis+YARglaqzazdwlyJN9RxCPe6dixRTWzBzKyq83FgXYsUvmlAf5ZGHi4k4gT8myCRSap0I7YjveC\
-yxDaqFTFygzeD/lWEeGeRVvHYL54N49UA6sqZcmxCmaOs4wmxcBAXITz5DQx+cdmTZpWunv3QNTwjB8FYa2BQAcp4drBnn8ZbnjoY/+Ns59vPHVNtISOnfI9mj7zRGrbezNPU2bJuOfL\
-Jyqf1m9RT6Ws11U+rUFlIrXHOZ2XsF+VD09S9lCyc+bjt84e3HbpjyA7ixM/4DlylA4EXmhCJVWswhUgbGDP2GPXssnLEPb/9Re/6D3LbxAmqjf6GLukSlWTFp6a1McSK610rbVjyXcy\
-9RwXD8zmCiPQFI0Krd4JnO495wpxDwuDkHLZhLWydCZ70+ywbxw2PicIgYydsOrCifCLXTYCrzT7IcqeHZ5TP4iZ9yZWVuiKe0zTu/Q/MrrZxSvpMXuUp4Yxk6VnhJuIpyOekthj5rFz\
-nToLvD7/xe6z5xnmV0pOuTSvVFoopo3JYnaEF+6VAb/ue3FeBJhf+m8HbfKefc4eYWsRyvgcnBrChklDAqDENuxhy/lxd4OM+VhN2kOP5Wu+utRpgdM4TSZP8sC/O6EGtmi8ridXBsJB\
-E9QG91ane/YvJVlp6NPDsZsSj4p7eYbeXUmPE4rcXUhD7WFMUVsjv4eeb+Dc6ziP6rn0bhStiVwcLrMwy2okT/13r0/vhiWmtXcnTyk1tKCCgswcdEdbAY+Jh9lNZBkDYKU5fTGfdi7b\
-HrPppKxDj+XGBoGiHjKlOArGU69hTz5LeB1dfq5naICxzttJXLSD2nWM1hfSWzFlNLS+qLTk9UBhpk91+qIbF3R8mDOkFrvTMFpb9IMbZIRtoMagCHHeJw3iyjuuKNhVoAR5/wy1FPp2\
-XK1Jj8WzNcrcQkAVUM8SibTHBu4Jb/Af0c1KOggZbdPyCFsm0NPffu2GIz3Fs5gde5i1/Pu6R+N9VLqHLWRCWn6SWo6gpHlkVziKbb6IVbduXnX0IlbdvHnVjRex6ujmVXN0tXwTO17s\
-Ury7HSekQmGWSlJirCuRMRDXz1xkz7id37vyICEx7f5oKHaL937hiydls4BNuDAdY8kb8FXb6VbeJoMi3Md6koru4weT9G4GPpDwAWGaaB7TNSZwqVKv9DgD1xOJqBCB8tDQ+i/rdNuD\
-uDK8m/5NYzsPaOFiARkeMV58noxDkc0vkQE9FaRw0RqmKWUkusD5jqmtVIXI9M0RytVirW7BV+zdp4ogilb3xFgp8jQ2Ofq9m4qlT6Tu2Trm32q0iFg0X3WYk9e68xudDXY7LhHRqU+j\
-gaWzIbbjLk3IG7mvIXf/y51ps2em8xPo4oDykvIAvCSNzyn60Q6JplN2fCA2XlgLavwfFchd5EBvsyt/eO0/EM58ott7t6HNt+Ze4maL5o04zj96/uxDXiipae8Pnz+Lofxlwzu1ZjYu\
-73Yl72dKeX2Xl7fU1hnvd7tE94/NHvmuzL7B2tfRvpgO995rgAeUU51+/2rIykXSfeKMR3vziH3Jy5g9fw87z9+28KqdVj1/j2Kh0y6T3sjzNw6NvE84z9/05Jn5OWUG7HDuAXxYPIDD\
-Neglmku0pOQBHI8v6uN+D+A+To8X+YPM2lJb7Y09gA+rB3CUOy/l2sIDuM/NlqdVD+DYoGYv/bd6kOaW8rUL2nBl9t4znhziN7vs69kVnhnM2b3enz9/9owHRVKezz99XnvAMwNq8l53\
-hyNzWD4lOb063gRjO00s+9dn90WY3ek7mV0cHGmEZhHiVU53fEa3EjiEZ4ODhZT6d3e119q6u/vCfuxtKLosn9Joz+uTJ/vc0+9BuL+uINxfCsL58c3a2nJt/J1u71eUuLT2aeEnu0J7\
-mPkute8TXZeutI6y/5Iphk2a99lK8/6zWw8vUvMyW2rg3dbuF29l/3b+RaWdO8/LaMtV2mY3vuHdBu0NpfCQXnlGZ/9k/Rd+to641a0y/s9+9ncQNQ5s2B4CXlrd1YX9ef9LWNlf8O9w\
-af//hGDrPLxnDWENwZN+fR7+UeZBl8ln//Tjz/qn+ORRfvy3v/ZT72yc4lPB1yfoH2eC/nmx0dznff8LzJsa4U0vvwDeFPwuMv6L8o609AKR0jzjmyVjuE+Jz1dK/CHJGHx9tr8WZvtH\
-K3PzVpkb/+tz849LKj/z288LqTT7cILvfKHMwrzjhYJhlJFgHrbEydijcrPsps9VBKPeozKp3yEvv/11kC658ThanbR83CAV2H+k2nxmBpvnC5NnrJca3EpLBINLUqndM1HsReiGE3VU\
-mb70xhNkZ/+48fJiglBeumeC+Gn/BNHHWREL0Gf3qTyV2ezqmvf62S++z3sqb5Bxsz/WNzRmLj895J0ancsIJ1d2zOzKtrF3TT7Es21HGQNGnFh2TIUg/tner9FwzWcj7LaOWF4kxjnE\
-FA6UkZO5DjuZa+RkrqYkbY1YSutXvmjv/cKOz+39SG5hRsqRh4ZFAupXIw8NVyS0fjXyEON25WVQ/jKovqSBGLYjLKEldBjtrXFgIU9M71g+Lu1Q4GUiWYVGplcKxzDyqo4pFA4Svu5Z\
-TeyYHaF8CI4IZ5LBXBbME3mCHN7n8L0xG78a/o1Saknv2yH1pPS0l5wSq96RGbH65QDPdJxf8B8yrHlhR3UK5/nk4GqHtN+pOHCdnlOG8EQPAgopLSiU7HhQqJ01qlbg8axBqdZqN1JB\
-ks1WKvdfO61U6MVuK81VGkac6owDFhywO4xQWfPpsKgZjFZltXoLEdCpBgeg3u7wnFL1UTucvFM0PxZGzql8dWmEW3OvtziSHhUdn2EWNjkVHneHut+taq4YIZI4atUrVUWCVVJOBFeh\
-0KCCDAvJH9gDESCV26TlXE8yey7Pn4okDC/WpAK+b0axG0kqChfrSTkbFDRYxOG7W8flJPO0ISpX1MMoWx6+aU41ZTApGTYn75XX5ln8keqVMhV3VALU55OHoE5w2jaZHoWqGYARolPe\
-y9K0uA9MEbJnEOg82HtGRfJ+24s5IlTmmrfdOq/jtclBWEV3pq3YsNROx+Ses52KPf5unEqenVhRZytWY/bNmFHnRLAep0Ny+R8rnq3G6bjes6Y6LTEhj+hDwTX0snE6S9SkTir4v9mB\
-Sg4Gu8N285AmsEOB4dwwDkQFiXFNsI35UDma7IFyNNlYEyzNHZP+9nbqc8m/Nc74rq1ZRpHoaIIHJXEjtcRV24xjiOoo6oCtJDpOS4n2mHoTuN4krjfDrjcdN96jbrzbbrwH3XgfdOM9\
-5sZ7wo137MZ7wI33ATfek268p9x4D6m+Wmm8nfnhlPbzABKTmmB/qQOaGENiomyleLA8UG0dy82ajuVwefiC8nz55fnycgXwMlPhCEhgPC7V5urPI6r+zEFsbdu9vYq3UfHW47d+QTlD\
-1b6SMQ1UKUsGNlBdLZmuQFW4ZKxhhOTPNlkjS6p6J6qqwfhexQC0MX/csNznjAc9yt4GFKxwEnV6aZXKV8Jy5cthufKlsFz5YsiVR+ldWLA5+QqLXgWqJQqVvevFd4HqjEqZgSqOSn2B\
-ao9KWwJVIZV2BqpHKigUiDIpvIWKVOIfgTKwHt7XNnXYnzboIG5Upn69MvVrlam/Xpn6VZn6enpX7OadiTb9ORqX1WchyXwbA+lD5scYyM54P8rA0TPev3GI+a/5yV1nPNa1Bb4smRxD\
-fFXKlXnwVVdXOuarCq9Mja+avdJIsfhlh/OpJ8tDHc/Nqfp2KJrP4fnJOfhDtQ1JN5CGk5d/klqlrifdAFoeP97E8pcX3MtHdFJWRqDSbeOfPu2PXozZ/cVQWaX7K6/JrWrbHxsq1LYZ\
-fqRf4TlXgf4SdaodsFhWiq6qSa/sUaVeLatbs8MjjNKC73jBqia18F+FHvVO07XCAQst1woHLDlgGVzmal3UjwNVP94WnW02R0+uCIO37SOGXMlUr60fSn5Wal4LclVlFJ2jtgOuOmDV\
-AdcdsJazh65lmw7YcsC2A3YcsOuAFQdcdcCqA647YM0B6/kouEpVI1lwADx4b7UpCsSbkSgQrwyKAvEiPcdhaCmZA5nqrXTneu05EEYMBq+dod7Cj/zZ/wW7Yi4QFyLBrRQijSicuqHb\
-dQ1baLsWOmDJAcsOWGmXe8EdzAfTAZsO2HLAtgN24p6xZp4IeJuaHDjunxcVaM0q/D2PgpHNfASpMwiy3RbE660OzuXRtfkcmFp15ykKdvS+ErSaCG3A6LQ6yEoCqknSepny0qFjz2hq\
-wPpzJQvxXM8khOBEQYVJ4NOTsl2LMagVH/uweesFiuHjFI2Idoq1denEzNHTaBO2cT8K7exBs609qLjREjU377EOTLPTSlM4p5uLLQdsO2DHAbsOWOg4pHVPVh1w3QFrDlh3wEae2X2+\
-6IAlByw7YCWvAsj87s4cBir5OXc+endHzlmyBfhrHSkVqIy/nTnoU9A+kFwTBg2H196ilvIuk1OfxQ6fpTLZcjpyOtujKnm/t9S5MhB5dYjHRmosTbvP+6FOZqE6e9T1zzV5vSPrC6Rp\
-SdwD8B7WTDkASqdiMiG2EMtdnvrUKBatR04x0+PLEXwF9SV7dJaamLysPeR4vqtd2QTrsplH8D3tXcTNjM+6zXfpZRIUSoDmmfWJ21g1ei106YlCR1gLGJ0rVFN4kJYSmE4Ocne41bgp\
-GtLR9uxg8gvQTIHfY9aCiRyMgBp6O2eeyo6dk4VF39jkUpqJsJOWQdN6rBSdsgc28A0r3WIYvAsdN3wIqasHSClXihS1zEGHgA5YHXS12aOyoMuq2HmtgkQ+36esNFVzCHqXohEtHO+J\
-9rAoSV1t8s9y82HVNF+LsjGLwWZ17XEdYp0RmYETxQxkE051e9pO7FXdnthXdTvDiadQ3fahuj1hp3PV7XtUdTu7qep2ZiecNtoEa1D3q26fgHradHtv5nsK1e3+L5+ofFq/RT2Vsl5X\
-+ZRVtzN7nNN5CftV+fAkZQ8l+wlR3b5l9uC2S39kUpTRfFbdnpBFUlbdXmo61e3s1qrbmXrj7FfdHrLTRIYqqtsTFdXt8Vx1299fdXszysbtdFl12y9UtyfsOAIH96tuT++ruu1XVLcn\
-RNl6QnWVWW17oqq2PQHdbD9X254oqW3rKznJSEm+lsT748RelW33ufVvqLLtsw61P+MVpU3E1fyisu3fQGW7jyQMwsGOU9l+16CqbK8OXhkIJ01Qm9xbnaps/8JgNr1XZZumwmeV7QlW\
-2Qb5OJG3w4cStb9HZftuVdk+gaI1wZGTWWV7oqqyfQIq29P2hKpsM4WmKqsq29SKCcJmqo1+bqKyPaEq25mqbPtXhEqpNqVfUtme2KOy7WN9tw/GRTuoXcfs3XLurvepbPuqsp1hukq0\
-klW2qVNMNyf6VWxpIZzIVbZ9akRZZTtrj7mi0jEpYY/Ktu9UtjMQ7QmmmtmXpbKdlUd4utAgvsFIlzWI/f7u+Xn32iMxwkqUNIhPaKxG0SAeehGrHr551QdexKqHbl714ItY9YGbV51A\
-0DJRUdmW3Yl3NVbZpsKmC5VtXYkVRd4TqsjLu/+NFHk7JfaJFXlPwNPFnTAywo2sDbKm9n3mVwepLyBR7xlUvex3D7I29zQRP9XdJkqXKRlL79GjjOg3H+Dd8R7R3364MxxX+E1j7yJ+\
-k1GCm5H8ssm1d5mpVbNS72OuwesO2L8voi862DvOKqA+ZOmQBh5XDVDQZ5a6zyEIZCF09/cRuh/tF7pfZJn70TuUufu5zN0Xmbu2wsnd/ZLc3b1SEarfL9J1HehJDMvblr/7Kn935e+V\
-wbs3+8vhi4r/RS5Gf/9by+or730rNB/kesz07rXefPIAXw/jOvkDuE6O6UHdccibTRr7nPveaLI838g5Fb/bTb1qo1yv7n2MvidkfrcRnuGGBXhnPK/83e/m3+VytlugD3dTMPGccL2K\
-zFrR+mCqneT7zMFMGfVBvivPSlf9dPwxb6DDYaJj8EmMgU9jkFsj8FWInHIY2TvlQyWXZs53Bixce7UH3BTgiPme4ogpDauUz66xM3fUZPbjXYMsqExkIutzvS1k9lx97Vz2SwuaDird\
-/KyLe5z8rCsiNT7xtvl+skXojksDNl2U64nznSFazXrAYQOzwkiDD2XjuZHGCVC+ala/tPnDpzKotRhqZJSZuAH6SA01+lmLvYYafLRC8cpwE6k+5TkmxE4rBxwrH3Y3OCT6PcGuY6/g\
-KHSFPtWDLBtsTFcNNpTIVgw2lpolg43FppwIMzHYGKKZeyN3N+ShuAmdn74dOm/66fx0fiO/0tQTpzPYuNpkg42rTdEQPuV/gi1LTjxkfpuB42e8jzMwfcbjmwYM4kcZyE75fOUA5NOr\
-h+QXTZmIs63Pemcu+Smji09e8q1Hl8hJb80wPWD80XURi9bIOQnJwCIQfEZ/rWg7T4rHT/gw4Ks88fmZ+XrFJ14/s1G9+hO/n1mgV4Li+TNr61Wh+P7M3BWidReq0OzgWyw4RhHPCaPO\
-oYLvlBDgF6I125ytQwJtYzFjdugu1w4bLScMEzC//yJ6RctsZD7N5Qnrsaub6VbsGiASpLL/hq247NthOy77fdiJ+YoutfYpdZFbtGeWTboh9ZcLJ5xnS4/ythXGXHJn4et1PMjvQkVu\
-slSRmyxX5CYrFbnJ1YrcpJCwXFcJCzye5A5JbUnKt6NiFq69kL7s+ipiyEWBm6YsAdwyZQngtilLAHdMWQK4y/oxw05upd5kl1s5Zuntv/Mmu5gnEpUUOG+yLD9w3mRZqkAta6pIeydS\
-aeB25LRPIhXcbUR6Nbsepe56RyWG1xs6L1cbKjpcaTgRe0MFgIsNFQnu1lUQvlNP5Xpuq+6E5XUVL67XcfEjldSdXGm1rnK9pCzZ7pZl3qNlabhflm57e6SKAdxUqk/mJ/n8Rw0sucPv\
-XSgc3/cemXO+713Bo+oIf9vbz180izeDsnhzUBPtXKIpnWoSqF3dap7P+QHNAP8tHzF6m7kuMkRFMLz6aI4jO80ypu02y5i20Cpj2mKrjGlLrTKmLbeAaRyMoOT21ypZtC+aqHBjSESF\
-/8n4fh41ILwLEYvEl12ovu1CdcobYgcrya0QIyD5VePCPcERo/gQDM53jESfZ+FHzaqmmsUdZcBXmxztPY8+5ceS/WaZYxvQzktsQR1P53s++/4oiSIRVYAa9F6DvaIOliZAxIDQRQz4\
-xRF/UCICLIVlD6aL/f5Hz5Y8l+au/4PCw+njJU+mcGD65B5/pOq6tfeD4ZxzcSbwhS/Ls2ifF1PDVPbmsQA2PQkGsMTO+Pp9R7EbviXn5X+HYwKId/6O884/oL461d3/hq9e/td99fK/\
-5pz7X3fO/Vedc/+rPtEzcfumHv5X/HRsXw9rboB2fW3ZmIjxanZ0X2f6D4JiFO7xD4pv/AfVxb54008nxcf7/axvKA7zp+BRzZ/r/T2Y2aatJR+Qs6Ovzz/Mjhitnz+npkwJ0+Fplh/9\
-YcpSJ4b9Q0atUXGRWLx/0/IaiOOHi7fuCnAgDIzvses1ZFz9YW7DuBYEz5Y19+7Ny6gk+aAUEopHRbz4YZR+sChdH6sDyQ+63qgL/zFCD1o/NXHEPiTrsmaHVdXTefBPC1c5GGAdXSn5\
-X6MlrWKkzA1GCoKiiepI/VLfSPn7t9a4AABD2trHOgGr46nrWWJQgnaYpyjhux2JBb2DaU1IR6Xd71zm0fX62/0snvuldt+gTTWEFajZRCWgTkWwvxUdacU41T+g3nDycAOHinADh4tw\
-A0c0iMAYrr3hsnrle86mEh5lmaAaQ0sEeQwtEmRcZAL6NzVbEtDsI/8eu/PYBFP2EK2VI+mExCZg0B5Op2BGd4jeHk4PQVZ8CLKdgxyt4AgHG5iCfRdHLDhY+ayBkAZT+IBjE0xyBAIU\
-X5PatASJTSAgHxTxNYclmOKgBXG/c8f1PQ4gr+9xEpm7jVxxAG/1zFJEveVAhOga0Z2jYZzx3hpo0IwXGJg44z0fOJZjcvbk69ODNMNjBDZfnk6JAgIhGyQYE7MXn5itParSv4kB3zNU\
-6lgveAz+M1Ed3zGsfMbIZY/vfAlEvefp3diclsJ68Hl+Wkd8xwI35uI7XN3qRc7RXuRc70XOGV/h9RK+wKmcieSyOE6NMnO+Ujr7/sYwyBiMQcw7JvrKfKFUtJuVADz1i2anKqUc5AYW\
-H91RGxExSJo5Sc10wQT2a2hSNFQrM+UWrnzI6xvZ/Vr5pQwjmK+iieKsc78G2v4GxkzFaB1LRBIcr+Jyk1sY1KjQrNgMGB92eYfmTI4IebDPmMvGbecxVZ4vEx8XbMfjkD/qijurqYdu\
-jkbDWF8reRFmdkP1Mb8kvqNduHzdP3xE4c31aiUexmolHsb1SjyMtUo8DLhEh/ZPfuabkErRvaIr3u9xV+pnPOmTKfrkfcoBf+KAzzng7xzwjPbJW2SM3xDWGwJWOTqMlhV/h8vnHj5U\
-yFZHFKudn35kGib6ImVM7B8MQz/Xl4+7lxec1/0QPOtEfC3z6xIpYwVOvDmk1wHbJtwsnGci6iDi+7HP/bZypm2nGNd2OnNtRHAFZ9p2qnJtpyFHr1o8X20EoF1useP8AiYms41oUoW6\
-BVG/HruQkt9IfxP9HdeAb582AvhbrrLrDlhzwLoDNhywqdVZf5YYWZYBhI9O9nH6gaQCpMLkI3D4zQ+a4gi/Lqm6MMUcYjFFmAywc22Og5UNgU9pS5S4Z/xTPu0pmnrOP4V4UZySO47l\
-PIWrjZU8hSVwNU9hCazmKQ4JE3BtC2CR2+w1mqfqXm/HIACjZATOL+WfYT0s5imslYU8hXW06zNInLlhYBsselu49y6XvQn2u83u/KGJ1lsk0khF9J7x5yRkILY2nIdno5eJBVCb41xs\
-hQA6NAEMhBIx71N5IjjlfYYTgVxjbOeJiH13ayJh/9GaGGeH/5qw7BK5DVX75Jt5XgNqgFyXjijBG8696gMJ2OPxQPKAwLmXdBDztnN023aObtvO0W3bObptO0e3ioWBw8vA5XHAhgM2\
-HbDjPt92wJYDMD7oRG/NS77fyJiHDploIsJsYMb723zWtsMsmfE+m6e3wmxwxvtjTg/yftRmp56LDAywH962c79LwJp45G2rI95iBmlfC/ZlAQ8MNBvqOCFqxD0/Ddr1uBfQTy3uhSmY\
-6V6NfoK4V0+xlfQaKYKU9KKUFVNGqX8L1L/f+/j7vF4ned5XlrjtvIPf3hBFczJOtpN8i5TI/Y/4b1IqlivT80SQ/Ej1uU665uaDgLz4B5wuGvqC/aUxNu8zHh2xmmhBgl6v8cjsW0gn\
-AscrL77nLXwA0xcNcLryYvEtbOagL+pgduXFD1S+qMEu4qu8sMZ1wJMzSuZUlQfgRDpWjMeVawjmyA5xMBpeedJ/5S1sTyKY6iajUZmkYlTqrvPreDGgL851arOmPGa/g7ed/G1Ib0sD\
-92m8HczfBvS2VpTcN83gBeTF/40Xo0WhxZu3oMCr9IdmfuELwbPns9HJ3kjvgB2ddE1nRkaJQORIhwOuO2DVAVcjd7piQcOouFWh6j4WMVG1o8LCj+G0MEoLc4Dpau+3Iug40zSNOUcp\
-2QBNxl+95ewZ77ciC/iv33KWvvDdF7+JAvkLKhMS2tH9/KwY+nhU6grSgdiGaRIj0vgo8ZbFXNLh1U0JYwFokdsCcmRwiACjRB6TB80fEY2YNfbAG2f/mC8TDoBQB9V16lCjNNed3vgi\
-h5e3i1lwpYxvkJKp6VLLqwX0n/Fr0Frt9KYX8dwRMh0nak6TmpMvxvc9z1ZMQV4nx1uRdx/pf1daxB9/nu8AindoZ2l8aMTGZs0TyQv6uoSUrptoTtHVAi0duWLJeZ4hxA0ODdfDjBz7\
-DleJgolENcdgv8DgPmJ4DlZd5S/fjY7VaPhOLub0Mt6XYIqJL0sgmX8Jz3eEcVgINTIVMzkhIx2epgPsGlsJetOtBAdcd8Aa+KqrkYQcE66w7by+b4j5Q9sZUbSdEUXBVG67p0stx6M6\
-YKGFnrQQNyRM/oi3HXjJlg+kFy3hq1q0sIms8hsMpvSlZfF0A+1bbYIkrjfnkk+J/BufrTYdg0EtSQc5xjkxXk0dguvNdMCXZ9Ti4JXCilARb/VhOMrLqJkOyl7fpB3TDnLI27ks0ejY\
-CUfLZoYg4Bi7MgiV1uQteVgikbM77xWmNws/+QFs+ZE+XGJg6y14uOgeLjCwcRkPdxv6cIeB1b95PzYR93CLget/jIeb7uEGAwubeLjuHq4xsLaOh9fdw1XJ+St4eJVhWAUysPjv8HCZ\
-4Rq1Uyp6Jx4uMlznsHHI+QIe7tb18x0Gtn7g/RLGTtvJwPUv/ppEu9N2MrD9OTxcdw/XJOef4OF1V+YqA1e38PCqe7jCwObv4OFy3bVTHn4IDxddzgUG1t6Dh7s1104G1n4RD7fdwy0G\
-Fq5wOxmGvJGBpZ/gdta0ojUGFn+E2+lyrkqZ/5LbWXPzzsD2F9/ncWwQqWhJKvo7PFx0OXnT7239+ftyRqzmGLHdP3hfzouFjhfb/vj7HDt2NefHBIWzQFE4WfYZG69G7KZdED+XpQkn\
-EKUFPxvRKhzVWE+0ALNQ2WZI97AIabP1iHB6r+TVyay1Hb0m3HZvNeQ1EMwlO0YrW+Io0jlNimVphB1ZI9dDdyQQurUR8mkGZwNetmEmy3Y93HNOYEGUVTpX6ZmMQN69PS2o6WkvwGFW\
-E4uBnHAlXyDHXikTurmxOz6+P9CTL1J0rNTjrxwYAz0Dy4Ex0IOwHBgDPQ3LWS/QI7HQJJFi73NK6hbKQ8JtnlZm8yR+hxBtXVuyZU553+wa+WlKvDQv3cwwEZQBNZB0ubOpgfhLExsc\
-olMTmxz1khI+zew0BlemBNdm9eTHefOxTQ5Zj6BicfJPmHPyZW909wTVewN3j+C5yXraTcvjTpDL0Zjc0yXtN7SK7vKsH/+nwDciylwNy1aPT6q6xmtVa8t5SRjX39Mlq0hYP9qSNaSz\
-joT14yN7rB8f3xPG5oLopvxvIYcDL+CTsBg25QidEgXk6bJAN/XK4l6OrXFyLm1ANhxA12U7N1kU3wuBBEQxeLfOOTa9OVY1Ss7qi4YLSBkXKlsuvqTTKAlcrJ9WEV+yZOhdaG/ACLzQ\
-3oCBeKG9AePxVY5T46FWubuLVfEJDlogvPZUZO3UT8adVFoCyMbykb48616eVJH1Kl+LxfGTfkDTrIoDEO3JbZTHLkV8TUd8hQ/llnoX0ap+2dAGX8pixMkIighyZyNMbJij94UCvp3Y\
-pzC+3/gXb6s6Xoz0Tfx/3ON3L7b45q4xn9Xv8vTzRt/nUfH5LQwbIxRe5wuMSfn1x+lXw1bVnVC1fsXWe29HkNsd3HbVezs+lKmSd/j8OUgXNATrfGWkaoL4htNZNOMdccldP2vOeMdd\
-ciHIWjPefUhGWDL028QSqfPt4SPatMf091X4NWe8865lRoEL+vta/X1cf5/U36epyW82UAjldWCgaBBZXyzt6oT0bzZC+aRZ/pLhwhu48zPQPKz3Ts8lP+HDwq7OywFfq4Udvr+g4/B4\
-2jfm9PR+77W5Wd0YDih1OnD902wEMq5RbeCK68mykdEtWdU1OE2neJrXOsI4lwzr6hrPEgJKNaxr9JYlux0RMw52PMQfspee0cK2jno7csajiW5w/gYk+gxFbF3XctZ1Y33WdTC8qcNf\
-WEJrs8EXoaIkOV6xtCvKa5WN7TBeWwEU7uoQhVQN7nym7vyCDe6oiY3els9aO8yd8INNfy5ryqMdPntSr0RI3LAjySWOS26b0hWxuhvnosbPeIzAxRhFFzqlEc7iPts7V6wsDeKeZJYW\
-HUCsUwNjCkSp5aZ35Zrz4m3MupCeilwPqvh1SoPEH4K5QgMSGzbZasBqm027OqYYyKyNGJtNN5g0ETJzTZ6miZIJXuyExJNcL+srdHKkjFlEeKgyW+PwyeCkzAdtEwZ4sZ3MDfAOc2NN\
-NXyMRRl9NnjjFmdwNi/A9xUbvCk2foG9wWR7b+bDhQ1e/5dPVD6t36KeSlmvq3zKNnjj9iCn8xL2q/LhScoeSnbOfPDW2YPbLv0RZFe3v+PO9k5RPfCc+d040Z5D17J4r/ld7MzvxqWM\
-Zsn8rg5RqG8nbZR8Jy839dfUFPXjOtU/TIPi4ckaK7yLEnJzrxleo3eV1toAI1/XTgpFSdgWr+msreCwvUlF9VniaeZBqCQcyE2zhiqWeLHYz8Ws+jwlWvWxWuJNiSVeDHO7GDcOU7DE\
-i0uWePqKubghKWlIS2KTphiWeMMVSzz3OWWsWOINF5Z4xF5w12yMHdU1bSKufiLGeHGhiZPYwcdySlEmEEwaaIiS5Eke+udq6RRvCwu1whhvnxqZ+t3rPVPLSsOOeOMyG00q8OVZzMri\
-ICiH8pY07QHMTr853oSa4x3iGAVqjtd05nhx1RzvEMzxJu2h5KkKGadaO7l+O+OGkE1Cb6oTw3tjozyuwU7Z8UlZkM0rQrdUc75ZMsqLnVFe4ozymljwMMort4YaOGUn6BHMm/AoqZjm\
-NZli1em7ibiPhrJ1Hj1lehqX+sQti6/w+hXrvCa1pmydNw7rvLy0tC2F7DHQa9LSnIKB3jgIu6w8UNbxMvG8YyO98b5BnyzMxm4w+Go2NoUTUrO/o828o+Xhh81es+iQmpEdomd9dntf\
-ndYM37o1B756rRm6dWsGv3qtOXDr1rDBX75THiy2Qt5CD0KnigqfFIO/6lqv2IIcoq3IcRs3MfljBo7NQA7BOud2GaeYSeNSLZ0Ae2z+VY16Aer3AzXiRZhDr6WTnGdRyCfT0XGlkOlh\
-BhZqhanfOHEAauo3ElfYX2PH2NSPzpNq5Fcv8dh66vHe7lq67IB9O1Fn3Zsrtd7xNKra+UU4xjDpjzCUN7LzGy/s5kaqdn5NNq4btyM3svOLYOcX3drOT1sBzaGoz87Pvbqor/rt/FwH\
-nJ3fuC21d/zWdn6u/Hkpf7yw83Nv5vRNn51fXvEt7PxwMGM7v2g+eadPlEt4lkAWnnH8/Uqg7L6z7mv0rgcKx1qIjdTAL0p+yieqc+uSvL6vfzf/mg9Xt4E93MsGm/iNKwp3Ej5JLtf4\
-uEdF1zk8dmYYWKpRN8EY4uie8CUdLPuQ0Vne0TAMxpz56dTIcYrgJ90ZFkYTiY3yD3mc6TT7HncWpiZ4/QV2Ysf5M+fyXI3t+Loes6xiw+eOyB139KeVyk7tGnpfUJyi29pgNcek8gdi\
-uaYLPN6vB2I9HeGUNCGWe1O8l7JO5yGQrmoWv8oZpE1hrMVob5zyE6tA33nCV/WzHn3UFsVzNVSD27vtoYJftpPKL+MlmLUJ8FH0C8oLoz06Pl2hT/VMzEZ7k7nRXh00MnktzwrO9ML0\
-czKaYdTcRBqwHCfHxW6PzvhstzeJHsmbm5Drydsg16ZMridjoYKZqs15clyVM6k8pGMLm+/xHYadOOX/JJDSHnrI/AQDB89472Bg8ozHNxoYzR9jYPyUz1cbjO+I8StIAQu+Em22Y5Ra\
-NmLBJ8jPL+uslESEAhZ8vNIx+3SmH+drBBignNcbmNN6187IVL4PK13N4brNNrBZhrKQDF+wCcdNZaWyZE4Di3hJnOeDvLsva1aqaNCXOiMlDbKsDVuJBi5Qs1gm92zWkendCEDT2D4J\
-esM66WsBRlmaF+EaTAipu4qHb+PAUxsKoJ5c2NrmvA1tB/9eNZlFr2FV0uDZNCT0ZB1YcQJNdPbZFAYxBvfP1vCENvHrA2NYexTXBGwaUzzx+YlfehLwkyB/EnO81Yz9dtkQVjdcLI1g\
-QHyxoQ0KNaKX7gsOiWzkvgr2P7Qrhb3CB3Qk97NYopGqwNZY9nDryVSqqLelhDorDVztjscfGfDvlSv8hfp85uf3pkHfvWlYvjel3vA9b3qfEJ37qN9bcvm2LQHGOU1zvhnMJf/W2Zhg\
-PLcMlqvYsYQMXPehuyt2LHUGrvppg4EVn7rki0FLk4Eln1DHZzXBNGZgAVY0vlP2A7Bj0gEGtk3apZboleGiCMl9F6bed4HrfRfK3nfB7X0X7p4/tkFy1dfm7/ja/PVamkjza+mgNL+W\
-HpBW19IhaVqYDkuLgnREWgR/bj5f+qdjDGwEuDLEeAREKrnAgGgkD0NAlJkLJAovvQ+IjPqihnxYOu2nR1StZFG3Y9vb3fnU+7/3B9/20le7oa6lqZRYg/cvlh2kRxnYCtK7pD9Beky6\
-EcDOmmVnbGCNi+h0mn3TWEs09WIvSl4I+EVyRa8AkRgXZxoYLjACyf/u84Ct++c6oT0hBoCHgYFHVLY0hcQhTRws+/sd32PuOKYJNjkcYRrj9xaJOf5p43SG2e7RJufPqVbaV6UybBPO\
-6BGWKbbr/DSXfbQ2CsrIgk+28SSCcw/f6vJ5BDWEJQezMJ3vbdTmsntELQ3YZ+8RfbXT8nZL33qQn+nbCDI1hRPIwHyxIfsGQTo/fYnMup/eK/jop99IRV0PeVKJj7mP8Rz2CqWpjage\
-OzzjLRoq2B6dgenxPew1/mn8js54T+L3rhnvcfyOzXivxe/4jHcBv8dmvPP4nZjxHsHvwRnvLH7vnvFO43dyxjuJ36kZbxq/x2c8i99DkFjS72FILOl3GoSNfo+AKt2Dq/UrOnr5sN0D\
-zU6PVjAB6QwhH4DBGW+NgQMzcE5MQDbjrTIwNONdZcBS7wIAJ6h3AEDrlh2wxK8wFKdnvE3fJc7OeFt5gkrYzhPU1J08QUfPXU58I9XPJd1L9TPwEqqfgW+Y8VZcbesO2OBXIWUOAdQo\
-MwP1/5e9NwGP6zgOhN+beTOYExiQBAkQFNkzpESQOIibIGBZwkiUJYtWYEqW5TMYAkMSFi5hwEuGaHilyIhzwbFjIxvHCx8J4cRaY6N4jdyQLMXIJhvTv+MEcY4P+Z3sIjedbLxwnM/8\
-6+o3rx8u0vGX3f/7Qmnwut/RXV3dXV1VXVUNL1MCSPsMJWCdnKYELI1TlIhBOygRh9qpnATARAlYalcpUQrwU6IMWsVNzN4MTQC6ZAP/ezuFloB5mQ0YU0g7OrONv1CJerxTexuzCqcS\
-rULF2eVdtTwLIu4GqiCzD/QycihY2DFihnE5Qycw+BKdwfhLW9ZDWKiP8lJ6jB09eLMyAAsnLqXH4u8NBCLFbdIgQOX4FtGQsYiG2JUtTNRbNl0yJey2vay3tdB/EF/C0oL3AuMaej4T\
-VeHnYAm/qkI/mIk9C9xE6FrqPdWweDoKso6KPgdSSwj1olNZ+9meaoCjxHBMtHFUBYnKhIvcQ8iHLEcjC5ocR2jRtgMYOgu3d4XDC7iSCR41Ef/93YEDVx0yCChj52YuKuRDRNhARLgn\
-c5D5iYMSgjX7XoxDi9xZESQc/xYIOvgOeRl7tyxBSPu862hLvtEqiZ7VMBWh04OEZMw1ZiI9mUOaE8T4qojZaJEbLMnumyCfRmAKY/oxIN7i/1BCyZ6fuNYWsJ4h3VX48eoM3hvd4N7l\
-9feMG8juQDvQ7ID2lDJRYhVtWlaiIJaoEhS80gGsX7lfR9HZRb6O4NeGYz41s4M8LzCqAMhrh9yNeY5neRcaTZbALHHzFH3iTkCq2BcKE+dkv8ZM3W8GJU87IhaRW8qjjVNImDyo6S7C\
-/FwkGYBnsyDOONn5yESqm27PhvA2Mh8lOFSRLSoB1g0TqxhAARMrJdAnmFguAR4OE9dLgIdzKDICsICYmMMACpiYDQPnhYkZGH2UmA4DC4aJqTCwYJiYDEMvUqUh4MWo0hDwYlRpCHgx\
-qjQEvBhVilozqhR1bQ5zeXspsYgqNofZvX0MD6rhHGaq9kNDr8e8kagdHa7Z0QGcHR3S2dFBnh0d9tnJTkdNvE6XwtpGKESRL3PAc04CEo5NeD3Hx6M5mkcjrw8m4PuFelZ5Cfhub2z6\
-mEuz9dELmlRHi6QaQCwThsj2UuiwG48ChwMa2DrEG6bR9hc+ikxkMsybLGGPqwwzLYtuBnFEmSiFfnbIVeM6JcopPLSDSxoG3XZwQccw3A6u4xiY22G/KkrsouDdDnIpGM7boagx05TY\
-Q9GVHWRQMGK2g5wJRmpxkDXBAC4O8iQY18VBpgTDvTjIjWAUGAfZEQwO42RX4rjRrop9gw/DFLjYoag1M5RIUnBjh0MfUKKU4ic7uOxiRGUeBit0R0EllEhTNGF+tKoTazoxWSqJqVLG\
-6yTgNczYm6PvWWOCIZHp+WfL0D4liTM2hjNWGHSarTHUEzh8OALPy6W4DP/FuEzH+biM+rm4TLWZeFrxnMMjFRyOV8OTeC0mc241JnP3ekxm6kqM5Foc7iDFehCHobVkfk8nZe5OJWWC\
-riXSFVrBUO4dpWXe4xSS3iGrvFFQ9nkHZ5UevzEZv7u94z1a5O4JcCxUCBu0sLRHSNgNvJ8gTcud3eg3h5is6Q4+kDlUnb6rG635IXEIVW+E0Ji0ZDEm6FuICYrnGVmkBi2V5QvXJ6CR\
-wXu5J4/ZVpc9TT0dRj0cLAIZDNUBv8eqM/ZrAx8q5VghRISYeqQ+a+sYIZlDyMcfQmOEgIOeOGFcNTCqh41B0Vn3LV6z3DbqdJxKN5LSbhoYOO9o5OFU4pGHEyepMWsLZkHyh8EoJNGN\
-rB+ChX/KhqIxcRmGCl5Hoc/x2gsDBa9PIKMB1wdhvOD13nSQro0wJPBaA8jCayXQ8BBxFpV0TdGwIv1jiAQDd2iFWCtN1h745jxK4JiYRHkbEyAe7aPEYgAIOSYW8MB5TMyhbiF0jUyJ\
-gvqcmsimxNI41SPuHa1R72i1i0d2OBiDhpli5eVti6SaxqsepUSvYcwdwginWgNWIjeF2tZb0fRduv6YO5L/fXJvPLndiW17JraNZ1ORZsRFsJdx9fDIbI2oQupgNUsVBEZApIo7melC\
-jhUZVz29tfMPVHEQiYjNb7xvOsXHSHcHxy/i8SrAPZWhaHEw/pl4oORqKfLVKbaz5drjPrY6YbDViZ5MObPVO5Bljrv7eAlIizEV8EtxlD0ySXpSCrl5yJVRLqXiqQegv2w00Frij19j\
-lWI+9RoridfS11gJvO5oJ0kJhUyUnLoDaie25MlOCyO5B1VSdoqA6ADNKiUkeULnYJgUhGo6MJFOAd2j4PEqQU5Yq9bViUyQrLh28YYaYD2ILtkIfwUk93FyNyQrObkHkrs4WQnJFCer\
-IJng5F5IRjhZjd4knNwHSW2McEfg3m70N5KNg8yO8e6Gp3i3N477fOmdKMl2fwf3UeUgAlJDowr4ebbJC0ToJDzggHsoSGug+z18Ch595TxQnd6JevFlS2+vBsVQCeZakBQb9RTKxM7W\
-I3vYRRriOphd+1lZXDtBFuiYPArJ5GsoWYNqkbspeRckd/Jnh/AwUE4qvWNjI+ZUBSfRxmY3J3fh4Y+cTOH+IycTGCiDkxHaLaekI1s+2Pn7+NYx2f6DZCOqs0uhI2FJSOi4YSFVJqMh\
-RKOBNABeM2wbRsIcRoPBUUGBZvD1AI+HTDL1MBClAPqyXcVxi6cJ7qCTOlQSbrL1QKbUbz/QZlmvJZhiiDXoidKs/Xh1l9uIIO5SZQRbJAbhEEZjqx0qKGZXd6gd6o6HcMBYj2Z2ycd4\
-kMxOeBsePQlvwDsPVyv9MIGtSfkQUFKcThnchUQkBNg4rehGH0TbGkBCUpAQvMaTCMpauedZlPeC3L7G56GeEKfV82KHdQ+3Csea/UD1c9ykI7b17mzqecjhttdz5DKF8meCJgMilSJo\
-iCCZxR2M8up0SignwxbpqQZpPppV+EP2A+Vo+CRdQoZ2vKOiQngEjY0ydAkenPl8dvRZ8nPDDY8kbq0E0TARcUKrNcw9tL2geQggfch7K0K3Zry3EnTro8VbpTRSZaclQOJzCdSaARzy\
-wTY2wqSCE9BIRqWtP0U0oR4ALz4ECFG1NzJeT7FaZIeE2SNNUAxgANK8I/4f9gdqOfLZZPyWbNFl17tDrvfK9UG59mxjyp2SqzZPV3KtkWuju/XGmg5X8QXkODrBZtmoc5mcxFNZJV4O\
-+l0/A9MyhD/oaIu0MbhORq7RQx3Vh0O9dP8DTXkni2ebYv4vII/+nAHJ/5mFB/o6GKqH8n8OeVh9s47kY52WQzuHIdQnhdJNbAkxb3sl47A+bcpnGj6lE9NeY3G/nbtrGJ+9znqOObYi\
-D2dXS7x6j3B2lv0ql4KSnwquh4Js/w1vgBWdWNWJGzqxpBPXdWI5wHD4tFgftD3m8fXW9Yjs3d7AA1LDzGXFKDEbI4Mc9M5M8+bsVAyGGHkSYKjLMPtLJvkrdrIMU1RmvR+8FPUqWUu9\
-etXEuuPoEEsRMmbnMc+sZZg9ORm0+agAMhcVQGY0INMakEkAhGGMSDtWI8BIUhdA8929Qmz8aokGNCLFLEbSbAKygBE7qc6IlDeHUT0JLxFgWahyKhgrx6iehCAM+ElQRMi9gHRRexhT\
-JWhlgh0PUFyzqf6fc9LNlJhz0i0kiP1nJ91Kic846TZ69PNOup0Sn3bSxykx62SaZOd9nm22SEe0l4FjUy2yYdknVitkzoV2LGSqBcCF0gcYOCetGDgnnWZcOekM96eTPsi96Qiqrzsy\
-HJYcQeyiIzhfcHQHOdhBNJq5rURXXU5dO56UyJhmsEpcNxcKdSrDnBtRImOd21YiA55rL+ExzrmFEhn6DEcJz4jszdgEcNlhjqp6Jzc6DNJ2mEOnHuZGh9M13Ohw+gg3Opw+yo0Op2v5\
-UUm6jh+VpOv5UUm6gfFRkj4mp+B6xYpNxjxwyy04wB0a9egB/l1h2a9UK/PKIaUeOZH4dD7o92AWz5Sx0mn4AUVIH4Df/ixaFwJnmkWzFYsio1XBrxb3PLJ42gBGorbSh+F3F/zuhN8x\
-+DXArx5+dfDbDb8K+O2CXxn8dsJvB/xwQS6HXwo5DIy4hnH1ErKjien/G2DCzZ1DeiGQsbtuwAZlTRA3KlkYeGAEZHUQQxlZIsT/StYJ7tEALxbczwFeMbj3A7RsNCVhGui9UtXMISJS\
-z6vjnIo8r1oo9dxzqp1vVQKv1SZGgArSrZJufP65dKOQY+uaNqAhstq4UWDfjCuGQuYAZtLrFAWGThfxFRDFwhHvdtpdmKmhV+707LYd20gRvMmYpRmSQE1YOSvBWNmYIXUQ7hGTHhX3\
-iEmPal1mNao1ylpU6zwrUa1evB7APWJSfFo9rPe0HiRVMO4RO7TZ3IHXEtwjduhUnhpWTlmKtatWJStXrRSrqICbgmsjORfyHjGPHa+W9i7aI3Zoq3mJEjW0R+zQ/u8CJY7SHrFDW7Nz\
-lLiTtoZFuTpr006w5OZs2gqW3JRNe8GSm7ZpM1hyMzbtBktulLadJXOZNpolM2nT/rND2+qLlKij7WNHbx87tKE8R4ljtH3s6O1jR28fk5Ib93ZJ7Y27vaS9w/1fUo3jjjApy3GPmDTS\
-uGtMCnXcRyYVO+4sk9Ya95pJDY+7z6SYx/1o0nXjDvXGrp5kguQYBlvIeGqLRgv4PKGxU5ppmIwKjXVZhBsRobGrEc0FRYjVOGb/aURW5D+OyIr8RxFZkb8WkeX7DyOyNC9H0i0JCn6M\
-CrPj8MN49+3wa4NfKwooGN0NfjEMkIxSDRs4Hcek3IrJK7YUYxTBXnnMmmN4+l5x10TWHbcCkJVXNrP2qE8ld87WLvu1eG3rsl+D1/ZOqwuvzZ1WJ16Pd1on8NqC3ubrWX1eR4tiQCPe\
-c4j9R6PSE+kmqeRnHanlU45U80lH6vmEIxV93JGaZh1N/u7FMFg68yAFAZNMDwUCk8wTFAxMMr0UEEwy5ykoGDNX6H+V6sDA5w49a8zEcNsaBQzKVz7hSiAYiQglkBL8+SUQfOiTQP52\
-Gwnkb30SyN/7JBCUYByUdiT/Lcij9BMuSihhGrklOHIdQuuRoOoRZi+l4x4g8HwnU/KMst5KwdVxtxn38CnqOknJForHSd7Xhw+ciQwa6+HVtTu01tkdWuvsDq11doe4zQOlOHozGe1/\
-odi0heIeJCaoRucah2gWnGEUJI486t1OZrtDDuYKwBUDuYZoVFsaA1pJGsYTT0HebYr/2o7A7qsBsgSIPpOJujJwzCcDxw2VZbwncyBJp56oA9U0uw54z71zXVNtWl8fT/LhCXac1IdR\
-FgXDkpjUibWQJG6E8GAU2UKdBGn3cXL8u0Eb1Z6g76nPB+CLeutGCAMBBbptyq2FSGWnCCqkAahvj/Jmc4gSk2GCgjabS6VOmB9RHSgvqgPlRXWgvKiWb8U4kVzdioJmVMT7qESEj4rV\
-BX0GEhiZJSJs87ZuyTW4YNiD7KTsuwgO9MeTUUiQG15U7kxjQgW7F5+7m/8+VN0e+GG6Gc1+Joobh/rjWf3NTLToUUf4syVypPW61C/pAFhQgN1p/SRX2GnNROXdaHYmOtH9dSv1K/Km\
-PjGgNB0L3is+wlMRVpVmuKszjqYLMZkNmQPdUgudEuqQqQsb/2mYUu85yZYUDOEBDRoeaYEBbDHuEQz1hGx+6aZ5G4teECbgcLMG0APApykKZgmWE2XBhXt/Fc98iLK84lDiOposRPnM\
-hyQlFtB2IcpmDTsoMYsmC1G2Ztilx1WFHle7KXEDLRV0yPEoL5WVlADBuIrLi5CFPcnD1VxeBCTNKC+nd3AxEZA02asyVuSLYNwAfd6v7kj9emBzOy6/+VbSu2/jeA+8T7jSFvsUHLGA\
-S6LBTBlgoGhEUwa4IhzWzLBWe7d1qrznYFQWt8WiFKomKfh1BIlLjuAXpLIEHVhvgywd6klGSNTDqGnSVTHdVSndVQndVeW6qxzdVTt1VyV1V1Xortqhu2qP7qH9us+gFylAF48SD6K5\
-v3br/qrU/VWm+6tKo3y/F+V7vCiv8KJ8pxflxiZaipGVXQ5NpH4tsOFRIpWCTxxNPRIV7d+RtDWShMosO74pxEDH1gG93wv093RmFYHe7wU6tg7opIR9uBER6xw8vgznBtJIkbaTyEmV\
-svRP+w74YIdWhMd8rD0a9ZFbtq4vJNueB04KrS7uZ2RK8fiSxDPAiSTxh+ycyxghZx3zMUbopBGj80lixBixN7LJGMXXMUbxdYxR3MMYAZ+JjFGMGKMSYoywWIxfrEohMUE1xjyMES42\
-2G5mjEpwtSjxM0YUlMob4T7Jgo2N3RkgrVIxYLvV/b7nU0rRDq8nSDpu0tJKNR9F9smOfzZox65ubzwJqJWAO8TTuEakwiBlyDHPIaOIgFgISQCT6ITed0TKG2RVhIqiw4ncz6CJSBg6\
-Kuxu/gR6qnH3P3tddiyR4YP+i+JQoe6m/gsgTkFew24sFdvVBG38hGXjB66OuenjyBZscc/Hkf3Z4paPI5u3eAfFiHSYthYd2VlTPMYxPhVu/eBjNKz0bPqEi187ZAHDmz5R7NaouekT\
-3mjTJ+TZ4qctn26ruwSdxB6vjj8bDESLxr/bG/5Soqj6zwBKUM5ZFMO+yDMKRZUlyUYhF8VdwrfSxjngHKXQEG3bMM61E1MoiPuLIRQiaB8uk9BjmcQI2oks3gnQnYDnTpDueJ2YQohh\
-MhzGWY4jGbf3AsBQhSExQTWGrilXaHGj8dscUAuQG/PMGTapQA8m+ITnTJCs/axNNAghrUHoxn1x3N0jQkNmyEF39iTjKhn/ZiBQUuyEredNJiEzh8w3EtW0gVmcQhE9haLGFIrxNKEp\
-FJ+Q7XqeQfzIvYmnNSncOAv6jR1C2QAadxnHedOHNSzchHEL8uqEh/vFQBWWjb6FFHQoneATyjmYCORsb46j6XVRTwT1VnyIuprce8NQD+ACuxVQFMT+CZqD328IHtZuZDJ2Vdgd/MDB\
-weB/1baDVzGMKbXHE7ANqcmLr4AUb2e/ZNEfQEgIB3EIBzFpPXkAh7L/YrGIjJPVUUHaksePJzh+s6V4lzYTpKFo4VBc96YMQYwCilOWjm/1jD0C3rlGL0OPyvALXAO4oA/jYat79qN2\
-/M/26YOrrodvx4idbW3sdYFijKAxIZ8Mmwk/Qa3HwcU+qWEaXOgYT31dAWSg0hvzyqF+VGwVQYGsvPGndqOInz1E4afIFE7cfXeb4afET9sTegotx6ZssgXNTtm+0FNRCiZHDyj0FM0H\
-N/TUbIBvLHMb8NYMB70K6AOKQiiNpXdjWdJKjj21W4dRrvRgRlCiA0/F3MBTNuECY57EzeIdPuY9oI2rdWIOo+DZ3fjdXMCNQeWFQNeEFosxcetliBZRF7ToYHVo2pP9sYDoj7EoVCAE\
-J/gFctSl9RCPPNhDxkG7JXQVRp8hv++QG74qVAxfFeCOl9ArEWQudPiqKunfEjJ82usJXxXT4asCLAub4atYaN5j9HYVRS2U8FUYMstBpibghq+qJmBtZE69BxutD1+Fh21IsAz83ghf\
-VYkL616MnhFIrH+5uhi+yv/lu4xPw9vUY5T1pPEpha+qAjKBebeEjap8oBped/h1etne/vXgLZf+IL4u4auqdPiqkD98VVXWVnteyMTWh6+K6fBVVXGJM1UMX0Um/sgNhFMjNGUlfFUJ\
-O+I7FL6KDLZKjPBVJevDV4WM8FUBb/iqEh2XKKbKgJso8Yevsm8hfFWMg07FKAhApT4Umu2oAhy+CnmDdIzWMgxfFfOEr5JH68NXVXL4qtj68FWx7cNXxdAuiNQex60iaOUbhq+KrQtf\
-xUTGS1uYFHD4KkT9ZwLkQNJkzQVgyd5pB0M7N6zRZkPdTwc0Js3wVSUUvipGYRP2dMvBjjwUMJRUybrwVXskfBW56UsG6pXwVTEzfFUAw1fhQXJPFakP0R5PpIeQG58nBsMb6mQ7xs3C\
-V1ENqlJVVfOELLnGdEtiSJR4wlfF1oWvKsEJjzFnvNAAgJV0mt7G4atKiGKF4bvyuI+G0qK5FyW7CIJdbBNBBsLdXjd8FcV59YSvqsIYliEzfFVkffiqEoos1x2C9xNxmXlEWb3E87bD\
-V9k+pAeKQZE2Qb4ERap8gGI7+hpa4jbUi35ciUrWBUUKSJgwDooU/7eDJrE9NLF/O2ji20MT/beDJrY9NBHkad2V0i4uhbSE4iDFwgMcvsqY65F18VCY24hsEg/ljfQeBtfZi51G7CBF\
-RgnocJ0J8h7ZkguzNBcWJ2K5ECCXunrrcwFysqu3fjGQDtCjeaajRFCrhFSSs0I9UFY5TyQW7y4BZjse747AJcbm87ZrPm9DX3UHgUiE9GmHhJW4C2/AJDgo/sm5ot0OsG1YXyU1r5KZ\
-VpOi+ToRixZs2JokqEBxGVZ6GcaHuAZU46JK0XBKrqU1r8DRcAJuNBw81SyU6iXHBItENoqG4+hoOCGOhhN2o+FUcTScKHTOOIHjUOO37v3Atr1P0XA8fR4vssxhTzQcYnH5picaznfB\
-TLusPzPUZIhPB7iNd38lSsf0pffEGU/pSma3WRzQwnLAsm2Aci8fYdONh39Vcz/qWxYHSbLRtNvqsnajDiLQaVXgtarT2oXX3V0Wmn6rii4rhVdgqxJ43YO+DkHG+7b6Io+2CBVnYVbv\
-vXwscMfVBJ2NXP5MJn7IYv8H2e6LyxZ/XKyC42LNGyf/QiX5e+Xag/ejdFyya6KN+jfvQcWl+E48+2PlFCS9mG6ERONEugzmUA2g6YisXra7Oxp0U3GK6D5tY8IIwD6F5vqrMa9BLeXN\
-E+RSH7TJP2IxAZ2BiYUE+pegnjyRLqfEXAK9UXDrIJHeSYmZRHoXJaYTIAdjYioBEi4mJhPpPZRYi2O0W1Rso2MTJlbjMK0wsRLHEL/s/LSPEtfj6TsosRRP72d44ukDDA/6PMXZHSrN\
-8MTTGYYHvaDi7BcVYnji6QjDg05UcXaQshieGPXkMfubsfRRSvyvWLqWwgr/YyxdR4l/iKXrKfGNWLqBEjdi6RpKrMbSx6iDsEUJsjuT3GoCTdIks5JAYzXJLCfQ4EQy1xNodSKZJcg8\
-sU4HcSwpoCbSBxn4JMFMXlmHZFhdtyWxpBOLOrGgE/M6MacTszoxg6NiBk95JKWBJZGVZ2ype95O38lYttN3MZbt9GGEex/Zm8bJ43YNxwp63N6gxAEyN42Tn+wKJdJkZBpHgzG0L+VB\
-ukQJPBGEEhGAmBI2rUmQ4DUprs/25sS0TszoxKxO3NCtWtOJSf1oWd9Z0YlVniJ0Bk2c3JdXKVFOx/vEyWt5mRI76dScODkrL1Gigs75iZOH5QIl9tBZQHFyVp6jRBVtTcfJWXmGEtW0\
-iS9d/gQd/COZXjrdRzLn6cwfyYzSSUCSuQwluZlJQNMs5Q6Rv3qcnJnnKXGQ/NXjaIXJPjqp7k30XNjZU0GKUTwdpn2Y6aDHKiGOxySqw+outLWgd0EEJC8woMq1QIoaYO2q6ebAHvXd\
-bDSKU67JmgbZKhQIRpyQrJv4+fuD7GpXC0KB8Rmu/QGZWz8clGn3I0GaiMfsHw3S1DxmTwfTR+M8zaIytZejMrWvR2XWL0aFDixEZb7MRckgnoYvmdUTcYh69+kCkgm5J7xoFwxbYpdg\
-k9E2lmJ9cPmxHjlXK85RsJjCzQSEVk0HiJ7R+IvpaaoT16mnnC57Wbr0mD0XydQoQMvrnuQrHruAcnhd98C7MvWqXtU9XJ2p7945DHdsBb+Hq4dh/aaXhjMNkMzUddlfo/LgZf746DB8\
-Uq3g91B1l/3HMVWjjg4TgrGz0W5kJeZZahZxh69B1aDgXyd+fBlVL6kdyFZucBu9FmMTZCqMemF3oRF7GV5oaIil5gJCQJNJ/CqJrm3ugAMU11DU62V6f5H+wjsqqDJX1T51ILWkzVb4\
-qaNPC3uF2Xu7kK7h7lgrlQGyWiokf6VU+u16qaxpS6UyQBZKZSmbL5XRNFsqK9hMqayEU6W0LRwXR1Qu80bSawhc5fV43e0dXju9wyvlHV4Wn/CB4zYlgM6npO65lAA6k5JFczolgE6m\
-3CE9lcqEePNixZqgoK0RjHOi4/DhNUGWek/QTT6r+UFKe0G05ZDdVSwE2JL3TGRCsuGA2h3vJEl5G2u5jVU1J5NJOdtL7XhjMkFHw+O0cef2jwdkbn8wIHP7QwGZ2x8OpI9yiJPa7iC9\
-3mTNBKSDMMSc0IsGl2bIy6F0DYsORFXi/tdw7kYYwzMlMgKmSgSxkyXS3zfCgtjVsFCP5bD0wvWwjIDFsPTCQlh6ai6c3qcJS9glLGEvZvZtNECC3gFibzxANKGfjcjyxTVGZA3jkRKR\
-hYxMbWV0RzT5iwjcSxHy1VyGBf4PXMeg9QRP09WQpqsBTVdtTVctTVeDmq6mNqerQe9Yt92xruuUU6uLtJS2hbFU9FnCB9Rz0IUOBnOCXyNGxMGh8rO28GyfsoVn+6QtPNsnbBlgH7eF\
-ZwOGBQZT9nftCZSbiIlts/+bDSxrpCfdyE20qUH11m/hYTiYWLKJv8Nzn4SMLNiChnlbEAMsEc6rRk/DMu7J4rfoAeA35t9ZjMRVnlXP094xzbYddG+XCj1H9w7hvYMcxTObgvfwiEbc\
-w8DFyKCeQHPVDj/1lE6DBYf6xRE6nkJqm5pgL1MivBy5iOg3JlEAigSlxyNALFArmmDf75CrYasHqoN0vBtlRJFhx2HN2vkUb6gbHEhdd0Ii2HlDVUX0nrFcI5pr08vnDZ1Y04nJuMw+\
-EJNFQM6EaJOmnvdVcTOmzrPU3Uh6MykXb9Ds7hCsv4Cp1Ff1qbuMjb//xVesbCz1qmg3YClMh0Aur3/h+cxO1Kp/8eZ+EsRD1DRSVy9MKrplGeU7qs5TNk43ILlPJEtkueN5DLgJjXev\
-3PPUC4jdCFHsd+OGKOpXf989u9OOG0UHi0XzhFykosMgPB7VdGG3qks3BO6FntytGli3XZV6GNpgPQrw7ESVNnMP9WhaawE3sZNvPJmpVbWq/mFgKPDkud2qinYidiJ06MUceAi/J2fv\
-BnW0+z3vyhxlSGgRaaDDzog1sZ96gFCCWJ363Ct4Du6rRVx7W1NvdAKMzp/A10U6jQj4AHwI9xp2XoNxZmnepw5wJWAL+wQjwXq0mod76nfNcr+NneuonRs+/JEvvISH52kYcbpxV+3m\
-EG4CgFF9fbH6BuCp6nX10EG698JxzVKUuyxFyiXGyGfE8XBVyw0GrCeDHrerMQ+/BLPUP3KF+cp+DpG2U8PPx6/gfQl9XZ/6krtLy+JxDyzfobiWlUOa3+JFIpbhZflGTBgvILFA1EvI\
-jErVANCRuFsO7g+5zYmiH4nORPQTfK1EFiCk/omwlhnQmUQlpiTOZfYj0AyYcnGypqBGIH2rQRNiK/sJfpigh9mSrEg1qffZmZrqdCL7nxEHdBYjZPmgFuxbtCvRiNG8akq4uwyvTmtJ\
-6Rpp91oq9eWA0XPaE7fIHoakG4nXDWvtg4nIGxqRayYiAxqR4URw2xEivcQxUQC7NUni4zBCsrLZYCTOAWC4MUsxWsmO2b+pVR+vaNXHF7Tq42Wt+nhJqz4WY+kmdKMhScgmDwkCIAq1\
-HHirQDYXgWUmgntAmSBtQbZoDwCOloyKOaQNzVgC/Go4OFML8v3SoQSpbuliTFzZsGpHgizaxOqxE2NCvm72cnxYmmuHvM/FFXB/Ec397dTcX1Bzf7s19xfQ3F+V5v4szf3t09xfSnN/\
-Bzbn/lLeqJy3yApGiqFvPNzfDYP7WzO4v8mA5v4imvvTpFHgXorwYq65v6CXE4sUOTG/VG1p7i+oub+U5v4CmvvbuTn3F/BytcGNxR75esHt7zmJhARktxk4sRZgwhIAUQ3wacBsqSYU\
-7tAnZOJZjDhFqvlmILLpFtX4Ao2LRl4NIxOyLqC7ZxO7e5K0Sq6gz5EIK46ftR7Hz6MvoM8nTpsUjnOMtNuo2dWIxG/yjjI9Cm1hVJFJpV3CO/GLw9LERtZ51MlwPSIOana2GDc0KIU2\
-0EQADDS70Aef0/6q9BXa/MKEd9znx6R1yBiy09xGhdfpCrR4VIsdjicS/iVJ/0c6LWKt8M7fxERBNxsXBd1MXBR003FR0E3FRXtGXBdqnogPU0e77G9SorbL/l+UqOu0/pE1Ep3WP1Ci\
-odP6BiVqOi1k4+ggTKK6ZXw8pipVYbJAjqpY6rWsEdCHYsbdQzFrmFzKw3v1Qz4UEwh/Oerwa+K/WxlIXo2QDr/0mUzikD5/+0G59sh1VK50emsJH+nKASkSOnZFgrypJm250yHXRrnW\
-yFXJtVKuKT7f+8dKJ/R5spw+r88O1wXO68ScTszqxIxOTJM3Cyrso7x/4A1GE+bjZtNRD3/t3STg0CF0uPltNQBYR/+Bf3iyxH46Jx1jo/k2EX44IMfkpm05PDdNAXHC3t0HyiuL9xzk\
-+NwbYT4PWQ4QDutzkhMS72DZzWG8gxU3h/EOVt0cxju4gblj9t+F03sp8TfhdDUdnPzXSMYx8Vfh9B2U+Mtwej8lVpHmY2IFCDvCx5a4s+jwsKoDe6oD/qBYyiGnLIedsiTQu5zjQ55v\
-iKMkRyqx5AR4tbfL/k08oRmPLXqFEvs6rS9Q4o5O62VK7O+0XqJEFe3M6cOHg+Scpk8fDpKHmj5+OMinWnMOD6ldcXN4SO2qm8NDavGA7OwaB/PBtupGStckcKMPzTlhFVvGsE43whPS\
-oYApyz04fiVMBw+jun4WT6DHUMxBDpkqmQgppiWTInW1ZCop6KpkFKlHJVNDKlLJNJIGlfo2lg7KefYCyzQGWAGIY9yO8ATHGl+RrcsEkakFarhNXrEJOmB4zuFu4XOS8SBwOoIbxNXU\
-H7vLpO2ehX0jIdWtJNKljOuEQLKUSJfxUdXxNA/8mXg6xbDF0+U8eOPpHTymY8B7JDgw3y4uMJau4K7E8JMJZtD28AnUMTyxhg++jnlXzT1enUGFl4MgBcIuyZS7mgO9IKfkaOi1iJcb\
-MEIelnoOlZ5P6kOlZ5Py5fUkDwJgDZM4tFFZkkw7lFhMwhpko7hC3F0o7hkAa0HPAJh0PANgyvEMgGnHMwBmHM8AmMWDk47ZOKHx6sB8tqFOPHQBrwGYzTYxl/vpammDgo2mn7h8Ctl1\
-/n1CfvcTckpPyBmakFvMQ1rZtpl1dlEb+e+z7v+fsy6uR/Ssk7GFu+H+cTKayeFucjJB4XV4JDmZgLA83GlBzTvRIS3MjyAxx/Yjf1ojg7xRaHsHr7pJtO9xlCKVAfoNLaHcH081yxik\
-8S1RvhM6yndCR/kWxgsSMkYPpP48AJxogqP6EfvZDIV+BQuNpkiSTQTj3mnc4Z3hjd7JX+OlC8pLMiq91CSFRsxOXMjS34WFLP1NWMjSX4eFLP1VWMjSX4aFLK2GdUHQ4TfcDHT4mpuB\
-Dp8s0Rno8Ck3Ax0+7WY6YChQhoUNIF1hIUTR1McCNPRAbsY9MYd1J91Od5AtgLojD1QDWojTRKiY8jCh0kQpca3GKm+3Pu1mdrVbn4l5AJ6PeQBeiHkAXox5AF6KeQBGCoW9ljpB+EPC\
-ghEs6Ay5pAJhA+QJR6ZZj55l97LQ6Z5xj/cu64fnZQZOl6I84cQ/1BM4zG4ni1XPZErhXql2xJDlpVRbHJRqi4NSbYxQqu0USskWaFU/mtKPZjCB4tQ0JUqzC1UTZORRzKzZW3H2VIz1\
-k/hBd6TTmqEabJIbSslNfkrqxHPOOPFpnfgvOvFLOvGSTiyRF2RpdjawAa9fyodB2ZSYDaQJJRVeXp/ymtfHtxYrgHpjYqECiDYm5ivwOyypQpdUAWQcEzMVQMZLcYuwIt1GiQ9VpNsh\
-UW99sCJ9nBI/XpHuoMQHKtInKDFdke6kxFRFugsgWEQjvNLsUoWXmwc0dqHq0E4HYMqFqZFkHgmLNiWsP3KkaxZ1YkknruvEnE7M6wQwF1BViHAwb8uwwOK+LuUGVjCBseXnSjABs3WW\
-EhbNulIiaNOUKKcZWkoWKZOUaOuyvxPGRHuX/S+UON5pfZsSHZ3WP1PiRKf1LUp0dlow9Uuza7AidxAKEBMua8FATIUEiMmQALHmCBA3HAFilRLUewE6DVJyGJFrxs1hSK5ZN4cxuebc\
-HEb5mndzGOVrwc1hlK/FEGMN/q469LdkIoWTJPuHoQkZMDdCMk5WQzJOVkI8Tqwvh2ic1FvXQ+m2TV278IUlPCCyVG/7ljIDtYtLQ4f40uwkGzDMevvu21Hpu7Wonsk6saoTCzqxqBNL\
-OnFdJ5Z1YkUXOC8J60V9Z07f+Xn98qxOzERpDHRas3EeFdbH49JF83HptIW4dOMiJcqAvAaBvLoZKPjTcSYqayE6yw8ZxCX+nFmH6zTf43rQQLewnfOypQcOtS6hW6cTKzqxqhNrOjGZ\
-1G3RiRmdmE5KwxcS0vBfSWjk6DsvJjxkcNGbWfZmbngzU1TBVz7wwy9Mfflr/+kQHbxAj8QYNUQx/fao3RRHr0qrzzBQFNzbC79q9tssCvz7VJgE/rAI/EBlsnPAn92BUyuB3hZ40sgL\
-6LXfPfsjYf77UPULwLeVZld2TKTTTA9xQzUDyespwmz6IKT/LIWRFvme/Vz6TkxWTKTvguvH4boXrh+AaxVcb+ykEg5DcrlSNmqpZZnqdA0a0mK7gvdyYTSWg56x/Nspwe5SCt9g+Wgl\
-4H1D98iSTixKwvqC7rUFnZhPemi+1IMQeqLkyNiv1MNEJ1Z14kYlN0XtAwngTwM0UZcrk0TxAszQTFXpDKq+3QyOscriBM+uAT7+mHYJU1/X+zoySnVlSzqxqBMLOjGPcKxZSH/mAZo9\
-6sBE5kjqbi6XaMRl+jtp69IDKnwyabtV/yTuqdn+quer9GqhE7M6MaMT09ixq1T1dNWE6kTWs1jtefo7KgWfRCdvvDFV1XMyGUPLfslBJqozQiwnq2QtXatEqoldw7M79WlG9I2d6FNq\
-9SSjfCJv1FN2Ce7m8RJ+WFWoXSCCluPYT/1hQG9tsKJELw8VmaOATxxhqoqIDY0yzgRl7Km9/GTRzcCTL6T00t2ul25e3md45T9i/STzAsQmlGvGwdashOWuSRUZWNXm9dhWd7mCKEB8\
-HHc5YaqkaE3JzsMVX1yEaxAdOu7EMmoAZvQM4AzA3G4F1SF+skhPOAMw45NSCtR2PSUU+Q9TQqOXU3qFRWgV4GWyXK+wKb3CpvQKm1IHrwnIruB8a4MG5njqAcIR8ZO7NMXVibWdepbt\
-dLsfvzkpvZ8McX/vEvRO7pL1dm0nMWhUdYWuWiemdWKqQmjaL3wYxn5YT9+piqSj2mjXv+OFbPB5WmimX70/XUurzNor91PfKTlsiOaiPmxowc3QnPSv4jQ3oRjPNMNb3bHUCt9gG4yy\
-HmbvbA4/ZpPRQ0pxdIXu2AMw6MvoQFcJS16GniF8wGvcrSaF7+API6mjJ6H9jDsJeX4tVkI9cbSO5Fy6jodkZbqeB2kl2ltw5JiUzBXiJCo1b1Epc554KOZJlnemfp3xOF2VdHjUV6WP\
-MXNclW5k5rgq3YSIqtPoq9eoayBSdge3IfUXzKBzjocB25bXunMmkWmWviVb5Qp+HcYK9i9AX9uTOYEer3g4wZSyfwB6s7vyYqYN7rShMWqmfRymq61q0Xaw5Vl2M30204pnReB2rEpl\
-w89PZHao9tSeTBuibgfGB7FpkULqAuWcZ69hPDynLPU/AjAsYfgceJdqeyrTRlvZO2DKJdRxdL1Bb8MJ1fJsJqVaeZ+b8UCDHvFAgx7xAK29g5viwQM1jNYj5Ws3txDbR+SHlyVBAmPg\
-+LqGn+Bm1ynbbXjDv6bh4Y0bfqLY8DpseIMYaGaFKU5kmBheT2RozOKIVc3PQAayj1fL09mkfsqmScS4pP6nxF3zjgzSwVW6pH1yl8YU0wZ3mOCLO5kOsIMCrjIrsJJVKi5mOpmx1PHU\
-IaiWnZfobu9xSyZQIlOtR2F5tvIq8qRcVAWfVcKFVPBRjyIWYjRZmiiJTA0z79DqbCN+nC1xj7cg16EQXm0+AUMfGIlRZFN4bcLwtDaFo1V4PYbha20SpkjmYdcpYlEFfdDVwsWqcnpI\
-fLAqo/RKAm12hCzwYlyjBC4504DdrtDJAylCk1AE/sARiqHNOYqfavgEbt0O3T6Gt9hOPIjJ8rQHD2QqL7bXRREJRdi3PVoqYhMEWNmDHD2YYwtv9M4xDNrWJEHb6tAEqAEzJfEiWXTQ\
-jqiUV861SuEnaen8dqWwmYDSnbKKT+9MH+WO3ym8y9oOoabL5bLkL5WnG7j8clml5suF0M6Viz5hplwo5XS5XtLK00e4wJQM7dVUukkatpLSDbuu7RRq3a7RlPuI17TjmDf+cr1X99tA\
-mEmzqpfYozqvqveojtWM1e50q91ZZKGA3Ui64g5yIkmRgig3nxApid58MUGi0h5cwvYoRYuYzN897vwV2oByAyvTSWlj/VaCkA7ycILZK1Sv73WB+L2EyLyU+3JCBF/0cSHBF71eVqMu\
-aUiK9CsUQERgmfwiB3PXJEUYlskkEjH3X1LEYqrzVxIiElPDFxIiKWMc6R+MCYc1FRPCPUmJveQkU0qK4llKVJFel+GejwncCzF3EEbbrQ/F3AEKuQ/EXIVFlExOtTIjSs4SWtERpT0Q\
-vXhGSfmoOeAo6SUltxAllWUpzbbJuObIYpojc0F5ESp/zp0r85B7r357RiemdWIq7lNr4F5MhiyQM9kvfv0bCx/90S9+3X48iYT4OhDiTHbJkhMn8d0eNqmz4X7lVVU9kT0/gSekA6lR\
-eyeyPXQiEHF0lRMyD5/I7E4HVSZdhsdco7MxqZfK8Vw3vShgJqLXhHKOMQNLgnWNj+floDx8dK+cFmvT50DOJF2JpEnSCsmdpGuQhLEoK5ImqVuRQQ5ekwfFO7j1BLCWc6Nsbg7GXoKB\
-X4bLdBl7NnjHCeEUuP/dKpP6a1ICaJkxJns/eIGFnG2mK/HoIZJs43A3ejVta92LDBFR3UrMF0BzxWO80lpoNJrJWqm/Y+buwXS79N+9sCpnTlNQkTbVTv0TEHjYUK6NexGjJT1KHduI\
-6ljp05pAo3SpjLuODPqwkXCRAbBS8LE9lU4BBCIoCYgpAXDRQmVymUqhOR9UqzLd34HBdAVGyviTIi/8fYAZ6XItl1TcinBAxb9XPYYR6jBCA3kJlSvooQkACRgD+O+qyjyeaavO4Hqq\
-MFIXpPFsYbSEX7Toz+PVaWTRgR+38EfRqMsU3i6ncvEfvJqZ5MBS8OitqAjEBOK+XQ5L363KAKOE5LJ0uRZtqU8AqLZui6rn9v6TMOAVHIRot/AkCDIix/IhJ04bf1g0ao2wSJvludTf\
-coUZnDgkYrwHpc69NONohqEFFB3OEFS7ZS1cimUOweIFzUNOUU8WPIS0VM8iPIi0VE8vPIy0VuoDPrfM+03K+03K+w1nSLlHN+Yr+EaH5Ock36jjSEm+RvIzkleSn5Z85YRLAErhZYoU\
-gp1Shrz1NeAEd/AwrUGyUC4El2iBZJZTSCQkcz0l1KPI+lleplAysxVCQFhHIBSE9QRIQiwvV1l6jb2VyjTtLiPfS9aE8zQOqOAEMXVAI2wiKzYw75EJ6JZyJI3lMP8asf9S3KFlSCJV\
-GREX3B1WbTiHgepMpFldAwtXWnNc83G9+s/GPUzBknt7wXt7xb193Xt7zb296r09ndC3JxPMWWQ/AAPMlsdz7uOZhGY8bFbCfN3RGb1NQSei7pAhKbzTckz4i+mojNbJqLBeixGtmomg\
-MpNjq/KqMxNBnSYf9sOc22QkfVS3pMRtSYmXuTrqtSK908tpHSLQM9doltte4ZrW0687sn9D1HHFkW0dyi3Dsw9UsCrG+sEK/ckfwe0PVWjWokIGGOppadSktT6GNmKIuJV49+bCiiJH\
-odbuuj3Bt4HSNyeEvwf0HYpr/NkatRZvOKS+GeAEDKzU/3aZx0ov83jI08X/xsNnNsr6spkoq5rn4IrmqDu6w2kQg91VbE6flFMuhqgYz8bIYggX2m1tR9pGJM+iAyWFIdIKp1WdWNGJ\
-ZZ1AqpWtFC0WkNEgCkggWKX+PKCVwGFWpjDzq7x6ItwK++IHfUpa+oCO48N4MMHn6XTN6Vfvp2MQ116531/An7reBOVkGlBOHjpBK/WSDctYNgSLSVv1NrXSLq64zlCAMDrKET02y+SD\
-V195yfOBfVurLhQRmZDVrYwV2IKTCP1NeYrdADpapRRH+CgTeh4sskWrWve/ohPLOsFMj2rHxbYs+52b8g/Yi4Cr8ChLfd529+OmKvRAJmUuLmCkaObZlzkkRD/1JwH54HpSD9qkRhXP\
-qmSG6ctKEprBi79LNVgTCYswnrZAMwmpM4mndJTUIZG4ZcEPPpAM6mEB4Lpad5zLbRJc2v+YtuAJl7/sxeVJPtqdaIhL5NbC653+mFW77oiKmLaaUbbBzWeKu/LNgIg0C44wr7TnjGIP\
-7kKjPRWTjh0u6cDN7WwYo36yBVOtOLSXyQFOlszLcprLuAteFteLGx51CrMTF7dMyuWZyYXC1jSOmpJhij9ZkmpmQlW+rnGanlWj4otGfsp1SLa1NzKNMzyOphgUNO56VlZ7jar20otb\
-ltSo2X73sEh/qPoiloC7DnNMMKFeAS+KkJur5YjbxrO4F3dIyBKJuKBoOiprHqyLe/S6mNLrYqVeFwN6XazV62JGr4vVm6+L69FR69VNVHpXzD16ZMkuMK+IvAsMyyAOD64xrFX+oXRK\
-bwDNc3RyQ3FtamsyWlsT1NqaPVpbU6a1NZVaW5PS2ppara3ZobU11VpbE9hcJWN5R1bAyxvs8CIk5UVIWTHGetpjfbfHu6pmxM2IljFctZOyNZSUrSG4BjdR2WDvJ2Qrbq2yqNvnzSza\
-N015BKYFvYLNp7wVbrQXpQeXxeHdkVvlHmTNUJB7cD7BB/XiNBVazepcIBX7gRaIykVQP5V08TuZdHV5CS/iAl4W6kWvDohUT6wDCmodUBnqgP7PMCQ3hCFZFYZkDRkSl7u14z72Nuhl\
-b4Mue6sP0Q4w8vz02JzIlXoiB/RErtUTOaMncrWeyHv0RN67+UTe46VGm8/qYHEQb8Xb8oF2LGn4uNwdt8Dl7tBcLkqwYTz0unEKeGs8xhuu7Xhw9xRuidAhzOkODAEP1xOAzHRnXAbD\
-ki3y06Iti9iCLYqReVv2OedsMWeatcWc6WO2mDN91BZzpp+yxZzpP9pizkRGbWjOREZtKiBGbSqMRm1xl+Oeor9r9kTqp2nt9cbbQo8iFed8HPMJlUy9ltgEGpG2OyJtL8Ogl+6Au3TL\
-fnd2sQqtAtvin90dKOdzlFZKnslEDllyYsCDcu2R66hcezGwehC9jCLiZRTRXkYRCh82acudDrk2yrVGrkqulXJN4YeR7HIJeRkV0+fl+XRIEjM6MasTczoxrxMLkEC/HjTfuM7mHBHt\
-qxTRvkoR7asU0b5KEe2rFNG+St7oZlHDiiYmoUbirjXjeyf5WOrbazb6JhVPaFjVLVjRiWVsynLIb7b4/zLzGUEbkxDVShZlIUqshGB+S4FhSdxwE/gOesVRXTgMuS6b62KjEp1Y0onr\
-IU+frIQRvQATQZb6M5tiFtNDYi1CHr0uQrgYIumAAg/xWwnqYxinDCnQ2BCJ9hGyaVN4DgC8uRKeSK0F0Ag6os+FibCtGxqJY2z55+nUjoBWxqJSBBuHSpEQN96A04XmgSQdooGV9SDo\
-XDyfn+GQOSEkJj/1ikUWhXxzzcHEygfx5g1Hbq5S4vrzeHNF31ymxPw3v8BGlnxziRIL//MLbIvJNxcoMbn8BTa+5JtzlFhcwpuz+uYMv/kreHOa0kEygsdjsl/Em5OUDpHNPFb0Sbx5\
-g9Jh8i7DNz+MN1eC8vkyJVZ+hOAMajj585svI5z65gIlVr+BN+f1zTl+8y/x5qwuc4YScyt4c1rfnKLE8u+/zAdaC5w0Rpd/82U+wZrfXKXE4q+9zAddC5x88xde5pOt+eYSJSavEZyU\
-DlAENkhMf+JlDgzKFc1RYupDL3OwNX5zhsv8oZc5Jpv0OyVWb77E5s5c0RrRg8lvvcSmz9LvlFj5m5fYQporWqbE2p+8xIHtBJ+UWP3ySxzbjmIS2YqCY2a/jjL452KpZj45WAakTOeV\
-MEeYuUa56ZCmkXSsM1MQysyGmKxQZi7EtIYy8yEmQJRZgEwHBTMOcahO251kzDsAeRMNwNd5oqyEWaiP8DnHSZ6oJelSSiyWAPNCBWMwIqquBLjECJ+yvINBQ0/1CPuu7+JmlKQrKAES\
-2G5KTJYI1VoLpzVRwzmeSQg+QIz62k+AMOqk/tlG0eZ9L72CpwgrCrWZfZVzdwJrY7HNOyojGpDcXONH++FRAsnnj0MhJakYvgTZ92E24mZ/zH1K31G59ODD+CCUimX2VmNh2TsVJCrj\
-0oMSfwIPC/mWNj/gJzOLUEpC7QZOzPfkU/xkl9rpfzLPT3aAjOB78qv8JAWSuu/JEj/ZA+yV78nv0ZPsCl4O+x8K4KXAQHxLy/ioPODFhlZPFcAgEAF3mSGyScF5A0w8l8PSmdfD0plL\
-YepwILLocRPhaAOVPDrCenSEZSzM4kldET67i0fZtCbxdNhhhIU624SYBoWMGBfpQXnnr7Dr4t7u4MNC9nJ0tQdoxBcLg4ln65788MsUG6eZs2qn2o1prSzlxNq61dRdX3FNlNlUkbpb\
-ymSFFMHKgEfcbtDV/hNDDCPN35bJl+nJHrXL/+SH+El5scvp2IC9pB7QEhAG/1d7k+RMPosfnID2xIskhyKRB4xPXFJhMwPD/WZ7iAiereeSFzxbzyU8eLaeS5Km8Qi+7ig6U0VIlvwt\
-4gurOi2mhjaRQn70O7b+KiVUkzKVQk4po4TIUqZGqC9lGoUmU6aDiTWN3Tj74hMI1KF42kOQgh2HVQkwzVVCaXo0vWU3mir+Sh5e1g/PS3S5lRJkmKvi/2AHglft9/BpNAqPKcLjlQJZ\
-DO4ffByIiAOi78qrr3BAwSCFpMraYqn3fMbJjsL0wt1BGp5BivJN7HnQtQ9Gpc091gscAyFwb3bxi9BzZRPZ0WezFnbSF+/PBJAXhb94DisF0sqE6BwhFXoGo0JMoJxzr/XCXuVAQfD4\
-8SRGWKBje+FzqAjFGjybJkvyOvJQwew8QK3wrJ5MuBqD9cDN8Av42lcDdvhq1mb2Do/EAbGuOhOmZo3KuTLPYwoRoPDgq8AUgmOnI0ipsVyJPhn24snZAE94VGzGeT4TRTyFfXgKC57C\
-Jp7krKqN8CSQ4sFjQTzU4Xk+bymooj48BU08BRlPfNCxFefzwCJauI3gLpN7vJSdvTxxjQ99Qe07grr46v0cAgwDMkAmS96NFoWiiHDoZii13ravwjqDX1uIPUsXYReLsNkZ4tX7479j\
-285VtgSF1z1oDDAa0SgPdfIw/Gw6HSuDx5QhGi0XjeQukRF1I4aS9qLR4cI3QiNJH/A3iGh0EI0Oo9G5JTQSp45otMh6EFB2m22/izZQHQXfBFTwKvkSpz4anBBsBuEBlv/LeE4UiLKN\
-z2QChzAimyIBjEe7wivOsJrUTwcpoSBxFYmX++BjngeUqoRbdPT1+m8/Jq+k4BYBootIW+4bqMWlVyDJ30Uw6eDmOXnlAejQzqsTE/E4nijI9pfxEkyrqXj8xVcd2+pG24D43KuOpf/Z\
-8vP9swPmv6D7L2D7bvj/0dNtnlv/t/z7bEmKro4v70UP/ntR7gcl/4LkdUv09b/63vt533v6/i/53pvz5TU8v7rNeyG5/obv/jXJa/jDcn3Z996nfPkSub66zXsRuS5t815Urr/tw7Mf\
-vphcv+T73t8fcbn+P9u0NyHXr8r98CblJeX6R3Jf4/OTvvJK5briq9f/Xplcv+577+O+caCh+B/bvFcu17/04c9f7w65/q3vvVnfezvl+o1t2rtLrt/0lfcxH3wVcv1nX3k/5WvXbrne\
-3Ka8PXqeRMx+879XqcdXZOvyqnQ/+8rzw7dX40feK9nkvWr9vq+8/+jD3z65qm3acYdc75L3Ipu8t1+uDdu8d0Cu7dvUq+T6mojZb/730nLt9uHF/15Grg9uU95Bub7BB9+M771Dcn3U\
-995HfHi+U65v8cHnL+8uufb68Od/77Bcz2/zXo1cR331ftA3vo/I9ZLvvWnfuMIPgvjXCeI1GKIW64XSPp8bHB/sHxgauZjr7y9cOPOuodEz+afODOfPDI735QYHx/Lj42NX8sP98Hf8\
-/NjIpZEL8H6hMF4o5AfPDgyPj+Gvf3Qsf270zIXBJ0dzY2Oj/XnM5nK50dyl3MA4/x0YPTsy1pcfHT2fK8Df3Nj4QL6Arw9czPePXhjGD8fzY0P4KD88Pjo2MgIQ4Jd9Y/lCfrzvzNjI\
-k/nhPipr+FyfWwLekDfHgQ7wv0M3D9xMJzGVupm5WQ3XwM3wzZvlpZDafXPPzZs78SgwfL734JGbVuKm7ZRBJlRVc1PBtXJflIqpgF8MfnEudYeUHoHfrjtvBjG9/zDfu4v+3tFA7Rtr\
-OIMtgysgLZ/rb+jLDw5Kw/D5cP5ifuzC8PjA4Mhwrv9ibrgvn+sbHxgZBsHNCYVLItFYPJG03Jxle/9ZY/mzFwr5flU4P3JJNbUfP368uak9NpQfGhm7EkOUDMew1tilsYHxfMx8u5H+\
-uTf7x3KXVDPecW/lCkNK6czAUO5c3s0NjuT63Uyh73y+/8JgXsHXTY3NjS2NrY1tje2Nxxs7Gk80NTY1NTU3tTS1NrU1tTcdb+poOtHc2NzU3Nzc0tza3Nbc3ny8uaP5REtjS1NLc0tL\
-S2tLW0t7y/GWjpYTrY2tTa3NrS2tra1tre2tx1s7Wk+0NbY1tTW3tbS1trW1tbcdb+toO9He2N7U3tze0t7a3tbe3n68vaP9xPHG403Hm4+3HG893nYcMdNx/ERHY0dTR3NHS0drR1tH\
-e8fxjo6OEycAxBNQ/Qko+gR8dgJuKRjfSnGPKcUdqZT0pGqADlMD/YP5mMKxFlN3K1V7RtWfUbWjeHvkybsVzA56SFNFQW9jL18aGO7vy433nVf9A3m4CWgcGIIC6tXwyHA+VhjPjecV\
-zLXC+IW+JwdhOoyrJkDyuYJqpAsUUaACC51YNoye/nw/FNXfqeDbviep1vvUg6pbPTF6RjXFVGOsb3hkXOXU+FiuL6+ohqOXe7JvboJfcyE3lI/1D5w9mx8rqNy4Opu7MDiuGJgzWN7w\
-iDo/UBjHwXQGcPGkuifWN5jPjSFtR0AVQaoQVMVwIJgy8tWoOsi4gyJxmCsa50rPCHVG5oQaV2PjUI+C/wXSOpUD7IyfzyuY/ufGckOqb2QoX1BnB8YK412q9+KF8fPncoOq7/zIQB/c\
-f+x0930n1YTS97GHHnjo1ElV36tGB3NXoOzxgn7brWtYBnVuEMG40qkePX2fAJG/PM4wuFUNAiKozF5Fs6mgAE1U1ODIyJPwd+BJKMmdC52bQU+fnB0YxGoLgN9cwfiqV4NeBLxO9dKM\
-5buYxLuAhf78mQvnehlM7INewHNe0AZEUeXOjEDH9OJ47eW/1DogNXk1MEwoGRwY9iDbncjw2pn8INSJIzhPb8GN8Uv5/DBAq1uFn2Eh3s+4njp1aWD8PLzaPzKew9YPwRSAEs4NDBf4\
-UW9X73rkQYuHN0VcEUvq7MjgIGIhx5DpOhlkz+fyHHGMbR7MwRudahRmCb40An/G4IEuZuQstWbk0jC+kVNnAJonodDzA4KevhFAHWCrgNjrHcoNALC4uqmxRjXam+PyqQ8QtA3e7u2E\
-GaWLhVUwXywWa5cS/jU1eN4+2AvruRprUk292OQC0BJYokfgjtvh8BWs9vg6/g/v4doPSFD4WiPCBv01PnaBViQ1IB1Rx5/iY5juMC0Qi4w7WKCBhLggEQCNqq33bstq3GXyOx27TD7m\
-NZLXctWDu0w+7w2S13LNO3zf5ySv+dj37DL5uh+QvOaHP+H7/md99f+C7/sFyWt+/8u7TH5r2Qffqu/7v/O1/5u+5/8iec3n7q8w379L8lpeO+57fo/ktfx1usIs/4kKs339FSZ+BySv\
-5emxCrN9V3z5Sd/3P+DLv99X/7Tv+U/4nv+Urz2f9NX3cxUmfn/Z9/7Lktdy/u/4nv+er31/UmH2/59VmP37zz54b0pey/OJ3Wb5uySv5dqa3Sb/XbvbLK/R97xlt1n+vbtN+O7fbcoH\
-D/i+f8j3/eO+79+622x/n+/7s7tNfA/5no/62nvZ9/zdvvre43v+H3z5H/DlNSlBCQIFCDePGZYOgOABC9GPBBpu8D2gZCRlMBkqJln2cN8hqUAYbCVXJJXe+yxBeO8MIN82dmF0fODM\
-4BWRXkh4QflkYDiHZJGlmXP5cZFn8C/kNBwg0rB8orzXK1rugTe15GMKQvCARCHvI75R0JXDA0xi1SxQ8AUrB5GJ5CYWm+gvy070d6AgIhRf4IPhC0Nn8mNaopIrF4w1axmriA+W9ziD\
-wkHBkyNBsO9K3+BAnxZ+5DqKHyn6OzjM17PAsxJPzNKlyl+G5QdYzlEUSAfOggzad2EMm8W8Igqb50ZgeXrXhaFRkFFJDhnsJ0kU11OQR8cLIMSCBHQRWgoLUJ8HB1oCrRNhcTh/qbZW\
-xl9PlUmPHpd8nR6/ktf6qI9IvkHrM33f/7bku7R+dG/K0AMpyZ+T/Pv2mvP3Q5LX+pHPSf4JrW+q5vxjev2rNteHMcm/UfJfkLzWM35Z8t1av7fPbN9hyb9V8u/dZ87X5/aZ69XP7jPp\
-289Lvl6vj/vM9emv95nrceQOE3+lkn9I8m++w8RPv+QflfznJa/1ty/fYeJn936zfbWSv1/yI/tN/Dwj+ccl/5X9Zvt/X/Lfp/VEB0z62iD5o3r9lXyL5H/ogFn/lySv9X9/dcAsn4Wq\
-3qJw1dwL5K5vEOY88oJyG/iwZk1pjCmopdfeovjlK0Hf9xbBk65XC2q54WGFbKbxnRbizudcDh9SwvDifAcm9Zw6MzICkuOwugjS41mgXoPuh8ide3nJArKMyIAe9/ORLb0g9JAGRV02\
-QKBbBECOEkQpQFKCx7nxkaGBPqRO57Dx9GbhwlBv5/pXkYPND+VGzyMhcZeaQRLY+e/QBRAMoT0g846BKASiKhAyzBWuDPeBYD488DQQw76R4f4B4pjzl/vO54C+jqGkAesO/EaGB69I\
-ZxXqNM4LxJAjbAWQAL1dDLKf0WF1GgF9vbDuqEvnUZDsH0ExanSYL1CEX5DInaPOYL4/R7RTkYAPaB4osutnQPonQUDRB70DZ1V+EMT3Akhsfed7gRZj/WeG8yJzwvu9KKHhuqPGL40U\
-u5BronqgCgHnzDkYICBunxlEYfKppxWU9PTtlNopIDYhlKd6qXyA/CxmB3gQncMeJ6kuPzwyymiHR4CawgXowLGRS50KxuFF7GxUlxBgWq4i0X84N5TX0utGIhytPqwNgY6GlfBCvhcW\
-IkGZwASvaKSPwUI+NtyLy1kv6nyKUwYGMzzsVfwGCFdjIyBTq15Ut2JfAbQXxkkwHUNdBesFWX9EM2jwSi8smupsDsZAf6+IyixXdsLIgNlASIE2D3PZjA4Yl+dG8gQjyfbU9F4upbO3\
-MJjPj6orA/nBfkDa+MAQ6hIKhXyh09QQFFA3cen8CJc1MgyNuQzkoRcxxYK8NHZ4+HAB20QLbi/+hd6Alf2KXKAdUNEQzB1YwKkWnpL0JrRB5gqNDT1d3C4pSrvvGoF8YRzVHqgMuGWK\
-hTo1FztcQJdbJ8GA84xUBQVgFwDUXrgA+ZDyvPNnq4mLnbgeqqLSV3f2RoUp9zU11jt64QxQdWSeLqK6EFV6kAVYCgV1cWQAFbWjI4CFUZjfqNx6t3oGgKbnecYi6iBQyQbIJmrELSFm\
-FjBL44Ff9Aj/hdpaVV+vau9W9XfD/T78CMjhoOofuOjqEGBeNsskLlw44701RnpNuMK8GgIGtK9LbaqdkPUOu4PUZF6tUU696bEH6jvUmSvjOC2Axwc8jj2pak4+oLJZlX3gSCeMTJ7d\
-+AEqRElNJ2XBhMACmtqLrwG6ux+976GHvO+cgek1dqVTFIF4h17xaQRzhaFeqP5JQCvpEQuiR3JHGuqcuMeB0l8hBQlRF61u46l3iYmUXjw7Nxgm2IEjQ0O5AiuvSINUcBVyI6N5WIj6\
-N5oVmeLCg7MZGkOrg9auEeIRR8z/F0vAe2ONvb3ARSNhGR2geaMJcadHs8Nl5KQE7kNoN+AAcILD4xw2m3SOrlKwt77Xo/8aQgqO6NBFaN1jY7Ee6LHenOcF1MCOQ9MBVq5hwznoVSQi\
-lwEoIOU5aX5NxdaIZ+axIo0ItqYVh6XnBjSBZeWpsciuJzk0WozSuMdZ5ytqP5yBooxFQo0jaKMhUOcriZgAVmxCAbxs8fgs8mCIQOYWxkEUHOxlvW+x3TmpTStEC3lkXTbUiEJHEF/W\
-h8sVkmdSXBIjIvO2UWZHYVy/KGpy5uYGxpF03o181/qOEhW2HlMaHu+YKo4+rYT08oZIRkweEoe85iNxyBeGkACNUU2IBxo2ots9qFxGwR1ktCTQ9+1tbS1tWE2vGqfJXt/chFtRLe2t\
-HfjczR0XLhzLaTSf9NLWhy5A3qvzv9XTffqxh04+6n5PNXuotbHcY4cXPGRkhCcR8Jv9g/kx6QzerxW+Y2A856X1BmHVtGnDeSRMEY62wfw483d6YmMt399rjDwqEMCmVzYpcDs4unCO\
-CmEr8mV1uIoeFC6WO6pTHWw6nx8cRcaBt3UYFuL68kCH+ul+cfbqLQJj54BpsJ9e0P5asSBXba55SpqpNO64M4jM5nMAE/6rg/8aGmTOF+euFtU8+HBlLy/HoEmPnxLw1BcpqDgrmGJr\
-rOiphHq6WlMv589P+PKTtaaedbrWlFu/UGvK+UuS13YXf11rysl/V2vqFf9J8vdIvrXOlPs760w5/3V1Zn2nJN+m9RJ1Pr1EnVnfD9WZet1P+er7OcmXbVLfL9WZ8K756vt2nSn3O/Up\
-0z6n3tRLH5V88yb1vV2eP6ztzurN+n6ufuv6XvTV92v1Zv/567vhq6+rwazvtQ3m+/dJXtvFnJe8tg97usHUo0w1mOPrhxtMvdgXffX9twazfV+R/L3afuqYWX76mNl+f313y/PXaz3b\
-MbO+9x/bur4P+ur7uOQPbVLfq/L8bbr/G836DjZuXV9dozn+TzSaejZ/fW9rNOtDGoOkiaXKLqS9QONqjtASgLRKC58kqG0kYrLMWFDHcflYx4nEiqQshtQzNt4I1AYJDtLoTs9CXecu\
-wF1quNOl2HVbLaB3q+Eu4iiHZdnvvVtd3AwGTeViTPxiXpiOtgDvCv+TYgvY706vckLDhfWd6RL+9ozUuFVlTVAZFkqizYbVtoIwhPIQVKv6sOI61bd53apW9XF7z4DMfKGgualcF0kw\
-Y7lR5mxfn7uYO4zr6LjqB3l7axCbY5RoVi0xr2S2IbhtIKihrMbgEkj1RZCGBoa/9zB5RcONYXoXqfbVqVM0mkYu1RW57fUMAC/DOVJ9HaY121XBoOnNqd6RJzcbP1hJPxq7CBT9VJQB\
-SzMaweWfIvyc2nQcdalbAhXknBrAMSD5CHAGJpgoBOVU/qkLORC+z2yNzMYYgsQ43Ab+FrTgG84z/Fx/eov6BwrDh8cZCnyyDRwtulObYqzsUh5rguYY1utRJ5qdfOLM4Dgq8zyAvWYr\
-uIDzLCD9Air1r4TKVHL6oLKsJ1pM+vr2FpNfONNirn/vazH5hw9L/s3aXtpX3jdazH2NzlZzffDn7241v+9uNfmbB1vNfZpPtJr7IP76XvCVP99qru/+9n2u1eQHX5V8fpP2HW0z953e\
-3Wbiz5/3t++9baadwo9I/vAm9f1im7nPE2k325NsN/G1S/J7Nnm/VvKntF1tu7le+9s32W7i81lfef76piSv7dU/1m7yZ1/2wbvcbvK7qB3G3y2Sx5wayo+fH0ENBn5lTi6REg0ttKiF\
-h1HxBS91aW6gXatp2NQQ5aP2VrRsBIGlsAWRJVjPDlzMG7Qeb3gWcKi8SP4h42FgfHAh3LmzqAbAnNaVQ7Nd/sbD0mCWeRq3GcdpS4PkPQS6ThGDgUbNIFufwj/vBhqknlGkaCctgNaa\
-52hDJz9KPJIfkUXpVSstaF24FeRtgriisB8TPJ2IsTkpIFHU9aS8GztuErF2baWdh2agWoB21rWuoDBOeoTejTByG5BwHdKZWwDTSrUw3LlN2EMBxFD5KHi3CR93kFiNz4ZyfeehYw+z\
-oqymN395dBDg83RKU++RXq7qIqowEZ7co1egsqEGSDeI4UFN7kgXJddV6eKkQ8ZYa+OJdq0cJaXod8mLIn9/wqQT950w5/nrJf9aTSdOmHTnAydMOeuTJ0w6M3fClAOCnWZ94c6t60t2\
-mvXt7jTrq+k06a6/vjrf88ZOk863d5p08A2dJh3sk7zapH3Pdppy3H/31fdlX31/0GmuG9/pNOWqeBfnGzdpX5c8z0n+o10mPB/vMvHpb99cl2kP9qtdJvz+9oVfY/bHYH9hkDYL79tU\
-qLqvU/a+64p7CxssAHfTO8zTk9rovi1lK4/G2D+2RbfLz0gj3CQZGvVNftliHP1DsAlU5N0wwWS3gOpnWJAKo1UP/jalEI+J8wSbAnGu5ggVRuq9opbeqzJe3zS5cWbkjHfuUtUwZzec\
-umq86WiL9m9Rjz3W6W4gboX18QbXIKrmiJvUgKrH6tSFYeJoQaQqqhqhGDSj3xJu2ooUwAkkuMkg0xO+2b9Zc5rd5rCZlsoJaj32W4LYJq14p6XLRbK6RApd9+06thFo7FLkGsCW9u7z\
-TaglAQ73YlsC20r6xXvMefk79/jsOu8x9Se77jX1X/sl36rtYu81592bJf8WzQ/7nn/uXpOfXpR8Vvvldpv8f7nkH9isPnl+Vuvnus32vdS9dft+y/f8y5I/of1cs6a+qlLy75T8xaxJ\
-JyeyJr789T2fNe2mfiprtt9f359kzXWh4z6fnfd9W7fv/vtMOvo2yR+X/I/fZ64bc/eZdDp6v9m+svtNecLff9X3m/139H6zvtz95roxLPlJrd++36ff9r2/brycNPWV+yXfuUl9T8jz\
-n9Dyz0mzff940sTnt0+a617mAXMdb33AhOfiA2b/PC35p7XdGbrwwQ8IQc+mK1FPp2uCthVV1J/WHClu1OFmHJnEdsFr5/LClPFGGlloAIVE4458Py9Xsm3SPwKlN8U2oS8EMICHb8W0\
-rS2rS+DGRotVK3st4h9s6RZKw1tuLZZ1Wrf4jKfJQECHcsNXXIvgHOra0KBmMxRA9oog4dba76pCuEGCCWx0ERnNHmQ0+1Zu8t6EH3U6GSHXHOErb/mhwg81RWggswHQshdJX+QGqd/q\
-cDNy3GPASAA1x251jSZodI9uvlCLyyn9LQLfPdx/f744+IyW5G9tKJpN2q4RAjODcZvjkNxlczkD+m5EdDfbAJnwkyMg2Si5Lk3mMCJBnsDV/YCffA/6g21MNusP6g2F/eL1/ZWp5W3N\
-mSPcBHYOZGSfKfJERluE/9ugOdtNi804KAHLM0G8bRGOyhh7/kY2exo5IJf1zXzI60kAbSaHt15+HT3XUFIdLrJNRW0GY432nUkybfluW4pC/CU0949pID2NpkbRU1OK97CUxK6t5yWp\
-+a3i0k1/Vc8t0kd6+7GiJ0XNEdezoUDmYtoMT8xQxsfy+U6yY9KM6ACPC7RwAnI6NMI6ndsZ0eZY2GRI62HAzdtiFNA6/HqfHfvrTf6q8vUmv/OE7/mZ15v6vo+83uQfPyr505r/eL3P\
-r+z1Jr/jry/wsMk/VUr+rk3qe+3Dpj70/Q+b9f34w1vX97GHTbv///KwuX/qr++rD5v8eMMpE5+tp7bG52tPmfzqo5Kv3aS+q6dMff1XT5nPv3bK1Iv46/v6KZP//cYp02/EX98db+D8\
-m7Sfxht8fnZvMOUNf33P+Z7/mOSPbVLfr8vz89qP8BGfvvuRrdvX6nt+t+QrN6nvTY+Y8s2oxy/qe8FDwmLQgy/BMuhbo7UDcKNWtgodQNHVdZnagImURef4pss4P9+S+XDjWLg8neoB\
-6E67XmA9fN+FGh26TSZwrGi+5mPzWjaHTHMUW8JWdCOjq8DWzbltATuPhrLy6S3yPd710q11a66H437QX4HvTdr97ZYgRG5U13QlP36L+DMA5cq3BpMCk+AfBHKg8Jg7rlzomrYafVpZ\
-cot49Cw4XOlW/dw6argBChZ7KGNOFrrlKsvqVL2GuWjYpgE8P3IB4AU2Q/JjIyNDOGO4Cnq61eDEl3CzFb7aZGy6rop6xkDSgBafubB+L8CiyrYEiu2iesx155s95rpjvdH0n+t+o29f\
-9o2mnP3+N5rr7qzk+7Ud12mzvthpc53dIXkdF6jztFlf92lTD/T0aVOuvyr5j+i4Wo+a3+971FxX/O07/KjZ/ibJ6/hDb33UXAe+/1GTb/j5R832vPioyTf46/uNR029xZcfNe2g/PX9\
-o+Sf0evOYz5/5ce2ru853/Ppx0w9ir++z8vzN7j7skU/UxjL2U3XuWxn0dluS8U9llRzZEsBzyWFl3DuDg0UCgPD59CuWL+P+32byH3a1vQcupHcuuDX50pM+OHWol+fx+lYZW+14fQ6\
-qogKmgbIR50qn+s7b7jveGUAkZBaSQa4ndb5xSR2i475WkpN5EcbCknSzOK7G8hJfYbjNQ6TgUKW0uvXD90CtFqmV/TiwSzMdg2U3pKatugu6Caf4zfCBbA8Qr3xZr63fvU1HLWoB75r\
-pG+EaY1VDdN2A67P56sujdiWefCiGhaTW8Wrh/PaHLEUB+RNJp39+zeZ+ubvSP6k3hd+3LSnPvu46ef8S4+b+uHflPxFrV9/s1nffW823++R/H3avvXNJt37T5If0PYxT5jr1n7Jj2s6\
-6/WsFwXP1paPt8zqb6FAgbLRut7QowxoRYoekkQO2nA+9bFPBdRAm27oi3f5EfFVdF0axUnitvRKRaIxiKNALM9OxDQ6ijoWV8mKL25sK9GiLjcy3TRi2eFI3lIffXsryhkP4voMBZQP\
-b+TSgY6u5iQBdJ75btF566vPRohtAsT2FRFLn2oW/RawKnF5nvDNxydMPuF/+55/5wlz3Q++xeSrtojzhxBY5GciTu7iiNKpzmE0k5FhrVbGUFpE73A/6y1m/Z99i2m/t/YW097t1FvN\
-uAHn3mrK+196qwnvVyT/cR/8MtAf6X7DSaUdkd4mDHXPOyBJQvAjkOJgbhOisX0EUkX/1FPvwAI6PX48Ulanx6WpzvXN7Ds/MNgPVXSptzU0vAP6j+x4cmjQMMz4IifP4fwlRUL/WA1D\
-VKfJ9xH2vzQV3WNd6KQLQOJ4EyjFx8wDaS9uuaDnzzBFvPKoHtn7DKORUFAuDtS4TihqFL1Bi6f558byaMm2lVRiqh4YuhPbCagkq9Cophpck4xGw3KOtrhX32aO5xtvM+1qUm83445c\
-ervJV//k2824HP/17eb4+WXJ9+nx4/ddMkeQuBRsMS6a3HHR5Xm9s2iuhkYIHP+HnLXFClC8tk+JYeDAGNsx4lC5jwJfZBmeGhkpdWIJ6B8xHCVDUzfqZoM2NWmvCOnbzawc13Mw0lXC\
-Gfg7avod5jz/yDtMPeLPvMP0k1l5h7kOf/Mdpt523zvNflLvNO0eGkx3MuqlU/5OOcUZ8rBk09Lcpnb3gGgxxIHlpIE852v8yNW+JuxcjYWiOqSRsLwxIre0xSF7kHea9Pi/v9OUS//g\
-nSYe/+KdZtydm+809bO132/i7ZjkX6fxVnS3Q2yZGMtBq/KD/XqX1hNMxIcIutcvxlpkK4qPLuYGLwAh2RAdt2qG5cfQqq89/vzffL85v6O95vNkr7l++J9f6DX5U6waG0DeIW54yZFi\
-eEl86G5niXtllxk3UuI5oodrY69E4LwwNsyrI6GlsQ6fHW3ppRt5egxTuvcyvo8S4MBQHk08t3dWIt+V3tzpk6976NHHTp4eaxxrGmsefuRNb8iePN106lR39uQp/Kin58HuR0+ezma7\
-T59+6OTpxx578PTJ7vuh3PvuO3nqVOHCkO2hsl7HUY56Me73MeUxo63teumR6FbR0SIvwTqBiyUs5odGx694XfXZZ9xtXj+RQG7L9o7nNUcaGnwRVju/V0FUNYSdOuwHQnoJlu0Ch1wh\
-bA8PN6DQ19Db29DQy8zQpREMDlpAvEjp3oA8uPxDF9/Te8/x3iK7IDE56/QHrhTKE7APatcxWSjiAju1w7w7vn5AUbBSGG7F6Kf5y6MDwG/q3UYYUbzHSKPMGu0z44I/1WfSkZ/uM+nS\
-J/rM+Fdf6jPX5T/oM/elAv2m/i0p+Qf1vkq/Sdf6+s14l5d1aNFONxJLwdcsjsWCTWJ3dOyWXheXw8KMDIhWpY6HMtskFijkJ2BqlCJqDF7xB6GgvWrqdeaZ4ClhHh24R4a+Z90IQ4R0\
-QMjdXaHBtOnY0fZaW8bO2ABsf4jWHMeCKgZTGh5GOkRzrEbR0D4CNziSK7xIzkq5gv8DHZBnLD+KIYrIrxyeMnN4Pl/IS9AkmmNUTjHKLS6unVIbKU+wQk0r9YDu0pB6PnTDjXAZPpC2\
-xl+X2maA5DaEs+jw33C0jUJOwDT3geSFo4GCejUI2ce+8ISdoADCOnYH1dapgSenD28HbBC0lz43KmMqNEy0R2z8ya0Dp4g7cQa13pHCHxkTh4gijOGN275+hBv4LnrfFsSpYQMa6g2m\
-nOOo00i1yAfGJaii89oghPKWxN2NyeFdfT1Vwsw7PM6LksRsJlWzXoMoGA68U+cuVgXvEufHCVXCI0KiDlHfUBSGwkB/3o241ClrO2/feiJVFyFDFDxC5Vx+pEuvNBzDm2VGKKO+nu4e\
-dvv5cK+nBFp01hVBQ4uDN+B8vufRkyfv73XLqqeAQN5o3OSXxFHv6XvLWnjSjMvaNGjuW9w3aO7LTAya+r6XBs19htVBUx570Fd+fMgs/w7Jv0afUzFk2o/86JC5TvjLX36XWf4LvvJ/\
-Q/Lt2r51yNzXOj5sxlfwl3/eV/4bh83y+4ZNfeTPDptyy9eGTf2Gv/wFX/lT7zL9XmoGzXzdoLlO9wyb67r//XXPff2xdpv1fWZo6/r8z2d89Z1/8vbqi21Tn/95ZNCsb/k266sd3Lo+\
-//NcYaiJqIj31IlTDz1yUjVlc/3ZK+Pk3U0Bv9gcmAxPc0hicD8djzcAZmCYlY9Ctci7K4dxBiVuV2EUI+gwp5c7A0QNqNF2kcQ4PK06jBy06gK6d/btLY0tb29ua3r78OEim9w/0lc4\
-dqr7kde9qft1JxuGAKTMwwPDzFDQgQqZ5nUtaz41MnzuFMVecsUEpERDHBIL6EpzWzuBVvB4FkrjcngEwBiuXHKDVsJ1EZs8W4BAV3Vj7mxpbCwg/Ie7PG1oWQdhy5uGnxyGUt4MqCGb\
-O2/cKGIJx/KQuZg3NZv+wFrDCrsJICXznFzxM169SZju5XDysmRqQDEEsIHn1nUwtn4fxwe6j/mC8ZERdTZ/ifw+IUmbPMXQaIiisXMXaE1DLPGqUdCm2PpFJcFIt2quBpHlcQNInK9j\
-vvO1Cia9O1gw9TYPFcw4v+8qmPL5+womvavxlf9zvvJ/tWD6E3yzYNLrjnFzPfCXv/CUWf6bx83yB8ZNev2ZcVM//U/jZvv85T/oK3/fBbP8hgsmfKcumH5x779g6nP85S+PmuX/jK/8\
-z18w8fGtC+Z6/NqLpr50Hf598K+N+s6tK5j5RMGkj5+64KO3vvf9z2d89Z1/6vbqq96mvnXPfeNr+Tbre3x86/r8zy/76ntw7Pbq+3Rh6/r8z1d99S3cZn3xberzPwdy1bbx+tYG69tp\
-N6SilkT1Audu9XmiIW8cxc6gRx3qdpen9nWAtQNgj0h0tXVgaaMxoIqwLOhoecLyH9TRGGnRGvEKRPW8yQjf1ILAJ5F5NgguaVJXVdtmNOf4OmCPf9+F8e87exrDLHf6wkhS9M+zqII4\
-xwuOucZiAEmGd9OARLSIAiRdnt0ruuduKtBOhBu92Qd8sVijER3rGtGBGKedwfX4htu0RdLSvGH0ve9nHijH9/QJSQcZTHSFb9NAYbgbE5sn1gFyQtZ9BgY3JdH2QpxfnuSDcFiPwTHx\
-ODiCwQPoeHjGiTYjY5yV2Kj97u6/u20tagx4kY5I88AM8GAtvoW28YpvHbxi2pn/2hXTv/tvr5j7KTVPm/HZTz9t0vnFy2b5F582y//Bp824cEtPm/Wt+crzl9/jK3/fu83yj0m+Q+/r\
-vttcpz7zblNu9Je/csks/6u+8lffbcqJd0yY9nDvnDD5En/5jT74rcsmHZy9YuZ/5opJR7/ybvN7//vrnvvqG73N+vZuU5//eco3vlZus77xp7euz/980ldfz5Xbq++TV7auz/8c5a7G\
-TQSvRpz+j10aQE0SqsdyY4O4H+rKKf35s+iL6OX7+TAt3kX0hJB25zsRkoJomDjcPtM2PdMlouXbh/V2xmV1sPE2l7KmpvVtaXrDQGF0EMS//vs1E9/plUS0FrC4z2kKMe6LBdF6Ffcy\
-+QtfpGyv2AiN4Ri5Rjua1guETc2wAHyfKLK0iQCA4m5FezRzhHRaIpAqaguNOrFGeKSO3RhHBgf6rvjMKLpoTcgVzSn1brvbB574o3xmnwn4ejmxqeX/6+1boKSqrkSZT0bEBGFipMnK\
-mlwhWaAWPVX9p0mUBlrRIPTjo5jnjLe6+vZHiqqybhXd7SggqGknAQGDEEXTGDOAE/yP8BQVP/jAGbF9ijJBnyjRoCYGyUTBjPjO3mefe+/e9esKWQ+XXbXr3LvPPvezf2d/5iaTlygL\
-qjGneqpnhNGtT1IZAZAiSoQsTKorWFfj90JQ3/367gogT2kIBB8K1xDJXxC5rnO1NcF7amLfrgy3j7Oqq4MCYjHXw+oW87i75sXczogt5vJgxWK+f/PYYu7nGriO439V4D+0mPuxRi3h\
-cXZjl/D+MRJ/v8A/ewnHH13C5c3qJaI+zBIunyT+B67j/CC8mPOT/7GEz3+wxPGviOs9YnHx42vF8VhCPcK7jUbmgKej0fJqs+t9ZPVgAUvqjVQZH4n2IJAtT2WVyJTvhTAf84BD58tx\
-1nlWtBInmGSx7o70K/KZC2bNvqRp7hzNZi7C8u6+I0dTV3VJtKMr1hhgCO3JbFqTBP59eGOV9uvSFoI+CyiANxv6b1LpQnA/IPfEzVbcIoLdXFd43qv57NXk9vD12eDL5DUWQScQvkiB\
-d07RA7towatyRSQcuSIc/K/kdSJ/wjJ+nx9exuve/O9lXO/6y+Vcj7lwOc+/u2s5f053X8/x71jO9ZiXlnN7fuQNXG+puoH30ZH411/Pn8NlN/D3bDXBpu/1Azdw/8MLN3D/hMTfKfCf\
-eiPHX0Hwd80+742cLywX4xJ/j7g+m5fx92zojXz+zSWOv/4GfnyFuL+Hr+d6hTx/23J+/vblom5UieP7xHzzlxWfb+syfv59YrzU8fgo1+Bby1+wGmvK5XObL4D4HvOOQ6gPhnbAHhY6\
-jtt93qQjNLrT0O0IA3u0aDa13KvhVayqrQ1p2QwMCgeqSXJTPFuYTEpjbfJ3lL+hV1TX119Rc0WV+HUw725BHofilV+IWmv2rMtmQ+ccWGsDZ3BUgRDdq7j/6IdNoEce+R3i0ZayK/pn\
-0IYkBMGypQaXA1CkprrMJdbxVdQ192TS0UZDvVdCEEMMoUcO2bq5IwXpUv/1lCSjgZPRcKniyqjmoZsZfwsWwAe54HlKwHynwB8d34RXUytxRjQYD4sXgA++CIrJ9wmvKvsJOXKT6NfZ\
-x/n6FoJNv5Zf9nG/8xk3c/t00s1c31p6E3/Pv38z3+fL3sz9yHfczPPfnr2Z812Jf0Dg77+J8xG7j/Oly2/mfGFJH4/PLHX85D5hD4vjd/5A1NkX8GQBy/na+vh8Nwn6VvTx+KJS5/f2\
-8XzDUuuV58fF+ekyz3f6+P3o7Ctv/dD5MYLVMLG8pI4egg/TVwE/RPc71r4+YrXMaJraPDcKOeXUPwItRRMRgO8f+rtMvRunpwsaUcPvxPrpNQwR955kySbNfsFS31PrNz4fO/GKhLYU\
-paHLmPMMoBdtXHdMPVtEvaUDFa0LmubNmDtNm9tmMfpKaNux1WtM1OZxYFNB0/SyQhy26e3lac1+qwovmB1M88AqwnlWYeTvCn7f3lzB49g+XMH1ndErOd+YvJLHyS1Yyd/zhhX8vVu5\
-kttB/St5/MV/ruR85YuV3A8m8e/+EcdfewvHf+EtXL9ddgunf8stvN+DxD9f4H9D4P/oFk7/uFWc/ktWcTtQ4j/8Q45/8SqOf9Uqbqc+t4rr16+v4vWJc66/oH/oj/h7vX8Ff4+vW8Wf\
-h39eycdLHb9ZzNdTYr4Dt5Q3nzy+Qjxfh0vMV1PmfPL4PjHf/BXF57t5ZXnzyeO3i/nk8W+syOW7VYwFVV0QjcfdWe3tfmlMiARTujIEy6UwhSOgTgGjCEHt/RDUnCYDFZikm1fr4lzG\
-xMCXwS+rgxotElwNCu3M5JxsrFNnFRG/BCoM6yeWFwg5Mdwz6jno0B8K2hgUQWMpDmPD+cn3S4nkZZk1jMwan8wpxmOXQ6cRcPkJNaPlU0rZzHnJrGVk1vpk6nyQPFQGw3tziKTB8mnE\
-slRjI3korGMU1vkUTnXi8Tz0+Q1kmaQ3Tc6ABLDIxlZHCj2WmJExtrqqsCBcw9+z69bwfJ5b13A59+QazqcH1nA59aVbhb67mr+n37qVy9mqW3nexjwxHruV+xUk/oOrxf7LGs4nxt7K\
-528R67XWiH7y4vzMGn5+dg3XZ0sdD3e6Ia+e12BREge9RZQSTo9BIPcbTC7a2PWT0swveXzkpXWg4pxpIiNz4syk//7kNC7U8/C3hW81iCfOuo1f7/+6jddVPW0dl+vnrePPW8s6bt9d\
-v44/D/ZasT+1juPfto7rFR+u48+vtV7DMwvg7/8xx59cz/HftJ6/Lw+u530qnia4pwB+ay1/noas5c/rgJj/t7dx++ZdASfW8+fxtyXGD97G5//VbXy8FP6Dgv6dgv5Va8uj/6fritMv\
-x8ulX57fL85fepvY/7ytPPp/c1tx+uV4ufTL8+GdrSc1IULSLL9lBnGsHs9pd7q1tE7oBPqA+z7IbcI5/Mf0OcIgfNqlRO9RYGtQ5wdQBExx3lOVn9YqbzvPU4FMrL8VjQPn6dXdK4Kk\
-6TUFCmqABYppOpjfrR1bXlmOtjYMo5fGZVrjVCyVfujxrc10SUZbnX85sDs5zXFSmGXWjTppKyYnxp1FykafGCwtafZHGvSg+0+WE+tMespeFIx7VE/AsflP4crK+usmQet1ftS3uiAx\
-XJN9xdhvdU3CDk2T6ChvEVeMDdNvsJRJ1nU56sLBO/jz/8gGzv/+fQPPP/t0A+ffp97J+WPNnYL/Cfxz7uT4r7qT8++77uT7Htvv5HUoJX77dhEXdxfHP+Yuvr86S8DX3sX9exL/wdsF\
-/7td8D8x/9YN/H3+uYCH3cXf760lxvs38Pnv2cDHS+Hvv0PwvzsE/7ujPPpn31mcfjleLv3yfFucP3mDiJ/ZUB79v9hQnH45Xi798vwg/64pyr9riCdqWxH1RtNU27BEf+s1N7JhUIxb\
-h0oUZ9m1+cmrRbpmJaYCr8WOIMh09b6BtqGohDVuMmvRY1O0iG0lE16ZPUzszOXLkfw8mbBGSvLmuvx0181M6uKEOjWa0HLr0O+2zQoXoqloonFog13nJutyIn8Ox+XOfv48n7eR8695\
-G3ne1eqN3I/51EbOP3+/ke8jtwj8X72b4z/nbr6vHb+b11294W7uV5T4D/6U498m8O+9m+/Df/VnfF96zM+4fSDxhwX9Q/r5+x7eyO23R+/m79/EjXx/qdTx/WK+VIn5/rbM+eTxIzaK\
-+L8S8zVsLG8+ebxJVIywrWgvfTGCu9El0qEwIizkxbDFkgtTcQeOhBpwmZkhq0f9n5l5zvcoDVJ9Qd0sNyl6YX4/BwW1pbOJKxKZcCiTJ9YcE02Je80x1APv81VOb1FVuCgTah7NbeNj\
-Yu7qqvPFb3dTj3E3g+pyBo7ChSHYU1c9iEXU1eTXIz0aq5HG2Zi13eilWJv6V5q8SNj8Kxpmjk4F/9jBXOJzcvKLjv0Lfy7Tm7i//sZNvL72lk38Pf9oE+9PU7OZ77v2Cfwtmzn+2Gae\
-D/qTzdyu37u5OP4Kgf9rWzj+8Vt4/enOLZzP3b6Fr0fi3/xz8d4K/L/fwuODzriX8/EWgqcVwN8g8K+9l+PffC/3s/37vZyPf+Vfi9PfJ/DP/7nYJ93E9Z6Fmzif+fG9nK/I4+X4MTHf\
-7jLne2tL8flyxsX9b/iX8uY7o8R8cny/mG9zmfPN2lx8Pjk+fROfr2JTefPFNxWfT45DGjpPoMXEdC+DVmdwUqkBHbFjiizoHHgo7KAYKJYo0NUUoAoCNMGECg7W+fWWX2QhFJQXOvFE\
-F9coxst0qEmmJ0MW77jMuVUBnqbpxQNyBEhLHBloUHj4q4OYaQqCDGQipbHmms9ovdwkU20AwqPVsItZwyZfyd9vgDVBkSDS4yOleXXu+s4J519fde4iqtUi5jhOW3ANug5ClWl5Wlej\
-LnlwFVdnHRcDtyFjmZajJHci0+utxyO/oaamrr6mJlxfXR+eWFsbqYvUlrWW83vyL6Umdyk1M5MZSBxoCzbpyJ8apAMivGpIpk4GPmZKgMIDqBvUG1spM7MsqqP5ia7NJbrW97rnI1o3\
-8wvU7NC/KBQmWq9L2086hVwHhXSlZaGn8h6fSH7qSR5s5fzl/2zl8ufdrbwfxBn3cb9K0328vteW+0R9hV9w/Lvu4/j338f7Q39+H/cLjbqfy3+Jv0fg/8f7Of6r7+dx6w/cz+X/OyXw\
-7xb41/+C89/dWzk/fXEr57//cD/nr/J4Od4g7sfQreXN99x9xeeT45vFfD1lzvcfW4vPJ8fh+asrIF/qPPdq1C9kpGvadCWwxIvb1ZMBk0LXLTdcyfwaKH5kTkC3MR5d1jszXv5Th58t\
-/5UtdOpzl1yvmNyslJNw0NVin22bDTp7vO17K6IcNNmy6vDyOIFVgOaGXMIaFGFT40mXCBvvE3a2rffTdWwbVoyKZkz8WjILlU+TENUGi9GMWdaqMvw5WICqqjyZqG5I/qXsfpA/z2Mf\
-4nGm9Q9xftb+EOc/PyT4ewS/9hDfV1//IH+e/+sh3h/o1Ie5/t/8MLdnrnm4OP7pgv4X6fiRBP/fhzn/GvEI1//nPcLrvN35CN+H7xP0d4r5dj3M3989Apbjm8X5FQ+J+pAPcT/F0IdE\
-/nyJ87/xEPe7ynG3M9lNSpVna0NRdvoNtbRgzSY0pE0VKzSogdd0OLogEy8RJZQ2c9qgDG19ToQ9uuZpRQILMAtFyphIXX19fVWkji+IfsSqX1CVy7xyEBXlrUyHowfXBUNYOVgxD7/W\
-i1lmo6nxxdZLU2lsZSw3XGq56Wh3VeBOAWxVDfo2dcUyWfUz4Ctwp6oCt0lrfMQaRNE9ZYqoQ+1BLa2q0G1E6gvcRk3qGMUvHhX1PR7lcc5/vY3X0x+5TfhFBTxrG/c39Dwq5Os2Lp+z\
-23ie9bptPP6zFP75Av/ANv7+vbqN85/R23lcfdN2zn8k/gaB//vbRd+X7Vx/u2s736d8YTvXFyX+6SXwd5ZYX1+J63tYjG9/lOtPJx4V9d63CX+JeB4kvNBRr0IvbtlcSQUo9E/4huiv\
-VLHJvNtdiVQ2o7eJumDvI6ULb2rDYqFSiCDZGp7YqbMuuaRp5jR6Zpt71NFKcGfUq+mOcVPR7gS+lr1uxlmoIzAx2RoqM3vOVRN/QLm14K3s6ujEEMGFXVCO1c7iN2tCFqunE7DI1uFH\
-mOmkTlJIE21RKFMBtPsh5rovOguiw0m6dNpmPJnowHqL6ndIttHo2q1sCi12xsZYUkoiOQGCG7Agn04ZMgSoa4w1SdPWrHlzfULgoAz0TKEBKoaKE86ZPbUdighjVbCQlYLS7y4k5QAR\
-iD1kCvLDuYaQCRM6nXhKsZW/b3MW/X17No47RfMf5/zik8d5HNLf7OD+0u/s4PHi3Tu4fvHMDl7/aajA/94Onkd8dAeP0xr7BNdf5j/B8x8l/v2P8ef7wSe4/rXrCc4vhj3J97XOE3D6\
-Sf4+dz4m6nQ8yd//557k9aO+8pSoe/sUn//2p4S9J+jve4zzg1uf5PrI7U9yejaI8Z8JWJ5/WKxn0xNcX7r/CVHP6HFRD0/cz7d2cPwfPy78q2J8++OcX/U8Lup9i/EPxfy/EfjlfOWe\
-r96TqFZIdLHvjKeggFmiC5RSZTpdYNp4IfFXNEXMCdrtouxM80MwWxCLgnrlSxuN0kC53+TcyzjlGCXqdY4nA0YJ7Jfhrj4cY03Iw3Kn4hGKc41p62pvVxYtfRRfKyl94yAvGzbuIIoI\
-vthyYkwA12dOmABak7fiVsWNynclRcCxG7aSCwov0ulJOTFl4lVWmm/WnLlNc5sbaUlaXW3rQlECLTHUPcEDMEtIH2WZq6AZPdRy0uqivkeGlRr9L2RRZUKNR6l33Z1dsU5PNwbpV3yV\
-/mom0AJgBzSviKQ1Ac4xUFMw5bRFM6T80iNEP4NOKgwHspoTlMwV1HEbdRVs329sToVrS8IH1glWCkS5621D4/esBNl6vo1FEM+2WcnksLLW0cmungCYNQTFaLUUnllA/4UiSWPDube/\
-srJchwe8/8/w9/+Hz3J98J5nuT765rM87uG05zg/n0vwN4w8Evh7nuNxCbc8x/svvPYc77M3dheXd3N3cXlz+GnOX3t38biJ1bu4fHx+F697dMrzPH9L0t/wNKe/8nnOfxue5/b+Vc/z\
-/cx7nxf0C/z7nxb+PjFf59N8vmXPivoFAq5/nsOS3qrnOT+X58vjJTz9GVEP7xmRv/VscfwSzu4S/SYEvF/Mt17M1yfG3ef4/OXSk3pO5C0IuFMcP/5ZTk+FGF/+LNcXyqWnRxwvYTeT\
-jS1AUXhlm2IR8SRB1tTpsy5Sr7zius0tcyx9WHKhX5HcdNFVrBI9flizO9CiKliW3w6a1LY28C2s0sZaNBJnzQ3HqpJBWKb3ekpa88UDTOaimoCsSwkApDzfYmEMGgYE93fwYOpu0DYJ\
-mCxJEhywLQ2RszShiy0CIzcC3tM4aPW2Pk8XtoVDG22vswTt69FZTk/MSQVLRRXzZuSuv5iEi0OdqjwXAH4Pup7oHkOZgcAzgLdYGWZQUYludFDkUZ3+nPZYID0KdhEYpCCHC4w284Qo\
-TaeRBxPHglkxxsKEh/ZP2J4LZtEMxl9Wmxsg2LKb84Ehe0Sd0D28ft/UPTw+e94e7sfJ7OFyILybv/er9nB49R7ut35xD5fDf9zD6/Se9wL3mw8R+OMv8D5Ki17g9K19gftxnn6hOP4R\
-u7kcjr3AYecFbtdMLrHeI2J8p7j+S3dzvjtMnF8KlvfvSwIudbyEUWXTbqCAG0fbONEFgXJVrjJaUHU23lNQBtGlkuv99ZxEGWwv5ceSaSzF+OP5XqVxY4Bh5IZ+i+02pzXbYRvN3PQB\
-1wklWGDBMYcTR/QlAJxJvhEbnTVlmSjXBFRUjcrXUTmnmwajHVT2HAgZk0gqiyuTTPcqSulbkHjiIxAcoa6W1RqNLbBbbbp0AHleaC/vuCY8sW4wuwZyFa35V4Hv/17+3CT3cvnfvZe/\
-97fuFXmge/l+0kt7ub47VOD/WOA/vlfUt36J65/Jl7j/SeLf/yLH//hLHP+zL/H";
+VSsFsmxzVcuNlI3OO5BTrcvA1J2aV14pZgz8exZuNdX5GeH1mmCqukz9xl7CmQgZL+H+ibPPv/A9bzl5/sRBOW2aSsm3qpT8/rQ1SLO3SKdDN7IlBcgkzZu8HiDOemmkAX4q5HaqCs/K\
+7xC6IPtnUHI0SUjF/BAF2q6ROUv6nLssmnzBV+VogJTG1JSeCZK83XvxpZe8Z3odLM92L30tzdrap470F95Y2LURSjFWoV7HmF+BjIVV2cibYAL5xo3BWkrj/XlrB3WN5e2xbHQ7IIii\
+SiXJLTWqa6GQp7JE5QT5xhmybDJ/25xGETjwLRnF5pxqz1c5P80dAzY+pbhlBTGLaoG3398IGgdCTJWEvJNCHEF+k9zJonly/2LlfuV17NWcMssonjrkG8HeHECb7aWet4daIE0yxDhg\
+khIYk9JpYWBvbpBNQZth5sKw1mVYG2262sPd8ZFuU/loVk2dHvdWexKu+iRa9Ult1Sfxyk86TVxcY8ryB67Cev2dm4Y2UkyN2r1UUJb9WjWrjI8IJUGV8NTx72Go7827kLIDBpYLmUvq\
+H4FGTcnzQR4XN3vUTklGHfd6GQwsnzqv1vH8skY22MjGHORQdMyCI5grD3FdedxQZRwPfgPtTeqaJiPakvXxIf9h83jc7n3Sh9pqBwBGNtJ5p/fBg/+UXKUmb0MOiq/3WeaFCKwbanbo\
+ZHaXrASqCLSPNdruxa9Pu0/1Ft508Km820vlrf1Q5lS3dzF+GF4z+qGEF+oPT8ub4MwZygv+soYMVotoWI3yLR1sePKm75I3dXrJw2B0wRq4dyx4mHIvgKACfrD3efmIGO8K+BVgomWd\
+du/Ewd6xg72Fg5Ljsv/QtPxclJ/eaf8ZrTvvvFa+qNN7x8Hemw7Km1kT8/1P5JMceN4gE85WQyDZ0P1viAgx13+DfDF677FpBVrj3WHVCRhhyCLYdXLwFGhMFlVG363y039DkCmGLjSv\
+lHpoqehjVUVhysVk4/gLMzU7PcBzPenu/Sdc4PgAv2KAg7GgHFggDVxR7F7HkAiS3ywlFgu+MVspn5CEo37yP5Q10MhKFW3Vj/6BkmPeP/Pes55l4EPTL9CHV3528OGbqiVP/OfBh6Z7\
+oA8v/Lw95CMzi6CwoH/lF8+yi0PtuYJXDaarE7GUn9t3poaVLiZLusrlJvcEN+wg8A8GB3qKIAvFoUYeqtyXsnDVPVGNooxWWqrH41XV8vwBq8QhrUC/0IVeQSvQL3SjV9AKhHYY9C3C\
+pON6jff6nu8gGSNnG1koCOKyD37AIzwlolIpu6IraHmCRzj6QamrXagNkjqWPI+Tudfzv6P9WViEBQf7U2Yr9RkP3N8p6q0CFzePoDWe+jnuXp/xFnJkObB/MY8VYPLb8npv9llQU+BC\
+CIGV1nutb/0WSwulMG66/Td9zNON119Uikhe1VJ9zxAqRXjHshprq9ZIHWeC6eUhS/Jh29UmxXpqmbzYn0rD/RVbsfZfBULsmb5ZYKpcoZeHnFBOXWK/qtB2UjDN/p6CLZczC00pjQoU\
+SmQYv8OZidbAPVVNBY/1SRIQE/z9Kdi5UDU7RBlqoHMu6M8fUnqFoIYx1HL1zIN5KaUi1GvjTalMCZgSVFJCpoRFCvTsIidxa83B1grVyqWiQdueeb6RFx4rgZOAVxfiiLbQwS0ScMpH\
+CtRQhioiXG9cjw1VEVHVD6ctAvw10GGddtppv88P4oLf5Sw8ferCQnWNjpj4Zm4gNdO0xEUPKyWkFVCdljYh73gNKmvEGIsUZ618TWO/VNDzkxeMDUtDKN7GMujgxnqH8sjvMlBIIDFK\
+YD/Ej2nw2HTPs9I8vto/1wim9FpwMbBNG1qL2JCOK9LLypatao+ITupfLHYlKcjkZE+xUR/zjaN4IjAjx+OBtJXcRqjkkY8M9V9yHeFXO1RHrU0GLoO0QOAS6GMELmLGInAByqbKFs5G\
+jFucjRoTOUsYOO1nY8bSzcaN15utMSYw3BFQxJetdYxpx8U+Eygf/UIApwC0vFX0BCZl63pwbrY2m8TNGnrmyvp2pc+5wBKW7xKkHL1aOp18j4rOl4JsozY8yKa04QHR+tmaICWibNg/\
+Gcwn/zZ40HjtJ4NsnX5SAB4m7ttQZ9qwmMIz+UaYkW6cBjEvKetVfok4bxzYPSGEkM+b7vlPSdMnMecnDcDduOtnAlNt1reoGN3eDYGtx3mRVhGValX7/YrpvmE7ETigUcF/srsIQRWM\
+miCoQnsVIDqzGiNIgsEh7CyBD2ZL2AWoSK8tmfhjJX9/vCRa1pQnqkJgFbzrk/6gXfEJf1AD+7iLTw0w388Ejl1+MrALOv3+TlgkqfoB7Fa9/REMo1OF/HHOSaKqtom7x4FAiAtFclma\
+b9KlWWl5MtTyxlDLvfLuZ5V2+GQmeIuvGnstxrf7P+DfX7w0uN/1Xg9146Xk7wegPv7I94ODBe0Bmj0sTvJegbVdyqBGWl5dDuKoFtfr2FNlV+ehnXxvMKpRebud4xJ46FUnom0r0RD+\
+CkQDqxjK+RAJiPYfNuU6XKja12/xzP55p/3O2u+M/aalvTSmN1nP71fSFVyTfeo6BFxq+p6RwBPLFagKzzNk7yxSeCBXafBRUOLJvDkvJ24jbe6dpkXmE3KEhY/I3Y3bfePxfHQabPT6\
+Is8CRPYgMnpqR+ju5g38wccAOa+yrcqfwdjDlAEWtZ0CgB4/h2SfbYPzO5Al3NWXXky7HM5UyIuumRBIEyTVdxYFeTItG3ZHmjCfJqdg6crrknwGT+4RGkL7LMF6ylpcMRyzdXLzceft\
+JGNUY0B37DHXJuDtYyscnWbyHD8d/URPIrnUDj/ACIJIaMvHy+mJeTJKJpIPtzbysx/A5ORojOKNV2wQf6McxOfUeYWf6XBQElpXSSgxkXya+6CQOk/4iY+dBbfmQ8rftkfqcuEP9dFH\
+ikejJBHvR/3v+jif/WrxLKDxgNl9Y8klg4D0iYLQt/nULxDSXyd1EXG+DQvqgffchvf85ceHngWKa8539N548KneFwxyG9byviE/sY5Pwt7WLFM3PMy5rRU/+tTIuO8N/ecTKIsVEFlg\
+tPeiZJ1Bk/sv/MZZr/++82c9JZIx8O3+b3n9/4pBzHz1Olwniwg8MPhZRu8rZQb2SFoHJDWta5waMnaucBh9pBBqTgwq7peSTHdSTZUH1WyZYWcZxNHkwjzWaiVWkNtoz1eOsnOVIw5Y\
+Ou71nyrCWMwpp9VWb0roGUXUcfn+pBLmkTp637KjlkdzvbQuWnDx2eoRbacd5jetVNo/MxF0DnTcNlcq2EJmh1d+p/4Gzw2JQmdXkeE5Gd++igwQG9yTKgM7ChlYWgnvrITnNAAWuQwH\
+2dBgZMNKEexDp75behYBk6JTAVLwHZBCS4XMFSCFQI0aW4PF2lasCnfXqiKWtQzuTo4H7HnFsdZRB1BdtaIaYTWddKSC2d41h06spgvDIHne/94Py2z3k1Y3YPT7EA0Qdfx/xQ144CFQ\
++ZIjGaXO4TVeoN4XRtIujCWJbEiUtA6ttGiiJBvgG92rcXWBg6luYfmxbXc3Zp6D88nog924ra80zvnqrw2K1768XkDKPHdfeY5jZpQlZpWEGAO/F5pTfdn2D39dOopc+5Pvg9+McZPl\
+JrLfVzILQTOVrVGf9XACtKZ93e3B9LzfP+zbPD3iW8qCS3m+akuD1pcdOTik2N9iILLwP58OzyaKUsVQ6z4+oq7DOs51CVgCE+YPiz6b5HvNnAPwA71AvnSUvVcdNZQ67CtQQ0eLvUmL\
+vYA7EAKH/e6I9NNaacw6Jhzx88mebLTj3W5PCNV0fJryWwjGxuRvfU/R9TdgIlEA7Wp3Vb/BVb3gd7tUn37ehxe/Naf6U0eISCN1pmPU4Dx8mN0wLi2AxHgNJqPqKpQ9FWQk2ibb6Wh/\
+ITg0Jxez0f7Oo4vS3lHis0obH5Try+giG7dB/qZUTweNeDIf743+HzIXatJDXOPjFLvJZh4+DaEbnNik0oCnZBOy71xX+dYNaJrT0UZ1E1JXLHU10dJ0oncQBZEpXdPz0VsbWEvAXipq\
+alsfTyEwzSlocsBZ1eJ41NQ+kmOBvKAhL4hdjj2qpP4ofRJ+/7LHT6jWwqMU9v1A+VhesrHXqQLGFtN0YiT0Ip+mBZMmnVrbhc38mK6bMBuXPUO+YTxdn200lyWAAJRyfuC1exGurtPE\
+qB1Jp9BR6RokjMms6MW9evFQe9E9lEY1ek0J91q9tvxA+S/Ym08wcxqnEhhhmoQWqwVr+Jr16QY0z++NSLs2wO8dVepzFZnO5LJ05fI7KqOJ42+UfKP196lIbYTmPDNoEsxVutwGNl5P\
+DRtXqEE23zEsDqH38nFigepWUa1rlHUlVlcy0JpRrQvz5fW932g942S9O3WkpWxwBDfWe4NK9l2cvL2RZ8geUtUUHXrJD+m43IbDSv59sM3t7s+4vZNMbpdu3lopeaWQhWZNdxR2QOL6\
+aWeeBJ826QlTmpkD9gC1YrqmhtQ2NaSRwt7oSV1Zst16W5QkYPgOIROobYA8M6Y9ssuUi/YBHFxFMqqj03RHXVy9I7errvVU1j1EgHC21WUi+QUliaOxi9Nc/kb7ZMh5A3p/46U2YLO0\
+wcZx8dy9BXYiPuE7711GqC1VcLh3DlCEjqybKWUiacnPcMD26vJobLiXR4Z62RmczDptgbTaLa1qt4wMMQjGBrTz0rFlH7u+zJCVwS1l8M4y+DVl8GyFvD3nVUxPlGR8H+QP4YFis1Eu\
+QKA0/UMlWkzfG8WVSL1nBgp++FpKEAOeDVXYulDlK0Qv8OD0MnLOLqPB2mucuL7WLLdcWO1CJyLobVEkq7B3W+X+j4sOzAIP0HBd7p3KmFUy8lqNCiqNitAozzVq6JMDXU0wWUKGwrWX\
+/Fq4/ae+M2RL5UZKBLe4MAIPofxu+ush/h6bVidUBQ8/ks0mhxZg7bFp/kbF8bnkwQdQ/yX7r+4QwshTgrqHcurBkQcgfnSk30jeRnlRmCzycKC9cjjlJFk1zfNWzeNpHp+RBsVUFXa4\
+gmLKkQdtB0WTi9u/GARxVenEoAfCQeiBkNAD4QD0QKkVCuiMlDoqClyInCCNKF7amzemOZAxyxx8AbLQaVVPqFP+1JA7vmGsKTA0AGFoTxE6oOJwEKjYVxWDOilDmpUrXJRPFRKIavbT\
+NtjMYKbsl/YrkBiaThXeQ4VQmW9RBr5CIGRslGzMm9CzbgKns0EqyGWwjy3Q+Brtv4VRaeDwJnEni+b0+lNct6iJ6qsGqg6T2Tz6hc7W1OrKrEDrhDFD8imnGzlDzka4yzajnYoG0OxG\
+dgbEaUggyUaoPpe8vNVLn5JTplVhA6h30/pVH+82mTyxcHzc8BpYw405WdlA5B5onGvaQypfAzYMiewBi1PzGNpQHJ0Cbs93SAb1vq/WqFUT1EbJFSbbumYokpd8Z0E0a1PXQQ8o4QQK\
+XzkZoQGeKKymc+Yalu+FJlDf2UF5ZgfljKAcmqtaQEHSS634ULXiA6r9RvxN6QMPy9OnIVQCmQ9N8eyjSpTgitFAxUrRHzLVD9QG7AuF5fLlKqgp8VJWEf0MGP09obKSz8LCdq7UFQpx\
+X0+D5It+ARD6hOOXz708gFC/EFI8AeOJ2dKAsFaRWczlsQktYrN8rO2gcAZ6kiaRkvO7ArygdoohbUELeJhw1w5v1IV37vAAcFRXcBOVUu1xX7FzBVMDKNTVB8wNvNFBkJdJU5K/zGn2\
+j+k0+NHADw6YnWpENftaCYRbCytSUQPChbiUZv3g2tTaFchixWiJyAx0eM977HfOfvfZ76z97rRfE0cQFhiQMFBuTT7vk76Y5eJGcyzzjMNLptYhiKBKfurNzimYMsP7tMCd3h5DcK3a\
+XQ7C2Bbox5GZtP6ZzgTVy1Rss3pYhRnkfFWdDm45quhBoke9iwJG+E5aaxkecDxIWBEyw6CFlVG0iibgKE1NifWzyEIHX5g30AS8BHcOqh/iHKi5pRHoam7TC/1V7E+xIbXP+w7GdrYw\
+PL2+HdK2IIW5NY2goIDyMEgwRc6ec6ouZJBgVQEn1xBEHiwy2wOHNFI+UHBueVSgjhC3pUAdUeDcWQXO/UQtqKvS5HkHtC2bDbSxa0Qcp1620T/1Qfqn7qiSCv1TkCDKWqs76KV6Ab1U\
+J/QSYM/a2tZ2ytMOgDVDE75cINj/wCwnnlKspumewRvVHARSxFXMZRYYMrgtM87tnTI+tKFMbS1s51c0TZTJj2lW1nG9qodbz5rKatW7muuJpgO1bjnqzHOT2BsCtW4u7xsoCDMdfdNk\
+HegbamZo33TSVgbF4HqpeCibuQraI+hGtgbxllpXw1tqXQ1vqbUa3hLhzDrwrk7vIS1V0Eg6eZfu1X16kA8MOG2oOdSJComfVoARB1WdKOhDhYRRK8CIgwLjiAxk+dzH+SpcUBoZ9Ga6\
+z/YM3xTAXSBFmW4AVl3sd+exNaXd9qcAfhe52V0KB6aG7J4apUHTfzfQha1emrdOcc7gw1RvT82ZYqMp66vjOWDCCoGYfEJJwJ1afHWMnx4V12UdBEQm7JSCAuW/chfF18lche5+ra0B\
+IphFEEDW94MUpdKQtCK01rzzFI3bFYGZzUo+o+5X3EndmDNnOkK4Oxy/vNH/Or1jNI7Ywfw9C6kpjgOcdT/h2hKZtVjAVLtUuwqd44S2UmpYYUmERkbmlDTf8uZxpjcB/FZtonYi1Yrx\
+byO54hOpDRnbZEe4jm0bS6JujJtYhSOgdMkDViRgKW8Czq4N5ZSVSDikQpLmHTUVUCZAi4G0o4AwDeUA9W6/z9upSlix3cJjEPMxOQYfescS3vtrnmLV+IpsR8LDSHrZBFX4qh+oEAjt\
+/vNacAktVpGhVxD5Samb4oBo2ipXkvP3j2GuGFwbdcvgFRXEjYYtxoY35MXIEGjzuHc7pzp74nYu/7i3tUQp3rpbQfWn5vunAeqwtr+InyD5rF9Ab1SxKzTTEHaFmjPKXJvacU3AfMN8\
++M0CHz8xSxBilYWlZy0UU0wh5V7QQ/dBtdcv4JPUVB/WQLxL2Bkhv997YskUxOi2Wy4vMg/VA0FN61YrBzBFsPSwZmsOOB8vIKjY8neg/CAsvioEUvX4zEanChspq0ZxanxnR+A7zdd7\
+aEy+8wgkGi+Gh/ozRw7zUJ+fz2U/vUf5AkdyGbfDMCBf+GL9UH+KuRcWroweAvzCYYzHEUvAOB3RfEhvHGW14BQePSw5gxVfSDvW4l3Bq3xXoO96ZLRdMtxki1FYub5/NDcfq40j8v0I\
+JPbNYJnx0WEqlbpMQZEpSO251e2gk7dwxOXfRxy6sbQGLZIrR00NGFgUOZ5JqR+Ov9WeurTQ0kYL9e3+WY/DhqsvZo9a/1Swm3czkjCS7Faw5acB25TCJIIvVARxvjJXeH9ki+cdxiJN\
+cFw61CZYma81jzEyJo9CPiKYmsQIk6F6/rvlGH29FlUn9aEWXcPIGiuqsEKhFVUTAYn1wtczc8DMgZYcZ2TcSqqsLbCS6rpTYr3g9c8+2xt9hiUiloi0+AQjE1Y8UnA3K67e+iL7VGUg\
+1LTYWkbWWrGa4sBZsRqL1SqfWmfuuhadZGTSitYVKs6KqmfNevmpMTPHWnIdI+uspJ4esZWMWTJ2nxq9/lkSVSjWYbGO1rGRkY1Wh55nHatDHaV27Hu7zNnVYjcwcoMV67JY14qp09Ju\
+5XtHmXtUi97EyE1WdJRFR63oKIuOlt87wswjWvJGRm60kiMsOWIl1ePqiPvejhZvKJNHi08xMmXFG3rYWvEGizfsU5vM2dRi6xlZb8WaLNa0Yk0Wa1Y+VaG121p0mpFpK6oQhW0rqq7N\
+2uWntpi5pSU3MLLBSrZYsmUlWyzZKmdxr4Hfl14Kn+l5u3kUhLtkw496ivSZqKx/t6I2pm4ZI5YqjWmxWUXv2v3st/S8PVZYZdRju4eWMGIZY5nF7mTsTiss3WEVrGH6mt1DCxmxmxm7\
+2WJ3M3a3VRC+3sqPM3l899ByRixnLLfYXYzdZeXZNVrDBB9M7B5a0YjdwtgtFnsNY68Z+P61TFu7e2hdI3YrY7da7B7G7ln2/ZNMn9w9tLoR28zYZovtYGzH8PerusG63UNrHLFNjG2y\
+2L2M3Vv9/qhoxUY+3Lh7aJUjdgdjd1jsaxn72oE+uIFpN+weWuuIbWVsq8W+jrGvW9YHNzH9pt1DKx6x7Yxtt9gDjD0w3AcKVHDj7qF1j9g2xrZZ7OsZ+/pqH3RcJVN8NrV7aPUjNqMs\
+covtVKJ+oAvWM2397qE9ALEtjG2x2Ncw9jXLumCa6dO7h3YCxG5n7HaL3c/Y/cNdsIHJG3YP7QeI3cbYbRa7j7H7ql1QbA+EqAFefaisejia7u/CiX/We5w3V9IAu+bdyZ+UJ/9X94+v\
+7h9f3T/+ce8fJC/agLf6Dv623+sH0UH/gJAld1CSD9MosNpon907+E8N99zvPfCMIpj0vokueXrx63tLQn5Hz2bgvMV6ewVMnmSkYKP37cgYwZA4xBgsXAyfeTatIX+o+Wt4FoHSC3vj\
+kmHhsvfMs3ZDkGqQMypElnrpDe8NvPY7CszPwgscr739g99oUh4nISIkVinscXIl3Ash7Qmq0h4VLprdITK8VTMUop7AwbE6eaKKekIV9USF4Dpq/6uqYapfirMgon9MNTvgxseHMXq/\
+8dh07lesFCHTigBBBjfHsP+tSLSSL/pqlfE5v+IIr2TXVEDQwUm4ad78gJb4U2akkkeQS0fS+xW5tMM3U2z7AtB4rhuQCWdizMQJAL2XLcZc7tnQG2TUNAahyRITFhKX4Y21qiHKoAeS\
+zauAw5vw1ttt8V2reCp5rmJ/zQLfXJHuDkK8smPfCL2zp0ukhzmCviJZoSGUg3XFA9euTG6YqJzMVRjgH5k33+GQd3+BUAYEzWipflprnjBvAAoiDAHUM5qLaRvacs1+NG9IEtADIA4Y\
+hVoq+H0avw39MHCMFnxl2x2lZSqMQADFEKWN/fRUCHEs60oOBWZguOCbxeJzWSPtUPOn8ajLK6vjUGGcV83ZNusfZyWkrLqn8xqMXaC6h8YTjqxBIIu5aTCrC08z1laTYj9X/ZiaOTqJ\
+d3jfpBm9b65Kf7Qlbm4+zblpPky+ERgjTsDtfVMe7JDzyGLfDA8qm+mvbUWM7mAIgDA05a9vKl1auKWr5sWBruJHKUeLUi85HKhtsRkUc8lsIYOQuoy+KcyEisOOvQz78r+83vplKJz1\
+8rI3oHpyCZdV/zYg39IOCmtJKMm9jrOVqQiLXsaS+ZLXdZjbmwvNFqFGEZoqQjNFaOdqqB0+qVfsb7vAPnvATMdhrB4N7e3xypuobaFA74kGt1BTC/BNLcAfVgvwC7WAmwbUAionhZxp\
+R2Aed6QfXf2gqGmel3dWxMVZEX/5VCBGV1eBCI9wNl5bBSJ8dSoQ3+PzYHQ7Zs+je5PIZvlOY1CakMschuR0VPr3v05MiSNYS5ifLsE0WYKK8IT6vCnNniA/QJFBhyO6At4RmPNFc+kH\
+VUoe2LDoI1KClypCipyVSgcpqFsICGsuLjyr4Vkg52j/YTi16O3CH1S8vGfk2QOvpUVL1HvidfTzFDqMjGCoHsKuoBq0L2YRkk8xqCPQSU8JebTnKalyIXm4CwoKft4WTocPA9+2922v\
+U6euPmWuK1YdC4klRTqs6Yv/Cv8uea/rBkJiYaeEKEeGey8lFbBDaP+mr/oqAMdWgf6CWsZfVmSSaAC5Y8AYyUGQYI26eUyFisiwPMwpBc6SA/PLMEHMB3cyTwIEc3s/ELAjhTdpW0sI\
+xVaUHUYN0TwFZkhkyNg/G/rh8n0PFYHp7zYp/wBUZxUcjCAZEfYaJrwwhMU7CMBbwE1cK+MhVVXj7nrtnLPXnbNx3TmnrjvnzHXn3Fnk9FbN6V0Vqnm1Y2EpqroeLx25N4aUPZKqllRg\
+7tl9U2TyqauEyQXtDVX6pHf3vGFqnwD97jcyv/+Os2dNomk+4GVPBMGE7TCv93/sLG2dFP1mEXljVaWB6HrhbUvlw3cNPfyu6sOfcg8x8/sxHSUh06lq9f+RmfrvYYvKiv5TNU8kxT+g\
++WrS+p91efs0RGf+D1bzv/RWFROvkO+Xq/nwKZIPwEi/UuQNi7wfq+b9bX3/x10+5rhQ5vD7/0NzRFLb7zIXdn+51vXSElnZo5fqcJo+9cLCjYh5OoQuROEwBIXN508xouV4qq6sua5P\
+G+1f82XlU+prl0W3L+lpOGWgiyZk91UnXs+DwHR900B9mcfOyB4KOYBfoXMtyuRrpoivNyaTLccVLKIKqEHVQCM2bzyxaRqBYBhdHavuH5Pe5I+bk4aBi+7Uatq5Be5VROid6eQtvjrk\
+oI283YyrcHuFZ6zkAdMmINDFlAsn2v/uetpwYU9vA7yaHr4KFkQFASLy/CD0VoVwGMZfuP5E5Qn8UOQmhWkp9ZzLeeho8Gw3hNk+fbJBMy5VLwqpP28O5DIV63qF8fzDqlruF95qHFKt\
+u+dGgDqq23uix8uHTqkhAvZRo5pKLCBFMoj7rb6X/EhInzVmFRZTz1IF1NIO6s0AXEltBOXSu/fUfFks1WKzeekBb7jQzmWFkvnCiq1A9RoqNDNciBCZNTsJCrivopTP3Bl84kaAZIpU\
+448IpvgeKpLUBj6Zuiw1pXLNI9vy6szUBhpQpU9WX71f70vjOfhQn85b0wbu7RunrGXwp9TueREeGGum3UP9NVgXOGTpN8OiuF5Yt804JbWt3hZugg2nAx7Kbh3NuTmtLc6bvSvm4T6x\
+KmGfgiknFavgMocKVN7Gum/1Gq9XgUIvTNs0hXjWXqB4To/kbdlCmkRyCFhNpvYwzuHMHMmEg8VMzVqOC9KqTlrlhsCNRD/oP1Bp1PcFvcgG31+kSL1mjm/Q+sefhf9wO1f8R2j2DvVK\
++8hX0Z5A27OsMdWuL6wrWr2ImmLW1AY8t6F1bBxCewFLyM5sWB9WdfFBHjfu5wSY/bLq2T+w+nnh47zwjyjn9WrnBfO88vPiy/atN63+rcERchCUeXC1b3XMg6/0b/0KYB58XC7sB0Nw\
+1WsF21UVyOmID1zVgq5zblyV7oKuZgyr8UEHro2rOXBtXM2Ba+NqDlwbFQeuQBU1361QEG+s4ru1WbRlZd+tzaI5g75bm+a71fkfrJjuQa0wVvSkLC50B+P7PN/pDrb3OxGCXamQS60B\
+hBj6QecnZfB+NTtsGFLet5QKh3+15OtSj1elhl6crDLasBg9XoMQxz8QOA7njOmpFY54K9Ka/YRi1QuzbpHqdXYm8B7EHAKfVyGh/dF28QF3W/tRDGCLgYo9nM9auc1LR8yAg5PWet7u\
+b+lBVuU/NH2vR76U137A9w/2jBPU/5U349rm3HG9JSgqtwdB9QEZKv+oaPSPFuKoY8otMiOjiieToJ/0PWWSGtc4FEL1fR9RiNkc3klAjdRO7c/CggV0A40Efojez8j+qTJ4DBbWATAa\
+JBCyPV1B4MMMfK4C/RNRTlDBBoqIYKW2SMrb/+nQqQgfCx25dDogs+uig6l17kVOBs5DhgscD9RBVoFhZkYNNAuk7bhxv9wVlLvFDwcFEXDMLwmwK7gg1xzXjKUHPtocOB4LzCEHY0cD\
+ClEstiCx5/qmO1obZq1F6N0aOWuqWvB0RtQZfK+67Rp+11Hfvtqg/u3T1QMJP7+hmu71qrGpNh+1Dg9YFS6RXgKCymjViJ1ZGa2aIjKStDkWYrROFKN1OnCjdd5febTOLXNsAlcn1x4t\
+59KaHfYjKw/VcR2qZBAW1DrmtF8doJN+dYBO+MsH6KJXGaEfXnGEzvtXG6FzfnWElvzKCMknrz5CqPVaI2SOusoRWvKHRuicryN0mlCJbyhG6LI37GLoySEfOfuGrLR3XsNHzjLXQ0Mu\
+imYGx3N2xcX3o+WIzroBvabDVPpcp56I2XQsX1o/MjhwCQfOeUQNn3ThVD/f/KhKF6w2PPVBn6v7Bn2uPjHoc/VJHQI1tH0/7POqvIHKEFzFj+wA1Jl3rS6v+j5QlxDRHE3QyBpAQr/g\
+sBUD4ACh/s53WX27EBcsunqZR9l+Hcd7QE87g5imXs5ahBpXZwwKLqr8jNQBpuvpOtdV522eGpvSQsXwbP3+D73vjz6Kv/WPdQMjHDruLtd8LU7PfuuA3NA7p/qjh0wgGThEZXj4AqYB\
+7uuROYPmdRuOo+XOJrOtp3CTQWnXHxlrL72mI/eaYwD/Ds5OsFa75Ivq1xRfyPSe+iips7toAVu2wWamgtOkmb+iJRMsCMP2dbeNePp1h3FIwiEt+ZxTgzM4HnQhjqmuJlIDdkm/Gjhd\
+nwW/RCLwlFbsGYcJeBOoiLgWaodTyGHUfLYQeKhVbSF9UWPbQsihNriFxEX9uBaCDXXvapA4jO8iKZP6yY/pPJkib1n9RPeiXqgCvV4DqOzW0Og+D65jVaSsvmPhcMVbf6/3iAtvvNfb\
+6/Kk6nJWsRDUEy3Ds+qdluGd6rSW4V3Qmwhgqp18jSolLfiqlfSG0HUltmGYPnlm6kQ9AofcUO1gmaTeCrBa0Uiz7imYbUOGO8g8+MEIM8zOfpTBe2C/lnE+xBk4H/165qn/UTDF+78L\
+rMtucpfZMz9pv0/Y7z77nbNf6SP9Il4tfEdEgjqVOnxHg3vJ9/sb1FzuC2qyfFfZ5xz1sJgMY/Og/e+laYDCHzG6cXCqpINTZWZwqswOTpWdg1Nll6oT+MnODRgE3Yb/IvRvBC/7hM8r\
+AWWMR30TNj5HQJ0tHhzI4feJrMbffbIY8QvDRPzugsxEfmdly8PvjOx5+J3K2ia07PA3ybq6hxp4NSHNeazLw9NRNsLAiQgwmxI4HmWJNijKxhhYiLJxBi6H2RoGLoXZBAMXwmwtA+fD\
+bB0DS2E2qTWH2ZTWHGbrtZ4w26CZg2xaMwMEHIEzQXYDAyeD7MYUGmUO8alTBYt2qFiNKlh0TADhKnJ0zSKKwEEVIB9ImskJcOZvQOqNlmUakY3MskHfOoWU9fZ4HSKTFplAZG0V43rN\
+ShjXFb9VPqCoZby/2/drB2wwnCeKirMKVToRWk+VbvpPz5tDKs3J23h/HxNpzd/fw7BzrkUMB1XCA6GWeeYuoUQ/K32CfuUrTf7FmLNAHRTxJkOiXiiP6RX/Pb5yGUqwbd7+vEVD79MC\
+3o5r8y4We637vAf6mzNVkzv2MbrI2ExygDwNIHHAaV8a5OgRybCQM5/5yYBq7We8b8vrp+Tavrjd+/ybdyn79YC5t/iM963fIqfbS+GhgQywvCQi10tnf2f7YzpqbMIfeGq5GfSbj5EV\
+hEZgdH26UVFvGMql5pMD9qRauwpf2Hq2I1iEG4SysfEqreJr/7heee9+rd2ccJT1mt1oGg98dvnW/WC99HGYvPdtu+6jmZ/Etnun38avB+fj9tTfn/wE/YN/dbj+Nw/XPIar94ef+P5D\
+wb02PHfY8BQ+hbDCksoKA0bsdXAHMe4z3s+9bde9/n0a2+79gswC/+v7+eAw5l8dxlc5jP/GVt127/1YZ5GuuhnvfdL7NqzbqqsOStnXPYTvfKtU8jUutojY1/azwSHMvjqEX74h9NvX\
+M3Qnfu8H/+yvf/0TP98SQrWfDg5X+tXh+rINVyECaX93GPgHW5BnqYhhynxBkQE16LmqpqrfsXJD4LmKXqveGQx4raqVKuB19S8QG8EUGwFVh9eqZsVrFbCC4Ayi6rWqM+S1CsCygDts\
+pw3zWtUwxIDSa1W8zGtVvMxrVVzxWtWFW0Ln+6JjXqvowVdaJIF5vrFR8VrVINyT47F0MEM6w16r2sNeq1ql16pa6bWqqbQnpAyqJ/wPaK/z44Hq5vxOWMFTdPIRaiZFZsCy0nY7SPyC\
+6NkuVE6NLIaC6Klx7TbmYeYZc+2GObx0cu2Gbu365XJoDK7dWL2/pY3V1i42BJlc9aG1GxZrN3RrF40wWA3I5Cprl08O2JPla5etZztCaWpaaay/+toNi7XL2vdr7X517fLBvD1Ytnb1\
+rbJ24WFGnkRYuXVlwaiXCfnobdA+1m3W6//22whRo8uYmhW/NRasK62SCiw3YiSsjOHmF3YapmsYXZv9YcyPt/qOvSrLYg8xWHnBegJIkDtdbB+QIGddDKxq08WupTH3DhhoSG1v890F\
+bSexNIlvyuszcb0BzTRxIIcH4jTaL70tkRZ2Cbm2hpB6qyecTulYMXTbxQjSqV42Mp+3eJcdTVvUhUzSJhLHZHFKLyf3ekk6RkdWDfwSLLIFdoyV6W/UoOSCyFcSbpl3ozOGh+oDa4wA\
+1lZ6piw9W5YmdDX+LUrPlqVnytJfW5b+iFcW/yi9dvGnqADPXQ1f62oYoaOOEdniOtji6NgbnjPolbGDThwDk1p2uXRM1tVYuCvVHhqxHuqkQ53Tsc4ZcV+ajbGP4HYWq03RzjtR2zwA\
+wkYsQhXYB7H8OMS81WNgl1vtFZKyEjo2BBPJJ+crRGdc3wwdTY77K8/P7sD8bK40P+HeolnOz9Hkhyrzs2vzs1nOz/G02Y9lS0nSzv50VII6O0dV3YLuedR30yh8NzXk58Ahmt9hdrbN\
+I4bMzu3S91MFcFy2Pk04QWXwMODyr2S4nz2Pc209g4vp1P2cLfF8Ub7hyo/RmVgL/xZFG0VRFNHSI/0OJkokoxg4PysNTpSOJMWYKCs3b+z6mgfOPedDInPo6vPBcZPq15wcapQjS8In\
+p/NlbF9R8sOrTI41A5NjYqXJEaVr0olyckTJj1QmxxqbHBPl5FibTuBcXgc3Ycn+lMoUnB7QxlGVVbd5Rbp5UUt10kD0sXk10hb3qQS/I4PdPELFXZcSMaU6FDFT4iIFs0OW6+TyPSGB\
+p5MjuiesTdcVewL3gMo7ueaD1de80ErJNceYjNXxlzfgAL7HMI9I+LyFW9c55K3kR1cZ8jalFG7IxyryiznIA+Qr0zEZbr2mXGJVbye5FNDOVL/v6WzMfepz7lOftK9bU+XZvvzvtsY8\
+STm9RMYwCTqU4VOgIgmyXyeLQZETTu23I9bZQUAouEEAEQB/CaPOpcKaikuFiTSaL70qrF3Rq0IzHZ0vpbrjFXlvRY6WhvPDIuLCzpret4IShvmCi09WvHYhfhOlboFpwHzA96MD5T0B\
+2s5H5HqSBvup65f7Rgf4qkluXovxcwjuTbHTxoYNzqslfPZCcwi/9O1eabAJnpwjbSGLVCc791V0yttBxCbQE7ADSlOkXnK4YesD2p+Ef/u/3RzcocrO55tVeN2LgQUuQJy0NODmNYBj\
+CIm+w6KrIpQvQSEkedeAe0dO7yXfZuD5wJDKzwUGXb4UGH11Bj5fA3VjWmfgJHy+BuogtsnA8YDLiw5idW4fhUl2oA5i9Ry8Ap+vgTqIHWXgEny+BuogdoyBC/D5GqiDWN0gz8EHkHWF\
+27QvucBlF1hygXMucN4C3u+4lBMucNIFTrvAGRdYcIGjLnDM1fM22GZcCgb7/wp2UV8FVQsmqJJooDvOWgkft/A619LYtdQFzseupS7lksNMvkyhsGxLzXn5/AYEPLq5XJRbwLrk3YGN\
+3mWcwNqTDdkjoMBpK/xyI5+0mrXLG/nUDu/jRfxiI1+/w/sVxtfLOxiYkiYwMClNAF7/lXi+X5/PNuibsaNPS/B4nakbsQAbDN6AtlLtK7tRghfqDN4kCyqFaFHncd0NpwtccoHLLnDc\
+BU64wEkLeP+hKN5YsbcQuIIA3YA1XYrr2gVX/Kir8E11bWnyL4pVcaGuu/5NNJvIJHPDRRt5LpUUUVRdlyMwle1eqLqbScbLaN9ia+xmZw98a5qluZECV+rz6a3Jc44UONrIMl0pjSw3\
+DhOWSz3flOb9Gal2c3rL/vRWCeaT2MJu1S1sfXprNiPdeku6fj6fxEkOgnxLOgk3sQjeJkG7lNwuQbuU3JFO4jKQbUs3o+AUbyiT+NcO7qnFdBuuClO8qdyxg0HcVG7XIJzQ3qZBzP4t\
+CiUqv+Ex9sttMn4M3C7jx8AdMn6NdL10jjR6BpTATIULMonNcPNieos0w7ggUuZm+yBZnHWNdyy+ZPEJi5+z+EaLn69LBIfVVn7lzbzxzPhetl3C5yx9VsKOMLhdwhcsPJneDNum7M70\
+RmND3VigmLuFeK7BQZqcy+/ieMqMTyeTBbeVXiCqMPcuLkY5mG9YtCfQP7HIedplWeRcw3rxBv2G0w0XwXoNzxTRJL9FesAaIEM/ZXPqNNvw/7o5tdTIbtHNu5FNtdOpdHI+u9km1umG\
+TKipfnAk3zqf35Hevl9GXyJTmFp3dWOJCZ25RSbYbXiH0pmToDOhlQZa8zaZdDKLZO7IGON3PbSage+hM2I9/i1SeInAv0VKhymdImUSB+hkOpPeBjrzNh6gW+a69bbUfhubhseb063p\
+lNCZU/L2KUyVyjvlroEFILm2YHZt0dlVx+yamuvW0jukobKtKZ1Za1sXOerrdIN0VUZwaSPNjhaDeKWebWqnm5hFtr94PvmpAHXk6a2YzhsXrQ4MoERuxqjK7y0Y6mkb6voOf8pFzkmk\
+eLIkkYaLnJGIB2fgGx1pYeGGOQlHmJZ93Ly3y/Z2v3+m2MqvNGTexOXGL4uusu3LWqxs+rJEXUw2QNkEi2dH67LdFbEFiS2Ub4hlu6sVO9RlJQsuxfnUo6oTIJ3z04Gbg5diTD2+L5ZR\
+4gY5uZjeiT1mUis8Hu/wAhc5IZGWi5yUyLiLnJbIBo1slw++38sRmb3P24Pf7fd6/wS/smntwm+2w9uJXznXZvG7aYc3I79wR3aL1Sjfu8N7wlV/VCL/wkUWJPKIi1wRivVhnogEIpFD\
+MYXCe5que5RmEtyp7rzfv9hwXSRf5H+6iMkn+X9axOSb/L8sYvJR/t813FDKV/nP47TCZ51kYPu9wTsZ2HZvcIIBOYmON+2kPsbAJhmsJg+7e4PDzWKcpNnvKmL4op8pYvjYn2sWYy+x\
+paYe68mpoJzgK9wzFkLeM76ktEVZV8y6oqKumHUV8Ysx64pcXZGrK3J1gTw7EUHscTKYT/4vO8pPRLQuWDIq7BbcDQO31XPRRVmu4xFlt+owRaBulPxwZIOtJN3/j8du/9/GaX88xt77\
+HkeMnYzd1nE8tv2/mAD5DTu8v6lMD3zkZyuTBx/5xw03xA37SD1Ob8Bxahv/DcXGf4wb/38oVt2JBqgwVMadX2j/SEizw0Kl8RC4ydbusUaeyayuHclTIVtAX0wiwkNgm+yYqx4Cm0F5\
+2CGglIcjMMgHvIO/STaT3kzqYpFxmiZLeAab1xSJigZ+SVFMmqoaiZSZgkhxbNAZaeZOkig7iyvXFK+cMxqcKamUdL6o07QdWek5r6z1vFdWy3vlpJ79rmLePa1m3n6tat5+re6Llbov\
+Veq+XKn7itZ9pVr35Urdlyp1XyzqXo9rupwqm4fOQlkot0hSzc7CLE2Ls1D7f731/23W/7enQ11/u3X9bdb1612P8exMh8/O2M7OSOghUGZ2dkZtm2Tu7DzWMAZFjpRpd0pG3ET8Mlwo\
+oU1Y/tGqElrpINH8ihS6c1SXc+8IC3W51Tancq0dk0Pzu7g53CTHW6QLqLzE2d2tuLQF7nQNr4QuIqfk5SKCi0ZIPh4OMa2k0E203fRtkSnqcmuNTG8Tke+KVIiCUkBG2ybhy7YPTUn4\
+iqVvhxVFMG9D6vcvBI6qV21I5xqM/sKjqv1Cxbghrlg+mOrypYqvcc62ZoWz0qr4PG/vWNmVZrdk+oyUTJ/RkumTlByfsZLjM15yfNaU3JOJKrtHrw4XArezQ4J8HJ80WdH95Aae5lrF\
+GYRv1TAtfqY1fDgsHa0vgOmyXcPo3NR8LXw+KPNgAPSq4/FQULU/6wwXt++64OJWz0UXv2B2PpdcwsXAmFLnm2BK/c1YcOOAKvjLF7E5D0vKYO5/EU7b0gFWjulkphCQnXbn0Kw7htLB\
+U2g2Jyqd084GzNzrCr3tvA7cwQATR7W2Y9PYrhl04IBE7iIFfD9THD5PG8voyaw82Z/IG6aTDJ4fpCgz2lQg+YVgRhbCm1YpvGlf7dvT9lye0nZBqmkn7w1Mp3MWbPLii0Pjt7qt6okV\
+N45jZOVoZuuezkD3dAe6J7TuCa17utY9Hdc99Odb6Z528r5K93Sse7qO6f9EPpJ2wUsfhUyotR/u64/kIY7hVD6mTZgKOW7HULUew20cw+PGqATXPUG/xotwTwRtDLvGU5cB1rjzZUrE\
+lKiSEjOl5PnDEkMm4DgFBPmYQ4OQfb8lSdK0GI9H0tE0lvMnpkPJNKy+k+APwRD4g/L8Q5PrtFCkyvMfHCPH7m5cbcB8N0N2lez7AXb+viG/ZNWZpAZDgaJ5yE5WkIu7rB37jDE5Z1zI\
+PWBL0kuSEy2UgoXkPwZWOgWvP8GyGy+WHEQ9EybqWWu+IdeVTRhoUulKzVcag1SqrzQGT4pVJReuK/hJU8k/K3hZu0oBxj6hLisii3xDxRhjj8xn20ym0vXphsoMnkpeV07g9TaBN5QT\
+eDrdAMJk43x+Qzq5X4lKTuApDPdUdQZP6Qyewgy+0XBFMYMngZwS8qRrEeCykY3yN8luElo34vQOHTUT80xP8Du6gy4U9AgLHSEJa6pCnh46QvImmZ47qclREpIxj7GbNFjI02MeY1an\
+IyRRqSMkR9VTZlEtj9GwSkjGepxazee8suolr6z7YqXuS5W6L1fqvqJ1X6nWfblS96VK3ReLuokkJyfIjUMLWRbUpCTVbCFPpxuLhRyaGr/2/5j1fysd6vqWdf2YdX3keowLPx1e+KEt\
+fB+srsli4fvFwveLha/0IhfZlWKRgbrRReaWmJ+uL2hNZ+ewrmraML4SVXntHSVoVyyTpioWS0nFkqnhiKz1FSJrgxDjFTprukJnTVTorLUVOmtdhc5KKnTWmpLOGi/prE5JZ3XTdkW4\
+NrKicK1ZklqNQcnagj9I5hz1B8mcY36FzFHDxpfXi4XpVvt9q5lu/PynP3bhzX/9kbdDHHc9JhzgHHETPKCIAFcz5dBMr9yc4//2owNmauYsnZICVTEsbGBotxPS/sVslRbl1RXz40xN\
+RcFSqZpULjPzUQOrf67wjoUGn98/+KgCjdIvAvAoDWqhosIXkFCA8h5V+IJBFb53B+17/eCAmWSpFc9cYcWzc86Ac52MvWJyc3q1cXP1R9c7bjWA0daOXHvUakde1aBdtyLkCqi7V1eE\
+fI8pQl6zT5Lr7ZPwCGXC1wLotTxfiX1y2vrkZ67VJ0ve9XaKj07xj/SDa1pqIc9XYqe81zrl3bWg/SXwy/0XVb/c+UjFM/c3fsU45g4UYrZGSpFOuoPksQfNQH2PgavvAnxODQrcdQNf\
+k9M1bxAvK2/O5y1qcRM0BhTjSNdXdW6n5jSs0h2YmlMLyL+1RXXmGENid78Pnd9CibtIiZgSVVJipsRFCoyhZY8fVn2kdjfVnGp43EibaQ0qxUQcIM++eCduvfgJBtScFDoNo9SiinfN\
+hJvWh/itW586t+Wapq7Mha6alKk6olDxI6u4MR955W7M/ygKOiW6Ap1KrsaBmF3d17NiJ727quM7VV45wGtw1uLKa+B9zdmI71zGUdiJ2n62uDHvMYbCLjAUwD9QWAybRbHT8qViD+ZN\
+y5Qoq7q9HdOcbArllKNj8dt1KvqErsIVfL5MCZgSVFJCppSmANB1jJz6Y8v0ZNugfeHHtS3zBG9sLypsFkq0YQPQdriILcyT1vDVWFVgB6/Ge9zV2Ia8sryLFb/CMlf6sFjxjrDNQwPu\
+r5tImz7ZyYDZSm3eIWcXy3ywVijNrOSkkRS9z0CqNJUcMM6zfzg7hZ8yvyJfrAetAiiSm67zw/p+fxkMAN3o2DJKbZtK1DyBOMnxXE4XuZAnyyeMAiGR7r4xI+8JvLyxF1wm3TT8tLE/\
+8+3CozjuQE0b2u2ndFffPo9O7+JcQ6Q/e3Qx62owleCIBqckOKrBRIIJg4vZWN/QJuE4NhHqL3y0i+tz0Iu4M8ItMqNB1q0CnkJUDZY5w1GbtXGZNA1jo+1cLcsqbNO7A/y3+tKkPICh\
+TSOlvUI9bTxG8Tg49GndbG/Y0UFyRhZsTXsyp7mOetBo6G1eTnBqQEsV6p9eTfz5yXVu8/KO/bJ8c5KhdeC6wtl2XQZfOll3jG5ptzPiDHYwALS6cgCj8ob9/Xk0t5F2MDAt7uDDldTL\
+SnAYWGqtTI3K1LD6wpWaofOAtlYVjyBNGfW2uTNJ0gZQcbAD5LKLcc8I5fwYwejLb4e7+1avTabHVq+FQZd0uYQPggQ4yBJbh81lq3MELbyfQShZjGiwDQaBrk7oeCfl+h5ThWs3993p\
+0lgGT1DBgG6VOwwufpG+Y3wFSiOgj3KbAX61jqlBHGljoXfKDaWF4P1FO/lNIbcmeJuRuM+DjMYsX17nGw+s7nzDkbH+tZxvOKzQV+h84+2TwWh1uzMa+0dDypAIuXAiNI/NPQeCDKlK\
+YEwVAtbk0WPd8jEzHAsdhuFRDalDZkpTkv8cEMWIHhvKuqyScfcOE2rBNfKJt/z7773hke4QFEsa8Ht1OO8NlrnqVpQEes9Ovs3VesG97ehizyAMLyvUG/3DdOBuy8nQTBYjoYe6sbI0\
+Mv5aywC8ecmjiVCtUBNbY4NYA1mXT5jlFtSHm8ZAz2C54ROtR/GpK5/UJNjS2p45parDB8aarro7oq7dGj1Omul4b+HF8Jle419n6wZqQNmRBuBpGmFUqwMks6Wuh1AmeH3vi/VnThUK\
+UxM9/ynp8sFs6ySbZllW5qlKofgqdQ/U8i2VQnKGrGG4KLvSax6alqxyxDDjmmtnDa+r1j3IGugUXTMSenUfCGMqJZW7o8zRWCbgmr6frj2VN49gof6vl+C/AU8wOP11j3DmriEDyxQy\
+udVh8cbpeBol364eaw1GTW2k4MNq4l6aEmKa9HwJd1rtobH3oG6Stzm1Oum4Lq0u1TZrBskjRGpHDteagT3Nm+/5fK1mHoFi5+i8y5y80C+xa6X1B/85ZxIohHHF0Wou0tIwl356mM8O\
+ytQCvTj+oMz4JpyNvzR6aI5hPlLWqNaUWE0RaxISIx/jZF8cCWJgI7jikhG732W0xTt0OB2TqpjxsBzmRKi2A8g1rdseLCLh6DAPfuupbjrySLHuKz7PcIPopN3kafb4RlloIHGmFkei\
+UT+sja74Ml5it3rrXR+iwzPJ2jbL427y2rxJ+mmdTI6JgsAZxah05hVvJfICvyWfvI7d+WA2gWotohiFM+6VPUKWPvMNz2YT8pJ0bTqRPFPuKbAtrukUJunAOcGWNGkMgZ/q4MNri0wQ\
+aKziDePpmmksNoLpyf4jK0Jvlph20km+1wFOdmUHa/DyirbUh989bjVNrFBLu1ILKBIU1sdvAA8LZzbH9iOebVvVHWrktmiV/2TXGoiHUYSVPdgL49waZ7711DV6Ix9/qNtIr/eLOrSa\
+eRWv8l7Gq1wUnTWrOIXg3/PC1Gl/+VrSvnpLWl++lrSu3pImbrbFabOmPFAIKDmO2gbXkDuPu/W+X5zId/seryXSUOzuH3zxpVnZ3B/p1gdWhZSXZTmerjOpCpIgWOdKSZ6FNwOhApIn\
+FHGQsAPU4ag4cKSOBy63OCSv9l28hV2berE9ihsasPqBvhzjgKw2mjfPNav0+Wrbge9WqeQsDyjC38Rymr2+E7RX61nvmj37aJducIDS9R1tpbRyw/n0lN5SYksT5YSWBsLBqWndsHeL\
+w1EIybyhs9BupC1a6KkLA5mJ4ZG8Nd9/ziys8nhREckhUsRh8vShvKOk+NJ7f/1+Qk/LE7k7focSgvVFOTsUx7rfODKfRvPMncwb40N6FRcMlyGNDuvzwxjTxiJpuh3q3uQ4PQ/KxxjZ\
+rCS1QW7LvV/IeEBuy6fqzUZmsa6q4KHMd7eR1P+KgrePrgPe/tVA+f9iPUgO1EuPrkrhP2j+d5Usc/5NSFbj3nFEVp9DvO+fevG3P/NbL/z9yQvegf57irAKk2V11Hswo+J9AwCCWKMA\
+EMTIAEAQF53MBg+M4QHSbI3De2ro5WEfKcV1sgfJqa5LANM9n5yGDmQ36hBHQGdrN+0QmNMHW7KptqThrhT2pPINeg0J0y4/Tm3+2qy7S7JL86uZIf1tDJTzB8qZmxqwRaZIqakny8V8\
+KjlYyfpIt0HvTDIA6xSydGSZ19KG2b0PutG13hg1d683zWdC59KQo6seXyUF3KWuQ5KVhhQXGxXCu6bT/aG8n26tpH0yWdCewslu2qWz1eTnZQpEttOOGStI6MMx3ZHz8cV0HTD95XeK\
+/FVlwMLeXrb00UrnmO/ebNIqS2Rnou3mWnzM2lPZeGUCEb91pO/L1/jZqPZ6OnJACLB0vO8fmsunpmkQ7M+no0ItYmqmU9Pp2AFpo4QPyJKXfEfzccO/HUvjA1jZXRiGyHevl78pfn+w\
+slthjk0d5tE+rPH9/taj8rrpoy/ARvD+o4vPnUq7z+uZJFNritdAKbMetU2CNierZX03wCGBYeCcUu8AU+m65OeC0onYOqXqW3rl59xrc4MP5TLpP5WvTeVywMt6GbVJ6pwTp+v+UblY\
++UqCtSxAbc97xb65HIh6mayw/3GpOTARnu8gWwe9Qu/U5f9xiBBnqAilSkzJB81PNuuHToKOREO5o8jYS5MlsGe4dtWBLjVNXS1pUUnB+IysJjRKV+tOWS0ROAZsxsx86f43co7MaEcZ\
+GF88Uimoc28G/TiO5tQgcZZUfG/Dmwp52QoXYB3CsIWo1wB2+KBIxAlKCtcitfsG4ZxDk1l8exAc9A/0AHLrC1kcUSIG1g9E3F7vitf7vHMx7z8zbb3mkWb6kPUQBB5pqK6RCJbbu62S\
+LzxlGVWC8XIcJ58NXrbj5N9/uSzSFUQx12aRev/naqzRa6Ow1l4VR/S3A7eNOSVrdl44IMTcN4j/EPwT2E2l91KeCGL+G5B+ULUqdZswhI+wipxcgiqrC3b9fboEhaYujuwAyR/6CvtR\
+BX7+sJrQmzDON8XoQlI6NSApTdQzmpeYJ3HPAetDloK5k9cfdMePIWCz52X1ktGSRnv/P/bePbqu7KwTPPucc+899557dY+styXb+xyXy3KRolxVjGVcobHuwpWqyayJK5PJ8mTmj/Ra\
+80etCguqksCq7pZsFVUxgg6NIFRF3UCiEGibhxlBZ6YNJEQhLwUCUegEBDPQCsk04tEdhaeATDLf7/u+fR5X8itJhfRMqpZ1v33OPvv57W9/e3+vDsdK48C6wgMVwXXZ1JFfmthFJ2FO\
+2PnebsR/6ftNh5Ylx26BjG4ody0Q3MI1PDt3e1/VuVtQoClLp+qFN1znlL/QDRDnbhE8gjWrzt1afZoAsYajb0ICzM7d6uqGrpDOhHucu4V7nLuFJYmuxMTM6k6iy+L/ukj+a2Vl59y5\
+m4tiL87dyhLdwrlbs9+5W1Q4dwsK524NWavt2Lbjs74R0hNKNGe+rv9i8KzsszZ41WTywSKSzy+zF3F9Iov9zmftQ1+ftS931l48IfeHVbXoa94V9ufv9Y9c7F7S4Nv1u9g00l02qjfH\
+p/X3Sf19XH9fK8rLvSvv+oDXqycf8fsYInhufC1HxbB1iQdz0sFPghor/HjFMKYHWXIwT8gJGfZkBkf0D3o+JNo2oh2rKcx7eky0ssHQ4IgZiny8wb4cBe8jxXtp7KpR4LoD1hywXtqY\
+Y25V77PYic9KFTaerdljya/7efz3VTqMtKhVXgYBsffKa/PckbMQFEP7I/kNDlsMjazcLI5HY9UQp18XBykx619Tr1q40rkImXydI95kbQbWTPJRqRIYE+eO6u0x3MYdgzy/CMHGX5yE\
+IzUaLsR7rbPhS4d/p5MPSEF14njPdWqEhMdwDZc3kBuvjYRBzjmnM1Cqta7GSQJZPTkdY8N8XFrCTQyL7bpQo+fYUXTmr8MqDGCCqyEBBwXF2DhjiX6HELOAfofh0oN+R8RQDwYXuLGC\
+yS9u/WBIges8NmQ9qDFlD/LRtAGejoakwdcXd+u0ntbfk/o7rb92b5gJRtcDvN7ulvuO6ELHOTO9oL/n9fcR/cU3w+LbtJCbKuMwxM8nbcRSyynImiCjPF6SUTaUaqbTNJEqcjxBoEou\
+75HeZN9wTWk2TftT2UvOcbPA+aztQehV3GLebY8JhjpB7IhcJzoh7DB8uRHeTAodvJf+fSP9u4/+naR/90MkxG4a7KiIY42dlhhBhwjXaTlkh7nVD+Tj9g2zl57IHiyEqPCvcQ+OyQ+w\
+vlU6yUWb9H57T3qsMuIPlqWnsz7lmLSH5N55koooCxSzk7hdPc6o396b+YFCjtr/5ROVT+u3qKdS1usqn3IM8fvtCU7nJexX5cOTlD2U7Jz5xK2zB7dd+iPI7oPyfMBj23AayQcGAi80\
+RNjHnXw1oFF/oGdsoypchTp8wwlXHxABbVwSr9Yh2Ovae2yUfCeTrHERrx4BrZ72p2hEPLhXYcEqFJFyd+35rA4w7h+x98hKsixWjeF0OOXb4sP2iEXr+wSrxyQ7nOdkR3PBalwRrB4W\
+cehhFiieFMHqYRWsHhfB6mFIT2OMz3EIVg+XBKv6io/+sZQUa0ksWD0MwepdFcGq+5wyVgSrdxWCVSK+qZrgutIG42p+karGhVTV2uyxfCGX16/sLUesTZ7k8X6XSUG+7qed48pAOGSC\
+2tDe6oxsLr9g3BhiyNOjsc5ETKW9PJtkweqDhBXH82bE9ihmpixaxVniQRWtHkfJmqDKVLQ6WRWtHqdqiOQcT54SomdB7AR7xVuhUsJJ1EU/+0mxdK65ZHvSPjAp6y6mfpZkKXEhS6Fi\
+RM5gbS+6/FzP0OhiXbcPxHkrqFEn7YN2gpO2ECoBaZki1Sn/YJyT6ikRz1J/AGeTpT5wayav8NKklqAEakHeGq65qyWlk1JAVUTLldJcEitBeYn5PML0vkQO7TfcmawWO0JpcO8pRIU3\
+GGQVFZ6EqDDu71ycdw70/3AhQsPWQCPfJzJ9cWpu37zm1otXc3zzmpsvXs2tm9cc4XiTb1Ynit2Id7EThFAo7BiVBNFJvv4KwSFK7Lk4VvENhYc13ODT+St5Az7ANd3tMhkx06k1k97L\
+ROg94MMAvNtQV/DqupAwpmX3K6FKjys7LFfjLeoUBpR2mm6sTLfHEePvnjXJb/qc+WxngFnPC6xNXuZzH4FWOdtUKJ/ruXh8rBPJ7G7ChpQD/IT51q7y364ej+qZdY23Wtdp5b3KtU1r\
+bSfz2lCBbTDXLNVQ2exEbIDrBpcFviMgmoPVb2JxT2Z4cjCRRTa/oF8aV/ABSA7C9H7KRwQtPQ7ShSL6iWMfjqFY0HqUrKwCId0pz5FRe0z371i3kXuxIy/iXBVfSe+Tuu+frQN/75NZ\
+wjaDUwohSvJaHoIoZa8kdWeKOCKmi8J33j8bgnHo0lC8kTsact+/PDw1FTyNwc0Ol0TcY+pizAm3j/EFyzcyxwvCfKvz7KAeGQf1CMmXL4fUzUEDnAl0lVa+B3HRAC0T1GBoiaAphhYJ\
+Kp8iFyCFekBnuLL/7nMGoU2g7ZkwbNZqtWa72Y6iRiNqRg2/0Wj4frOh/wEI/Dbw5kGiAg/YacLoFpIMEqP9IJSCTtDbe9ITkCedAEN+nFKSgd7gBMhs+vHKZ40YP/gA+z43/DgXX5Pa\
+tIR2kNcGWxePv36As+DPcRfDh099hJ1Txf0XDc3xM94vgqDYB88QNQBw7AxRAxd27QHiwY98V3bsDfbY69h3UaHuLoeiY7MXn5itPcoL/diA72Gu417wWCfUY+bPLcN7vrJTMeNR8lvS\
+gJpadWCtSeYPl6/jXBG2xVyNnvo5pGI5t30g+Zi8osHFUY7wIMK9VCQGBXwlkU3hkoDvURAcNxXCsWjYPvvWlxIIrYDLBSFC1NWXgGunhUXVvnH2+7qskZsoqib5bYdDPDhIlwO4vd+e\
+TDby8edBkUYtm6zFwIpJfsNn6KqB870W6BefeI7lT41+IoYJh9m2gQaxqS1o7mnBhmE6oKQ9r7l37V0fgLL/SyZ7dRrml0xK/p6XfNxnTlwxZ8NAuPXbBU3nR6XOnNO7iy1Dg87uzyTF\
+dys3qor91GqvNw1ViVuOunS47krILzo2jLvpiNX04nDMxx5f3i/xaMn8uq1FS5E7Hr7JSQ/r3Q7jAjY+Kk+viJZMYZ59TDCqQIE+pCjvwjcf9pvQmPv4kAB23/g+6yYcox4d6onnAioh\
+i9IWPT0O5kSGnEngbGC/MV8PbqTdOKaHdLgIyW/WMnvvrPffA5P4jmgNN4dtt/J8vpQqVRjmFeLWM5/pELRNCvgoCojsvdd0dZ/rFFN4rhMII/MlNRQDxZgbPMyYi9r+nVx0flCrquXI\
+EjLucZ5fehfHmXd5wn0R9DwYrhy9XCsF19TJOp77SDCvxB/pUqQ+HHF9aCmm9zy+JvUya5nmyKXpxXnoaE3ZKWtfPUmr4BAtgSOE8aCasHBUMfjxHP/0jtJz+BvJDa8ySZPE9zWsQ2Vd\
+Qmsm+Q++I9yuxLhwfM6XwGCNauKHnh+7m0O+FqY1UeavHlf+6knHX5kKN4crv7nsoK3h3pNZu4B5LlOwdr6Qrfb5TqAwR/6BUog0qbfDsrJj8W/6vpHr+a2y5W8unj/dJ6af7pPul23F\
+JBQLC9395BN+xXRtmu+sxbhW7IbVejQ47+CTbF3KvuxhA6dLwuSGvly4mvmKabIYl854XY5N7N+BNTEPiqj6XHC6MI8449SwapzarRqnjlWNU4+oceoWC+AvG2MuiqyjCKq5T3whNfSz\
+QfL9vkb6u9eLZI/wONBmwn/HnYgsEOUl1QgMLgPvPvBttAsHbuFzjCURagTxW4LytBZNuWHII7VoNXmMH7TtI760K60Vgc/O6u8+Mex44qGSxHu2SkO4hGnxGx+62VeYZ1/hk2yfTYXQ\
+/M9+wcs3Pff+EWkswxekIwyfF2cS1kCWr+XR7zgrW4g5mJvkMJ/kGwxG0cs9r+L9dC/CwgNJosnxAjtCNhZmpzaCHK8h3GCvZ+fES0ZZYym07OaffuahKAZVnmLnN6paBp0RUaZjFxuY\
+IkGP+JdrJrqoegR1DjjfuNXdvZMF9MkGTvbJDoqAZnXFmLqODB8eDVHZEKIqnvPe74D2D7D0JxeAWaWmpyENYSGN0M3pNO47fjwp+88XoQPk3DrVcjYHz9MI8yCsKARvn0F9NGm8LBx/\
+K1zak+dT2Z4eV/bztSlvrh63GVYv3Hb+q/tEB9b0vE80hBfEwUy2XQRrl2M5L1sR2Oi5CzbUVvoUqegqkS2hUQ6uXCu5hCycRbJyBA73BVrVharlMSeE4Dm0qgstVAPIunNDVi+5IauU\
+ftsU8U58MdysO7dXiB4maFnMO1KloYgxw6xDUNoFvBtTnf71CuIVinn/tygtjWSlOlpay+MC2lp88UWr/bK5jer/H+PdgEk1yqTGGvydTsEtVvj+m+fp+BVqaSAEvb9/niOllZ58np9Q\
+Dz5WPPsCf1d99j0v9Jd1GU/q1VxvxrNaOdcPca7yk7fu892Pv7C3xnfgWU63LgfGv6i7FETvt0ez9qFFjpbR+GOF29o84vLRfjbJZLJCkKJCIm+F0MkSL0nnEyaIHP3I1gpWxFEAuQWr\
+6S1YLus+XTY8/hJX9R2vw7zi+v4Bx26xBmVruhNFvg/duSLfVt00nIOq1l3wLCLLp6XT1tJpbOm0tqAGYnAHVuIjWW34Xi8RzyQtcWx21sE8kwrzTLZ0a2npzVZLUaulqNVS1GpRbRIy\
+61v4Y4g2WkLKe7VXd+BM5Z/PpSFq6p0sHccD1voRJVJsyrc/bTjhUFHwuZmfkoxoRRN/JJ5XgFd36B+nx5o1vZL+Cm1GwTw0NLCrIfQo65G0kSZuiQM11YQkwbRcFRh8KDCIHkLCjEg9\
+9dXfAatKQ5KPjx6GTU7a7n2CtmAXFN525faSZXAx+87nC04WrtUDz9B5O4h7n+RPCNW5gGfeThTh+bet4QaHv16E1vskKwzDb05v661rlJ0HCMMW2oFcX8SnIfyoI9IdnZHHRK33yxxQ\
+X8crbec1t3mYwD1w5XR8LiqveiDh+orF3hJHOW6xc7PyBfxlNBKIJF5xrhcHj8JZb1Ry1ktTmptWqE63NcmHfQl/62wCfGcTcEeOmap991Xd2XlJKJShx0te+5wGVrzsm+Bisf/eJCZr\
+WZlvOt+KC6U/PhL0vrXsZphPRND7oz3g1/PNPL8r8HqvhBlqzXqwEVgUlj2TXXsaLCDr+RENYNY+ZfVhJg31fEtn93qsRl/ncQvkLCZnGr3zQABcfdDxpZLUEwdJ+XMMo5xNlDcI4v/B\
+mEvIwkT578Dp5lqVjtXFqP4D3oR8NOx780W8aeZHSGrc15I1wYfbfutinRXvovmsBnaot1Jjp4yrEqiq1tuAoxNzpbciWo0wGZTQVcDELc89pM/kFf425pJtIw8RocWwOeLP14iqAfi5\
+WpoQcK/3s7V0kIGfqaUHGPjpGjweEHC1VtheIxgDWN3aFdt9yAzgN3nItPE7eMYTi9AzXgu/Q2e8JpucnvEi/BqJtJQ4OAJaK5xg21N4HOissAVKKzyNLQ32i+v1tM7AWp2OIQCu19Ev\
+kWPVels0ar3NfDRw312TG4YGH1bC5Pd87smy6Rj+fjtKfQY2IcGqSdyFgIHFKG0ysAA/OAB2GmksX9E2IF810o4Mq3HDatywGjesxg2rccOKmGg1vmpPB3hsEWOGdyGOKVP2f9rRRKvs\
+VZ/Rs8n4RZ02MKWr4e6Pl4hf9vHpqNQofMiIQxaEgkoEHJrjyVMHMJg/gINzPIWObg0XFG2geuVTOKoSp7OFl9NAIt04/6fqf9Z5RkXSlpymIj1dcqhKHMmW77xxXg8Kl/irQeEr52qg\
+TmiwQelUBm4qW24qfTeVbTeVDTeVA24q624qoxvPRSWOQaPsUtUvH22D/Oqz5C3nKzL2Fdc71bE31bE31bE31bE3fWNvqmM/C9Ng56D7S0Xs+70VodY8anKV3b/Y8hkyL/oMmUJ1VVaJ\
+cdP2osyU87r21Zop9GonAgfxB4k/JhvJ2jAd+2DNTN8s4vIewIIhggbgaXjqp98n05h/H4e2MDua7fDvBZhZssPZLv8+gsi79HsWhpZwP0vzjt+TNO3cKpp1bi0iJqIT6aj0Dd7P2Rv1\
+uIxECgH4YdtwcRg3uQOUTipJdiMVy68f0etddi3V2/A0O6VxHmVu5s9KIi6WCe+2z7Fh+b3eYmc2elnHzNKuQQx2wO7VvPQI/bP0L6V/GYhHA/tIJ51gYLUDB9gQc3bA7oNId9KDDCx3\
+EJAeONdJQwaWOukkA4uddIqBhU56qGjw1UAb/Lkmp783KDrobzfV8HcL+tub9eqIrNXKkSobbMNwdRBAcyZYYaA1EywzEM8ESwwgViwDnZlggYGBmWA3AdCdCXYYoA13m4FBqpmBAzPB\
+JgNDM8EGA8MzwToDIzPBGgOjM8F1BsZmglUGaLO+yoCh9hDQWx3kFi+6PlOa/q4kc8mjOjOrgx2eveZcZhCD9fogIriIv0QdNPA4+ROJ+JgosJjowC25J8tcf/2U/yMMTFA/MKYwbthg\
+4CD1g4Ea9YOBKeoHA4eoHww0eu8eJk55t0vQVnNOsYua35xLft/ndm81z3UEKRYG4C0Q1KlDawXAdodWF4DNTpowsNFJY4cmQw65BhxOjTqcGnQY1GRgt02LUFFpWOeffhYHSmFq8Hq9\
+S4uKC+3S6mSM7UIjBYV20wPOobrbkAZzTgHquGVX6yyYG9IEi+ySMr0U+Ri1oz6XvMd3DIhzzc4xH7uSBW3mMxN3o6s5JvHkUHmPrJW90gV9lHewcraare/Z9yaKDGkBnijA+wvwmwtQ\
+NTML3oJpDS8zYS/Y05oe2t7B7MWVaT8SL3Y/qWkvPsW3FYjZ4eYImHGfudxJjzDwXAd0jXDl2U6aMfA9nTRl4JlOahkg2lDPB8/s5/5+sDwnA+U5icu8YLTf3jVeOOLDNnak2MYOF9tY\
+VmxjabGN2WIbq+/ZxmxpVYMpQE+WE+4tY22U98319ojrv3UjkroxytyoHXXjGLtlMOBo7KBbIcNuzYw5ytxSMgPa0aFpXPPdwpBlCwcmmZ4qFoaZOMlxY3fIJRBndkjprZaWY4PsS/rS\
+Pb0xLtvDs3SaPLwHpUuo52IzcQC0YqcfLniAwX2DAcTFRB4tJjIrJjItJtIWE3lk34mMKujPga8K/H9HKegS1oI9fCbHfXUES0RgGOzFz0d0TmVnIUt+WUS+14vODZ1l04n3/8Qe3IFn\
+ZPrXVam4JxJf3ITA3hfHVUT0pqONC0wBAy8L1Sp5mrCPUn6awLrIqEcRIx5FhB0ICsH7/V50Be5EQvZJMe2/RH12TrOvTtxDtNXbz6B4+2GvP9P+MJFwhMcZVN+eCTvE5F0bXCQ8zQ6x\
+qwPbtd3Z6LthmZOoowc2rxqAD83A3dqKf0dx9FCzHTv0qKhDEPQKOCEegEbvgO3gp8OFJoXXCAnqFvA2v83qAMSVfooB4km5PYloWD3Ml2ii/ZgOxGyUSKNGHPGvuGtWsb/HdlpoNvAn\
+VG/E3oKEcVU4ctFC8iAmAvPzwtnAWQdH6iE74HjhJeWGXVPSeljwnct0jjiOW2q44WGR0+/7POAnaefF7zcJhnATEXPpYVZWmPZPpw7NNox2aNPQOMACBL502QpQHKGIJSDDker4NNxz\
+hSPBVqeesWIK5Yrgqil3aNWUe3TdlLu0Zsp9Ws9T6waqeC61RqmlPHWdUot5atVAW9SlrhpoqmpixUA+HLBulBFn4G6sNkwn1BHq2oGH2ftM8ihhsOJTl1BrSDzc8kJ0S+9h0Z/BguyI\
+RgiDPL7ttItHisgAuizU6RT0pSvUg008TrEThiUf9OLPI795sXsJHAVfqvnswUYI5LT+Wv0d199EfyNHSLuxkO0scG6IYrFBC4u4YzW5BwMID0FttBQLbtZID7OBN85+8k89dX/TUbGt\
++rMSITpjfhveRjTwUENjmREYqbdlGEQPzH6BVnh3tvUycYal6kiiF4zRgW+eQXhUhVNL+C6EAyR4baF/Y+qAZuJmSnlVA6qBbknqGQ+1O6ylhwIHuTL4NY2lItEx3/PYttORdgdfDe95\
+TSW12/u+4q9iKdBwZ5L+DlG2Mfn6QOnrfbPcqBS4wWneuAQjowZ1Zp/BG7VlzIZpsx1JSS7rTbLdqrQWZavfujTNhsk29NrnbEOiBD2EJI0ij2jsPhP/Pfg4drgg19/jlHUiZrP13qU5\
+4L+5wp7sQWuH+Np6wA7PRm+EU0f4IPf6UbgGk7Ya29PDt8aQHXg9e0vKPb4b4QvE/4RgMN+USBkN5u1QBrSXYUqti0Hu23gxOE7iYMEyTICxOZPzLaNncmZl5JRjVhx7PVi4tE6KexQc\
++pJThUtrBnOu9nDhSPoliNp0KmecxgvX9XAtGi+FzoeIE6AY5waZCYTzbVdn9kLXuK9uzNJIPAwQJ1HVZJju03Q4vceXQlU8M152KyxbFkteYLNeJ7bxD9jZTcjwr/aLVXzJK5KVmkpW\
+/tAvs5yhxtASudRDX52zk6iDQXGJL9FV5s/ymuQBwlJ1YvEAjfKy+HZIm1VOuSIYc+XDYUTzdiIgyIw78GQBnt6nsbngKH5H7qUJGFFT73YSyomYGnWFodNZ630rsZ6zuhBqJa8xNUWI\
+miIE3CaycC2fa/Zwy/pQcE+c/MdCvnZpLquf53gBtKJCKZlGD49qrNXIqr0sXUYZszbZcioWNcdsBUm1hqRSA8qlRS8VBezFab8q3ENTPJRuouDcrwgPhCjsgRPCaEh+bjvk6v3jRqSr\
+wfxAo6QNWMg8a4UIdFyT0YzzeElT9A++c2z0ZcXb+Ww53k4p2s4f+V8z4XYkxA4Y20+7ySv0dscKnlOCx7iAMoqPGOUbBJBpfOkBZP6m5UcXm+x1yReKGbCvLDkJiet/iSoitG3BKLBo\
+RML8Rei2PF2ieB31DR8ixt7srqfYfE51ThdhTMGhWu2AmCfXLoD4ITd7iAsvq9MnXjAsgv+0O7C4Eui0xXEJgNTyKBUh9IITIkONnMss3RmHqlcZqjJMqOgTKjqFqgwTqjJMVfh+q93g\
+rPahAf1bmuLiTpoJ9tOF9i7Y/B3jUqsGwXW38zR4+608tWwQbXczTy8aPuRoasFkLT5chGJXIvL0qyaVJ0swOQlFoae3buaI3S+16BHdmojt/V/oZItHr0kT/v2fiG3B7wViBPGLEKqs\
+yOeK4afsC8B3F1Ot8s2hyCX983LIvGkWWEypeYO4+Sa25cDrdXkMso/ZAVaxsYntvGH20hueIsbFPPxUOnyTcqsi0GGgToNGp54aQZl7vUUzGz1MaMQO5kJ3eBRgs4zb62XZAvdfXcd1\
+2G3cVlUrctmVsVRZKJWl87Rj7Pmg/mnv5bxa3q6iW3naxMOB2ZOvTzs9w+pBlOVtkFuhaRx6C8zKX73l7BnvbYYZl79+y1nK7LvMP85BiijzgBb5Ge87sg79/fbXid68uXzlPhTwkKEC\
+OlJVAD9FQSoEj4933OMyzTIcySoUyxPBsw236tbR1JBPiprD6XisG9luKq+84hXPQ6wBkU0uy2uouVXHDpzrBBrjgkU+ny6sbRErp+2c9HXYSd+XMitOXxWLuJ18xu9TWJUK4QLVKFpz\
+bYYR2FcExpM6dtiG7q5Mi8QSpYNZWcCp2HbuSMfwU3euY/jiubL6o/9aXFnduQu1T33dhdqX60JtU3g561+jhTzNGOHPLv2W9yidL6dZb9RAabLWm0MZWZ3aQW8XCOfo5+L8lcxnO2Om\
+VY1rBYlidvEipBu24UgYPCeVM4RUKPPBX3zf7973alGxYp7r0564iwl6TeC+UYenzA8R2Tuj+o30+KI+LpcrnmvDOa4+uMIuxPM2+jdoDNf2xw1X3byU62ttUiLCTYXi2Lz0JUsPiMeY\
+5zjFV7hquHT896GpXyzH+XM4ykdX1WTMDWhoTTs/nhpFDz2gQf9vPFqwl6kfBDznwgoVgcYMu5PsmUVxXRFd5mtz7zn5Xh1aJJefS2WBWu9NPQy8udx7fven//6t//4Pf/Rtl+hR8qOB\
+rlS14U/l/Gg98ZUf9gZflbfvO+d64WJmtA0yOmzh0zPPEoqa3hfU//ARCULu5THSqfdMw8QLeaUFomtga64xfKOsnmX6c+pVgITqk1CFb9LvcP5MNXafuPh8E+T/QJSGepius7oix7y+\
+g/bgJCYRFN+Uss+0ZE7G+On9Pg54lJ9E7GAmy3N7ChvXkU7SImofz0/8br+8FzCdUjKfW1uVSPI49cwlXykBhjF76qDUFAjFvuHpNf19WadwEM/8mldKyEu//NLvexmUXwbVl8AZGybt\
+bo6nsPfqSSDnShsoW8q4+xjrYgd5k/LmFHn8x5jl8vOW5a16eJJVQ234GtnmPhaUb5RMHqhry3POtT3Zqut8K5Fsu6N7nkWUtffsQDL0uv/ULXthfhM07EMOi9r75M/I/9C6Fzomrp5P\
+un2U+PGLOLlLRG0uBDThpOyU4mH7tNw3GNb7lawvFFlt2Uf3dBq6TbWmmyq7kp3l2zK5fXGttzdqvSet93va+E/6jgwFhctwvbGnT05exMLs60Cf53DpgMtXan2f93Bu/fSceA13Roey\
+M7EDcdEjrsf/seY3yt7S8ygX1k0oWJ2mTGrUdn51ZcU0L2JL020F+Yx4VjdQnAbZfLU44h1314yeC6UhAxD06pczVVubhchaVLc4romfpBi9ebUvZeV9ehXCVzPRPSNRa9mFM7S7qS20\
+fTZoKTKzTB9mtWKWGpS+oE4S8lATF7RPop6MS+Y3lR85lbnqLHEcCpwhL3IgillVJHPTFOo0NdymJhlfKDJ6ZYTkIIoyT/VinhozJb4wRVt67AF5HgwC6F1WL7jkwHUM6tSlDnCFHgeY\
+Tf7EBwJVSpQJcFc9Acds8MuXgTJVdb0Gx/PSkr2gjsH/lIMi7Mci+rErgVe7DzanwVasmHNWDgC7Vb+MGwniID8vVjJuGPbhqRDApVFMhMPQhGNlnNR1Sugd5f7xoy4Vess45/7thvSu\
+IxZi/TbinNe/VuOc/4keVhZ9E5aYJ2WWusye9fxX8S50aY73DMJf2sV71y/NsXTx4hytajDJNYmsof6fgteo+3x4E6dvVJMCtzJ5KrwiOdwDYa5M8WU1b7WcypcxWw7wziXtYkWOFPGG\
+8jAbwrd7bKtpEAEjmEdfYHv5534RyPcJsYyhgUgDdqB6kYaWSzUcQGBvj0yRYnFUqV1UEX+Zt4djEvhq4PCJwK/nARLEv4BaTfhuFHSwdy7yAUXO9txq4q6uw3sOkB9OLxsKZK1XyD1a\
+Q3y7P+LgSIzxGdZLOYanRDzD8F1qNQ/4JXKxx/A3qQU94JfKBR9rfH3bKf8ka13mHdbADs6vjxOZ1XEI5Pa7dtoWnE9GEtKvoWo3xbhx75iZbaqbIBd2tonuM5FE3N6GM/f3WLlRXAZ4\
+kYPZigpKoKe8cfcsmvGmHJzMeHc5eHzGe4mD7Yz3TQ6envFeKvC0f/KU9204Sq577mxIpx2Tx8OFBDHeEPLCcsl8MzTsqsKFS0T/a8z+EPQoX9HUsbW9hoUginIwqwn4ehzZ2dNFFsgH\
+gQ2AnLoHOtzmjZ9LMbdRyitQV7UU6oTPbAIrRkU5h/PssD9wMXSBPGo5S2B6KbAUjTc8zzzDQUfWWJjssAcXYl8XafoaF3kq/csSWJQeI1pKD6EwW5Q/6q344tkSSDwkVB3g8KPZCL/f\
+DYr3o3bo0TdM2hE7aocJYK+qFoW1qLgo+ZyfOw/FUnoVOy4F2rRYWpSkbVHLSSORHkmMoBu8svpx1kKc1KKBuhD1yaNi9NN0q0thXoEK8wpkWFeOPp8SSRHDd6kBUNOtQIW/SQ2AmroC\
+xR2pLrGmiJ2asmHDXddj3GM+Hca9i89ylKauy8Khl8AJdHGloeg49IpseJIGz7fNeTs8yV1jG5Oc0NEnLYezyD6C7MMcag8fwbPBSP4dL+j826YduQb9s646vB7gO5vMLx0PpUVK226/\
+VdwCxOps8j2N9J4KYPrJHlvNvIumyzW09q3Bp4w3qCHGMm5RDlSEWxDa8WyMAeaiOGCWFD0wl3X7i6UPS8V2q8PZ7RtOriOTjyrD2a0Op8/D6dsBHk7Ef2phOFuyhD0hkTQvIkpk2qgw\
+00aFmTY2EbGQaGMzFztOOZhpo8JMGxVm2qgw08amRMgDbfRLW1SWzBFXGs3jbDKfNfhRk0OjWzpdIpx88Cwj5YCsUo1p3nBXgMBVDG7dNvkaMMJvaWJ8NYPqGxuMCZ7ip/R0U55ulp82\
+ieYALWMaSWJGBxgdu3w5GNEjNFgCsdmEDm1q5Ig1WMyibutN/gWCXwISFNeETTG1F4064VRCqCZ6vM+yXmAIQwQohM1eeiJ1AmfCLkzgLYgJKMk4WxXtISovVSF8P/EoE5UysZlyXn3u\
+jKg0lbA4ojJUJSuP3gZRGSrIyqMvAlEZ2ktWHr1torKXopRoCgS2TQlU5SpS6uJXK2pVKvL30JbmrWjLUJW6PHobtGWooC6PfuVoS8R0Mhv82iAwB26DwABJ470EJlHcjR2BaSmBKQ2j\
+4Fv/AAllEawrP92Up/sSmIQd+2cxo+aAEhjHVDCBOUDrnVBBHFQ0+9oAFFECMwACM/ClERi24Wcyk8HI97O+HcQttWGHDYZ4dIwNOLpYDtZh8hdQidFz0beJOyrH87HA8y989iwlpylK\
+70AkKIwuapp3jwyr0v6VH/+t8UM6yfKdQiRTBQ60j5fCPY0cNPMn9UcR2ETLdg+JawIX2KDBrBMgbYHYZzELidGEnAniysZFrF647CC+0PAw0OKHw1JfH/JFPbWkaQM8DuRx9pVrWvzO\
+ut8Wo8NSCFHTS4qx/EslJDyYIT+wnlwXYTDDeXnkM5NaE/VxnEFUR+9WRgU00BBPwB4A6nsc/IVQBewuZLRMamiddWzs+N28L12LIMPlJ8mj2eDkS0XvvU2E17NteX9e3h8Avao8GQLN\
+ukKoB9HaAIKBv+LaPJGXNpGl+RQ+Rro2ecU1hDnt2EH67QhHJ6e/NCoL4FiRAU4/VGpzxcbc7var0KZYgrC/mv2It8VB3ZK5KDExn+X+Y1/r8MLvzGVtbLYxi22YIOZLry3Ln/e8uX3e\
+M/GGM/8OSEHW0ZZFcpHVmbtBuU5EX58XPMpiXgdMq3DXsoiDEGtTx0z9YyqazmP4bReVd6Rx7Spt6ghtaldpU0doU7tKm0CAiDoVRMlwJXLeyXmdzl5eh6uGvkE/KWJNE/ZkRP0WUuTz\
+mZgditRBinxRlM0xnXD6P/suUmf8vYkfXxoVKhO9ii8jEZPT6101wiYj6JJuacFkNlAcEkOVJvAKfcU12inp9G0pT8LN5svSGj5yKAyernJ8y8JJHCDpma3kGqjmqk3q5qdPcINtg2uE\
+8QlhcG3ShpPZUCVDoEt2WJfqiCzdbPQK85UH6Is+xBrlQ/oY3g/SPh4QBaGW78kEpBtHpiHKts97mu1sAu/BGtX633u9eg93p+uBG9qlsBjabi/s4bL8uu/eLgT5OGVJr9GrW52BWi9E\
+pyujsnfcgsn+EUfD+megb+hqPAIDNEo0OVTdgb6RH2UEPog+Duw/Btv0flLG6AC0ifcdyNUAjqd5Ex7ar5DdAD7Neba6e2aLQ3BhsEZdv0bdqL0iYwQcFQQssIqwdbQ6Fhk1rEHs2QC9\
+IER9xTWg1GEwfOVM+Gyg/7OIPhukF135cC47UsnRpFeVqclaj2bxtbleRLM/6pYTsCkszQKlA5nWAxUqTr20Q5UndSLjmaXHB6BG8WjWpmS65xu795uMHqfyTYeSR/d8k+35BrT8CNhp\
+6qY9Kt/W5DFRnVFavCtY83N9JOsKRtseto29S4CpJQ0qnO7vfbspbwcRfmfv2xWf3x61GRYXotuYZ/dk2pZMqbW2c8NM7K9jlLGvfcNMu5yJ2kQQTUzxrhelicYUIhQdne+9N3Qjsmcg\
+xvZ0fnxPhyf2dPLgnh5N7mn+1J62Hqpc60tz1kLZF3ohYlz7bOLJm8Oobg4jwqcaHLhpZ+jC5dco7wfh/9f2A6v7QXqb+0FyO/vBgVvsB4M32g8K9Hm7f0P0Sfagz4E96DO4z7Sv+AU7\
+YPtmPEWwnxDhujHto8IQ/Jchf+BicInZIfDCF+DplgW4F56C9b5yz89YIMWBc8w/PbNAKMLKq6a3YF9tD8yaNzylkZJpuOsqXWmoqSuGPLKeY8JCZsLOi7bFs7khm+KdcXdSIZ7DWBLC\
+S+YcQ7Bn/Txjp8qWCT+m3Fnp6aY8rbBlIR8Z2UUsjox87sYhj4+MfCuQtVnAZemnLSKddvlzMGehNIT46iaYtGaJSQvFEk8kcbIYPb2R90uGUvnFuabZik+OzG0ICSzb6+LEQENBXHzk\
+TgDj7gQQ6dklvzHHCaAPKUO++IDwtS1HAhpUUQwMbUePRuiA0bsKwhji7SN3JDtf1NXZe9qQJ9cvlTlhd/Do8H3IPO5cONRJi5vANbuTNrWA8ImOwm3uoP8qLjCtOUorczGA4F2s1NjF\
+PURrPgvl3lAOt63HWHOfMKrTE3OfVn4PEQKpDO7O8CrAvZIPPUcEbKnw+uG+vH64L68f7svr+4xUOOU2gVRNRqoOIxVYp6YsgTmnDgkImoh+RQIrwST9HMU6mJlOv0pkjJuoXCWSTT0k\
+tLOzgW6IuaqsygFZibnsM1GRTU21YkTJYF7ve9pyp+/wFEPaZkOJ8pLt1yRt65KlSZzLgPj4LS3ZaN8lG+27ZKN9l2ybR7e935INFU2iOdaghcEgNaVdlpjmS5UbgiAL/Uu2LXrgWLLt\
+fMl2SgPRVteXKjZ2Q0PrNOIjpJxFQxv2LdIhK90vngw/mh2AQ2tajv1r1R372rS/DOcr1VDmA5SImFiwzz7Ul7VcZRktjXgenjfnhZ3N+N6H0o91fDoBBLIGmrIAdWl0MXnd0tJoyZKQ\
+JRLtobfRvvQ22pfeRvsvjW55aYjKOuhFUykuIz4tDUBtWRrtvUvDTaUSLZ7CAFMYYWdp4VxMM6+bo2K3oHaMq0w+7LfnbY0fDZauMmuOhHQrV5k1jBOE5F3rya0OjxVfFRCjHH+Fx8pd\
+Z7b4t2UbNFE0Zt0SOQnlUMdV3wHO76Elg3qt2QZHUVybOGFu2hWtvZIuCu0K8Dorngw8h3546zYFzR/mTwTb21Q3z9henDeC6/OpwYqgY0qb42ZofTQ3rEQtNcELGLMonBiUldCFIKM+\
+b/fMpdElDHvkXvAqN5ctxXneWxXn6y8azrdo3EO9uQLO83bQlb00x3mia3eM88UUNvk6aLDYDgZ0Owh1O2Dnrh+EymHodEgLl8+nddLDV6rL3FNeU4MqqHaC55631RXChL4f1/fOVYIV\
+05pBwhK2RZdy51k/kBBaA2yEyX/x1cduRBt7SDNuWUetQWgjH4qh4QFxLq1SIOPuadvJn4Gl4BalWPDUEqvpu/T3fjw/cMY7qelvQjoUf9ZwUjbNv1SfjS4ydxXMXXzTP7uSDc2aJ7Jh\
+eCJp9e4HJW710jl2tFy3Qy+Xu3RuBd/ltpwpbJiJg+ppbvFJO8yX0s3kr31xfi0qKvzSZsO29noNe+zYwJqkB6hJAZFw2539AiHJP7sya974OirmsxxYl/EffpoksyHER5iDeTpvJcif\
+lPPDZz5noQ1BVqJ1kq1XcE1QbOTqKP9fUfltNaSX3yAf1zq78ThN65itOgh+KU0wd5MniINGxPsgDIafESQWBIE9/V34HT7FvjaopmnPIRvgQBDMduT5hIPp+RS2fbHT/acmuJWzXNyr\
+5oqF6hXXucTl4+vNneD+r7eugcu4aSUnb1HJnxqn0S0KwLOisplrHfq9S6LUC/24AK6Q51jpOXGmFeZyBo3d2qsn+TesqBxSpU7ftpGbYBRatapSG16mFoaXWfF5P6VnX7Rpa5LnhWA/\
+hWc/rqiNiuIzlKRyddB6fMSJXx5gAVCI39xSf9aL/03XT8Sb0wZhf3QXn50MbGIjFbREKniJ1NY1UhvYiOu1mj6rv+fxvA45PnYpOqjCufT5yTlY10Yg1B8L5iC2KeCT+uW2UWDHAbsO\
+WPAVWHTAkgOWHbDigKv8lYF5b03qr1H9tKv7kvKRalHtJyHdiHrbZg77hzeXyFxFtLy2jbpzWfB5E9/05zi5Y7IOA7smCfLcm77mvh4Qww9gNSAKAGAloG0TwHKAswcscoM0YWAxoLXM\
+dQSpkUJ9WtVcjZ8OMbDtp8MMbPnpSO9SOsqJq0E2BnsfXgS4mCX8HIW6+v3puARMgL32OCM0rYRxOKuZnX4ZnMY8kI7HGPvxM96HAgJmf9c7432QoY3nzEPe+wN29fRS7zcF6EWLL/V+\
+i2H/pd5vCMAPP8qwean3EQH44a8zPPxS78MC8MP1gF2J0J/3B3O9dvKA83c3ol61JY50OiFuQO7TtovFRnqQVudkrqIfivOfKRexzvc946uCPsqYFD25uhQz6cbiEFozecpbxRzAfcjP\
+MTB1xvtpX4fjZwSYjb77jPezDB+cvWQPqSetyTPeVd9146rP3WAPJzS+w6A0w32U5gD3DRgprX5QrK7YyOR+6sHw+Un6MLn8HAKdUXp8duELwVPXnqMWUI3XniM8rtQXcX111FdiROLc\
+zDnR+qS4U371a1n2/h4FXeekfExnIpRRPCztxBBOFTNxaFZmA/5qJm/uv4hagU76V+44eumkPZwetIcIkdmPEoN2iua1GdObSQIPt9nnXvTdhDBTmoHeIFTgFD+tfNaI8YMPOHop2j/B\
+xdekNi1BopcKyHwUvj7IWfBnghfNxOz4G+0kY0Tyxtdfy6BQ//nGs3ZcrKmjy9Z/7jlRs9/tPmsPXqMZf+4GM8krE8wx8dOq+Kvky9GxVQdcd8CaA9YdsIHNcYjXUtl3pPPP2c19R3KP\
+WAY6pmbJTIA3ffb64Yl39Q1fEIjdrq/niXGtmROJtocTkbZSdjW0HT6MXE9WjS4tpshCuXx2kqapVXGSpqnr4iRNU2s+W+Nrat1nk3xNbfjsHyHCNbmNk1NslT3OEf3YOabrnvpoe9Il\
+dtmBmibgoW0hLxIe2hbz1JLPduKaWvbZfFxTKz47hIvg0J8qn5HKY5nhcShXEHvXhH5J8k/Scd4haAidezDxRjAuH+nLs+6lBLuIaCfG3j0e/2KD+BTWqVhqlPfmCzrAUd8e7XZSq3tz\
+/579iO7NZ/fszecFHX6wMafe8RSedkgZuDl1wHUHrDlg3QEbDth0wFagW/JrK1uyV9mSacPsTfMNHZy6YxgqW/LVQEdpDfodutsat9u2XJV1V6UDth2wU2dvdjRxgfgyFR/LEdx84tYy\
++VbBmDq4Auy9dd76d2qy9XPJtBHXE2xnuzX2H65t26nJnTMdbhYarDNCzEtdqrLAlV2qIkqQ+X5vW5p9n/kb4RbuM38lTMK93l8G7HbxXu8vhEm41/ucMAlURcAnM8YAWa0roUvQal3O\
+E7Ral/IErdbFPEGrdSFPgL0KeoZdcbMLTnVtxk7ruJqBh8zPM9Z3HzI/x0CHdkYGEtouGRikDZSBA26VG10dK+yd84qMAbvU2TXujpHeEUO6aMSbAm4SjUTbLdbtagD+zVGGoLSI14LS\
+Il4Pyot4Iygv4s2gvIi3AlnEHL3U12XbwdV2R+L4sOEY1mxHl2WSu/TjZdmRL/TlafdyWtfsUkO8Ovz+EK3ZgE/6tfKaXTalRegYZXFGE6kTGlm0bnE/7Vheo6t2wfQt55MlVtwt+zKr\
+nuxZ5jocvffW5pQKKPz4l8Ro57uQa9mmA7bMrZn6FVNh2N2GoVGNIxfnOHKRjxnwV7D6NsRv/Lo49YnY3ef6nl2Stya8uu7fguxse0J3qNzk+24eKxlrcUP4fWXnqaJavo1Q6mqeWqDU\
+Sp7axTaSp3awxeSpbWw/eWoLW1Oe2qTUbihUEb1eM6Ve/xhTVvgQ3Q4dk7GLmxVckyX/0lTaHXGz7/WaqR5iQiWgSzUlqcs1pqTw0vYXIQMPmZ2Q9XuzFvE14as78Au4E4KsNXH310p+\
+wAiBCuELCK2+z/tcmA2AFeuyMygX7bvnp01EkI56azhOwVWvaCawJT/3L/lBKWzN7wTaf/8DfhbLvNPpFz3uBbhNZyFltbP8KSJURuq4qr+TLdfJ9j6dbEO41ZZOmryTLVz1t6mTjtSH\
+6leXHv4rc44rA93fCcv9kM9nW8mSAeNaGRM3Ig93bncoajccCtYhzJq9Z1d+5Kd+4BBfczIa1lx06Vs0jmUx7AzTfdcx+ajFGrNj/4sA20d9HDU6PRulnXa7KLAlI3BnZdSpDEIV4BdG\
+2Uj784uLWMnwYq0ILfIV5FQ85YX5lQO2HLDtgB0H7DpgwX2+6AC3clND/aH9tlkMDF/xRL3VW2HAqi9YBgx4l3+z2cznUKdOPSPJ2C2+lcaubZvJD/HGmw2cK6gYXBLvFry3UXotu69R\
+Mi4bs1HqLvy8KfPlK+yZbLbJ+2rBcp8uM+Mnc5Jn9BKJKZ5RrpUJnhEMkT3dFGjzNTi3Ax2mIOaM93HdQFL25N0/E+VTR1I+dIyXzxy2fOSYLp84TpZPUKfdEH9tDkose5P3TE2ZRt7L\
+MEa7ob56Lt/dkvLGN17eE215u5wu76Qny5vsadl/sRGkvJ40KLGweDfg7c479u3sPrzd0+7l48rbrdWEt/v4/+yPiqfElREnxbHisLvFvNvTfZE8T/ZF12Tjh5pE5ixH30RUTrhWQlTO\
+Kse2wEWX+BUwjAjr2Xv7yJyECnXwI1rYdV+BNQesO2DDAZsO2HLAtgN2HLDkgGUHrDjgqgNW85KNK9kBWw7YdsCOA3YdsOA+X8yb6l6tOeC6A1YdcNUBKw5YdsASrHl2YfqAYMrJD/fx\
+ciw62fU7Tvy2GrpKHLDmgHUHbDhg0QFLDlh2wIoDrjpgK3C9d8COA3YdsADlic2wHOCn1VuOOb1S0/Rio8zqtnAcreTfaHBnabeYzXu40WCR33UOtYkcbLHv4unwC1Z3LphJqVe/cVqM\
+aObq1tozz15+8zItua0uHmBv2Oz2vdruqqjv+xIAtNIXE9dJBgxH1tGPaKHsuA/e7PItO2DFAVfdl6tJCcuXEhkU4tO5r4sN4hRbva3uHMepZaHYeoPy5ak1Si3mqeuUWshTq5TabbnU\
+VUrt5KkVSm3nqWVKbeWppUaGcUCs3I0uhMOt3m93RWS51oFVWat3tQ2bPR5YDDa7WNuhPDDMGsTOj9b/Nrf+zpbbfWazkVoGfqeRplzOJxtpxsAnGunRWT+9q12PHdIHZ9VXEt5/f6KB\
+VRdFaLoQZ958dqC367GYGANayHzpVDTEwW4OpMOBCI0XB+CUa069jSH/X3YzO3taxLNcYvJKiUjsJt/aWfPEGcqHTiOq53fBLTmNyIiVNux2qQ24Sjd6yT8312MVX+p0yLGohMyuJ/pk\
+jZ+McCwqweawFyZTMpT5F8neL6AsMTfX/9059kYr4gWMwgi7gzLiLyqwI2W/Vqbi1wov/fJLv+9lUH4ZVF+yXM5L2uILF0JMGmvoAlfqZ99Vj3UM9ITzpuTNkPfQuqDD1WjemrwlD4MB\
+GbU0uX5shy0Ncw2uTjAQGUtGZu3L2FOVNvz8E1nGzGEK96OGL/LpKEUz/OZLTwzUPN/3PXZmhcdBdnTW4iyU4hh0FB+nznOpzzlCFO/b1GazrW/Xome/9eUdXyZ+tWMzcQA8dqFjCvxa\
+4NMMVEns7K73cHqXrM5ONmrHEEQ5G0br7zNedlT87qXjtwyhgJIkcghfFjgis+YARglaqzazdwlyJN9RxCPe6dixRTWzBzKyq83FgXYsUvmlAf5ZGHi4k4gT8myCRSap0I7YjveCyxDa\
+qFTFygzeD/lWEeGeRVvHYL54N49UA6sqZcmxCmaOs4wmxcBAXITz5DQx+cdmTZpWunv3QNTwjB8FYa2BQAcp4drBnn8ZbnjoY/+Ns59vPHVNtISOnfI9mj7zRGrbezNPU2bJuOfLJyqf\
+1m9RT6Ws11U+rUFlIrXHOZ2XsF+VD09S9lCyc+bjt84e3HbpjyA7ixM/4DlylA4EXmhCJVWswhUgbGDP2GPXssnLEPb/9Re/6D3LbxAmqjf6GLukSlWTFp6a1McSK610rbVjyXcy9RwX\
+D8zmCiPQFI0Krd4JnO495wpxDwuDkHLZhLWydCZ70+ywbxw2PicIgYydsOrCifCLXTYCrzT7IcqeHZ5TP4iZ9yZWVuiKe0zTu/Q/MrrZxSvpMXuUp4Yxk6VnhJuIpyOekthj5rFznToL\
+vD7/xe6z5xnmV0pOuTSvVFoopo3JYnaEF+6VAb/ue3FeBJhf+m8HbfKefc4eYWsRyvgcnBrChklDAqDENuxhy/lxd4OM+VhN2kOP5Wu+utRpgdM4TSZP8sC/O6EGtmi8ridXBsJBE9QG\
+91ane/YvJVlp6NPDsZsSj4p7eYbeXUmPE4rcXUhD7WFMUVsjv4eeb+Dc6ziP6rn0bhStiVwcLrMwy2okT/13r0/vhiWmtXcnTyk1tKCCgswcdEdbAY+Jh9lNZBkDYKU5fTGfdi7bHrPp\
+pKxDj+XGBoGiHjKlOArGU69hTz5LeB1dfq5naICxzttJXLSD2nWM1hfSWzFlNLS+qLTk9UBhpk91+qIbF3R8mDOkFrvTMFpb9IMbZIRtoMagCHHeJw3iyjuuKNhVoAR5/wy1FPp2XK1J\
+j8WzNcrcQkAVUM8SibTHBu4Jb/Af0c1KOggZbdPyCFsm0NPffu2GIz3Fs5gde5i1/Pu6R+N9VLqHLWRCWn6SWo6gpHlkVziKbb6IVbduXnX0IlbdvHnVjRex6ujmVXN0tXwTO17sUry7\
+HSekQmGWSlJirCuRMRDXz1xkz7id37vyICEx7f5oKHaL937hiydls4BNuDAdY8kb8FXb6VbeJoMi3Md6koru4weT9G4GPpDwAWGaaB7TNSZwqVKv9DgD1xOJqBCB8tDQ+i/rdNuDuDK8\
+m/5NYzsPaOFiARkeMV58noxDkc0vkQE9FaRw0RqmKWUkusD5jqmtVIXI9M0RytVirW7BV+zdp4ogilb3xFgp8jQ2Ofq9m4qlT6Tu2Trm32q0iFg0X3WYk9e68xudDXY7LhHRqU+jgaWz\
+IbbjLk3IG7mvIXf/y51ps2em8xPo4oDykvIAvCSNzyn60Q6JplN2fCA2XlgLavwfFchd5EBvsyt/eO0/EM58ott7t6HNt+Ze4maL5o04zj96/uxDXiipae8Pnz+Lofxlwzu1ZjYu73Yl\
+72dKeX2Xl7fU1hnvd7tE94/NHvmuzL7B2tfRvpgO995rgAeUU51+/2rIykXSfeKMR3vziH3Jy5g9fw87z9+28KqdVj1/j2Kh0y6T3sjzNw6NvE84z9/05Jn5OWUG7HDuAXxYPIDDNegl\
+mku0pOQBHI8v6uN+D+A+To8X+YPM2lJb7Y09gA+rB3CUOy/l2sIDuM/NlqdVD+DYoGYv/bd6kOaW8rUL2nBl9t4znhziN7vs69kVnhnM2b3enz9/9owHRVKezz99XnvAMwNq8l53hyNz\
+WD4lOb063gRjO00s+9dn90WY3ek7mV0cHGmEZhHiVU53fEa3EjiEZ4ODhZT6d3e119q6u/vCfuxtKLosn9Joz+uTJ/vc0+9BuL+uINxfCsL58c3a2nJt/J1u71eUuLT2aeEnu0J7mPku\
+te8TXZeutI6y/5Iphk2a99lK8/6zWw8vUvMyW2rg3dbuF29l/3b+RaWdO8/LaMtV2mY3vuHdBu0NpfCQXnlGZ/9k/Rd+to641a0y/s9+9ncQNQ5s2B4CXlrd1YX9ef9LWNlf8O9waf//\
+hGDrPLxnDWENwZN+fR7+UeZBl8ln//Tjz/qn+ORRfvy3v/ZT72yc4lPB1yfoH2eC/nmx0dznff8LzJsa4U0vvwDeFPwuMv6L8o609AKR0jzjmyVjuE+Jz1dK/CHJGHx9tr8WZvtHK3Pz\
+Vpkb/+tz849LKj/z288LqTT7cILvfKHMwrzjhYJhlJFgHrbEydijcrPsps9VBKPeozKp3yEvv/11kC658ThanbR83CAV2H+k2nxmBpvnC5NnrJca3EpLBINLUqndM1HsReiGE3VUmb70\
+xhNkZ/+48fJiglBeumeC+Gn/BNHHWREL0Gf3qTyV2ezqmvf62S++z3sqb5Bxsz/WNzRmLj895J0ancsIJ1d2zOzKtrF3TT7Es21HGQNGnFh2TIUg/tner9FwzWcj7LaOWF4kxjnEFA6U\
+kZO5DjuZa+RkrqYkbY1YSutXvmjv/cKOz+39SG5hRsqRh4ZFAupXIw8NVyS0fjXyEON25WVQ/jKovqSBGLYjLKEldBjtrXFgIU9M71g+Lu1Q4GUiWYVGplcKxzDyqo4pFA4Svu5ZTeyY\
+HaF8CI4IZ5LBXBbME3mCHN7n8L0xG78a/o1Saknv2yH1pPS0l5wSq96RGbH65QDPdJxf8B8yrHlhR3UK5/nk4GqHtN+pOHCdnlOG8EQPAgopLSiU7HhQqJ01qlbg8axBqdZqN1JBks1W\
+KvdfO61U6MVuK81VGkac6owDFhywO4xQWfPpsKgZjFZltXoLEdCpBgeg3u7wnFL1UTucvFM0PxZGzql8dWmEW3OvtziSHhUdn2EWNjkVHneHut+taq4YIZI4atUrVUWCVVJOBFeh0KCC\
+DAvJH9gDESCV26TlXE8yey7Pn4okDC/WpAK+b0axG0kqChfrSTkbFDRYxOG7W8flJPO0ISpX1MMoWx6+aU41ZTApGTYn75XX5ln8keqVMhV3VALU55OHoE5w2jaZHoWqGYARolPey9K0\
+uA9MEbJnEOg82HtGRfJ+24s5IlTmmrfdOq/jtclBWEV3pq3YsNROx+Ses52KPf5unEqenVhRZytWY/bNmFHnRLAep0Ny+R8rnq3G6bjes6Y6LTEhj+hDwTX0snE6S9SkTir4v9mBSg4G\
+u8N285AmsEOB4dwwDkQFiXFNsI35UDma7IFyNNlYEyzNHZP+9nbqc8m/Nc74rq1ZRpHoaIIHJXEjtcRV24xjiOoo6oCtJDpOS4n2mHoTuN4krjfDrjcdN96jbrzbbrwH3XgfdOM95sZ7\
+wo137MZ7wI33ATfek268p9x4D6m+Wmm8nfnhlPbzABKTmmB/qQOaGENiomyleLA8UG0dy82ajuVwefiC8nz55fnycgXwMlPhCEhgPC7V5urPI6r+zEFsbdu9vYq3UfHW47d+QTlD1b6S\
+MQ1UKUsGNlBdLZmuQFW4ZKxhhOTPNlkjS6p6J6qqwfhexQC0MX/csNznjAc9yt4GFKxwEnV6aZXKV8Jy5cthufKlsFz5YsiVR+ldWLA5+QqLXgWqJQqVvevFd4HqjEqZgSqOSn2Bao9K\
+WwJVIZV2BqpHKigUiDIpvIWKVOIfgTKwHt7XNnXYnzboIG5Upn69MvVrlam/Xpn6VZn6enpX7OadiTb9ORqX1WchyXwbA+lD5scYyM54P8rA0TPev3GI+a/5yV1nPNa1Bb4smRxDfFXK\
+lXnwVVdXOuarCq9Mja+avdJIsfhlh/OpJ8tDHc/Nqfp2KJrP4fnJOfhDtQ1JN5CGk5d/klqlrifdAFoeP97E8pcX3MtHdFJWRqDSbeOfPu2PXozZ/cVQWaX7K6/JrWrbHxsq1LYZfqRf\
+4TlXgf4SdaodsFhWiq6qSa/sUaVeLatbs8MjjNKC73jBqia18F+FHvVO07XCAQst1woHLDlgGVzmal3UjwNVP94WnW02R0+uCIO37SOGXMlUr60fSn5Wal4LclVlFJ2jtgOuOmDVAdcd\
+sJazh65lmw7YcsC2A3YcsOuAFQdcdcCqA647YM0B6/kouEpVI1lwADx4b7UpCsSbkSgQrwyKAvEiPcdhaCmZA5nqrXTneu05EEYMBq+dod7Cj/zZ/wW7Yi4QFyLBrRQijSicuqHbdQ1b\
+aLsWOmDJAcsOWGmXe8EdzAfTAZsO2HLAtgN24p6xZp4IeJuaHDjunxcVaM0q/D2PgpHNfASpMwiy3RbE660OzuXRtfkcmFp15ykKdvS+ErSaCG3A6LQ6yEoCqknSepny0qFjz2hqwPpz\
+JQvxXM8khOBEQYVJ4NOTsl2LMagVH/uweesFiuHjFI2Idoq1denEzNHTaBO2cT8K7exBs609qLjREjU377EOTLPTSlM4p5uLLQdsO2DHAbsOWOg4pHVPVh1w3QFrDlh3wEae2X2+6IAl\
+Byw7YCWvAsj87s4cBir5OXc+endHzlmyBfhrHSkVqIy/nTnoU9A+kFwTBg2H196ilvIuk1OfxQ6fpTLZcjpyOtujKnm/t9S5MhB5dYjHRmosTbvP+6FOZqE6e9T1zzV5vSPrC6RpSdwD\
+8B7WTDkASqdiMiG2EMtdnvrUKBatR04x0+PLEXwF9SV7dJaamLysPeR4vqtd2QTrsplH8D3tXcTNjM+6zXfpZRIUSoDmmfWJ21g1ei106YlCR1gLGJ0rVFN4kJYSmE4Ocne41bgpGtLR\
+9uxg8gvQTIHfY9aCiRyMgBp6O2eeyo6dk4VF39jkUpqJsJOWQdN6rBSdsgc28A0r3WIYvAsdN3wIqasHSClXihS1zEGHgA5YHXS12aOyoMuq2HmtgkQ+36esNFVzCHqXohEtHO+J9rAo\
+SV1t8s9y82HVNF+LsjGLwWZ17XEdYp0RmYETxQxkE051e9pO7FXdnthXdTvDiadQ3fahuj1hp3PV7XtUdTu7qep2ZiecNtoEa1D3q26fgHradHtv5nsK1e3+L5+ofFq/RT2Vsl5X+ZRV\
+tzN7nNN5CftV+fAkZQ8l+wlR3b5l9uC2S39kUpTRfFbdnpBFUlbdXmo61e3s1qrbmXrj7FfdHrLTRIYqqtsTFdXt8Vx1299fdXszysbtdFl12y9UtyfsOAIH96tuT++ruu1XVLcnRNl6\
+QnWVWW17oqq2PQHdbD9X254oqW3rKznJSEm+lsT748RelW33ufVvqLLtsw61P+MVpU3E1fyisu3fQGW7jyQMwsGOU9l+16CqbK8OXhkIJ01Qm9xbnaps/8JgNr1XZZumwmeV7QlW2Qb5\
+OJG3w4cStb9HZftuVdk+gaI1wZGTWWV7oqqyfQIq29P2hKpsM4WmKqsq29SKCcJmqo1+bqKyPaEq25mqbPtXhEqpNqVfUtme2KOy7WN9tw/GRTuoXcfs3XLurvepbPuqsp1hukq0klW2\
+qVNMNyf6VWxpIZzIVbZ9akRZZTtrj7mi0jEpYY/Ktu9UtjMQ7QmmmtmXpbKdlUd4utAgvsFIlzWI/f7u+Xn32iMxwkqUNIhPaKxG0SAeehGrHr551QdexKqHbl714ItY9YGbV51A0DJR\
+UdmW3Yl3NVbZpsKmC5VtXYkVRd4TqsjLu/+NFHk7JfaJFXlPwNPFnTAywo2sDbKm9n3mVwepLyBR7xlUvex3D7I29zQRP9XdJkqXKRlL79GjjOg3H+Dd8R7R3364MxxX+E1j7yJ+k1GC\
+m5H8ssm1d5mpVbNS72OuwesO2L8voi862DvOKqA+ZOmQBh5XDVDQZ5a6zyEIZCF09/cRuh/tF7pfZJn70TuUufu5zN0Xmbu2wsnd/ZLc3b1SEarfL9J1HehJDMvblr/7Kn935e+Vwbs3\
++8vhi4r/RS5Gf/9by+or730rNB/kesz07rXefPIAXw/jOvkDuE6O6UHdccibTRr7nPveaLI838g5Fb/bTb1qo1yv7n2MvidkfrcRnuGGBXhnPK/83e/m3+VytlugD3dTMPGccL2KzFrR\
++mCqneT7zMFMGfVBvivPSlf9dPwxb6DDYaJj8EmMgU9jkFsj8FWInHIY2TvlQyWXZs53Bixce7UH3BTgiPme4ogpDauUz66xM3fUZPbjXYMsqExkIutzvS1k9lx97Vz2SwuaDird/KyL\
+e5z8rCsiNT7xtvl+skXojksDNl2U64nznSFazXrAYQOzwkiDD2XjuZHGCVC+ala/tPnDpzKotRhqZJSZuAH6SA01+lmLvYYafLRC8cpwE6k+5TkmxE4rBxwrH3Y3OCT6PcGuY6/gKHSF\
+PtWDLBtsTFcNNpTIVgw2lpolg43FppwIMzHYGKKZeyN3N+ShuAmdn74dOm/66fx0fiO/0tQTpzPYuNpkg42rTdEQPuV/gi1LTjxkfpuB42e8jzMwfcbjmwYM4kcZyE75fOUA5NOrh+QX\
+TZmIs63Pemcu+Smji09e8q1Hl8hJb80wPWD80XURi9bIOQnJwCIQfEZ/rWg7T4rHT/gw4Ks88fmZ+XrFJ14/s1G9+hO/n1mgV4Li+TNr61Wh+P7M3BWidReq0OzgWyw4RhHPCaPOoYLv\
+lBDgF6I125ytQwJtYzFjdugu1w4bLScMEzC//yJ6RctsZD7N5Qnrsaub6VbsGiASpLL/hq247NthOy77fdiJ+YoutfYpdZFbtGeWTboh9ZcLJ5xnS4/ythXGXHJn4et1PMjvQkVuslSR\
+myxX5CYrFbnJ1YrcpJCwXFcJCzye5A5JbUnKt6NiFq69kL7s+ipiyEWBm6YsAdwyZQngtilLAHdMWQK4y/oxw05upd5kl1s5Zuntv/Mmu5gnEpUUOG+yLD9w3mRZqkAta6pIeydSaeB2\
+5LRPIhXcbUR6Nbsepe56RyWG1xs6L1cbKjpcaTgRe0MFgIsNFQnu1lUQvlNP5Xpuq+6E5XUVL67XcfEjldSdXGm1rnK9pCzZ7pZl3qNlabhflm57e6SKAdxUqk/mJ/n8Rw0sucPvXSgc\
+3/cemXO+713Bo+oIf9vbz180izeDsnhzUBPtXKIpnWoSqF3dap7P+QHNAP8tHzF6m7kuMkRFMLz6aI4jO80ypu02y5i20Cpj2mKrjGlLrTKmLbeAaRyMoOT21ypZtC+aqHBjSESF/8n4\
+fh41ILwLEYvEl12ovu1CdcobYgcrya0QIyD5VePCPcERo/gQDM53jESfZ+FHzaqmmsUdZcBXmxztPY8+5ceS/WaZYxvQzktsQR1P53s++/4oiSIRVYAa9F6DvaIOliZAxIDQRQz4xRF/\
+UCICLIVlD6aL/f5Hz5Y8l+au/4PCw+njJU+mcGD65B5/pOq6tfeD4ZxzcSbwhS/Ls2ifF1PDVPbmsQA2PQkGsMTO+Pp9R7EbviXn5X+HYwKId/6O884/oL461d3/hq9e/td99fK/5pz7\
+X3fO/Vedc/+rPtEzcfumHv5X/HRsXw9rboB2fW3ZmIjxanZ0X2f6D4JiFO7xD4pv/AfVxb54008nxcf7/axvKA7zp+BRzZ/r/T2Y2aatJR+Qs6Ovzz/Mjhitnz+npkwJ0+Fplh/9YcpS\
+J4b9Q0atUXGRWLx/0/IaiOOHi7fuCnAgDIzvses1ZFz9YW7DuBYEz5Y19+7Ny6gk+aAUEopHRbz4YZR+sChdH6sDyQ+63qgL/zFCD1o/NXHEPiTrsmaHVdXTefBPC1c5GGAdXSn5X6Ml\
+rWKkzA1GCoKiiepI/VLfSPn7t9a4AABD2trHOgGr46nrWWJQgnaYpyjhux2JBb2DaU1IR6Xd71zm0fX62/0snvuldt+gTTWEFajZRCWgTkWwvxUdacU41T+g3nDycAOHinADh4twA0c0\
+iMAYrr3hsnrle86mEh5lmaAaQ0sEeQwtEmRcZAL6NzVbEtDsI/8eu/PYBFP2EK2VI+mExCZg0B5Op2BGd4jeHk4PQVZ8CLKdgxyt4AgHG5iCfRdHLDhY+ayBkAZT+IBjE0xyBAIUX5Pa\
+tASJTSAgHxTxNYclmOKgBXG/c8f1PQ4gr+9xEpm7jVxxAG/1zFJEveVAhOga0Z2jYZzx3hpo0IwXGJg44z0fOJZjcvbk69ODNMNjBDZfnk6JAgIhGyQYE7MXn5itParSv4kB3zNU6lgv\
+eAz+M1Ed3zGsfMbIZY/vfAlEvefp3diclsJ68Hl+Wkd8xwI35uI7XN3qRc7RXuRc70XOGV/h9RK+wKmcieSyOE6NMnO+Ujr7/sYwyBiMQcw7JvrKfKFUtJuVADz1i2anKqUc5AYWH91R\
+GxExSJo5Sc10wQT2a2hSNFQrM+UWrnzI6xvZ/Vr5pQwjmK+iieKsc78G2v4GxkzFaB1LRBIcr+Jyk1sY1KjQrNgMGB92eYfmTI4IebDPmMvGbecxVZ4vEx8XbMfjkD/qijurqYdujkbD\
+WF8reRFmdkP1Mb8kvqNduHzdP3xE4c31aiUexmolHsb1SjyMtUo8DLhEh/ZPfuabkErRvaIr3u9xV+pnPOmTKfrkfcoBf+KAzzng7xzwjPbJW2SM3xDWGwJWOTqMlhV/h8vnHj5UyFZH\
+FKudn35kGib6ImVM7B8MQz/Xl4+7lxec1/0QPOtEfC3z6xIpYwVOvDmk1wHbJtwsnGci6iDi+7HP/bZypm2nGNd2OnNtRHAFZ9p2qnJtpyFHr1o8X20EoF1useP8AiYms41oUoW6BVG/\
+HruQkt9IfxP9HdeAb582AvhbrrLrDlhzwLoDNhywqdVZf5YYWZYBhI9O9nH6gaQCpMLkI3D4zQ+a4gi/Lqm6MMUcYjFFmAywc22Og5UNgU9pS5S4Z/xTPu0pmnrOP4V4UZySO47lPIWr\
+jZU8hSVwNU9hCazmKQ4JE3BtC2CR2+w1mqfqXm/HIACjZATOL+WfYT0s5imslYU8hXW06zNInLlhYBsselu49y6XvQn2u83u/KGJ1lsk0khF9J7x5yRkILY2nIdno5eJBVCb41xshQA6\
+NAEMhBIx71N5IjjlfYYTgVxjbOeJiH13ayJh/9GaGGeH/5qw7BK5DVX75Jt5XgNqgFyXjijBG8696gMJ2OPxQPKAwLmXdBDztnN023aObtvO0W3bObptO0e3ioWBw8vA5XHAhgM2HbDj\
+Pt92wJYDMD7oRG/NS77fyJiHDploIsJsYMb723zWtsMsmfE+m6e3wmxwxvtjTg/yftRmp56LDAywH962c79LwJp45G2rI95iBmlfC/ZlAQ8MNBvqOCFqxD0/Ddr1uBfQTy3uhSmY6V6N\
+foK4V0+xlfQaKYKU9KKUFVNGqX8L1L/f+/j7vF4ned5XlrjtvIPf3hBFczJOtpN8i5TI/Y/4b1IqlivT80SQ/Ej1uU665uaDgLz4B5wuGvqC/aUxNu8zHh2xmmhBgl6v8cjsW0gnAscr\
+L77nLXwA0xcNcLryYvEtbOagL+pgduXFD1S+qMEu4qu8sMZ1wJMzSuZUlQfgRDpWjMeVawjmyA5xMBpeedJ/5S1sTyKY6iajUZmkYlTqrvPreDGgL851arOmPGa/g7ed/G1Ib0sD92m8\
+HczfBvS2VpTcN83gBeTF/40Xo0WhxZu3oMCr9IdmfuELwbPns9HJ3kjvgB2ddE1nRkaJQORIhwOuO2DVAVcjd7piQcOouFWh6j4WMVG1o8LCj+G0MEoLc4Dpau+3Iug40zSNOUcp2QBN\
+xl+95ewZ77ciC/iv33KWvvDdF7+JAvkLKhMS2tH9/KwY+nhU6grSgdiGaRIj0vgo8ZbFXNLh1U0JYwFokdsCcmRwiACjRB6TB80fEY2YNfbAG2f/mC8TDoBQB9V16lCjNNed3vgih5e3\
+i1lwpYxvkJKp6VLLqwX0n/Fr0Frt9KYX8dwRMh0nak6TmpMvxvc9z1ZMQV4nx1uRdx/pf1daxB9/nu8AindoZ2l8aMTGZs0TyQv6uoSUrptoTtHVAi0duWLJeZ4hxA0ODdfDjBz7DleJ\
+golENcdgv8DgPmJ4DlZd5S/fjY7VaPhOLub0Mt6XYIqJL0sgmX8Jz3eEcVgINTIVMzkhIx2epgPsGlsJetOtBAdcd8Aa+KqrkYQcE66w7by+b4j5Q9sZUbSdEUXBVG67p0stx6M6YKGF\
+nrQQNyRM/oi3HXjJlg+kFy3hq1q0sIms8hsMpvSlZfF0A+1bbYIkrjfnkk+J/BufrTYdg0EtSQc5xjkxXk0dguvNdMCXZ9Ti4JXCilARb/VhOMrLqJkOyl7fpB3TDnLI27ks0ejYCUfL\
+ZoYg4Bi7MgiV1uQteVgikbM77xWmNws/+QFs+ZE+XGJg6y14uOgeLjCwcRkPdxv6cIeB1b95PzYR93CLget/jIeb7uEGAwubeLjuHq4xsLaOh9fdw1XJ+St4eJVhWAUysPjv8HCZ4Rq1\
+Uyp6Jx4uMlznsHHI+QIe7tb18x0Gtn7g/RLGTtvJwPUv/ppEu9N2MrD9OTxcdw/XJOef4OF1V+YqA1e38PCqe7jCwObv4OFy3bVTHn4IDxddzgUG1t6Dh7s1104G1n4RD7fdwy0GFq5w\
+OxmGvJGBpZ/gdta0ojUGFn+E2+lyrkqZ/5LbWXPzzsD2F9/ncWwQqWhJKvo7PFx0OXnT7239+ftyRqzmGLHdP3hfzouFjhfb/vj7HDt2NefHBIWzQFE4WfYZG69G7KZdED+XpQknEKUF\
+PxvRKhzVWE+0ALNQ2WZI97AIabP1iHB6r+TVyay1Hb0m3HZvNeQ1EMwlO0YrW+Io0jlNimVphB1ZI9dDdyQQurUR8mkGZwNetmEmy3Y93HNOYEGUVTpX6ZmMQN69PS2o6WkvwGFWE4uB\
+nHAlXyDHXikTurmxOz6+P9CTL1J0rNTjrxwYAz0Dy4Ex0IOwHBgDPQ3LWS/QI7HQJJFi73NK6hbKQ8JtnlZm8yR+hxBtXVuyZU553+wa+WlKvDQv3cwwEZQBNZB0ubOpgfhLExscolMT\
+mxz1khI+zew0BlemBNdm9eTHefOxTQ5Zj6BicfJPmHPyZW909wTVewN3j+C5yXraTcvjTpDL0Zjc0yXtN7SK7vKsH/+nwDciylwNy1aPT6q6xmtVa8t5SRjX39Mlq0hYP9qSNaSzjoT1\
+4yN7rB8f3xPG5oLopvxvIYcDL+CTsBg25QidEgXk6bJAN/XK4l6OrXFyLm1ANhxA12U7N1kU3wuBBEQxeLfOOTa9OVY1Ss7qi4YLSBkXKlsuvqTTKAlcrJ9WEV+yZOhdaG/ACLzQ3oCB\
+eKG9AePxVY5T46FWubuLVfEJDlogvPZUZO3UT8adVFoCyMbykb48616eVJH1Kl+LxfGTfkDTrIoDEO3JbZTHLkV8TUd8hQ/llnoX0ap+2dAGX8pixMkIighyZyNMbJij94UCvp3YpzC+\
+3/gXb6s6Xoz0Tfx/3ON3L7b45q4xn9Xv8vTzRt/nUfH5LQwbIxRe5wuMSfn1x+lXw1bVnVC1fsXWe29HkNsd3HbVezs+lKmSd/j8OUgXNATrfGWkaoL4htNZNOMdccldP2vOeMddciHI\
+WjPefUhGWDL028QSqfPt4SPatMf091X4NWe8865lRoEL+vta/X1cf5/U36epyW82UAjldWCgaBBZXyzt6oT0bzZC+aRZ/pLhwhu48zPQPKz3Ts8lP+HDwq7OywFfq4Udvr+g4/B42jfm\
+9PR+77W5Wd0YDih1OnD902wEMq5RbeCK68mykdEtWdU1OE2neJrXOsI4lwzr6hrPEgJKNaxr9JYlux0RMw52PMQfspee0cK2jno7csajiW5w/gYk+gxFbF3XctZ1Y33WdTC8qcNfWEJr\
+s8EXoaIkOV6xtCvKa5WN7TBeWwEU7uoQhVQN7nym7vyCDe6oiY3els9aO8yd8INNfy5ryqMdPntSr0RI3LAjySWOS26b0hWxuhvnosbPeIzAxRhFFzqlEc7iPts7V6wsDeKeZJYWHUCs\
+UwNjCkSp5aZ35Zrz4m3MupCeilwPqvh1SoPEH4K5QgMSGzbZasBqm027OqYYyKyNGJtNN5g0ETJzTZ6miZIJXuyExJNcL+srdHKkjFlEeKgyW+PwyeCkzAdtEwZ4sZ3MDfAOc2NNNXyM\
+RRl9NnjjFmdwNi/A9xUbvCk2foG9wWR7b+bDhQ1e/5dPVD6t36KeSlmvq3zKNnjj9iCn8xL2q/LhScoeSnbOfPDW2YPbLv0RZFe3v+PO9k5RPfCc+d040Z5D17J4r/ld7MzvxqWMZsn8\
+rg5RqG8nbZR8Jy839dfUFPXjOtU/TIPi4ckaK7yLEnJzrxleo3eV1toAI1/XTgpFSdgWr+msreCwvUlF9VniaeZBqCQcyE2zhiqWeLHYz8Ws+jwlWvWxWuJNiSVeDHO7GDcOU7DEi0uW\
+ePqKubghKWlIS2KTphiWeMMVSzz3OWWsWOINF5Z4xF5w12yMHdU1bSKufiLGeHGhiZPYwcdySlEmEEwaaIiS5Eke+udq6RRvCwu1whhvnxqZ+t3rPVPLSsOOeOMyG00q8OVZzMriICiH\
+8pY07QHMTr853oSa4x3iGAVqjtd05nhx1RzvEMzxJu2h5KkKGadaO7l+O+OGkE1Cb6oTw3tjozyuwU7Z8UlZkM0rQrdUc75ZMsqLnVFe4ozymljwMMort4YaOGUn6BHMm/AoqZjmNZli\
+1em7ibiPhrJ1Hj1lehqX+sQti6/w+hXrvCa1pmydNw7rvLy0tC2F7DHQa9LSnIKB3jgIu6w8UNbxMvG8YyO98b5BnyzMxm4w+Go2NoUTUrO/o828o+Xhh81es+iQmpEdomd9dntfndYM\
+37o1B756rRm6dWsGv3qtOXDr1rDBX75THiy2Qt5CD0KnigqfFIO/6lqv2IIcoq3IcRs3MfljBo7NQA7BOud2GaeYSeNSLZ0Ae2z+VY16Aer3AzXiRZhDr6WTnGdRyCfT0XGlkOlhBhZq\
+hanfOHEAauo3ElfYX2PH2NSPzpNq5Fcv8dh66vHe7lq67IB9O1Fn3Zsrtd7xNKra+UU4xjDpjzCUN7LzGy/s5kaqdn5NNq4btyM3svOLYOcX3drOT1sBzaGoz87Pvbqor/rt/FwHnJ3f\
+uC21d/zWdn6u/Hkpf7yw83Nv5vRNn51fXvEt7PxwMGM7v2g+eadPlEt4lkAWnnH8/Uqg7L6z7mv0rgcKx1qIjdTAL0p+yieqc+uSvL6vfzf/mg9Xt4E93MsGm/iNKwp3Ej5JLtf4uEdF\
+1zk8dmYYWKpRN8EY4uie8CUdLPuQ0Vne0TAMxpz56dTIcYrgJ90ZFkYTiY3yD3mc6TT7HncWpiZ4/QV2Ysf5M+fyXI3t+Loes6xiw+eOyB139KeVyk7tGnpfUJyi29pgNcek8gdiuaYL\
+PN6vB2I9HeGUNCGWe1O8l7JO5yGQrmoWv8oZpE1hrMVob5zyE6tA33nCV/WzHn3UFsVzNVSD27vtoYJftpPKL+MlmLUJ8FH0C8oLoz06Pl2hT/VMzEZ7k7nRXh00MnktzwrO9ML0czKa\
+YdTcRBqwHCfHxW6PzvhstzeJHsmbm5Drydsg16ZMridjoYKZqs15clyVM6k8pGMLm+/xHYadOOX/JJDSHnrI/AQDB89472Bg8ozHNxoYzR9jYPyUz1cbjO+I8StIAQu+Em22Y5RaNmLB\
+J8jPL+uslESEAhZ8vNIx+3SmH+drBBignNcbmNN6187IVL4PK13N4brNNrBZhrKQDF+wCcdNZaWyZE4Di3hJnOeDvLsva1aqaNCXOiMlDbKsDVuJBi5Qs1gm92zWkendCEDT2D4JesM6\
+6WsBRlmaF+EaTAipu4qHb+PAUxsKoJ5c2NrmvA1tB/9eNZlFr2FV0uDZNCT0ZB1YcQJNdPbZFAYxBvfP1vCENvHrA2NYexTXBGwaUzzx+YlfehLwkyB/EnO81Yz9dtkQVjdcLI1gQHyx\
+oQ0KNaKX7gsOiWzkvgr2P7Qrhb3CB3Qk97NYopGqwNZY9nDryVSqqLelhDorDVztjscfGfDvlSv8hfp85uf3pkHfvWlYvjel3vA9b3qfEJ37qN9bcvm2LQHGOU1zvhnMJf/W2ZhgPLcM\
+lqvYsYQMXPehuyt2LHUGrvppg4EVn7rki0FLk4Eln1DHZzXBNGZgAVY0vlP2A7Bj0gEGtk3apZboleGiCMl9F6bed4HrfRfK3nfB7X0X7p4/tkFy1dfm7/ja/PVamkjza+mgNL+WHpBW\
+19IhaVqYDkuLgnREWgR/bj5f+qdjDGwEuDLEeAREKrnAgGgkD0NAlJkLJAovvQ+IjPqihnxYOu2nR1StZFG3Y9vb3fnU+7/3B9/20le7oa6lqZRYg/cvlh2kRxnYCtK7pD9Beky6EcDO\
+mmVnbGCNi+h0mn3TWEs09WIvSl4I+EVyRa8AkRgXZxoYLjACyf/u84Ct++c6oT0hBoCHgYFHVLY0hcQhTRws+/sd32PuOKYJNjkcYRrj9xaJOf5p43SG2e7RJufPqVbaV6UybBPO6BGW\
+Kbbr/DSXfbQ2CsrIgk+28SSCcw/f6vJ5BDWEJQezMJ3vbdTmsntELQ3YZ+8RfbXT8nZL33qQn+nbCDI1hRPIwHyxIfsGQTo/fYnMup/eK/jop99IRV0PeVKJj7mP8Rz2CqWpjageOzzj\
+LRoq2B6dgenxPew1/mn8js54T+L3rhnvcfyOzXivxe/4jHcBv8dmvPP4nZjxHsHvwRnvLH7vnvFO43dyxjuJ36kZbxq/x2c8i99DkFjS72FILOl3GoSNfo+AKt2Dq/UrOnr5sN0DzU6P\
+VjAB6QwhH4DBGW+NgQMzcE5MQDbjrTIwNONdZcBS7wIAJ6h3AEDrlh2wxK8wFKdnvE3fJc7OeFt5gkrYzhPU1J08QUfPXU58I9XPJd1L9TPwEqqfgW+Y8VZcbesO2OBXIWUOAdQoMwP1\
+/5e9NwGP6zgOhN+beTOYExiQBAkQFNkzpESQOIibIGBZwkiUJYtWYEqW5TMYAkMSFi5hwEuGaHilyIhzwbFjIxvHCx8J4cRaY6N4jdyQLMXIJhvTv+MEcY4P+Z3sIjedbLxwnM/86+o3\
+rx8u0vGX3f/7Qmnwut/RXV3dXV1VXVUNL1MCSPsMJWCdnKYELI1TlIhBOygRh9qpnATARAlYalcpUQrwU6IMWsVNzN4MTQC6ZAP/ezuFloB5mQ0YU0g7OrONv1CJerxTexuzCqcSrULF\
+2eVdtTwLIu4GqiCzD/QycihY2DFihnE5Qycw+BKdwfhLW9ZDWKiP8lJ6jB09eLMyAAsnLqXH4u8NBCLFbdIgQOX4FtGQsYiG2JUtTNRbNl0yJey2vay3tdB/EF/C0oL3AuMaej4TVeHn\
+YAm/qkI/mIk9C9xE6FrqPdWweDoKso6KPgdSSwj1olNZ+9meaoCjxHBMtHFUBYnKhIvcQ8iHLEcjC5ocR2jRtgMYOgu3d4XDC7iSCR41Ef/93YEDVx0yCChj52YuKuRDRNhARLgnc5D5\
+iYMSgjX7XoxDi9xZESQc/xYIOvgOeRl7tyxBSPu862hLvtEqiZ7VMBWh04OEZMw1ZiI9mUOaE8T4qojZaJEbLMnumyCfRmAKY/oxIN7i/1BCyZ6fuNYWsJ4h3VX48eoM3hvd4N7l9feM\
+G8juQDvQ7ID2lDJRYhVtWlaiIJaoEhS80gGsX7lfR9HZRb6O4NeGYz41s4M8LzCqAMhrh9yNeY5neRcaTZbALHHzFH3iTkCq2BcKE+dkv8ZM3W8GJU87IhaRW8qjjVNImDyo6S7C/Fwk\
+GYBnsyDOONn5yESqm27PhvA2Mh8lOFSRLSoB1g0TqxhAARMrJdAnmFguAR4OE9dLgIdzKDICsICYmMMACpiYDQPnhYkZGH2UmA4DC4aJqTCwYJiYDEMvUqUh4MWo0hDwYlRpCHgxqjQE\
+vBhVilozqhR1bQ5zeXspsYgqNofZvX0MD6rhHGaq9kNDr8e8kagdHa7Z0QGcHR3S2dFBnh0d9tnJTkdNvE6XwtpGKESRL3PAc04CEo5NeD3Hx6M5mkcjrw8m4PuFelZ5Cfhub2z6mEuz\
+9dELmlRHi6QaQCwThsj2UuiwG48ChwMa2DrEG6bR9hc+ikxkMsybLGGPqwwzLYtuBnFEmSiFfnbIVeM6JcopPLSDSxoG3XZwQccw3A6u4xiY22G/KkrsouDdDnIpGM7boagx05TYQ9GV\
+HWRQMGK2g5wJRmpxkDXBAC4O8iQY18VBpgTDvTjIjWAUGAfZEQwO42RX4rjRrop9gw/DFLjYoag1M5RIUnBjh0MfUKKU4ic7uOxiRGUeBit0R0EllEhTNGF+tKoTazoxWSqJqVLG6yTg\
+NczYm6PvWWOCIZHp+WfL0D4liTM2hjNWGHSarTHUEzh8OALPy6W4DP/FuEzH+biM+rm4TLWZeFrxnMMjFRyOV8OTeC0mc241JnP3ekxm6kqM5Foc7iDFehCHobVkfk8nZe5OJWWCriXS\
+FVrBUO4dpWXe4xSS3iGrvFFQ9nkHZ5UevzEZv7u94z1a5O4JcCxUCBu0sLRHSNgNvJ8gTcud3eg3h5is6Q4+kDlUnb6rG635IXEIVW+E0Ji0ZDEm6FuICYrnGVmkBi2V5QvXJ6CRwXu5\
+J4/ZVpc9TT0dRj0cLAIZDNUBv8eqM/ZrAx8q5VghRISYeqQ+a+sYIZlDyMcfQmOEgIOeOGFcNTCqh41B0Vn3LV6z3DbqdJxKN5LSbhoYOO9o5OFU4pGHEyepMWsLZkHyh8EoJNGNrB+C\
+hX/KhqIxcRmGCl5Hoc/x2gsDBa9PIKMB1wdhvOD13nSQro0wJPBaA8jCayXQ8BBxFpV0TdGwIv1jiAQDd2iFWCtN1h745jxK4JiYRHkbEyAe7aPEYgAIOSYW8MB5TMyhbiF0jUyJgvqc\
+msimxNI41SPuHa1R72i1i0d2OBiDhpli5eVti6SaxqsepUSvYcwdwginWgNWIjeF2tZb0fRduv6YO5L/fXJvPLndiW17JraNZ1ORZsRFsJdx9fDIbI2oQupgNUsVBEZApIo7melCjhUZ\
+Vz29tfMPVHEQiYjNb7xvOsXHSHcHxy/i8SrAPZWhaHEw/pl4oORqKfLVKbaz5drjPrY6YbDViZ5MObPVO5Bljrv7eAlIizEV8EtxlD0ySXpSCrl5yJVRLqXiqQegv2w00Frij19jlWI+\
+9RoridfS11gJvO5oJ0kJhUyUnLoDaie25MlOCyO5B1VSdoqA6ADNKiUkeULnYJgUhGo6MJFOAd2j4PEqQU5Yq9bViUyQrLh28YYaYD2ILtkIfwUk93FyNyQrObkHkrs4WQnJFCerIJng\
+5F5IRjhZjd4knNwHSW2McEfg3m70N5KNg8yO8e6Gp3i3N477fOmdKMl2fwf3UeUgAlJDowr4ebbJC0ToJDzggHsoSGug+z18Ch595TxQnd6JevFlS2+vBsVQCeZakBQb9RTKxM7WI3vY\
+RRriOphd+1lZXDtBFuiYPArJ5GsoWYNqkbspeRckd/Jnh/AwUE4qvWNjI+ZUBSfRxmY3J3fh4Y+cTOH+IycTGCiDkxHaLaekI1s+2Pn7+NYx2f6DZCOqs0uhI2FJSOi4YSFVJqMhRKOB\
+NABeM2wbRsIcRoPBUUGBZvD1AI+HTDL1MBClAPqyXcVxi6cJ7qCTOlQSbrL1QKbUbz/QZlmvJZhiiDXoidKs/Xh1l9uIIO5SZQRbJAbhEEZjqx0qKGZXd6gd6o6HcMBYj2Z2ycd4kMxO\
+eBsePQlvwDsPVyv9MIGtSfkQUFKcThnchUQkBNg4rehGH0TbGkBCUpAQvMaTCMpauedZlPeC3L7G56GeEKfV82KHdQ+3Csea/UD1c9ykI7b17mzqecjhttdz5DKF8meCJgMilSJoiCCZ\
+xR2M8up0SignwxbpqQZpPppV+EP2A+Vo+CRdQoZ2vKOiQngEjY0ydAkenPl8dvRZ8nPDDY8kbq0E0TARcUKrNcw9tL2geQggfch7K0K3Zry3EnTro8VbpTRSZaclQOJzCdSaARzywTY2\
+wqSCE9BIRqWtP0U0oR4ALz4ECFG1NzJeT7FaZIeE2SNNUAxgANK8I/4f9gdqOfLZZPyWbNFl17tDrvfK9UG59mxjyp2SqzZPV3KtkWuju/XGmg5X8QXkODrBZtmoc5mcxFNZJV4O+l0/\
+A9MyhD/oaIu0MbhORq7RQx3Vh0O9dP8DTXkni2ebYv4vII/+nAHJ/5mFB/o6GKqH8n8OeVh9s47kY52WQzuHIdQnhdJNbAkxb3sl47A+bcpnGj6lE9NeY3G/nbtrGJ+9znqOObYiD2dX\
+S7x6j3B2lv0ql4KSnwquh4Js/w1vgBWdWNWJGzqxpBPXdWI5wHD4tFgftD3m8fXW9Yjs3d7AA1LDzGXFKDEbI4Mc9M5M8+bsVAyGGHkSYKjLMPtLJvkrdrIMU1RmvR+8FPUqWUu9etXE\
+uuPoEEsRMmbnMc+sZZg9ORm0+agAMhcVQGY0INMakEkAhGGMSDtWI8BIUhdA8929Qmz8aokGNCLFLEbSbAKygBE7qc6IlDeHUT0JLxFgWahyKhgrx6iehCAM+ElQRMi9gHRRexhTJWhl\
+gh0PUFyzqf6fc9LNlJhz0i0kiP1nJ91Kic846TZ69PNOup0Sn3bSxykx62SaZOd9nm22SEe0l4FjUy2yYdknVitkzoV2LGSqBcCF0gcYOCetGDgnnWZcOekM96eTPsi96QiqrzsyHJYc\
+QeyiIzhfcHQHOdhBNJq5rURXXU5dO56UyJhmsEpcNxcKdSrDnBtRImOd21YiA55rL+ExzrmFEhn6DEcJz4jszdgEcNlhjqp6Jzc6DNJ2mEOnHuZGh9M13Ohw+gg3Opw+yo0Op2v5UUm6\
+jh+VpOv5UUm6gfFRkj4mp+B6xYpNxjxwyy04wB0a9egB/l1h2a9UK/PKIaUeOZH4dD7o92AWz5Sx0mn4AUVIH4Df/ixaFwJnmkWzFYsio1XBrxb3PLJ42gBGorbSh+F3F/zuhN8x+DXA\
+rx5+dfDbDb8K+O2CXxn8dsJvB/xwQS6HXwo5DIy4hnH1ErKjien/G2DCzZ1DeiGQsbtuwAZlTRA3KlkYeGAEZHUQQxlZIsT/StYJ7tEALxbczwFeMbj3A7RsNCVhGui9UtXMISJSz6vj\
+nIo8r1oo9dxzqp1vVQKv1SZGgArSrZJufP65dKOQY+uaNqAhstq4UWDfjCuGQuYAZtLrFAWGThfxFRDFwhHvdtpdmKmhV+707LYd20gRvMmYpRmSQE1YOSvBWNmYIXUQ7hGTHhX3iEmP\
+al1mNao1ylpU6zwrUa1evB7APWJSfFo9rPe0HiRVMO4RO7TZ3IHXEtwjduhUnhpWTlmKtatWJStXrRSrqICbgmsjORfyHjGPHa+W9i7aI3Zoq3mJEjW0R+zQ/u8CJY7SHrFDW7NzlLiT\
+toZFuTpr006w5OZs2gqW3JRNe8GSm7ZpM1hyMzbtBktulLadJXOZNpolM2nT/rND2+qLlKij7WNHbx87tKE8R4ljtH3s6O1jR28fk5Ib93ZJ7Y27vaS9w/1fUo3jjjApy3GPmDTSuGtM\
+CnXcRyYVO+4sk9Ya95pJDY+7z6SYx/1o0nXjDvXGrp5kguQYBlvIeGqLRgv4PKGxU5ppmIwKjXVZhBsRobGrEc0FRYjVOGb/aURW5D+OyIr8RxFZkb8WkeX7DyOyNC9H0i0JCn6MCrPj\
+8MN49+3wa4NfKwooGN0NfjEMkIxSDRs4Hcek3IrJK7YUYxTBXnnMmmN4+l5x10TWHbcCkJVXNrP2qE8ld87WLvu1eG3rsl+D1/ZOqwuvzZ1WJ16Pd1on8NqC3ubrWX1eR4tiQCPec4j9\
+R6PSE+kmqeRnHanlU45U80lH6vmEIxV93JGaZh1N/u7FMFg68yAFAZNMDwUCk8wTFAxMMr0UEEwy5ykoGDNX6H+V6sDA5w49a8zEcNsaBQzKVz7hSiAYiQglkBL8+SUQfOiTQP52Gwnk\
+b30SyN/7JBCUYByUdiT/Lcij9BMuSihhGrklOHIdQuuRoOoRZi+l4x4g8HwnU/KMst5KwdVxtxn38CnqOknJForHSd7Xhw+ciQwa6+HVtTu01tkdWuvsDq11doe4zQOlOHozGe1/odi0\
+heIeJCaoRucah2gWnGEUJI486t1OZrtDDuYKwBUDuYZoVFsaA1pJGsYTT0HebYr/2o7A7qsBsgSIPpOJujJwzCcDxw2VZbwncyBJp56oA9U0uw54z71zXVNtWl8fT/LhCXac1IdRFgXD\
+kpjUibWQJG6E8GAU2UKdBGn3cXL8u0Eb1Z6g76nPB+CLeutGCAMBBbptyq2FSGWnCCqkAahvj/Jmc4gSk2GCgjabS6VOmB9RHSgvqgPlRXWgvKiWb8U4kVzdioJmVMT7qESEj4rVBX0G\
+EhiZJSJs87ZuyTW4YNiD7KTsuwgO9MeTUUiQG15U7kxjQgW7F5+7m/8+VN0e+GG6Gc1+Joobh/rjWf3NTLToUUf4syVypPW61C/pAFhQgN1p/SRX2GnNROXdaHYmOtH9dSv1K/KmPjGg\
+NB0L3is+wlMRVpVmuKszjqYLMZkNmQPdUgudEuqQqQsb/2mYUu85yZYUDOEBDRoeaYEBbDHuEQz1hGx+6aZ5G4teECbgcLMG0APApykKZgmWE2XBhXt/Fc98iLK84lDiOposRPnMhyQl\
+FtB2IcpmDTsoMYsmC1G2Ztilx1WFHle7KXEDLRV0yPEoL5WVlADBuIrLi5CFPcnD1VxeBCTNKC+nd3AxEZA02asyVuSLYNwAfd6v7kj9emBzOy6/+VbSu2/jeA+8T7jSFvsUHLGAS6LB\
+TBlgoGhEUwa4IhzWzLBWe7d1qrznYFQWt8WiFKomKfh1BIlLjuAXpLIEHVhvgywd6klGSNTDqGnSVTHdVSndVQndVeW6qxzdVTt1VyV1V1Xortqhu2qP7qH9us+gFylAF48SD6K5v3br\
+/qrU/VWm+6tKo3y/F+V7vCiv8KJ8pxflxiZaipGVXQ5NpH4tsOFRIpWCTxxNPRIV7d+RtDWShMosO74pxEDH1gG93wv093RmFYHe7wU6tg7opIR9uBER6xw8vgznBtJIkbaTyEmVsvRP\
++w74YIdWhMd8rD0a9ZFbtq4vJNueB04KrS7uZ2RK8fiSxDPAiSTxh+ycyxghZx3zMUbopBGj80lixBixN7LJGMXXMUbxdYxR3MMYAZ+JjFGMGKMSYoywWIxfrEohMUE1xjyMES422G5m\
+jEpwtSjxM0YUlMob4T7Jgo2N3RkgrVIxYLvV/b7nU0rRDq8nSDpu0tJKNR9F9smOfzZox65ubzwJqJWAO8TTuEakwiBlyDHPIaOIgFgISQCT6ITed0TKG2RVhIqiw4ncz6CJSBg6Kuxu\
+/gR6qnH3P3tddiyR4YP+i+JQoe6m/gsgTkFew24sFdvVBG38hGXjB66OuenjyBZscc/Hkf3Z4paPI5u3eAfFiHSYthYd2VlTPMYxPhVu/eBjNKz0bPqEi187ZAHDmz5R7NaouekT3mjT\
+J+TZ4qctn26ruwSdxB6vjj8bDESLxr/bG/5Soqj6zwBKUM5ZFMO+yDMKRZUlyUYhF8VdwrfSxjngHKXQEG3bMM61E1MoiPuLIRQiaB8uk9BjmcQI2oks3gnQnYDnTpDueJ2YQohhMhzG\
+WY4jGbf3AsBQhSExQTWGrilXaHGj8dscUAuQG/PMGTapQA8m+ITnTJCs/axNNAghrUHoxn1x3N0jQkNmyEF39iTjKhn/ZiBQUuyEredNJiEzh8w3EtW0gVmcQhE9haLGFIrxNKEpFJ+Q\
+7XqeQfzIvYmnNSncOAv6jR1C2QAadxnHedOHNSzchHEL8uqEh/vFQBWWjb6FFHQoneATyjmYCORsb46j6XVRTwT1VnyIuprce8NQD+ACuxVQFMT+CZqD328IHtZuZDJ2Vdgd/MDBweB/\
+1baDVzGMKbXHE7ANqcmLr4AUb2e/ZNEfQEgIB3EIBzFpPXkAh7L/YrGIjJPVUUHaksePJzh+s6V4lzYTpKFo4VBc96YMQYwCilOWjm/1jD0C3rlGL0OPyvALXAO4oA/jYat79qN2/M/2\
+6YOrrodvx4idbW3sdYFijKAxIZ8Mmwk/Qa3HwcU+qWEaXOgYT31dAWSg0hvzyqF+VGwVQYGsvPGndqOInz1E4afIFE7cfXeb4afET9sTegotx6ZssgXNTtm+0FNRCiZHDyj0FM0HN/TU\
+bIBvLHMb8NYMB70K6AOKQiiNpXdjWdJKjj21W4dRrvRgRlCiA0/F3MBTNuECY57EzeIdPuY9oI2rdWIOo+DZ3fjdXMCNQeWFQNeEFosxcetliBZRF7ToYHVo2pP9sYDoj7EoVCAEJ/gF\
+ctSl9RCPPNhDxkG7JXQVRp8hv++QG74qVAxfFeCOl9ArEWQudPiqKunfEjJ82usJXxXT4asCLAub4atYaN5j9HYVRS2U8FUYMstBpibghq+qJmBtZE69BxutD1+Fh21IsAz83ghfVYkL\
+616MnhFIrH+5uhi+yv/lu4xPw9vUY5T1pPEpha+qAjKBebeEjap8oBped/h1etne/vXgLZf+IL4u4auqdPiqkD98VVXWVnteyMTWh6+K6fBVVXGJM1UMX0Um/sgNhFMjNGUlfFUJO+I7\
+FL6KDLZKjPBVJevDV4WM8FUBb/iqEh2XKKbKgJso8Yevsm8hfFWMg07FKAhApT4Umu2oAhy+CnmDdIzWMgxfFfOEr5JH68NXVXL4qtj68FWx7cNXxdAuiNQex60iaOUbhq+KrQtfxUTG\
+S1uYFHD4KkT9ZwLkQNJkzQVgyd5pB0M7N6zRZkPdTwc0Js3wVSUUvipGYRP2dMvBjjwUMJRUybrwVXskfBW56UsG6pXwVTEzfFUAw1fhQXJPFakP0R5PpIeQG58nBsMb6mQ7xs3CV1EN\
+qlJVVfOELLnGdEtiSJR4wlfF1oWvKsEJjzFnvNAAgJV0mt7G4atKiGKF4bvyuI+G0qK5FyW7CIJdbBNBBsLdXjd8FcV59YSvqsIYliEzfFVkffiqEoos1x2C9xNxmXlEWb3E87bDV9k+\
+pAeKQZE2Qb4ERap8gGI7+hpa4jbUi35ciUrWBUUKSJgwDooU/7eDJrE9NLF/O2ji20MT/beDJrY9NBHkad2V0i4uhbSE4iDFwgMcvsqY65F18VCY24hsEg/ljfQeBtfZi51G7CBFRgno\
+cJ0J8h7ZkguzNBcWJ2K5ECCXunrrcwFysqu3fjGQDtCjeaajRFCrhFSSs0I9UFY5TyQW7y4BZjse747AJcbm87ZrPm9DX3UHgUiE9GmHhJW4C2/AJDgo/sm5ot0OsG1YXyU1r5KZVpOi\
++ToRixZs2JokqEBxGVZ6GcaHuAZU46JK0XBKrqU1r8DRcAJuNBw81SyU6iXHBItENoqG4+hoOCGOhhN2o+FUcTScKHTOOIHjUOO37v3Atr1P0XA8fR4vssxhTzQcYnH5picaznfBTLus\
+PzPUZIhPB7iNd38lSsf0pffEGU/pSma3WRzQwnLAsm2Aci8fYdONh39Vcz/qWxYHSbLRtNvqsnajDiLQaVXgtarT2oXX3V0Wmn6rii4rhVdgqxJ43YO+DkHG+7b6Io+2CBVnYVbvvXws\
+cMfVBJ2NXP5MJn7IYv8H2e6LyxZ/XKyC42LNGyf/QiX5e+Xag/ejdFyya6KN+jfvQcWl+E48+2PlFCS9mG6ERONEugzmUA2g6YisXra7Oxp0U3GK6D5tY8IIwD6F5vqrMa9BLeXNE+RS\
+H7TJP2IxAZ2BiYUE+pegnjyRLqfEXAK9UXDrIJHeSYmZRHoXJaYTIAdjYioBEi4mJhPpPZRYi2O0W1Rso2MTJlbjMK0wsRLHEL/s/LSPEtfj6TsosRRP72d44ukDDA/6PMXZHSrN8MTT\
+GYYHvaDi7BcVYnji6QjDg05UcXaQshieGPXkMfubsfRRSvyvWLqWwgr/YyxdR4l/iKXrKfGNWLqBEjdi6RpKrMbSx6iDsEUJsjuT3GoCTdIks5JAYzXJLCfQ4EQy1xNodSKZJcg8sU4H\
+cSwpoCbSBxn4JMFMXlmHZFhdtyWxpBOLOrGgE/M6MacTszoxg6NiBk95JKWBJZGVZ2ype95O38lYttN3MZbt9GGEex/Zm8bJ43YNxwp63N6gxAEyN42Tn+wKJdJkZBpHgzG0L+VBukQJ\
+PBGEEhGAmBI2rUmQ4DUprs/25sS0TszoxKxO3NCtWtOJSf1oWd9Z0YlVniJ0Bk2c3JdXKVFOx/vEyWt5mRI76dScODkrL1Gigs75iZOH5QIl9tBZQHFyVp6jRBVtTcfJWXmGEtW0iS9d\
+/gQd/COZXjrdRzLn6cwfyYzSSUCSuQwluZlJQNMs5Q6Rv3qcnJnnKXGQ/NXjaIXJPjqp7k30XNjZU0GKUTwdpn2Y6aDHKiGOxySqw+outLWgd0EEJC8woMq1QIoaYO2q6ebAHvXdbDSK\
+U67JmgbZKhQIRpyQrJv4+fuD7GpXC0KB8Rmu/QGZWz8clGn3I0GaiMfsHw3S1DxmTwfTR+M8zaIytZejMrWvR2XWL0aFDixEZb7MRckgnoYvmdUTcYh69+kCkgm5J7xoFwxbYpdgk9E2\
+lmJ9cPmxHjlXK85RsJjCzQSEVk0HiJ7R+IvpaaoT16mnnC57Wbr0mD0XydQoQMvrnuQrHruAcnhd98C7MvWqXtU9XJ2p7945DHdsBb+Hq4dh/aaXhjMNkMzUddlfo/LgZf746DB8Uq3g\
+91B1l/3HMVWjjg4TgrGz0W5kJeZZahZxh69B1aDgXyd+fBlVL6kdyFZucBu9FmMTZCqMemF3oRF7GV5oaIil5gJCQJNJ/CqJrm3ugAMU11DU62V6f5H+wjsqqDJX1T51ILWkzVb4qaNP\
+C3uF2Xu7kK7h7lgrlQGyWiokf6VU+u16qaxpS6UyQBZKZSmbL5XRNFsqK9hMqayEU6W0LRwXR1Qu80bSawhc5fV43e0dXju9wyvlHV4Wn/CB4zYlgM6npO65lAA6k5JFczolgE6m3CE9\
+lcqEePNixZqgoK0RjHOi4/DhNUGWek/QTT6r+UFKe0G05ZDdVSwE2JL3TGRCsuGA2h3vJEl5G2u5jVU1J5NJOdtL7XhjMkFHw+O0cef2jwdkbn8wIHP7QwGZ2x8OpI9yiJPa7iC93mTN\
+BKSDMMSc0IsGl2bIy6F0DYsORFXi/tdw7kYYwzMlMgKmSgSxkyXS3zfCgtjVsFCP5bD0wvWwjIDFsPTCQlh6ai6c3qcJS9glLGEvZvZtNECC3gFibzxANKGfjcjyxTVGZA3jkRKRhYxM\
+bWV0RzT5iwjcSxHy1VyGBf4PXMeg9QRP09WQpqsBTVdtTVctTVeDmq6mNqerQe9Yt92xruuUU6uLtJS2hbFU9FnCB9Rz0IUOBnOCXyNGxMGh8rO28GyfsoVn+6QtPNsnbBlgH7eFZwOG\
+BQZT9nftCZSbiIlts/+bDSxrpCfdyE20qUH11m/hYTiYWLKJv8Nzn4SMLNiChnlbEAMsEc6rRk/DMu7J4rfoAeA35t9ZjMRVnlXP094xzbYddG+XCj1H9w7hvYMcxTObgvfwiEbcw8DF\
+yKCeQHPVDj/1lE6DBYf6xRE6nkJqm5pgL1MivBy5iOg3JlEAigSlxyNALFArmmDf75CrYasHqoN0vBtlRJFhx2HN2vkUb6gbHEhdd0Ii2HlDVUX0nrFcI5pr08vnDZ1Y04nJuMw+EJNF\
+QM6EaJOmnvdVcTOmzrPU3Uh6MykXb9Ds7hCsv4Cp1Ff1qbuMjb//xVesbCz1qmg3YClMh0Aur3/h+cxO1Kp/8eZ+EsRD1DRSVy9MKrplGeU7qs5TNk43ILlPJEtkueN5DLgJjXev3PPU\
+C4jdCFHsd+OGKOpXf989u9OOG0UHi0XzhFykosMgPB7VdGG3qks3BO6FntytGli3XZV6GNpgPQrw7ESVNnMP9WhaawE3sZNvPJmpVbWq/mFgKPDkud2qinYidiJ06MUceAi/J2fvBnW0\
++z3vyhxlSGgRaaDDzog1sZ96gFCCWJ363Ct4Du6rRVx7W1NvdAKMzp/A10U6jQj4AHwI9xp2XoNxZmnepw5wJWAL+wQjwXq0mod76nfNcr+NneuonRs+/JEvvISH52kYcbpxV+3mEG4C\
+gFF9fbH6BuCp6nX10EG698JxzVKUuyxFyiXGyGfE8XBVyw0GrCeDHrerMQ+/BLPUP3KF+cp+DpG2U8PPx6/gfQl9XZ/6krtLy+JxDyzfobiWlUOa3+JFIpbhZflGTBgvILFA1EvIjErV\
+ANCRuFsO7g+5zYmiH4nORPQTfK1EFiCk/omwlhnQmUQlpiTOZfYj0AyYcnGypqBGIH2rQRNiK/sJfpigh9mSrEg1qffZmZrqdCL7nxEHdBYjZPmgFuxbtCvRiNG8akq4uwyvTmtJ6Rpp\
+91oq9eWA0XPaE7fIHoakG4nXDWvtg4nIGxqRayYiAxqR4URw2xEivcQxUQC7NUni4zBCsrLZYCTOAWC4MUsxWsmO2b+pVR+vaNXHF7Tq42Wt+nhJqz4WY+kmdKMhScgmDwkCIAq1HHir\
+QDYXgWUmgntAmSBtQbZoDwCOloyKOaQNzVgC/Go4OFML8v3SoQSpbuliTFzZsGpHgizaxOqxE2NCvm72cnxYmmuHvM/FFXB/Ec397dTcX1Bzf7s19xfQ3F+V5v4szf3t09xfSnN/Bzbn\
+/lLeqJy3yApGiqFvPNzfDYP7WzO4v8mA5v4imvvTpFHgXorwYq65v6CXE4sUOTG/VG1p7i+oub+U5v4CmvvbuTn3F/BytcGNxR75esHt7zmJhARktxk4sRZgwhIAUQ3wacBsqSYU7tAn\
+ZOJZjDhFqvlmILLpFtX4Ao2LRl4NIxOyLqC7ZxO7e5K0Sq6gz5EIK46ftR7Hz6MvoM8nTpsUjnOMtNuo2dWIxG/yjjI9Cm1hVJFJpV3CO/GLw9LERtZ51MlwPSIOana2GDc0KIU20EQA\
+DDS70Aef0/6q9BXa/MKEd9znx6R1yBiy09xGhdfpCrR4VIsdjicS/iVJ/0c6LWKt8M7fxERBNxsXBd1MXBR003FR0E3FRXtGXBdqnogPU0e77G9SorbL/l+UqOu0/pE1Ep3WP1CiodP6\
+BiVqOi1k4+ggTKK6ZXw8pipVYbJAjqpY6rWsEdCHYsbdQzFrmFzKw3v1Qz4UEwh/Oerwa+K/WxlIXo2QDr/0mUzikD5/+0G59sh1VK50emsJH+nKASkSOnZFgrypJm250yHXRrnWyFXJ\
+tVKuKT7f+8dKJ/R5spw+r88O1wXO68ScTszqxIxOTJM3Cyrso7x/4A1GE+bjZtNRD3/t3STg0CF0uPltNQBYR/+Bf3iyxH46Jx1jo/k2EX44IMfkpm05PDdNAXHC3t0HyiuL9xzk+Nwb\
+YT4PWQ4QDutzkhMS72DZzWG8gxU3h/EOVt0cxju4gblj9t+F03sp8TfhdDUdnPzXSMYx8Vfh9B2U+Mtwej8lVpHmY2IFCDvCx5a4s+jwsKoDe6oD/qBYyiGnLIedsiTQu5zjQ55viKMk\
+Ryqx5AR4tbfL/k08oRmPLXqFEvs6rS9Q4o5O62VK7O+0XqJEFe3M6cOHg+Scpk8fDpKHmj5+OMinWnMOD6ldcXN4SO2qm8NDavGA7OwaB/PBtupGStckcKMPzTlhFVvGsE43whPSoYAp\
+yz04fiVMBw+jun4WT6DHUMxBDpkqmQgppiWTInW1ZCop6KpkFKlHJVNDKlLJNJIGlfo2lg7KefYCyzQGWAGIY9yO8ATHGl+RrcsEkakFarhNXrEJOmB4zuFu4XOS8SBwOoIbxNXUH7vL\
+pO2ehX0jIdWtJNKljOuEQLKUSJfxUdXxNA/8mXg6xbDF0+U8eOPpHTymY8B7JDgw3y4uMJau4K7E8JMJZtD28AnUMTyxhg++jnlXzT1enUGFl4MgBcIuyZS7mgO9IKfkaOi1iJcbMEIe\
+lnoOlZ5P6kOlZ5Py5fUkDwJgDZM4tFFZkkw7lFhMwhpko7hC3F0o7hkAa0HPAJh0PANgyvEMgGnHMwBmHM8AmMWDk47ZOKHx6sB8tqFOPHQBrwGYzTYxl/vpammDgo2mn7h8Ctl1/n1C\
+fvcTckpPyBmakFvMQ1rZtpl1dlEb+e+z7v+fsy6uR/Ssk7GFu+H+cTKayeFucjJB4XV4JDmZgLA83GlBzTvRIS3MjyAxx/Yjf1ojg7xRaHsHr7pJtO9xlCKVAfoNLaHcH081yxik8S1R\
+vhM6yndCR/kWxgsSMkYPpP48AJxogqP6EfvZDIV+BQuNpkiSTQTj3mnc4Z3hjd7JX+OlC8pLMiq91CSFRsxOXMjS34WFLP1NWMjSX4eFLP1VWMjSX4aFLK2GdUHQ4TfcDHT4mpuBDp8s\
+0Rno8Ck3Ax0+7WY6YChQhoUNIF1hIUTR1McCNPRAbsY9MYd1J91Od5AtgLojD1QDWojTRKiY8jCh0kQpca3GKm+3Pu1mdrVbn4l5AJ6PeQBeiHkAXox5AF6KeQBGCoW9ljpB+EPCghEs\
+6Ay5pAJhA+QJR6ZZj55l97LQ6Z5xj/cu64fnZQZOl6I84cQ/1BM4zG4ni1XPZErhXql2xJDlpVRbHJRqi4NSbYxQqu0USskWaFU/mtKPZjCB4tQ0JUqzC1UTZORRzKzZW3H2VIz1k/hB\
+d6TTmqEabJIbSslNfkrqxHPOOPFpnfgvOvFLOvGSTiyRF2RpdjawAa9fyodB2ZSYDaQJJRVeXp/ymtfHtxYrgHpjYqECiDYm5ivwOyypQpdUAWQcEzMVQMZLcYuwIt1GiQ9VpNshUW99\
+sCJ9nBI/XpHuoMQHKtInKDFdke6kxFRFugsgWEQjvNLsUoWXmwc0dqHq0E4HYMqFqZFkHgmLNiWsP3KkaxZ1YkknruvEnE7M6wQwF1BViHAwb8uwwOK+LuUGVjCBseXnSjABs3WWEhbN\
+ulIiaNOUKKcZWkoWKZOUaOuyvxPGRHuX/S+UON5pfZsSHZ3WP1PiRKf1LUp0dlow9Uuza7AidxAKEBMua8FATIUEiMmQALHmCBA3HAFilRLUewE6DVJyGJFrxs1hSK5ZN4cxuebcHEb5\
+mndzGOVrwc1hlK/FEGMN/q469LdkIoWTJPuHoQkZMDdCMk5WQzJOVkI8Tqwvh2ic1FvXQ+m2TV278IUlPCCyVG/7ljIDtYtLQ4f40uwkGzDMevvu21Hpu7Wonsk6saoTCzqxqBNLOnFd\
+J5Z1YkUXOC8J60V9Z07f+Xn98qxOzERpDHRas3EeFdbH49JF83HptIW4dOMiJcqAvAaBvLoZKPjTcSYqayE6yw8ZxCX+nFmH6zTf43rQQLewnfOypQcOtS6hW6cTKzqxqhNrOjGZ1G3R\
+iRmdmE5KwxcS0vBfSWjk6DsvJjxkcNGbWfZmbngzU1TBVz7wwy9Mfflr/+kQHbxAj8QYNUQx/fao3RRHr0qrzzBQFNzbC79q9tssCvz7VJgE/rAI/EBlsnPAn92BUyuB3hZ40sgL6LXf\
+PfsjYf77UPULwLeVZld2TKTTTA9xQzUDyespwmz6IKT/LIWRFvme/Vz6TkxWTKTvguvH4boXrh+AaxVcb+ykEg5DcrlSNmqpZZnqdA0a0mK7gvdyYTSWg56x/Nspwe5SCt9g+Wgl4H1D\
+98iSTixKwvqC7rUFnZhPemi+1IMQeqLkyNiv1MNEJ1Z14kYlN0XtAwngTwM0UZcrk0TxAszQTFXpDKq+3QyOscriBM+uAT7+mHYJU1/X+zoySnVlSzqxqBMLOjGPcKxZSH/mAZo96sBE\
+5kjqbi6XaMRl+jtp69IDKnwyabtV/yTuqdn+quer9GqhE7M6MaMT09ixq1T1dNWE6kTWs1jtefo7KgWfRCdvvDFV1XMyGUPLfslBJqozQiwnq2QtXatEqoldw7M79WlG9I2d6FNq9SSj\
+fCJv1FN2Ce7m8RJ+WFWoXSCCluPYT/1hQG9tsKJELw8VmaOATxxhqoqIDY0yzgRl7Km9/GTRzcCTL6T00t2ul25e3md45T9i/STzAsQmlGvGwdashOWuSRUZWNXm9dhWd7mCKEB8HHc5\
+YaqkaE3JzsMVX1yEaxAdOu7EMmoAZvQM4AzA3G4F1SF+skhPOAMw45NSCtR2PSUU+Q9TQqOXU3qFRWgV4GWyXK+wKb3CpvQKm1IHrwnIruB8a4MG5njqAcIR8ZO7NMXVibWdepbtdLsf\
+vzkpvZ8McX/vEvRO7pL1dm0nMWhUdYWuWiemdWKqQmjaL3wYxn5YT9+piqSj2mjXv+OFbPB5WmimX70/XUurzNor91PfKTlsiOaiPmxowc3QnPSv4jQ3oRjPNMNb3bHUCt9gG4yyHmbv\
+bA4/ZpPRQ0pxdIXu2AMw6MvoQFcJS16GniF8wGvcrSaF7+API6mjJ6H9jDsJeX4tVkI9cbSO5Fy6jodkZbqeB2kl2ltw5JiUzBXiJCo1b1Epc554KOZJlnemfp3xOF2VdHjUV6WPMXNc\
+lW5k5rgq3YSIqtPoq9eoayBSdge3IfUXzKBzjocB25bXunMmkWmWviVb5Qp+HcYK9i9AX9uTOYEer3g4wZSyfwB6s7vyYqYN7rShMWqmfRymq61q0Xaw5Vl2M30204pnReB2rEplw89P\
+ZHao9tSeTBuibgfGB7FpkULqAuWcZ69hPDynLPU/AjAsYfgceJdqeyrTRlvZO2DKJdRxdL1Bb8MJ1fJsJqVaeZ+b8UCDHvFAgx7xAK29g5viwQM1jNYj5Ws3txDbR+SHlyVBAmPg+LqG\
+n+Bm1ynbbXjDv6bh4Y0bfqLY8DpseIMYaGaFKU5kmBheT2RozOKIVc3PQAayj1fL09mkfsqmScS4pP6nxF3zjgzSwVW6pH1yl8YU0wZ3mOCLO5kOsIMCrjIrsJJVKi5mOpmx1PHUIaiW\
+nZfobu9xSyZQIlOtR2F5tvIq8qRcVAWfVcKFVPBRjyIWYjRZmiiJTA0z79DqbCN+nC1xj7cg16EQXm0+AUMfGIlRZFN4bcLwtDaFo1V4PYbha20SpkjmYdcpYlEFfdDVwsWqcnpIfLAq\
+o/RKAm12hCzwYlyjBC4504DdrtDJAylCk1AE/sARiqHNOYqfavgEbt0O3T6Gt9hOPIjJ8rQHD2QqL7bXRREJRdi3PVoqYhMEWNmDHD2YYwtv9M4xDNrWJEHb6tAEqAEzJfEiWXTQjqiU\
+V861SuEnaen8dqWwmYDSnbKKT+9MH+WO3ym8y9oOoabL5bLkL5WnG7j8clml5suF0M6Viz5hplwo5XS5XtLK00e4wJQM7dVUukkatpLSDbuu7RRq3a7RlPuI17TjmDf+cr1X99tAmEmz\
+qpfYozqvqveojtWM1e50q91ZZKGA3Ui64g5yIkmRgig3nxApid58MUGi0h5cwvYoRYuYzN897vwV2oByAyvTSWlj/VaCkA7ycILZK1Sv73WB+L2EyLyU+3JCBF/0cSHBF71eVqMuaUiK\
+9CsUQERgmfwiB3PXJEUYlskkEjH3X1LEYqrzVxIiElPDFxIiKWMc6R+MCYc1FRPCPUmJveQkU0qK4llKVJFel+GejwncCzF3EEbbrQ/F3AEKuQ/EXIVFlExOtTIjSs4SWtERpT0QvXhG\
+SfmoOeAo6SUltxAllWUpzbbJuObIYpojc0F5ESp/zp0r85B7r357RiemdWIq7lNr4F5MhiyQM9kvfv0bCx/90S9+3X48iYT4OhDiTHbJkhMn8d0eNqmz4X7lVVU9kT0/gSekA6lReyey\
+PXQiEHF0lRMyD5/I7E4HVSZdhsdco7MxqZfK8Vw3vShgJqLXhHKOMQNLgnWNj+floDx8dK+cFmvT50DOJF2JpEnSCsmdpGuQhLEoK5ImqVuRQQ5ekwfFO7j1BLCWc6Nsbg7GXoKBX4bL\
+dBl7NnjHCeEUuP/dKpP6a1ICaJkxJns/eIGFnG2mK/HoIZJs43A3ejVta92LDBFR3UrMF0BzxWO80lpoNJrJWqm/Y+buwXS79N+9sCpnTlNQkTbVTv0TEHjYUK6NexGjJT1KHduI6ljp\
+05pAo3SpjLuODPqwkXCRAbBS8LE9lU4BBCIoCYgpAXDRQmVymUqhOR9UqzLd34HBdAVGyviTIi/8fYAZ6XItl1TcinBAxb9XPYYR6jBCA3kJlSvooQkACRgD+O+qyjyeaavO4HqqMFIX\
+pPFsYbSEX7Toz+PVaWTRgR+38EfRqMsU3i6ncvEfvJqZ5MBS8OitqAjEBOK+XQ5L363KAKOE5LJ0uRZtqU8AqLZui6rn9v6TMOAVHIRot/AkCDIix/IhJ04bf1g0ao2wSJvludTfcoUZ\
+nDgkYrwHpc69NONohqEFFB3OEFS7ZS1cimUOweIFzUNOUU8WPIS0VM8iPIi0VE8vPIy0VuoDPrfM+03K+03K+w1nSLlHN+Yr+EaH5Ock36jjSEm+RvIzkleSn5Z85YRLAErhZYoUgp1S\
+hrz1NeAEd/AwrUGyUC4El2iBZJZTSCQkcz0l1KPI+lleplAysxVCQFhHIBSE9QRIQiwvV1l6jb2VyjTtLiPfS9aE8zQOqOAEMXVAI2wiKzYw75EJ6JZyJI3lMP8asf9S3KFlSCJVGREX\
+3B1WbTiHgepMpFldAwtXWnNc83G9+s/GPUzBknt7wXt7xb193Xt7zb296r09ndC3JxPMWWQ/AAPMlsdz7uOZhGY8bFbCfN3RGb1NQSei7pAhKbzTckz4i+mojNbJqLBeixGtmomgMpNj\
+q/KqMxNBnSYf9sOc22QkfVS3pMRtSYmXuTrqtSK908tpHSLQM9doltte4ZrW0687sn9D1HHFkW0dyi3Dsw9UsCrG+sEK/ckfwe0PVWjWokIGGOppadSktT6GNmKIuJV49+bCiiJHodbu\
+uj3Bt4HSNyeEvwf0HYpr/NkatRZvOKS+GeAEDKzU/3aZx0ov83jI08X/xsNnNsr6spkoq5rn4IrmqDu6w2kQg91VbE6flFMuhqgYz8bIYggX2m1tR9pGJM+iAyWFIdIKp1WdWNGJZZ1A\
+qpWtFC0WkNEgCkggWKX+PKCVwGFWpjDzq7x6ItwK++IHfUpa+oCO48N4MMHn6XTN6Vfvp2MQ116531/An7reBOVkGlBOHjpBK/WSDctYNgSLSVv1NrXSLq64zlCAMDrKET02y+SDV195\
+yfOBfVurLhQRmZDVrYwV2IKTCP1NeYrdADpapRRH+CgTeh4sskWrWve/ohPLOsFMj2rHxbYs+52b8g/Yi4Cr8ChLfd529+OmKvRAJmUuLmCkaObZlzkkRD/1JwH54HpSD9qkRhXPqmSG\
+6ctKEprBi79LNVgTCYswnrZAMwmpM4mndJTUIZG4ZcEPPpAM6mEB4Lpad5zLbRJc2v+YtuAJl7/sxeVJPtqdaIhL5NbC653+mFW77oiKmLaaUbbBzWeKu/LNgIg0C44wr7TnjGIP7kKj\
+PRWTjh0u6cDN7WwYo36yBVOtOLSXyQFOlszLcprLuAteFteLGx51CrMTF7dMyuWZyYXC1jSOmpJhij9ZkmpmQlW+rnGanlWj4otGfsp1SLa1NzKNMzyOphgUNO56VlZ7jar20otbltSo\
+2X73sEh/qPoiloC7DnNMMKFeAS+KkJur5YjbxrO4F3dIyBKJuKBoOiprHqyLe/S6mNLrYqVeFwN6XazV62JGr4vVm6+L69FR69VNVHpXzD16ZMkuMK+IvAsMyyAOD64xrFX+oXRKbwDN\
+c3RyQ3FtamsyWlsT1NqaPVpbU6a1NZVaW5PS2ppara3ZobU11VpbE9hcJWN5R1bAyxvs8CIk5UVIWTHGetpjfbfHu6pmxM2IljFctZOyNZSUrSG4BjdR2WDvJ2Qrbq2yqNvnzSzaN015\
+BKYFvYLNp7wVbrQXpQeXxeHdkVvlHmTNUJB7cD7BB/XiNBVazepcIBX7gRaIykVQP5V08TuZdHV5CS/iAl4W6kWvDohUT6wDCmodUBnqgP7PMCQ3hCFZFYZkDRkSl7u14z72Nuhlb4Mu\
+e6sP0Q4w8vz02JzIlXoiB/RErtUTOaMncrWeyHv0RN67+UTe46VGm8/qYHEQb8Xb8oF2LGn4uNwdt8Dl7tBcLkqwYTz0unEKeGs8xhuu7Xhw9xRuidAhzOkODAEP1xOAzHRnXAbDki3y\
+06Iti9iCLYqReVv2OedsMWeatcWc6WO2mDN91BZzpp+yxZzpP9pizkRGbWjOREZtKiBGbSqMRm1xl+Oeor9r9kTqp2nt9cbbQo8iFed8HPMJlUy9ltgEGpG2OyJtL8Ogl+6Au3TLfnd2\
+sQqtAtvin90dKOdzlFZKnslEDllyYsCDcu2R66hcezGwehC9jCLiZRTRXkYRCh82acudDrk2yrVGrkqulXJN4YeR7HIJeRkV0+fl+XRIEjM6MasTczoxrxMLkEC/HjTfuM7mHBHtqxTR\
+vkoR7asU0b5KEe2rFNG+St7oZlHDiiYmoUbirjXjeyf5WOrbazb6JhVPaFjVLVjRiWVsynLIb7b4/zLzGUEbkxDVShZlIUqshGB+S4FhSdxwE/gOesVRXTgMuS6b62KjEp1Y0onrIU+f\
+rIQRvQATQZb6M5tiFtNDYi1CHr0uQrgYIumAAg/xWwnqYxinDCnQ2BCJ9hGyaVN4DgC8uRKeSK0F0Ag6os+FibCtGxqJY2z55+nUjoBWxqJSBBuHSpEQN96A04XmgSQdooGV9SDoXDyf\
+n+GQOSEkJj/1ikUWhXxzzcHEygfx5g1Hbq5S4vrzeHNF31ymxPw3v8BGlnxziRIL//MLbIvJNxcoMbn8BTa+5JtzlFhcwpuz+uYMv/kreHOa0kEygsdjsl/Em5OUDpHNPFb0Sbx5g9Jh\
+8i7DNz+MN1eC8vkyJVZ+hOAMajj585svI5z65gIlVr+BN+f1zTl+8y/x5qwuc4YScyt4c1rfnKLE8u+/zAdaC5w0Rpd/82U+wZrfXKXE4q+9zAddC5x88xde5pOt+eYSJSavEZyUDlAE\
+NkhMf+JlDgzKFc1RYupDL3OwNX5zhsv8oZc5Jpv0OyVWb77E5s5c0RrRg8lvvcSmz9LvlFj5m5fYQporWqbE2p+8xIHtBJ+UWP3ySxzbjmIS2YqCY2a/jjL452KpZj45WAakTOeVMEeY\
+uUa56ZCmkXSsM1MQysyGmKxQZi7EtIYy8yEmQJRZgEwHBTMOcahO251kzDsAeRMNwNd5oqyEWaiP8DnHSZ6oJelSSiyWAPNCBWMwIqquBLjECJ+yvINBQ0/1CPuu7+JmlKQrKAES2G5K\
+TJYI1VoLpzVRwzmeSQg+QIz62k+AMOqk/tlG0eZ9L72CpwgrCrWZfZVzdwJrY7HNOyojGpDcXONH++FRAsnnj0MhJakYvgTZ92E24mZ/zH1K31G59ODD+CCUimX2VmNh2TsVJCrj0oMS\
+fwIPC/mWNj/gJzOLUEpC7QZOzPfkU/xkl9rpfzLPT3aAjOB78qv8JAWSuu/JEj/ZA+yV78nv0ZPsCl4O+x8K4KXAQHxLy/ioPODFhlZPFcAgEAF3mSGyScF5A0w8l8PSmdfD0plLYepw\
+ILLocRPhaAOVPDrCenSEZSzM4kldET67i0fZtCbxdNhhhIU624SYBoWMGBfpQXnnr7Dr4t7u4MNC9nJ0tQdoxBcLg4ln65788MsUG6eZs2qn2o1prSzlxNq61dRdX3FNlNlUkbpbymSF\
+FMHKgEfcbtDV/hNDDCPN35bJl+nJHrXL/+SH+El5scvp2IC9pB7QEhAG/1d7k+RMPosfnID2xIskhyKRB4xPXFJhMwPD/WZ7iAiereeSFzxbzyU8eLaeS5Km8Qi+7ig6U0VIlvwt4gur\
+Oi2mhjaRQn70O7b+KiVUkzKVQk4po4TIUqZGqC9lGoUmU6aDiTWN3Tj74hMI1KF42kOQgh2HVQkwzVVCaXo0vWU3mir+Sh5e1g/PS3S5lRJkmKvi/2AHglft9/BpNAqPKcLjlQJZDO4f\
+fByIiAOi78qrr3BAwSCFpMraYqn3fMbJjsL0wt1BGp5BivJN7HnQtQ9Gpc091gscAyFwb3bxi9BzZRPZ0WezFnbSF+/PBJAXhb94DisF0sqE6BwhFXoGo0JMoJxzr/XCXuVAQfD48SRG\
+WKBje+FzqAjFGjybJkvyOvJQwew8QK3wrJ5MuBqD9cDN8Av42lcDdvhq1mb2Do/EAbGuOhOmZo3KuTLPYwoRoPDgq8AUgmOnI0ipsVyJPhn24snZAE94VGzGeT4TRTyFfXgKC57CJp7k\
+rKqN8CSQ4sFjQTzU4Xk+bymooj48BU08BRlPfNCxFefzwCJauI3gLpN7vJSdvTxxjQ99Qe07grr46v0cAgwDMkAmS96NFoWiiHDoZii13ravwjqDX1uIPUsXYReLsNkZ4tX7479j285V\
+tgSF1z1oDDAa0SgPdfIw/Gw6HSuDx5QhGi0XjeQukRF1I4aS9qLR4cI3QiNJH/A3iGh0EI0Oo9G5JTQSp45otMh6EFB2m22/izZQHQXfBFTwKvkSpz4anBBsBuEBlv/LeE4UiLKNz2QC\
+hzAimyIBjEe7wivOsJrUTwcpoSBxFYmX++BjngeUqoRbdPT1+m8/Jq+k4BYBootIW+4bqMWlVyDJ30Uw6eDmOXnlAejQzqsTE/E4nijI9pfxEkyrqXj8xVcd2+pG24D43KuOpf/Z8vP9\
+swPmv6D7L2D7bvj/0dNtnlv/t/z7bEmKro4v70UP/ntR7gcl/4LkdUv09b/63vt533v6/i/53pvz5TU8v7rNeyG5/obv/jXJa/jDcn3Z996nfPkSub66zXsRuS5t815Urr/tw7Mfvphc\
+v+T73t8fcbn+P9u0NyHXr8r98CblJeX6R3Jf4/OTvvJK5briq9f/Xplcv+577+O+caCh+B/bvFcu17/04c9f7w65/q3vvVnfezvl+o1t2rtLrt/0lfcxH3wVcv1nX3k/5WvXbrne3Ka8\
+PXqeRMx+879XqcdXZOvyqnQ/+8rzw7dX40feK9nkvWr9vq+8/+jD3z65qm3acYdc75L3Ipu8t1+uDdu8d0Cu7dvUq+T6mojZb/730nLt9uHF/15Grg9uU95Bub7BB9+M771Dcn3U995H\
+fHi+U65v8cHnL+8uufb68Od/77Bcz2/zXo1cR331ftA3vo/I9ZLvvWnfuMIPgvjXCeI1GKIW64XSPp8bHB/sHxgauZjr7y9cOPOuodEz+afODOfPDI735QYHx/Lj42NX8sP98Hf8/NjI\
+pZEL8H6hMF4o5AfPDgyPj+Gvf3Qsf270zIXBJ0dzY2Oj/XnM5nK50dyl3MA4/x0YPTsy1pcfHT2fK8Df3Nj4QL6Arw9czPePXhjGD8fzY0P4KD88Pjo2MgIQ4Jd9Y/lCfrzvzNjIk/nh\
+Pipr+FyfWwLekDfHgQ7wv0M3D9xMJzGVupm5WQ3XwM3wzZvlpZDafXPPzZs78SgwfL734JGbVuKm7ZRBJlRVc1PBtXJflIqpgF8MfnEudYeUHoHfrjtvBjG9/zDfu4v+3tFA7RtrOIMt\
+gysgLZ/rb+jLDw5Kw/D5cP5ifuzC8PjA4Mhwrv9ibrgvn+sbHxgZBsHNCYVLItFYPJG03Jxle/9ZY/mzFwr5flU4P3JJNbUfP368uak9NpQfGhm7EkOUDMew1tilsYHxfMx8u5H+uTf7\
+x3KXVDPecW/lCkNK6czAUO5c3s0NjuT63Uyh73y+/8JgXsHXTY3NjS2NrY1tje2Nxxs7Gk80NTY1NTU3tTS1NrU1tTcdb+poOtHc2NzU3Nzc0tza3Nbc3ny8uaP5REtjS1NLc0tLS2tL\
+W0t7y/GWjpYTrY2tTa3NrS2tra1tre2tx1s7Wk+0NbY1tTW3tbS1trW1tbcdb+toO9He2N7U3tze0t7a3tbe3n68vaP9xPHG403Hm4+3HG893nYcMdNx/ERHY0dTR3NHS0drR1tHe8fx\
+jo6OEycAxBNQ/Qko+gR8dgJuKRjfSnGPKcUdqZT0pGqADlMD/YP5mMKxFlN3K1V7RtWfUbWjeHvkybsVzA56SFNFQW9jL18aGO7vy433nVf9A3m4CWgcGIIC6tXwyHA+VhjPjecVzLXC\
++IW+JwdhOoyrJkDyuYJqpAsUUaACC51YNoye/nw/FNXfqeDbviep1vvUg6pbPTF6RjXFVGOsb3hkXOXU+FiuL6+ohqOXe7JvboJfcyE3lI/1D5w9mx8rqNy4Opu7MDiuGJgzWN7wiDo/\
+UBjHwXQGcPGkuifWN5jPjSFtR0AVQaoQVMVwIJgy8tWoOsi4gyJxmCsa50rPCHVG5oQaV2PjUI+C/wXSOpUD7IyfzyuY/ufGckOqb2QoX1BnB8YK412q9+KF8fPncoOq7/zIQB/cf+x0\
+930n1YTS97GHHnjo1ElV36tGB3NXoOzxgn7brWtYBnVuEMG40qkePX2fAJG/PM4wuFUNAiKozF5Fs6mgAE1U1ODIyJPwd+BJKMmdC52bQU+fnB0YxGoLgN9cwfiqV4NeBLxO9dKM5buY\
+xLuAhf78mQvnehlM7INewHNe0AZEUeXOjEDH9OJ47eW/1DogNXk1MEwoGRwY9iDbncjw2pn8INSJIzhPb8GN8Uv5/DBAq1uFn2Eh3s+4njp1aWD8PLzaPzKew9YPwRSAEs4NDBf4UW9X\
+73rkQYuHN0VcEUvq7MjgIGIhx5DpOhlkz+fyHHGMbR7MwRudahRmCb40An/G4IEuZuQstWbk0jC+kVNnAJonodDzA4KevhFAHWCrgNjrHcoNALC4uqmxRjXam+PyqQ8QtA3e7u2EGaWL\
+hVUwXywWa5cS/jU1eN4+2AvruRprUk292OQC0BJYokfgjtvh8BWs9vg6/g/v4doPSFD4WiPCBv01PnaBViQ1IB1Rx5/iY5juMC0Qi4w7WKCBhLggEQCNqq33bstq3GXyOx27TD7mNZLX\
+ctWDu0w+7w2S13LNO3zf5ySv+dj37DL5uh+QvOaHP+H7/md99f+C7/sFyWt+/8u7TH5r2Qffqu/7v/O1/5u+5/8iec3n7q8w379L8lpeO+57fo/ktfx1usIs/4kKs339FSZ+BySv5emx\
+CrN9V3z5Sd/3P+DLv99X/7Tv+U/4nv+Urz2f9NX3cxUmfn/Z9/7Lktdy/u/4nv+er31/UmH2/59VmP37zz54b0pey/OJ3Wb5uySv5dqa3Sb/XbvbLK/R97xlt1n+vbtN+O7fbcoHD/i+\
+f8j3/eO+79+622x/n+/7s7tNfA/5no/62nvZ9/zdvvre43v+H3z5H/DlNSlBCQIFCDePGZYOgOABC9GPBBpu8D2gZCRlMBkqJln2cN8hqUAYbCVXJJXe+yxBeO8MIN82dmF0fODM4BWR\
+Xkh4QflkYDiHZJGlmXP5cZFn8C/kNBwg0rB8orzXK1rugTe15GMKQvCARCHvI75R0JXDA0xi1SxQ8AUrB5GJ5CYWm+gvy070d6AgIhRf4IPhC0Nn8mNaopIrF4w1axmriA+W9ziDwkHB\
+kyNBsO9K3+BAnxZ+5DqKHyn6OzjM17PAsxJPzNKlyl+G5QdYzlEUSAfOggzad2EMm8W8Igqb50ZgeXrXhaFRkFFJDhnsJ0kU11OQR8cLIMSCBHQRWgoLUJ8HB1oCrRNhcTh/qbZWxl9P\
+lUmPHpd8nR6/ktf6qI9IvkHrM33f/7bku7R+dG/K0AMpyZ+T/Pv2mvP3Q5LX+pHPSf4JrW+q5vxjev2rNteHMcm/UfJfkLzWM35Z8t1av7fPbN9hyb9V8u/dZ87X5/aZ69XP7jPp289L\
+vl6vj/vM9emv95nrceQOE3+lkn9I8m++w8RPv+QflfznJa/1ty/fYeJn936zfbWSv1/yI/tN/Dwj+ccl/5X9Zvt/X/Lfp/VEB0z62iD5o3r9lXyL5H/ogFn/lySv9X9/dcAsn4Wq3qJw\
+1dwL5K5vEOY88oJyG/iwZk1pjCmopdfeovjlK0Hf9xbBk65XC2q54WGFbKbxnRbizudcDh9SwvDifAcm9Zw6MzICkuOwugjS41mgXoPuh8ide3nJArKMyIAe9/ORLb0g9JAGRV02QKBb\
+BECOEkQpQFKCx7nxkaGBPqRO57Dx9GbhwlBv5/pXkYPND+VGzyMhcZeaQRLY+e/QBRAMoT0g846BKASiKhAyzBWuDPeBYD488DQQw76R4f4B4pjzl/vO54C+jqGkAesO/EaGB69IZxXq\
+NM4LxJAjbAWQAL1dDLKf0WF1GgF9vbDuqEvnUZDsH0ExanSYL1CEX5DInaPOYL4/R7RTkYAPaB4osutnQPonQUDRB70DZ1V+EMT3Akhsfed7gRZj/WeG8yJzwvu9KKHhuqPGL40Uu5Br\
+onqgCgHnzDkYICBunxlEYfKppxWU9PTtlNopIDYhlKd6qXyA/CxmB3gQncMeJ6kuPzwyymiHR4CawgXowLGRS50KxuFF7GxUlxBgWq4i0X84N5TX0utGIhytPqwNgY6GlfBCvhcWIkGZ\
+wASvaKSPwUI+NtyLy1kv6nyKUwYGMzzsVfwGCFdjIyBTq15Ut2JfAbQXxkkwHUNdBesFWX9EM2jwSi8smupsDsZAf6+IyixXdsLIgNlASIE2D3PZjA4Yl+dG8gQjyfbU9F4upbO3MJjP\
+j6orA/nBfkDa+MAQ6hIKhXyh09QQFFA3cen8CJc1MgyNuQzkoRcxxYK8NHZ4+HAB20QLbi/+hd6Alf2KXKAdUNEQzB1YwKkWnpL0JrRB5gqNDT1d3C4pSrvvGoF8YRzVHqgMuGWKhTo1\
+FztcQJdbJ8GA84xUBQVgFwDUXrgA+ZDyvPNnq4mLnbgeqqLSV3f2RoUp9zU11jt64QxQdWSeLqK6EFV6kAVYCgV1cWQAFbWjI4CFUZjfqNx6t3oGgKbnecYi6iBQyQbIJmrELSFmFjBL\
+44Ff9Aj/hdpaVV+vau9W9XfD/T78CMjhoOofuOjqEGBeNsskLlw44701RnpNuMK8GgIGtK9LbaqdkPUOu4PUZF6tUU696bEH6jvUmSvjOC2Axwc8jj2pak4+oLJZlX3gSCeMTJ7d+AEq\
+RElNJ2XBhMACmtqLrwG6ux+976GHvO+cgek1dqVTFIF4h17xaQRzhaFeqP5JQCvpEQuiR3JHGuqcuMeB0l8hBQlRF61u46l3iYmUXjw7Nxgm2IEjQ0O5AiuvSINUcBVyI6N5WIj6N5oV\
+meLCg7MZGkOrg9auEeIRR8z/F0vAe2ONvb3ARSNhGR2geaMJcadHs8Nl5KQE7kNoN+AAcILD4xw2m3SOrlKwt77Xo/8aQgqO6NBFaN1jY7Ee6LHenOcF1MCOQ9MBVq5hwznoVSQilwEo\
+IOU5aX5NxdaIZ+axIo0ItqYVh6XnBjSBZeWpsciuJzk0WozSuMdZ5ytqP5yBooxFQo0jaKMhUOcriZgAVmxCAbxs8fgs8mCIQOYWxkEUHOxlvW+x3TmpTStEC3lkXTbUiEJHEF/Wh8sV\
+kmdSXBIjIvO2UWZHYVy/KGpy5uYGxpF03o181/qOEhW2HlMaHu+YKo4+rYT08oZIRkweEoe85iNxyBeGkACNUU2IBxo2ots9qFxGwR1ktCTQ9+1tbS1tWE2vGqfJXt/chFtRLe2tHfjc\
+zR0XLhzLaTSf9NLWhy5A3qvzv9XTffqxh04+6n5PNXuotbHcY4cXPGRkhCcR8Jv9g/kx6QzerxW+Y2A856X1BmHVtGnDeSRMEY62wfw483d6YmMt399rjDwqEMCmVzYpcDs4unCOCmEr\
+8mV1uIoeFC6WO6pTHWw6nx8cRcaBt3UYFuL68kCH+ul+cfbqLQJj54BpsJ9e0P5asSBXba55SpqpNO64M4jM5nMAE/6rg/8aGmTOF+euFtU8+HBlLy/HoEmPnxLw1BcpqDgrmGJrrOip\
+hHq6WlMv589P+PKTtaaedbrWlFu/UGvK+UuS13YXf11rysl/V2vqFf9J8vdIvrXOlPs760w5/3V1Zn2nJN+m9RJ1Pr1EnVnfD9WZet1P+er7OcmXbVLfL9WZ8K756vt2nSn3O/Up0z6n\
+3tRLH5V88yb1vV2eP6ztzurN+n6ufuv6XvTV92v1Zv/567vhq6+rwazvtQ3m+/dJXtvFnJe8tg97usHUo0w1mOPrhxtMvdgXffX9twazfV+R/L3afuqYWX76mNl+f313y/PXaz3bMbO+\
+9x/bur4P+ur7uOQPbVLfq/L8bbr/G836DjZuXV9dozn+TzSaejZ/fW9rNOtDGoOkiaXKLqS9QONqjtASgLRKC58kqG0kYrLMWFDHcflYx4nEiqQshtQzNt4I1AYJDtLoTs9CXecuwF1q\
+uNOl2HVbLaB3q+Eu4iiHZdnvvVtd3AwGTeViTPxiXpiOtgDvCv+TYgvY706vckLDhfWd6RL+9ozUuFVlTVAZFkqizYbVtoIwhPIQVKv6sOI61bd53apW9XF7z4DMfKGgualcF0kwY7lR\
+5mxfn7uYO4zr6LjqB3l7axCbY5RoVi0xr2S2IbhtIKihrMbgEkj1RZCGBoa/9zB5RcONYXoXqfbVqVM0mkYu1RW57fUMAC/DOVJ9HaY121XBoOnNqd6RJzcbP1hJPxq7CBT9VJQBSzMa\
+weWfIvyc2nQcdalbAhXknBrAMSD5CHAGJpgoBOVU/qkLORC+z2yNzMYYgsQ43Ab+FrTgG84z/Fx/eov6BwrDh8cZCnyyDRwtulObYqzsUh5rguYY1utRJ5qdfOLM4Dgq8zyAvWYruIDz\
+LCD9Air1r4TKVHL6oLKsJ1pM+vr2FpNfONNirn/vazH5hw9L/s3aXtpX3jdazH2NzlZzffDn7241v+9uNfmbB1vNfZpPtJr7IP76XvCVP99qru/+9n2u1eQHX5V8fpP2HW0z953e3Wbi\
+z5/3t++9baadwo9I/vAm9f1im7nPE2k325NsN/G1S/J7Nnm/VvKntF1tu7le+9s32W7i81lfef76piSv7dU/1m7yZ1/2wbvcbvK7qB3G3y2Sx5wayo+fH0ENBn5lTi6REg0ttKiFh1Hx\
+BS91aW6gXatp2NQQ5aP2VrRsBIGlsAWRJVjPDlzMG7Qeb3gWcKi8SP4h42FgfHAh3LmzqAbAnNaVQ7Nd/sbD0mCWeRq3GcdpS4PkPQS6ThGDgUbNIFufwj/vBhqknlGkaCctgNaa52hD\
+Jz9KPJIfkUXpVSstaF24FeRtgriisB8TPJ2IsTkpIFHU9aS8GztuErF2baWdh2agWoB21rWuoDBOeoTejTByG5BwHdKZWwDTSrUw3LlN2EMBxFD5KHi3CR93kFiNz4ZyfeehYw+zoqym\
+N395dBDg83RKU++RXq7qIqowEZ7co1egsqEGSDeI4UFN7kgXJddV6eKkQ8ZYa+OJdq0cJaXod8mLIn9/wqQT950w5/nrJf9aTSdOmHTnAydMOeuTJ0w6M3fClAOCnWZ94c6t60t2mvXt\
+7jTrq+k06a6/vjrf88ZOk863d5p08A2dJh3sk7zapH3Pdppy3H/31fdlX31/0GmuG9/pNOWqeBfnGzdpX5c8z0n+o10mPB/vMvHpb99cl2kP9qtdJvz+9oVfY/bHYH9hkDYL79tUqLqv\
+U/a+64p7CxssAHfTO8zTk9rovi1lK4/G2D+2RbfLz0gj3CQZGvVNftliHP1DsAlU5N0wwWS3gOpnWJAKo1UP/jalEI+J8wSbAnGu5ggVRuq9opbeqzJe3zS5cWbkjHfuUtUwZzecumq8\
+6WiL9m9Rjz3W6W4gboX18QbXIKrmiJvUgKrH6tSFYeJoQaQqqhqhGDSj3xJu2ooUwAkkuMkg0xO+2b9Zc5rd5rCZlsoJaj32W4LYJq14p6XLRbK6RApd9+06thFo7FLkGsCW9u7zTagl\
+AQ73YlsC20r6xXvMefk79/jsOu8x9Se77jX1X/sl36rtYu81592bJf8WzQ/7nn/uXpOfXpR8Vvvldpv8f7nkH9isPnl+Vuvnus32vdS9dft+y/f8y5I/of1cs6a+qlLy75T8xaxJJyey\
+Jr789T2fNe2mfiprtt9f359kzXWh4z6fnfd9W7fv/vtMOvo2yR+X/I/fZ64bc/eZdDp6v9m+svtNecLff9X3m/139H6zvtz95roxLPlJrd++36ff9r2/brycNPWV+yXfuUl9T8jzn9Dy\
+z0mzff940sTnt0+a617mAXMdb33AhOfiA2b/PC35p7XdGbrwwQ8IQc+mK1FPp2uCthVV1J/WHClu1OFmHJnEdsFr5/LClPFGGlloAIVE4458Py9Xsm3SPwKlN8U2oS8EMICHb8W0rS2r\
+S+DGRotVK3st4h9s6RZKw1tuLZZ1Wrf4jKfJQECHcsNXXIvgHOra0KBmMxRA9oog4dba76pCuEGCCWx0ERnNHmQ0+1Zu8t6EH3U6GSHXHOErb/mhwg81RWggswHQshdJX+QGqd/qcDNy\
+3GPASAA1x251jSZodI9uvlCLyyn9LQLfPdx/f744+IyW5G9tKJpN2q4RAjODcZvjkNxlczkD+m5EdDfbAJnwkyMg2Si5Lk3mMCJBnsDV/YCffA/6g21MNusP6g2F/eL1/ZWp5W3NmSPc\
+BHYOZGSfKfJERluE/9ugOdtNi804KAHLM0G8bRGOyhh7/kY2exo5IJf1zXzI60kAbSaHt15+HT3XUFIdLrJNRW0GY432nUkybfluW4pC/CU0949pID2NpkbRU1OK97CUxK6t5yWp+a3i\
+0k1/Vc8t0kd6+7GiJ0XNEdezoUDmYtoMT8xQxsfy+U6yY9KM6ACPC7RwAnI6NMI6ndsZ0eZY2GRI62HAzdtiFNA6/HqfHfvrTf6q8vUmv/OE7/mZ15v6vo+83uQfPyr505r/eL3Pr+z1\
+Jr/jry/wsMk/VUr+rk3qe+3Dpj70/Q+b9f34w1vX97GHTbv///KwuX/qr++rD5v8eMMpE5+tp7bG52tPmfzqo5Kv3aS+q6dMff1XT5nPv3bK1Iv46/v6KZP//cYp02/EX98db+D8m7Sf\
+xht8fnZvMOUNf33P+Z7/mOSPbVLfr8vz89qP8BGfvvuRrdvX6nt+t+QrN6nvTY+Y8s2oxy/qe8FDwmLQgy/BMuhbo7UDcKNWtgodQNHVdZnagImURef4pss4P9+S+XDjWLg8neoB6E67\
+XmA9fN+FGh26TSZwrGi+5mPzWjaHTHMUW8JWdCOjq8DWzbltATuPhrLy6S3yPd710q11a66H437QX4HvTdr97ZYgRG5U13QlP36L+DMA5cq3BpMCk+AfBHKg8Jg7rlzomrYafVpZcot4\
+9Cw4XOlW/dw6argBChZ7KGNOFrrlKsvqVL2GuWjYpgE8P3IB4AU2Q/JjIyNDOGO4Cnq61eDEl3CzFb7aZGy6rop6xkDSgBafubB+L8CiyrYEiu2iesx155s95rpjvdH0n+t+o29f9o2m\
+nP3+N5rr7qzk+7Ud12mzvthpc53dIXkdF6jztFlf92lTD/T0aVOuvyr5j+i4Wo+a3+971FxX/O07/KjZ/ibJ6/hDb33UXAe+/1GTb/j5R832vPioyTf46/uNR029xZcfNe2g/PX9o+Sf\
+0evOYz5/5ce2ru853/Ppx0w9ir++z8vzN7j7skU/UxjL2U3XuWxn0dluS8U9llRzZEsBzyWFl3DuDg0UCgPD59CuWL+P+32byH3a1vQcupHcuuDX50pM+OHWol+fx+lYZW+14fQ6qogK\
+mgbIR50qn+s7b7jveGUAkZBaSQa4ndb5xSR2i475WkpN5EcbCknSzOK7G8hJfYbjNQ6TgUKW0uvXD90CtFqmV/TiwSzMdg2U3pKatugu6Caf4zfCBbA8Qr3xZr63fvU1HLWoB75rpG+E\
+aY1VDdN2A67P56sujdiWefCiGhaTW8Wrh/PaHLEUB+RNJp39+zeZ+ubvSP6k3hd+3LSnPvu46ef8S4+b+uHflPxFrV9/s1nffW823++R/H3avvXNJt37T5If0PYxT5jr1n7Jj2s66/Ws\
+FwXP1paPt8zqb6FAgbLRut7QowxoRYoekkQO2nA+9bFPBdRAm27oi3f5EfFVdF0axUnitvRKRaIxiKNALM9OxDQ6ijoWV8mKL25sK9GiLjcy3TRi2eFI3lIffXsryhkP4voMBZQPb+TS\
+gY6u5iQBdJ75btF566vPRohtAsT2FRFLn2oW/RawKnF5nvDNxydMPuF/+55/5wlz3Q++xeSrtojzhxBY5GciTu7iiNKpzmE0k5FhrVbGUFpE73A/6y1m/Z99i2m/t/YW097t1FvNuAHn\
+3mrK+196qwnvVyT/cR/8MtAf6X7DSaUdkd4mDHXPOyBJQvAjkOJgbhOisX0EUkX/1FPvwAI6PX48Ulanx6WpzvXN7Ds/MNgPVXSptzU0vAP6j+x4cmjQMMz4IifP4fwlRUL/WA1DVKfJ\
+9xH2vzQV3WNd6KQLQOJ4EyjFx8wDaS9uuaDnzzBFvPKoHtn7DKORUFAuDtS4TihqFL1Bi6f558byaMm2lVRiqh4YuhPbCagkq9Cophpck4xGw3KOtrhX32aO5xtvM+1qUm83445cervJ\
+V//k2824HP/17eb4+WXJ9+nx4/ddMkeQuBRsMS6a3HHR5Xm9s2iuhkYIHP+HnLXFClC8tk+JYeDAGNsx4lC5jwJfZBmeGhkpdWIJ6B8xHCVDUzfqZoM2NWmvCOnbzawc13Mw0lXCGfg7\
+avod5jz/yDtMPeLPvMP0k1l5h7kOf/Mdpt523zvNflLvNO0eGkx3MuqlU/5OOcUZ8rBk09Lcpnb3gGgxxIHlpIE852v8yNW+JuxcjYWiOqSRsLwxIre0xSF7kHea9Pi/v9OUS//gnSYe\
+/+KdZtydm+809bO132/i7ZjkX6fxVnS3Q2yZGMtBq/KD/XqX1hNMxIcIutcvxlpkK4qPLuYGLwAh2RAdt2qG5cfQqq89/vzffL85v6O95vNkr7l++J9f6DX5U6waG0DeIW54yZFieEl8\
+6G5niXtllxk3UuI5oodrY69E4LwwNsyrI6GlsQ6fHW3ppRt5egxTuvcyvo8S4MBQHk08t3dWIt+V3tzpk6976NHHTp4eaxxrGmsefuRNb8iePN106lR39uQp/Kin58HuR0+ezma7T59+\
+6OTpxx578PTJ7vuh3PvuO3nqVOHCkO2hsl7HUY56Me73MeUxo63teumR6FbR0SIvwTqBiyUs5odGx694XfXZZ9xtXj+RQG7L9o7nNUcaGnwRVju/V0FUNYSdOuwHQnoJlu0Ch1whbA8P\
+N6DQ19Db29DQy8zQpREMDlpAvEjp3oA8uPxDF9/Te8/x3iK7IDE56/QHrhTKE7APatcxWSjiAju1w7w7vn5AUbBSGG7F6Kf5y6MDwG/q3UYYUbzHSKPMGu0z44I/1WfSkZ/uM+nSJ/rM\
++Fdf6jPX5T/oM/elAv2m/i0p+Qf1vkq/Sdf6+s14l5d1aNFONxJLwdcsjsWCTWJ3dOyWXheXw8KMDIhWpY6HMtskFijkJ2BqlCJqDF7xB6GgvWrqdeaZ4ClhHh24R4a+Z90IQ4R0QMjd\
+XaHBtOnY0fZaW8bO2ABsf4jWHMeCKgZTGh5GOkRzrEbR0D4CNziSK7xIzkq5gv8DHZBnLD+KIYrIrxyeMnN4Pl/IS9AkmmNUTjHKLS6unVIbKU+wQk0r9YDu0pB6PnTDjXAZPpC2xl+X\
+2maA5DaEs+jw33C0jUJOwDT3geSFo4GCejUI2ce+8ISdoADCOnYH1dapgSenD28HbBC0lz43KmMqNEy0R2z8ya0Dp4g7cQa13pHCHxkTh4gijOGN275+hBv4LnrfFsSpYQMa6g2mnOOo\
+00i1yAfGJaii89oghPKWxN2NyeFdfT1Vwsw7PM6LksRsJlWzXoMoGA68U+cuVgXvEufHCVXCI0KiDlHfUBSGwkB/3o241ClrO2/feiJVFyFDFDxC5Vx+pEuvNBzDm2VGKKO+nu4edvv5\
+cK+nBFp01hVBQ4uDN+B8vufRkyfv73XLqqeAQN5o3OSXxFHv6XvLWnjSjMvaNGjuW9w3aO7LTAya+r6XBs19htVBUx570Fd+fMgs/w7Jv0afUzFk2o/86JC5TvjLX36XWf4LvvJ/Q/Lt\
+2r51yNzXOj5sxlfwl3/eV/4bh83y+4ZNfeTPDptyy9eGTf2Gv/wFX/lT7zL9XmoGzXzdoLlO9wyb67r//XXPff2xdpv1fWZo6/r8z2d89Z1/8vbqi21Tn/95ZNCsb/k266sd3Lo+//Nc\
+YaiJqIj31IlTDz1yUjVlc/3ZK+Pk3U0Bv9gcmAxPc0hicD8djzcAZmCYlY9Ctci7K4dxBiVuV2EUI+gwp5c7A0QNqNF2kcQ4PK06jBy06gK6d/btLY0tb29ua3r78OEim9w/0lc4dqr7\
+kde9qft1JxuGAKTMwwPDzFDQgQqZ5nUtaz41MnzuFMVecsUEpERDHBIL6EpzWzuBVvB4FkrjcngEwBiuXHKDVsJ1EZs8W4BAV3Vj7mxpbCwg/Ie7PG1oWQdhy5uGnxyGUt4MqCGbO2/c\
+KGIJx/KQuZg3NZv+wFrDCrsJICXznFzxM169SZju5XDysmRqQDEEsIHn1nUwtn4fxwe6j/mC8ZERdTZ/ifw+IUmbPMXQaIiisXMXaE1DLPGqUdCm2PpFJcFIt2quBpHlcQNInK9jvvO1\
+Cia9O1gw9TYPFcw4v+8qmPL5+womvavxlf9zvvJ/tWD6E3yzYNLrjnFzPfCXv/CUWf6bx83yB8ZNev2ZcVM//U/jZvv85T/oK3/fBbP8hgsmfKcumH5x779g6nP85S+PmuX/jK/8z18w\
+8fGtC+Z6/NqLpr50Hf598K+N+s6tK5j5RMGkj5+64KO3vvf9z2d89Z1/6vbqq96mvnXPfeNr+Tbre3x86/r8zy/76ntw7Pbq+3Rh6/r8z1d99S3cZn3xberzPwdy1bbx+tYG69tpN6Si\
+lkT1Audu9XmiIW8cxc6gRx3qdpen9nWAtQNgj0h0tXVgaaMxoIqwLOhoecLyH9TRGGnRGvEKRPW8yQjf1ILAJ5F5NgguaVJXVdtmNOf4OmCPf9+F8e87exrDLHf6wkhS9M+zqII4xwuO\
+ucZiAEmGd9OARLSIAiRdnt0ruuduKtBOhBu92Qd8sVijER3rGtGBGKedwfX4htu0RdLSvGH0ve9nHijH9/QJSQcZTHSFb9NAYbgbE5sn1gFyQtZ9BgY3JdH2QpxfnuSDcFiPwTHxODiC\
+wQPoeHjGiTYjY5yV2Kj97u6/u20tagx4kY5I88AM8GAtvoW28YpvHbxi2pn/2hXTv/tvr5j7KTVPm/HZTz9t0vnFy2b5F582y//Bp824cEtPm/Wt+crzl9/jK3/fu83yj0m+Q+/rvttc\
+pz7zblNu9Je/csks/6u+8lffbcqJd0yY9nDvnDD5En/5jT74rcsmHZy9YuZ/5opJR7/ybvN7//vrnvvqG73N+vZuU5//eco3vlZus77xp7euz/980ldfz5Xbq++TV7auz/8c5a7GTQSv\
+Rpz+j10aQE0SqsdyY4O4H+rKKf35s+iL6OX7+TAt3kX0hJB25zsRkoJomDjcPtM2PdMlouXbh/V2xmV1sPE2l7KmpvVtaXrDQGF0EMS//vs1E9/plUS0FrC4z2kKMe6LBdF6Ffcy+Qtf\
+pGyv2AiN4Ri5Rjua1guETc2wAHyfKLK0iQCA4m5FezRzhHRaIpAqaguNOrFGeKSO3RhHBgf6rvjMKLpoTcgVzSn1brvbB574o3xmnwn4ejmxqeX/6+1boKSqrkSZT0bEBGFipMnKmlwh\
+WaAWPVX9p0mUBlrRIPTjo5jnjLe6+vZHiqqybhXd7SggqGknAQGDEEXTGDOAE/yP8BQVP/jAGbF9ijJBnyjRoCYGyUTBjPjO3mefe+/e9esKWQ+XXbXr3LvPPvezf2d/5iaTlygLqjGn\
+eqpnhNGtT1IZAZAiSoQsTKorWFfj90JQ3/367gogT2kIBB8K1xDJXxC5rnO1NcF7amLfrgy3j7Oqq4MCYjHXw+oW87i75sXczogt5vJgxWK+f/PYYu7nGriO439V4D+0mPuxRi3hcXZj\
+l/D+MRJ/v8A/ewnHH13C5c3qJaI+zBIunyT+B67j/CC8mPOT/7GEz3+wxPGviOs9YnHx42vF8VhCPcK7jUbmgKej0fJqs+t9ZPVgAUvqjVQZH4n2IJAtT2WVyJTvhTAf84BD58tx1nlW\
+tBInmGSx7o70K/KZC2bNvqRp7hzNZi7C8u6+I0dTV3VJtKMr1hhgCO3JbFqTBP59eGOV9uvSFoI+CyiANxv6b1LpQnA/IPfEzVbcIoLdXFd43qv57NXk9vD12eDL5DUWQScQvkiBd07R\
+A7towatyRSQcuSIc/K/kdSJ/wjJ+nx9exuve/O9lXO/6y+Vcj7lwOc+/u2s5f053X8/x71jO9ZiXlnN7fuQNXG+puoH30ZH411/Pn8NlN/D3bDXBpu/1Azdw/8MLN3D/hMTfKfCfeiPH\
+X0Hwd80+742cLywX4xJ/j7g+m5fx92zojXz+zSWOv/4GfnyFuL+Hr+d6hTx/23J+/vblom5UieP7xHzzlxWfb+syfv59YrzU8fgo1+Bby1+wGmvK5XObL4D4HvOOQ6gPhnbAHhY6jtt9\
+3qQjNLrT0O0IA3u0aDa13KvhVayqrQ1p2QwMCgeqSXJTPFuYTEpjbfJ3lL+hV1TX119Rc0WV+HUw725BHofilV+IWmv2rMtmQ+ccWGsDZ3BUgRDdq7j/6IdNoEce+R3i0ZayK/pn0IYk\
+BMGypQaXA1CkprrMJdbxVdQ192TS0UZDvVdCEEMMoUcO2bq5IwXpUv/1lCSjgZPRcKniyqjmoZsZfwsWwAe54HlKwHynwB8d34RXUytxRjQYD4sXgA++CIrJ9wmvKvsJOXKT6NfZx/n6\
+FoJNv5Zf9nG/8xk3c/t00s1c31p6E3/Pv38z3+fL3sz9yHfczPPfnr2Z812Jf0Dg77+J8xG7j/Oly2/mfGFJH4/PLHX85D5hD4vjd/5A1NkX8GQBy/na+vh8Nwn6VvTx+KJS5/f28XzD\
+UuuV58fF+ekyz3f6+P3o7Ctv/dD5MYLVMLG8pI4egg/TVwE/RPc71r4+YrXMaJraPDcKOeXUPwItRRMRgO8f+rtMvRunpwsaUcPvxPrpNQwR955kySbNfsFS31PrNz4fO/GKhLYUpaHL\
+mPMMoBdtXHdMPVtEvaUDFa0LmubNmDtNm9tmMfpKaNux1WtM1OZxYFNB0/SyQhy26e3lac1+qwovmB1M88AqwnlWYeTvCn7f3lzB49g+XMH1ndErOd+YvJLHyS1Yyd/zhhX8vVu5kttB\
+/St5/MV/ruR85YuV3A8m8e/+EcdfewvHf+EtXL9ddgunf8stvN+DxD9f4H9D4P/oFk7/uFWc/ktWcTtQ4j/8Q45/8SqOf9Uqbqc+t4rr16+v4vWJc66/oH/oj/h7vX8Ff4+vW8Wfh39e\
+ycdLHb9ZzNdTYr4Dt5Q3nzy+Qjxfh0vMV1PmfPL4PjHf/BXF57t5ZXnzyeO3i/nk8W+syOW7VYwFVV0QjcfdWe3tfmlMiARTujIEy6UwhSOgTgGjCEHt/RDUnCYDFZikm1fr4lzGxMCX\
+wS+rgxotElwNCu3M5JxsrFNnFRG/BCoM6yeWFwg5Mdwz6jno0B8K2hgUQWMpDmPD+cn3S4nkZZk1jMwan8wpxmOXQ6cRcPkJNaPlU0rZzHnJrGVk1vpk6nyQPFQGw3tziKTB8mnEslRj\
+I3korGMU1vkUTnXi8Tz0+Q1kmaQ3Tc6ABLDIxlZHCj2WmJExtrqqsCBcw9+z69bwfJ5b13A59+QazqcH1nA59aVbhb67mr+n37qVy9mqW3nexjwxHruV+xUk/oOrxf7LGs4nxt7K528R\
+67XWiH7y4vzMGn5+dg3XZ0sdD3e6Ia+e12BREge9RZQSTo9BIPcbTC7a2PWT0swveXzkpXWg4pxpIiNz4syk//7kNC7U8/C3hW81iCfOuo1f7/+6jddVPW0dl+vnrePPW8s6bt9dv44/\
+D/ZasT+1juPfto7rFR+u48+vtV7DMwvg7/8xx59cz/HftJ6/Lw+u530qnia4pwB+ay1/noas5c/rgJj/t7dx++ZdASfW8+fxtyXGD97G5//VbXy8FP6Dgv6dgv5Va8uj/6fritMvx8ul\
+X57fL85fepvY/7ytPPp/c1tx+uV4ufTL8+GdrSc1IULSLL9lBnGsHs9pd7q1tE7oBPqA+z7IbcI5/Mf0OcIgfNqlRO9RYGtQ5wdQBExx3lOVn9YqbzvPU4FMrL8VjQPn6dXdK4Kk6TUF\
+CmqABYppOpjfrR1bXlmOtjYMo5fGZVrjVCyVfujxrc10SUZbnX85sDs5zXFSmGXWjTppKyYnxp1FykafGCwtafZHGvSg+0+WE+tMespeFIx7VE/AsflP4crK+usmQet1ftS3uiAxXJN9\
+xdhvdU3CDk2T6ChvEVeMDdNvsJRJ1nU56sLBO/jz/8gGzv/+fQPPP/t0A+ffp97J+WPNnYL/Cfxz7uT4r7qT8++77uT7Htvv5HUoJX77dhEXdxfHP+Yuvr86S8DX3sX9exL/wdsF/7td\
+8D8x/9YN/H3+uYCH3cXf760lxvs38Pnv2cDHS+Hvv0PwvzsE/7ujPPpn31mcfjleLv3yfFucP3mDiJ/ZUB79v9hQnH45Xi798vwg/64pyr9riCdqWxH1RtNU27BEf+s1N7JhUIxbh0oU\
+Z9m1+cmrRbpmJaYCr8WOIMh09b6BtqGohDVuMmvRY1O0iG0lE16ZPUzszOXLkfw8mbBGSvLmuvx0181M6uKEOjWa0HLr0O+2zQoXoqloonFog13nJutyIn8Ox+XOfv48n7eR8695G3ne\
+1eqN3I/51EbOP3+/ke8jtwj8X72b4z/nbr6vHb+b11294W7uV5T4D/6U498m8O+9m+/Df/VnfF96zM+4fSDxhwX9Q/r5+x7eyO23R+/m79/EjXx/qdTx/WK+VIn5/rbM+eTxIzaK+L8S\
+8zVsLG8+ebxJVIywrWgvfTGCu9El0qEwIizkxbDFkgtTcQeOhBpwmZkhq0f9n5l5zvcoDVJ9Qd0sNyl6YX4/BwW1pbOJKxKZcCiTJ9YcE02Je80x1APv81VOb1FVuCgTah7NbeNjYu7q\
+qvPFb3dTj3E3g+pyBo7ChSHYU1c9iEXU1eTXIz0aq5HG2Zi13eilWJv6V5q8SNj8Kxpmjk4F/9jBXOJzcvKLjv0Lfy7Tm7i//sZNvL72lk38Pf9oE+9PU7OZ77v2Cfwtmzn+2GaeD/qT\
+zdyu37u5OP4Kgf9rWzj+8Vt4/enOLZzP3b6Fr0fi3/xz8d4K/L/fwuODzriX8/EWgqcVwN8g8K+9l+PffC/3s/37vZyPf+Vfi9PfJ/DP/7nYJ93E9Z6Fmzif+fG9nK/I4+X4MTHf7jLn\
+e2tL8flyxsX9b/iX8uY7o8R8cny/mG9zmfPN2lx8Pjk+fROfr2JTefPFNxWfT45DGjpPoMXEdC+DVmdwUqkBHbFjiizoHHgo7KAYKJYo0NUUoAoCNMGECg7W+fWWX2QhFJQXOvFEF9co\
+xst0qEmmJ0MW77jMuVUBnqbpxQNyBEhLHBloUHj4q4OYaQqCDGQipbHmms9ovdwkU20AwqPVsItZwyZfyd9vgDVBkSDS4yOleXXu+s4J519fde4iqtUi5jhOW3ANug5ClWl5WlejLnlw\
+FVdnHRcDtyFjmZajJHci0+utxyO/oaamrr6mJlxfXR+eWFsbqYvUlrWW83vyL6Umdyk1M5MZSBxoCzbpyJ8apAMivGpIpk4GPmZKgMIDqBvUG1spM7MsqqP5ia7NJbrW97rnI1o38wvU\
+7NC/KBQmWq9L2086hVwHhXSlZaGn8h6fSH7qSR5s5fzl/2zl8ufdrbwfxBn3cb9K0328vteW+0R9hV9w/Lvu4/j338f7Q39+H/cLjbqfy3+Jv0fg/8f7Of6r7+dx6w/cz+X/OyXw7xb4\
+1/+C89/dWzk/fXEr57//cD/nr/J4Od4g7sfQreXN99x9xeeT45vFfD1lzvcfW4vPJ8fh+asrIF/qPPdq1C9kpGvadCWwxIvb1ZMBk0LXLTdcyfwaKH5kTkC3MR5d1jszXv5Th58t/5Ut\
+dOpzl1yvmNyslJNw0NVin22bDTp7vO17K6IcNNmy6vDyOIFVgOaGXMIaFGFT40mXCBvvE3a2rffTdWwbVoyKZkz8WjILlU+TENUGi9GMWdaqMvw5WICqqjyZqG5I/qXsfpA/z2Mf4nGm\
+9Q9xftb+EOc/PyT4ewS/9hDfV1//IH+e/+sh3h/o1Ie5/t/8MLdnrnm4OP7pgv4X6fiRBP/fhzn/GvEI1//nPcLrvN35CN+H7xP0d4r5dj3M3989Apbjm8X5FQ+J+pAPcT/F0IdE/nyJ\
+87/xEPe7ynG3M9lNSpVna0NRdvoNtbRgzSY0pE0VKzSogdd0OLogEy8RJZQ2c9qgDG19ToQ9uuZpRQILMAtFyphIXX19fVWkji+IfsSqX1CVy7xyEBXlrUyHowfXBUNYOVgxD7/Wi1lm\
+o6nxxdZLU2lsZSw3XGq56Wh3VeBOAWxVDfo2dcUyWfUz4Ctwp6oCt0lrfMQaRNE9ZYqoQ+1BLa2q0G1E6gvcRk3qGMUvHhX1PR7lcc5/vY3X0x+5TfhFBTxrG/c39Dwq5Os2Lp+z23ie\
+9bptPP6zFP75Av/ANv7+vbqN85/R23lcfdN2zn8k/gaB//vbRd+X7Vx/u2s736d8YTvXFyX+6SXwd5ZYX1+J63tYjG9/lOtPJx4V9d63CX+JeB4kvNBRr0IvbtlcSQUo9E/4huivVLHJ\
+vNtdiVQ2o7eJumDvI6ULb2rDYqFSiCDZGp7YqbMuuaRp5jR6Zpt71NFKcGfUq+mOcVPR7gS+lr1uxlmoIzAx2RoqM3vOVRN/QLm14K3s6ujEEMGFXVCO1c7iN2tCFqunE7DI1uFHmOmk\
+TlJIE21RKFMBtPsh5rovOguiw0m6dNpmPJnowHqL6ndIttHo2q1sCi12xsZYUkoiOQGCG7Agn04ZMgSoa4w1SdPWrHlzfULgoAz0TKEBKoaKE86ZPbUdighjVbCQlYLS7y4k5QARiD1k\
+CvLDuYaQCRM6nXhKsZW/b3MW/X17No47RfMf5/zik8d5HNLf7OD+0u/s4PHi3Tu4fvHMDl7/aajA/94Onkd8dAeP0xr7BNdf5j/B8x8l/v2P8ef7wSe4/rXrCc4vhj3J97XOE3D6Sf4+\
+dz4m6nQ8yd//557k9aO+8pSoe/sUn//2p4S9J+jve4zzg1uf5PrI7U9yejaI8Z8JWJ5/WKxn0xNcX7r/CVHP6HFRD0/cz7d2cPwfPy78q2J8++OcX/U8Lup9i/EPxfy/EfjlfOWer96T\
+qFZIdLHvjKeggFmiC5RSZTpdYNp4IfFXNEXMCdrtouxM80MwWxCLgnrlSxuN0kC53+TcyzjlGCXqdY4nA0YJ7Jfhrj4cY03Iw3Kn4hGKc41p62pvVxYtfRRfKyl94yAvGzbuIIoIvthy\
+YkwA12dOmABak7fiVsWNynclRcCxG7aSCwov0ulJOTFl4lVWmm/WnLlNc5sbaUlaXW3rQlECLTHUPcEDMEtIH2WZq6AZPdRy0uqivkeGlRr9L2RRZUKNR6l33Z1dsU5PNwbpV3yV/mom\
+0AJgBzSviKQ1Ac4xUFMw5bRFM6T80iNEP4NOKgwHspoTlMwV1HEbdRVs329sToVrS8IH1glWCkS5621D4/esBNl6vo1FEM+2WcnksLLW0cmungCYNQTFaLUUnllA/4UiSWPDube/srJc\
+hwe8/8/w9/+Hz3J98J5nuT765rM87uG05zg/n0vwN4w8Evh7nuNxCbc8x/svvPYc77M3dheXd3N3cXlz+GnOX3t38biJ1bu4fHx+F697dMrzPH9L0t/wNKe/8nnOfxue5/b+Vc/z/cx7\
+nxf0C/z7nxb+PjFf59N8vmXPivoFAq5/nsOS3qrnOT+X58vjJTz9GVEP7xmRv/VscfwSzu4S/SYEvF/Mt17M1yfG3ef4/OXSk3pO5C0IuFMcP/5ZTk+FGF/+LNcXyqWnRxwvYTeTjS1A\
+UXhlm2IR8SRB1tTpsy5Sr7zius0tcyx9WHKhX5HcdNFVrBI9flizO9CiKliW3w6a1LY28C2s0sZaNBJnzQ3HqpJBWKb3ekpa88UDTOaimoCsSwkApDzfYmEMGgYE93fwYOpu0DYJmCxJ\
+EhywLQ2RszShiy0CIzcC3tM4aPW2Pk8XtoVDG22vswTt69FZTk/MSQVLRRXzZuSuv5iEi0OdqjwXAH4Pup7oHkOZgcAzgLdYGWZQUYludFDkUZ3+nPZYID0KdhEYpCCHC4w284QoTaeR\
+BxPHglkxxsKEh/ZP2J4LZtEMxl9Wmxsg2LKb84Ehe0Sd0D28ft/UPTw+e94e7sfJ7OFyILybv/er9nB49R7ut35xD5fDf9zD6/Se9wL3mw8R+OMv8D5Ki17g9K19gftxnn6hOP4Ru7kc\
+jr3AYecFbtdMLrHeI2J8p7j+S3dzvjtMnF8KlvfvSwIudbyEUWXTbqCAG0fbONEFgXJVrjJaUHU23lNQBtGlkuv99ZxEGWwv5ceSaSzF+OP5XqVxY4Bh5IZ+i+02pzXbYRvN3PQB1wkl\
+WGDBMYcTR/QlAJxJvhEbnTVlmSjXBFRUjcrXUTmnmwajHVT2HAgZk0gqiyuTTPcqSulbkHjiIxAcoa6W1RqNLbBbbbp0AHleaC/vuCY8sW4wuwZyFa35V4Hv/17+3CT3cvnfvZe/97fu\
+FXmge/l+0kt7ub47VOD/WOA/vlfUt36J65/Jl7j/SeLf/yLH//hLHP+zL/H9uaMv8bzS";
 
 /// Part 3 of what a page ends with: the app, and the machine in it.
 #[rattlefmt::skip]
 pub const TAIL_3: &[u8] = b"\
-9uaMv8bzSIQM8rlji3yzwjxjg+CsGOJ+bO8DjGa4f4PaJxN8j8N8h8P9sgOvnhwa4f2zIy5wPSvzTBX7rZY5//Mv8+i98mdsHP325OP3zXxT1v/dyf/M3Xxb+rxLH3z4g/N8ljj9dHH+\
-4xPGPvSTqJ+wtfvwR8fxOL3F8QhyvHeBh/WGF23S2hVJEyDHcDe3ItD1uSjxB/Uwo0xWizhHtrCsPasa+f2GRrtdU0v8eIQoixnnFnCLAcRVlUMObXBywm4ZHOIlMvDdkFClSmaGnj9G\
-00k4KpIDWVvTWQbC9HOp79p/R71VFK6kKcH0jOcyF09aBvpxwhWFO7if3ITflOG3VhLRad1eAO4MBBugoavT3E5x0miKoSdW2jTNJ6Z6ycI3tt1L0mnihdCqaHV1DpNSw7ZlApcS85Nj\
-6MO2zwc0WW+7osL2VEvs5tURELe2psB0UrJyun9n8tOjQMqAE/YM5F8bSB2BPIzmkzyi4u7L/Vf7+XbiP96WbvY/rfWv3cX716D7u//liH+effQJ//Wsc/5TXOL9f/BqXf7cQ/P0C+Bs\
-E/hMC/6mvi3iP1/l+a8frxfEffkXUS3md4z/0Oo/3/vZ+Lk+mEJwogH+9wP/0fo7/P/Zz/MP/U8Nnm+tJcEsB/LsF/u2viP2f/Xz/ajydf6qJx9sv+Lu43kNf5ePPvM7jZSS+p18X8S0\
-C33yB74PX+P6UxPf+a0K+CXybBb5vvsb9gxLf3wl8Q/eJ+ACBr2ofjy+S+CL7RB004w2IXBSPO+qVnAP8vNn86g1b+ccbTdGKXivutAeaJYdYIxzKvjZtFtJRREkBasCW8KRoPNdVE85\
-11eie1INw1Uxpnt506UWz5s02ApOIdsdU0WKaqCdPnvUWPKTRas3GF5jOGVoERHnsdNjPrZflO/yUQLkw6jE/QQ2kYAZcpPolN8CEpwxdBB3t09mUEtF5lpF3uFEnaNGAuQ/gjMrC7pK\
-WaNGujJ1RgmmGHbxRWFozFs0oi9ANlpQrvC5dJgfvHJyMi1TrqiqxrpopaUgbo6IpeVZW4ABdvsRUSYEKK3gYPo+tiqwFyu51oonuTiVsbCozNMW28IsbPDdfVXK5NgNlsQ4Q1b2EG9e\
-KN85vy90qV2uJ5LXaubrEZp6F5gw18kKn+qs6QIc6UPNYL0cs7riuPp7SxcJeR8SemcZBZSz8wSw6Z5lF3sMhQw9wfjPlAJcnlxzg+U6rD3D7c8cBXn/4+AEuT/b/kuMf/QbH/603uDz\
-KvMHr1d0jYIl/s8C/T+A/+Ab3s1W8yfPfvvMmt+8k/u2/FPlIBzi/fvUNYf+UOL5CHF9xoPjxTQcKyIM6/wGsUzpgbIEFISeYghiFLuJgZ/RSridxb80L62q8EuhJb2c8tiCK5dZg71m\
-X5tBI0BYBRN6AAgqUBAOrKk+8XV1tOZy/3l9WfavCrYjKptUbBcSZWraaNiLM/JghLRv78WGkYFr9jN74NHUy0JfGcEtcjUJrLlXwZ407/zrVKQVepgaf9gYyL/U98Tu7atOFygIgfsU\
-a0K2kBZQXAx/8LXDxdQnTvHTBRUgHtnu9G9AQmVid46DuPyjqb73N4W+/zf1Alwr4B2/zfd6db3M/lSXwv/k29+f+6m1uB0x4h/uPL3+Hx0FJ/Dvf4u/Funf4e9P/Dtfbtr/D5/uLQ9z\
-vIvEPeYv7iy84xOFLD/H6VPcc4vVOPjnE55P4HxD09wt4lYAnv8X9x2Pe5uOlYEn/WHG/Zx3i9+fiQ3w+ef7ASdLz43e4f17Ss+qgWP/Bk5vvDQHL+eT4CAHvPMn55fsl55fjyQVXVla\
-ih0W7qWMo71GNCFYe7sDOM15uoNx4hV03sOnR+4FpG1R3CXG2dbUViRiJ/Ml7rd/9rnVp04x5zQHygRfib6DWJgP93KDiOupEXp14sX+IuowXRkONOL1YeXUdKHRTNogrVBi0yJrUtU0\
-aOgXt7He9hao5edyLUdPT0cGhQKF4zKe11Y823AvTFbsUnYadF1XC4eJgs3XU3BMdAUHT6kAoLUSsRiHDCGn0Owf5lUHHB/dE7FmtVzmxTCUaF2cr3bUjqdUESPjJQFc3aPGtL4u/QF3\
-phe2aB3V83NNKd/1Zt/qHPPBrzj8Sh/n+ZM9h7od6/DDXY784zPnz9Pe53jdC4O94n7//6fe5/Nj2Psf/R4L/p5EXH3D+n3qP409/IOqtf8DjjnZ+wOXjbz7gequkf+e7HH/Dh/z6TCF\
-4BsErP+R1ox/5kK9P4rffE/z5Pc6/jrzLr9eCw/z4UnD1h2K/9DDHL8fl+aEPuTwb8muxXyzo73/v5OiV90/S2/MBp0ce3y/oWyXgyb8+Ofrk8yvpi7/P6ZHHtwh8YXH+wZOkr/1wcfr\
-kuDzfPszpx6LRLv5FQQqSYuqsac1GagDP6ebxNjhOuRdoKOA3NOE1X6NW2zku84ATzgaOawfsABTCWvRGcQL0brj/vxxpDjiR8I+bTzbAZpP6ZicTTW2LoomYYxurKcSkxDiXTChbWT8\
-yxkdfUm1r6Q5cRiZoJ6Ni/fkdN4HyW8o40wRYY6tKXojCFlgxrSSb6O5KtOm/bjR41xZG25ygjRZ3oOiab0gHDcmEuRC5rjd4rIznbRCBXNpeVlqWfjjTQZON22uEFD/wDz5IUSVYE21\
-xB924C/I8yszuNII8o2tA4aOMjyPsBtWb1eiC115beHN3aaL864BT4ab5yxAqS3W+ctctvxP9QY7wffFrjnD78uEjXP69RXA9wWd+zOXTwEecf0z8mMvD73zM80Qu+5jHKdz0Mbd3t33\
-M5XeLwP/Kx9w+ep3gNMEXHeX4rjnK66dJ/Et/y6/PU0e5fbv7KLc3v/57bo92/p7rNxL/5I8EPxewJeAhYr1Hfivq5Qp4x1F+vf+XgB8VcPIIP1+OP3hU9Ok6Kup7CnpTH/HjJf5SsLy\
-fqSPF7/fk3wn94iTnl8+rnL9WzN8izp8s4LCALQEPEfgf+N3J0W8fKU6/HJfnLzjC19ch4JiAJT4Ise1yXPiAOGelA6ivyPEgGqw44wxBwc0A7+yClrbRtpNn+Xk4fVV50rzNBdekT5q\
-J1O21bOC6dvE4ZRblXCqPpmwB26WuacBsbuvyYkB0CU8/inhcxosghvbdIa+KfWDTBKMIe2ba1CtEUesVz2Ox2RQYsxDD9kxMoomVRDFnQ90ginaorBxkkjhbNRRSgv/dc1Phc1vDE1r\
-D6kuOn0CTFTXlVNutVLjRsjucDFZgtWGl5M529bmTLFths3XEpjaQLQUr9OS68eKaaQbcKguqUnhJ9B4ZVLCGPTMvWAkuYz6LO/KnKZpmf/tTkU/xKecTd33K93M++pTLqcnHuBy8+pj\
-In/mE419xjOO/+xi3s98jeB7Bk47z/ByJv+cPXK62Hud6x83HuV287zj3I0j6Kz4T8SV/EPErnwk58RmX0ys/43b83s/4+v72j1xP6fwD55PzBTzpM3695PzjPxH7TwIeKuBjAv9hAe8\
-X8A3H+fxLj/P5e49zO9g9zu/HVce5niPvzzFB32EB7xdwzycc/0+P8fFy4TXH+Hr6j/H7fdsxTr88Xj7PPZ+K+BYBzxfwdAGv/5Sv71bxPq4Q4/J9xWBE/IMV7zL4xyV7FcxDnWHaaOL\
-t/A1CZEmYm2hXWZmIFba+qww5YIwRW6bdQppJKCBSQ77Lt1vwOCU29P53ykl3RlMQ6AestxGsam1ug5yx/6ySC2lMOx2ucSK75Hz3vNB4hXIvglmNZq5eX2XdZdOJxwM1a+MmvD+wcgc\
-TXyECIZtwQ8CDwSav11dHb+oCJl1vKWN8y4PMmTEhA4FPuMAmd1WJIRRFJrlWo0IpqpeG2642RkKcU231VNmT1B/jbfdMfzytapyOacBtV1O0AdaQ7NaBHdpXbEI2KzFZW4fiBLN24F6\
-UKBIMsh7+D9aLUbO6uhE4SXrKNkokrKxSMuIoGqNY91BnKOWmIQXTyHWa9YQJqFaMw5qDrclWdQkqK8dR/pYexHhIaBI5c7DhtcFZKJqWplG4i+fdDnwu9P0THG4/weP0HzzB7b/PTnC\
-5ct4XvC7Dqs9F3eAvRF7kFxz/7i+4vfwpwUtMfhBFZJo6DuHPuX6+isYN/o0Emzzejwg29v23/0LDpt9DjGCvX/1/8+txLY0b+HZx/n6CTydG+uu/HMnk8Li/GsnylazPxf6ggIcI+Mh\
-/c/gWms/EpSwn2NTpWErwXxWgf6nAnxKwLeA76PoZvr9WwPL67xTnPyDg7i+Ev0Y8H5NPCHtTwJaARwj4yhNcL7j8BJ9v7gnhjxbPPybDw/+wPZhc6HZm29vjjhf3h5o0hkrraIpoIpD\
-zB2xQO8tcqD6qTwn5P+CRNsuUJx6BM1qRykpItbJ1Fr9rdRJfA64OE0QwAwsPVXzzpHnF+fXEK5rnzL1o5oWmE4QyZdnK9P4wuP0wKH8MhHX26j+BkCBlOebrv2cEIQTfe/lkfpVAkIm\
-6bINifU4HWg+2d5Kr6z1mev0ShxR16hbdAIyymL1WBsXQx5izOVjQdrEyVVZuFB9eN91gQl+2JiALCnZgHVn847Z2JaLpXr+FtpIRWHGokfUmhzJBUP4nUHVE6y0oPfH5gHxZ7Cck4ul\
-hMNjanAlAfW11XdsyHxWgSj8q0KS7o2ATd9gZUf93JdTTkEVvthv4HjW76hiD6v1M2bya0km6C32elNqczZHZsy5TFi5GZcHm9sLkIujxpMz0Vmjyqa7P1VarUgpa4zquCwO9wNFC4V3\
-aZQKb4dBE0QW9yIm3Wxi0Cn+UnggPoI7Ixach1ebgL/Co6JBWy0S2miboKfVUwsa+ttRTpvdUSj+ksImfQExQ+xKHoTVICnugUMioibGkANWYDmK1YrQPb8VkXPHg7iA+HhMm6IvrJTo\
-qDePCeU0XNtNNDNyTTLQ17mBqwsCXRjJ+epRgk7dwxt9ouMvIc4JNXOS/EWz0hRMEe/FKAv83ThnJ8i4mEGzqBq89hcvbVwieUQD/KoH/rKEjmd13NsGmf3yMYJPPvJrglgL4B/6ay7+\
-P6Hgjb/5AcKvZDzh1JItzXUaw8QPsOpXrH0sF/SkB2wJuEfBkAYcF/MFQrg+8O5TL718N5ccfEvA7An5bwP1ivm/SuNEHd4rxr5/Cxw+K8SNf4uOpsDIMkfNaLU2z517UPMeCrpuXNk+\
-z5s2kb16ACtoRaJQ1auMn4EUjD5rmtdQZCN60EIpdzGbAnknmXYbD2IgSb0otcDqiGTVOJAWq3vLevhi7AgXgEtHMIMNXBr1rW8AYbQ23hq3Lmi4C2W5NmT3re80z/Wid4JXxVhUs0eG\
-tGwPH1bo6nISj8zlCZEx6Vmcg+B4j0SNRggNtgzUrorgxHUqkjSqKzfci8wO5BiVj0/NG3PMtz3CMHKzUfTe4cLjrSnfJOpNYb14MqCdPMhiaNkiMqDXVtih7Ux+LfmAQJDjkCW+Pejw\
-oljf7AwOz4FT1LVbCZ3zt2Maz3K6OhAt/rrXGWo3WWbgICM3rwiRJo3eBr0VrU2BHa7v7WpucAvZY27NeG+mr9i8o+dyRtOC+2mfZdKu4LpfjLDeXB2garAflT6uTOuIr3N5JDef8avd\
-wzr8/Idj4Raedzvm3TbDJm1r1Zc4Ps6dz/D8h2NSBf4vgNoKnjuD26T+M4PbekdM4vmUj+HwbR3B78W2Cv1cAf2ikhr3+h6dxfBeP5PIuNZLLs50juTwthf/gaZwfDwh4p4D7T+P82hn\
-J5eWCkfx6zCfY1LmdLY6X61n6ZSEfBWwLuEXAkwX8kxEc/2oB/3AEp+emEcXv55CvCPkl5jso4AEBrz6dz99HsPEDX0Pw8ALPqz1crF/AkwUcFrAl4BECHiLgI2K9BwU8IOCdAn5qOF/\
-fowLeMpw/H/1ifJ2AVw/n9+tHgl/cOJzra73Duf8kO5zfT8lvsNAV/ulNxBSrTHRd47QtVB+ZZHphVglexYC72nv136Z4PJZMtHWB1JztQLZMNJGZoU6e4yyMpjqVSdvcE+uMJjqUZJW\
-duHGOkEWoMb/fNWe5wb05XSEwmjGNIJGpk+h0vZp/nsVLG5gBAWrrHHI1JxlsfjkuVxcEvrjp0iaqTKlMK3dMHLaqsSfOtGR3YgbGExlIaVg44uk/ZL1icj3m2/MTTQtf8yNZjORXsH0\
-VqdqeBMsgtchzkrSpc3DArAdyKY180yqGNs/SEYxe1vHf4ZAv1NjyWSOZQVlNVyXBulXKY1vUUXdrdjaRgN+be5xYVt25oJcYfDBo3pomQWTqe9UaXBMb6HpuadvzaiRgdxqqEVDbSte\
-T/JO8OsJ62e2UH4iFNP2A7TzLmdaVdmKgwLpjFiXVbe2KO9FMcmFXrAn/QlKpejhNZek2J443C6oAkTLkbbtgYRsc8J013ekk6FmgCWkjX11cM426EY5SrGytJ7nZhXB7QdNStxAgwm+\
-8ITapSzjkKVuK33yNv69rzyR/rMmnOZPbp28QbPIMR4/i+kDlKC6/h3yN84vvj+L8oIfgi00eOsEm3+jzUVy+jqrgsH0Gxxep4OuZUcH92T+p4PqBxP8rGjd5iUu/yukfOprjH0uwZfS\
-B0Vw/uJ5g02funtH8+rScIeSLgMMCtgQ8QsBDBHzkqxz+u9H8en1drOdMAZ8xmusjp4vzvzya+8vl9Tki6Dko4AEB7xTwAwK+sILPP0XA36ng8qu2gt8/+XwMfE3ML+AHBNwv4FUCXir\
-glIAzo/j88VFcX+kQ70dMHH+lgOX7NGcUX2/qTKHPnMnvZ1jAlji+70x+PZeeyeldeSafT46XOt9NZdNdyazbHV3gZFP6r2t+tDScSHrR366XZwqpS1EXkrxdh4LAYHPVhMqCDzOKRlx\
-uhUKUUUkj/EFg2riXbZK8cZPZk2r+1G4yx299GfkZ0eOvxcSYjFIcIAcI9Af4A13rseWx6XsMDkyjbIB01/4CarPkt4ZGUWZ8oqRWaHc+7erqEzwRr8+q8jo/q1nsUGB7N1gSUx9TQnK\
-LALi5sKAxsL+c0Yn2Tk+qK93rxh0n1QvCiCLHFHLXdcxOjtkdxkCq7s6kiYA2XhDc9eZJ+i74mW2RPq/r6KT8H0FPsdKwHe73I7GhJZ2t75b6Nk5reCXuGkw5Jp5MgjcaQ7fakk7cdTq\
-SmSRGX0ctGNQls6/Kgq8cAgIwew7H7WiHUisarUoT3AY+dEWgIg9HoIh0a8LBD+dqvQ5wuetBfQ9y3PUKh24NlUw4g3Y+w36gLsN0ZVVluDI8zE1m0xB/19oWDYedaLStJhJrDdfGwuF\
-oa6zWiTa01zqRiRPDdTVV4YmxcDTS1j4x0hqLxhoaog31rdUTq6oj7TVOdJiOVtA3nDIJdJGIxoBbrpE0xWvP8gpGYXlFv2NfxvhNMpY1Hp5F4yY72xrvOQozVqP6z3Or6K84tdOoy35\
-pH4o63Y8XDVQHN1GHw4adfy4caC4pbMtEoNo2fqm2gv+ifO8n43XWwnUM80JesMshItFfGwIovCaIBU7Gvup4Ln6bWGB+f/MPDgucT2qrRmGAOn1+d2evFbQYdJEqrz/7eN3T/WwPV6B\
-htUIW6KKMtHhwoaXgy4an4rcGsRQMmChwKpThDWnfVc6/kt2JPCymnBdW+ApRPxNUay3dlk6X4TLxtlTgl66xhyXQBiHkFYKzzBUFfzfVXLOpuptPgCnDH/KePP+fPtVEABNTgItCSUj\
-A100ZugAtkOyjK8jLf16xXXFRQ5r14QI8RJgsg69JCAsKBxFhxyjPWBoWjOQKkVdZvTEhuLFsMVEeFeZ62bMBApDDeyjpoqKnOGSllL0IF0Bj7pZlgskvDPIALRMPy/nQvNYUDRUXRd2\
-ReJcW+FQX1X/GqMogPttUwC3wmjp+RcBheXLH4KxA5hidQrCuj9OLQrLRkhVn/BckGo2GTP1idj2tnP1ckEFtxo70MKDDv8A/LTWD+8ZUDlY9qgF2gw4Q9DWELLCyfTrwDlwcXQS5S7S\
-FA4+G3osATMMsa5ZO8VYc3sJDG2nySyBvjoDmRaix6N+TwJ/p954o9LRvhEcXGWqOWR5C4WvEnp1HxLUEGPKY4qb3oAQko3y6E0/RV5/W4BJa4hhoqNmIH/RoeyWtFyS0WuVSUcNK6/J\
-kFkVV1F3QOMzk9xq91+i75nfjjzd+M1PHzejRyXH6l+voczh9WvRZQ5/T6fMfx/G84qECn4FPFbChz6Hzs/R5Cn1W0Oe59DmZPufT5/Wn5/9ccpr+XEqf0+jzB6fx+DNjt3h9GWh8En1\
-Ops//B+p6pek2MAYA</script>\n<script type=\"module\" id=\"script\">\"use strict\";\n// app/language.js\nconst m0 = (() => {\nconst KINDS = {\n\
-__proto__: null,\nhalt: [\"\"],\nldi: [\"rn\"],\nmov: [\"rr\"],\nadd: [\"rrr\"],\nsub: [\"rrr\"],\njmp: [\"L\"],\nbeq: [\"rrL\"],\nbne: [\"r\
-rL\"],\nblt: [\"rrL\"],\ncall: [\"L\"],\nret: [\"\"],\ntry: [\"L\"],\nendtry: [\"\"],\nthrow: [\"r\"],\nout: [\"r\"],\nlds: [\"rC\"],\nsts: \
-[\"rC\"],\nself: [\"r\"],\nintr: [\"T\", \"@.interrupt()\"],\nintrd: [\"r\", \"Thread.interrupted()\"],\npreg: [\"rP\", \"register()\"],\npb\
-ulk: [\"rPr\", \"bulkRegister($)\"],\nparr: [\"rP\", \"arrive()\"],\npdereg: [\"rP\", \"arriveAndDeregister()\"],\npaaa: [\"rP\", \"arriveAn\
-dAwaitAdvance()\"],\npawait: [\"rPr\", \"awaitAdvance($)\"],\npawaiti: [\"rPr\", \"awaitAdvanceInterruptibly($)\"],\npforce: [\"P\", \"force\
-Termination()\"],\npphase: [\"rP\", \"getPhase()\"],\npparties: [\"rP\", \"getRegisteredParties()\"],\nparrived: [\"rP\", \"getArrivedPartie\
-s()\"],\npunarr: [\"rP\", \"getUnarrivedParties()\"],\npterm: [\"rP\", \"isTerminated()\"],\npparent: [\"rP\", \"getParent()\"],\nproot: [\"\
-rP\", \"getRoot()\"],\ncawait: [\"rB\", \"await()\"],\ncreset: [\"B\", \"reset()\"],\ncbroken: [\"rB\", \"isBroken()\"],\ncwaiting: [\"rB\", \
-\"getNumberWaiting()\"],\ncparties: [\"rB\", \"getParties()\"],\npawaitt: [\"rPrr\", \"awaitAdvanceInterruptibly($, $, unit)\"],\ncawaitt: [\
-\"rBr\", \"await($, unit)\"]\n};\nconst DIRECTIVES = [\".phaser\", \".barrier\", \".thread\", \".cell\"];\nconst THROWN = {\n1: \"IllegalSta\
-teException\",\n2: \"IllegalArgumentException\",\n3: \"InterruptedException\",\n4: \"BrokenBarrierException\",\n5: \"TimeoutException\"\n};\n\
-const ARRIVES = new Set([\"parr\", \"pdereg\", \"paaa\"]);\nconst KIND_OF = { \".phaser\": \"P\", \".barrier\": \"B\", \".thread\": \"T\", \"\
-.cell\": \"C\" };\nconst wordsOf = text => text.split(/[ \\t\\r]+/).filter(Boolean);\nfunction readListing(listing) {\nconst read = { phaser\
-s: [], barriers: [], threads: [], rows: [] };\nfor (const line of listing.trimEnd().split(\"\\n\")) {\nconst words = wordsOf(line);\nconst b\
-ehind = word => (words.includes(word) ? Number(words[words.indexOf(word) + 1].slice(1)) : -1);\nif (words[0] === \".phaser\") {\nread.phaser\
-s.push({ parties: Number(words[2]), parent: behind(\"parent\"), routine: behind(\"onadvance\") });\n} else if (words[0] === \".barrier\") re\
-ad.barriers.push({ parties: Number(words[2]), action: behind(\"action\") });\nelse if (words[0] === \".thread\") read.threads.push({ row: Nu\
-mber(words[2].slice(1)) });\nelse read.rows.push({ word: words[0], kinds: KINDS[words[0]][0], operands: words.slice(1) });\n}\nreturn read;\n\
-}\nfunction readWritten(text) {\nconst read = { names: { P: [], B: [], T: [], C: [], L: {} }, lineOf: [], questions: [], head: [] };\nlet co\
-unt = 0;\nlet isHead = true;\ntext.split(\"\\n\").forEach((line, number) => {\nconst cut = line.indexOf(\";\");\nconst code = wordsOf(cut < \
-0 ? line : line.slice(0, cut));\nconst talk = cut < 0 ? \"\" : line.slice(cut + 1);\nconst asked = talk[0] === \"?\" ? talk.slice(1).trim() \
-: \"\";\nif (code.length) isHead = false;\nelse if (isHead && talk && talk[0] !== \"?\") read.head.push(talk.trim());\nif (code.length && co\
-de[0].endsWith(\":\")) {\n(read.names.L[count] = read.names.L[count] || []).push(code.shift().slice(0, -1));\n}\nif (code.length && KIND_OF[\
-code[0]]) read.names[KIND_OF[code[0]]].push(code[1]);\nelse if (code.length) read.lineOf[count++] = number;\nif (asked) read.questions.push(\
-{ row: code.length ? count - 1 : count, text: asked });\n});\nreturn read;\n}\nfunction readProgram(text, listing) {\nconst { names, lineOf, \
-questions, head } = readWritten(text);\nconst program = { text, ...readListing(listing), names, lineOf, questions };\nconst about = head.joi\
-n(\" \").replace(/`/g, \"\");\nconst cut = /^([^:.]{1,60})[:.]\\s*(.*)$/s.exec(about);\nconst isName = cut && names.T.some(name => cut[2].st\
-artsWith(name));\nprogram.title = cut ? cut[1] : about.slice(0, 60);\nprogram.about = cut ? (isName ? cut[2] : cut[2].replace(/^[a-z]/, sign \
-=> sign.toUpperCase())) : \"\";\nconst registers = p => program.rows.some(row => /^(preg|pbulk)$/.test(row.word) && operandOf(row, \"P\") ==\
-= p);\nprogram.children = program.phasers.map(\n(_, p) => program.phasers.flatMap((one, n) => (one.parent === p ? [n] : []))\n);\nprogram.ev\
-erParties = program.phasers.map(\n({ parties }, p) => (program.children[p].length || registers(p) ? Infinity : parties)\n);\nreturn program;\
-\n}\nconst nameOf = (program, kind, n) => program.names[kind][n] || { P: \"p\", B: \"b\", T: \"t\", C: \"c\" }[kind] + n;\nfunction operandO\
-f(row, kind) {\nconst at = row ? row.kinds.indexOf(kind) : -1;\nreturn at < 0 ? -1 : Number(row.operands[at].slice(1));\n}\nfunction rootOf(\
-program, p) {\nwhile (program.phasers[p].parent >= 0) p = program.phasers[p].parent;\nreturn p;\n}\nreturn { KINDS, DIRECTIVES, THROWN, ARRI\
-VES, readProgram, nameOf, operandOf, rootOf };\n})();\n// app/names.js\nconst m1 = (() => {\nconst { KINDS, THROWN, nameOf, operandOf } = m0\
-;\nconst PHASES = 2147483648;\nconst phaseOf = view => (view < 0 ? view + PHASES : view);\nconst threadName = (program, t) => nameOf(program\
-, \"T\", t);\nconst labelOf = (program, row) => (program.names.L[row] ? program.names.L[row][0] : \"row \" + row);\nconst strong = text => (\
-{ strong: String(text) });\nconst hueOf = t => \"hue\" + (t % 8);\nfunction listed(list, and = \"and\") {\nreturn list.length < 2 ? list.joi\
-n(\"\") : list.slice(0, -1).join(\", \") + \" \" + and + \" \" + list[list.length - 1];\n}\nfunction spread(list, and = \"and\") {\nreturn l\
-ist.flatMap((one, k) => (k === 0 ? [one] : [k === list.length - 1 ? \" \" + and + \" \" : \", \", one]));\n}\nconst OF_ROWS = {\n6: [\"the s\
-tack is full\", /^(call|try|paaa|parr|pdereg|cawait|cawaitt)$/],\n7: [\"a return to nowhere\", /^ret$/],\n8: [\"the output is full\", /^out$\
-/]\n};\nfunction thrown(code, row) {\nif (THROWN[code]) return code + \" (\" + THROWN[code] + \")\";\nconst [text, words] = OF_ROWS[code] || \
-[];\nreturn row && text && words.test(row.word) ? code + \" (\" + text + \")\" : String(code);\n}\nfunction objectOf(program, row) {\nconst \
-p = operandOf(row, \"P\");\nconst b = operandOf(row, \"B\");\nreturn p >= 0 ? nameOf(program, \"P\", p) : b >= 0 ? nameOf(program, \"B\", b) \
-: \"\";\n}\nconst hasSeveral = program => program.phasers.length + program.barriers.length > 1;\nfunction callOf(program, row, thread) {\nco\
-nst call = KINDS[row.word][1];\nif (!call) return \"\";\nlet at = row.kinds.indexOf(\"P\") + row.kinds.indexOf(\"B\") + 2;\nconst object = o\
-bjectOf(program, row);\nconst filled = call.replace(/\\$/g, () => {\nconst register = row.operands[at++];\nreturn thread ? thread.registers[\
-Number(register[1])] : register;\n});\nreturn (object && object + \".\") + filled.replace(\"@\", () => threadName(program, operandOf(row, \"\
-T\")));\n}\nfunction operandNames(program, row) {\nreturn row.operands.map((operand, k) => {\nconst kind = row.kinds[k];\nif (kind === \"r\" \
-|| kind === \"n\") return operand;\nconst n = Number(operand.slice(1));\nreturn kind === \"L\" ? labelOf(program, n) : nameOf(program, kind, \
-n);\n});\n}\nconst rowText = (program, row) => [row.word, ...operandNames(program, row)].join(\" \");\nconst STATEMENTS = {\nhalt: \"return\"\
-,\nldi: \"$0 = $1\",\nmov: \"$0 = $1\",\nadd: \"$0 = $1 + $2\",\nsub: \"$0 = $1 - $2\",\njmp: \"goto $0\",\nbeq: \"if ($0 == $1) goto $2\",\n\
-bne: \"if ($0 != $1) goto $2\",\nblt: \"if ($0 < $1) goto $2\",\ncall: \"$0()\",\nret: \"return\",\ntry: \"try { // catch: $0\",\nendtry: \"\
-}\",\nthrow: \"throw $0\",\nout: \"System.out.println($0)\",\nlds: \"$0 = $1\",\nsts: \"$1 = $0\",\nself: \"$0 = Thread.currentThread().getI\
-d()\"\n};\nfunction javaText(program, row) {\nconst call = callOf(program, row, null);\nif (call) return (row.kinds[0] === \"r\" ? row.opera\
-nds[0] + \" = \" : \"\") + call;\nconst operands = operandNames(program, row);\nreturn STATEMENTS[row.word].replace(/\\$(\\d)/g, (_, k) => o\
-perands[k]);\n}\nfunction entryText(program, entry) {\nconst n = Number(entry.slice(1));\nconst said = {\nC: \"call\",\nH: \"handler\",\nA: \
-\"onAdvance of \" + nameOf(program, \"P\", n),\nX: \"action of \" + nameOf(program, \"B\", n)\n};\nreturn said[entry[0]];\n}\nfunction plain\
-(program, parts) {\nconst said = part => (\ntypeof part === \"string\" ? part : part.strong !== undefined ? part.strong : threadName(program\
-, part.thread)\n);\nreturn parts.map(said).join(\"\");\n}\nreturn { phaseOf, threadName, labelOf, strong, hueOf, listed, spread, thrown, obj\
-ectOf, hasSeveral, callOf, rowText, javaText, entryText, plain };\n})();\n// app/ending.js\nconst m2 = (() => {\nconst { listed, threadName \
-} = m1;\nfunction endKind(end) {\nif (end.word === \"stuck\") return \"stuck\";\nif (end.word !== \"all\") return \"open\";\nreturn end.thre\
-ads.some(thread => thread.status === \"died\") ? \"died\" : \"ended\";\n}\nconst KIND_TEXT = { stuck: \"\\u25A0 stuck\", ended: \"\\u25CF al\
-l end\", died: \"\\u2716 dies\", open: \"\\u25CB open\" };\nconst few = list => (list.length > 4 ? listed([...list.slice(0, 3), list.length \
-- 3 + \" more\"]) : listed(list));\nfunction endText(program, end) {\nconst who = status => end.threads.flatMap((one, t) => (one.status === \
-status ? [threadName(program, t)] : []));\nconst waits = who(\"waits\");\nconst died = who(\"died\");\nconst parts = [];\nif (end.word === \"\
-all\" && !died.length) parts.push(\"all threads end\");\nif (end.word === \"live\") parts.push(\"open: threads could go on\");\nif (end.word \
-=== \"stuck\") {\nparts.push(\nwaits.length ? \"stuck: \" + few(waits) + (waits.length === 1 ? \" waits\" : \" wait\") + \" for ever\" : \"s\
-tuck\"\n);\n}\nif (died.length) parts.push(few(died) + (died.length === 1 ? \" dies\" : \" die\"));\nreturn parts.join(\"; \");\n}\nconst la\
-stOf = list => (list.length > 5 ? \"\\u2026 \" : \"\") + list.slice(-5).join(\" \");\nfunction outputText(program, end) {\nconst said = (thr\
-ead, t) => (thread.out.length ? [threadName(program, t) + \" \" + lastOf(thread.out)] : []);\nreturn end.threads.flatMap(said).join(\", \");\
-\n}\nfunction threadEnd(end, t) {\nconst { status, code, out } = end.threads[t];\nconst word = {\nwaits: end.word === \"stuck\" ? \"waits fo\
-r ever\" : \"waits\",\ndied: \"died of \" + code\n}[status] || status;\nreturn word + (status === \"throws\" ? \" \" + code : \"\") + (out.l\
-ength ? \", output \" + lastOf(out) : \"\");\n}\nreturn { endKind, KIND_TEXT, endText, outputText, threadEnd };\n})();\n// app/elements.js\n\
-const m3 = (() => {\nconst { hueOf, threadName } = m1;\nconst byId = name => document.getElementById(name);\nconst childrenOf = list => list\
-.flat(Infinity).filter(\none => one !== null && one !== undefined && one !== false && one !== \"\"\n);\nfunction dress(element, classes, giv\
-en, children) {\nif (classes.length) element.setAttribute(\"class\", classes.join(\" \"));\nfor (const [name, value] of Object.entries(given\
-)) {\nif (value === false || value === null || value === undefined) continue;\nif (name.startsWith(\"on\")) element.addEventListener(name.sl\
-ice(2), value);\nelse if (name === \"vars\") for (const [key, one] of Object.entries(value)) element.style.setProperty(key, one);\nelse elem\
-ent.setAttribute(name, value === true ? \"\" : value);\n}\nelement.append(...childrenOf(children));\nreturn element;\n}\nfunction h(kind, gi\
-ven = {}, ...children) {\nconst [tag, ...classes] = kind.split(\".\");\nreturn dress(document.createElement(tag), classes, given, children);\
-\n}\nfunction s(kind, given = {}, ...children) {\nconst [tag, ...classes] = kind.split(\".\");\nreturn dress(document.createElementNS(\"http\
-://www.w3.org/2000/svg\", tag), classes, given, children);\n}\nconst fill = (element, ...children) => element.replaceChildren(...childrenOf(\
-children));\nfunction button(text, onclick, given = {}) {\nconst { kind = \"\", ...rest } = given;\nreturn h(\"button\" + kind, { type: \"bu\
-tton\", onclick, ...rest }, text);\n}\nconst who = (program, t) => h(\"b.who.\" + hueOf(t), {}, threadName(program, t));\nfunction shown(pro\
-gram, parts) {\nreturn parts.map(part => {\nif (typeof part === \"string\") return part;\nreturn part.strong !== undefined ? h(\"strong\", {\
-}, part.strong) : who(program, part.thread);\n});\n}\nconst MOTION = 200;\nconst isCalm = () => matchMedia(\"(prefers-reduced-motion: reduce\
-)\").matches;\nfunction pulse(element, frames) {\nif (element && !isCalm()) element.animate(frames, { duration: MOTION, easing: \"ease-out\" \
-});\n}\nfunction fly(root, change) {\nif (isCalm()) return change();\nconst places = new Map();\nfor (const one of root.querySelectorAll(\"[\
-data-fly]\")) places.set(one.dataset.fly, one.getBoundingClientRect());\nchange();\nfor (const one of root.querySelectorAll(\"[data-fly]\")) \
-{\nconst from = places.get(one.dataset.fly);\nconst to = one.getBoundingClientRect();\nif (!from || (Math.abs(from.left - to.left) < 2 && Ma\
-th.abs(from.top - to.top) < 2)) continue;\npulse(one, [{ transform: `translate(${from.left - to.left}px, ${from.top - to.top}px)` }, { trans\
-form: \"none\" }]);\n}\n}\nreturn { byId, h, s, fill, button, who, shown, MOTION, pulse, fly };\n})();\n// app/beside.js\nconst m4 = (() => \
-{\nconst { threadEnd } = m2;\nconst { h } = m3;\nconst { hueOf, threadName } = m1;\nconst SHOWN = 12;\nfunction endsBeside(program, left, ri\
-ght) {\nconst all = program.threads.map((_, t) => t);\nconst differ = all.filter(t => threadEnd(left.end, t) !== threadEnd(right.end, t));\n\
-const row = t => {\nconst other = h(\"td\", {}, h(\"b\", { \"aria-label\": \"differs: \" }, \"\\u2260 \"), threadEnd(right.end, t));\nreturn \
-h(\n\"tr.is-other\",\n{},\nh(\"th.\" + hueOf(t), { scope: \"row\" }, threadName(program, t)),\nh(\"td\", {}, threadEnd(left.end, t)),\nother\
-\n);\n};\nconst isAlike = left.end.key === right.end.key;\nconst said = isAlike\n? \"Both runs end alike: each thread, each output, each pha\
-ser and barrier.\"\n: differ.length\n? \"The other threads end alike.\"\n: \"The threads end alike; registers, phasers, barriers or cells di\
-ffer.\";\nconst heads = [\"End\", \"Run \" + (left.id + 1), \"Run \" + (right.id + 1)].map(text => h(\"th\", { scope: \"col\" }, text));\nco\
-nst rows = [...differ.slice(0, SHOWN).map(row), h(\"tr\", {}, h(\"td\", { colspan: 3 }, said))];\nreturn h(\"table.beside\", {}, h(\"thead\"\
-, {}, h(\"tr\", {}, heads)), h(\"tbody\", {}, rows));\n}\nreturn { endsBeside };\n})();\n// app/check.js\nconst m5 = (() => {\nconst { byId, \
-fill, h } = m3;\nconst LINE = 80;\nfunction differenceOf(there, here) {\nif (there === here) return null;\nlet k = 0;\nwhile (k < there.leng\
-th && there.charCodeAt(k) === here.charCodeAt(k)) k++;\nconst from = k ? there.lastIndexOf(\"\\n\", k - 1) + 1 : 0;\nlet number = 1;\nfor (l\
-et at = 0; (at = there.indexOf(\"\\n\", at) + 1) > 0 && at <= from; ) number++;\nconst start = k - from > LINE / 2 ? k - LINE / 2 : from;\nc\
-onst lineOf = text => (start > from ? \"\\u2026\" : \"\") + text.slice(start, start + LINE).split(\"\\n\", 1)[0];\nreturn { number, there: l\
-ineOf(there), here: lineOf(here) };\n}\nfunction checkOf(page, listing, trace) {\nconst isOther = page.source && differenceOf(page.listing, \
-listing);\nif (isOther) return { what: \"listing\", ...isOther };\nconst difference = differenceOf(page.trace, trace);\nreturn difference ? \
-{ what: \"trace\", ...difference } : { what: \"\" };\n}\nconst shown = line => (line ? h(\"code\", {}, line) : \"nothing\");\nfunction drawC\
-heck({ check, item, text, plan }) {\nconst isShown = Boolean(check) && text === item.program && plan === item.plan;\nbyId(\"check\").hidden \
-= !isShown;\nif (!isShown) return;\nbyId(\"check\").classList.toggle(\"is-wrong\", Boolean(check.what));\nif (!check.what) {\nfill(byId(\"ch\
-eck\"), \"Played again in this page: the trace is the same.\");\nreturn;\n}\nconst told = \"This page isn\\u2019t what the machine plays. Li\
-ne \" + check.number + \" of its \" + check.what + \": \";\nfill(byId(\"check\"), h(\"strong\", {}, told), shown(check.there), \" \\u2014 th\
-e machine: \", shown(check.here));\n}\nreturn { differenceOf, checkOf, drawCheck };\n})();\n// web/bytes.mjs\nconst m6 = (() => {\nconst enc\
-oder = new TextEncoder();\nconst decoder = new TextDecoder();\nfunction bytesOf(input) {\nif (typeof input === \"string\") return encoder.en\
-code(input);\nif (input instanceof ArrayBuffer) return new Uint8Array(input);\nif (ArrayBuffer.isView(input)) return new Uint8Array(input.bu\
-ffer, input.byteOffset, input.byteLength);\nif (input?.bytes instanceof Uint8Array) return input.bytes;\nif (typeof input?.text === \"string\
-\") return encoder.encode(input.text);\nthrow new TypeError(\"an input is a text, bytes, a trace or a schedule\");\n}\nfunction textOf(bytes\
-) {\nreturn decoder.decode(bytes);\n}\nfunction writeText(text, room) {\nreturn encoder.encodeInto(text, room).written;\n}\nreturn { bytesOf\
-, textOf, writeText };\n})();\n// web/faults.mjs\nconst m7 = (() => {\nclass Fault extends Error {\nget name() {\nreturn this.constructor.na\
-me;\n}\n}\nclass Refused extends Fault {\nconstructor(told, output, explained) {\nconst said = (word) => explained.match(new RegExp(`^  ${wo\
-rd}: +(.*)$`, \"m\"))?.[1] ?? \"\";\nsuper(`${told}\\n${explained}`.trimEnd());\nconst [, group, ...numbers] = told.split(\" \");\nthis.told \
-= told;\nthis.group = group;\nthis.line = group === \"asm\" || group === \"plan\" ? Number(numbers.shift()) : null;\nthis.kind = Number(numb\
-ers.shift());\nthis.place = numbers;\nthis.word = null;\nthis.means = said(\"Means\");\nthis.help = said(\"Helps\");\nthis.output = output;\n\
-}\n}\nclass Differs extends Fault {\nconstructor(told) {\nsuper(told);\nthis.line = Number(told.split(\" \").pop());\n}\n}\nclass NotATrace \
-extends Differs {\nconstructor(told, before = \"\") {\nsuper(told);\nthis.before = before;\n}\n}\nclass NoLine extends Fault {\nconstructor(\
-words, told) {\nsuper(words);\nthis.told = told;\n}\n}\nclass OutOfMemory extends Fault {\nconstructor(output = new Uint8Array()) {\nsuper(\"\
-memory\");\nthis.output = output;\n}\n}\nclass TooLong extends Fault {\nconstructor() {\nsuper(\"an input has more bytes than it may have\")\
-;\n}\n}\nclass Malformed extends Fault {}\nclass NoHistory extends Fault {\nconstructor() {\nsuper(\"no choice is kept that could be taken b\
-ack\");\n}\n}\nclass Closed extends Fault {\nconstructor() {\nsuper(\"the session is closed\");\n}\n}\nreturn { Fault, Refused, Differs, Not\
-ATrace, NoLine, OutOfMemory, TooLong, Malformed, NoHistory, Closed };\n})();\n// web/library.mjs\nconst m8 = (() => {\nconst { bytesOf, text\
-Of, writeText } = m6;\nconst { OutOfMemory } = m7;\nconst ROOM = 1 << 16;\nconst KEPT_ROOM = 1 << 24;\nconst LINE_ROOM = 1 << 12;\nconst INP\
-UTS = [\"program\", \"plan\", \"schedule\"];\nconst COMMAND_ROOM = 512;\nconst REPLY_ROOM = 512;\nconst HANDLE = 16;\nconst STRUCTS = 8 + 4 \
-* 4096;\nclass Room {\n#library;\nconstructor(library, size) {\nthis.#library = library;\nthis.size = size;\nthis.at = library.take(size);\n\
-this.lengthAt = library.take(8);\nthis.words = [BigInt(this.at), BigInt(size), BigInt(this.lengthAt)];\n}\nget length() {\nreturn this.#libr\
-ary.number(this.lengthAt);\n}\nget bytes() {\nreturn this.#library.bytes.slice(this.at, this.at + Math.min(this.length, this.size));\n}\nget \
-text() {\nreturn this.#library.text(this.at, Math.min(this.length, this.size));\n}\nfree() {\nthis.#library.give(this.at);\nthis.#library.gi\
-ve(this.lengthAt);\n}\n}\nclass Library {\n#exports;\n#bytes = new Uint8Array();\n#view;\n#output;\n#line;\n#command;\n#reply;\nstruct;\ncon\
-structor(instance) {\nthis.#exports = instance.exports;\nthis.#line = new Room(this, LINE_ROOM);\nthis.#command = new Room(this, COMMAND_ROO\
-M);\nthis.#reply = new Room(this, REPLY_ROOM);\nconst at = this.take(STRUCTS);\nthis.struct = { at, word: BigInt(at) };\n}\nget bytes() {\ni\
-f (this.#bytes.length === 0) {\nthis.#bytes = new Uint8Array(this.#exports.memory.buffer);\nthis.#view = new DataView(this.#exports.memory.b\
-uffer);\n}\nreturn this.#bytes;\n}\nnumber(at) {\nconst { view } = this;\nreturn view.getUint32(at, true) + view.getUint32(at + 4, true) * 2 \
-** 32;\n}\ntext(at, length) {\nreturn textOf(this.bytes.subarray(at, at + length));\n}\ntake(size) {\nconst at = Number(this.#exports.room(B\
-igInt(size)));\nif (at === 0) throw new OutOfMemory();\nreturn at;\n}\ngive(at) {\nthis.#exports.room_back(BigInt(at));\n}\nroom(size) {\nre\
-turn new Room(this, size);\n}\ncall(name, ...words) {\nreturn this.#exports[`vuthgal_${name}`](...words) & 255;\n}\nwith(inputs, use) {\ncon\
-st taken = [];\ntry {\nconst words = [];\nfor (const input of inputs) {\ntaken.push(this.take(input.length));\nthis.bytes.set(input, taken.a\
-t(-1));\nwords.push(BigInt(taken.at(-1)), BigInt(input.length));\n}\nreturn use(words);\n} finally {\nfor (const at of taken) this.give(at);\
-\n}\n}\n#outputRoom(size) {\nif (this.#output && this.#output.size < size) this.freeRoom();\nreturn (this.#output ??= new Room(this, size));\
-\n}\nfreeRoom() {\nthis.#output?.free();\nthis.#output = undefined;\n}\ncalled(name, inputs, { first = [], more = [], hasLine = true, arrang\
-e = (words) => words } = {}) {\nreturn this.with(inputs, (taken) => {\nconst words = arrange(taken);\nconst line = hasLine ? this.#line.word\
-s : [];\nconst ask = (room) => this.call(name, ...first, ...words, ...more, ...room.words, ...line);\nlet room = this.#outputRoom(ROOM);\nle\
-t status = ask(room);\nwhile (room.length > room.size) {\nroom = this.#outputRoom(room.length);\nstatus = ask(room);\n}\nconst told = { stat\
-us, output: room.bytes, line: hasLine ? this.#line.text : \"\" };\nif (room.size > KEPT_ROOM) this.freeRoom();\nreturn told;\n});\n}\nmistak\
-en(program, kind, input) {\nconst { at, word } = this.struct;\nconst arrange = ([where, length, ...rest]) => [where, length, kind, ...rest, \
-word];\nconst told = this.called(\"mistake\", [program, input], { arrange });\nconst [line, column, length] = [0, 8, 16].map((offset) => thi\
-s.number(at + offset));\nconst place = { input: INPUTS[this.view.getUint8(at + 24)], line: line || null, column: column || null, length };\n\
-return { ...told, place };\n}\nversion() {\nthis.call(\"version\", ...this.#line.words);\nreturn this.#line.text;\n}\nget view() {\nif (this\
-.#bytes.length === 0) this.bytes;\nreturn this.#view;\n}\nhandle() {\nconst at = this.take(HANDLE);\nthis.bytes.fill(0, at, at + HANDLE);\nr\
-eturn at;\n}\nclose(handle) {\nthis.call(\"session_close\", BigInt(handle));\nthis.give(handle);\n}\nopen(handle, program) {\nreturn this.wi\
-th([program], (words) => {\nconst status = this.call(\"session_open\", BigInt(handle), ...words, ...this.#line.words);\nreturn { status, lin\
-e: this.#line.text };\n});\n}\ncommand(handle, text) {\nconst words = this.#written(text);\nreturn words ? this.#commanded(handle, words) : \
-this.with([bytesOf(text)], (long) => this.#commanded(handle, long));\n}\n#written(text) {\nif (text.length * 3 > COMMAND_ROOM) return undefi\
-ned;\nconst room = this.bytes.subarray(this.#command.at, this.#command.at + COMMAND_ROOM);\nreturn [this.#command.words[0], BigInt(writeText\
-(text, room))];\n}\n#commanded(handle, words) {\nconst status = this.call(\"session_command\", BigInt(handle), ...words, ...this.#reply.word\
-s);\nif (this.#reply.length <= REPLY_ROOM) return { status, reply: this.#reply.text };\nconst room = new Room(this, this.#reply.length);\ntr\
-y {\nreturn { status: this.call(\"session_reply\", BigInt(handle), ...room.words), reply: room.text };\n} finally {\nroom.free();\n}\n}\n}\n\
-return { Library };\n})();\n// web/page.mjs\nconst m9 = (() => {\nconst NAMES = [\"listing\", \"source\", \"schedule\", \"trace\"];\nconst E\
-SCAPED = { \"&\": \"&amp;\", \"<\": \"&lt;\", \">\": \"&gt;\", \"\\r\": \"&#13;\" };\nconst MOST_CHOICES = 1_000_000;\nconst MOST_TRACE = 16\
-_777_216;\nfunction pageWith(app, texts) {\nconst put = (page, name) => {\nconst [begin, end] = [`<pre id=\"${name}\">`, \"</pre>\"];\nconst \
-text = texts[name].replace(/[&<>\\r]/g, (sign) => ESCAPED[sign]);\nreturn page.replace(begin + end, () => `${begin}\\n${text}${end}`);\n};\n\
-return NAMES.reduce(put, app);\n}\nfunction choicesIn(schedule) {\nlet count = 0;\nfor (const [, times] of schedule.matchAll(/[tx]\\d+(?:\\*\
-(\\d{1,10}))?/g)) count += Number(times ?? 1);\nreturn count;\n}\nreturn { MOST_CHOICES, MOST_TRACE, pageWith, choicesIn };\n})();\n// web/v\
-alues.mjs\nconst m10 = (() => {\nconst { textOf } = m6;\nconst { Malformed } = m7;\nconst VALUED = new Set([\"=\", \"out\", \"throw\", \"cat\
-ch\", \"die\"]);\nclass Line {\nconstructor(step, choice, row, what, value = null, mark = null, view = null) {\nthis.step = step;\nthis.choi\
-ce = choice;\nthis.thread = Number(choice.slice(1));\nthis.row = row;\nthis.what = what;\nthis.value = value;\nthis.mark = mark;\nthis.view \
-= view;\n}\nstatic parse(text) {\nconst [step, choice, row, what, ...rest] = text.split(\" \");\nconst isOne = /^[1-9][0-9]*$/.test(step) && \
-/^[tx][0-9]+$/.test(choice) && what;\nif (!isOne) throw new Malformed(`no line of a trace: ${text}`);\nconst value = VALUED.has(what) ? Numb\
-er(rest.shift()) : null;\nconst [mark = null, view = null] = rest;\nreturn new Line(Number(step), choice, row === \"-\" ? null : Number(row)\
-, what, value, mark, view && Number(view));\n}\nget text() {\nconst words = [this.step, this.choice, this.row ?? \"-\", this.what, this.valu\
-e, this.mark, this.view];\nreturn words.filter((word) => word !== null).join(\" \");\n}\ntoString() {\nreturn this.text;\n}\n}\nfunction thr\
-eadOf(words) {\nconst [status, exception] = words[2].split(\":\");\nconst stack = words.indexOf(\"stack\");\nconst out = words.indexOf(\"out\
-\", stack);\nreturn {\nnumber: Number(words[0].slice(1)),\nrow: Number(words[1]),\nstatus,\nexception: exception === undefined ? null : Numb\
-er(exception),\ninterrupted: words[3] === \"1\",\nregisters: words.slice(5, stack).map(Number),\nstack: words.slice(stack + 1, out),\nout: w\
-ords.slice(out + 1).map(Number),\n};\n}\nfunction phaserOf([name, ...numbers]) {\nconst [view, parties, arrived, unarrived] = numbers.map(Nu\
-mber);\nreturn { number: Number(name.slice(1)), view, parties, arrived, unarrived };\n}\nfunction barrierOf([name, waiting, broken]) {\nretu\
-rn { number: Number(name.slice(1)), waiting: Number(waiting), broken: broken === \"1\" };\n}\nclass State {\nconstructor(text, values) {\nth\
-is.text = text;\nObject.assign(this, values);\n}\nstatic parse(text) {\nconst [head, ...lines] = text.trimEnd().split(\"\\n\").map((line) => \
-line.split(\" \"));\nif (head[0] !== \"state\" || head.length !== 4) throw new Malformed(`no state: ${text}`);\nconst of = (letter) => lines\
-.filter((words) => words[0][0] === letter);\nreturn new State(text, {\nchoices: Number(head[1]),\nsteps: Number(head[2]),\nword: head[3],\nt\
-hreads: of(\"t\").map(threadOf),\nphasers: of(\"p\").map(phaserOf),\nbarriers: of(\"b\").map(barrierOf),\ncells: new Map(of(\"c\").map(([nam\
-e, value]) => [Number(name.slice(1)), Number(value)])),\n});\n}\ntoString() {\nreturn this.text;\n}\n}\nclass Trace {\n#text;\n#lines;\n#sta\
-te;\nconstructor(bytes) {\nthis.bytes = bytes;\n}\nget text() {\nreturn (this.#text ??= textOf(this.bytes));\n}\n#end() {\nconst at = this.t\
-ext.lastIndexOf(\"\\nstate \") + 1;\nif (at === 0 && !this.text.startsWith(\"state \")) throw new Malformed(\"a trace has a line that begins \
-with `state`\");\nreturn at;\n}\nget lines() {\nreturn (this.#lines ??= this.text.slice(0, this.#end()).split(\"\\n\").slice(0, -1).map(Line\
-.parse));\n}\nget state() {\nreturn (this.#state ??= State.parse(this.text.slice(this.#end())));\n}\n[Symbol.iterator]() {\nreturn this.line\
-s[Symbol.iterator]();\n}\ntoString() {\nreturn this.text;\n}\n}\nclass Schedule {\nconstructor(text, stopped = false) {\nthis.text = text;\n\
-this.stopped = stopped;\n}\n*[Symbol.iterator]() {\nfor (const [token] of this.text.matchAll(/\\S+/g)) {\nconst [choice, count = 1] = token.\
-split(\"*\");\nfor (let i = 0; i < count; i++) yield choice;\n}\n}\ntoString() {\nreturn this.text;\n}\n}\nclass Went {\nconstructor(text) {\
-\nconst [what, choices, why] = text.split(\" \");\nthis.text = text;\nthis.what = what;\nthis.choices = Number(choices);\nthis.why = why ?? \
-null;\n}\ntoString() {\nreturn this.text;\n}\n}\nclass Ending {\nconstructor(text) {\nconst [runs, word, seed, ...schedule] = text.split(\" \
-\");\nthis.text = text;\nthis.runs = Number(runs);\n[this.word] = word.split(\"+\");\nthis.died = word.endsWith(\"+died\");\nthis.seed = Num\
-ber(seed.slice(1));\nthis.schedule = new Schedule(schedule.join(\" \"));\n}\ntoString() {\nreturn this.text;\n}\n}\nreturn { VALUED, Line, S\
-tate, Trace, Schedule, Went, Ending };\n})();\n// web/looks.mjs\nconst m11 = (() => {\nconst { Line, VALUED } = m10;\nconst EVENT_SIZE = 24;\
-\nconst STATE_SIZE = 16;\nconst THREAD_SIZE = 48;\nconst PHASER_SIZE = 12;\nconst BARRIER_SIZE = 8;\nconst ENTRY_SIZE = 4;\nconst NUMBER_SIZ\
-E = 4;\nconst NOTHING = 65535;\nconst MOST_ENTRIES = 64;\nconst MOST_OUTPUTS = 4096;\nconst MOST_OBJECTS = 64;\nconst MOST_CELLS = 32;\ncons\
-t WHATS = [\"idle\", \"ok\", \"=\", \"out\", \"wait\", \"throw\", \"enter\", \"unwind\", \"catch\", \"die\", \"end\"];\nconst HAS_VALUE = WH\
-ATS.map((what) => VALUED.has(what));\nconst MARKS = [null, \"+p\", \"+b\", \"-b\"];\nconst STATUSES = [\"runs\", \"throws\", \"waits\", \"wa\
-its\", \"ended\", \"died\"];\nconst STANDINGS = [\"live\", \"stuck\", \"all\"];\nconst ENTRIES = [\"C\", \"H\", \"A\", \"X\"];\nconst number\
-ed = (number) => (number === NOTHING ? null : number);\nfunction lineAt(view, at, choice) {\nconst step = view.getUint32(at, true) + view.ge\
-tUint32(at + 4, true) * 2 ** 32;\nconst what = view.getUint8(at + 20);\nconst value = HAS_VALUE[what] ? view.getInt32(at + 8, true) : null;\n\
-const mark = view.getUint8(at + 21);\nif (mark === 0) return new Line(step, choice, view.getUint16(at + 16, true), WHATS[what], value);\ncon\
-st name = MARKS[mark] + view.getUint16(at + 18, true);\nconst after = mark === 1 ? view.getInt32(at + 12, true) : null;\nreturn new Line(ste\
-p, choice, view.getUint16(at + 16, true), WHATS[what], value, name, after);\n}\nconst LOOK = (() => {\nconst parts = [\n[\"threads\", THREAD\
-_SIZE, MOST_OBJECTS],\n[\"phasers\", PHASER_SIZE, MOST_OBJECTS],\n[\"barriers\", BARRIER_SIZE, MOST_OBJECTS],\n[\"cells\", NUMBER_SIZE, MOST\
-_CELLS],\n];\nlet size = STATE_SIZE;\nconst rooms = parts.map(([name, each, most]) => ({ name, each, most, at: (size += each * most) - each \
-* most }));\nreturn { rooms, size };\n})();\nconst [THREADS, PHASERS, BARRIERS, CELLS] = LOOK.rooms;\nfunction threadAt(view, at, number) {\n\
-const status = STATUSES[view.getUint8(at + 43)];\nconst value = view.getInt32(at + 32, true);\nconst awaits = view.getUint8(at + 43) === 2 ? \
-\"p\" : \"b\";\nconst object = numbered(view.getUint16(at + 38, true));\nreturn {\nnumber,\nrow: view.getUint16(at + 36, true),\nstatus,\nex\
-ception: status === \"throws\" || status === \"died\" ? value : null,\nawaits: status === \"waits\" && object !== null ? `${awaits}${object}\
-` : null,\nphase: status === \"waits\" && awaits === \"p\" ? value : null,\ninterrupted: view.getUint8(at + 44) === 1,\nregisters: Array.fro\
-m({ length: 8 }, (_, register) => view.getInt32(at + 4 * register, true)),\nentries: view.getUint8(at + 42),\noutputs: view.getUint16(at + 4\
-0, true),\n};\n}\nconst phaserAt = (view, at, number) => ({\nnumber,\nview: view.getInt32(at, true),\nparties: view.getUint16(at + 4, true),\
-\narrived: view.getUint16(at + 6, true),\nunarrived: view.getUint16(at + 8, true),\nparent: numbered(view.getUint16(at + 10, true)),\n});\nc\
-onst barrierAt = (view, at, number) => ({\nnumber,\nparties: view.getUint16(at, true),\nwaiting: view.getUint16(at + 2, true),\nrunner: numb\
-ered(view.getUint16(at + 4, true)),\nbroken: view.getUint8(at + 6) === 1,\n});\nfunction lookAt(view, at) {\nconst all = (count, room, one) \
-=> Array.from({ length: count }, (_, i) => one(view, at + room.at + room.each * i, i));\nconst cells = all(CELLS.most, CELLS, (_, place, cel\
-l) => [cell, view.getInt32(place, true)]);\nreturn {\nchoices: view.getUint32(at, true) + view.getUint32(at + 4, true) * 2 ** 32,\nsteps: vi\
-ew.getUint32(at + 8, true),\nword: STANDINGS[view.getUint8(at + 15)],\nthreads: all(view.getUint8(at + 12), THREADS, threadAt),\nphasers: al\
-l(view.getUint8(at + 13), PHASERS, phaserAt),\nbarriers: all(view.getUint8(at + 14), BARRIERS, barrierAt),\ncells: new Map(cells.filter(([, \
-value]) => value !== 0)),\n};\n}\nfunction entriesAt(view, at, count) {\nconst one = (_, i) => ENTRIES[view.getUint8(at + ENTRY_SIZE * i + 2\
-)] + view.getUint16(at + ENTRY_SIZE * i, true);\nreturn Array.from({ length: count }, one);\n}\nfunction numbersAt(view, at, count) {\nretur\
-n Array.from({ length: count }, (_, i) => view.getInt32(at + NUMBER_SIZE * i, true));\n}\nfunction bitsAt(view, at) {\nconst words = [view.g\
-etUint32(at, true), view.getUint32(at + 4, true)];\nreturn Array.from({ length: 64 }, (_, bit) => bit).filter((bit) => (words[bit >> 5] >>> \
-(bit & 31)) & 1);\n}\nreturn { EVENT_SIZE, MOST_ENTRIES, MOST_OUTPUTS, lineAt, LOOK, lookAt, entriesAt, numbersAt, bitsAt };\n})();\n// web/\
-session.mjs\nconst m12 = (() => {\nconst { bytesOf, textOf } = m6;\nconst { NoHistory } = m7;\nconst { bitsAt, entriesAt, lineAt, LOOK, look\
-At, MOST_ENTRIES, MOST_OUTPUTS, numbersAt } = m11;\nconst { Line, Schedule, State, Went } = m10;\nconst NONE_KEPT = 1;\nconst FEWER = 1;\nco\
-nst NOT_READ = 3;\nconst NO_THREAD = 7;\nconst LIMIT = 8;\nfunction namesOf(program) {\nconst text = textOf(program);\nif (/^PBW[12]/.test(t\
-ext)) return [];\nconst lines = text.split(\"\\n\").map((line) => line.split(\";\")[0].trim().split(/\\s+/));\nconst end = lines.findIndex((\
-[word]) => word === \".run\");\nconst head = end < 0 ? lines : lines.slice(0, end);\nreturn head.filter(([word, name]) => word === \".thread\
-\" && name).map(([, name]) => name);\n}\nconst forgotten = new FinalizationRegistry(({ library, handle }) => library.close(handle));\nclass \
-Session {\n#library;\n#handle;\n#word;\n#answer;\nconstructor(library, answer, threads, fill) {\nconst handle = library.handle();\ntry {\nan\
-swer(fill(handle));\n} catch (fault) {\nlibrary.close(handle);\nthrow fault;\n}\nthis.#library = library;\nthis.#handle = handle;\nthis.#wor\
-d = BigInt(handle);\nthis.#answer = answer;\nthis.threads = threads;\nforgotten.register(this, { library, handle }, this);\n}\nstatic of(lib\
-rary, answer, program) {\nconst bytes = bytesOf(program);\nreturn new Session(library, answer, namesOf(bytes), (handle) => library.open(hand\
-le, bytes));\n}\nget isOpen() {\nreturn this.#handle !== 0;\n}\n#check(status) {\nif (status !== 0) this.#answer({ status, line: \"\" });\n}\
-\n#open() {\nif (this.#handle === 0) this.#check(6);\nreturn this.#word;\n}\n#number(thread) {\nconst number = typeof thread === \"number\" \
-? thread : this.threads.indexOf(thread);\nif (Number.isInteger(number) && number >= 0 && number < 256) return number;\nthrow new RangeError(\
-`there is no thread ${thread}`);\n}\n#choice(thread, letter, expiry) {\nconst session = this.#open();\nconst number = this.#number(thread);\n\
-const { at, word } = this.#library.struct;\nconst status = this.#library.call(\"session_step\", session, number, expiry, word);\nif (status \
-=== 0) return lineAt(this.#library.view, at, letter + number);\nif (status === NO_THREAD || status === LIMIT) return Line.parse(this.command\
-(`s ${letter}${number}`).slice(0, -1));\nreturn this.#check(status);\n}\nstep(thread) {\nreturn this.#choice(thread, \"t\", 0);\n}\nexpire(t\
-hread) {\nreturn this.#choice(thread, \"x\", 1);\n}\ngo(schedule) {\nconst tokens = String(schedule).trim().split(/\\s+/).join(\" \");\ncons\
-t reply = this.command(`g ${tokens}`).slice(0, -1);\nif (reply === \"?\") throw new RangeError(`no schedule: ${tokens}`);\nreturn new Went(r\
-eply);\n}\nback(count = 1) {\nfor (let i = 0; i < count; i++) {\nconst status = this.#library.call(\"session_back\", this.#open());\nif (sta\
-tus === NONE_KEPT) throw new NoHistory();\nthis.#check(status);\n}\n}\ngoTo(played, number) {\nconst status = this.#library.with([bytesOf(St\
-ring(played))], (words) =>\nthis.#library.call(\"session_go_to\", this.#open(), ...words, BigInt(number)),\n);\nif (status === FEWER) throw \
-new RangeError(`fewer than ${number} choices were played`);\nif (status === NOT_READ) throw new RangeError(`no schedule: ${played}`);\nif (s\
-tatus === NO_THREAD) throw new RangeError(`there is no such thread: ${played}`);\nthis.#check(status);\n}\nget enabled() {\nconst { at } = t\
-his.#library.struct;\nconst words = [BigInt(at), BigInt(at + 8)];\nthis.#check(this.#library.call(\"session_enabled\", this.#open(), ...word\
-s));\nreturn { turns: bitsAt(this.#library.view, at), expiries: bitsAt(this.#library.view, at + 8) };\n}\nlook() {\nconst { at, word } = thi\
-s.#library.struct;\nconst rooms = LOOK.rooms.flatMap((room) => [BigInt(at + room.at), BigInt(room.most)]);\nthis.#check(this.#library.call(\"\
-session_look\", this.#open(), word, ...rooms));\nreturn lookAt(this.#library.view, at);\n}\n#listed(name, thread, most, read) {\nconst { at \
-} = this.#library.struct;\nconst words = [this.#open(), this.#number(thread), BigInt(at + 8), BigInt(most), BigInt(at)];\nconst status = thi\
-s.#library.call(`session_${name}`, ...words);\nif (status === NO_THREAD) throw new RangeError(`there is no thread ${thread}`);\nthis.#check(\
-status);\nreturn read(this.#library.view, at + 8, this.#library.number(at));\n}\nstack(thread) {\nreturn this.#listed(\"stack\", thread, MOS\
-T_ENTRIES, entriesAt);\n}\noutputs(thread) {\nreturn this.#listed(\"outputs\", thread, MOST_OUTPUTS, numbersAt);\n}\ncopy() {\nconst from = \
-this.#open();\nconst fill = (to) => ({ status: this.#library.call(\"session_copy\", from, BigInt(to)), line: \"\" });\nreturn new Session(th\
-is.#library, this.#answer, this.threads, fill);\n}\nother(thread, { expires = false, rest = \"\", most = 1_000_000 } = {}) {\nconst words = \
-[this.#open(), this.#number(thread), expires ? 1 : 0, most];\nconst told = this.#library.called(\"session_other\", [bytesOf(rest)], { first: \
-words, hasLine: false });\nif (told.status === NOT_READ) throw new RangeError(`no schedule of at most 2,000 choices: ${rest}`);\nthis.#check\
-(told.status);\nreturn new Schedule(textOf(told.output).trimEnd());\n}\nsetBreakpoint(row) {\nthis.#row(\"k\", row);\n}\nclearBreakpoint(row\
-) {\nthis.#row(\"c\", row);\n}\n#row(letter, row) {\nif (this.command(`${letter} ${row}`) === \"?\\n\") throw new RangeError(`there is no ro\
-w ${row}`);\n}\nget state() {\nreturn State.parse(this.command(\"p\"));\n}\ncommand(line) {\nthis.#open();\nconst { status, reply } = this.#\
-library.command(this.#handle, line);\nthis.#check(status);\nreturn reply;\n}\nclose() {\nif (this.#handle === 0) return;\nforgotten.unregist\
-er(this);\nthis.#library.close(this.#handle);\nthis.#handle = 0;\n}\n[Symbol.dispose ?? Symbol.for(\"Symbol.dispose\")]() {\nthis.close();\n\
-}\n}\nreturn { Session };\n})();\n// web/vuthgal.mjs\nconst m13 = (() => {\nconst { bytesOf, textOf } = m6;\nconst { Closed, Differs, Fault, \
-NoLine, NotATrace, OutOfMemory, Refused, TooLong } = m7;\nconst { Library } = m8;\nconst { choicesIn, MOST_CHOICES, MOST_TRACE, pageWith } = \
-m9;\nconst { Session } = m12;\nconst { Ending, Line, Schedule, State, Trace, Went } = m10;\nconst MOST_PLANNED = 1_000_000;\nasync function \
-fetched(url) {\nif (url.protocol === \"file:\" && globalThis.process?.versions?.node) {\nconst files = \"node:fs/promises\"; // named here, \
-so that a bundler for browsers doesn't look for it\nreturn (await import(files)).readFile(url);\n}\nconst response = await fetch(url);\nif (\
-!response.ok) throw new Fault(`${url} has the status ${response.status}`);\nreturn response.arrayBuffer();\n}\nasync function load(source = \
-new URL(\"vuthgal.wasm\", self.location.href)) {\nconst what = typeof source === \"string\" ? new URL(source, globalThis.location?.href ?? s\
-elf.location.href) : source;\nconst code = what instanceof URL ? await fetched(what) : what;\nconst made = await WebAssembly.instantiate(cod\
-e).catch((error) => {\nthrow error instanceof RangeError ? new OutOfMemory() : error; // no memory was to be had for the module\n});\nreturn \
-new Vuthgal(new Library(made instanceof WebAssembly.Instance ? made : made.instance));\n}\nclass Vuthgal {\n#library;\nconstructor(library) \
-{\nthis.#library = library;\n}\ncall(name, inputs, ...more) {\nreturn this.#library.called(name, inputs.map(bytesOf), { more });\n}\n#answer\
-(told) {\nif (told.status < 2) return told;\nif (told.status === 3) {\nconst line = told.line.trimEnd();\nthrow new Refused(line, told.outpu\
-t ?? new Uint8Array(), this.#explained(line));\n}\nif (told.status === 4) throw new OutOfMemory(told.output);\nif (told.status === 5) throw \
-new TooLong();\nif (told.status === 6) throw new Closed();\nthrow new Fault(`the library returns status ${told.status}`);\n}\n#explained(wor\
-ds) {\nconst { status, output } = this.call(\"explain\", [words]);\nreturn status === 0 ? textOf(output) : \"\";\n}\n#bytes(name, inputs, ..\
-.more) {\nreturn this.#answer(this.call(name, inputs, ...more)).output;\n}\n#text(name, inputs, ...more) {\nreturn textOf(this.#bytes(name, \
-inputs, ...more));\n}\nrun(program, schedule) {\nreturn new Trace(schedule === undefined ? this.#bytes(\"both\", [program]) : this.#bytes(\"\
-run\", [program, schedule]));\n}\nasm(text) {\nreturn this.#bytes(\"asm\", [text]);\n}\nlist(program) {\nreturn this.#text(\"list\", [progra\
-m]);\n}\ncompare(program, trace) {\nconst told = this.#text(\"compare\", [program, trace]).trimEnd();\nif (told !== \"same\") throw told.sta\
-rtsWith(\"not\") ? new NotATrace(told) : new Differs(told);\n}\nchoices(trace) {\nconst { status, output } = this.#answer(this.call(\"choice\
-s\", [trace]));\nconst lines = textOf(output).trimEnd().split(\"\\n\");\nif (status === 1) throw new NotATrace(lines.at(-1), lines.length > \
-1 ? lines[0] : \"\");\nreturn new Schedule(lines[0]);\n}\nplan(program, plan, { most = MOST_PLANNED, names = false } = {}) {\nconst { status\
-, output } = this.#answer(this.call(\"plan\", [program, plan], most, names ? 1 : 0));\nreturn new Schedule(textOf(output).trimEnd(), status \
-=== 1);\n}\nseeds(program, { plan = \"\", first = 1, count = 1000, limit = 0, names = false } = {}) {\nif (!(first >= 0 && first + count <= \
-2 ** 32)) throw new RangeError(\"a seed is from 0 to 4294967295\");\nconst told = this.#text(\"seeds\", [program, plan], first, count, limit\
-, names ? 1 : 0);\nreturn told.split(\"\\n\").slice(0, -1).map((line) => new Ending(line));\n}\npage(program, schedule, app) {\nif (choicesI\
-n(textOf(bytesOf(schedule))) > MOST_CHOICES) throw new TooLong();\nconst trace = this.#text(\"run\", [program, schedule]);\nif (trace.length \
-> MOST_TRACE) throw new TooLong();\nconst source = textOf(bytesOf(program));\nreturn pageWith(app, {\nlisting: this.list(program),\nsource: \
-/^PBW[12]/.test(source) ? \"\" : source,\nschedule: `${this.choices(trace)}\\n`,\ntrace,\n});\n}\nmistake(program, { plan, schedule } = {}) \
-{\nconst text = bytesOf(program);\nconst isWhole = plan === undefined && schedule === undefined && /^\\.run\\s*$/m.test(textOf(text));\ncons\
-t kind = plan !== undefined ? 1 : schedule !== undefined ? 2 : isWhole ? 3 : 0;\nconst told = this.#library.mistaken(text, kind, bytesOf(pla\
-n ?? schedule ?? \"\"));\nif (told.status !== 3) return this.#answer(told) && null;\nreturn { told: told.line.trimEnd(), ...told.place, hint\
-: textOf(told.output).trimEnd() };\n}\ndraw(program, schedule, { width = 80 } = {}) {\nconst isFit = Number.isInteger(width) && width >= 60 \
-&& width <= 1000;\nif (!isFit) throw new RangeError(\"the width is from 60 to 1000\");\nreturn this.#text(\"draw\", [program, schedule], wid\
-th);\n}\nexpect(state, expectation) {\nconst inputs = [bytesOf(String(state)), bytesOf(expectation)];\nconst status = this.#library.with(inp\
-uts, (words) => this.#library.call(\"expect\", ...words));\nif (status === 3) throw new RangeError(`no expectation: ${expectation}`);\nretur\
-n this.#answer({ status }).status === 0;\n}\ndebug(program, commands) {\nconst lines = Array.isArray(commands) ? commands.map((line) => `${l\
-ine}\\n`).join(\"\") : commands;\nreturn this.#text(\"debug\", [program, lines]);\n}\nexplain(words = \"\") {\nconst told = this.call(\"expl\
-ain\", [words]);\nif (told.status === 2) throw new NoLine(words, told.line);\nreturn textOf(this.#answer(told).output);\n}\nsession(program) \
-{\nreturn Session.of(this.#library, (told) => this.#answer(told), program);\n}\nget version() {\nreturn this.#library.version();\n}\nget mem\
-ory() {\nreturn this.#library.bytes.length;\n}\n}\nreturn { ...m7, load, Ending, Line, Schedule, Session, State, Trace, Went };\n})();\n// a\
-pp/machine.js\nconst m14 = (() => {\nconst { load, Refused } = m13;\nlet machine = null;\nasync function startMachine(bytes) {\nmachine = aw\
-ait load(bytes);\n}\nconst listProgram = program => machine.list(program);\nconst playRun = (program, schedule) => machine.run(program, sche\
-dule).text;\nconst planSchedule = (program, plan) => machine.plan(program, plan).text.trim();\nconst openSession = program => machine.sessio\
-n(program);\nconst versionOf = () => machine.version.split(\"\\n\")[0];\nreturn { startMachine, listProgram, playRun, planSchedule, openSess\
-ion, versionOf, Refused };\n})();\n// app/schedule.js\nconst m15 = (() => {\nfunction choicesOf(schedule, most = Infinity) {\nconst out = []\
-;\nconst known = new Map();\nfor (const word of schedule.split(/\\s+/)) {\nif (!word) continue;\nconst [name, count] = word.split(\"*\");\nc\
-onst token = known.get(name) || name;\nknown.set(name, token);\nfor (let n = Math.min(Number(count || 1), most + 1 - out.length); n > 0; n--\
-) out.push(token);\nif (out.length > most) break;\n}\nreturn out;\n}\nfunction scheduleOf(choices) {\nconst out = [];\nfor (let i = 0, n; i \
-< choices.length; i += n) {\nfor (n = 1; choices[i + n] === choices[i]; n++);\nout.push(choices[i] + (n > 1 ? \"*\" + n : \"\"));\n}\nreturn \
-out.join(\" \");\n}\nfunction commonOf(left, right) {\nlet n = 0;\nwhile (n < left.length && n < right.length && left[n] === right[n]) n++;\n\
-return n;\n}\nreturn { choicesOf, scheduleOf, commonOf };\n})();\n// app/plan.js\nconst m16 = (() => {\nconst { Refused, planSchedule, playR\
-un } = m14;\nconst { choicesOf, scheduleOf } = m15;\nconst { nameOf } = m0;\nconst MOST = 20000;\nconst LONGEST = 1000000;\nconst OPEN = /;[\
-^\\n]*|(\\.\\.|\\?[0-9]{1,20})(?=[\\s();]|$)/g;\nconst bounded = plan => plan.replace(OPEN, (whole, open) => (open ? open + \"*\" + (MOST + \
-1) : whole));\nconst TOKEN = /^([tx]\\d{1,2}(\\*\\d{1,10})?)?$/;\nconst isSchedule = plan => plan.trim().split(/\\s+/).every(word => TOKEN.t\
-est(word));\nconst LONG = 20000;\nconst isHeavy = plan => plan.length > LONG || /\\*\\s*\\d{5,}|\\)\\*\\d{3,}/.test(plan);\nfunction choices\
-OfPlan(text, plan) {\nlet all;\nif (isHeavy(plan) && isSchedule(plan)) all = choicesOf(plan, MOST);\nelse {\ntry {\nall = choicesOf(planSche\
-dule(text, bounded(plan)), MOST);\n} catch (fault) {\nif (!(fault instanceof Refused) || !isSchedule(plan)) throw fault;\nall = choicesOf(pl\
-an, MOST);\n}\n}\nreturn { choices: all.slice(0, MOST), isCut: all.length > MOST };\n}\nfunction playedPlan(text, plan, schedule) {\nconst a\
-ll = schedule ? choicesOf(schedule, LONGEST) : null;\nconst found = all ? { choices: all.slice(0, LONGEST), isCut: all.length > LONGEST } : \
-choicesOfPlan(text, plan);\nreturn { ...found, trace: playRun(text, scheduleOf(found.choices)) };\n}\nconst STOPS = /^(wait|end|die|idle)$/;\
-\nfunction turnsFrom(events, i) {\nconst { token } = events.at(i);\nlet k = i;\nlet event = events.at(k);\nwhile (event && event.token === t\
-oken && !STOPS.test(event.what)) event = events.at(++k);\nconst isDone = Boolean(event) && event.token === token && event.what !== \"idle\";\
-\nreturn { count: isDone ? k + 1 - i : Math.max(1, k - i), isDone };\n}\nfunction planOf(program, events, most = 60) {\nconst out = [];\nfor \
-(let i = 0; i < events.length; ) {\nconst { thread, isLate } = events.at(i);\nconst name = nameOf(program, \"T\", thread);\nconst { count, i\
-sDone } = isLate ? { count: 1, isDone: false } : turnsFrom(events, i);\nif (isLate) out.push(\"x\" + name);\nelse out.push(name + (isDone ? \
-\".\" : count > 1 ? \"*\" + count : \"\"));\ni += count;\nif (out.length >= most && i < events.length) return out.join(\" \") + \" \\u2026\"\
-;\n}\nreturn out.join(\" \");\n}\nfunction readablePlan(program, run, plan) {\nif (run.choices.length > 300 || !/^[tx\\d*\\s]+$/.test(plan)) \
-return plan;\nconst named = planOf(program, run.events, Infinity);\ntry {\nconst again = choicesOfPlan(program.text, named).choices;\nreturn \
-scheduleOf(again) === scheduleOf(run.choices) ? named : plan;\n} catch (_) {\nreturn plan;\n}\n}\nreturn { MOST, LONGEST, isHeavy, choicesOf\
-Plan, playedPlan, planOf, readablePlan };\n})();\n// app/trace.js\nconst m17 = (() => {\nconst EVENT = new RegExp(\n\"^(\\\\d+ )?([tx])(\\\\\
-d+) (\\\\d+|-) (idle|ok|wait|enter|unwind|end|none|limit|(=|out|throw|catch|die) (-?\\\\d+))\" +\n\"(?: ([+-])([pb])(\\\\d+)(?: (-?\\\\d+))?\
-)?$\"\n);\nfunction readEvent(line) {\nconst m = EVENT.exec(line);\nif (!m) throw new Error(\"no line of a choice: \" + line);\nreturn {\nto\
-ken: m[2] + m[3],\nisLate: m[2] === \"x\",\nthread: Number(m[3]),\nrow: m[4] === \"-\" ? -1 : Number(m[4]),\nwhat: m[6] || m[5],\nvalue: m[7\
-] === undefined ? null : Number(m[7]),\nmark: m[8] ? { kind: m[8] + m[9], on: Number(m[10]), view: m[11] === undefined ? null : Number(m[11]\
-) } : null\n};\n}\nclass Events {\n#text;\n#places;\nconstructor(text) {\nconst places = [];\nfor (let at = 0; at < text.length; at = text.i\
-ndexOf(\"\\n\", at) + 1) places.push(at);\nthis.length = places.length;\nthis.#text = text;\nthis.#places = Uint32Array.from([...places, tex\
-t.length]);\n}\n#line(i) {\nreturn this.#text.slice(this.#places[i], this.#places[i + 1] - 1);\n}\nat(i) {\nreturn i >= 0 && i < this.length \
-? readEvent(this.#line(i)) : undefined;\n}\ntoken(i) {\nconst [, token] = this.#line(i).split(\" \", 2);\nreturn token;\n}\nisIdle(i) {\nret\
-urn this.#text.endsWith(\" idle\", this.#places[i + 1] - 1);\n}\n*[Symbol.iterator]() {\nfor (let i = 0; i < this.length; i++) yield this.at\
-(i);\n}\nfindIndex(test) {\nfor (let i = 0; i < this.length; i++) if (test(this.at(i))) return i;\nreturn -1;\n}\n}\nfunction readTrace(trac\
-e) {\nconst cut = trace.startsWith(\"state \") ? 0 : trace.lastIndexOf(\"\\nstate \") + 1;\nconst events = new Events(trace.slice(0, cut));\n\
-const last = events.at(events.length - 1);\nconst refused = last && isRefused(last) ? last : null;\nif (refused) events.length--;\nreturn { \
-events, refused, end: readState(trace.slice(cut)) };\n}\nfunction readThread(words) {\nconst stack = words.indexOf(\"stack\");\nconst out = \
-words.indexOf(\"out\");\nconst [status, code] = words[2].split(\":\");\nreturn {\nrow: Number(words[1]),\nstatus,\ncode: code === undefined \
-? null : Number(code),\nisInterrupted: words[3] === \"1\",\nregisters: words.slice(5, 13).map(Number),\nstack: words.slice(stack + 1, out),\n\
-out: words.slice(out + 1).map(Number)\n};\n}\nfunction readState(text) {\nconst key = text.replace(/^state \\d+ \\d+/, \"\");\nconst state = \
-{ threads: [], phasers: [], barriers: [], cells: {}, word: \"\", key };\nfor (const line of text.trimEnd().split(\"\\n\")) {\nconst words = \
-line.split(\" \");\nconst [, first, second, third, fourth] = words;\nif (words[0] === \"state\") state.word = third;\nelse if (words[0][0] =\
-== \"t\") state.threads.push(readThread(words));\nelse if (words[0][0] === \"p\") {\nstate.phasers.push({\nview: Number(first),\nparties: Nu\
-mber(second),\narrived: Number(third),\nmissing: Number(fourth)\n});\n} else if (words[0][0] === \"b\") state.barriers.push({ waiting: Numbe\
-r(first), isBroken: second === \"1\" });\nelse state.cells[Number(words[0].slice(1))] = Number(first);\n}\nreturn state;\n}\nfunction doingO\
-f(moment, t) {\nconst { status } = moment.state.threads[t];\nif (status === \"ended\") return \"over\";\nif (status === \"died\") return \"d\
-ead\";\nif (status === \"throws\") return \"throws\";\nif (status === \"waits\") return moment.next[t] ? \"free\" : \"waits\";\nreturn momen\
-t.next[t] ? \"runs\" : \"held\";\n}\nconst isRefused = event => event.what === \"none\" || event.what === \"limit\";\nreturn { readEvent, re\
-adTrace, readState, doingOf, isRefused };\n})();\n// app/player.js\nconst m18 = (() => {\nconst { openSession } = m14;\nconst { commonOf } = \
-m15;\nconst { isRefused, readEvent, readState } = m17;\nconst BACK = 40;\nconst EVERY = 50000;\nfunction makePlayer(program) {\nlet session \
-= null;\nlet led = [];\nlet at = 0;\nlet base = 0;\nconst marks = new Map();\nfunction dropMarks(behind) {\nfor (const [i, mark] of marks) {\
-\nif (i <= behind) continue;\nmark.close();\nmarks.delete(i);\n}\n}\nconst markBefore = i => Math.max(0, ...[...marks.keys()].filter(one => \
-one <= i));\nfunction startFrom(i) {\nif (session) session.close();\nsession = i ? marks.get(i).copy() : openSession(program.text);\nat = ba\
-se = i;\n}\nfunction goOn(i) {\nwhile (at < i) {\nconst next = Math.min(i, at - (at % EVERY) + EVERY);\nsession.command(\"g \" + led.slice(a\
-t, next).join(\" \"));\nat = next;\nif (at % EVERY === 0 && !marks.has(at)) marks.set(at, session.copy());\n}\n}\nfunction lead(choices, i) \
-{\nconst common = choices === led ? Infinity : commonOf(led, choices);\ndropMarks(common);\nled = choices;\nconst kept = Math.min(at, i, com\
-mon);\nconst mark = markBefore(i);\nif (!session || kept < base || at - kept > BACK || mark > kept + BACK) startFrom(mark);\nelse for (; at \
-> kept; at--) session.command(\"b\");\ngoOn(i);\n}\nfunction tried(token) {\nconst event = readEvent(session.command(\"s \" + token).trim())\
-;\nif (!isRefused(event)) session.command(\"b\");\nreturn isRefused(event) || event.what === \"idle\" ? null : event;\n}\nfunction momentAt(\
-choices, i) {\nlead(choices, i);\nconst moment = { i, state: readState(session.command(\"p\")), next: {}, late: {} };\nconst { turns, expiri\
-es } = session.enabled;\nfor (const t of turns) moment.next[t] = tried(\"t\" + t);\nfor (const t of expiries) moment.late[t] = tried(\"x\" + \
-t);\nfor (const all of [moment.next, moment.late]) for (const t in all) if (!all[t]) delete all[t];\nreturn moment;\n}\nfunction close() {\n\
-if (session) session.close();\ndropMarks(-1);\nsession = null;\nled = [];\nat = base = 0;\n}\nreturn { momentAt, close };\n}\nreturn { makeP\
-layer };\n})();\n// app/run.js\nconst m19 = (() => {\nconst { listProgram, planSchedule, playRun } = m14;\nconst { readProgram } = m0;\ncons\
-t { LONGEST } = m16;\nconst { makePlayer } = m18;\nconst { choicesOf, commonOf, scheduleOf } = m15;\nconst { readTrace } = m17;\nconst MORE \
-= 100;\nconst KEPT = 3000;\nconst openProgram = text => readProgram(text, listProgram(text));\nfunction makeRun(tree, parent, fork, choices, \
-trace = playRun(tree.program.text, scheduleOf(choices))) {\nconst { events, refused, end } = readTrace(trace);\nconst played = choices.lengt\
-h === events.length ? choices : choices.slice(0, events.length);\nconst kept = { moments: new Map(), folds: [] };\nreturn { id: tree.runs.le\
-ngth, parent, fork, choices: played, trace, events, end, refused, kept };\n}\nconst withRun = (tree, run) => ({ tree: { ...tree, runs: [...t\
-ree.runs, run] }, run });\nfunction plantTree(program, choices, trace) {\nconst tree = { program, runs: [], player: makePlayer(program) };\n\
-return withRun(tree, makeRun(tree, -1, 0, choices, trace)).tree;\n}\nconst lengthOf = run => run.choices.length;\nconst eventTo = (run, i) =\
-> run.events.at(i - 1) || null;\nfunction ownerOf(tree, id, i) {\nwhile (id > 0 && i <= tree.runs[id].fork) id = tree.runs[id].parent;\nretu\
-rn tree.runs[id];\n}\nfunction runBy(tree, id, i, token) {\nif (tree.runs[id].choices[i] === token) return tree.runs[id];\nconst owner = own\
-erOf(tree, id, i);\nif (owner.choices[i] === token) return owner;\nreturn tree.runs.find(run => run.parent === owner.id && run.fork === i && \
-run.choices[i] === token) || null;\n}\nfunction turnsOf(text, before, token) {\nconst again = Array(99).fill(\"t\" + token.slice(1));\nconst \
-{ events } = readTrace(playRun(text, scheduleOf([...before, token, ...again])));\nconst made = [];\nfor (let k = before.length; k < events.l\
-ength && !events.isIdle(k); k++) {\nmade.push(events.token(k));\nif (/^(wait|end|die)$/.test(events.at(k).what)) break;\n}\nreturn made;\n}\n\
-function restOf(text, before, rest) {\nconst { events } = readTrace(playRun(text, scheduleOf([...before, ...rest])));\nconst own = [];\nfor \
-(let k = before.length; k < events.length; k++) if (!events.isIdle(k)) own.push(events.token(k));\nreturn own;\n}\nfunction forkRun(tree, id\
-, i, token) {\nconst found = runBy(tree, id, i, token);\nif (found) return { tree, run: found };\nconst owner = ownerOf(tree, id, i);\nconst \
-{ text } = tree.program;\nconst before = owner.choices.slice(0, i);\nconst rest = owner.choices.slice(i);\nconst most = Math.min(rest.length \
-+ MORE, LONGEST - i);\nlet made = turnsOf(text, before, token).slice(0, most);\nif (!made.length) throw new Error(\"this choice would do not\
-hing here\");\nmade = [...made, ...restOf(text, [...before, ...made], rest)].slice(0, most);\nif (made.length < most) {\nconst plan = schedu\
-leOf([...before, ...made]) + \" ..*\" + (most - made.length);\nmade = choicesOf(planSchedule(text, plan)).slice(i);\n}\nreturn withRun(tree, \
-makeRun(tree, owner.id, i, [...before, ...made]));\n}\nfunction graftRun(tree, choices) {\nlet best = tree.runs[0];\nlet most = -1;\nfor (co\
-nst run of tree.runs) {\nconst common = commonOf(run.choices, choices);\nif (common === choices.length && lengthOf(run) === common) return { \
-tree, run };\nif (common > most) [best, most] = [run, common];\n}\nreturn withRun(tree, makeRun(tree, ownerOf(tree, best.id, most).id, most, \
-choices));\n}\nconst firstAlone = tree => ({ ...tree, runs: tree.runs.slice(0, 1) });\nfunction depthOf(tree, run) {\nlet depth = 0;\nfor (l\
-et one = run; one.parent >= 0; one = tree.runs[one.parent]) depth++;\nreturn depth;\n}\nfunction inOrder(tree, from = 0, level = 0) {\nconst \
-forks = tree.runs.filter(run => run.parent === from).sort((a, b) => a.fork - b.fork);\nreturn [{ run: tree.runs[from], level }, ...forks.fla\
-tMap(run => inOrder(tree, run.id, level + 1))];\n}\nconst hasMoment = (tree, id, i) => ownerOf(tree, id, i).kept.moments.has(i);\nfunction m\
-omentOf(tree, id, i) {\nconst run = ownerOf(tree, id, i);\nconst { moments } = run.kept;\nif (moments.has(i)) return moments.get(i);\nif (mo\
-ments.size > KEPT) moments.clear();\nconst moment = tree.player.momentAt(run.choices, i);\nmoments.set(i, moment);\nreturn moment;\n}\nfunct\
-ion closeTree(tree) {\nif (tree) tree.player.close();\n}\nreturn { openProgram, plantTree, lengthOf, eventTo, ownerOf, runBy, forkRun, graft\
-Run, firstAlone, depthOf, inOrder, hasMoment, momentOf, closeTree };\n})();\n// app/link.js\nconst m20 = (() => {\nconst { forkRun, lengthOf \
-} = m19;\nconst MODES = { e: \"explore\", l: \"lesson\", q: \"quiz\", c: \"challenge\" };\nconst LONGEST = 2000000;\nconst MOST_LINK = 60000\
-;\nfunction addressOf(tree, run, at) {\nlet path = \"\";\nfor (let one = run; one.parent >= 0; one = tree.runs[one.parent]) {\npath = one.fo\
-rk + 1 + one.choices[one.fork] + \".\" + path;\n}\nreturn path + at;\n}\nconst ADDRESS = /^(\\d{1,7}[tx]\\d{1,2}\\.)*\\d{1,7}$/;\nfunction w\
-alkTo(tree, address) {\nlet run = tree.runs[0];\nconst parts = address.split(\".\");\nlet at = Number(parts.pop()) || 0;\nlet isWhole = true\
-;\nfor (const part of parts) {\nconst m = /^(\\d+)([tx]\\d+)$/.exec(part);\nconst i = Number(m && m[1]) - 1;\ntry {\nif (i < 0 || i > length\
-Of(run)) throw new Error(\"no such choice\");\n({ tree, run } = forkRun(tree, run.id, i, m[2]));\n} catch (_) {\nisWhole = false;\nat = i;\n\
-break;\n}\n}\nreturn { tree, run, at: Math.min(lengthOf(run), at), isWhole };\n}\nasync function through(bytes, stream) {\nconst reader = ne\
-w Blob([bytes]).stream().pipeThrough(stream).getReader();\nconst parts = [];\nfor (let all = 0, one; !(one = await reader.read()).done; part\
-s.push(one.value)) {\nall += one.value.length;\nif (all > LONGEST) throw new Error(\"the link holds too much\");\n}\nreturn new Uint8Array(a\
-wait new Blob(parts).arrayBuffer());\n}\nfunction base64(bytes) {\nlet signs = \"\";\nfor (const byte of bytes) signs += String.fromCharCode\
-(byte);\nreturn btoa(signs).replace(/\\+/g, \"-\").replace(/\\//g, \"_\").replace(/=/g, \"\");\n}\nconst unbase64 = text => Uint8Array.from(\
-atob(text.replace(/-/g, \"+\").replace(/_/g, \"/\")), sign => sign.charCodeAt(0));\nasync function linkOf({ text, plan, name, address, mode \
-}) {\nconst packed = await through(\nnew TextEncoder().encode(JSON.stringify([text, plan, name])),\nnew CompressionStream(\"deflate-raw\")\n\
-);\nreturn \"#\" + [mode[0], address, base64(packed)].join(\"/\");\n}\nasync function readLink(hash) {\nif (hash.length < 2) return null;\ni\
-f (ADDRESS.test(hash.slice(1))) return { address: hash.slice(1) };\nconst [sign, address, packed] = hash.slice(1).split(\"/\");\nif (!Object\
-.hasOwn(MODES, sign) || !packed || !ADDRESS.test(address)) throw new Error(\"it isn\\u2019t whole\");\nconst bytes = await through(unbase64(\
-packed), new DecompressionStream(\"deflate-raw\"));\nconst read = JSON.parse(new TextDecoder().decode(bytes));\nif (\n!Array.isArray(read) |\
-| read.slice(0, 2).some(one => typeof one !== \"string\")\n) throw new Error(\"it holds no program\");\nreturn { text: read[0], plan: read[1\
-], name: String(read[2] || \"\"), address, mode: MODES[sign] };\n}\nreturn { MOST_LINK, addressOf, walkTo, linkOf, readLink };\n})();\n// ap\
-p/file.js\nconst m21 = (() => {\nconst NAMES = [\"listing\", \"source\", \"schedule\", \"trace\"];\nconst unixText = text => text.replace(/\\\
-r\\n/g, \"\\n\").replace(/\\r/g, \" \");\nfunction runIn(page, name) {\nconst [listing, source, schedule, trace] = NAMES.map(one => page.get\
-ElementById(one)?.textContent || \"\");\nreturn listing || source ? { name, listing, source: unixText(source), schedule, trace } : null;\n}\n\
-function takePage() {\nfor (const name of NAMES) document.getElementById(name).textContent = \"\";\nconst page = \"<!doctype html>\\n\" + do\
-cument.documentElement.outerHTML + \"\\n\";\ndocument.getElementById(\"texts\").remove();\nreturn page;\n}\nconst ESCAPED = { \"&\": \"&amp;\
-\", \"<\": \"&lt;\", \">\": \"&gt;\", \"\\r\": \"&#13;\" };\nconst escaped = text => text.replace(/[&<>\\r]/g, sign => ESCAPED[sign]);\nfunc\
-tion pageWith(page, texts) {\nconst put = (made, name) => {\nconst [begin, end] = [`<pre id=\"${name}\">`, \"</pre>\"];\nreturn made.replace\
-(begin + end, () => begin + \"\\n\" + escaped(texts[name]) + end);\n};\nreturn NAMES.reduce(put, page);\n}\nfunction itemOf(page) {\nconst { \
-name, listing, source, schedule, trace } = page;\nconst item = { group: \"This file\", name, title: name, program: source || listing, plan: \
-schedule };\nreturn trace ? { ...item, schedule, page } : { ...item, plan: schedule || \"..\" };\n}\nconst bareName = path => path.split(\"/\
-\").pop().replace(/\\.\\w+$/, \"\") || \"run\";\nfunction save(name, text, type = \"text/plain\") {\nconst link = document.createElement(\"a\
-\");\nlink.href = URL.createObjectURL(new Blob([text], { type }));\nlink.download = name;\nlink.click();\nsetTimeout(() => URL.revokeObjectU\
-RL(link.href), 1000);\n}\nfunction readProgramFile(text) {\nconst cut = /^[ \\t]*\\.run[ \\t\\r]*(;.*)?$\\n?/m.exec(text);\nif (!cut) return \
-{ program: text, plan: \"..\" };\nreturn { program: text.slice(0, cut.index), plan: text.slice(cut.index + cut[0].length).trim() || \"..\" }\
-;\n}\nreturn { runIn, takePage, pageWith, itemOf, bareName, save, readProgramFile };\n})();\n// app/keys.js\nconst m22 = (() => {\nconst isF\
-ield = element => /^(INPUT|TEXTAREA|SELECT)$/.test(element.tagName);\nconst isButton = element => element.tagName === \"BUTTON\" || element.\
-tagName === \"A\";\nconst KEY_TEXTS = [\n[\"\\u2190 \\u2192\", \"a choice back, forward\"],\n[\"Page Up, Down\", \"the same: a presenter\\u2\
-019s keys\"],\n[\"Home End\", \"start, end\"],\n[\"Space\", \"play\"],\n[\"1 \\u2026 9\", \"that name is next\"],\n[\"[ ]\", \"the run befor\
-e, after\"],\n[\"Esc\", \"back to the fork\"],\n[\"+ \\u2212 0\", \"size\"],\n[\"p v o\", \"picture, values, orders\"],\n[\"f\", \"timeline \
-alone\"],\n[\"e\", \"edit the program\"],\n[\"s\", \"side by side\"],\n[\"a \\u2026 d\", \"an answer of the quiz\"]\n];\nfunction listenToKe\
-ys(act, hasLetters) {\ndocument.addEventListener(\"keydown\", event => {\nif ((event.ctrlKey || event.metaKey) && event.key === \"p\") retur\
-n act.print();\nif (event.ctrlKey || event.metaKey || event.altKey) return;\nif (event.key === \"Escape\") return act.escape(isField(event.t\
-arget) ? event.target : null);\nif (isField(event.target)) return;\nif (isButton(event.target) && (event.key === \" \" || event.key === \"En\
-ter\")) return;\nif (event.target.closest(\".sheet\")) return;\nconst go = act.keys[event.key];\nif (go) {\nevent.preventDefault();\nreturn \
-go();\n}\nif (!hasLetters()) return;\nif (/^[1-9]$/.test(event.key)) return act.number(Number(event.key));\nif (act.letter(event.key)) event\
-.preventDefault();\n});\n}\nreturn { KEY_TEXTS, listenToKeys };\n})();\n// app/menu.js\nconst m23 = (() => {\nconst { byId, fill, h } = m3;\n\
-const { KEY_TEXTS } = m22;\nfunction makeSheet() {\nconst sheet = byId(\"sheet\");\nlet opener = null;\nfunction close(isBack) {\nif (sheet.\
-hidden) return;\nsheet.hidden = true;\nopener.setAttribute(\"aria-expanded\", \"false\");\nif (isBack) opener.focus();\n}\nfunction open(but\
-ton, label, content) {\nconst isSame = !sheet.hidden && sheet.getAttribute(\"aria-label\") === label;\nclose(false);\nif (isSame) return;\no\
-pener = button;\nfill(sheet, content);\nsheet.setAttribute(\"aria-label\", label);\nsheet.hidden = false;\nbutton.setAttribute(\"aria-expand\
-ed\", \"true\");\nconst box = button.getBoundingClientRect();\nconst left = Math.max(8, Math.min(box.left, innerWidth - sheet.offsetWidth - \
-8));\nsheet.style.setProperty(\"left\", left + \"px\");\nsheet.style.setProperty(\"top\", box.bottom + 6 + \"px\");\nsheet.style.setProperty\
-(\"max-height\", innerHeight - box.bottom - 14 + \"px\");\nsheet.querySelector(\"[aria-current], button, input, textarea\")?.focus();\n}\ndo\
-cument.addEventListener(\"pointerdown\", event => {\nif (!sheet.contains(event.target) && !event.target.closest(\"[aria-expanded]\")) close(\
-false);\n});\nsheet.addEventListener(\"keydown\", event => {\nconst list = [...sheet.querySelectorAll(\"button, input, select, textarea\")];\
-\nconst by = { ArrowDown: 1, ArrowUp: -1 }[event.key];\nif (!by || event.target.tagName === \"TEXTAREA\" || event.target.tagName === \"SELEC\
-T\") return;\nevent.preventDefault();\nlist[(list.indexOf(document.activeElement) + by + list.length) % list.length].focus();\n});\nreturn { \
-open, close, isOpen: () => !sheet.hidden };\n}\nconst column = (title, ...content) => h(\"div.sheet-column\", {}, h(\"h2\", {}, title), cont\
-ent);\nfunction entryOf(sheet) {\nreturn (text, act, key) => {\nconst onclick = () => {\nsheet.close(true);\nact();\n};\nreturn h(\"button.e\
-ntry\", { type: \"button\", onclick }, h(\"span\", {}, text), key ? h(\"kbd\", {}, key) : null);\n};\n}\nfunction programsMenu(sheet, menu, \
-current, act) {\nconst entry = entryOf(sheet);\nconst groups = new Map();\nfor (const item of menu) groups.set(item.group, [...(groups.get(i\
-tem.group) || []), item]);\nconst one = item => {\nconst made = entry(item.title, () => act.open(item));\nif (item === current) made.setAttr\
-ibute(\"aria-current\", \"true\");\nreturn made;\n};\nconst chosen = event => {\nconst [file] = event.target.files;\nsheet.close(true);\nif \
-(file) act.file(file);\n};\nconst input = h(\"input\", { type: \"file\", accept: \".asm,.txt,.html,text/plain\", onchange: chosen });\nretur\
-n [\n[...groups].map(([group, items]) => column(group, items.map(one))),\ncolumn(\n\"Yours\",\nentry(\"My own program\", act.own),\nentry(\"\
-Keep this as my own\", act.keep),\nh(\"label.entry.entry-file\", {}, h(\"span\", {}, \"Open a file\\u2026\"), input)\n)\n];\n}\nconst SPEEDS \
-= [0.5, 1, 2, 4, 8];\nfunction mainMenu(sheet, state, settings, act) {\nconst entry = entryOf(sheet);\nconst box = (text, name) => {\nconst \
-onchange = event => act.set(name, event.target.checked);\nreturn h(\n\"label.entry\",\n{},\nh(\"input\", { type: \"checkbox\", checked: stat\
-e[name], onchange }),\nh(\"span\", {}, text)\n);\n};\nconst speed = h(\n\"select\",\n{ \"aria-label\": \"Speed of Play\", onchange: event => \
-act.speed(Number(event.target.value)) },\nSPEEDS.map(\none => h(\n\"option\",\n{ value: one, selected: one === settings.speed },\n\"every \" \
-+ (one === 1 ? \"second\" : one + \" seconds\")\n)\n)\n);\nconst theme = name => {\nconst given = { type: \"button\", \"aria-pressed\": Stri\
-ng(settings.theme === name), onclick: () => act.theme(name) };\nreturn h(\"button\", given, name);\n};\nconst key = ([sign, text]) => h(\"p.\
-sheet-key\", {}, h(\"kbd\", {}, sign), \" \" + text);\nreturn [\nh(\n\"div.sheet-column\",\n{},\nh(\"h2\", {}, \"Show\"),\nbox(\"Hide what c\
-omes later\", \"isHidden\"),\nbox(\"Fold idle choices\", \"isFolded\"),\nbox(\"Java\\u2019s words\", \"isJava\"),\nbox(\"Timeline alone\", \"\
-isAlone\"),\nbox(\"Keys of one letter or sign\", \"hasLetters\"),\nh(\"h2\", {}, \"Play\"),\nentry(\"Play, a choice after another\", act.pla\
-y, \"Space\"),\nh(\"label.entry\", {}, h(\"span\", {}, \"Speed\"), speed),\nh(\"h2\", {}, \"Colours\"),\nh(\"div.sheet-row\", {}, [\"auto\", \
-\"light\", \"dark\"].map(theme))\n),\nh(\n\"div.sheet-column\",\n{},\nh(\"h2\", {}, \"Run\"),\nentry(\"Start again\", act.again),\nentry(\"S\
-ide by side\", act.side, \"s\"),\nentry(\"Make it the run\", act.makeFirst),\nentry(\"Only run 1\", act.onlyFirst),\nentry(\"Larger\", act.l\
-arger, \"+\"),\nentry(\"Smaller\", act.smaller, \"\\u2212\"),\nh(\"h2\", {}, \"Print\"),\nentry(\"Handout: all choices\", act.handout, \"Ctr\
-l P\"),\nentry(\"Worksheet\", act.worksheet)\n),\nh(\n\"div.sheet-column\",\n{},\nh(\"h2\", {}, \"Take with you\"),\nentry(\"Copy a link\", \
-act.copyLink),\nentry(\"Copy the plan\", act.copyPlan),\nentry(\"Copy the schedule\", act.copySchedule),\nentry(\"Copy the command\", act.co\
-pyCommand),\nentry(\"Save the program\", act.saveProgram),\nentry(\"Save the trace\", act.saveTrace),\nentry(\"Save this page with the run\"\
-, act.savePage),\nh(\"p.sheet-key\", {}, settings.version)\n),\nh(\"div.sheet-column.sheet-keys\", {}, h(\"h2\", {}, \"Keys\"), KEY_TEXTS.ma\
-p(key))\n];\n}\nconst copySheet = text => column(\n\"Copy this\",\nh(\"textarea.copied\", { rows: 4, readonly: true, \"aria-label\": \"The t\
-ext to copy\" }, text)\n);\nreturn { makeSheet, programsMenu, mainMenu, copySheet };\n})();\n// app/sentence.js\nconst m24 = (() => {\nconst \
-{ ARRIVES, KINDS, nameOf, operandOf } = m0;\nconst { callOf, entryText, hasSeveral, labelOf, objectOf, phaseOf, rowText, strong, threadName, \
-thrown } = m1;\nfunction markText(program, mark, before) {\nconst barrier = mark.kind[1] === \"b\" ? nameOf(program, \"B\", mark.on) : \"\";\
-\nif (mark.kind === \"+b\") return \"Barrier \" + barrier + \" trips: all who wait there may go on.\";\nif (mark.kind === \"-b\") return \"B\
-arrier \" + barrier + \" breaks.\";\nconst name = nameOf(program, \"P\", mark.on);\nconst old = phaseOf(before.phasers[mark.on].view);\nif (\
-mark.view < 0) return \"Phase \" + old + \" of \" + name + \" was its last: it is terminated.\";\nreturn \"Phase \" + old + \" of \" + name \
-+ \" ends, phase \" + mark.view + \" begins.\";\n}\nfunction countText(program, row, state) {\nconst b = operandOf(row, \"B\");\nif (b >= 0) \
-{\nreturn state.barriers[b].waiting + \" of \" + program.barriers[b].parties + \" wait at \" + nameOf(program, \"B\", b) +\n\".\";\n}\nlet p \
-= operandOf(row, \"P\");\nlet child = -1;\nwhile (program.phasers[p].parent >= 0 && state.phasers[p].parties && !state.phasers[p].missing) {\
-\nchild = p;\np = program.phasers[p].parent;\n}\nconst one = state.phasers[p];\nconst name = nameOf(program, \"P\", p);\nif (one.view < 0) r\
-eturn \"\";\nif (!one.parties) return name + \" has no parties now.\";\nif (child < 0) return one.arrived + \" of \" + one.parties + \" part\
-ies of \" + name + \" have arrived.\";\nreturn nameOf(program, \"P\", child) + \" is complete and arrives at \" + name + \": \" + one.arrive\
-d + \" of \" +\none.parties + \".\";\n}\nfunction valueText(program, event, row, thread, who) {\nconst call = callOf(program, row, thread);\n\
-const into = row.operands[0] || \"\";\nconst value = strong(event.value);\nif (thread.status === \"waits\") return [\"The wait of \", who, \" \
-at \" + call + \" is over: it returns \", value, \".\"];\nif (row.word === \"ret\") {\nconst entry = entryText(program, thread.stack[thread.\
-stack.length - 1]);\nreturn [who, \" ends the \" + entry + \"; its own call returns \", value, \".\"];\n}\nif (call) return [who, \" calls \" \
-+ call + \", which returns \", value, \".\"];\nif (row.word === \"add\" || row.word === \"sub\") {\nconst [left, right] = row.operands.slice\
-(1).map(register => thread.registers[Number(register[1])]);\nreturn [who, \": \" + into + \" = \" + left + (row.word === \"add\" ? \" + \" : \
-\" \\u2212 \") + right + \" = \", value, \".\"];\n}\nconst from = { mov: \" from \" + row.operands[1], self: \", its own number\" }[row.word\
-] || \"\";\nconst cell = row.word === \"lds\" ? \" from \" + nameOf(program, \"C\", operandOf(row, \"C\")) : \"\";\nreturn [who, \" puts \", \
-value, from + cell + \" into \" + into + \".\"];\n}\nfunction plainText(program, event, row, thread, who) {\nconst call = callOf(program, ro\
-w, thread);\nconst there = row.kinds.includes(\"L\") ? labelOf(program, operandOf(row, \"L\")) : \"\";\nif (call) return [who, \" calls \" + \
-call + \".\"];\nconst said = {\njmp: \" goes on at \" + there,\ncall: \" calls the rows at \" + there,\ntry: \" sets a handler: what is thro\
-wn from here on is caught at \" + there,\nendtry: \" takes its handler away\",\nret: \" comes back from its call\"\n};\nif (said[row.word]) \
-return [who, said[row.word] + \".\"];\nif (row.word === \"sts\") {\nconst value = thread.registers[Number(row.operands[0][1])];\nreturn [who\
-, \" stores \", strong(value), \" in \" + nameOf(program, \"C\", operandOf(row, \"C\")) + \".\"];\n}\nif (there) {\nconst both = row.operand\
-s.slice(0, 2).map(register => register + \" = \" + thread.registers[Number(register[1])]);\nreturn [who, \" compares \" + both.join(\" with \
-\") + \".\"];\n}\nreturn [who, \": \" + rowText(program, row) + \".\"];\n}\nfunction idleText(event, thread, call, who) {\nif (event.isLate) \
-return [\n\"The time-out of \",\nwho,\n\" would come now, but it has no wait that can time out: nothing happens.\"\n];\nconst why = {\nwaits\
-: \", which still waits at \" + call,\nended: \", which has ended\",\ndied: \", which is dead\"\n}[thread.status];\nreturn [\"It is the turn \
-of \", who, (why || \", which can\\u2019t go on yet\") + \": nothing happens.\"];\n}\nfunction throwText(program, event, row, thread, who, c\
-all) {\nconst waited = thread.status === \"waits\";\nconst cause = event.isLate\n? [\"The time of \", who, \"\\u2019s wait at \" + call + \" \
-is up: it \"]\n: waited\n? [\"The wait of \", who, \" at \" + call + \" ends: it \"]\n: [who, call ? \" calls \" + call + \", which \" : \" \
-\"];\nreturn [...cause, strong(\"throws \" + thrown(event.value, row)), \".\"];\n}\nfunction eventText(program, event, before) {\nconst who \
-= { thread: event.thread };\nif (event.what === \"none\") return [\"There is no thread \" + event.thread + \".\"];\nif (event.what === \"lim\
-it\") return [\"No more choices are allowed.\"];\nconst row = program.rows[event.row];\nconst thread = before.threads[event.thread];\nconst \
-call = callOf(program, row, thread);\nconst top = thread.stack[thread.stack.length - 1] || \"\";\nswitch (event.what) {\ncase \"idle\":\nret\
-urn idleText(event, thread, call, who);\ncase \"=\":\nreturn valueText(program, event, row, thread, who);\ncase \"ok\":\nreturn plainText(pr\
-ogram, event, row, thread, who);\ncase \"wait\":\nreturn [who, \" calls \" + call + \" and \", strong(\"waits\"), \".\"];\ncase \"out\":\nre\
-turn [who, \" puts out \", strong(event.value), \".\"];\ncase \"end\":\nreturn [who, \" \", strong(\"ends\"), \".\"];\ncase \"die\":\nreturn \
-[\"Nothing catches \" + thrown(event.value) + \": \", who, \" \", strong(\"is dead\"), \".\"];\ncase \"catch\":\nreturn [\n\"A handler of \"\
-,\nwho,\n\" \",\nstrong(\"catches \" + thrown(event.value)),\n\" at \" + labelOf(program, Number(top.slice(1))) + \".\"\n];\ncase \"unwind\"\
-:\nreturn [who, \", throwing \" + thrown(thread.code) + \", leaves the \" + entryText(program, top) + \".\"];\ncase \"enter\": {\nconst rout\
-ine = operandOf(row, \"P\") >= 0 ? \"enters onAdvance\" : \"enters the action\";\nreturn [who, \" calls \" + call + \", and as the last to a\
-rrive it \", strong(routine), \".\"];\n}\ndefault:\nreturn throwText(program, event, row, thread, who, call);\n}\n}\nconst BRANCHES = { beq: \
-[\"equal\", \"not equal\"], bne: [\"not equal\", \"equal\"], blt: [\"less\", \"not less\"] };\nfunction branchText(program, event, after) {\n\
-const row = program.rows[event.row];\nif (event.what !== \"ok\" || !row || !BRANCHES[row.word]) return \"\";\nconst target = operandOf(row, \
-\"L\");\nconst [is, isNot] = BRANCHES[row.word];\nconst there = \"it goes on at \" + labelOf(program, target);\nif (target === event.row + 1\
-) return \"Either way it goes on below.\";\nif (!after) return \"If \" + is + \", \" + there + \", else below.\";\nconst isThere = after.thr\
-eads[event.thread].row === target;\nconst they = row.word === \"blt\" ? \"The first is \" : \"They are \";\nreturn they + (isThere ? is + \"\
-: \" + there : isNot + \": it goes on below\") + \".\";\n}\nfunction refusedText({ what, thread }, number) {\nconst why = what === \"none\" \
-? \"there is no thread \" + thread : \"no more choices or steps are allowed\";\nreturn \"Choice \" + number + \" is refused: \" + why + \". \
-The run stops here.\";\n}\nfunction sentenceOf(program, event, before, after) {\nconst said = eventText(program, event, before.state);\ncons\
-t row = program.rows[event.row];\nconst branch = branchText(program, event, after.state);\nif (branch) return [...said, \" \" + branch];\nif \
-(event.mark) return [...said, \" \", strong(markText(program, event.mark, before.state))];\nconst isCall = row && before.state.threads[event\
-.thread].status !== \"waits\";\nconst arrived = event.what === \"wait\" || (event.what === \"=\" && event.value >= 0 && row && ARRIVES.has(r\
-ow.word));\nconst count = isCall && arrived ? countText(program, row, after.state) : \"\";\nreturn count ? [...said, \" \" + count] : said;\n\
-}\nfunction wouldText(program, event, moment) {\nconst [first, ...rest] = eventText(program, event, moment.state);\nconst branch = branchTex\
-t(program, event);\nconst said = [typeof first === \"string\" ? first[0].toLowerCase() + first.slice(1) : first, ...rest];\nif (branch) retu\
-rn [...said, \" \" + branch];\nreturn event.mark ? [...said, \" \", strong(markText(program, event.mark, moment.state))] : said;\n}\nfunctio\
-n tagOf(program, event, isJava) {\nconst row = event.row < 0 ? null : program.rows[event.row];\nconst object = row ? objectOf(program, row) \
-: \"\";\nconst call = row ? KINDS[row.word][1] : \"\";\nlet head = row ? row.word + (hasSeveral(program) && object ? \" \" + object : \"\") \
-: \"\";\nif (row && row.word === \"intr\") head = rowText(program, row);\nif (row && row.kinds.includes(\"C\")) head += \" \" + nameOf(progr\
-am, \"C\", operandOf(row, \"C\"));\nif (call && isJava) {\nconst name = call.split(\"(\")[0].replace(\"@\", () => threadName(program, operan\
-dOf(row, \"T\")));\nhead = (hasSeveral(program) && object ? object + \".\" : \"\") + name;\n}\nconst said = {\nnone: \"refused\",\nlimit: \"\
-refused\",\nidle: \"can\\u2019t go\",\nend: \"ends\",\nwait: head + \" waits\",\nenter: head + \" enters\",\nout: (isJava ? \"println \" : \"\
-out \") + event.value,\n\"=\": head + \" = \" + event.value,\ndie: \"dies of \" + event.value,\ncatch: \"catches \" + event.value,\nunwind: \
-\"unwinds\",\nthrow: (event.isLate ? \"time is up: \" : \"\") + \"throws \" + event.value,\nok: head\n};\nreturn said[event.what];\n}\nfunct\
-ion shortMark(program, mark) {\nconst name = hasSeveral(program) ? nameOf(program, mark.kind[1] === \"p\" ? \"P\" : \"B\", mark.on) : \"\";\n\
-if (mark.kind === \"+b\") return (name && name + \" \") + \"trips\";\nif (mark.kind === \"-b\") return (name && name + \" \") + \"breaks\";\n\
-return (name && name + \": \") + (mark.view < 0 ? \"terminated\" : \"phase \" + mark.view + \" begins\");\n}\nreturn { markText, eventText, \
-refusedText, sentenceOf, wouldText, tagOf, shortMark };\n})();\n// app/paper.js\nconst m25 = (() => {\nconst { endText, outputText } = m2;\n\
-const { fill, h } = m3;\nconst { nameOf } = m0;\nconst { phaseOf, plain, threadName } = m1;\nconst { planOf } = m16;\nconst { lengthOf, mome\
-ntOf } = m19;\nconst { sentenceOf, tagOf } = m24;\nconst LONGEST = 500;\nconst COLUMNS = 10;\nconst ASKED = [\n\"Beside each line: what does \
-the call return, and who waits behind it?\",\n\"How does the run end? Who waits for ever, and for whom?\",\n\"Before which choice could anot\
-her have gone, so that it ends otherwise? Who, and how does it end then?\"\n];\nfunction standing(program, { phasers, barriers, cells }) {\n\
-const phaser = ({ view, parties, arrived }, p) => {\nconst stands = view < 0 ? \"terminated\" : \"phase \" + phaseOf(view) + \", \" + arrive\
-d + \" of \" + parties + \" arrived\";\nreturn nameOf(program, \"P\", p) + \": \" + stands;\n};\nconst barrier = ({ waiting, isBroken }, b) \
-=> {\nconst stands = isBroken ? \"broken\" : waiting + \" of \" + program.barriers[b].parties + \" wait\";\nreturn nameOf(program, \"B\", b) \
-+ \": \" + stands;\n};\nconst cell = ([c, value]) => nameOf(program, \"C\", Number(c)) + \" = \" + value;\nreturn [...phasers.map(phaser), .\
-..barriers.map(barrier), ...Object.entries(cells).map(cell)];\n}\nfunction changedText(program, before, after) {\nconst was = standing(progr\
-am, before.state);\nreturn standing(program, after.state).filter(text => !was.includes(text)).join(\"; \");\n}\nfunction lineOf(tree, run, k\
-, columns, isBlank, isJava) {\nconst { program } = tree;\nconst event = run.events.at(k);\nconst after = momentOf(tree, run.id, k + 1);\ncon\
-st cell = t => {\nif (event.thread === t) return h(\"td.is-own\", {}, isBlank ? \"\\u25CF\" : tagOf(program, event, isJava));\nreturn h(\"td\
-\", {}, after.state.threads[t].status === \"waits\" && !isBlank ? \"\\u2502\" : \"\");\n};\nconst before = momentOf(tree, run.id, k);\nconst \
-said = isBlank ? \"\" : plain(program, sentenceOf(program, event, before, after));\nconst changed = isBlank ? \"\" : changedText(program, be\
-fore, after);\nconst words = [said, changed ? h(\"small\", {}, changed) : null];\nreturn h(\"tr\", {}, h(\"td.paper-number\", {}, k + 1), co\
-lumns.map(cell), h(\"td\", {}, words));\n}\nfunction drawPaper(paper, { tree, run, at, isJava, title, asked }, isSheet) {\nconst { program } \
-= tree;\nconst columns = program.threads.map((_, t) => t).slice(0, COLUMNS);\nconst last = Math.min(lengthOf(run), LONGEST);\nconst from = i\
-sSheet && at < lengthOf(run) ? at : 0;\nconst rows = [];\nfor (let k = 0; k < last; k++) rows.push(lineOf(tree, run, k, columns, isSheet && \
-k >= from, isJava));\nconst heads = [\"\", ...columns.map(t => threadName(program, t)), isSheet ? \"What happens?\" : \"What happens\"];\nco\
-nst questions = program.questions.length\n? program.questions.map(one => one.text)\n: asked && asked.length ? asked : ASKED;\nconst rest = l\
-engthOf(run) > last\n? h(\"p\", {}, \"The run has \" + lengthOf(run) + \" choices; the first \" + last + \" are printed.\")\n: null;\nconst \
-output = outputText(program, run.end);\nconst end = h(\"p\", {}, h(\"b\", {}, \"End: \"), endText(program, run.end), output ? \"; output: \" \
-+ output : \"\");\nconst blanks = h(\"ol\", {}, questions.map(text => h(\"li\", {}, text, h(\"i.paper-rule\"), h(\"i.paper-rule\"))));\nfill\
-(\npaper,\nh(\"h1\", {}, title),\nisSheet ? h(\"p\", {}, \"Name ____________________________   Date ______________\") : null,\nh(\"p\", {}, \
-program.about),\nh(\"pre\", {}, program.text),\nh(\"p\", {}, h(\"b\", {}, \"Order: \"), planOf(program, run.events, 200)),\nh(\"table\", {}, \
-h(\"thead\", {}, h(\"tr\", {}, heads.map(text => h(\"th\", {}, text)))), h(\"tbody\", {}, rows)),\nrest,\nisSheet ? blanks : end\n);\n}\nret\
-urn { drawPaper };\n})();\n// app/quiz.js\nconst m26 = (() => {\nconst { button, h, shown } = m3;\nconst letter = k => String.fromCharCode(9\
-7 + k);\nfunction optionsOf(question, chosen, act) {\nconst kind = option => {\nif (chosen === null) return \"\";\nreturn option === questio\
-n.right ? \".is-right\" : option === chosen ? \".is-wrong\" : \".is-rest\";\n};\nconst sign = option => {\nif (chosen === null) return \"\";\
-\nreturn option === question.right ? \" \\u2713\" : option === chosen ? \" \\u2717\" : \"\";\n};\nconst one = (option, k) => {\nconst given \
-= { type: \"button\", \"aria-disabled\": String(chosen !== null), onclick: () => act.answer(option) };\nreturn h(\"button.option\" + kind(op\
-tion), given, h(\"kbd\", {}, letter(k) + sign(option)), h(\"span\", {}, option));\n};\nreturn question.options.map(one);\n}\nfunction verdic\
-tOf(question, chosen, program) {\nconst word = chosen === question.right ? h(\"b.is-yes\", {}, \"Right. \") : h(\"b.is-no\", {}, \"Not here. \
-\");\nreturn h(\"p.card-verdict\", { role: \"status\" }, question.own ? null : word, shown(program, question.why()));\n}\nconst plainCard = \
-(small, large, text, ...turn) => [\nh(\"div.card-ask\", {}, h(\"p.card-small\", {}, small), h(\"p.card-large\", {}, large)),\nh(\"div.card-r\
-eply\", {}, h(\"p\", {}, text)),\nh(\"div.card-turn\", {}, turn)\n];\nfunction quizCard(quiz, program, act) {\nif (!quiz) return plainCard(\n\
-\"Quiz\",\n\"Random orders are being played.\",\n\"Wrong answers come from them.\",\nbutton(\"Stop\", act.stop)\n);\nconst { list, k, chosen\
-, right, answered, isOpen } = quiz;\nif (!list.length) {\nconst text =\n\"Every order does the same here, so there is nothing to ask. Take a\
-nother program, \" +\n\"or write a question: a comment that begins with ;?\";\nreturn plainCard(\"Quiz\", \"This run has only one way.\", te\
-xt);\n}\nconst question = list[k];\nif (!question) {\nconst text = right === answered\n? \"Now make a run that ends otherwise.\"\n: \"Step t\
-hrough the run again, and look at the picture.\";\nreturn plainCard(\n\"Quiz\",\nright + \" of \" + answered + \" right.\",\ntext,\nbutton(\"\
-Again\", act.again, { kind: \".main\" })\n);\n}\nconst isDone = chosen !== null || isOpen;\nconst score = answered ? \" \\u2014 \" + right + \
-\" right\" : \"\";\nconst hint = question.own && !isDone ? h(\"p\", {}, \"Say it aloud, then show what happens.\") : null;\nconst turn = isD\
-one\n? button(\"Next\", act.next, { kind: \".main\" })\n: question.own\n? button(\"Show\", act.show, { kind: \".main\" })\n: button(\"Skip\"\
-, act.next);\nreturn [\nh(\n\"div.card-ask\",\n{},\nh(\"p.card-small\", {}, \"Question \" + (k + 1) + \" of \" + list.length + score),\nh(\"\
-p.card-large\", {}, shown(program, question.ask))\n),\nh(\"div.card-reply.options\", {}, optionsOf(question, chosen, act), hint),\nh(\"div.c\
-ard-turn\", {}, isDone ? verdictOf(question, chosen, program) : null, turn)\n];\n}\nfunction optionAt(quiz, sign) {\nconst question = quiz &\
-& quiz.list[quiz.k];\nif (!question || quiz.chosen !== null) return null;\nreturn question.options[sign.charCodeAt(0) - 97] || null;\n}\nfun\
-ction challengeCard({ goal, changes, isDone }, act) {\nconst count = changes === 1 ? \"one change\" : changes + \" changes\";\nconst aim = g\
-oal === \"stuck\"\n? \"Get it stuck: let somebody wait for ever.\"\n: \"This run is stuck. Get all threads to end.\";\nif (isDone) {\nconst \
-done = goal === \"stuck\" ? \"Stuck, with \" + count + \".\" : \"All end, with \" + count + \".\";\nreturn plainCard(\n\"Challenge\",\ndone,\
-\n\"Is there a way with fewer changes? Why does it end so? Click a thread.\",\nbutton(\"Again\", act.again, { kind: \".main\" })\n);\n}\ncon\
-st text = \"At any choice, click another name after \\u201CNext\\u201D, and step to the end. Your changes: \" +\nchanges + \".\";\nreturn pl\
-ainCard(\"Challenge\", aim, text, button(\"From the start\", act.again));\n}\nreturn { quizCard, optionAt, challengeCard };\n})();\n// app/l\
-essons.js\nconst m27 = (() => {\nconst LESSONS = {\n\"lost-meeting\": {\ntitle: \"A meeting lost to a stray arrival\",\naim: \"A phaser coun\
-ts arrivals, and doesn\\u2019t know who arrives.\",\nlast: \"A phaser counts, so each arrival needs a registration.\",\nsteps: [\n{\nat: 1,\n\
-ask: \"Ann waits. Who should be next, and what will happen?\",\nanswer: \"If Cem is next, the phase ends without Bob: the phaser only counts \
-two arrivals.\",\nvotes: true\n},\n{\nat: 2,\nask: \"Whom does Ann believe to have met, and what does the phaser know?\",\nanswer: \"She bel\
-ieves that she met Bob. The phaser only counted two arrivals, and phase 1 began.\"\n},\n{\nat: 7,\nask: \"Which phase does Bob wait for, and \
-how many arrivals are missing?\",\nanswer: \"He waits for the end of phase 1, and one is missing.\"\n},\n{\nat: 1,\nask: \"Choose a plan in \
-which Cem arrives, and no thread waits at the end. Is the program right, then?\",\nanswer: \"Let Bob go at 1: all threads end. At 0 with Cem \
-first, Bob is stuck again. It only works by luck.\",\nfork: [1, \"t1\"],\nvotes: true\n},\n{\nat: 0,\nask: \"Let Cem call preg r0 meet befor\
-e he arrives. Which plans lose the meeting now?\",\nanswer: \"None. Write the row into the program, behind stray:, and try random orders.\",\
-\ntab: \"orders\"\n}\n]\n},\n\"broken-barrier\": {\ntitle: \"A barrier broken by an interrupt\",\naim: \"An interrupt ends one wait, and the \
-barrier then breaks for all.\",\nlast: \"One interrupted thread breaks the meeting for all.\",\nsteps: [\n{\nat: 7,\nask: \"Why can Bob cont\
-inue in choice 9, and not in choice 7?\",\nanswer: \"The interrupt ends only Ann\\u2019s wait. The barrier breaks at her next turn, in choic\
-e 8.\"\n},\n{\nat: 6,\nask: \"Can Bob continue now?\",\nanswer: \"No: his name isn\\u2019t among those who may go next. He continues before \
-Ann if Cem arrives first.\"\n},\n{\nat: 6,\nask: \"What if Cem arrives between Eve\\u2019s interrupt and Ann\\u2019s next turn?\",\nanswer: \
-\"The barrier trips, and they put out 2, 1 and 0. Ann\\u2019s interrupted status stays set.\",\nfork: [6, \"t2\"],\nvotes: true\n},\n{\nat: \
-0,\nask: \"What would the three get if Eve interrupted Cem before he arrived?\",\nanswer: \"Write intr cem. Cem gets 3 when he calls await, \
-and the others get 4.\"\n},\n{\nat: 9,\nask: \"Which call repairs the barrier, and what does it do to a waiting thread?\",\nanswer:\n\"reset\
-(), which is creset gate. The waiting thread gets BrokenBarrierException. \" +\n\"Later calls use the repaired barrier.\"\n}\n]\n},\n\"two-o\
-rders\": {\ntitle: \"Two phasers in different orders\",\naim: \"Two meetings in different orders deadlock in every run. Two locks deadlock o\
-nly in some runs.\",\nlast: \"Meet in the same order everywhere, or arrive first and wait later.\",\nsteps: [\n{\nat: 0,\nask: \"Is there a \
-plan with which this program ends?\",\nanswer:\n\"No: each thread waits at its first phaser, and the other never arrives there. \" +\n\"Both \
-runs end in the same state.\",\nfork: [0, \"t1\"],\nvotes: true\n},\n{\nat: 2,\nask: \"With two locks in different orders, some schedules en\
-d. What is the difference?\",\nanswer: \"A lock may be free again before the second thread needs it. A meeting needs both threads.\"\n},\n{\n\
-at: 0,\nask: \"Change as few rows as you can so that every schedule ends.\",\nanswer: \"Swap the two rows of other, or of one.\",\ntab: \"or\
-ders\"\n},\n{\nat: 0,\nask:\n\"Let Bob arrive at both and then wait (parr r1 right, paaa r0 left, pawait r0 right r1). \" +\n\"Does every sc\
-hedule end now?\",\nanswer: \"Yes: he arrives at right and doesn\\u2019t wait there for Ann.\",\ntab: \"orders\"\n}\n]\n},\n\"late-team\": {\
-\ntitle: \"A team that joins late\",\naim: \"When all parties of a child have arrived, it arrives once at its parent.\",\nlast: \"Register b\
-efore the others meet, or leave when you are done.\",\nsteps: [\n{\nat: 2,\nask: \"In choice 2 Bob arrives at red. Why does a phase of both \
-end?\",\nanswer: \"He is the last party of red, so red arrives at both. It is the only party there.\"\n},\n{\nat: 10,\nask: \"At which phase\
-r is a party missing at the end, and who would have to arrive?\",\nanswer: \"At both: Ann and Bob would have to arrive at red again.\"\n},\n\
-{\nat: 1,\nask:\n\"Cem\\u2019s preg returns 1. What does it return if he registers before Bob arrives, \" +\n\"and how does the run end?\",\n\
-answer: \"It returns 0, and all threads end.\",\nfork: [1, \"t2\"],\nvotes: true\n},\n{\nat: 2,\nask: \"After which choice is it too late fo\
-r Cem?\",\nanswer: \"After choice 2: if he is next now, he is stuck.\",\nfork: [2, \"t2\"]\n},\n{\nat: 0,\nask: \"Let Cem call pdereg r0 blu\
-e, arriveAndDeregister(), instead of paaa r0 blue. Is anybody stuck?\",\nanswer: \"No: blue leaves both with its last party.\",\ntab: \"orde\
-rs\"\n}\n]\n}\n};\nfunction lessonOf(name, program, run) {\nif (Object.hasOwn(LESSONS, name)) return LESSONS[name];\nconst steps = program.q\
-uestions.flatMap(one => {\nconst at = run.events.findIndex(event => event.row === one.row);\nreturn at < 0 ? [] : [{ at, ask: one.text, answ\
-er: \"Step on, and see.\", next: true }];\n});\nreturn {\ntitle: program.title || name,\naim: program.about || \"Step through the run, and s\
-ay before each step what it will do.\",\nlast: \"Which order would end otherwise?\",\nsteps\n};\n}\nreturn { LESSONS, lessonOf };\n})();\n// \
-app/mistake.js\nconst m28 = (() => {\nconst { DIRECTIVES, KINDS } = m0;\nconst JAVA = new Map();\nfor (const [word, [, call]] of Object.entr\
-ies(KINDS)) {\nconst name = call ? call.split(\"(\")[0].replace(\"@.\", \"\").toLowerCase() : \"\";\nif (name && !JAVA.has(name)) JAVA.set(n\
-ame, word);\n}\nfunction distance(a, b) {\nlet last = [...Array(b.length + 1).keys()];\nfor (let i = 1; i <= a.length; i++) {\nconst next = \
-[i];\nfor (let k = 1; k <= b.length; k++) {\nnext[k] = Math.min(last[k] + 1, next[k - 1] + 1, last[k - 1] + (a[i - 1] === b[k - 1] ? 0 : 1))\
-;\n}\nlast = next;\n}\nreturn last[b.length];\n}\nfunction nearest(word) {\nconst bare = word.toLowerCase().replace(/^.*\\./, \"\").replace(\
-/[^a-z]/g, \"\");\nif (JAVA.has(bare)) return JAVA.get(bare);\nlet best = \"\";\nlet least = Math.min(3, word.length);\nfor (const one of [.\
-..Object.keys(KINDS), ...DIRECTIVES]) {\nconst far = distance(word.toLowerCase(), one);\nif (far < least) [best, least] = [one, far];\n}\nfo\
-r (const [name, one] of JAVA) {\nconst far = distance(bare, name);\nif (far < least && far * 3 < name.length) [best, least] = [one, far];\n}\
-\nreturn best;\n}\nconst wordsIn = line =>\n[...line.split(\";\")[0].matchAll(/\\S+/g)].map(m => ({ text: m[0], from: m.index, to: m.index + \
-m[0].length }));\nfunction wordOf(line, kind) {\nconst found = wordsIn(line);\nif (!found.length) return null;\nconst isLabel = found[0].tex\
-t.endsWith(\":\");\nconst [head, ...operands] = isLabel ? found.slice(1) : found;\nconst kinds = head && KINDS[head.text] ? KINDS[head.text]\
-[0] : \"\";\nconst isNumber = one => /^-?\\d+$/.test(one.text);\nconst picked = {\n3: head,\n5: operands.find((one, k) => kinds[k] === \"r\" \
-&& !/^r[0-7]$/.test(one.text)),\n6: operands.find((one, k) => (kinds ? kinds[k] === \"n\" && !isNumber(one) : k === 1)),\n9: operands.find((\
-one, k) => !kinds || \"LPBTC\".includes(kinds[k])),\n10: isLabel ? found[0] : operands[0]\n};\nreturn found.find(one => one.text.includes(\"\
-,\")) || picked[kind] || head || found[0];\n}\nconst plainly = text => text.replace(/`/g, \"\").replace(/^\\w+: /, \"\");\nconst sentence = \
-text => plainly(text).replace(/^[a-z](?=[a-z]* )/, sign => sign.toUpperCase());\nfunction mistakeOf(fault, text) {\nconst isProgram = fault.\
-group !== \"plan\" && fault.group !== \"schedule\";\nconst mistake = {\nisProgram,\nline: fault.line,\nword: fault.word,\nnear: \"\",\nmeans\
-: sentence(fault.means || fault.told),\nhelps: sentence(fault.help || \"\")\n};\nif (fault.group !== \"asm\") return mistake;\nconst line = \
-text.split(\"\\n\")[fault.line - 1] || \"\";\nconst word = wordOf(line, fault.kind);\nif (!mistake.word && word) mistake.word = [word.from, \
-word.to];\nif (word && word.text.includes(\",\")) Object.assign(\nmistake,\n{ means: \"There are no commas\", helps: \"Put blanks between op\
-erands\" }\n);\nelse if (fault.kind === 3 && word) m";
+IQM8rlji3yzwjxjg+CsGOJ+bO8DjGa4f4PaJxN8j8N8h8P9sgOvnhwa4f2zIy5wPSvzTBX7rZY5//Mv8+i98mdsHP325OP3zXxT1v/dyf/M3Xxb+rxLH3z4g/N8ljj9dHH+4xPGPvSTq\
+J+wtfvwR8fxOL3F8QhyvHeBh/WGF23S2hVJEyDHcDe3ItD1uSjxB/Uwo0xWizhHtrCsPasa+f2GRrtdU0v8eIQoixnnFnCLAcRVlUMObXBywm4ZHOIlMvDdkFClSmaGnj9G00k4KpIDW\
+VvTWQbC9HOp79p/R71VFK6kKcH0jOcyF09aBvpxwhWFO7if3ITflOG3VhLRad1eAO4MBBugoavT3E5x0miKoSdW2jTNJ6Z6ycI3tt1L0mnihdCqaHV1DpNSw7ZlApcS85Nj6MO2zwc0W\
+W+7osL2VEvs5tURELe2psB0UrJyun9n8tOjQMqAE/YM5F8bSB2BPIzmkzyi4u7L/Vf7+XbiP96WbvY/rfWv3cX716D7u//liH+effQJ//Wsc/5TXOL9f/BqXf7cQ/P0C+BsE/hMC/6mv\
+i3iP1/l+a8frxfEffkXUS3md4z/0Oo/3/vZ+Lk+mEJwogH+9wP/0fo7/P/Zz/MP/U8Nnm+tJcEsB/LsF/u2viP2f/Xz/ajydf6qJx9sv+Lu43kNf5ePPvM7jZSS+p18X8S0C33yB74PX\
++P6UxPf+a0K+CXybBb5vvsb9gxLf3wl8Q/eJ+ACBr2ofjy+S+CL7RB004w2IXBSPO+qVnAP8vNn86g1b+ccbTdGKXivutAeaJYdYIxzKvjZtFtJRREkBasCW8KRoPNdVE8511eie1INw\
+1Uxpnt506UWz5s02ApOIdsdU0WKaqCdPnvUWPKTRas3GF5jOGVoERHnsdNjPrZflO/yUQLkw6jE/QQ2kYAZcpPolN8CEpwxdBB3t09mUEtF5lpF3uFEnaNGAuQ/gjMrC7pKWaNGujJ1R\
+gmmGHbxRWFozFs0oi9ANlpQrvC5dJgfvHJyMi1TrqiqxrpopaUgbo6IpeVZW4ABdvsRUSYEKK3gYPo+tiqwFyu51oonuTiVsbCozNMW28IsbPDdfVXK5NgNlsQ4Q1b2EG9eKN85vy90q\
+V2uJ5LXaubrEZp6F5gw18kKn+qs6QIc6UPNYL0cs7riuPp7SxcJeR8SemcZBZSz8wSw6Z5lF3sMhQw9wfjPlAJcnlxzg+U6rD3D7c8cBXn/4+AEuT/b/kuMf/QbH/603uDzKvMHr1d0j\
+YIl/s8C/T+A/+Ab3s1W8yfPfvvMmt+8k/u2/FPlIBzi/fvUNYf+UOL5CHF9xoPjxTQcKyIM6/wGsUzpgbIEFISeYghiFLuJgZ/RSridxb80L62q8EuhJb2c8tiCK5dZg71mX5tBI0BYB\
+RN6AAgqUBAOrKk+8XV1tOZy/3l9WfavCrYjKptUbBcSZWraaNiLM/JghLRv78WGkYFr9jN74NHUy0JfGcEtcjUJrLlXwZ407/zrVKQVepgaf9gYyL/U98Tu7atOFygIgfsUa0K2kBZQX\
+Ax/8LXDxdQnTvHTBRUgHtnu9G9AQmVid46DuPyjqb73N4W+/zf1Alwr4B2/zfd6db3M/lSXwv/k29+f+6m1uB0x4h/uPL3+Hx0FJ/Dvf4u/Funf4e9P/Dtfbtr/D5/uLQ9zvIvEPeYv7\
+iy84xOFLD/H6VPcc4vVOPjnE55P4HxD09wt4lYAnv8X9x2Pe5uOlYEn/WHG/Zx3i9+fiQ3w+ef7ASdLz43e4f17Ss+qgWP/Bk5vvDQHL+eT4CAHvPMn55fsl55fjyQVXVlaih0W7qWMo\
+71GNCFYe7sDOM15uoNx4hV03sOnR+4FpG1R3CXG2dbUViRiJ/Ml7rd/9rnVp04x5zQHygRfib6DWJgP93KDiOupEXp14sX+IuowXRkONOL1YeXUdKHRTNogrVBi0yJrUtU0aOgXt7He9\
+hao5edyLUdPT0cGhQKF4zKe11Y823AvTFbsUnYadF1XC4eJgs3XU3BMdAUHT6kAoLUSsRiHDCGn0Owf5lUHHB/dE7FmtVzmxTCUaF2cr3bUjqdUESPjJQFc3aPGtL4u/QF3phe2aB3V8\
+3NNKd/1Zt/qHPPBrzj8Sh/n+ZM9h7od6/DDXY784zPnz9Pe53jdC4O94n7//6fe5/Nj2Psf/R4L/p5EXH3D+n3qP409/IOqtf8DjjnZ+wOXjbz7gequkf+e7HH/Dh/z6TCF4BsErP+R1\
+ox/5kK9P4rffE/z5Pc6/jrzLr9eCw/z4UnD1h2K/9DDHL8fl+aEPuTwb8muxXyzo73/v5OiV90/S2/MBp0ce3y/oWyXgyb8+Ofrk8yvpi7/P6ZHHtwh8YXH+wZOkr/1wcfrkuDzfPszp\
+x6LRLv5FQQqSYuqsac1GagDP6ebxNjhOuRdoKOA3NOE1X6NW2zku84ATzgaOawfsABTCWvRGcQL0brj/vxxpDjiR8I+bTzbAZpP6ZicTTW2LoomYYxurKcSkxDiXTChbWT8yxkdfUm1r\
+6Q5cRiZoJ6Ni/fkdN4HyW8o40wRYY6tKXojCFlgxrSSb6O5KtOm/bjR41xZG25ygjRZ3oOiab0gHDcmEuRC5rjd4rIznbRCBXNpeVlqWfjjTQZON22uEFD/wDz5IUSVYE21xB924C/I8\
+yszuNII8o2tA4aOMjyPsBtWb1eiC115beHN3aaL864BT4ab5yxAqS3W+ctctvxP9QY7wffFrjnD78uEjXP69RXA9wWd+zOXTwEecf0z8mMvD73zM80Qu+5jHKdz0Mbd3t33M5XeLwP/K\
+x9w+ep3gNMEXHeX4rjnK66dJ/Et/y6/PU0e5fbv7KLc3v/57bo92/p7rNxL/5I8EPxewJeAhYr1Hfivq5Qp4x1F+vf+XgB8VcPIIP1+OP3hU9Ok6Kup7CnpTH/HjJf5SsLyfqSPF7/fk\
+3wn94iTnl8+rnL9WzN8izp8s4LCALQEPEfgf+N3J0W8fKU6/HJfnLzjC19ch4JiAJT4Ise1yXPiAOGelA6ivyPEgGqw44wxBwc0A7+yClrbRtpNn+Xk4fVV50rzNBdekT5qJ1O21bOC6\
+dvE4ZRblXCqPpmwB26WuacBsbuvyYkB0CU8/inhcxosghvbdIa+KfWDTBKMIe2ba1CtEUesVz2Ox2RQYsxDD9kxMoomVRDFnQ90ginaorBxkkjhbNRRSgv/dc1Phc1vDE1rD6kuOn0CT\
+FTXlVNutVLjRsjucDFZgtWGl5M529bmTLFths3XEpjaQLQUr9OS68eKaaQbcKguqUnhJ9B4ZVLCGPTMvWAkuYz6LO/KnKZpmf/tTkU/xKecTd33K93M++pTLqcnHuBy8+pjIn/mE419x\
+jOO/+xi3s98jeB7Bk47z/ByJv+cPXK62Hud6x83HuV287zj3I0j6Kz4T8SV/EPErnwk58RmX0ys/43b83s/4+v72j1xP6fwD55PzBTzpM3695PzjPxH7TwIeKuBjAv9hAe8X8A3H+fxL\
+j/P5e49zO9g9zu/HVce5niPvzzFB32EB7xdwzycc/0+P8fFy4TXH+Hr6j/H7fdsxTr88Xj7PPZ+K+BYBzxfwdAGv/5Sv71bxPq4Q4/J9xWBE/IMV7zL4xyV7FcxDnWHaaOLt/A1CZEmY\
+m2hXWZmIFba+qww5YIwRW6bdQppJKCBSQ77Lt1vwOCU29P53ykl3RlMQ6AestxGsam1ug5yx/6ySC2lMOx2ucSK75Hz3vNB4hXIvglmNZq5eX2XdZdOJxwM1a+MmvD+wcgcTXyECIZtw\
+Q8CDwSav11dHb+oCJl1vKWN8y4PMmTEhA4FPuMAmd1WJIRRFJrlWo0IpqpeG2642RkKcU231VNmT1B/jbfdMfzytapyOacBtV1O0AdaQ7NaBHdpXbEI2KzFZW4fiBLN24F6UKBIMsh7+\
+D9aLUbO6uhE4SXrKNkokrKxSMuIoGqNY91BnKOWmIQXTyHWa9YQJqFaMw5qDrclWdQkqK8dR/pYexHhIaBI5c7DhtcFZKJqWplG4i+fdDnwu9P0THG4/weP0HzzB7b/PTnC5ct4XvC7D\
+qs9F3eAvRF7kFxz/7i+4vfwpwUtMfhBFZJo6DuHPuX6+isYN/o0Emzzejwg29v23/0LDpt9DjGCvX/1/8+txLY0b+HZx/n6CTydG+uu/HMnk8Li/GsnylazPxf6ggIcI+Mh/c/gWms/E\
+pSwn2NTpWErwXxWgf6nAnxKwLeA76PoZvr9WwPL67xTnPyDg7i+Ev0Y8H5NPCHtTwJaARwj4yhNcL7j8BJ9v7gnhjxbPPybDw/+wPZhc6HZm29vjjhf3h5o0hkrraIpoIpDzB2xQO8tc\
+qD6qTwn5P+CRNsuUJx6BM1qRykpItbJ1Fr9rdRJfA64OE0QwAwsPVXzzpHnF+fXEK5rnzL1o5oWmE4QyZdnK9P4wuP0wKH8MhHX26j+BkCBlOebrv2cEIQTfe/lkfpVAkIm6bINifU4H\
+Wg+2d5Kr6z1mev0ShxR16hbdAIyymL1WBsXQx5izOVjQdrEyVVZuFB9eN91gQl+2JiALCnZgHVn847Z2JaLpXr+FtpIRWHGokfUmhzJBUP4nUHVE6y0oPfH5gHxZ7Cck4ulhMNjanAlA\
+fW11XdsyHxWgSj8q0KS7o2ATd9gZUf93JdTTkEVvthv4HjW76hiD6v1M2bya0km6C32elNqczZHZsy5TFi5GZcHm9sLkIujxpMz0Vmjyqa7P1VarUgpa4zquCwO9wNFC4V3aZQKb4dBE\
+0QW9yIm3Wxi0Cn+UnggPoI7Ixach1ebgL/Co6JBWy0S2miboKfVUwsa+ttRTpvdUSj+ksImfQExQ+xKHoTVICnugUMioibGkANWYDmK1YrQPb8VkXPHg7iA+HhMm6IvrJToqDePCeU0X\
+NtNNDNyTTLQ17mBqwsCXRjJ+epRgk7dwxt9ouMvIc4JNXOS/EWz0hRMEe/FKAv83ThnJ8i4mEGzqBq89hcvbVwieUQD/KoH/rKEjmd13NsGmf3yMYJPPvJrglgL4B/6ay7+P6Hgjb/5A\
+cKvZDzh1JItzXUaw8QPsOpXrH0sF/SkB2wJuEfBkAYcF/MFQrg+8O5TL718N5ccfEvA7An5bwP1ivm/SuNEHd4rxr5/Cxw+K8SNf4uOpsDIMkfNaLU2z517UPMeCrpuXNk+z5s2kb16A\
+CtoRaJQ1auMn4EUjD5rmtdQZCN60EIpdzGbAnknmXYbD2IgSb0otcDqiGTVOJAWq3vLevhi7AgXgEtHMIMNXBr1rW8AYbQ23hq3Lmi4C2W5NmT3re80z/Wid4JXxVhUs0eGtGwPH1bo6\
+nISj8zlCZEx6Vmcg+B4j0SNRggNtgzUrorgxHUqkjSqKzfci8wO5BiVj0/NG3PMtz3CMHKzUfTe4cLjrSnfJOpNYb14MqCdPMhiaNkiMqDXVtih7Ux+LfmAQJDjkCW+Pejwoljf7AwOz\
+4FT1LVbCZ3zt2Maz3K6OhAt/rrXGWo3WWbgICM3rwiRJo3eBr0VrU2BHa7v7WpucAvZY27NeG+mr9i8o+dyRtOC+2mfZdKu4LpfjLDeXB2garAflT6uTOuIr3N5JDef8avdwzr8/Idj4\
+Raedzvm3TbDJm1r1Zc4Ps6dz/D8h2NSBf4vgNoKnjuD26T+M4PbekdM4vmUj+HwbR3B78W2Cv1cAf2ikhr3+h6dxfBeP5PIuNZLLs50juTwthf/gaZwfDwh4p4D7T+P82hnJ5eWCkfx6\
+zCfY1LmdLY6X61n6ZSEfBWwLuEXAkwX8kxEc/2oB/3AEp+emEcXv55CvCPkl5jso4AEBrz6dz99HsPEDX0Pw8ALPqz1crF/AkwUcFrAl4BECHiLgI2K9BwU8IOCdAn5qOF/fowLeMpw/\
+H/1ifJ2AVw/n9+tHgl/cOJzra73Duf8kO5zfT8lvsNAV/ulNxBSrTHRd47QtVB+ZZHphVglexYC72nv136Z4PJZMtHWB1JztQLZMNJGZoU6e4yyMpjqVSdvcE+uMJjqUZJWduHGOkEWo\
+Mb/fNWe5wb05XSEwmjGNIJGpk+h0vZp/nsVLG5gBAWrrHHI1JxlsfjkuVxcEvrjp0iaqTKlMK3dMHLaqsSfOtGR3YgbGExlIaVg44uk/ZL1icj3m2/MTTQtf8yNZjORXsH0VqdqeBMsg\
+tchzkrSpc3DArAdyKY180yqGNs/SEYxe1vHf4ZAv1NjyWSOZQVlNVyXBulXKY1vUUXdrdjaRgN+be5xYVt25oJcYfDBo3pomQWTqe9UaXBMb6HpuadvzaiRgdxqqEVDbSteT/JO8OsJ6\
+2e2UH4iFNP2A7TzLmdaVdmKgwLpjFiXVbe2KO9FMcmFXrAn/QlKpejhNZek2J443C6oAkTLkbbtgYRsc8J013ekk6FmgCWkjX11cM426EY5SrGytJ7nZhXB7QdNStxAgwm+8ITapSzjk\
+KVuK33yNv69rzyR/rMmnOZPbp28QbPIMR4/i+kDlKC6/h3yN84vvj+L8oIfgi00eOsEm3+jzUVy+jqrgsH0Gxxep4OuZUcH92T+p4PqBxP8rGjd5iUu/yukfOprjH0uwZfSB0Vw/uJ5g\
+02funtH8+rScIeSLgMMCtgQ8QsBDBHzkqxz+u9H8en1drOdMAZ8xmusjp4vzvzya+8vl9Tki6Dko4AEB7xTwAwK+sILPP0XA36ng8qu2gt8/+XwMfE3ML+AHBNwv4FUCXirglIAzo/j8\
+8VFcX+kQ70dMHH+lgOX7NGcUX2/qTKHPnMnvZ1jAlji+70x+PZeeyeldeSafT46XOt9NZdNdyazbHV3gZFP6r2t+tDScSHrR366XZwqpS1EXkrxdh4LAYHPVhMqCDzOKRlxuhUKUUUkj\
+/EFg2riXbZK8cZPZk2r+1G4yx299GfkZ0eOvxcSYjFIcIAcI9Af4A13rseWx6XsMDkyjbIB01/4CarPkt4ZGUWZ8oqRWaHc+7erqEzwRr8+q8jo/q1nsUGB7N1gSUx9TQnKLALi5sKAx\
+sL+c0Yn2Tk+qK93rxh0n1QvCiCLHFHLXdcxOjtkdxkCq7s6kiYA2XhDc9eZJ+i74mW2RPq/r6KT8H0FPsdKwHe73I7GhJZ2t75b6Nk5reCXuGkw5Jp5MgjcaQ7fakk7cdTqSmSRGX0ct\
+GNQls6/Kgq8cAgIwew7H7WiHUisarUoT3AY+dEWgIg9HoIh0a8LBD+dqvQ5wuetBfQ9y3PUKh24NlUw4g3Y+w36gLsN0ZVVluDI8zE1m0xB/19oWDYedaLStJhJrDdfGwuFoa6zWiTa0\
+1zqRiRPDdTVV4YmxcDTS1j4x0hqLxhoaog31rdUTq6oj7TVOdJiOVtA3nDIJdJGIxoBbrpE0xWvP8gpGYXlFv2NfxvhNMpY1Hp5F4yY72xrvOQozVqP6z3Or6K84tdOoy35pH4o63Y8X\
+DVQHN1GHw4adfy4caC4pbMtEoNo2fqm2gv+ifO8n43XWwnUM80JesMshItFfGwIovCaIBU7Gvup4Ln6bWGB+f/MPDgucT2qrRmGAOn1+d2evFbQYdJEqrz/7eN3T/WwPV6BhtUIW6KKM\
+tHhwoaXgy4an4rcGsRQMmChwKpThDWnfVc6/kt2JPCymnBdW+ApRPxNUay3dlk6X4TLxtlTgl66xhyXQBiHkFYKzzBUFfzfVXLOpuptPgCnDH/KePP+fPtVEABNTgItCSUjA100ZugAt\
+kOyjK8jLf16xXXFRQ5r14QI8RJgsg69JCAsKBxFhxyjPWBoWjOQKkVdZvTEhuLFsMVEeFeZ62bMBApDDeyjpoqKnOGSllL0IF0Bj7pZlgskvDPIALRMPy/nQvNYUDRUXRd2ReJcW+FQX\
+1X/GqMogPttUwC3wmjp+RcBheXLH4KxA5hidQrCuj9OLQrLRkhVn/BckGo2GTP1idj2tnP1ckEFtxo70MKDDv8A/LTWD+8ZUDlY9qgF2gw4Q9DWELLCyfTrwDlwcXQS5S7SFA4+G3osA\
+TMMsa5ZO8VYc3sJDG2nySyBvjoDmRaix6N+TwJ/p954o9LRvhEcXGWqOWR5C4WvEnp1HxLUEGPKY4qb3oAQko3y6E0/RV5/W4BJa4hhoqNmIH/RoeyWtFyS0WuVSUcNK6/JkFkVV1F3Q\
+OMzk9xq91+i75nfjjzd+M1PHzejRyXH6l+voczh9WvRZQ5/T6fMfx/G84qECn4FPFbChz6Hzs/R5Cn1W0Oe59DmZPufT5/Wn5/9ccpr+XEqf0+jzB6fx+DNjt3h9GWh8En1Ops//B+p6\
+pek2MAYA</script>\n<script type=\"module\" id=\"script\">\"use strict\";\n// app/language.js\nconst m0 = (() => {\nconst KINDS = {\n__proto_\
+_: null,\nhalt: [\"\"],\nldi: [\"rn\"],\nmov: [\"rr\"],\nadd: [\"rrr\"],\nsub: [\"rrr\"],\njmp: [\"L\"],\nbeq: [\"rrL\"],\nbne: [\"rrL\"],\n\
+blt: [\"rrL\"],\ncall: [\"L\"],\nret: [\"\"],\ntry: [\"L\"],\nendtry: [\"\"],\nthrow: [\"r\"],\nout: [\"r\"],\nlds: [\"rC\"],\nsts: [\"rC\"]\
+,\nself: [\"r\"],\nintr: [\"T\", \"@.interrupt()\"],\nintrd: [\"r\", \"Thread.interrupted()\"],\npreg: [\"rP\", \"register()\"],\npbulk: [\"\
+rPr\", \"bulkRegister($)\"],\nparr: [\"rP\", \"arrive()\"],\npdereg: [\"rP\", \"arriveAndDeregister()\"],\npaaa: [\"rP\", \"arriveAndAwaitAd\
+vance()\"],\npawait: [\"rPr\", \"awaitAdvance($)\"],\npawaiti: [\"rPr\", \"awaitAdvanceInterruptibly($)\"],\npforce: [\"P\", \"forceTerminat\
+ion()\"],\npphase: [\"rP\", \"getPhase()\"],\npparties: [\"rP\", \"getRegisteredParties()\"],\nparrived: [\"rP\", \"getArrivedParties()\"],\n\
+punarr: [\"rP\", \"getUnarrivedParties()\"],\npterm: [\"rP\", \"isTerminated()\"],\npparent: [\"rP\", \"getParent()\"],\nproot: [\"rP\", \"g\
+etRoot()\"],\ncawait: [\"rB\", \"await()\"],\ncreset: [\"B\", \"reset()\"],\ncbroken: [\"rB\", \"isBroken()\"],\ncwaiting: [\"rB\", \"getNum\
+berWaiting()\"],\ncparties: [\"rB\", \"getParties()\"],\npawaitt: [\"rPrr\", \"awaitAdvanceInterruptibly($, $, unit)\"],\ncawaitt: [\"rBr\", \
+\"await($, unit)\"]\n};\nconst DIRECTIVES = [\".phaser\", \".barrier\", \".thread\", \".cell\"];\nconst THROWN = {\n1: \"IllegalStateExcepti\
+on\",\n2: \"IllegalArgumentException\",\n3: \"InterruptedException\",\n4: \"BrokenBarrierException\",\n5: \"TimeoutException\"\n};\nconst AR\
+RIVES = new Set([\"parr\", \"pdereg\", \"paaa\"]);\nconst KIND_OF = { \".phaser\": \"P\", \".barrier\": \"B\", \".thread\": \"T\", \".cell\"\
+: \"C\" };\nconst wordsOf = text => text.split(/[ \\t\\r]+/).filter(Boolean);\nfunction readListing(listing) {\nconst read = { phasers: [], \
+barriers: [], threads: [], rows: [] };\nfor (const line of listing.split(\"\\n\")) {\nconst words = wordsOf(line);\nif (!words.length) conti\
+nue;\nconst behind = word => (words.includes(word) ? Number(words[words.indexOf(word) + 1].slice(1)) : -1);\nif (words[0] === \".phaser\") {\
+\nread.phasers.push({ parties: Number(words[2]), parent: behind(\"parent\"), routine: behind(\"onadvance\") });\n} else if (words[0] === \".\
+barrier\") read.barriers.push({ parties: Number(words[2]), action: behind(\"action\") });\nelse if (words[0] === \".thread\") read.threads.p\
+ush({ row: Number(words[2].slice(1)) });\nelse read.rows.push({ word: words[0], kinds: KINDS[words[0]][0], operands: words.slice(1) });\n}\n\
+return read;\n}\nfunction readWritten(text) {\nconst read = { names: { P: [], B: [], T: [], C: [], L: {} }, lineOf: [], questions: [], head: \
+[] };\nlet count = 0;\nlet isHead = true;\ntext.split(\"\\n\").forEach((line, number) => {\nconst cut = line.indexOf(\";\");\nconst code = w\
+ordsOf(cut < 0 ? line : line.slice(0, cut));\nconst talk = cut < 0 ? \"\" : line.slice(cut + 1);\nconst asked = talk[0] === \"?\" ? talk.sli\
+ce(1).trim() : \"\";\nif (code.length) isHead = false;\nelse if (isHead && talk && talk[0] !== \"?\") read.head.push(talk.trim());\nif (code\
+.length && code[0].endsWith(\":\")) {\n(read.names.L[count] = read.names.L[count] || []).push(code.shift().slice(0, -1));\n}\nif (code.lengt\
+h && KIND_OF[code[0]]) read.names[KIND_OF[code[0]]].push(code[1]);\nelse if (code.length) read.lineOf[count++] = number;\nif (asked) read.qu\
+estions.push({ row: code.length ? count - 1 : count, text: asked });\n});\nreturn read;\n}\nfunction readProgram(text, listing) {\nconst { n\
+ames, lineOf, questions, head } = readWritten(text);\nconst program = { text, ...readListing(listing), names, lineOf, questions };\nconst ab\
+out = head.join(\" \").replace(/`/g, \"\");\nconst cut = /^([^:.]{1,60})[:.]\\s*(.*)$/s.exec(about);\nconst isName = cut && names.T.some(nam\
+e => cut[2].startsWith(name));\nprogram.title = cut ? cut[1] : about.slice(0, 60);\nprogram.about = cut ? (isName ? cut[2] : cut[2].replace(\
+/^[a-z]/, sign => sign.toUpperCase())) : \"\";\nconst registers = p => program.rows.some(row => /^(preg|pbulk)$/.test(row.word) && operandOf\
+(row, \"P\") === p);\nprogram.children = program.phasers.map(\n(_, p) => program.phasers.flatMap((one, n) => (one.parent === p ? [n] : []))\n\
+);\nprogram.everParties = program.phasers.map(\n({ parties }, p) => (program.children[p].length || registers(p) ? Infinity : parties)\n);\nr\
+eturn program;\n}\nconst nameOf = (program, kind, n) => program.names[kind][n] || { P: \"p\", B: \"b\", T: \"t\", C: \"c\" }[kind] + n;\nfun\
+ction operandOf(row, kind) {\nconst at = row ? row.kinds.indexOf(kind) : -1;\nreturn at < 0 ? -1 : Number(row.operands[at].slice(1));\n}\nfu\
+nction rootOf(program, p) {\nwhile (program.phasers[p].parent >= 0) p = program.phasers[p].parent;\nreturn p;\n}\nreturn { KINDS, DIRECTIVES\
+, THROWN, ARRIVES, readProgram, nameOf, operandOf, rootOf };\n})();\n// app/names.js\nconst m1 = (() => {\nconst { KINDS, THROWN, nameOf, op\
+erandOf } = m0;\nconst PHASES = 2147483648;\nconst phaseOf = view => (view < 0 ? view + PHASES : view);\nconst threadName = (program, t) => \
+nameOf(program, \"T\", t);\nconst labelOf = (program, row) => (program.names.L[row] ? program.names.L[row][0] : \"row \" + row);\nconst stro\
+ng = text => ({ strong: String(text) });\nconst hueOf = t => \"hue\" + (t % 8);\nfunction listed(list, and = \"and\") {\nreturn list.length \
+< 2 ? list.join(\"\") : list.slice(0, -1).join(\", \") + \" \" + and + \" \" + list[list.length - 1];\n}\nfunction spread(list, and = \"and\"\
+) {\nreturn list.flatMap((one, k) => (k === 0 ? [one] : [k === list.length - 1 ? \" \" + and + \" \" : \", \", one]));\n}\nconst OF_ROWS = {\
+\n6: [\"the stack is full\", /^(call|try|paaa|parr|pdereg|cawait|cawaitt)$/],\n7: [\"a return to nowhere\", /^ret$/],\n8: [\"the output is f\
+ull\", /^out$/]\n};\nfunction thrown(code, row) {\nif (THROWN[code]) return code + \" (\" + THROWN[code] + \")\";\nconst [text, words] = OF_\
+ROWS[code] || [];\nreturn row && text && words.test(row.word) ? code + \" (\" + text + \")\" : String(code);\n}\nfunction objectOf(program, \
+row) {\nconst p = operandOf(row, \"P\");\nconst b = operandOf(row, \"B\");\nreturn p >= 0 ? nameOf(program, \"P\", p) : b >= 0 ? nameOf(prog\
+ram, \"B\", b) : \"\";\n}\nconst hasSeveral = program => program.phasers.length + program.barriers.length > 1;\nfunction callOf(program, row\
+, thread) {\nconst call = KINDS[row.word][1];\nif (!call) return \"\";\nlet at = row.kinds.indexOf(\"P\") + row.kinds.indexOf(\"B\") + 2;\nc\
+onst object = objectOf(program, row);\nconst filled = call.replace(/\\$/g, () => {\nconst register = row.operands[at++];\nreturn thread ? th\
+read.registers[Number(register[1])] : register;\n});\nreturn (object && object + \".\") + filled.replace(\"@\", () => threadName(program, op\
+erandOf(row, \"T\")));\n}\nfunction operandNames(program, row) {\nreturn row.operands.map((operand, k) => {\nconst kind = row.kinds[k];\nif \
+(kind === \"r\" || kind === \"n\") return operand;\nconst n = Number(operand.slice(1));\nreturn kind === \"L\" ? labelOf(program, n) : nameO\
+f(program, kind, n);\n});\n}\nconst rowText = (program, row) => [row.word, ...operandNames(program, row)].join(\" \");\nconst STATEMENTS = {\
+\nhalt: \"return\",\nldi: \"$0 = $1\",\nmov: \"$0 = $1\",\nadd: \"$0 = $1 + $2\",\nsub: \"$0 = $1 - $2\",\njmp: \"goto $0\",\nbeq: \"if ($0 \
+== $1) goto $2\",\nbne: \"if ($0 != $1) goto $2\",\nblt: \"if ($0 < $1) goto $2\",\ncall: \"$0()\",\nret: \"return\",\ntry: \"try { // catch\
+: $0\",\nendtry: \"}\",\nthrow: \"throw $0\",\nout: \"System.out.println($0)\",\nlds: \"$0 = $1\",\nsts: \"$1 = $0\",\nself: \"$0 = Thread.c\
+urrentThread().getId()\"\n};\nfunction javaText(program, row) {\nconst call = callOf(program, row, null);\nif (call) return (row.kinds[0] ==\
+= \"r\" ? row.operands[0] + \" = \" : \"\") + call;\nconst operands = operandNames(program, row);\nreturn STATEMENTS[row.word].replace(/\\$(\
+\\d)/g, (_, k) => operands[k]);\n}\nfunction entryText(program, entry) {\nconst n = Number(entry.slice(1));\nconst said = {\nC: \"call\",\nH\
+: \"handler\",\nA: \"onAdvance of \" + nameOf(program, \"P\", n),\nX: \"action of \" + nameOf(program, \"B\", n)\n};\nreturn said[entry[0]];\
+\n}\nfunction plain(program, parts) {\nconst said = part => (\ntypeof part === \"string\" ? part : part.strong !== undefined ? part.strong : \
+threadName(program, part.thread)\n);\nreturn parts.map(said).join(\"\");\n}\nreturn { phaseOf, threadName, labelOf, strong, hueOf, listed, s\
+pread, thrown, objectOf, hasSeveral, callOf, rowText, javaText, entryText, plain };\n})();\n// app/ending.js\nconst m2 = (() => {\nconst { l\
+isted, threadName } = m1;\nfunction endKind(end) {\nif (end.word === \"stuck\") return \"stuck\";\nif (end.word !== \"all\") return \"open\"\
+;\nreturn end.threads.some(thread => thread.status === \"died\") ? \"died\" : \"ended\";\n}\nconst KIND_TEXT = { stuck: \"\\u25A0 stuck\", e\
+nded: \"\\u25CF all end\", died: \"\\u2716 dies\", open: \"\\u25CB open\" };\nconst few = list => (list.length > 4 ? listed([...list.slice(0\
+, 3), list.length - 3 + \" more\"]) : listed(list));\nfunction endText(program, end) {\nconst who = status => end.threads.flatMap((one, t) =\
+> (one.status === status ? [threadName(program, t)] : []));\nconst waits = who(\"waits\");\nconst died = who(\"died\");\nconst parts = [];\n\
+if (end.word === \"all\" && !died.length) parts.push(\"all threads end\");\nif (end.word === \"live\") parts.push(\"open: threads could go o\
+n\");\nif (end.word === \"stuck\") {\nparts.push(\nwaits.length ? \"stuck: \" + few(waits) + (waits.length === 1 ? \" waits\" : \" wait\") + \
+\" for ever\" : \"stuck\"\n);\n}\nif (died.length) parts.push(few(died) + (died.length === 1 ? \" dies\" : \" die\"));\nreturn parts.join(\"\
+; \");\n}\nconst lastOf = list => (list.length > 5 ? \"\\u2026 \" : \"\") + list.slice(-5).join(\" \");\nfunction outputText(program, end) {\
+\nconst said = (thread, t) => (thread.out.length ? [threadName(program, t) + \" \" + lastOf(thread.out)] : []);\nreturn end.threads.flatMap(\
+said).join(\", \");\n}\nfunction threadEnd(end, t) {\nconst { status, code, out } = end.threads[t];\nconst word = {\nwaits: end.word === \"s\
+tuck\" ? \"waits for ever\" : \"waits\",\ndied: \"died of \" + code\n}[status] || status;\nreturn word + (status === \"throws\" ? \" \" + co\
+de : \"\") + (out.length ? \", output \" + lastOf(out) : \"\");\n}\nreturn { endKind, KIND_TEXT, endText, outputText, threadEnd };\n})();\n/\
+/ app/elements.js\nconst m3 = (() => {\nconst { hueOf, threadName } = m1;\nconst byId = name => document.getElementById(name);\nconst childr\
+enOf = list => list.flat(Infinity).filter(\none => one !== null && one !== undefined && one !== false && one !== \"\"\n);\nfunction dress(el\
+ement, classes, given, children) {\nif (classes.length) element.setAttribute(\"class\", classes.join(\" \"));\nfor (const [name, value] of O\
+bject.entries(given)) {\nif (value === false || value === null || value === undefined) continue;\nif (name.startsWith(\"on\")) element.addEv\
+entListener(name.slice(2), value);\nelse if (name === \"vars\") for (const [key, one] of Object.entries(value)) element.style.setProperty(ke\
+y, one);\nelse element.setAttribute(name, value === true ? \"\" : value);\n}\nelement.append(...childrenOf(children));\nreturn element;\n}\n\
+function h(kind, given = {}, ...children) {\nconst [tag, ...classes] = kind.split(\".\");\nreturn dress(document.createElement(tag), classes\
+, given, children);\n}\nfunction s(kind, given = {}, ...children) {\nconst [tag, ...classes] = kind.split(\".\");\nreturn dress(document.cre\
+ateElementNS(\"http://www.w3.org/2000/svg\", tag), classes, given, children);\n}\nconst fill = (element, ...children) => element.replaceChil\
+dren(...childrenOf(children));\nfunction button(text, onclick, given = {}) {\nconst { kind = \"\", ...rest } = given;\nreturn h(\"button\" + \
+kind, { type: \"button\", onclick, ...rest }, text);\n}\nconst who = (program, t) => h(\"b.who.\" + hueOf(t), {}, threadName(program, t));\n\
+function shown(program, parts) {\nreturn parts.map(part => {\nif (typeof part === \"string\") return part;\nreturn part.strong !== undefined \
+? h(\"strong\", {}, part.strong) : who(program, part.thread);\n});\n}\nconst MOTION = 200;\nconst isCalm = () => matchMedia(\"(prefers-reduc\
+ed-motion: reduce)\").matches;\nfunction pulse(element, frames) {\nif (element && !isCalm()) element.animate(frames, { duration: MOTION, eas\
+ing: \"ease-out\" });\n}\nfunction fly(root, change) {\nif (isCalm()) return change();\nconst places = new Map();\nfor (const one of root.qu\
+erySelectorAll(\"[data-fly]\")) places.set(one.dataset.fly, one.getBoundingClientRect());\nchange();\nfor (const one of root.querySelectorAl\
+l(\"[data-fly]\")) {\nconst from = places.get(one.dataset.fly);\nconst to = one.getBoundingClientRect();\nif (!from || (Math.abs(from.left - \
+to.left) < 2 && Math.abs(from.top - to.top) < 2)) continue;\npulse(one, [{ transform: `translate(${from.left - to.left}px, ${from.top - to.t\
+op}px)` }, { transform: \"none\" }]);\n}\n}\nreturn { byId, h, s, fill, button, who, shown, MOTION, pulse, fly };\n})();\n// app/beside.js\n\
+const m4 = (() => {\nconst { threadEnd } = m2;\nconst { h } = m3;\nconst { hueOf, threadName } = m1;\nconst SHOWN = 12;\nfunction endsBeside\
+(program, left, right) {\nconst all = program.threads.map((_, t) => t);\nconst differ = all.filter(t => threadEnd(left.end, t) !== threadEnd\
+(right.end, t));\nconst row = t => {\nconst other = h(\"td\", {}, h(\"b\", { \"aria-label\": \"differs: \" }, \"\\u2260 \"), threadEnd(right\
+.end, t));\nreturn h(\n\"tr.is-other\",\n{},\nh(\"th.\" + hueOf(t), { scope: \"row\" }, threadName(program, t)),\nh(\"td\", {}, threadEnd(le\
+ft.end, t)),\nother\n);\n};\nconst isAlike = left.end.key === right.end.key;\nconst said = isAlike\n? \"Both runs end alike: each thread, ea\
+ch output, each phaser and barrier.\"\n: differ.length\n? \"The other threads end alike.\"\n: \"The threads end alike; registers, phasers, b\
+arriers or cells differ.\";\nconst heads = [\"End\", \"Run \" + (left.id + 1), \"Run \" + (right.id + 1)].map(text => h(\"th\", { scope: \"c\
+ol\" }, text));\nconst rows = [...differ.slice(0, SHOWN).map(row), h(\"tr\", {}, h(\"td\", { colspan: 3 }, said))];\nreturn h(\"table.beside\
+\", {}, h(\"thead\", {}, h(\"tr\", {}, heads)), h(\"tbody\", {}, rows));\n}\nreturn { endsBeside };\n})();\n// app/check.js\nconst m5 = (() \
+=> {\nconst { byId, fill, h } = m3;\nconst LINE = 80;\nfunction differenceOf(there, here) {\nif (there === here) return null;\nlet k = 0;\nw\
+hile (k < there.length && there.charCodeAt(k) === here.charCodeAt(k)) k++;\nconst from = k ? there.lastIndexOf(\"\\n\", k - 1) + 1 : 0;\nlet \
+number = 1;\nfor (let at = 0; (at = there.indexOf(\"\\n\", at) + 1) > 0 && at <= from; ) number++;\nconst start = k - from > LINE / 2 ? k - \
+LINE / 2 : from;\nconst lineOf = text => (start > from ? \"\\u2026\" : \"\") + text.slice(start, start + LINE).split(\"\\n\", 1)[0];\nreturn \
+{ number, there: lineOf(there), here: lineOf(here) };\n}\nfunction checkOf(page, listing, trace) {\nconst isOther = page.source && differenc\
+eOf(page.listing, listing);\nif (isOther) return { what: \"listing\", ...isOther };\nconst difference = differenceOf(page.trace, trace);\nre\
+turn difference ? { what: \"trace\", ...difference } : { what: \"\" };\n}\nconst shown = line => (line ? h(\"code\", {}, line) : \"nothing\"\
+);\nfunction drawCheck({ check, item, text, plan }) {\nconst isShown = Boolean(check) && text === item.program && plan === item.plan;\nbyId(\
+\"check\").hidden = !isShown;\nif (!isShown) return;\nbyId(\"check\").classList.toggle(\"is-wrong\", Boolean(check.what));\nif (!check.what) \
+{\nfill(byId(\"check\"), \"Played again in this page: the trace is the same.\");\nreturn;\n}\nconst told = \"This page isn\\u2019t what the \
+machine plays. Line \" + check.number + \" of its \" + check.what + \": \";\nfill(byId(\"check\"), h(\"strong\", {}, told), shown(check.ther\
+e), \" \\u2014 the machine: \", shown(check.here));\n}\nreturn { differenceOf, checkOf, drawCheck };\n})();\n// web/bytes.mjs\nconst m6 = ((\
+) => {\nconst encoder = new TextEncoder();\nconst decoder = new TextDecoder();\nfunction bytesOf(input) {\nif (typeof input === \"string\") \
+return encoder.encode(input);\nif (input instanceof ArrayBuffer) return new Uint8Array(input);\nif (ArrayBuffer.isView(input)) return new Ui\
+nt8Array(input.buffer, input.byteOffset, input.byteLength);\nif (input?.bytes instanceof Uint8Array) return input.bytes;\nif (typeof input?.\
+text === \"string\") return encoder.encode(input.text);\nthrow new TypeError(\"an input is a text, bytes, a trace or a schedule\");\n}\nfunc\
+tion textOf(bytes) {\nreturn decoder.decode(bytes);\n}\nfunction writeText(text, room) {\nreturn encoder.encodeInto(text, room).written;\n}\n\
+return { bytesOf, textOf, writeText };\n})();\n// web/faults.mjs\nconst m7 = (() => {\nclass Fault extends Error {\nget name() {\nreturn thi\
+s.constructor.name;\n}\n}\nclass Refused extends Fault {\nconstructor(told, output, explained) {\nconst said = (word) => explained.match(new \
+RegExp(`^  ${word}: +(.*)$`, \"m\"))?.[1] ?? \"\";\nsuper(`${told}\\n${explained}`.trimEnd());\nconst [, group, ...numbers] = told.split(\" \
+\");\nthis.told = told;\nthis.group = group;\nthis.line = group === \"asm\" || group === \"plan\" ? Number(numbers.shift()) : null;\nthis.ki\
+nd = Number(numbers.shift());\nthis.place = numbers;\nthis.word = null;\nthis.means = said(\"Means\");\nthis.help = said(\"Helps\");\nthis.o\
+utput = output;\n}\n}\nclass Differs extends Fault {\nconstructor(told) {\nsuper(told);\nthis.line = Number(told.split(\" \").pop());\n}\n}\n\
+class NotATrace extends Differs {\nconstructor(told, before = \"\") {\nsuper(told);\nthis.before = before;\n}\n}\nclass NoLine extends Fault \
+{\nconstructor(words, told) {\nsuper(words);\nthis.told = told;\n}\n}\nclass OutOfMemory extends Fault {\nconstructor(output = new Uint8Arra\
+y()) {\nsuper(\"memory\");\nthis.output = output;\n}\n}\nclass TooLong extends Fault {\nconstructor() {\nsuper(\"an input has more bytes tha\
+n it may have\");\n}\n}\nclass Malformed extends Fault {}\nclass NoHistory extends Fault {\nconstructor() {\nsuper(\"no choice is kept that \
+could be taken back\");\n}\n}\nclass Closed extends Fault {\nconstructor() {\nsuper(\"the session is closed\");\n}\n}\nreturn { Fault, Refus\
+ed, Differs, NotATrace, NoLine, OutOfMemory, TooLong, Malformed, NoHistory, Closed };\n})();\n// web/library.mjs\nconst m8 = (() => {\nconst \
+{ bytesOf, textOf, writeText } = m6;\nconst { OutOfMemory } = m7;\nconst ROOM = 1 << 16;\nconst KEPT_ROOM = 1 << 24;\nconst LINE_ROOM = 1 << \
+12;\nconst INPUTS = [\"program\", \"plan\", \"schedule\"];\nconst COMMAND_ROOM = 512;\nconst REPLY_ROOM = 512;\nconst HANDLE = 16;\nconst ST\
+RUCTS = 8 + 4 * 4096;\nclass Room {\n#library;\nconstructor(library, size) {\nthis.#library = library;\nthis.size = size;\nthis.at = library\
+.take(size);\nthis.lengthAt = library.take(8);\nthis.words = [BigInt(this.at), BigInt(size), BigInt(this.lengthAt)];\n}\nget length() {\nret\
+urn this.#library.number(this.lengthAt);\n}\nget bytes() {\nreturn this.#library.bytes.slice(this.at, this.at + Math.min(this.length, this.s\
+ize));\n}\nget text() {\nreturn this.#library.text(this.at, Math.min(this.length, this.size));\n}\nfree() {\nthis.#library.give(this.at);\nt\
+his.#library.give(this.lengthAt);\n}\n}\nclass Library {\n#exports;\n#bytes = new Uint8Array();\n#view;\n#output;\n#line;\n#command;\n#reply\
+;\nstruct;\nconstructor(instance) {\nthis.#exports = instance.exports;\nthis.#line = new Room(this, LINE_ROOM);\nthis.#command = new Room(th\
+is, COMMAND_ROOM);\nthis.#reply = new Room(this, REPLY_ROOM);\nconst at = this.take(STRUCTS);\nthis.struct = { at, word: BigInt(at) };\n}\ng\
+et bytes() {\nif (this.#bytes.length === 0) {\nthis.#bytes = new Uint8Array(this.#exports.memory.buffer);\nthis.#view = new DataView(this.#e\
+xports.memory.buffer);\n}\nreturn this.#bytes;\n}\nnumber(at) {\nconst { view } = this;\nreturn view.getUint32(at, true) + view.getUint32(at \
++ 4, true) * 2 ** 32;\n}\ntext(at, length) {\nreturn textOf(this.bytes.subarray(at, at + length));\n}\ntake(size) {\nconst at = Number(this.\
+#exports.room(BigInt(size)));\nif (at === 0) throw new OutOfMemory();\nreturn at;\n}\ngive(at) {\nthis.#exports.room_back(BigInt(at));\n}\nr\
+oom(size) {\nreturn new Room(this, size);\n}\ncall(name, ...words) {\nreturn this.#exports[`vuthgal_${name}`](...words) & 255;\n}\nwith(inpu\
+ts, use) {\nconst taken = [];\ntry {\nconst words = [];\nfor (const input of inputs) {\ntaken.push(this.take(input.length));\nthis.bytes.set\
+(input, taken.at(-1));\nwords.push(BigInt(taken.at(-1)), BigInt(input.length));\n}\nreturn use(words);\n} finally {\nfor (const at of taken) \
+this.give(at);\n}\n}\n#outputRoom(size) {\nif (this.#output && this.#output.size < size) this.freeRoom();\nreturn (this.#output ??= new Room\
+(this, size));\n}\nfreeRoom() {\nthis.#output?.free();\nthis.#output = undefined;\n}\ncalled(name, inputs, { first = [], more = [], hasLine \
+= true, arrange = (words) => words } = {}) {\nreturn this.with(inputs, (taken) => {\nconst words = arrange(taken);\nconst line = hasLine ? t\
+his.#line.words : [];\nconst ask = (room) => this.call(name, ...first, ...words, ...more, ...room.words, ...line);\nlet room = this.#outputR\
+oom(ROOM);\nlet status = ask(room);\nwhile (room.length > room.size) {\nroom = this.#outputRoom(room.length);\nstatus = ask(room);\n}\nconst \
+told = { status, output: room.bytes, line: hasLine ? this.#line.text : \"\" };\nif (room.size > KEPT_ROOM) this.freeRoom();\nreturn told;\n}\
+);\n}\nmistaken(program, kind, input) {\nconst { at, word } = this.struct;\nconst arrange = ([where, length, ...rest]) => [where, length, ki\
+nd, ...rest, word];\nconst told = this.called(\"mistake\", [program, input], { arrange });\nconst [line, column, length] = [0, 8, 16].map((o\
+ffset) => this.number(at + offset));\nconst place = { input: INPUTS[this.view.getUint8(at + 24)], line: line || null, column: column || null\
+, length };\nreturn { ...told, place };\n}\nversion() {\nthis.call(\"version\", ...this.#line.words);\nreturn this.#line.text;\n}\nget view(\
+) {\nif (this.#bytes.length === 0) this.bytes;\nreturn this.#view;\n}\nhandle() {\nconst at = this.take(HANDLE);\nthis.bytes.fill(0, at, at \
++ HANDLE);\nreturn at;\n}\nclose(handle) {\nthis.call(\"session_close\", BigInt(handle));\nthis.give(handle);\n}\nopen(handle, program) {\nr\
+eturn this.with([program], (words) => {\nconst status = this.call(\"session_open\", BigInt(handle), ...words, ...this.#line.words);\nreturn \
+{ status, line: this.#line.text };\n});\n}\ncommand(handle, text) {\nconst words = this.#written(text);\nreturn words ? this.#commanded(hand\
+le, words) : this.with([bytesOf(text)], (long) => this.#commanded(handle, long));\n}\n#written(text) {\nif (text.length * 3 > COMMAND_ROOM) \
+return undefined;\nconst room = this.bytes.subarray(this.#command.at, this.#command.at + COMMAND_ROOM);\nreturn [this.#command.words[0], Big\
+Int(writeText(text, room))];\n}\n#commanded(handle, words) {\nconst status = this.call(\"session_command\", BigInt(handle), ...words, ...thi\
+s.#reply.words);\nif (this.#reply.length <= REPLY_ROOM) return { status, reply: this.#reply.text };\nconst room = new Room(this, this.#reply\
+.length);\ntry {\nreturn { status: this.call(\"session_reply\", BigInt(handle), ...room.words), reply: room.text };\n} finally {\nroom.free(\
+);\n}\n}\n}\nreturn { Library };\n})();\n// web/page.mjs\nconst m9 = (() => {\nconst NAMES = [\"listing\", \"source\", \"schedule\", \"trace\
+\"];\nconst ESCAPED = { \"&\": \"&amp;\", \"<\": \"&lt;\", \">\": \"&gt;\", \"\\r\": \"&#13;\" };\nconst MOST_CHOICES = 1_000_000;\nconst MO\
+ST_TRACE = 16_777_216;\nfunction pageWith(app, texts) {\nconst put = (page, name) => {\nconst [begin, end] = [`<pre id=\"${name}\">`, \"</pr\
+e>\"];\nconst text = texts[name].replace(/[&<>\\r]/g, (sign) => ESCAPED[sign]);\nreturn page.replace(begin + end, () => `${begin}\\n${text}$\
+{end}`);\n};\nreturn NAMES.reduce(put, app);\n}\nfunction choicesIn(schedule) {\nlet count = 0;\nfor (const [, times] of schedule.matchAll(/\
+[tx]\\d+(?:\\*(\\d{1,10}))?/g)) count += Number(times ?? 1);\nreturn count;\n}\nreturn { MOST_CHOICES, MOST_TRACE, pageWith, choicesIn };\n}\
+)();\n// web/values.mjs\nconst m10 = (() => {\nconst { textOf } = m6;\nconst { Malformed } = m7;\nconst VALUED = new Set([\"=\", \"out\", \"\
+throw\", \"catch\", \"die\"]);\nclass Line {\nconstructor(step, choice, row, what, value = null, mark = null, view = null) {\nthis.step = st\
+ep;\nthis.choice = choice;\nthis.thread = Number(choice.slice(1));\nthis.row = row;\nthis.what = what;\nthis.value = value;\nthis.mark = mar\
+k;\nthis.view = view;\n}\nstatic parse(text) {\nconst [step, choice, row, what, ...rest] = text.split(\" \");\nconst isOne = /^[1-9][0-9]*$/\
+.test(step) && /^[tx][0-9]+$/.test(choice) && what;\nif (!isOne) throw new Malformed(`no line of a trace: ${text}`);\nconst value = VALUED.h\
+as(what) ? Number(rest.shift()) : null;\nconst [mark = null, view = null] = rest;\nreturn new Line(Number(step), choice, row === \"-\" ? nul\
+l : Number(row), what, value, mark, view && Number(view));\n}\nget text() {\nconst words = [this.step, this.choice, this.row ?? \"-\", this.\
+what, this.value, this.mark, this.view];\nreturn words.filter((word) => word !== null).join(\" \");\n}\ntoString() {\nreturn this.text;\n}\n\
+}\nfunction threadOf(words) {\nconst [status, exception] = words[2].split(\":\");\nconst stack = words.indexOf(\"stack\");\nconst out = word\
+s.indexOf(\"out\", stack);\nreturn {\nnumber: Number(words[0].slice(1)),\nrow: Number(words[1]),\nstatus,\nexception: exception === undefine\
+d ? null : Number(exception),\ninterrupted: words[3] === \"1\",\nregisters: words.slice(5, stack).map(Number),\nstack: words.slice(stack + 1\
+, out),\nout: words.slice(out + 1).map(Number),\n};\n}\nfunction phaserOf([name, ...numbers]) {\nconst [view, parties, arrived, unarrived] = \
+numbers.map(Number);\nreturn { number: Number(name.slice(1)), view, parties, arrived, unarrived };\n}\nfunction barrierOf([name, waiting, br\
+oken]) {\nreturn { number: Number(name.slice(1)), waiting: Number(waiting), broken: broken === \"1\" };\n}\nclass State {\nconstructor(text, \
+values) {\nthis.text = text;\nObject.assign(this, values);\n}\nstatic parse(text) {\nconst [head, ...lines] = text.trimEnd().split(\"\\n\").\
+map((line) => line.split(\" \"));\nif (head[0] !== \"state\" || head.length !== 4) throw new Malformed(`no state: ${text}`);\nconst of = (le\
+tter) => lines.filter((words) => words[0][0] === letter);\nreturn new State(text, {\nchoices: Number(head[1]),\nsteps: Number(head[2]),\nwor\
+d: head[3],\nthreads: of(\"t\").map(threadOf),\nphasers: of(\"p\").map(phaserOf),\nbarriers: of(\"b\").map(barrierOf),\ncells: new Map(of(\"\
+c\").map(([name, value]) => [Number(name.slice(1)), Number(value)])),\n});\n}\ntoString() {\nreturn this.text;\n}\n}\nclass Trace {\n#text;\n\
+#lines;\n#state;\nconstructor(bytes) {\nthis.bytes = bytes;\n}\nget text() {\nreturn (this.#text ??= textOf(this.bytes));\n}\n#end() {\ncons\
+t at = this.text.lastIndexOf(\"\\nstate \") + 1;\nif (at === 0 && !this.text.startsWith(\"state \")) throw new Malformed(\"a trace has a lin\
+e that begins with `state`\");\nreturn at;\n}\nget lines() {\nreturn (this.#lines ??= this.text.slice(0, this.#end()).split(\"\\n\").slice(0\
+, -1).map(Line.parse));\n}\nget state() {\nreturn (this.#state ??= State.parse(this.text.slice(this.#end())));\n}\n[Symbol.iterator]() {\nre\
+turn this.lines[Symbol.iterator]();\n}\ntoString() {\nreturn this.text;\n}\n}\nclass Schedule {\nconstructor(text, stopped = false) {\nthis.\
+text = text;\nthis.stopped = stopped;\n}\n*[Symbol.iterator]() {\nfor (const [token] of this.text.matchAll(/\\S+/g)) {\nconst [choice, count \
+= 1] = token.split(\"*\");\nfor (let i = 0; i < count; i++) yield choice;\n}\n}\ntoString() {\nreturn this.text;\n}\n}\nclass Went {\nconstr\
+uctor(text) {\nconst [what, choices, why] = text.split(\" \");\nthis.text = text;\nthis.what = what;\nthis.choices = Number(choices);\nthis.\
+why = why ?? null;\n}\ntoString() {\nreturn this.text;\n}\n}\nclass Ending {\nconstructor(text) {\nconst [runs, word, seed, ...schedule] = t\
+ext.split(\" \");\nthis.text = text;\nthis.runs = Number(runs);\n[this.word] = word.split(\"+\");\nthis.died = word.endsWith(\"+died\");\nth\
+is.seed = Number(seed.slice(1));\nthis.schedule = new Schedule(schedule.join(\" \"));\n}\ntoString() {\nreturn this.text;\n}\n}\nreturn { VA\
+LUED, Line, State, Trace, Schedule, Went, Ending };\n})();\n// web/looks.mjs\nconst m11 = (() => {\nconst { Line, VALUED } = m10;\nconst EVE\
+NT_SIZE = 24;\nconst STATE_SIZE = 16;\nconst THREAD_SIZE = 48;\nconst PHASER_SIZE = 12;\nconst BARRIER_SIZE = 8;\nconst ENTRY_SIZE = 4;\ncon\
+st NUMBER_SIZE = 4;\nconst NOTHING = 65535;\nconst MOST_ENTRIES = 64;\nconst MOST_OUTPUTS = 4096;\nconst MOST_OBJECTS = 64;\nconst MOST_CELL\
+S = 32;\nconst WHATS = [\"idle\", \"ok\", \"=\", \"out\", \"wait\", \"throw\", \"enter\", \"unwind\", \"catch\", \"die\", \"end\"];\nconst H\
+AS_VALUE = WHATS.map((what) => VALUED.has(what));\nconst MARKS = [null, \"+p\", \"+b\", \"-b\"];\nconst STATUSES = [\"runs\", \"throws\", \"\
+waits\", \"waits\", \"ended\", \"died\"];\nconst STANDINGS = [\"live\", \"stuck\", \"all\"];\nconst ENTRIES = [\"C\", \"H\", \"A\", \"X\"];\n\
+const numbered = (number) => (number === NOTHING ? null : number);\nfunction lineAt(view, at, choice) {\nconst step = view.getUint32(at, tru\
+e) + view.getUint32(at + 4, true) * 2 ** 32;\nconst what = view.getUint8(at + 20);\nconst value = HAS_VALUE[what] ? view.getInt32(at + 8, tr\
+ue) : null;\nconst mark = view.getUint8(at + 21);\nif (mark === 0) return new Line(step, choice, view.getUint16(at + 16, true), WHATS[what], \
+value);\nconst name = MARKS[mark] + view.getUint16(at + 18, true);\nconst after = mark === 1 ? view.getInt32(at + 12, true) : null;\nreturn \
+new Line(step, choice, view.getUint16(at + 16, true), WHATS[what], value, name, after);\n}\nconst LOOK = (() => {\nconst parts = [\n[\"threa\
+ds\", THREAD_SIZE, MOST_OBJECTS],\n[\"phasers\", PHASER_SIZE, MOST_OBJECTS],\n[\"barriers\", BARRIER_SIZE, MOST_OBJECTS],\n[\"cells\", NUMBE\
+R_SIZE, MOST_CELLS],\n];\nlet size = STATE_SIZE;\nconst rooms = parts.map(([name, each, most]) => ({ name, each, most, at: (size += each * m\
+ost) - each * most }));\nreturn { rooms, size };\n})();\nconst [THREADS, PHASERS, BARRIERS, CELLS] = LOOK.rooms;\nfunction threadAt(view, at\
+, number) {\nconst status = STATUSES[view.getUint8(at + 43)];\nconst value = view.getInt32(at + 32, true);\nconst awaits = view.getUint8(at \
++ 43) === 2 ? \"p\" : \"b\";\nconst object = numbered(view.getUint16(at + 38, true));\nreturn {\nnumber,\nrow: view.getUint16(at + 36, true)\
+,\nstatus,\nexception: status === \"throws\" || status === \"died\" ? value : null,\nawaits: status === \"waits\" && object !== null ? `${aw\
+aits}${object}` : null,\nphase: status === \"waits\" && awaits === \"p\" ? value : null,\ninterrupted: view.getUint8(at + 44) === 1,\nregist\
+ers: Array.from({ length: 8 }, (_, register) => view.getInt32(at + 4 * register, true)),\nentries: view.getUint8(at + 42),\noutputs: view.ge\
+tUint16(at + 40, true),\n};\n}\nconst phaserAt = (view, at, number) => ({\nnumber,\nview: view.getInt32(at, true),\nparties: view.getUint16(\
+at + 4, true),\narrived: view.getUint16(at + 6, true),\nunarrived: view.getUint16(at + 8, true),\nparent: numbered(view.getUint16(at + 10, t\
+rue)),\n});\nconst barrierAt = (view, at, number) => ({\nnumber,\nparties: view.getUint16(at, true),\nwaiting: view.getUint16(at + 2, true),\
+\nrunner: numbered(view.getUint16(at + 4, true)),\nbroken: view.getUint8(at + 6) === 1,\n});\nfunction lookAt(view, at) {\nconst all = (coun\
+t, room, one) => Array.from({ length: count }, (_, i) => one(view, at + room.at + room.each * i, i));\nconst cells = all(CELLS.most, CELLS, \
+(_, place, cell) => [cell, view.getInt32(place, true)]);\nreturn {\nchoices: view.getUint32(at, true) + view.getUint32(at + 4, true) * 2 ** \
+32,\nsteps: view.getUint32(at + 8, true),\nword: STANDINGS[view.getUint8(at + 15)],\nthreads: all(view.getUint8(at + 12), THREADS, threadAt)\
+,\nphasers: all(view.getUint8(at + 13), PHASERS, phaserAt),\nbarriers: all(view.getUint8(at + 14), BARRIERS, barrierAt),\ncells: new Map(cel\
+ls.filter(([, value]) => value !== 0)),\n};\n}\nfunction entriesAt(view, at, count) {\nconst one = (_, i) => ENTRIES[view.getUint8(at + ENTR\
+Y_SIZE * i + 2)] + view.getUint16(at + ENTRY_SIZE * i, true);\nreturn Array.from({ length: count }, one);\n}\nfunction numbersAt(view, at, c\
+ount) {\nreturn Array.from({ length: count }, (_, i) => view.getInt32(at + NUMBER_SIZE * i, true));\n}\nfunction bitsAt(view, at) {\nconst w\
+ords = [view.getUint32(at, true), view.getUint32(at + 4, true)];\nreturn Array.from({ length: 64 }, (_, bit) => bit).filter((bit) => (words[\
+bit >> 5] >>> (bit & 31)) & 1);\n}\nreturn { EVENT_SIZE, MOST_ENTRIES, MOST_OUTPUTS, lineAt, LOOK, lookAt, entriesAt, numbersAt, bitsAt };\n\
+})();\n// web/session.mjs\nconst m12 = (() => {\nconst { bytesOf, textOf } = m6;\nconst { NoHistory } = m7;\nconst { bitsAt, entriesAt, line\
+At, LOOK, lookAt, MOST_ENTRIES, MOST_OUTPUTS, numbersAt } = m11;\nconst { Line, Schedule, State, Went } = m10;\nconst NONE_KEPT = 1;\nconst \
+FEWER = 1;\nconst NOT_READ = 3;\nconst NO_THREAD = 7;\nconst LIMIT = 8;\nfunction namesOf(program) {\nconst text = textOf(program);\nif (/^P\
+BW[12]/.test(text)) return [];\nconst lines = text.split(\"\\n\").map((line) => line.split(\";\")[0].trim().split(/\\s+/));\nconst end = lin\
+es.findIndex(([word]) => word === \".run\");\nconst head = end < 0 ? lines : lines.slice(0, end);\nreturn head.filter(([word, name]) => word \
+=== \".thread\" && name).map(([, name]) => name);\n}\nconst forgotten = new FinalizationRegistry(({ library, handle }) => library.close(hand\
+le));\nclass Session {\n#library;\n#handle;\n#word;\n#answer;\nconstructor(library, answer, threads, fill) {\nconst handle = library.handle(\
+);\ntry {\nanswer(fill(handle));\n} catch (fault) {\nlibrary.close(handle);\nthrow fault;\n}\nthis.#library = library;\nthis.#handle = handl\
+e;\nthis.#word = BigInt(handle);\nthis.#answer = answer;\nthis.threads = threads;\nforgotten.register(this, { library, handle }, this);\n}\n\
+static of(library, answer, program) {\nconst bytes = bytesOf(program);\nreturn new Session(library, answer, namesOf(bytes), (handle) => libr\
+ary.open(handle, bytes));\n}\nget isOpen() {\nreturn this.#handle !== 0;\n}\n#check(status) {\nif (status !== 0) this.#answer({ status, line\
+: \"\" });\n}\n#open() {\nif (this.#handle === 0) this.#check(6);\nreturn this.#word;\n}\n#number(thread) {\nconst number = typeof thread ==\
+= \"number\" ? thread : this.threads.indexOf(thread);\nif (Number.isInteger(number) && number >= 0 && number < 256) return number;\nthrow ne\
+w RangeError(`there is no thread ${thread}`);\n}\n#choice(thread, letter, expiry) {\nconst session = this.#open();\nconst number = this.#num\
+ber(thread);\nconst { at, word } = this.#library.struct;\nconst status = this.#library.call(\"session_step\", session, number, expiry, word)\
+;\nif (status === 0) return lineAt(this.#library.view, at, letter + number);\nif (status === NO_THREAD || status === LIMIT) return Line.pars\
+e(this.command(`s ${letter}${number}`).slice(0, -1));\nreturn this.#check(status);\n}\nstep(thread) {\nreturn this.#choice(thread, \"t\", 0)\
+;\n}\nexpire(thread) {\nreturn this.#choice(thread, \"x\", 1);\n}\ngo(schedule) {\nconst tokens = String(schedule).trim().split(/\\s+/).join\
+(\" \");\nconst reply = this.command(`g ${tokens}`).slice(0, -1);\nif (reply === \"?\") throw new RangeError(`no schedule: ${tokens}`);\nret\
+urn new Went(reply);\n}\nback(count = 1) {\nfor (let i = 0; i < count; i++) {\nconst status = this.#library.call(\"session_back\", this.#ope\
+n());\nif (status === NONE_KEPT) throw new NoHistory();\nthis.#check(status);\n}\n}\ngoTo(played, number) {\nconst status = this.#library.wi\
+th([bytesOf(String(played))], (words) =>\nthis.#library.call(\"session_go_to\", this.#open(), ...words, BigInt(number)),\n);\nif (status === \
+FEWER) throw new RangeError(`fewer than ${number} choices were played`);\nif (status === NOT_READ) throw new RangeError(`no schedule: ${play\
+ed}`);\nif (status === NO_THREAD) throw new RangeError(`there is no such thread: ${played}`);\nthis.#check(status);\n}\nget enabled() {\ncon\
+st { at } = this.#library.struct;\nconst words = [BigInt(at), BigInt(at + 8)];\nthis.#check(this.#library.call(\"session_enabled\", this.#op\
+en(), ...words));\nreturn { turns: bitsAt(this.#library.view, at), expiries: bitsAt(this.#library.view, at + 8) };\n}\nlook() {\nconst { at, \
+word } = this.#library.struct;\nconst rooms = LOOK.rooms.flatMap((room) => [BigInt(at + room.at), BigInt(room.most)]);\nthis.#check(this.#li\
+brary.call(\"session_look\", this.#open(), word, ...rooms));\nreturn lookAt(this.#library.view, at);\n}\n#listed(name, thread, most, read) {\
+\nconst { at } = this.#library.struct;\nconst words = [this.#open(), this.#number(thread), BigInt(at + 8), BigInt(most), BigInt(at)];\nconst \
+status = this.#library.call(`session_${name}`, ...words);\nif (status === NO_THREAD) throw new RangeError(`there is no thread ${thread}`);\n\
+this.#check(status);\nreturn read(this.#library.view, at + 8, this.#library.number(at));\n}\nstack(thread) {\nreturn this.#listed(\"stack\", \
+thread, MOST_ENTRIES, entriesAt);\n}\noutputs(thread) {\nreturn this.#listed(\"outputs\", thread, MOST_OUTPUTS, numbersAt);\n}\ncopy() {\nco\
+nst from = this.#open();\nconst fill = (to) => ({ status: this.#library.call(\"session_copy\", from, BigInt(to)), line: \"\" });\nreturn new \
+Session(this.#library, this.#answer, this.threads, fill);\n}\nother(thread, { expires = false, rest = \"\", most = 1_000_000 } = {}) {\ncons\
+t words = [this.#open(), this.#number(thread), expires ? 1 : 0, most];\nconst told = this.#library.called(\"session_other\", [bytesOf(rest)]\
+, { first: words, hasLine: false });\nif (told.status === NOT_READ) throw new RangeError(`no schedule of at most 2,000 choices: ${rest}`);\n\
+this.#check(told.status);\nreturn new Schedule(textOf(told.output).trimEnd());\n}\nsetBreakpoint(row) {\nthis.#row(\"k\", row);\n}\nclearBre\
+akpoint(row) {\nthis.#row(\"c\", row);\n}\n#row(letter, row) {\nif (this.command(`${letter} ${row}`) === \"?\\n\") throw new RangeError(`the\
+re is no row ${row}`);\n}\nget state() {\nreturn State.parse(this.command(\"p\"));\n}\ncommand(line) {\nthis.#open();\nconst { status, reply \
+} = this.#library.command(this.#handle, line);\nthis.#check(status);\nreturn reply;\n}\nclose() {\nif (this.#handle === 0) return;\nforgotte\
+n.unregister(this);\nthis.#library.close(this.#handle);\nthis.#handle = 0;\n}\n[Symbol.dispose ?? Symbol.for(\"Symbol.dispose\")]() {\nthis.\
+close();\n}\n}\nreturn { Session };\n})();\n// web/vuthgal.mjs\nconst m13 = (() => {\nconst { bytesOf, textOf } = m6;\nconst { Closed, Diffe\
+rs, Fault, NoLine, NotATrace, OutOfMemory, Refused, TooLong } = m7;\nconst { Library } = m8;\nconst { choicesIn, MOST_CHOICES, MOST_TRACE, p\
+ageWith } = m9;\nconst { Session } = m12;\nconst { Ending, Line, Schedule, State, Trace, Went } = m10;\nconst MOST_PLANNED = 1_000_000;\nasy\
+nc function fetched(url) {\nif (url.protocol === \"file:\" && globalThis.process?.versions?.node) {\nconst files = \"node:fs/promises\"; // \
+named here, so that a bundler for browsers doesn't look for it\nreturn (await import(files)).readFile(url);\n}\nconst response = await fetch\
+(url);\nif (!response.ok) throw new Fault(`${url} has the status ${response.status}`);\nreturn response.arrayBuffer();\n}\nasync function lo\
+ad(source = new URL(\"vuthgal.wasm\", self.location.href)) {\nconst what = typeof source === \"string\" ? new URL(source, globalThis.locatio\
+n?.href ?? self.location.href) : source;\nconst code = what instanceof URL ? await fetched(what) : what;\nconst made = await WebAssembly.ins\
+tantiate(code).catch((error) => {\nthrow error instanceof RangeError ? new OutOfMemory() : error; // no memory was to be had for the module\n\
+});\nreturn new Vuthgal(new Library(made instanceof WebAssembly.Instance ? made : made.instance));\n}\nclass Vuthgal {\n#library;\nconstruct\
+or(library) {\nthis.#library = library;\n}\ncall(name, inputs, ...more) {\nreturn this.#library.called(name, inputs.map(bytesOf), { more });\
+\n}\n#answer(told) {\nif (told.status < 2) return told;\nif (told.status === 3) {\nconst line = told.line.trimEnd();\nthrow new Refused(line\
+, told.output ?? new Uint8Array(), this.#explained(line));\n}\nif (told.status === 4) throw new OutOfMemory(told.output);\nif (told.status =\
+== 5) throw new TooLong();\nif (told.status === 6) throw new Closed();\nthrow new Fault(`the library returns status ${told.status}`);\n}\n#e\
+xplained(words) {\nconst { status, output } = this.call(\"explain\", [words]);\nreturn status === 0 ? textOf(output) : \"\";\n}\n#bytes(name\
+, inputs, ...more) {\nreturn this.#answer(this.call(name, inputs, ...more)).output;\n}\n#text(name, inputs, ...more) {\nreturn textOf(this.#\
+bytes(name, inputs, ...more));\n}\nrun(program, schedule) {\nreturn new Trace(schedule === undefined ? this.#bytes(\"both\", [program]) : th\
+is.#bytes(\"run\", [program, schedule]));\n}\nasm(text) {\nreturn this.#bytes(\"asm\", [text]);\n}\nlist(program) {\nreturn this.#text(\"lis\
+t\", [program]);\n}\ncompare(program, trace) {\nconst told = this.#text(\"compare\", [program, trace]).trimEnd();\nif (told !== \"same\") th\
+row told.startsWith(\"not\") ? new NotATrace(told) : new Differs(told);\n}\nchoices(trace) {\nconst { status, output } = this.#answer(this.c\
+all(\"choices\", [trace]));\nconst lines = textOf(output).trimEnd().split(\"\\n\");\nif (status === 1) throw new NotATrace(lines.at(-1), lin\
+es.length > 1 ? lines[0] : \"\");\nreturn new Schedule(lines[0]);\n}\nplan(program, plan, { most = MOST_PLANNED, names = false } = {}) {\nco\
+nst { status, output } = this.#answer(this.call(\"plan\", [program, plan], most, names ? 1 : 0));\nreturn new Schedule(textOf(output).trimEn\
+d(), status === 1);\n}\nseeds(program, { plan = \"\", first = 1, count = 1000, limit = 0, names = false } = {}) {\nif (!(first >= 0 && first \
++ count <= 2 ** 32)) throw new RangeError(\"a seed is from 0 to 4294967295\");\nconst told = this.#text(\"seeds\", [program, plan], first, c\
+ount, limit, names ? 1 : 0);\nreturn told.split(\"\\n\").slice(0, -1).map((line) => new Ending(line));\n}\npage(program, schedule, app) {\ni\
+f (choicesIn(textOf(bytesOf(schedule))) > MOST_CHOICES) throw new TooLong();\nconst trace = this.#text(\"run\", [program, schedule]);\nif (t\
+race.length > MOST_TRACE) throw new TooLong();\nconst source = textOf(bytesOf(program));\nreturn pageWith(app, {\nlisting: this.list(program\
+),\nsource: /^PBW[12]/.test(source) ? \"\" : source,\nschedule: `${this.choices(trace)}\\n`,\ntrace,\n});\n}\nmistake(program, { plan, sched\
+ule } = {}) {\nconst text = bytesOf(program);\nconst isWhole = plan === undefined && schedule === undefined && /^\\.run\\s*$/m.test(textOf(t\
+ext));\nconst kind = plan !== undefined ? 1 : schedule !== undefined ? 2 : isWhole ? 3 : 0;\nconst told = this.#library.mistaken(text, kind, \
+bytesOf(plan ?? schedule ?? \"\"));\nif (told.status !== 3) return this.#answer(told) && null;\nreturn { told: told.line.trimEnd(), ...told.\
+place, hint: textOf(told.output).trimEnd() };\n}\ndraw(program, schedule, { width = 80 } = {}) {\nconst isFit = Number.isInteger(width) && w\
+idth >= 60 && width <= 1000;\nif (!isFit) throw new RangeError(\"the width is from 60 to 1000\");\nreturn this.#text(\"draw\", [program, sch\
+edule], width);\n}\nexpect(state, expectation) {\nconst inputs = [bytesOf(String(state)), bytesOf(expectation)];\nconst status = this.#libra\
+ry.with(inputs, (words) => this.#library.call(\"expect\", ...words));\nif (status === 3) throw new RangeError(`no expectation: ${expectation\
+}`);\nreturn this.#answer({ status }).status === 0;\n}\ndebug(program, commands) {\nconst lines = Array.isArray(commands) ? commands.map((li\
+ne) => `${line}\\n`).join(\"\") : commands;\nreturn this.#text(\"debug\", [program, lines]);\n}\nexplain(words = \"\") {\nconst told = this.\
+call(\"explain\", [words]);\nif (told.status === 2) throw new NoLine(words, told.line);\nreturn textOf(this.#answer(told).output);\n}\nsessi\
+on(program) {\nreturn Session.of(this.#library, (told) => this.#answer(told), program);\n}\nget version() {\nreturn this.#library.version();\
+\n}\nget memory() {\nreturn this.#library.bytes.length;\n}\n}\nreturn { ...m7, load, Ending, Line, Schedule, Session, State, Trace, Went };\n\
+})();\n// app/machine.js\nconst m14 = (() => {\nconst { load, Refused } = m13;\nlet machine = null;\nasync function startMachine(bytes) {\nm\
+achine = await load(bytes);\n}\nconst listProgram = program => machine.list(program);\nconst playRun = (program, schedule) => machine.run(pr\
+ogram, schedule).text;\nconst planSchedule = (program, plan) => machine.plan(program, plan).text.trim();\nconst openSession = program => mac\
+hine.session(program);\nconst versionOf = () => machine.version.split(\"\\n\")[0];\nreturn { startMachine, listProgram, playRun, planSchedul\
+e, openSession, versionOf, Refused };\n})();\n// app/schedule.js\nconst m15 = (() => {\nfunction choicesOf(schedule, most = Infinity) {\ncon\
+st out = [];\nconst known = new Map();\nfor (const word of schedule.split(/\\s+/)) {\nif (!word) continue;\nconst [name, count] = word.split\
+(\"*\");\nconst token = known.get(name) || name;\nknown.set(name, token);\nfor (let n = Math.min(Number(count || 1), most + 1 - out.length); \
+n > 0; n--) out.push(token);\nif (out.length > most) break;\n}\nreturn out;\n}\nfunction scheduleOf(choices) {\nconst out = [];\nfor (let i \
+= 0, n; i < choices.length; i += n) {\nfor (n = 1; choices[i + n] === choices[i]; n++);\nout.push(choices[i] + (n > 1 ? \"*\" + n : \"\"));\n\
+}\nreturn out.join(\" \");\n}\nfunction commonOf(left, right) {\nlet n = 0;\nwhile (n < left.length && n < right.length && left[n] === right\
+[n]) n++;\nreturn n;\n}\nreturn { choicesOf, scheduleOf, commonOf };\n})();\n// app/plan.js\nconst m16 = (() => {\nconst { Refused, planSche\
+dule, playRun } = m14;\nconst { choicesOf, scheduleOf } = m15;\nconst { nameOf } = m0;\nconst MOST = 20000;\nconst LONGEST = 1000000;\nconst \
+OPEN = /;[^\\n]*|(\\.\\.|\\?[0-9]{1,20})(?=[\\s();]|$)/g;\nconst bounded = plan => plan.replace(OPEN, (whole, open) => (open ? open + \"*\" \
++ (MOST + 1) : whole));\nconst TOKEN = /^([tx]\\d{1,2}(\\*\\d{1,10})?)?$/;\nconst isSchedule = plan => plan.trim().split(/\\s+/).every(word \
+=> TOKEN.test(word));\nconst LONG = 20000;\nconst isHeavy = plan => plan.length > LONG || /\\*\\s*\\d{5,}|\\)\\*\\d{3,}/.test(plan);\nfuncti\
+on choicesOfPlan(text, plan) {\nlet all;\nif (isHeavy(plan) && isSchedule(plan)) all = choicesOf(plan, MOST);\nelse {\ntry {\nall = choicesO\
+f(planSchedule(text, bounded(plan)), MOST);\n} catch (fault) {\nif (!(fault instanceof Refused) || !isSchedule(plan)) throw fault;\nall = ch\
+oicesOf(plan, MOST);\n}\n}\nreturn { choices: all.slice(0, MOST), isCut: all.length > MOST };\n}\nfunction playedPlan(text, plan, schedule) \
+{\nconst all = schedule ? choicesOf(schedule, LONGEST) : null;\nconst found = all ? { choices: all.slice(0, LONGEST), isCut: all.length > LO\
+NGEST } : choicesOfPlan(text, plan);\nreturn { ...found, trace: playRun(text, scheduleOf(found.choices)) };\n}\nconst STOPS = /^(wait|end|di\
+e|idle)$/;\nfunction turnsFrom(events, i) {\nconst { token } = events.at(i);\nlet k = i;\nlet event = events.at(k);\nwhile (event && event.t\
+oken === token && !STOPS.test(event.what)) event = events.at(++k);\nconst isDone = Boolean(event) && event.token === token && event.what !== \
+\"idle\";\nreturn { count: isDone ? k + 1 - i : Math.max(1, k - i), isDone };\n}\nfunction planOf(program, events, most = 60) {\nconst out = \
+[];\nfor (let i = 0; i < events.length; ) {\nconst { thread, isLate } = events.at(i);\nconst name = nameOf(program, \"T\", thread);\nconst { \
+count, isDone } = isLate ? { count: 1, isDone: false } : turnsFrom(events, i);\nif (isLate) out.push(\"x\" + name);\nelse out.push(name + (i\
+sDone ? \".\" : count > 1 ? \"*\" + count : \"\"));\ni += count;\nif (out.length >= most && i < events.length) return out.join(\" \") + \" \\\
+u2026\";\n}\nreturn out.join(\" \");\n}\nfunction readablePlan(program, run, plan) {\nif (run.choices.length > 300 || !/^[tx\\d*\\s]+$/.test\
+(plan)) return plan;\nconst named = planOf(program, run.events, Infinity);\ntry {\nconst again = choicesOfPlan(program.text, named).choices;\
+\nreturn scheduleOf(again) === scheduleOf(run.choices) ? named : plan;\n} catch (_) {\nreturn plan;\n}\n}\nreturn { MOST, LONGEST, isHeavy, \
+choicesOfPlan, playedPlan, planOf, readablePlan };\n})();\n// app/trace.js\nconst m17 = (() => {\nconst EVENT = new RegExp(\n\"^(\\\\d+ )?([\
+tx])(\\\\d+) (\\\\d+|-) (idle|ok|wait|enter|unwind|end|none|limit|(=|out|throw|catch|die) (-?\\\\d+))\" +\n\"(?: ([+-])([pb])(\\\\d+)(?: (-?\
+\\\\d+))?)?$\"\n);\nfunction readEvent(line) {\nconst m = EVENT.exec(line);\nif (!m) throw new Error(\"no line of a choice: \" + line);\nret\
+urn {\ntoken: m[2] + m[3],\nisLate: m[2] === \"x\",\nthread: Number(m[3]),\nrow: m[4] === \"-\" ? -1 : Number(m[4]),\nwhat: m[6] || m[5],\nv\
+alue: m[7] === undefined ? null : Number(m[7]),\nmark: m[8] ? { kind: m[8] + m[9], on: Number(m[10]), view: m[11] === undefined ? null : Num\
+ber(m[11]) } : null\n};\n}\nclass Events {\n#text;\n#places;\nconstructor(text) {\nconst places = [];\nfor (let at = 0; at < text.length; at \
+= text.indexOf(\"\\n\", at) + 1) places.push(at);\nthis.length = places.length;\nthis.#text = text;\nthis.#places = Uint32Array.from([...pla\
+ces, text.length]);\n}\n#line(i) {\nreturn this.#text.slice(this.#places[i], this.#places[i + 1] - 1);\n}\nat(i) {\nreturn i >= 0 && i < thi\
+s.length ? readEvent(this.#line(i)) : undefined;\n}\ntoken(i) {\nconst [, token] = this.#line(i).split(\" \", 2);\nreturn token;\n}\nisIdle(\
+i) {\nreturn this.#text.endsWith(\" idle\", this.#places[i + 1] - 1);\n}\n*[Symbol.iterator]() {\nfor (let i = 0; i < this.length; i++) yiel\
+d this.at(i);\n}\nfindIndex(test) {\nfor (let i = 0; i < this.length; i++) if (test(this.at(i))) return i;\nreturn -1;\n}\n}\nfunction readT\
+race(trace) {\nconst cut = trace.startsWith(\"state \") ? 0 : trace.lastIndexOf(\"\\nstate \") + 1;\nconst events = new Events(trace.slice(0\
+, cut));\nconst last = events.at(events.length - 1);\nconst refused = last && isRefused(last) ? last : null;\nif (refused) events.length--;\n\
+return { events, refused, end: readState(trace.slice(cut)) };\n}\nfunction readThread(words) {\nconst stack = words.indexOf(\"stack\");\ncon\
+st out = words.indexOf(\"out\");\nconst [status, code] = words[2].split(\":\");\nreturn {\nrow: Number(words[1]),\nstatus,\ncode: code === u\
+ndefined ? null : Number(code),\nisInterrupted: words[3] === \"1\",\nregisters: words.slice(5, 13).map(Number),\nstack: words.slice(stack + \
+1, out),\nout: words.slice(out + 1).map(Number)\n};\n}\nfunction readState(text) {\nconst key = text.replace(/^state \\d+ \\d+/, \"\");\ncon\
+st state = { threads: [], phasers: [], barriers: [], cells: {}, word: \"\", key };\nfor (const line of text.trimEnd().split(\"\\n\")) {\ncon\
+st words = line.split(\" \");\nconst [, first, second, third, fourth] = words;\nif (words[0] === \"state\") state.word = third;\nelse if (wo\
+rds[0][0] === \"t\") state.threads.push(readThread(words));\nelse if (words[0][0] === \"p\") {\nstate.phasers.push({\nview: Number(first),\n\
+parties: Number(second),\narrived: Number(third),\nmissing: Number(fourth)\n});\n} else if (words[0][0] === \"b\") state.barriers.push({ wai\
+ting: Number(first), isBroken: second === \"1\" });\nelse state.cells[Number(words[0].slice(1))] = Number(first);\n}\nreturn state;\n}\nfunc\
+tion doingOf(moment, t) {\nconst { status } = moment.state.threads[t];\nif (status === \"ended\") return \"over\";\nif (status === \"died\") \
+return \"dead\";\nif (status === \"throws\") return \"throws\";\nif (status === \"waits\") return moment.next[t] ? \"free\" : \"waits\";\nre\
+turn moment.next[t] ? \"runs\" : \"held\";\n}\nconst isRefused = event => event.what === \"none\" || event.what === \"limit\";\nreturn { rea\
+dEvent, readTrace, readState, doingOf, isRefused };\n})();\n// app/player.js\nconst m18 = (() => {\nconst { openSession } = m14;\nconst { co\
+mmonOf } = m15;\nconst { isRefused, readEvent, readState } = m17;\nconst BACK = 40;\nconst EVERY = 50000;\nfunction makePlayer(program) {\nl\
+et session = null;\nlet led = [];\nlet at = 0;\nlet base = 0;\nconst marks = new Map();\nfunction dropMarks(behind) {\nfor (const [i, mark] \
+of marks) {\nif (i <= behind) continue;\nmark.close();\nmarks.delete(i);\n}\n}\nconst markBefore = i => Math.max(0, ...[...marks.keys()].fil\
+ter(one => one <= i));\nfunction startFrom(i) {\nif (session) session.close();\nsession = i ? marks.get(i).copy() : openSession(program.text\
+);\nat = base = i;\n}\nfunction goOn(i) {\nwhile (at < i) {\nconst next = Math.min(i, at - (at % EVERY) + EVERY);\nsession.command(\"g \" + \
+led.slice(at, next).join(\" \"));\nat = next;\nif (at % EVERY === 0 && !marks.has(at)) marks.set(at, session.copy());\n}\n}\nfunction lead(c\
+hoices, i) {\nconst common = choices === led ? Infinity : commonOf(led, choices);\ndropMarks(common);\nled = choices;\nconst kept = Math.min\
+(at, i, common);\nconst mark = markBefore(i);\nif (!session || kept < base || at - kept > BACK || mark > kept + BACK) startFrom(mark);\nelse \
+for (; at > kept; at--) session.command(\"b\");\ngoOn(i);\n}\nfunction tried(token) {\nconst event = readEvent(session.command(\"s \" + toke\
+n).trim());\nif (!isRefused(event)) session.command(\"b\");\nreturn isRefused(event) || event.what === \"idle\" ? null : event;\n}\nfunction \
+momentAt(choices, i) {\nlead(choices, i);\nconst moment = { i, state: readState(session.command(\"p\")), next: {}, late: {} };\nconst { turn\
+s, expiries } = session.enabled;\nfor (const t of turns) moment.next[t] = tried(\"t\" + t);\nfor (const t of expiries) moment.late[t] = trie\
+d(\"x\" + t);\nfor (const all of [moment.next, moment.late]) for (const t in all) if (!all[t]) delete all[t];\nreturn moment;\n}\nfunction c\
+lose() {\nif (session) session.close();\ndropMarks(-1);\nsession = null;\nled = [];\nat = base = 0;\n}\nreturn { momentAt, close };\n}\nretu\
+rn { makePlayer };\n})();\n// app/run.js\nconst m19 = (() => {\nconst { listProgram, planSchedule, playRun } = m14;\nconst { readProgram } = \
+m0;\nconst { LONGEST } = m16;\nconst { makePlayer } = m18;\nconst { choicesOf, commonOf, scheduleOf } = m15;\nconst { readTrace } = m17;\nco\
+nst MORE = 100;\nconst KEPT = 3000;\nconst openProgram = text => readProgram(text, listProgram(text));\nfunction makeRun(tree, parent, fork, \
+choices, trace = playRun(tree.program.text, scheduleOf(choices))) {\nconst { events, refused, end } = readTrace(trace);\nconst played = choi\
+ces.length === events.length ? choices : choices.slice(0, events.length);\nconst kept = { moments: new Map(), folds: [] };\nreturn { id: tre\
+e.runs.length, parent, fork, choices: played, trace, events, end, refused, kept };\n}\nconst withRun = (tree, run) => ({ tree: { ...tree, ru\
+ns: [...tree.runs, run] }, run });\nfunction plantTree(program, choices, trace) {\nconst tree = { program, runs: [], player: makePlayer(prog\
+ram) };\nreturn withRun(tree, makeRun(tree, -1, 0, choices, trace)).tree;\n}\nconst lengthOf = run => run.choices.length;\nconst eventTo = (\
+run, i) => run.events.at(i - 1) || null;\nfunction ownerOf(tree, id, i) {\nwhile (id > 0 && i <= tree.runs[id].fork) id = tree.runs[id].pare\
+nt;\nreturn tree.runs[id];\n}\nfunction runBy(tree, id, i, token) {\nif (tree.runs[id].choices[i] === token) return tree.runs[id];\nconst ow\
+ner = ownerOf(tree, id, i);\nif (owner.choices[i] === token) return owner;\nreturn tree.runs.find(run => run.parent === owner.id && run.fork \
+=== i && run.choices[i] === token) || null;\n}\nfunction turnsOf(text, before, token) {\nconst again = Array(99).fill(\"t\" + token.slice(1)\
+);\nconst { events } = readTrace(playRun(text, scheduleOf([...before, token, ...again])));\nconst made = [];\nfor (let k = before.length; k \
+< events.length && !events.isIdle(k); k++) {\nmade.push(events.token(k));\nif (/^(wait|end|die)$/.test(events.at(k).what)) break;\n}\nreturn \
+made;\n}\nfunction restOf(text, before, rest) {\nconst { events } = readTrace(playRun(text, scheduleOf([...before, ...rest])));\nconst own = \
+[];\nfor (let k = before.length; k < events.length; k++) if (!events.isIdle(k)) own.push(events.token(k));\nreturn own;\n}\nfunction forkRun\
+(tree, id, i, token) {\nconst found = runBy(tree, id, i, token);\nif (found) return { tree, run: found };\nconst owner = ownerOf(tree, id, i\
+);\nconst { text } = tree.program;\nconst before = owner.choices.slice(0, i);\nconst rest = owner.choices.slice(i);\nconst most = Math.min(r\
+est.length + MORE, LONGEST - i);\nlet made = turnsOf(text, before, token).slice(0, most);\nif (!made.length) throw new Error(\"this choice w\
+ould do nothing here\");\nmade = [...made, ...restOf(text, [...before, ...made], rest)].slice(0, most);\nif (made.length < most) {\nconst pl\
+an = scheduleOf([...before, ...made]) + \" ..*\" + (most - made.length);\nmade = choicesOf(planSchedule(text, plan)).slice(i);\n}\nreturn wi\
+thRun(tree, makeRun(tree, owner.id, i, [...before, ...made]));\n}\nfunction graftRun(tree, choices) {\nlet best = tree.runs[0];\nlet most = \
+-1;\nfor (const run of tree.runs) {\nconst common = commonOf(run.choices, choices);\nif (common === choices.length && lengthOf(run) === comm\
+on) return { tree, run };\nif (common > most) [best, most] = [run, common];\n}\nreturn withRun(tree, makeRun(tree, ownerOf(tree, best.id, mo\
+st).id, most, choices));\n}\nconst firstAlone = tree => ({ ...tree, runs: tree.runs.slice(0, 1) });\nfunction depthOf(tree, run) {\nlet dept\
+h = 0;\nfor (let one = run; one.parent >= 0; one = tree.runs[one.parent]) depth++;\nreturn depth;\n}\nfunction inOrder(tree, from = 0, level \
+= 0) {\nconst forks = tree.runs.filter(run => run.parent === from).sort((a, b) => a.fork - b.fork);\nreturn [{ run: tree.runs[from], level }\
+, ...forks.flatMap(run => inOrder(tree, run.id, level + 1))];\n}\nconst hasMoment = (tree, id, i) => ownerOf(tree, id, i).kept.moments.has(i\
+);\nfunction momentOf(tree, id, i) {\nconst run = ownerOf(tree, id, i);\nconst { moments } = run.kept;\nif (moments.has(i)) return moments.g\
+et(i);\nif (moments.size > KEPT) moments.clear();\nconst moment = tree.player.momentAt(run.choices, i);\nmoments.set(i, moment);\nreturn mom\
+ent;\n}\nfunction closeTree(tree) {\nif (tree) tree.player.close();\n}\nreturn { openProgram, plantTree, lengthOf, eventTo, ownerOf, runBy, \
+forkRun, graftRun, firstAlone, depthOf, inOrder, hasMoment, momentOf, closeTree };\n})();\n// app/link.js\nconst m20 = (() => {\nconst { for\
+kRun, lengthOf } = m19;\nconst MODES = { e: \"explore\", l: \"lesson\", q: \"quiz\", c: \"challenge\" };\nconst LONGEST = 2000000;\nconst MO\
+ST_LINK = 60000;\nfunction addressOf(tree, run, at) {\nlet path = \"\";\nfor (let one = run; one.parent >= 0; one = tree.runs[one.parent]) {\
+\npath = one.fork + 1 + one.choices[one.fork] + \".\" + path;\n}\nreturn path + at;\n}\nconst ADDRESS = /^(\\d{1,7}[tx]\\d{1,2}\\.)*\\d{1,7}\
+$/;\nfunction walkTo(tree, address) {\nlet run = tree.runs[0];\nconst parts = address.split(\".\");\nlet at = Number(parts.pop()) || 0;\nlet \
+isWhole = true;\nfor (const part of parts) {\nconst m = /^(\\d+)([tx]\\d+)$/.exec(part);\nconst i = Number(m && m[1]) - 1;\ntry {\nif (i < 0 \
+|| i > lengthOf(run)) throw new Error(\"no such choice\");\n({ tree, run } = forkRun(tree, run.id, i, m[2]));\n} catch (_) {\nisWhole = fals\
+e;\nat = i;\nbreak;\n}\n}\nreturn { tree, run, at: Math.min(lengthOf(run), at), isWhole };\n}\nasync function through(bytes, stream) {\ncons\
+t reader = new Blob([bytes]).stream().pipeThrough(stream).getReader();\nconst parts = [];\nfor (let all = 0, one; !(one = await reader.read(\
+)).done; parts.push(one.value)) {\nall += one.value.length;\nif (all > LONGEST) throw new Error(\"the link holds too much\");\n}\nreturn new \
+Uint8Array(await new Blob(parts).arrayBuffer());\n}\nfunction base64(bytes) {\nlet signs = \"\";\nfor (const byte of bytes) signs += String.\
+fromCharCode(byte);\nreturn btoa(signs).replace(/\\+/g, \"-\").replace(/\\//g, \"_\").replace(/=/g, \"\");\n}\nconst unbase64 = text => Uint\
+8Array.from(atob(text.replace(/-/g, \"+\").replace(/_/g, \"/\")), sign => sign.charCodeAt(0));\nasync function linkOf({ text, plan, name, ad\
+dress, mode }) {\nconst packed = await through(\nnew TextEncoder().encode(JSON.stringify([text, plan, name])),\nnew CompressionStream(\"defl\
+ate-raw\")\n);\nreturn \"#\" + [mode[0], address, base64(packed)].join(\"/\");\n}\nasync function readLink(hash) {\nif (hash.length < 2) ret\
+urn null;\nif (ADDRESS.test(hash.slice(1))) return { address: hash.slice(1) };\nconst [sign, address, packed] = hash.slice(1).split(\"/\");\n\
+if (!Object.hasOwn(MODES, sign) || !packed || !ADDRESS.test(address)) throw new Error(\"it isn\\u2019t whole\");\nconst bytes = await throug\
+h(unbase64(packed), new DecompressionStream(\"deflate-raw\"));\nconst read = JSON.parse(new TextDecoder().decode(bytes));\nif (\n!Array.isAr\
+ray(read) || read.slice(0, 2).some(one => typeof one !== \"string\")\n) throw new Error(\"it holds no program\");\nreturn { text: read[0], p\
+lan: read[1], name: String(read[2] || \"\"), address, mode: MODES[sign] };\n}\nreturn { MOST_LINK, addressOf, walkTo, linkOf, readLink };\n}\
+)();\n// app/file.js\nconst m21 = (() => {\nconst NAMES = [\"listing\", \"source\", \"schedule\", \"trace\"];\nconst unixText = text => text\
+.replace(/\\r\\n/g, \"\\n\").replace(/\\r/g, \" \");\nfunction runIn(page, name) {\nconst [listing, source, schedule, trace] = NAMES.map(one \
+=> page.getElementById(one)?.textContent || \"\");\nreturn listing || source ? { name, listing, source: unixText(source), schedule, trace } \
+: null;\n}\nfunction takePage() {\nfor (const name of NAMES) document.getElementById(name).textContent = \"\";\nconst page = \"<!doctype htm\
+l>\\n\" + document.documentElement.outerHTML + \"\\n\";\ndocument.getElementById(\"texts\").remove();\nreturn page;\n}\nconst ESCAPED = { \"\
+&\": \"&amp;\", \"<\": \"&lt;\", \">\": \"&gt;\", \"\\r\": \"&#13;\" };\nconst escaped = text => text.replace(/[&<>\\r]/g, sign => ESCAPED[s\
+ign]);\nfunction pageWith(page, texts) {\nconst put = (made, name) => {\nconst [begin, end] = [`<pre id=\"${name}\">`, \"</pre>\"];\nreturn \
+made.replace(begin + end, () => begin + \"\\n\" + escaped(texts[name]) + end);\n};\nreturn NAMES.reduce(put, page);\n}\nfunction itemOf(page\
+) {\nconst { name, listing, source, schedule, trace } = page;\nconst item = { group: \"This file\", name, title: name, program: source || li\
+sting, plan: schedule };\nreturn trace ? { ...item, schedule, page } : { ...item, plan: schedule || \"..\" };\n}\nconst bareName = path => p\
+ath.split(\"/\").pop().replace(/\\.\\w+$/, \"\") || \"run\";\nfunction save(name, text, type = \"text/plain\") {\nconst link = document.crea\
+teElement(\"a\");\nlink.href = URL.createObjectURL(new Blob([text], { type }));\nlink.download = name;\nlink.click();\nsetTimeout(() => URL.\
+revokeObjectURL(link.href), 1000);\n}\nfunction readProgramFile(text) {\nconst cut = /^[ \\t]*\\.run[ \\t\\r]*(;.*)?$\\n?/m.exec(text);\nif \
+(!cut) return { program: text, plan: \"..\" };\nreturn { program: text.slice(0, cut.index), plan: text.slice(cut.index + cut[0].length).trim\
+() || \"..\" };\n}\nreturn { runIn, takePage, pageWith, itemOf, bareName, save, readProgramFile };\n})();\n// app/keys.js\nconst m22 = (() =\
+> {\nconst isField = element => /^(INPUT|TEXTAREA|SELECT)$/.test(element.tagName);\nconst isButton = element => element.tagName === \"BUTTON\
+\" || element.tagName === \"A\";\nconst KEY_TEXTS = [\n[\"\\u2190 \\u2192\", \"a choice back, forward\"],\n[\"Page Up, Down\", \"the same: a \
+presenter\\u2019s keys\"],\n[\"Home End\", \"start, end\"],\n[\"Space\", \"play\"],\n[\"1 \\u2026 9\", \"that name is next\"],\n[\"[ ]\", \"\
+the run before, after\"],\n[\"Esc\", \"back to the fork\"],\n[\"+ \\u2212 0\", \"size\"],\n[\"p v o\", \"picture, values, orders\"],\n[\"f\"\
+, \"timeline alone\"],\n[\"e\", \"edit the program\"],\n[\"s\", \"side by side\"],\n[\"a \\u2026 d\", \"an answer of the quiz\"]\n];\nfuncti\
+on listenToKeys(act, hasLetters) {\ndocument.addEventListener(\"keydown\", event => {\nif ((event.ctrlKey || event.metaKey) && event.key === \
+\"p\") return act.print();\nif (event.ctrlKey || event.metaKey || event.altKey) return;\nif (event.key === \"Escape\") return act.escape(isF\
+ield(event.target) ? event.target : null);\nif (isField(event.target)) return;\nif (isButton(event.target) && (event.key === \" \" || event.\
+key === \"Enter\")) return;\nif (event.target.closest(\".sheet\")) return;\nconst go = act.keys[event.key];\nif (go) {\nevent.preventDefault\
+();\nreturn go();\n}\nif (!hasLetters()) return;\nif (/^[1-9]$/.test(event.key)) return act.number(Number(event.key));\nif (act.letter(event\
+.key)) event.preventDefault();\n});\n}\nreturn { KEY_TEXTS, listenToKeys };\n})();\n// app/menu.js\nconst m23 = (() => {\nconst { byId, fill\
+, h } = m3;\nconst { KEY_TEXTS } = m22;\nfunction makeSheet() {\nconst sheet = byId(\"sheet\");\nlet opener = null;\nfunction close(isBack) \
+{\nif (sheet.hidden) return;\nsheet.hidden = true;\nopener.setAttribute(\"aria-expanded\", \"false\");\nif (isBack) opener.focus();\n}\nfunc\
+tion open(button, label, content) {\nconst isSame = !sheet.hidden && sheet.getAttribute(\"aria-label\") === label;\nclose(false);\nif (isSam\
+e) return;\nopener = button;\nfill(sheet, content);\nsheet.setAttribute(\"aria-label\", label);\nsheet.hidden = false;\nbutton.setAttribute(\
+\"aria-expanded\", \"true\");\nconst box = button.getBoundingClientRect();\nconst left = Math.max(8, Math.min(box.left, innerWidth - sheet.o\
+ffsetWidth - 8));\nsheet.style.setProperty(\"left\", left + \"px\");\nsheet.style.setProperty(\"top\", box.bottom + 6 + \"px\");\nsheet.styl\
+e.setProperty(\"max-height\", innerHeight - box.bottom - 14 + \"px\");\nsheet.querySelector(\"[aria-current], button, input, textarea\")?.fo\
+cus();\n}\ndocument.addEventListener(\"pointerdown\", event => {\nif (!sheet.contains(event.target) && !event.target.closest(\"[aria-expande\
+d]\")) close(false);\n});\nsheet.addEventListener(\"keydown\", event => {\nconst list = [...sheet.querySelectorAll(\"button, input, select, \
+textarea\")];\nconst by = { ArrowDown: 1, ArrowUp: -1 }[event.key];\nif (!by || event.target.tagName === \"TEXTAREA\" || event.target.tagNam\
+e === \"SELECT\") return;\nevent.preventDefault();\nlist[(list.indexOf(document.activeElement) + by + list.length) % list.length].focus();\n\
+});\nreturn { open, close, isOpen: () => !sheet.hidden };\n}\nconst column = (title, ...content) => h(\"div.sheet-column\", {}, h(\"h2\", {}\
+, title), content);\nfunction entryOf(sheet) {\nreturn (text, act, key) => {\nconst onclick = () => {\nsheet.close(true);\nact();\n};\nretur\
+n h(\"button.entry\", { type: \"button\", onclick }, h(\"span\", {}, text), key ? h(\"kbd\", {}, key) : null);\n};\n}\nfunction programsMenu\
+(sheet, menu, current, act) {\nconst entry = entryOf(sheet);\nconst groups = new Map();\nfor (const item of menu) groups.set(item.group, [..\
+.(groups.get(item.group) || []), item]);\nconst one = item => {\nconst made = entry(item.title, () => act.open(item));\nif (item === current\
+) made.setAttribute(\"aria-current\", \"true\");\nreturn made;\n};\nconst chosen = event => {\nconst [file] = event.target.files;\nsheet.clo\
+se(true);\nif (file) act.file(file);\n};\nconst input = h(\"input\", { type: \"file\", accept: \".asm,.txt,.html,text/plain\", onchange: cho\
+sen });\nreturn [\n[...groups].map(([group, items]) => column(group, items.map(one))),\ncolumn(\n\"Yours\",\nentry(\"My own program\", act.o\
+wn),\nentry(\"Keep this as my own\", act.keep),\nh(\"label.entry.entry-file\", {}, h(\"span\", {}, \"Open a file\\u2026\"), input)\n)\n];\n}\
+\nconst SPEEDS = [0.5, 1, 2, 4, 8];\nfunction mainMenu(sheet, state, settings, act) {\nconst entry = entryOf(sheet);\nconst box = (text, nam\
+e) => {\nconst onchange = event => act.set(name, event.target.checked);\nreturn h(\n\"label.entry\",\n{},\nh(\"input\", { type: \"checkbox\"\
+, checked: state[name], onchange }),\nh(\"span\", {}, text)\n);\n};\nconst speed = h(\n\"select\",\n{ \"aria-label\": \"Speed of Play\", onc\
+hange: event => act.speed(Number(event.target.value)) },\nSPEEDS.map(\none => h(\n\"option\",\n{ value: one, selected: one === settings.spee\
+d },\n\"every \" + (one === 1 ? \"second\" : one + \" seconds\")\n)\n)\n);\nconst theme = name => {\nconst given = { type: \"button\", \"ari\
+a-pressed\": String(settings.theme === name), onclick: () => act.theme(name) };\nreturn h(\"button\", given, name);\n};\nconst key = ([sign, \
+text]) => h(\"p.sheet-key\", {}, h(\"kbd\", {}, sign), \" \" + text);\nreturn [\nh(\n\"div.sheet-column\",\n{},\nh(\"h2\", {}, \"Show\"),\nb\
+ox(\"Hide what comes later\", \"isHidden\"),\nbox(\"Fold idle choices\", \"isFolded\"),\nbox(\"Java\\u2019s words\", \"isJava\"),\nbox(\"Tim\
+eline alone\", \"isAlone\"),\nbox(\"Keys of one letter or sign\", \"hasLetters\"),\nh(\"h2\", {}, \"Play\"),\nentry(\"Play, a choice after a\
+nother\", act.play, \"Space\"),\nh(\"label.entry\", {}, h(\"span\", {}, \"Speed\"), speed),\nh(\"h2\", {}, \"Colours\"),\nh(\"div.sheet-row\"\
+, {}, [\"auto\", \"light\", \"dark\"].map(theme))\n),\nh(\n\"div.sheet-column\",\n{},\nh(\"h2\", {}, \"Run\"),\nentry(\"Start again\", act.a\
+gain),\nentry(\"Side by side\", act.side, \"s\"),\nentry(\"Make it the run\", act.makeFirst),\nentry(\"Only run 1\", act.onlyFirst),\nentry(\
+\"Larger\", act.larger, \"+\"),\nentry(\"Smaller\", act.smaller, \"\\u2212\"),\nh(\"h2\", {}, \"Print\"),\nentry(\"Handout: all choices\", a\
+ct.handout, \"Ctrl P\"),\nentry(\"Worksheet\", act.worksheet)\n),\nh(\n\"div.sheet-column\",\n{},\nh(\"h2\", {}, \"Take with you\"),\nentry(\
+\"Copy a link\", act.copyLink),\nentry(\"Copy the plan\", act.copyPlan),\nentry(\"Copy the schedule\", act.copySchedule),\nentry(\"Copy the \
+command\", act.copyCommand),\nentry(\"Save the program\", act.saveProgram),\nentry(\"Save the trace\", act.saveTrace),\nentry(\"Save this pa\
+ge with the run\", act.savePage),\nh(\"p.sheet-key\", {}, settings.version)\n),\nh(\"div.sheet-column.sheet-keys\", {}, h(\"h2\", {}, \"Keys\
+\"), KEY_TEXTS.map(key))\n];\n}\nconst copySheet = text => column(\n\"Copy this\",\nh(\"textarea.copied\", { rows: 4, readonly: true, \"aria\
+-label\": \"The text to copy\" }, text)\n);\nreturn { makeSheet, programsMenu, mainMenu, copySheet };\n})();\n// app/sentence.js\nconst m24 \
+= (() => {\nconst { ARRIVES, KINDS, nameOf, operandOf } = m0;\nconst { callOf, entryText, hasSeveral, labelOf, objectOf, phaseOf, rowText, s\
+trong, threadName, thrown } = m1;\nfunction markText(program, mark, before) {\nconst barrier = mark.kind[1] === \"b\" ? nameOf(program, \"B\"\
+, mark.on) : \"\";\nif (mark.kind === \"+b\") return \"Barrier \" + barrier + \" trips: all who wait there may go on.\";\nif (mark.kind === \
+\"-b\") return \"Barrier \" + barrier + \" breaks.\";\nconst name = nameOf(program, \"P\", mark.on);\nconst old = phaseOf(before.phasers[mar\
+k.on].view);\nif (mark.view < 0) return \"Phase \" + old + \" of \" + name + \" was its last: it is terminated.\";\nreturn \"Phase \" + old \
++ \" of \" + name + \" ends, phase \" + mark.view + \" begins.\";\n}\nfunction countText(program, row, state) {\nconst b = operandOf(row, \"\
+B\");\nif (b >= 0) {\nreturn state.barriers[b].waiting + \" of \" + program.barriers[b].parties + \" wait at \" + nameOf(program, \"B\", b) \
++\n\".\";\n}\nlet p = operandOf(row, \"P\");\nlet child = -1;\nwhile (program.phasers[p].parent >= 0 && state.phasers[p].parties && !state.p\
+hasers[p].missing) {\nchild = p;\np = program.phasers[p].parent;\n}\nconst one = state.phasers[p];\nconst name = nameOf(program, \"P\", p);\n\
+if (one.view < 0) return \"\";\nif (!one.parties) return name + \" has no parties now.\";\nif (child < 0) return one.arrived + \" of \" + on\
+e.parties + \" parties of \" + name + \" have arrived.\";\nreturn nameOf(program, \"P\", child) + \" is complete and arrives at \" + name + \
+\": \" + one.arrived + \" of \" +\none.parties + \".\";\n}\nfunction valueText(program, event, row, thread, who) {\nconst call = callOf(prog\
+ram, row, thread);\nconst into = row.operands[0] || \"\";\nconst value = strong(event.value);\nif (thread.status === \"waits\") return [\"Th\
+e wait of \", who, \" at \" + call + \" is over: it returns \", value, \".\"];\nif (row.word === \"ret\") {\nconst entry = entryText(program\
+, thread.stack[thread.stack.length - 1]);\nreturn [who, \" ends the \" + entry + \"; its own call returns \", value, \".\"];\n}\nif (call) r\
+eturn [who, \" calls \" + call + \", which returns \", value, \".\"];\nif (row.word === \"add\" || row.word === \"sub\") {\nconst [left, rig\
+ht] = row.operands.slice(1).map(register => thread.registers[Number(register[1])]);\nreturn [who, \": \" + into + \" = \" + left + (row.word \
+=== \"add\" ? \" + \" : \" \\u2212 \") + right + \" = \", value, \".\"];\n}\nconst from = { mov: \" from \" + row.operands[1], self: \", its \
+own number\" }[row.word] || \"\";\nconst cell = row.word === \"lds\" ? \" from \" + nameOf(program, \"C\", operandOf(row, \"C\")) : \"\";\nr\
+eturn [who, \" puts \", value, from + cell + \" into \" + into + \".\"];\n}\nfunction plainText(program, event, row, thread, who) {\nconst c\
+all = callOf(program, row, thread);\nconst there = row.kinds.includes(\"L\") ? labelOf(program, operandOf(row, \"L\")) : \"\";\nif (call) re\
+turn [who, \" calls \" + call + \".\"];\nconst said = {\njmp: \" goes on at \" + there,\ncall: \" calls the rows at \" + there,\ntry: \" set\
+s a handler: what is thrown from here on is caught at \" + there,\nendtry: \" takes its handler away\",\nret: \" comes back from its call\"\n\
+};\nif (said[row.word]) return [who, said[row.word] + \".\"];\nif (row.word === \"sts\") {\nconst value = thread.registers[Number(row.operan\
+ds[0][1])];\nreturn [who, \" stores \", strong(value), \" in \" + nameOf(program, \"C\", operandOf(row, \"C\")) + \".\"];\n}\nif (there) {\n\
+const both = row.operands.slice(0, 2).map(register => register + \" = \" + thread.registers[Number(register[1])]);\nreturn [who, \" compares \
+\" + both.join(\" with \") + \".\"];\n}\nreturn [who, \": \" + rowText(program, row) + \".\"];\n}\nfunction idleText(event, thread, call, wh\
+o) {\nif (event.isLate) return [\n\"The time-out of \",\nwho,\n\" would come now, but it has no wait that can time out: nothing happens.\"\n\
+];\nconst why = {\nwaits: \", which still waits at \" + call,\nended: \", which has ended\",\ndied: \", which is dead\"\n}[thread.status];\n\
+return [\"It is the turn of \", who, (why || \", which can\\u2019t go on yet\") + \": nothing happens.\"];\n}\nfunction throwText(program, e\
+vent, row, thread, who, call) {\nconst waited = thread.status === \"waits\";\nconst cause = event.isLate\n? [\"The time of \", who, \"\\u201\
+9s wait at \" + call + \" is up: it \"]\n: waited\n? [\"The wait of \", who, \" at \" + call + \" ends: it \"]\n: [who, call ? \" calls \" + \
+call + \", which \" : \" \"];\nreturn [...cause, strong(\"throws \" + thrown(event.value, row)), \".\"];\n}\nfunction eventText(program, eve\
+nt, before) {\nconst who = { thread: event.thread };\nif (event.what === \"none\") return [\"There is no thread \" + event.thread + \".\"];\n\
+if (event.what === \"limit\") return [\"No more choices are allowed.\"];\nconst row = program.rows[event.row];\nconst thread = before.thread\
+s[event.thread];\nconst call = callOf(program, row, thread);\nconst top = thread.stack[thread.stack.length - 1] || \"\";\nswitch (event.what\
+) {\ncase \"idle\":\nreturn idleText(event, thread, call, who);\ncase \"=\":\nreturn valueText(program, event, row, thread, who);\ncase \"ok\
+\":\nreturn plainText(program, event, row, thread, who);\ncase \"wait\":\nreturn [who, \" calls \" + call + \" and \", strong(\"waits\"), \"\
+.\"];\ncase \"out\":\nreturn [who, \" puts out \", strong(event.value), \".\"];\ncase \"end\":\nreturn [who, \" \", strong(\"ends\"), \".\"]\
+;\ncase \"die\":\nreturn [\"Nothing catches \" + thrown(event.value) + \": \", who, \" \", strong(\"is dead\"), \".\"];\ncase \"catch\":\nre\
+turn [\n\"A handler of \",\nwho,\n\" \",\nstrong(\"catches \" + thrown(event.value)),\n\" at \" + labelOf(program, Number(top.slice(1))) + \"\
+.\"\n];\ncase \"unwind\":\nreturn [who, \", throwing \" + thrown(thread.code) + \", leaves the \" + entryText(program, top) + \".\"];\ncase \
+\"enter\": {\nconst routine = operandOf(row, \"P\") >= 0 ? \"enters onAdvance\" : \"enters the action\";\nreturn [who, \" calls \" + call + \
+\", and as the last to arrive it \", strong(routine), \".\"];\n}\ndefault:\nreturn throwText(program, event, row, thread, who, call);\n}\n}\n\
+const BRANCHES = { beq: [\"equal\", \"not equal\"], bne: [\"not equal\", \"equal\"], blt: [\"less\", \"not less\"] };\nfunction branchText(p\
+rogram, event, after) {\nconst row = program.rows[event.row];\nif (event.what !== \"ok\" || !row || !BRANCHES[row.word]) return \"\";\nconst \
+target = operandOf(row, \"L\");\nconst [is, isNot] = BRANCHES[row.word];\nconst there = \"it goes on at \" + labelOf(program, target);\nif (\
+target === event.row + 1) return \"Either way it goes on below.\";\nif (!after) return \"If \" + is + \", \" + there + \", else below.\";\nc\
+onst isThere = after.threads[event.thread].row === target;\nconst they = row.word === \"blt\" ? \"The first is \" : \"They are \";\nreturn t\
+hey + (isThere ? is + \": \" + there : isNot + \": it goes on below\") + \".\";\n}\nfunction refusedText({ what, thread }, number) {\nconst \
+why = what === \"none\" ? \"there is no thread \" + thread : \"no more choices or steps are allowed\";\nreturn \"Choice \" + number + \" is \
+refused: \" + why + \". The run stops here.\";\n}\nfunction sentenceOf(program, event, before, after) {\nconst said = eventText(program, eve\
+nt, before.state);\nconst row = program.rows[event.row];\nconst branch = branchText(program, event, after.state);\nif (branch) return [...sa\
+id, \" \" + branch];\nif (event.mark) return [...said, \" \", strong(markText(program, event.mark, before.state))];\nconst isCall = row && b\
+efore.state.threads[event.thread].status !== \"waits\";\nconst arrived = event.what === \"wait\" || (event.what === \"=\" && event.value >= \
+0 && row && ARRIVES.has(row.word));\nconst count = isCall && arrived ? countText(program, row, after.state) : \"\";\nreturn count ? [...said\
+, \" \" + count] : said;\n}\nfunction wouldText(program, event, moment) {\nconst [first, ...rest] = eventText(program, event, moment.state);\
+\nconst branch = branchText(program, event);\nconst said = [typeof first === \"string\" ? first[0].toLowerCase() + first.slice(1) : first, .\
+..rest];\nif (branch) return [...said, \" \" + branch];\nreturn event.mark ? [...said, \" \", strong(markText(program, event.mark, moment.st\
+ate))] : said;\n}\nfunction tagOf(program, event, isJava) {\nconst row = event.row < 0 ? null : program.rows[event.row];\nconst object = row \
+? objectOf(program, row) : \"\";\nconst call = row ? KINDS[row.word][1] : \"\";\nlet head = row ? row.word + (hasSeveral(program) && object \
+? \" \" + object : \"\") : \"\";\nif (row && row.word === \"intr\") head = rowText(program, row);\nif (row && row.kinds.includes(\"C\")) hea\
+d += \" \" + nameOf(program, \"C\", operandOf(row, \"C\"));\nif (call && isJava) {\nconst name = call.split(\"(\")[0].replace(\"@\", () => t\
+hreadName(program, operandOf(row, \"T\")));\nhead = (hasSeveral(program) && object ? object + \".\" : \"\") + name;\n}\nconst said = {\nnone\
+: \"refused\",\nlimit: \"refused\",\nidle: \"can\\u2019t go\",\nend: \"ends\",\nwait: head + \" waits\",\nenter: head + \" enters\",\nout: (\
+isJava ? \"println \" : \"out \") + event.value,\n\"=\": head + \" = \" + event.value,\ndie: \"dies of \" + event.value,\ncatch: \"catches \" \
++ event.value,\nunwind: \"unwinds\",\nthrow: (event.isLate ? \"time is up: \" : \"\") + \"throws \" + event.value,\nok: head\n};\nreturn sai\
+d[event.what];\n}\nfunction shortMark(program, mark) {\nconst name = hasSeveral(program) ? nameOf(program, mark.kind[1] === \"p\" ? \"P\" : \
+\"B\", mark.on) : \"\";\nif (mark.kind === \"+b\") return (name && name + \" \") + \"trips\";\nif (mark.kind === \"-b\") return (name && nam\
+e + \" \") + \"breaks\";\nreturn (name && name + \": \") + (mark.view < 0 ? \"terminated\" : \"phase \" + mark.view + \" begins\");\n}\nretu\
+rn { markText, eventText, refusedText, sentenceOf, wouldText, tagOf, shortMark };\n})();\n// app/paper.js\nconst m25 = (() => {\nconst { end\
+Text, outputText } = m2;\nconst { fill, h } = m3;\nconst { nameOf } = m0;\nconst { phaseOf, plain, threadName } = m1;\nconst { planOf } = m1\
+6;\nconst { lengthOf, momentOf } = m19;\nconst { sentenceOf, tagOf } = m24;\nconst LONGEST = 500;\nconst COLUMNS = 10;\nconst ASKED = [\n\"B\
+eside each line: what does the call return, and who waits behind it?\",\n\"How does the run end? Who waits for ever, and for whom?\",\n\"Bef\
+ore which choice could another have gone, so that it ends otherwise? Who, and how does it end then?\"\n];\nfunction standing(program, { phas\
+ers, barriers, cells }) {\nconst phaser = ({ view, parties, arrived }, p) => {\nconst stands = view < 0 ? \"terminated\" : \"phase \" + phas\
+eOf(view) + \", \" + arrived + \" of \" + parties + \" arrived\";\nreturn nameOf(program, \"P\", p) + \": \" + stands;\n};\nconst barrier = \
+({ waiting, isBroken }, b) => {\nconst stands = isBroken ? \"broken\" : waiting + \" of \" + program.barriers[b].parties + \" wait\";\nretur\
+n nameOf(program, \"B\", b) + \": \" + stands;\n};\nconst cell = ([c, value]) => nameOf(program, \"C\", Number(c)) + \" = \" + value;\nretur\
+n [...phasers.map(phaser), ...barriers.map(barrier), ...Object.entries(cells).map(cell)];\n}\nfunction changedText(program, before, after) {\
+\nconst was = standing(program, before.state);\nreturn standing(program, after.state).filter(text => !was.includes(text)).join(\"; \");\n}\n\
+function lineOf(tree, run, k, columns, isBlank, isJava) {\nconst { program } = tree;\nconst event = run.events.at(k);\nconst after = momentO\
+f(tree, run.id, k + 1);\nconst cell = t => {\nif (event.thread === t) return h(\"td.is-own\", {}, isBlank ? \"\\u25CF\" : tagOf(program, eve\
+nt, isJava));\nreturn h(\"td\", {}, after.state.threads[t].status === \"waits\" && !isBlank ? \"\\u2502\" : \"\");\n};\nconst before = momen\
+tOf(tree, run.id, k);\nconst said = isBlank ? \"\" : plain(program, sentenceOf(program, event, before, after));\nconst changed = isBlank ? \"\
+\" : changedText(program, before, after);\nconst words = [said, changed ? h(\"small\", {}, changed) : null];\nreturn h(\"tr\", {}, h(\"td.pa\
+per-number\", {}, k + 1), columns.map(cell), h(\"td\", {}, words));\n}\nfunction drawPaper(paper, { tree, run, at, isJava, title, asked }, i\
+sSheet) {\nconst { program } = tree;\nconst columns = program.threads.map((_, t) => t).slice(0, COLUMNS);\nconst last = Math.min(lengthOf(ru\
+n), LONGEST);\nconst from = isSheet && at < lengthOf(run) ? at : 0;\nconst rows = [];\nfor (let k = 0; k < last; k++) rows.push(lineOf(tree, \
+run, k, columns, isSheet && k >= from, isJava));\nconst heads = [\"\", ...columns.map(t => threadName(program, t)), isSheet ? \"What happens\
+?\" : \"What happens\"];\nconst questions = program.questions.length\n? program.questions.map(one => one.text)\n: asked && asked.length ? as\
+ked : ASKED;\nconst rest = lengthOf(run) > last\n? h(\"p\", {}, \"The run has \" + lengthOf(run) + \" choices; the first \" + last + \" are \
+printed.\")\n: null;\nconst output = outputText(program, run.end);\nconst end = h(\"p\", {}, h(\"b\", {}, \"End: \"), endText(program, run.e\
+nd), output ? \"; output: \" + output : \"\");\nconst blanks = h(\"ol\", {}, questions.map(text => h(\"li\", {}, text, h(\"i.paper-rule\"), \
+h(\"i.paper-rule\"))));\nfill(\npaper,\nh(\"h1\", {}, title),\nisSheet ? h(\"p\", {}, \"Name ____________________________   Date ___________\
+___\") : null,\nh(\"p\", {}, program.about),\nh(\"pre\", {}, program.text),\nh(\"p\", {}, h(\"b\", {}, \"Order: \"), planOf(program, run.eve\
+nts, 200)),\nh(\"table\", {}, h(\"thead\", {}, h(\"tr\", {}, heads.map(text => h(\"th\", {}, text)))), h(\"tbody\", {}, rows)),\nrest,\nisSh\
+eet ? blanks : end\n);\n}\nreturn { drawPaper };\n})();\n// app/quiz.js\nconst m26 = (() => {\nconst { button, h, shown } = m3;\nconst lette\
+r = k => String.fromCharCode(97 + k);\nfunction optionsOf(question, chosen, act) {\nconst kind = option => {\nif (chosen === null) return \"\
+\";\nreturn option === question.right ? \".is-right\" : option === chosen ? \".is-wrong\" : \".is-rest\";\n};\nconst sign = option => {\nif \
+(chosen === null) return \"\";\nreturn option === question.right ? \" \\u2713\" : option === chosen ? \" \\u2717\" : \"\";\n};\nconst one = \
+(option, k) => {\nconst given = { type: \"button\", \"aria-disabled\": String(chosen !== null), onclick: () => act.answer(option) };\nreturn \
+h(\"button.option\" + kind(option), given, h(\"kbd\", {}, letter(k) + sign(option)), h(\"span\", {}, option));\n};\nreturn question.options.\
+map(one);\n}\nfunction verdictOf(question, chosen, program) {\nconst word = chosen === question.right ? h(\"b.is-yes\", {}, \"Right. \") : h\
+(\"b.is-no\", {}, \"Not here. \");\nreturn h(\"p.card-verdict\", { role: \"status\" }, question.own ? null : word, shown(program, question.w\
+hy()));\n}\nconst plainCard = (small, large, text, ...turn) => [\nh(\"div.card-ask\", {}, h(\"p.card-small\", {}, small), h(\"p.card-large\"\
+, {}, large)),\nh(\"div.card-reply\", {}, h(\"p\", {}, text)),\nh(\"div.card-turn\", {}, turn)\n];\nfunction quizCard(quiz, program, act) {\n\
+if (!quiz) return plainCard(\n\"Quiz\",\n\"Random orders are being played.\",\n\"Wrong answers come from them.\",\nbutton(\"Stop\", act.stop\
+)\n);\nconst { list, k, chosen, right, answered, isOpen } = quiz;\nif (!list.length) {\nconst text =\n\"Every order does the same here, so t\
+here is nothing to ask. Take another program, \" +\n\"or write a question: a comment that begins with ;?\";\nreturn plainCard(\"Quiz\", \"Th\
+is run has only one way.\", text);\n}\nconst question = list[k];\nif (!question) {\nconst text = right === answered\n? \"Now make a run that \
+ends otherwise.\"\n: \"Step through the run again, and look at the picture.\";\nreturn plainCard(\n\"Quiz\",\nright + \" of \" + answered + \
+\" right.\",\ntext,\nbutton(\"Again\", act.again, { kind: \".main\" })\n);\n}\nconst isDone = chosen !== null || isOpen;\nconst score = answ\
+ered ? \" \\u2014 \" + right + \" right\" : \"\";\nconst hint = question.own && !isDone ? h(\"p\", {}, \"Say it aloud, then show what happen\
+s.\") : null;\nconst turn = isDone\n? button(\"Next\", act.next, { kind: \".main\" })\n: question.own\n? button(\"Show\", act.show, { kind: \
+\".main\" })\n: button(\"Skip\", act.next);\nreturn [\nh(\n\"div.card-ask\",\n{},\nh(\"p.card-small\", {}, \"Question \" + (k + 1) + \" of \" \
++ list.length + score),\nh(\"p.card-large\", {}, shown(program, question.ask))\n),\nh(\"div.card-reply.options\", {}, optionsOf(question, ch\
+osen, act), hint),\nh(\"div.card-turn\", {}, isDone ? verdictOf(question, chosen, program) : null, turn)\n];\n}\nfunction optionAt(quiz, sig\
+n) {\nconst question = quiz && quiz.list[quiz.k];\nif (!question || quiz.chosen !== null) return null;\nreturn question.options[sign.charCod\
+eAt(0) - 97] || null;\n}\nfunction challengeCard({ goal, changes, isDone }, act) {\nconst count = changes === 1 ? \"one change\" : changes + \
+\" changes\";\nconst aim = goal === \"stuck\"\n? \"Get it stuck: let somebody wait for ever.\"\n: \"This run is stuck. Get all threads to en\
+d.\";\nif (isDone) {\nconst done = goal === \"stuck\" ? \"Stuck, with \" + count + \".\" : \"All end, with \" + count + \".\";\nreturn plain\
+Card(\n\"Challenge\",\ndone,\n\"Is there a way with fewer changes? Why does it end so? Click a thread.\",\nbutton(\"Again\", act.again, { ki\
+nd: \".main\" })\n);\n}\nconst text = \"At any choice, click another name after \\u201CNext\\u201D, and step to the end. Your changes: \" +\n\
+changes + \".\";\nreturn plainCard(\"Challenge\", aim, text, button(\"From the start\", act.again));\n}\nreturn { quizCard, optionAt, challe\
+ngeCard };\n})();\n// app/lessons.js\nconst m27 = (() => {\nconst LESSONS = {\n\"lost-meeting\": {\ntitle: \"A meeting lost to a stray arriv\
+al\",\naim: \"A phaser counts arrivals, and doesn\\u2019t know who arrives.\",\nlast: \"A phaser counts, so each arrival needs a registratio\
+n.\",\nsteps: [\n{\nat: 1,\nask: \"Ann waits. Who should be next, and what will happen?\",\nanswer: \"If Cem is next, the phase ends without \
+Bob: the phaser only counts two arrivals.\",\nvotes: true\n},\n{\nat: 2,\nask: \"Whom does Ann believe to have met, and what does the phaser \
+know?\",\nanswer: \"She believes that she met Bob. The phaser only counted two arrivals, and phase 1 began.\"\n},\n{\nat: 7,\nask: \"Which p\
+hase does Bob wait for, and how many arrivals are missing?\",\nanswer: \"He waits for the end of phase 1, and one is missing.\"\n},\n{\nat: \
+1,\nask: \"Choose a plan in which Cem arrives, and no thread waits at the end. Is the program right, then?\",\nanswer: \"Let Bob go at 1: al\
+l threads end. At 0 with Cem first, Bob is stuck again. It only works by luck.\",\nfork: [1, \"t1\"],\nvotes: true\n},\n{\nat: 0,\nask: \"Le\
+t Cem call preg r0 meet before he arrives. Which plans lose the meeting now?\",\nanswer: \"None. Write the row into the program, behind stra\
+y:, and try random orders.\",\ntab: \"orders\"\n}\n]\n},\n\"broken-barrier\": {\ntitle: \"A barrier broken by an interrupt\",\naim: \"An int\
+errupt ends one wait, and the barrier then breaks for all.\",\nlast: \"One interrupted thread breaks the meeting for all.\",\nsteps: [\n{\na\
+t: 7,\nask: \"Why can Bob continue in choice 9, and not in choice 7?\",\nanswer: \"The interrupt ends only Ann\\u2019s wait. The barrier bre\
+aks at her next turn, in choice 8.\"\n},\n{\nat: 6,\nask: \"Can Bob continue now?\",\nanswer: \"No: his name isn\\u2019t among those who may \
+go next. He continues before Ann if Cem arrives first.\"\n},\n{\nat: 6,\nask: \"What if Cem arrives between Eve\\u2019s interrupt and Ann\\u\
+2019s next turn?\",\nanswer: \"The barrier trips, and they put out 2, 1 and 0. Ann\\u2019s interrupted status stays set.\",\nfork: [6, \"t2\"\
+],\nvotes: true\n},\n{\nat: 0,\nask: \"What would the three get if Eve interrupted Cem before he arrived?\",\nanswer: \"Write intr cem. Cem \
+gets 3 when he calls await, and the others get 4.\"\n},\n{\nat: 9,\nask: \"Which call repairs the barrier, and what does it do to a waiting \
+thread?\",\nanswer:\n\"reset(), which is creset gate. The waiting thread gets BrokenBarrierException. \" +\n\"Later calls use the repaired b\
+arrier.\"\n}\n]\n},\n\"two-orders\": {\ntitle: \"Two phasers in different orders\",\naim: \"Two meetings in different orders deadlock in eve\
+ry run. Two locks deadlock only in some runs.\",\nlast: \"Meet in the same order everywhere, or arrive first and wait later.\",\nsteps: [\n{\
+\nat: 0,\nask: \"Is there a plan with which this program ends?\",\nanswer:\n\"No: each thread waits at its first phaser, and the other never \
+arrives there. \" +\n\"Both runs end in the same state.\",\nfork: [0, \"t1\"],\nvotes: true\n},\n{\nat: 2,\nask: \"With two locks in differe\
+nt orders, some schedules end. What is the difference?\",\nanswer: \"A lock may be free again before the second thread needs it. A meeting n\
+eeds both threads.\"\n},\n{\nat: 0,\nask: \"Change as few rows as you can so that every schedule ends.\",\nanswer: \"Swap the two rows of ot\
+her, or of one.\",\ntab: \"orders\"\n},\n{\nat: 0,\nask:\n\"Let Bob arrive at both and then wait (parr r1 right, paaa r0 left, pawait r0 rig\
+ht r1). \" +\n\"Does every schedule end now?\",\nanswer: \"Yes: he arrives at right and doesn\\u2019t wait there for Ann.\",\ntab: \"orders\"\
+\n}\n]\n},\n\"late-team\": {\ntitle: \"A team that joins late\",\naim: \"When all parties of a child have arrived, it arrives once at its pa\
+rent.\",\nlast: \"Register before the others meet, or leave when you are done.\",\nsteps: [\n{\nat: 2,\nask: \"In choice 2 Bob arrives at re\
+d. Why does a phase of both end?\",\nanswer: \"He is the last party of red, so red arrives at both. It is the only party there.\"\n},\n{\nat\
+: 10,\nask: \"At which phaser is a party missing at the end, and who would have to arrive?\",\nanswer: \"At both: Ann and Bob would have to \
+arrive at red again.\"\n},\n{\nat: 1,\nask:\n\"Cem\\u2019s preg returns 1. What does it return if he registers before Bob arrives, \" +\n\"a\
+nd how does the run end?\",\nanswer: \"It returns 0, and all threads end.\",\nfork: [1, \"t2\"],\nvotes: true\n},\n{\nat: 2,\nask: \"After w\
+hich choice is it too late for Cem?\",\nanswer: \"After choice 2: if he is next now, he is stuck.\",\nfork: [2, \"t2\"]\n},\n{\nat: 0,\nask: \
+\"Let Cem call pdereg r0 blue, arriveAndDeregister(), instead of paaa r0 blue. Is anybody stuck?\",\nanswer: \"No: blue leaves both with its \
+last party.\",\ntab: \"orders\"\n}\n]\n}\n};\nfunction lessonOf(name, program, run) {\nif (Object.hasOwn(LESSONS, name)) return LESSONS[name\
+];\nconst steps = program.questions.flatMap(one => {\nconst at = run.events.findIndex(event => event.row === one.row);\nreturn at < 0 ? [] : \
+[{ at, ask: one.text, answer: \"Step on, and see.\", next: true }];\n});\nreturn {\ntitle: program.title || name,\naim: program.about || \"S\
+tep through the run, and say before each step what it will do.\",\nlast: \"Which order would end otherwise?\",\nsteps\n};\n}\nreturn { LESSO\
+NS, lessonOf };\n})();\n// app/mistake.js\nconst m28 = (() => {\nconst { DIRECTIVES, KINDS } = m0;\nconst JAVA = new Map();\nfor (const [wor\
+d, [, call]] of Object.entries(KINDS)) {\nconst name = call ? call.split(\"(\")[0].replace(\"@.\", \"\").toLowerCase() : \"\";\nif (name && \
+!JAVA.has(name)) JAVA.set(name, word);\n}\nfunction distance(a, b) {\nlet last = [...Array(b.length + 1).keys()];\nfor (let i = 1; i <= a.le\
+ngth; i++) {\nconst next = [i];\nfor (let k = 1; k <= b.length; k++) {\nnext[k] = Math.min(last[k] + 1, next[k - 1] + 1, last[k - 1] + (a[i \
+- 1] === b[k - 1] ? 0 : 1));\n}\nlast = next;\n}\nreturn last[b.length];\n}\nfunction nearest(word) {\nconst bare = word.toLowerCase().repla\
+ce(/^.*\\./, \"\").replace(/[^a-z]/g, \"\");\nif (JAVA.has(bare)) return JAVA.get(bare);\nlet best = \"\";\nlet least = Math.min(3, word.len\
+gth);\nfor (const one of [...Object.keys(KINDS), ...DIRECTIVES]) {\nconst far = distance(word.toLowerCase(), one);\nif (far < least) [best, \
+least] = [one, far];\n}\nfor (const [name, one] of JAVA) {\nconst far = distance(bare, name);\nif (far < least && far * 3 < name.length) [be\
+st, least] = [one, far];\n}\nreturn best;\n}\nconst wordsIn = line =>\n[...line.split(\";\")[0].matchAll(/\\S+/g)].map(m => ({ text: m[0], f\
+rom: m.index, to: m.index + m[0].length }));\nfunction wordOf(line, kind) {\nconst found = wordsIn(line);\nif (!found.length) return null;\n\
+const isLabel = found[0].text.endsWith(\":\");\nconst [head, ...operands] = isLabel ? found.slice(1) : found;\nconst kinds = head && KINDS[h\
+ead.text] ? KINDS[head.text][0] : \"\";\nconst isNumber = one => /^-?\\d+$/.test(one.text);\nconst picked = {\n3: head,\n5: operands.find((o\
+ne, k) => kinds[k] === \"r\" && !/^r[0-7]$/.test(one.text)),\n6: operands.find((one, k) => (kinds ? kinds[k] === \"n\" && !isNumber(one) : k \
+=== 1)),\n9: operands.find((one, k) => !kinds || \"LPBTC\".includes(kinds[k])),\n10: isLabel ? found[0] : operands[0]\n};\nreturn found.find\
+(one => one.text.includes(\",\")) || picked[kind] || head || found[0];\n}\nconst plainly = text => text.replace(/`/g, \"\").replace(/^\\w+: \
+/, \"\");\nconst sentence = text => plainly(text).replace(/^[a-z](?=[a-z]* )/, sign => sign.toUpperCase());\nfunction mistakeOf(fault, text) \
+{\nconst isProgram = fault.group !== \"plan\" && fault.group !== \"schedule\";\nconst mistake = {\nisProgram,\nline: fault.line,\nword: faul\
+t.word,\nnear: \"\",\nmeans: sentence(fault.means || fault.told),\nhelps: sentence(fault.help || \"\")\n};\nif (fault.group !== \"asm\") ret\
+urn mistake;\nconst line = text.split(\"\\n\")[fault.line - 1] || \"\";\nconst word = wordOf(line, fault.kind);\nif (!mistake.word && word) \
+mistake.word = [word.from, word.to];\nif (word && word.text.includes(\",\")) Object.assign(\nmistake,\n{ means: \"There are no commas\", hel\
+ps: \"Put blanks between operands\" }\n);\nelse if (fault.kind === 3 && wo";
 
 /// Part 4 of what a page ends with: the app, and the machine in it.
 #[rattlefmt::skip]
 pub const TAIL_4: &[u8] = b"\
-istake.near = nearest(word.text);\nreturn mistake;\n}\nreturn { nearest, mistakeOf };\n})();\n// app/arrivals.js\nconst m29 = (() => {\ncons\
-t { ARRIVES, operandOf, rootOf } = m0;\nconst { ownerOf } = m19;\nconst EVERY = 256;\nconst copyOf = fold => ({\ncame: fold.came.map(all => \
-new Set(all)),\nwaits: new Map(fold.waits),\narrived: fold.arrived.map(list => list.slice()),\nended: fold.ended.map(list => list.slice())\n\
-});\nconst emptyOf = program => ({\ncame: program.phasers.map(() => new Set()),\nwaits: new Map(),\narrived: program.phasers.map(() => []),\n\
-ended: program.phasers.map(() => [])\n});\nfunction isArrival(row, event, isOfWait) {\nif (isOfWait || !row || !ARRIVES.has(row.word)) retur\
-n false;\nreturn event.what === \"wait\" || event.what === \"enter\" || (\nevent.what === \"=\" && (event.value >= 0 || Boolean(event.mark))\
-\n);\n}\nfunction step(program, fold, event) {\nif (event.what === \"idle\" || event.row < 0) return;\nconst row = program.rows[event.row];\n\
-const isOfWait = fold.waits.delete(event.thread);\nif (isArrival(row, event, isOfWait)) {\nconst p = operandOf(row, \"P\");\nfold.arrived[p]\
-.push({ thread: event.thread, row: event.row });\nfold.came[p].add(event.thread);\n}\nif (event.what === \"wait\") fold.waits.set(event.thre\
-ad, event.row);\nif (!event.mark || event.mark.kind !== \"+p\") return;\nprogram.phasers.forEach((_, q) => {\nif (rootOf(program, q) !== eve\
-nt.mark.on) return;\nfold.ended[q] = fold.arrived[q];\nfold.arrived[q] = [];\n});\n}\nfunction arrivalsOf(tree, id, i) {\nconst run = ownerO\
-f(tree, id, i);\nconst { folds } = run.kept;\nconst start = Math.min(Math.floor(i / EVERY), folds.length);\nconst fold = start ? copyOf(fold\
-s[start - 1]) : emptyOf(tree.program);\nfor (let k = start * EVERY; k < i; k++) {\nstep(tree.program, fold, run.events.at(k));\nif ((k + 1) \
-% EVERY === 0 && folds.length < (k + 1) / EVERY) folds.push(copyOf(fold));\n}\nreturn fold;\n}\nreturn { isArrival, arrivalsOf };\n})();\n// \
-app/reason.js\nconst m30 = (() => {\nconst { nameOf, operandOf, rootOf } = m0;\nconst { callOf, phaseOf, spread, strong } = m1;\nconst { arr\
-ivalsOf } = m29;\nconst { eventTo, momentOf } = m19;\nconst COUNTS = {\npparties: \"how many parties are registered now\",\nparrived: \"how \
-many parties have arrived in this phase\",\npunarr: \"how many parties are still to arrive\",\npphase: \"the number of the phase that goes o\
-n\",\npterm: \"1 if it is terminated, else 0\",\ncwaiting: \"how many wait there now\",\ncparties: \"how many parties it has\",\ncbroken: \"\
-1 if it is broken, else 0\"\n};\nfunction phaserNumber(program, event, row, before, after) {\nconst p = operandOf(row, \"P\");\nconst name = \
-nameOf(program, \"P\", p);\nconst was = before.state.phasers[p].view;\nconst is = after.state.phasers[p].view;\nif (event.value < 0 && event\
-.value === is) {\nreturn \"It is negative, since \" + name + \" is terminated: its last phase was \" + phaseOf(is) + \".\";\n}\nif (before.s\
-tate.threads[event.thread].status === \"waits\" && event.value === was) {\nreturn event.value + \" is the phase of \" + name + \" now: the p\
-hase for whose end it waited is over.\";\n}\nif (/^(parr|pdereg)$/.test(row.word) && event.value === was) {\nreturn event.value + \" is the \
-phase in which it arrived.\";\n}\nif (/^(preg|pbulk)$/.test(row.word) && event.value === was) {\nreturn event.value + \" is the phase for wh\
-ich it registered.\";\n}\nif (row.word === \"paaa\" && event.mark && event.value === is) {\nreturn event.value + \" is the phase that begins\
-: it was the last to arrive, so it didn\\u2019t have to wait.\";\n}\nif (/^pawait/.test(row.word) && event.value === was) {\nreturn event.va\
-lue + \" is the phase of \" + name +\n\" now: the one that it named is over, so it didn\\u2019t have to wait.\";\n}\nreturn \"\";\n}\nfuncti\
-on barrierNumber(program, event, row, before) {\nconst b = operandOf(row, \"B\");\nconst { parties } = program.barriers[b];\nconst came = pa\
-rties - event.value;\nconst waited = before.state.threads[event.thread].status === \"waits\";\nif (!/^cawait/.test(row.word) || came < 1) re\
-turn \"\";\nconst turn = event.value === 0 ? \"the last\" : came === 1 ? \"the first\" : \"number \" + came;\nreturn event.value + \": of \" \
-+ parties + \" it was \" + turn + \" to come\" + (\nwaited || !came ? \"\" : \", so it didn\\u2019t have to wait\"\n) + \".\";\n}\nfunction \
-throwReason(program, event, row, before) {\nconst p = operandOf(row, \"P\");\nconst b = operandOf(row, \"B\");\nconst thread = before.state.\
-threads[event.thread];\nif (event.isLate) return \"Nobody brought what it waited for before its time was up.\";\nif (\nevent.value === 3 && \
-thread.isInterrupted\n) return \"Somebody had interrupted it: its interrupted status was set.\";\nif (b >= 0 && event.value === 4) {\nreturn \
-\"The barrier \" + nameOf(program, \"B\", b) + \" broke while it waited, or was broken before it came.\";\n}\nif (p >= 0 && event.value === \
-1 && /^(parr|pdereg|paaa)$/.test(row.word) && before.state.phasers[p].missing === 0) {\nconst name = nameOf(program, \"P\", p);\nreturn \"No \
-party of \" + name + \" is still to arrive, so there is no place for one more arrival.\";\n}\nreturn \"\";\n}\nfunction reasonOf(tree, id, i\
-) {\nconst { program } = tree;\nconst event = eventTo(tree.runs[id], i);\nif (!event || event.row < 0 || !/^(=|throw)$/.test(event.what)) re\
-turn \"\";\nconst row = program.rows[event.row];\nconst before = momentOf(tree, id, i - 1);\nif (event.what === \"throw\") return throwReaso\
-n(program, event, row, before);\nif (COUNTS[row.word]) return event.value + \": \" + COUNTS[row.word] + \".\";\nif (operandOf(row, \"P\") >= \
-0) return phaserNumber(program, event, row, before, momentOf(tree, id, i));\nif (operandOf(row, \"B\") >= 0) return barrierNumber(program, e\
-vent, row, before);\nreturn \"\";\n}\nfunction strayText(tree, id, i, p) {\nconst came = arrivalsOf(tree, id, i).came[p].size;\nconst partie\
-s = tree.program.everParties[p];\nif (came <= parties) return \"\";\nconst name = nameOf(tree.program, \"P\", p);\nconst its = \" for its \" \
-+ parties + (parties === 1 ? \" party\" : \" parties\");\nreturn came + \" threads have arrived at \" + name + its + \": one was a stray.\";\
-\n}\nfunction strayOf(tree, id, i) {\nconst event = eventTo(tree.runs[id], i);\nconst p = event && event.row >= 0 ? operandOf(tree.program.r\
-ows[event.row], \"P\") : -1;\nconst text = p < 0 ? \"\" : strayText(tree, id, i, p);\nreturn text === \"\" || strayText(tree, id, i - 1, p) \
-=== text ? \"\" : text;\n}\nconst BACK = 400;\nfunction lastNumberOf(tree, run, i, t) {\nfor (let k = i; k > Math.max(0, i - BACK); k--) {\n\
-const event = eventTo(run, k);\nif (event.thread !== t || !/^(=|throw)$/.test(event.what) || event.row < 0) continue;\nconst row = tree.prog\
-ram.rows[event.row];\nif (operandOf(row, \"P\") < 0 && operandOf(row, \"B\") < 0) continue;\nconst reason = reasonOf(tree, run.id, k);\ncons\
-t call = callOf(tree.program, row, null);\nconst got = event.what === \"=\" ? \" returned \" : \" threw \";\nreturn reason ? [\"In choice \" \
-+ k + \" \" + call + got, strong(event.value), \". \" + reason] : null;\n}\nreturn null;\n}\nconst namesOf = list => spread(list.map(one => \
-({ thread: one.thread })));\nconst COUNTED = \"A phaser counts arrivals, and doesn\\u2019t ask who arrives. \";\nfunction arrivalsText(tree, \
-run, i, p) {\nconst { program } = tree;\nconst { arrived, ended } = arrivalsOf(tree, run.id, i);\nconst { state } = momentOf(tree, run.id, i\
-);\nconst name = nameOf(program, \"P\", p);\nconst one = state.phasers[p];\nconst view = phaseOf(state.phasers[rootOf(program, p)].view);\nc\
-onst said = [\nstrong(name),\n\" is in phase \" + view + \" and has \" + one.parties + (one.parties === 1 ? \" party\" : \" parties\") + \". \
-\"\n];\nif (one.view < 0) said.splice(1, 1, \" is terminated. \");\nif (arrived[p].length) said.push(\n\"In this phase \",\n...namesOf(arriv\
-ed[p]),\narrived[p].length > 1 ? \" have arrived. \" : \" has arrived. \"\n);\nif (ended[p].length) said.push(\"In the phase before it was \"\
-, ...namesOf(ended[p]), \". \");\nconst stray = strayText(tree, run.id, i, p);\nif (stray) said.push(COUNTED + stray + \" Nobody can know wh\
-ich.\");\nelse if (arrived[p].length || ended[p].length) {\nsaid.push(COUNTED + \"If one of them was surplus, nobody can know which.\");\n}\n\
-return said;\n}\nreturn { reasonOf, strayOf, lastNumberOf, arrivalsText };\n})();\n// app/why.js\nconst m31 = (() => {\nconst { ARRIVES, nam\
-eOf, operandOf, rootOf } = m0;\nconst { callOf, listed, phaseOf, spread, strong, thrown } = m1;\nconst { wouldText } = m24;\nconst { doingOf \
-} = m17;\nconst reached = new WeakMap();\nfunction rowsFrom(program, start) {\nif (!reached.has(program)) reached.set(program, new Map());\n\
-const known = reached.get(program);\nif (known.has(start)) return known.get(start);\nconst seen = new Set();\nconst open = [start];\nwhile (\
-open.length) {\nconst at = open.pop();\nconst row = program.rows[at];\nif (!row || seen.has(at)) continue;\nseen.add(at);\nconst there = ope\
-randOf(row, \"L\");\nif (there >= 0) open.push(there);\nif (!/^(halt|jmp|ret|throw)$/.test(row.word)) open.push(at + 1);\n}\nconst rows = [.\
-..seen].sort((a, b) => a - b);\nknown.set(start, rows);\nreturn rows;\n}\nfunction startsOf(program, thread) {\nconst starts = [thread.statu\
-s === \"waits\" ? thread.row + 1 : thread.row];\nfor (const entry of thread.stack) {\nconst n = Number(entry.slice(1));\nif (entry[0] === \"\
-C\" || entry[0] === \"H\") starts.push(n);\nelse return program.rows.map((_, at) => at);\n}\nreturn starts;\n}\nfunction couldCall(program, \
-moment, t, isWanted) {\nconst thread = moment.state.threads[t];\nif (/ended|died/.test(thread.status)) return null;\nfor (const start of sta\
-rtsOf(program, thread)) {\nfor (const at of rowsFrom(program, start)) if (isWanted(program.rows[at])) return program.rows[at];\n}\nreturn nu\
-ll;\n}\nfunction missingIn(program, state, p) {\nconst out = [];\nconst look = q => {\nconst isOpen = child => state.phasers[child].parties \
-> 0 && state.phasers[child].missing > 0;\nconst open = program.children[q].filter(isOpen);\nopen.forEach(look);\nconst own = state.phasers[q\
-].missing - open.length;\nif (own > 0) out.push({ phaser: q, count: own });\n};\nlook(rootOf(program, p));\nreturn out;\n}\nconst countText \
-= count => (count === 1 ? \"one arrival is missing\" : count + \" arrivals are missing\");\nfunction missingText(program, missing, p) {\nret\
-urn listed(\nmissing.map(one => countText(one.count) + (one.phaser === p ? \"\" : \" at \" + nameOf(program, \"P\", one.phaser)))\n);\n}\nfu\
-nction findIn(program, moment, t, isWanted) {\nreturn program.threads.flatMap((_, n) => {\nconst found = n === t ? null : couldCall(program, \
-moment, n, isWanted);\nreturn found ? [[n, found]] : [];\n});\n}\nfunction runnersOf(program, moment, t, entry) {\nconst { threads } = momen\
-t.state;\nreturn threads.flatMap((one, n) => (n !== t && one.stack.includes(entry) ? [[n, null]] : []));\n}\nconst once = list => list.filte\
-r(([n], k) => list.findIndex(([other]) => other === n) === k);\nfunction helpersOfPhaser(program, moment, t, p) {\nconst root = rootOf(progr\
-am, p);\nconst running = runnersOf(program, moment, t, \"A\" + root);\nconst isPlace = q => q >= 0 && rootOf(program, q) === root && moment.\
-state.phasers[q].missing > 0;\nconst { word } = program.rows[moment.state.threads[t].row];\nconst find = isWanted => findIn(program, moment, \
-t, isWanted);\nconst helpers = [\n...running,\n...find(row => ARRIVES.has(row.word) && isPlace(operandOf(row, \"P\"))),\n...find(row => row.\
-word === \"pforce\" && rootOf(program, operandOf(row, \"P\")) === root)\n];\nconst isInterruptible = word === \"pawaiti\" || word === \"pawa\
-itt\";\nif (isInterruptible) helpers.push(...find(row => row.word === \"intr\" && operandOf(row, \"T\") === t));\nreturn once(helpers);\n}\n\
-function helpersOfBarrier(program, moment, t, b) {\nconst { threads } = moment.state;\nconst waitsHere = n => threads[n] && threads[n].statu\
-s === \"waits\" &&\noperandOf(program.rows[threads[n].row], \"B\") === b;\nconst find = isWanted => findIn(program, moment, t, isWanted);\nr\
-eturn once([\n...runnersOf(program, moment, t, \"X\" + b),\n...find(row => /^cawait/.test(row.word) && operandOf(row, \"B\") === b),\n...fin\
-d(row => row.word === \"intr\" && waitsHere(operandOf(row, \"T\"))),\n...find(row => row.word === \"creset\" && operandOf(row, \"B\") === b)\
-\n]);\n}\nfunction releaseText(program, moment, helpers, isStuck) {\nconst said = (n, row) => (row ? callOf(program, row, null) : \"it runs \
-the routine\");\nconst call = ([n, row]) => [\n{ thread: n },\n\" (\" + said(n, row) + (doingOf(moment, n) === \"waits\" ? \", but waits its\
-elf\" : \"\") + \")\"\n];\nif (!helpers.length) return [strong(\"Nobody is left who could\"), \": it waits for ever.\"];\nif (!isStuck) {\nc\
-onst more = helpers.length > 4 ? \" or others\" : \"\";\nconst names = spread(helpers.slice(0, 4).map(call), more ? \",\" : \"or\").flat();\n\
-return [...names, more + \" could release it.\"];\n}\nconst names = spread(helpers.slice(0, 4).map(([n]) => ({ thread: n })));\nconst wait = \
-helpers.length > 1\n? \" could bring that, and they wait themselves: \"\n: \" could bring that, and waits itself: \";\nreturn [strong(\"Only \
-\"), ...names, wait, strong(\"for ever\"), \".\"];\n}\nfunction phaserText(program, moment, t, p) {\nconst { state } = moment;\nconst missin\
-g = missingIn(program, state, p);\nconst text = [{ thread: t }, \" waits at \" + nameOf(program, \"P\", p) + \" for the end of phase \"];\nt\
-ext.push(String(phaseOf(state.phasers[rootOf(program, p)].view)), \": \" + missingText(program, missing, p) + \". \");\nreturn text;\n}\nfun\
-ction routineText(program, moment, t, p, b) {\nconst entry = p >= 0 ? \"A\" + rootOf(program, p) : \"X\" + b;\nconst runner = moment.state.t\
-hreads.findIndex((thread, n) => n !== t && thread.stack.includes(entry));\nconst routine = p >= 0\n? \"onAdvance of \" + nameOf(program, \"P\
-\", rootOf(program, p))\n: \"the action of \" + nameOf(program, \"B\", b);\nif (runner < 0) return [{ thread: t }, \" can\\u2019t go on yet.\
-\"];\nreturn [\n{ thread: t },\n\" may not go: \",\n{ thread: runner },\n\" runs \" + routine + \", and this call has to wait until that is \
-done.\"\n];\n}\nfunction goesText(program, moment, t, doing) {\nconst [head, ...rest] = wouldText(program, moment.next[t], moment);\nconst i\
-sWho = head.thread === t;\nconst would = isWho ? [{ thread: t }, ...rest] : [head, ...rest];\nreturn [\n{ thread: t },\ndoing === \"free\" ? \
-\" waited, and may go on. If it\\u2019s next: \" : \" may go. If it\\u2019s next: \",\n...would\n];\n}\nfunction waitText(program, moment, t\
-, p, b, doing) {\nconst isStuck = moment.state.word === \"stuck\";\nif (doing === \"held\") return { text: routineText(program, moment, t, p\
-, b), helpers: [] };\nif (p >= 0) {\nconst text = phaserText(program, moment, t, p);\nconst helpers = helpersOfPhaser(program, moment, t, p)\
-;\nreturn { text, helpers, release: releaseText(program, moment, helpers, isStuck) };\n}\nconst need = program.barriers[b].parties - moment.\
-state.barriers[b].waiting;\nconst come = need === 1 ? \"one more has to come\" : need + \" more have to come\";\nconst helpers = helpersOfBa\
-rrier(program, moment, t, b);\nconst text = [{ thread: t }, \" waits at \" + nameOf(program, \"B\", b) + \": \" + come + \". \"];\nconst tim\
-ed = Object.keys(moment.late).map(Number);\nconst others = timed.filter(n => n !== t && operandOf(program.rows[moment.state.threads[n].row], \
-\"B\") === b);\nconst breaks = others.length\n? [\"The time of \", { thread: others[0] }, \"\\u2019s wait may run out, which breaks the barr\
-ier. \"]\n: [];\nconst breaker = Object.values(moment.next).find(\nevent => event.mark && event.mark.kind === \"-b\" && event.mark.on === b\n\
-);\nif (breaker) breaks.push({ thread: breaker.thread }, \" breaks the barrier at its next turn. \");\nconst release = breaks.length && !hel\
-pers.length ? [] : releaseText(program, moment, helpers, isStuck);\nreturn { text: [...text, ...breaks], helpers, release, isSoon: breaks.le\
-ngth > 0 };\n}\nfunction whyOf(program, moment, t) {\nconst thread = moment.state.threads[t];\nconst doing = doingOf(moment, t);\nif (doing \
-=== \"over\") return { thread: t, kind: \"over\", could: [], text: [{ thread: t }, \" has ended.\"] };\nif (doing === \"dead\") {\nconst tex\
-t = [{ thread: t }, \" is dead: nothing caught \" + thrown(thread.code) + \".\"];\nreturn { thread: t, kind: \"dead\", could: [], text };\n}\
-\nif (moment.next[t]) {\nconst kind = doing === \"free\" ? \"free\" : \"runs\";\nreturn { thread: t, kind, could: [], text: goesText(program\
-, moment, t, doing) };\n}\nconst row = program.rows[thread.row];\nconst p = operandOf(row, \"P\");\nconst b = operandOf(row, \"B\");\nif (p \
-< 0 && b < 0) return { thread: t, kind: \"waits\", could: [], text: [{ thread: t }, \" can\\u2019t go on yet.\"] };\nconst { text, helpers, \
-release, isSoon } = waitText(program, moment, t, p, b, doing);\nconst isLate = Boolean(moment.late[t]);\nconst said = !release || (isLate && \
-!helpers.length) ? text : [...text, ...release];\nif (isLate) said.push(\" Its time may run out.\");\nconst isStuck = moment.state.word === \
-\"stuck\" || (doing === \"waits\" && !helpers.length && !isLate && !isSoon);\nconst could = moment.state.word === \"stuck\" ? [] : helpers.m\
-ap(([n]) => n);\nreturn { thread: t, kind: isStuck ? \"stuck\" : \"waits\", could, text: said };\n}\nconst RANK = { stuck: 0, waits: 1, free\
-: 2, runs: 3, dead: 4, over: 5 };\nconst told = new WeakMap();\nfunction whysOf(program, moment) {\nif (!told.has(moment)) {\nconst all = pr\
-ogram.threads.map((_, t) => whyOf(program, moment, t));\ntold.set(moment, all.sort((a, b) => RANK[a.kind] - RANK[b.kind]));\n}\nreturn told.\
-get(moment);\n}\nreturn { couldCall, whyOf, whysOf };\n})();\n// app/questions.js\nconst m32 = (() => {\nconst { callOf, listed, plain, rowT\
-ext, strong, threadName, thrown } = m1;\nconst { endText, outputText } = m2;\nconst { planOf } = m16;\nconst { reasonOf } = m30;\nconst { ev\
-entTo, lengthOf, momentOf } = m19;\nconst { whyOf } = m31;\nconst LONGEST = 200;\nconst MOST_OPTIONS = 4;\nconst ASKED = /^(p|c[awrb])/;\nco\
-nst PLAIN = /^(idle|ok|end|out|catch|unwind|none|limit)$/;\nfunction optionOf(program, event, isOfWait) {\nconst row = program.rows[event.ro\
-w];\nconst said = {\n\"=\": (isOfWait ? \"its wait ends: it returns \" : \"it returns \") + event.value,\nwait: \"it waits\",\nthrow: \"it t\
-hrows \" + thrown(event.value, row),\ndie: \"it dies of \" + thrown(event.value, row),\nenter: \"it is the last, and enters the routine\"\n}\
-;\nconst mark = event.mark && {\n\"+p\": event.mark.view < 0 ? \", and the phaser is terminated\" : \", and phase \" + event.mark.view + \" \
-begins\",\n\"+b\": \", and the barrier trips\",\n\"-b\": \", and the barrier breaks\"\n};\nreturn said[event.what] + (mark ? mark[event.mark\
-.kind] : \"\");\n}\nconst keyOf = (row, isOfWait) => row + (isOfWait ? \" wait\" : \"\");\nfunction happenedIn(program, outcomes) {\nconst h\
-appened = new Map();\nfor (const one of outcomes) {\nconst waits = new Set();\nfor (const event of one.events) {\nif (event.row < 0 || event\
-.what === \"idle\") continue;\nconst isOfWait = waits.delete(event.thread);\nif (event.what === \"wait\") waits.add(event.thread);\nif (PLAI\
-N.test(event.what)) continue;\nconst key = keyOf(event.row, isOfWait);\nif (!happened.has(key)) happened.set(key, new Set());\nhappened.get(\
-key).add(optionOf(program, event, isOfWait));\n}\n}\nreturn happened;\n}\nfunction shuffled(list, seed) {\nconst keyed = list.map((one, k) =\
-> [Math.sin(seed * 97 + k * 131 + one.length * 17) * 1e4 % 1, one]);\nreturn keyed.sort((a, b) => a[0] - b[0]).map(one => one[1]);\n}\nfunct\
-ion optionsOf(right, others, seed) {\nconst wrong = [...new Set(others)].filter(one => one !== right).slice(0, MOST_OPTIONS - 1);\nreturn wr\
-ong.length ? shuffled([right, ...wrong], seed) : null;\n}\nfunction reasonAt(tree, run, i) {\nconst reason = reasonOf(tree, run.id, i);\nif \
-(reason) return [reason];\nconst { what, thread } = eventTo(run, i);\nif (what !== \"wait\") return [\"The line below says what happened.\"]\
-;\nconst { text } = whyOf(tree.program, momentOf(tree, run.id, i), thread);\nreturn text.slice(0, text.findIndex(part => typeof part === \"s\
-tring\" && part.endsWith(\". \")) + 1);\n}\nfunction callQuestion(tree, run, i, happened) {\nconst { program } = tree;\nconst event = run.ev\
-ents.at(i);\nconst row = program.rows[event.row];\nif (event.row < 0 || PLAIN.test(event.what) || !ASKED.test(row.word)) return null;\nconst \
-thread = momentOf(tree, run.id, i).state.threads[event.thread];\nconst isOfWait = thread.status === \"waits\";\nconst right = optionOf(progr\
-am, event, isOfWait);\nconst options = optionsOf(right, happened.get(keyOf(event.row, isOfWait)) || [], i + 1);\nif (!options) return null;\n\
-const call = callOf(program, row, thread) || rowText(program, row);\nconst who = { thread: event.thread };\nconst ask = event.isLate\n? [\"C\
-hoice \" + (i + 1) + \": the time of \", who, \"\\u2019s wait at \" + call + \" is up. What happens?\"]\n: isOfWait\n? [\"Choice \" + (i + 1\
-) + \": \", who, \" was waiting at \" + call + \". What happens?\"]\n: [\"Choice \" + (i + 1) + \": \", who, \" calls \" + call + \". What h\
-appens?\"];\nreturn { at: i, leads: i + 1, ask, right, options, why: () => reasonAt(tree, run, i + 1) };\n}\nfunction whoQuestion(tree, run, \
-i) {\nconst { program } = tree;\nconst event = run.events.at(i);\nif (event.what !== \"wait\" && !event.mark) return null;\nconst say = k => \
-{\nconst names = Object.keys(momentOf(tree, run.id, k).next).map(t => threadName(program, Number(t)));\nreturn names.length ? listed(names) \
-: \"nobody\";\n};\nconst near = [];\nfor (let k = Math.max(0, i - 4); k <= Math.min(lengthOf(run), i + 6); k++) near.push(say(k));\nconst ri\
-ght = say(i + 1);\nconst options = optionsOf(right, near, i + 7);\nif (!options || options.length < 3) return null;\nconst moment = momentOf\
-(tree, run.id, i + 1);\nconst why = () => {\nconst waits = program.threads.map((_, t) => t).filter(\nt => !moment.next[t] && moment.state.th\
-reads[t].status === \"waits\"\n);\nreturn waits.length ? whyOf(program, moment, waits[0]).text : [\"Nobody waits.\"];\n};\nreturn { at: i + \
-1, leads: i + 1, ask: [\"Who may go next, after choice \" + (i + 1) + \"?\"], right, options, why };\n}\nfunction ownQuestions(tree, run, i) \
-{\nconst { program } = tree;\nconst { row } = run.events.at(i);\nconst isFirst = run.events.findIndex(event => event.row === row && event.wh\
-at !== \"idle\") === i;\nif (!isFirst) return [];\nconst asked = program.questions.filter(one => one.row === row);\nreturn asked.map(\none =\
-> ({ at: i, leads: i + 1, ask: [one.text], own: true, options: [], why: () => reasonAt(tree, run, i + 1) })\n);\n}\nfunction endQuestion(tre\
-e, run, outcomes) {\nconst { program } = tree;\nconst say = end => {\nconst output = outputText(program, end);\nreturn endText(program, end) \
-+ (output ? \" \\u2014 output: \" + output : \"\");\n};\nconst right = say(run.end);\nconst options = optionsOf(right, outcomes.map(one => s\
-ay(one.end)), 3);\nif (!options) return null;\nconst ask = [\"The order is \", strong(planOf(program, run.events, 24)), \". How does it end?\
-\"];\nreturn { at: 0, leads: lengthOf(run), ask, right, options, why: () => [\"It ends so: \", strong(right), \".\"] };\n}\nfunction questio\
-nsOf(tree, run, outcomes) {\nconst happened = happenedIn(tree.program, outcomes);\nconst out = [];\nfor (let i = 0; i < Math.min(lengthOf(ru\
-n), LONGEST); i++) {\nout.push(...ownQuestions(tree, run, i), callQuestion(tree, run, i, happened), whoQuestion(tree, run, i));\n}\nreturn [\
-...out, endQuestion(tree, run, outcomes)].filter(Boolean);\n}\nconst askText = (program, question) => plain(program, question.ask);\nreturn \
-{ questionsOf, askText };\n})();\n// app/state.js\nconst m33 = (() => {\nconst { endKind } = m2;\nconst { lessonOf } = m27;\nconst { walkTo, \
-addressOf } = m20;\nconst { Refused } = m14;\nconst { mistakeOf } = m28;\nconst { playedPlan, readablePlan } = m16;\nconst { questionsOf } = \
-m32;\nconst { depthOf, firstAlone, forkRun, graftRun, inOrder, lengthOf, openProgram, plantTree } = m19;\nconst OWN = {\ngroup: \"Yours\",\n\
-name: \"own\",\ntitle: \"My own program\",\nplan: \"..\",\nprogram:\n\"; My own: two threads meet.\\n.phaser meet 2\\n.thread ann main\\n.th\
-read bob main\\n\" +\n\"main: paaa r0 meet ; arriveAndAwaitAdvance\\n      out r0\\n      halt\\n\"\n};\nfunction firstState() {\nreturn {\n\
-item: null,\ntext: \"\",\nplan: \"..\",\ntree: null,\nid: 0,\nat: 0,\nisCut: false,\nmistake: null,\nmode: \"explore\",\ntab: \"picture\",\n\
-pane: \"time\",\nselected: null,\npreview: \"\",\norders: null,\nisJava: false,\nisHidden: false,\nisFolded: false,\nisAlone: false,\nhasLet\
-ters: true,\nother: null,\nzoom: 1,\nlesson: null,\nquiz: null,\nchallenge: null,\ncheck: null\n};\n}\nconst runOf = state => state.tree.run\
-s[state.id];\nconst otherOf = state => (\nstate.other === null || state.other === state.id ? null : state.tree.runs[state.other] || null\n);\
-\nfunction planted(state, program, text, plan, { choices, isCut, trace }) {\nconst tree = plantTree(program, choices, trace);\nconst next = \
-{ ...state, text, plan, tree, id: 0, isCut, mistake: null, orders: null };\nreturn { ...next, selected: null, preview: \"\", other: null, ch\
-allenge: null };\n}\nconst scheduleIn = (item, plan) => (item && plan === item.plan && item.schedule) || \"\";\nfunction edited(state, text, \
-plan, played) {\nconst isSamePlan = state.tree && plan === state.plan;\nconst place = isSamePlan ? addressOf(state.tree, runOf(state), state\
-.at) : String(state.at);\nlet next;\ntry {\nconst program = openProgram(text);\nnext = planted(state, program, text, plan, played || playedP\
-lan(text, plan, scheduleIn(state.item, plan)));\n} catch (fault) {\nif (!(fault instanceof Refused)) throw fault;\nreturn { ...state, text, \
-plan, mistake: mistakeOf(fault, text) };\n}\nconst { tree, run, at } = walkTo(next.tree, place);\nnext = { ...next, tree, id: run.id, at };\n\
-return state.mode === \"lesson\" && state.lesson ? { ...next, lesson: begunLesson(next) } : next;\n}\nconst begunLesson = state => ({\nlesso\
-n: lessonOf(state.item.name, state.tree.program, state.tree.runs[0]),\nstep: -1,\nisOpen: false,\nvotes: {}\n});\nfunction opened(state, ite\
-m, mode, played) {\nconst fresh = { ...state, item, at: 0, id: 0, tree: null, check: null, mode: \"explore\", quiz: null };\nlet next = edit\
-ed(fresh, item.program, item.plan, played);\nif (!next.tree) {\nconst stand = edited(fresh, OWN.program, OWN.plan);\nreturn { ...stand, text\
-: item.program, plan: item.plan, mistake: next.mistake };\n}\nif (!next.mistake) next = { ...next, plan: readablePlan(next.tree.program, run\
-Of(next), next.plan) };\nif (item.schedule) next = { ...next, item: { ...item, plan: next.plan } };\nnext = { ...next, lesson: begunLesson(n\
-ext) };\nreturn inMode(next, mode || \"explore\");\n}\nfunction at(state, i) {\nreturn { ...state, at: Math.max(0, Math.min(lengthOf(runOf(s\
-tate)), i)), preview: \"\" };\n}\nfunction walked(state, id, i) {\nconst other = state.other === id ? state.id : state.other;\nreturn at({ .\
-..state, id, other }, i);\n}\nfunction forked(state, i, token) {\nconst { tree, run } = forkRun(state.tree, state.id, i, token);\nconst isOn \
-= runOf(state).choices[i] === token;\nreturn at({ ...state, tree, id: isOn ? state.id : run.id }, i + 1);\n}\nfunction addressed(state, addr\
-ess) {\nconst { tree, run, at: i } = walkTo(state.tree, address);\nreturn at({ ...state, tree, id: run.id }, i);\n}\nfunction ordered(state, \
-outcome) {\nconst { tree, run } = graftRun(state.tree, outcome.choices);\nconst from = run.parent < 0 ? 0 : run.fork + 1;\nreturn at({ ...st\
-ate, tree, id: run.id }, Math.min(from, lengthOf(run)));\n}\nfunction backToFork(state) {\nconst run = runOf(state);\nreturn run.parent < 0 \
-? state : walked(state, run.parent, Math.min(run.fork, state.at));\n}\nfunction besideInTree(state, by) {\nconst list = inOrder(state.tree).\
-map(one => one.run);\nconst run = list[list.findIndex(one => one.id === state.id) + by];\nif (!run) return state;\nreturn walked(state, run.\
-id, Math.max(state.at, run.parent < 0 ? 0 : run.fork + 1));\n}\nfunction madeFirst(state) {\nconst run = runOf(state);\nif (run.parent < 0) \
-return state;\nconst plan = readablePlan(state.tree.program, run, run.choices.join(\" \"));\nreturn at(planted(state, state.tree.program, st\
-ate.text, plan, { choices: run.choices, isCut: false }), state.at);\n}\nfunction firstOnly(state) {\nconst run = runOf(state);\nconst i = ru\
-n.parent < 0 ? state.at : Math.min(state.at, run.fork);\nreturn at({ ...state, tree: firstAlone(state.tree), id: 0, other: null }, i);\n}\nf\
-unction sideBySide(state) {\nif (state.other !== null) return { ...state, other: null };\nif (state.tree.runs.length < 2) return state;\ncon\
-st run = runOf(state);\nreturn { ...state, other: run.parent >= 0 ? run.parent : state.tree.runs.length - 1 };\n}\nfunction selectedThread(s\
-tate, thread) {\nconst isSame = state.selected && state.selected.thread === thread;\nreturn { ...state, selected: isSame ? null : { thread }\
-, tab: isSame ? state.tab : \"picture\" };\n}\nfunction selectedPhaser(state, phaser) {\nconst isSame = state.selected && state.selected.pha\
-ser === phaser;\nreturn { ...state, selected: isSame ? null : { phaser } };\n}\nfunction inMode(state, mode) {\nconst next = { ...state, mod\
-e, pane: \"time\", preview: \"\", quiz: null, challenge: null };\nif (mode === \"quiz\") return quizOf(next);\nif (mode === \"challenge\") {\
-\nconst isStuck = endKind(state.tree.runs[0].end) === \"stuck\";\nreturn { ...at({ ...next, id: 0 }, 0), other: null, challenge: { goal: isS\
-tuck ? \"ended\" : \"stuck\" } };\n}\nreturn next;\n}\nfunction quizOf(state) {\nconst next = at({ ...state, id: 0, other: null, tab: \"pict\
-ure\" }, 0);\nif (!state.orders) return { ...next, quiz: null };\nconst list = questionsOf(state.tree, state.tree.runs[0], state.orders.all)\
-;\nconst quiz = { list, k: 0, chosen: null, isOpen: false, right: 0, answered: 0 };\nreturn at({ ...next, quiz }, list.length ? list[0].at : \
-0);\n}\nfunction withOrders(state, orders) {\nconst next = { ...state, orders };\nreturn state.mode === \"quiz\" && !state.quiz ? quizOf(nex\
-t) : next;\n}\nfunction answered(state, option) {\nconst { quiz } = state;\nconst question = quiz.list[quiz.k];\nif (!question || quiz.chose\
-n !== null) return state;\nconst right = quiz.right + (option === question.right ? 1 : 0);\nreturn at({ ...state, quiz: { ...quiz, chosen: o\
-ption, right, answered: quiz.answered + 1 } }, question.leads);\n}\nfunction shownOwn(state) {\nconst question = state.quiz.list[state.quiz.\
-k];\nreturn at({ ...state, quiz: { ...state.quiz, isOpen: true } }, question.leads);\n}\nfunction nextQuestion(state) {\nconst { quiz } = st\
-ate;\nconst question = quiz.list[quiz.k + 1];\nconst next = { ...state, quiz: { ...quiz, k: quiz.k + 1, chosen: null, isOpen: false } };\nre\
-turn question ? at({ ...next, id: 0 }, question.at) : next;\n}\nfunction isVeiled(state) {\nconst { quiz } = state;\nif (state.mode !== \"qu\
-iz\") return false;\nreturn !quiz || (Boolean(quiz.list[quiz.k]) && quiz.chosen === null && !quiz.isOpen);\n}\nfunction isLaterHidden(state) \
-{\nconst { quiz } = state;\nreturn state.isHidden || (state.mode === \"quiz\" && (!quiz || Boolean(quiz.list[quiz.k])));\n}\nfunction lesson\
-Step(state, by) {\nconst { lesson } = state.lesson;\nconst step = Math.max(-1, Math.min(lesson.steps.length, state.lesson.step + by));\ncons\
-t place = lesson.steps[step] ? lesson.steps[step].at : 0;\nreturn at({ ...state, id: 0, lesson: { ...state.lesson, step, isOpen: false, vote\
-s: {} } }, place);\n}\nfunction lessonAnswer(state) {\nconst one = state.lesson.lesson.steps[state.lesson.step];\nif (!one) return state;\nc\
-onst next = { ...state, lesson: { ...state.lesson, isOpen: true } };\nreturn one.next ? at(next, one.at + 1) : next;\n}\nfunction voted(stat\
-e, thread, by) {\nconst count = Math.max(0, (state.lesson.votes[thread] || 0) + by);\nreturn { ...state, lesson: { ...state.lesson, votes: { \
-...state.lesson.votes, [thread]: count } } };\n}\nfunction challengeOf(state) {\nconst { goal } = state.challenge;\nconst run = runOf(state)\
-;\nconst changes = depthOf(state.tree, run);\nconst isDone = changes > 0 && state.at === lengthOf(run) && endKind(run.end) === goal;\nreturn \
-{ goal, changes, isDone };\n}\nreturn { OWN, firstState, runOf, otherOf, scheduleIn, edited, opened, at, walked, forked, addressed, ordered, \
-backToFork, besideInTree, madeFirst, firstOnly, sideBySide, selectedThread, selectedPhaser, inMode, quizOf, withOrders, answered, shownOwn, \
-nextQuestion, isVeiled, isLaterHidden, lessonStep, lessonAnswer, voted, challengeOf };\n})();\n// app/commands.js\nconst m34 = (() => {\ncon\
-st { MOST_LINK } = m20;\nconst { button, byId, fill } = m3;\nconst { bareName, pageWith, readProgramFile, runIn, save } = m21;\nconst { list\
-enToKeys } = m22;\nconst { listProgram } = m14;\nconst { copySheet, mainMenu, programsMenu } = m23;\nconst { drawPaper } = m25;\nconst { pla\
-nOf } = m16;\nconst { optionAt } = m26;\nconst { lengthOf } = m19;\nconst { scheduleOf } = m15;\nconst change = m33;\nconst ZOOM = 1.12;\nco\
-nst STORE = \"vuthgal\";\nfunction stored() {\ntry {\nreturn JSON.parse(localStorage.getItem(STORE)) || {};\n} catch (_) {\nreturn {};\n}\n}\
-\nfunction keep(more) {\ntry {\nlocalStorage.setItem(STORE, JSON.stringify({ ...stored(), ...more }));\nreturn true;\n} catch (_) {\nreturn \
-false;\n}\n}\nfunction makeCommands(app, given) {\nconst settings = { speed: 1, theme: \"auto\", version: given.version };\nlet playing = 0;\
-\nconst state = () => app.get();\nconst run = () => change.runOf(app.get());\nconst go = i => app.set(change.at(state(), i));\nfunction setZ\
-oom(zoom, isKept = true) {\nconst next = Math.max(0.7, Math.min(2.5, zoom));\ndocument.documentElement.style.setProperty(\"--zoom\", next);\n\
-if (isKept) keep({ zoom: next });\nsetColumns();\nif (state().tree) app.set({ ...state(), zoom: next });\napp.fitted();\n}\nconst zoomBy = b\
-y => setZoom(state().zoom * by);\nfunction setTheme(theme) {\nsettings.theme = theme;\nif (theme === \"auto\") delete document.documentEleme\
-nt.dataset.theme;\nelse document.documentElement.dataset.theme = theme;\nkeep({ theme });\n}\nfunction setColumns() {\nconst rem = parseFloa\
-t(getComputedStyle(document.documentElement).fontSize);\nconst isTwo = innerWidth > 900 && innerWidth / rem < 62;\nif (isTwo) document.body.\
-dataset.columns = \"2\";\nelse delete document.body.dataset.columns;\n}\nfunction play() {\nclearInterval(playing);\nconst step = () => (sta\
-te().at >= lengthOf(run()) ? play() : go(state().at + 1));\nplaying = playing ? 0 : setInterval(step, settings.speed * 1000);\nif (playing) \
-step();\n}\nasync function copy(text) {\ntry {\nawait navigator.clipboard.writeText(text);\napp.note(\"Copied.\");\n} catch (_) {\napp.sheet\
-.open(byId(\"more\"), \"Copy this\", copySheet(text));\nbyId(\"sheet\").querySelector(\"textarea\").select();\n}\n}\nasync function copyLink\
-() {\nif (state().mistake) return app.note(\"The program is refused now, so there is no link to it. Mend it first.\");\nconst link = locatio\
-n.href.split(\"#\")[0] + (await app.linkNow());\nif (link.length > MOST_LINK) return app.note(\"This program is too long for a link. Save th\
-e page with the run.\");\nreturn copy(link);\n}\nfunction savePage() {\nconst { text: source } = state().tree.program;\nconst { choices, tra\
-ce } = run();\nconst texts = { listing: listProgram(source), source, schedule: scheduleOf(choices), trace };\nreturn save(state().item.name \
-+ \".html\", pageWith(given.page, texts), \"text/html\");\n}\nfunction copyCommand() {\nconst plan = planOf(state().tree.program, run().even\
-ts, Infinity);\ncopy(\"vuthgal show \" + state().item.name + \".asm --plan '\" + plan + \"' > \" + state().item.name + \".html\");\n}\nlet i\
-sSheet = false;\nfunction drawForPaper() {\nconst { tree, at, isJava, lesson, item } = state();\nconst asked = lesson ? lesson.lesson.steps.\
-map(one => one.ask) : [];\nconst title = (lesson && lesson.lesson.title) || tree.program.title || item.title;\ndrawPaper(byId(\"paper\"), { \
-tree, run: run(), at, isJava, title, asked }, isSheet);\n}\nfunction print(sheet) {\nisSheet = sheet;\nwindow.print();\n}\nwindow.addEventLi\
-stener(\"beforeprint\", () => state().tree && drawForPaper());\nwindow.addEventListener(\"afterprint\", () => {\nisSheet = false;\nfill(byId\
-(\"paper\"));\n});\nfunction startAgain() {\nconst { text, plan, item } = state();\napp.open(item, state().mode);\nif (text !== item.program\
-) app.note(\"As it was at first. \", button(\"Undo\", () => app.edit(text, plan)));\n}\nfunction openOwn() {\nconst { own } = stored();\napp\
-.open(own && own.program ? { ...change.OWN, ...own } : change.OWN, \"explore\");\n}\nfunction keepOwn() {\nconst { text, plan } = state();\n\
-const isKept = keep({ own: { program: text, plan } });\napp.note(\nisKept ? \"Kept in this browser: \\u201CMy own program\\u201D.\" : \"This \
-browser keeps nothing. Save the program.\"\n);\n}\nasync function openFile(file) {\nconst text = await file.text();\nconst name = bareName(f\
-ile.name);\nif (/\\.html?$/i.test(file.name)) {\nconst found = runIn(new DOMParser().parseFromString(text, \"text/html\"), name);\nreturn fo\
-und ? app.openRun(found) : app.note(\"There is no run in this page.\");\n}\nreturn app.open({ group: \"Yours\", name, title: file.name, ...r\
-eadProgramFile(text) }, \"explore\");\n}\nbyId(\"pick\").onclick = () => {\nconst act = {\nopen: item => app.open(item, item.group === \"Les\
-sons\" && state().mode === \"explore\" ? \"lesson\" : state().mode),\nown: openOwn,\nkeep: keepOwn,\nfile: openFile\n};\napp.sheet.open(byId\
-(\"pick\"), \"Programs\", programsMenu(app.sheet, given.menu, state().item, act));\n};\nconst acts = {\nset: (name, value) => {\nif (name ==\
-= \"hasLetters\") keep({ letters: value });\napp.set({ ...state(), [name]: value });\napp.fitted();\n},\nspeed: speed => (settings.speed = s\
-peed),\ntheme: setTheme,\nplay,\nagain: startAgain,\nside: app.setSide,\nmakeFirst: () => (run().parent < 0 ? app.note(\"This is run 1.\") : \
-app.set(change.madeFirst(state()), true)),\nonlyFirst: () => app.set(change.firstOnly(state()), true),\nlarger: () => zoomBy(ZOOM),\nsmaller\
-: () => zoomBy(1 / ZOOM),\nhandout: () => print(false),\nworksheet: () => print(true),\ncopyLink,\ncopyPlan: () => copy(planOf(state().tree.\
-program, run().events, Infinity)),\ncopySchedule: () => copy(scheduleOf(run().choices)),\ncopyCommand,\nsaveTrace: () => save(state().item.n\
-ame + \".trace\", run().trace),\nsaveProgram: () => save(state().item.name + \".asm\", state().text),\nsavePage\n};\nbyId(\"more\").onclick \
-= () => app.sheet.open(byId(\"more\"), \"Menu\", mainMenu(app.sheet, state(), settings, acts));\nbyId(\"again\").onclick = startAgain;\nbyId\
-(\"first\").onclick = () => go(0);\nbyId(\"back\").onclick = () => go(state().at - 1);\nbyId(\"forth\").onclick = () => go(state().at + 1);\n\
-byId(\"last\").onclick = () => go(lengthOf(run()));\nbyId(\"smaller\").onclick = () => zoomBy(1 / ZOOM);\nbyId(\"larger\").onclick = () => z\
-oomBy(ZOOM);\nfor (const one of document.querySelectorAll(\"#modes button\")) one.onclick = () => app.setMode(one.dataset.mode);\nfor (const \
-one of document.querySelectorAll(\"#tabs button\")) {\none.onclick = () => {\napp.set({ ...state(), pane: one.dataset.pane });\napp.fitted()\
-;\n};\n}\nconst moves = {\nArrowRight: () => go(state().at + 1),\nPageDown: () => go(state().at + 1),\nArrowLeft: () => go(state().at - 1),\n\
-PageUp: () => go(state().at - 1),\nHome: () => go(0),\nEnd: () => go(lengthOf(run()))\n};\nconst letters = {\n\" \": play,\n\"+\": () => zoo\
-mBy(ZOOM),\n\"=\": () => zoomBy(ZOOM),\n\"-\": () => zoomBy(1 / ZOOM),\n0: () => setZoom(1),\n\"[\": () => app.set(change.besideInTree(state\
-(), -1)),\n\"]\": () => app.set(change.besideInTree(state(), 1)),\np: () => app.setTab(\"picture\"),\nv: () => app.setTab(\"values\"),\no: (\
-) => app.setTab(\"orders\"),\nf: () => acts.set(\"isAlone\", !state().isAlone),\ne: () => {\napp.set({ ...state(), pane: \"code\", isAlone: \
-false });\napp.program.focus();\n},\ns: app.setSide\n};\nconst keys = {\nkeys: moves,\nnumber: n => byId(\"next\").querySelectorAll(\".chip\"\
-)[n - 1]?.click(),\nletter: sign => {\nconst option = state().mode === \"quiz\" ? optionAt(state().quiz, sign) : null;\nif (option !== null) \
-app.set(change.answered(state(), option));\nelse if (letters[sign]) letters[sign]();\nreturn option !== null || Boolean(letters[sign]);\n},\n\
-escape: field => {\nif (app.sheet.isOpen()) return app.sheet.close(true);\nif (field) return field.blur();\nif (state().isAlone) return acts\
-.set(\"isAlone\", false);\nreturn app.set(change.backToFork(state()));\n},\nprint: () => (isSheet = false)\n};\nlistenToKeys(keys, () => sta\
-te().hasLetters);\nwindow.addEventListener(\"resize\", () => {\nsetColumns();\napp.fitted();\n});\nconst kept = stored();\nif (kept.theme) s\
-etTheme(kept.theme);\nif (kept.letters === false) app.set({ ...state(), hasLetters: false });\nsetColumns();\nif (kept.zoom) {\ndocument.doc\
-umentElement.style.setProperty(\"--zoom\", kept.zoom);\napp.set({ ...state(), zoom: kept.zoom });\nsetColumns();\n}\n}\nreturn { makeCommand\
-s };\n})();\n// app/lesson.js\nconst m35 = (() => {\nconst { button, h } = m3;\nconst { hueOf, threadName } = m1;\nfunction votesOf(program, \
-moment, votes, act) {\nconst able = Object.keys(moment.next).map(Number);\nconst most = Math.max(0, ...able.map(t => votes[t] || 0));\nconst \
-first = able.filter(t => (votes[t] || 0) === most && most > 0);\nconst name = t => threadName(program, t);\nconst one = t => {\nconst count \
-= votes[t] || 0;\nconst given = {\ntype: \"button\",\ntitle: \"A click counts up, Shift+click down\",\n\"aria-label\": name(t) + \", \" + co\
-unt + (count === 1 ? \" vote\" : \" votes\"),\nonclick: event => act.vote(t, event.shiftKey ? -1 : 1),\noncontextmenu: event => {\nevent.pre\
-ventDefault();\nact.vote(t, -1);\n}\n};\nreturn h(\"button.vote.\" + hueOf(t), given, h(\"span\", {}, name(t)), h(\"b\", {}, count));\n};\nc\
-onst play = button(first.length === 1 ? \"Play \" + name(first[0]) : \"Play\", () => act.choose(\"t\" + first[0]), {\nkind: \".main\",\ndisa\
-bled: first.length !== 1\n});\nreturn [\nh(\"p.card-small\", {}, \"Votes: who is next?\"),\nh(\"div.votes\", {}, able.map(one), play)\n];\n}\
-\nfunction answerOf(one, act) {\nconst run = one.fork ? button(\"Show this run\", () => act.showFork(...one.fork), { kind: \".card-show\" }) \
-: null;\nconst tab = one.tab ? button(\"Random orders\", () => act.tab(one.tab), { kind: \".card-show\" }) : null;\nreturn [h(\"p.card-small\
-\", {}, \"Answer\"), h(\"p.card-answer\", {}, one.answer, run, tab)];\n}\nfunction dotsOf(step, count) {\nconst label = step < 0 ? \"start\" \
-: step >= count ? \"end\" : \"question \" + (step + 1) + \" of \" + count;\nconst dot = (_, k) => h(\"i.dot\" + (k === step ? \".is-here\" : \
-k < step ? \".is-done\" : \"\"));\nreturn h(\"span.dots\", { role: \"img\", \"aria-label\": label }, Array.from({ length: count }, dot));\n}\
-\nfunction edgeOf(lesson, step, act) {\nconst isStart = step < 0;\nconst count = lesson.steps.length;\nconst text = isStart\n? \"Step throug\
-h the run first. Let the class say what each choice does, before you step.\"\n: \"Ask for the quiz, or change a row, and look again.\";\ncon\
-st next = isStart && count ? button(\"First question\", () => act.step(1), { kind: \".main\" }) : null;\nconst back = isStart ? null : butto\
-n(\"Back\", () => act.step(-1));\nconst head = isStart ? \"Aim\" : \"To remember\";\nreturn [\nh(\"div.card-ask\", {}, h(\"p.card-small\", {\
-}, head), h(\"p.card-large\", {}, isStart ? lesson.aim : lesson.last)),\nh(\"div.card-reply\", {}, h(\"p.card-small\", {}, isStart ? lesson.\
-title : \"End of the lesson\"), h(\"p\", {}, text)),\nh(\"div.card-turn\", {}, dotsOf(step, count), next, back)\n];\n}\nfunction lessonCard(\
-{ lesson, step, isOpen, votes }, program, moment, act) {\nconst one = lesson.steps[step];\nconst count = lesson.steps.length;\nif (!one) ret\
-urn edgeOf(lesson, step, act);\nconst reply = isOpen\n? answerOf(one, act)\n: one.votes ? votesOf(program, moment, votes, act) : h(\"p.card-\
-small\", {}, \"\\u00a0\");\nconst next = isOpen\n? button(step + 1 < count ? \"Next question\" : \"End\", () => act.step(1), { kind: \".main\
-\" })\n: button(\"Answer\", act.answer, { kind: \".main\" });\nreturn [\nh(\n\"div.card-ask\",\n{},\nh(\"p.card-small\", {}, \"Question \" + \
-(step + 1) + \" of \" + count),\nh(\"p.card-large\", {}, one.ask)\n),\nh(\"div.card-reply\", {}, reply),\nh(\"div.card-turn\", {}, dotsOf(st\
-ep, count), button(\"Back\", () => act.step(-1)), next)\n];\n}\nreturn { lessonCard };\n})();\n// app/outcomes.js\nconst m36 = (() => {\ncon\
-st { playRun } = m14;\nconst { choicesOfPlan } = m16;\nconst { openProgram } = m19;\nconst { scheduleOf } = m15;\nconst { readTrace } = m17;\
-\nconst SEEDS = 300;\nconst LONGEST = 2000;\nconst outcomeKey = end => JSON.stringify([end.word, end.threads.map(one => [one.status, one.cod\
-e, one.out])]);\nfunction outcomesOf(text, seeds, told = () => {}) {\nconst program = openProgram(text);\nconst found = new Map();\nfor (let \
-seed = 1; seed <= seeds; seed++) {\nconst plan = \"?\" + seed + \"*\" + LONGEST;\nconst { choices } = choicesOfPlan(program.text, plan);\nco\
-nst { events: read, end } = readTrace(playRun(program.text, scheduleOf(choices)));\nconst events = [...read];\nconst key = outcomeKey(end);\n\
-const one = found.get(key) || { key, count: 0, plan, end, choices, events };\nfound.set(key, one);\none.count++;\nif (choices.length < one.c\
-hoices.length) Object.assign(one, { plan, choices, events, end });\nif (seed % 10 === 0) told(seed);\n}\nreturn { tried: seeds, all: [...fou\
-nd.values()].sort((a, b) => b.count - a.count) };\n}\nreturn { SEEDS, outcomeKey, outcomesOf };\n})();\n// app/orders.js\nconst m37 = (() => \
-{\nconst { endKind, endText, outputText } = m2;\nconst { button, h } = m3;\nconst { SEEDS } = m36;\nconst { planOf } = m16;\nconst SHOWN = 4\
-0;\nfunction outcomeOf(program, one, most, take) {\nconst output = outputText(program, one.end);\nreturn h(\n\"button.outcome.outcome-\" + e\
-ndKind(one.end),\n{ type: \"button\", onclick: () => take(one), title: \"Show this run\" },\nh(\"span.outcome-count\", {}, one.count),\nh(\"\
-span.meter\", { vars: { \"--part\": one.count / most } }, h(\"i\")),\nh(\n\"span.outcome-said\",\n{},\nh(\"b\", {}, endText(program, one.end\
-)),\nh(\"span\", {}, output ? \"output: \" + output : \"no output\"),\nh(\"code\", {}, planOf(program, one.events, 8))\n)\n);\n}\nfunction o\
-rdersOf(program, orders, working, act) {\nif (working) {\nreturn [\nh(\"p.hint\", { role: \"status\" }, working.done + \" of \" + SEEDS + \" \
-random orders are played.\"),\nh(\"span.meter\", { vars: { \"--part\": working.done / SEEDS } }, h(\"i\")),\nbutton(\"Stop\", act.stop)\n];\n\
-}\nif (!orders) {\nreturn [\nh(\n\"p.hint\",\n{},\n\"Plays \" + SEEDS + \" random orders of this program, and groups them by how they end an\
-d what they put out.\"\n),\nbutton(\"Play \" + SEEDS + \" random orders\", act.play, { kind: \".main\" })\n];\n}\nconst most = Math.max(...o\
-rders.all.map(one => one.count));\nconst said = orders.all.length === 1\n? \"one outcome.\"\n: orders.all.length + \" outcomes. Click one to \
-see such a run.\";\nconst rest = orders.all.length - SHOWN;\nreturn [\nh(\"p.hint\", {}, orders.tried + \" random orders: \" + said),\nh(\"d\
-iv.outcomes\", {}, orders.all.slice(0, SHOWN).map(one => outcomeOf(program, one, most, act.take))),\nrest > 0 ? h(\"p.hint\", {}, rest + \" \
-more outcomes\") : null\n];\n}\nreturn { ordersOf };\n})();\n// app/program.js\nconst m38 = (() => {\nconst { DIRECTIVES, KINDS } = m0;\ncon\
-st { byId, fill, h } = m3;\nconst { hueOf, javaText, threadName } = m1;\nconst LONG = 20000;\nconst MARGIN = 2;\nconst OPTIONS = /^(parent|p\
-hase|never|until|onadvance|action)$/;\nfunction kindOf(word) {\nif (word.endsWith(\":\")) return \"label\";\nif (DIRECTIVES.includes(word)) \
-return \"directive\";\nif (KINDS[word]) return \"word\";\nif (OPTIONS.test(word)) return \"option\";\nreturn /^(r[0-7]|-?\\d+)$/.test(word) \
-? \"register\" : \"object\";\n}\nfunction coloured(line) {\nconst cut = line.indexOf(\";\");\nconst code = cut < 0 ? line : line.slice(0, cu\
-t);\nconst parts = code.split(/(\\s+)/).map(part => (part.trim() ? h(\"span.code-\" + kindOf(part), {}, part) : part));\nconst talk = cut < \
-0 ? null : h(\"span.code-\" + (line[cut + 1] === \"?\" ? \"asked\" : \"talk\"), {}, line.slice(cut));\nreturn [...parts, talk];\n}\nfunction \
-makeProgram(changed, planned) {\nconst margin = h(\"div.code-margin\", { \"aria-hidden\": \"true\" });\nconst copy = h(\"pre.code-copy\", { \
-\"aria-hidden\": \"true\" });\nconst marks = h(\"div.code-marks\", { \"aria-hidden\": \"true\" });\nconst bubble = h(\"div.code-bubble\", { \
-role: \"status\", \"aria-live\": \"polite\", id: \"mistake\", hidden: true });\nconst plainly = { spellcheck: \"false\", autocapitalize: \"o\
-ff\", autocomplete: \"off\" };\nconst text = h(\"textarea.code-typed\", {\n...plainly,\nwrap: \"off\",\n\"aria-label\": \"Program. It is pla\
-yed again as you type\",\n\"aria-describedby\": \"mistake\",\noninput: () => {\ngrow();\npaint();\nchanged(text.value);\n}\n});\nconst sheet \
-= h(\"div.code-sheet\", {}, margin, h(\"div.code-over\", {}, marks, copy, text, bubble));\nconst scroll = h(\"div.scroll.code-scroll\", {}, \
-sheet);\nconst plan = h(\"input.plan-typed\", {\n...plainly,\ntype: \"text\",\nid: \"plan\",\n\"aria-describedby\": \"planhelp\",\ntitle: \"\
-ann. is ann until she waits or ends, ann is one turn, .. is all until the end, ?7 a random order\",\noninput: () => planned(plan.value)\n});\
-\nconst help = h(\"span.plan-help\", { role: \"status\", id: \"planhelp\" });\nfill(byId(\"code\"), scroll, h(\"div.plan\", {}, h(\"label\", \
-{ for: \"plan\" }, \"Plan\"), plan, help));\nlet shown = null;\nfunction grow() {\nconst lines = text.value.split(\"\\n\");\nsheet.style.set\
-Property(\"--lines\", lines.length + 1);\nsheet.style.setProperty(\"--columns\", lines.reduce((most, line) => Math.max(most, line.length), 2\
-0) + 2);\n}\nfunction paint() {\nfill(copy, text.value.split(\"\\n\").map((line, n) => h(\"span\", {}, coloured(line), javaOf(n), \"\\n\")))\
-;\n}\nfunction javaOf(line) {\nif (!shown || !shown.isJava || shown.mistake) return null;\nconst row = shown.tree.program.lineOf.indexOf(lin\
-e);\nreturn row < 0\n? null\n: h(\"span.code-java\", {}, \"  \" + javaText(shown.tree.program, shown.tree.program.rows[row]));\n}\nfunction \
-show(what, moment, event) {\nconst isOther = text.value !== what.text;\nconst wasJava = shown && shown.isJava;\nconst isMended = Boolean(sho\
-wn && shown.mistake) !== Boolean(what.mistake);\nshown = what;\nif (isOther) {\ntext.value = what.text;\nscroll.scrollTop = 0;\n}\nshowPlan(\
-what.plan);\nif (isOther || !copy.firstChild || wasJava !== what.isJava || (what.isJava && isMended)) {\ngrow();\npaint();\n}\nshowPlaces(mo\
-ment, event);\nshowMistake(what.mistake);\n}\nfunction showPlan(written) {\nconst isLong = written.length > LONG;\nplan.placeholder = isLong \
-? \"the schedule of this page\" : \"\";\nif (plan !== document.activeElement && plan.value !== written) plan.value = isLong ? \"\" : written\
-;\n}\nfunction showPlaces(moment, event) {\nfill(margin);\nfill(marks);\nif (shown.mistake && shown.mistake.isProgram) return;\nconst { prog\
-ram } = shown.tree;\nconst at = new Map();\nmoment.state.threads.forEach((thread, t) => {\nif (/ended|died/.test(thread.status)) return;\nco\
-nst line = program.lineOf[thread.row];\nat.set(line, [...(at.get(line) || []), t]);\n});\nconst sign = (t, list) => {\nconst room = list.len\
-gth > MARGIN ? 1 : list.length > 1 ? 2 : 4;\nreturn h(\"i.place.\" + hueOf(t), { title: threadName(program, t) }, threadName(program, t).sli\
-ce(0, room));\n};\nconst places = ([line, list]) => {\nconst some = list.length > MARGIN ? list.slice(0, 1) : list;\nconst more = list.lengt\
-h > some.length ? h(\"i.place\", {}, \"+\" + (list.length - 1)) : null;\nreturn h(\"span.places\", { vars: { \"--line\": line } }, some.map(\
-t => sign(t, list)), more);\n};\nfill(margin, [...at].map(places));\nconst line = event && event.row >= 0 ? program.lineOf[event.row] : -1;\n\
-if (line < 0) return;\nfill(marks, h(\"span.code-now\", { vars: { \"--line\": line } }));\nif (document.activeElement !== text) requestAnima\
-tionFrame(() => bringIn(line));\n}\nfunction bringIn(line) {\nconst high = text.offsetHeight / (text.value.split(\"\\n\").length + 1);\ncons\
-t top = line * high;\nconst isIn = top >= scroll.scrollTop && top + high * 2 <= scroll.scrollTop + scroll.clientHeight;\nif (!isIn) scroll.s\
-crollTop = Math.max(0, top - scroll.clientHeight / 2);\n}\nfunction showMistake(mistake) {\nconst isPlan = Boolean(mistake) && !mistake.isPr\
-ogram;\nbubble.hidden = !mistake || isPlan;\ntext.setAttribute(\"aria-invalid\", String(!bubble.hidden));\nplan.setAttribute(\"aria-invalid\"\
-, String(isPlan));\nhelp.textContent = isPlan ? mistake.means + \".\" + (mistake.helps ? \" \" + mistake.helps + \".\" : \"\") : \"\";\nif (\
-bubble.hidden) return;\nconst line = mistake.line === null ? 0 : mistake.line - 1;\nmarks.append(h(\"span.code-bad\", { vars: { \"--line\": \
-line } }));\nif (mistake.word) {\nconst [from, to] = mistake.word;\nmarks.append(\nh(\"span.code-wave\", { vars: { \"--line\": line, \"--fro\
-m\": from, \"--wide\": Math.max(1, to - from) } })\n);\n}\nbubble.style.setProperty(\"--line\", line);\nconst where = mistake.line === null \
-? \"\" : \"Line \" + mistake.line + \": \";\nconst mend = h(\"button.code-mend\", { type: \"button\", onclick: () => mended(mistake) }, mist\
-ake.near);\nconst helps = mistake.near ? [\" Did you mean \", mend, \"?\"] : mistake.helps ? \" \" + mistake.helps + \".\" : \"\";\nfill(bub\
-ble, h(\"b\", {}, where, mistake.means + \".\"), helps);\n}\nfunction mended(mistake) {\nconst lines = text.value.split(\"\\n\");\nconst lin\
-e = lines[mistake.line - 1];\nlines[mistake.line - 1] = line.slice(0, mistake.word[0]) + mistake.near + line.slice(mistake.word[1]);\ntext.v\
-alue = lines.join(\"\\n\");\ngrow();\npaint();\nchanged(text.value);\ntext.focus();\n}\nreturn { show, focus: () => text.focus() };\n}\nretu\
-rn { makeProgram };\n})();\n// app/scene.js\nconst m39 = (() => {\nconst { arrivalsOf } = m29;\nconst { fill, fly, h, pulse, s, shown } = m3\
-;\nconst { nameOf, operandOf, rootOf } = m0;\nconst { hueOf, phaseOf, threadName } = m1;\nconst { arrivalsText, lastNumberOf } = m30;\nconst \
-{ eventTo } = m19;\nconst { doingOf } = m17;\nconst { whyOf, whysOf } = m31;\nconst MANY = 12;\nconst SHOWN = 24;\nfunction makeScene(act) {\
-\nconst edges = s(\"svg.edges\", { \"aria-hidden\": \"true\" });\nconst cards = h(\"div.cards\");\nconst crowd = h(\"div.crowd\");\nconst wh\
-ys = h(\"ul.whys\", { \"aria-label\": \"Who waits, and for whom\" });\nconst space = h(\"div.space\", {}, edges, cards, crowd);\nconst label \
-= \"Phasers, barriers and threads\";\nconst element = h(\"div.scene.scroll\", { tabindex: 0, role: \"group\", \"aria-label\": label }, space\
-, whys);\nlet last = null;\nnew ResizeObserver(() => drawEdges(space, edges)).observe(space);\nfunction show(what) {\nconst before = last;\n\
-last = what;\nconst isStep = before && before.tree.program === what.tree.program && before.run === what.run &&\nbefore.at + 1 === what.at;\n\
-fly(space, () => draw(what));\ndrawEdges(space, edges);\nif (isStep) move(space, what.tree.program, eventTo(what.run, what.at));\n}\nfunctio\
-n draw(what) {\nconst { program } = what.tree;\nconst { state } = what.moment;\nconst things = program.phasers.length + program.barriers.len\
-gth;\nconst scene = {\n...what,\nprogram,\nstate,\nseated: new Set(),\nfold: arrivalsOf(what.tree, what.run.id, what.at),\nkeepsRoom: progra\
-m.threads.length <= 8 && things <= 2,\nact\n};\nconst roots = program.phasers.flatMap((one, p) => (one.parent < 0 ? [p] : []));\nfill(cards, \
-roots.map(p => branchOf(scene, p)), program.barriers.map((_, b) => barrierCard(scene, b)));\ncards.classList.toggle(\"is-stuck\", state.word \
-=== \"stuck\");\nelement.classList.toggle(\"is-roomy\", program.threads.length + things <= 8);\nfill(crowd, crowdOf(scene));\ndrawWhys(scene\
-);\n}\nfunction drawWhys({ program, moment, selected, tree, run, at }) {\nconst all = whysOf(program, moment);\nconst isTold = one => /stuck\
-|waits|free|dead/.test(one.kind);\nconst chosen = selected && selected.thread !== undefined ? whyOf(program, moment, selected.thread) : null\
-;\nconst lines = [];\nif (selected && selected.phaser !== undefined) {\nlines.push(h(\"li.why.is-selected\", {}, shown(program, arrivalsText\
-(tree, run, at, selected.phaser))));\n}\nif (chosen) {\nconst number = lastNumberOf(tree, run, at, chosen.thread);\nconst more = number ? h(\
-\"span.why-number\", {}, shown(program, number)) : null;\nlines.push(h(\"li.why.is-selected.why-\" + chosen.kind, {}, h(\"span\", {}, shown(\
-program, chosen.text)), more));\n}\nconst rest = all.filter(one => isTold(one) && (!chosen || one.thread !== chosen.thread));\nfor (const on\
-e of rest.slice(0, SHOWN)) lines.push(h(\"li.why.why-\" + one.kind, {}, shown(program, one.text)));\nif (rest.length > SHOWN) lines.push(h(\"\
-li.why\", {}, \"and \" + (rest.length - SHOWN) + \" more\"));\nif (!lines.length) lines.push(\nh(\"li.why.why-hint\", {}, \"Nobody waits. Cl\
-ick a thread or a phaser: its line stands here.\")\n);\nfill(whys, lines);\nfor (const t of chosen ? chosen.could : []) {\nspace.querySelect\
-or('[data-fly=\"t' + t + '\"]')?.classList.add(\"is-able\");\n}\n}\nreturn { element, show };\n}\nfunction tokenOf({ program, moment, select\
-ed, act }, t, kind = \"\") {\nconst doing = doingOf(moment, t);\nconst isSelected = Boolean(selected) && selected.thread === t;\nconst given \
-= {\ntype: \"button\",\n\"data-fly\": \"t\" + t,\n\"aria-pressed\": String(isSelected),\ntitle: threadName(program, t) + \": why?\",\nonclic\
-k: () => act.thread(t)\n};\nreturn h(\"button.token.\" + hueOf(t) + \".token-\" + doing + kind, given, threadName(program, t));\n}\nconst st\
-andsAt = ({ program, state }, t, kind) =>\nstate.threads[t].status === \"waits\" ? operandOf(program.rows[state.threads[t].row], kind) : -1;\
-\nfunction visitorsOf(scene, label, list) {\nif (!list.length && !scene.keepsRoom) return null;\nconst more = list.length > 16 ? \"+\" + (li\
-st.length - 16) : null;\nconst said = list.length ? h(\"span\", {}, label) : null;\nreturn h(\"div.visitors\", {}, said, list.slice(0, 16).m\
-ap(t => tokenOf(scene, t, \".is-visitor\")), more);\n}\nfunction seatOf(scene, p, k, taken, who) {\nconst { program, seated, moment } = scen\
-e;\nif (k >= taken) return h(\"span.seat\", { role: \"img\", \"aria-label\": \"an arrival is missing\" });\nconst t = who[k] ? who[k].thread \
-: undefined;\nconst isHere = t !== undefined && !seated.has(t) && standsAt(scene, t, \"P\") === p && doingOf(moment, t) === \"waits\";\nif (\
-isHere) {\nseated.add(t);\nreturn h(\"span.seat.is-full\", {}, tokenOf(scene, t));\n}\nif (t === undefined) return h(\"span.seat.is-full.is-\
-gone\", { title: \"arrived\" }, \"\\u2713\");\nconst name = threadName(program, t);\nreturn h(\n\"span.seat.is-full.is-gone\",\n{ title: nam\
-e + \" arrived, and went on\" },\nh(\"span.seat-been.\" + hueOf(t), {}, \"\\u2713 \" + name)\n);\n}\nfunction phaserCard(scene, p) {\nconst \
-{ program, state, fold, seated, moment, selected, act } = scene;\nconst one = state.phasers[p];\nconst isRoot = program.phasers[p].parent < \
-0;\nconst kids = program.children[p].filter(child => state.phasers[child].parties > 0);\nconst kidsIn = kids.filter(child => state.phasers[c\
-hild].missing === 0);\nconst taken = Math.max(0, one.arrived - kidsIn.length);\nconst own = Math.max(0, one.parties - kids.length);\nconst w\
-ho = taken ? fold.arrived[p].slice(-taken) : [];\nconst kid = child => {\nconst given = { \"data-child\": child };\nreturn h(\"span.seat.sea\
-t-child\" + (kidsIn.includes(child) ? \".is-full\" : \"\"), given, nameOf(program, \"P\", child));\n};\nconst seats = kids.map(kid);\nif (ow\
-n > MANY) seats.push(h(\"span.meter\", { vars: { \"--part\": taken / own } }, h(\"i\")));\nelse for (let k = 0; k < own; k++) seats.push(sea\
-tOf(scene, p, k, taken, who));\nconst visitors = program.threads.map((_, t) => t).filter(t => !seated.has(t) && standsAt(scene, t, \"P\") ==\
-= p);\nvisitors.forEach(t => seated.add(t));\nconst isOver = one.view < 0;\nconst name = nameOf(program, \"P\", p);\nconst phase = isOver ? \
-\"terminated\" : h(\"span\", {}, \"phase \", h(\"b\", {}, phaseOf(one.view)));\nconst isSaid = isRoot || one.view !== state.phasers[rootOf(p\
-rogram, p)].view;\nconst isSelected = Boolean(selected) && selected.phaser === p;\nconst given = {\ntype: \"button\",\n\"aria-pressed\": Str\
-ing(isSelected),\ntitle: name + \": who arrived?\",\nonclick: () => act.phaser(p)\n};\nconst head = h(\n\"p.thing-head\",\n{},\nh(\"button.t\
-hing-name\", given, name),\nisSaid ? h(\"span.thing-phase\", {}, phase) : null,\nh(\"span.thing-count\", {}, one.parties ? one.arrived + \" \
-of \" + one.parties : \"empty\")\n);\nconst label = visitors.some(t => doingOf(moment, t) === \"free\") ? \"released\" : \"waiting\";\nconst \
-kinds = (isOver ? \".is-terminated\" : \"\") + (isRoot ? \"\" : \".is-child\");\nconst group = { \"data-phaser\": p, role: \"group\", \"aria\
--label\": \"Phaser \" + name };\nreturn h(\"div.thing.phaser\" + kinds, group, head, h(\"div.seats\", {}, seats), visitorsOf(scene, label, v\
-isitors));\n}\nfunction branchOf(scene, p) {\nconst kids = scene.program.children[p];\nconst card = phaserCard(scene, p);\nreturn h(\"div.br\
-anch\", {}, card, kids.length ? h(\"div.kids\", {}, kids.map(child => branchOf(scene, child))) : null);\n}\nfunction barrierCard(scene, b) {\
-\nconst { program, state, seated, moment } = scene;\nconst { isBroken, waiting } = state.barriers[b];\nconst { parties } = program.barriers[\
-b];\nconst name = nameOf(program, \"B\", b);\nconst here = program.threads.map((_, t) => t).filter(t => standsAt(scene, t, \"B\") === b);\nc\
-onst inside = here.filter(t => doingOf(moment, t) === \"waits\");\nconst freed = here.filter(t => doingOf(moment, t) !== \"waits\");\nconst \
-keeps = isBroken ? [] : [...inside, ...freed].slice(0, waiting);\nconst out = here.filter(t => !keeps.includes(t));\nhere.forEach(t => seate\
-d.add(t));\nconst seats = [];\nif (parties > MANY) seats.push(h(\"span.meter\", { vars: { \"--part\": waiting / parties } }, h(\"i\")));\nel\
-se {\nfor (let k = 0; k < parties; k++) {\nconst missing = { role: \"img\", \"aria-label\": \"one has to come\" };\nseats.push(k < keeps.len\
-gth ? h(\"span.seat.is-full\", {}, tokenOf(scene, keeps[k])) : h(\"span.seat\", missing));\n}\n}\nconst head = h(\n\"p.thing-head\",\n{},\nh\
-(\"b.thing-name\", {}, name),\nh(\"span.thing-phase\", {}, isBroken ? \"broken\" : \"barrier\"),\nh(\"span.thing-count\", {}, waiting + \" o\
-f \" + parties)\n);\nconst group = { \"data-barrier\": b, role: \"group\", \"aria-label\": \"Barrier \" + name };\nconst gateway = h(\"div.g\
-ateway\", {}, h(\"div.seats\", {}, seats), gateOf(isBroken));\nconst visitors = visitorsOf(scene, isBroken ? \"will throw\" : \"released\", \
-out);\nreturn h(\"div.thing.barrier\" + (isBroken ? \".is-broken\" : \"\"), group, head, gateway, visitors);\n}\nfunction gateOf(isBroken) {\
-\nconst whole = [\"M16 10V52\", \"M26 10V52\", \"M36 10V52\", \"M46 10V52\"];\nconst bars = isBroken ? [\"M14 12L22 40\", \"M23 9L40 26\", \"\
-M30 48L47 32\", \"M44 8L50 18\"] : whole;\nconst given = { viewBox: \"0 0 62 60\", role: \"img\", \"aria-label\": isBroken ? \"a broken gate\
-\" : \"a gate\" };\nconst rail = isBroken ? null : s(\"path.gate-rail\", { d: \"M5 16H57M5 46H57\" });\nreturn s(\n\"svg.gate\",\ngiven,\ns(\
-\"path.gate-post\", { d: \"M5 4V56M57 4V56\" }),\nrail,\nbars.map(d => s(\"path.gate-bar\", { d }))\n);\n}\nfunction crowdOf(scene) {\nconst \
-{ program, state, moment, seated } = scene;\nconst rest = program.threads.map((_, t) => t).filter(t => !seated.has(t));\nconst isOver = t => \
-/over|dead/.test(doingOf(moment, t));\nconst member = t => {\nconst { out, isInterrupted } = state.threads[t];\nconst output = out.length ? \
-h(\"span.crowd-output\", { title: \"its output\" }, out.slice(-4).join(\" \")) : null;\nconst flag = isInterrupted\n? h(\"span.crowd-flag\", \
-{ title: \"interrupted\", role: \"img\", \"aria-label\": \"interrupted\" }, \"\\u26A1\\uFE0E\")\n: null;\nreturn h(\"span.crowd-one\", {}, t\
-okenOf(scene, t), output, flag);\n};\nconst group = (label, list) => {\nif (!list.length) return null;\nconst more = list.length > SHOWN ? \"\
-and \" + (list.length - SHOWN) + \" more\" : null;\nreturn h(\"div.crowd-group\", {}, h(\"span.crowd-label\", {}, label), list.slice(0, SHOW\
-N).map(member), more);\n};\nreturn [group(\"on the way\", rest.filter(t => !isOver(t))), group(\"over\", rest.filter(isOver))];\n}\nfunction \
-drawEdges(space, edges) {\nif (!space.querySelector(\".is-child\")) return fill(edges);\nconst frame = space.getBoundingClientRect();\nconst \
-list = [];\nfor (const card of space.querySelectorAll(\".thing.is-child\")) {\nconst parent = card.closest(\".kids\").previousElementSibling\
-;\nconst seat = parent.querySelector('[data-child=\"' + card.dataset.phaser + '\"]');\nconst from = card.getBoundingClientRect();\nconst to \
-= (seat || parent).getBoundingClientRect();\nconst x1 = from.left + from.width / 2 - frame.left;\nconst y1 = from.top - frame.top;\nconst x2 \
-= to.left + to.width / 2 - frame.left;\nconst y2 = to.bottom - frame.top;\nconst middle = (y1 + y2) / 2;\nconst kind = !seat ? \"loose\" : s\
-eat.classList.contains(\"is-full\") ? \"full\" : \"open\";\nlist.push(s(\"path.edge-\" + kind, { d: `M${x1} ${y1}C${x1} ${middle} ${x2} ${mi\
-ddle} ${x2} ${y2}` }));\n}\nedges.setAttribute(\"width\", frame.width);\nedges.setAttribute(\"height\", frame.height);\nfill(edges, list);\n\
-}\nfunction move(space, program, event) {\nif (event.mark) {\nconst isBarrier = event.mark.kind[1] === \"b\";\nconst things = isBarrier\n? [\
-...space.querySelectorAll('[data-barrier=\"' + event.mark.on + '\"]')]\n: [...space.querySelectorAll(\"[data-phaser]\")].filter(\ncard => ro\
-otOf(program, Number(card.dataset.phaser)) === event.mark.on\n);\nconst shakes = [{ transform: \"rotate(-1.2deg)\" }, { transform: \"rotate(\
-1deg)\" }, { transform: \"none\" }];\nconst grows = [{ transform: \"scale(1.05)\", boxShadow: \"0 0 0 .4rem var(--go)\" }, { transform: \"no\
-ne\" }];\nfor (const thing of things) pulse(thing, event.mark.kind === \"-b\" ? shakes : grows);\n}\nif (/^(throw|die)$/.test(event.what)) {\
-\nconst shift = x => ({ transform: \"translateX(\" + x + \"rem)\" });\npulse(\nspace.querySelector('[data-fly=\"t' + event.thread + '\"]'),\n\
-[shift(-0.4), shift(0.4), shift(-0.2), shift(0)]\n);\n}\n}\nreturn { makeScene };\n})();\n// app/stage.js\nconst m40 = (() => {\nconst { end\
-Kind, endText, outputText } = m2;\nconst { byId, fill, h, shown } = m3;\nconst { hueOf, threadName } = m1;\nconst { reasonOf, strayOf } = m3\
-0;\nconst { eventTo, lengthOf, momentOf } = m19;\nconst { refusedText, sentenceOf, wouldText } = m24;\nconst { isVeiled, runOf } = m33;\ncon\
-st eventOf = (moment, token) => (token[0] === \"x\" ? moment.late : moment.next)[Number(token.slice(1))];\nfunction saidOf(state) {\nconst { \
-tree, at, mistake } = state;\nconst run = runOf(state);\nconst { program } = tree;\nif (mistake) {\nconst where = mistake.isProgram\n? \"The \
-program has a mistake\" + (mistake.line ? \" in line \" + mistake.line : \"\")\n: \"The plan has a mistake\";\nreturn { badge: \"!\", kind: \
-\"wrong\", parts: [where + \". The run below is the last that could be played.\"] };\n}\nconst moment = momentOf(tree, run.id, at);\nconst t\
-ried = state.preview && eventOf(moment, state.preview);\nif (tried) return {\nbadge: \"?\",\nkind: \"would\",\nparts: [\"If it\\u2019s next: \
-\", ...wouldText(program, tried, moment)]\n};\nconst { word } = moment.state;\nconst kind = { stuck: \"stuck\", all: \"ended\" }[word] || \"\
-\";\nconst end = { stuck: \" Stuck: no thread can ever go on.\", all: \" All threads are over.\" }[word] || \"\";\nconst isRefused = run.ref\
-used && at === lengthOf(run);\nconst verdict = isRefused ? \" \" + refusedText(run.refused, at + 1) : end;\nif (!at) return {\nbadge: 0,\nki\
-nd,\nverdict,\nparts: [program.about || \"Each thread is at its first row. Who goes first?\"]\n};\nconst parts = sentenceOf(program, eventTo\
-(run, at), momentOf(tree, run.id, at - 1), moment);\nconst reasons = isVeiled(state) ? [] : [reasonOf(tree, run.id, at), strayOf(tree, run.i\
-d, at)];\nconst reason = reasons.filter(Boolean).join(\" \");\nreturn { badge: at, kind, verdict, parts, reason };\n}\nfunction drawSaid(sta\
-te) {\nconst { badge, kind, parts, verdict, reason } = saidOf(state);\nbyId(\"said\").dataset.kind = kind;\nconst end = verdict ? h(\"strong\
-.said-verdict\", {}, verdict) : null;\nconst why = reason ? h(\"span.said-reason\", {}, \" \" + reason) : null;\nfill(\nbyId(\"said\"),\nh(\"\
-span.said-badge\", {}, badge),\nh(\"span.said-text\", {}, shown(state.tree.program, parts), end, why)\n);\n}\nfunction drawNext(state, act) \
-{\nconst { tree, at } = state;\nconst run = runOf(state);\nconst { program } = tree;\nconst moment = momentOf(tree, run.id, at);\nconst own \
-= state.isHidden || isVeiled(state) || state.mode === \"quiz\" ? \"\" : run.choices[at];\nconst all = [...Object.values(moment.next), ...Obj\
-ect.values(moment.late)];\nconst key = [program.text.length, at, run.id, own, ...all.map(one => one.token)].join(\" \");\nif (byId(\"next\")\
-.dataset.key === key) return;\nconst hadFocus = byId(\"next\").contains(document.activeElement);\nbyId(\"next\").dataset.key = key;\nconst c\
-hip = (event, k) => {\nconst isOwn = event.token === own;\nconst kinds = \".chip.\" + hueOf(event.thread) + (event.isLate ? \".chip-late\" : \
-\"\") + (isOwn ? \".chip-own\" : \"\");\nconst given = {\ntype: \"button\",\n\"data-token\": event.token,\ntitle: (isOwn ? \"The run goes on \
-so\" : \"Another run\") + (k < 9 ? \" (key \" + (k + 1) + \")\" : \"\"),\nonclick: () => act.choose(event.token),\nonpointerenter: () => act\
-.tryOut(event.token),\nonpointerleave: () => act.tryOut(\"\"),\nonfocus: () => act.tryOut(event.token),\nonblur: () => act.tryOut(\"\")\n};\n\
-const name = threadName(program, event.thread);\nif (event.isLate) given[\"aria-label\"] = \"the time-out of \" + name;\nreturn h(\"button\" \
-+ kinds, given, (event.isLate ? \"\\u23F1\\uFE0E \" : \"\") + name);\n};\nconst label = all.length ? \"Next:\" : moment.state.word === \"stu\
-ck\" ? \"Nobody may go\" : \"All are over\";\nfill(byId(\"next\"), h(\"span.next-label\", {}, label), all.map(chip));\nif (hadFocus) (byId(\"\
-next\").querySelector(\".chip-own, .chip\") || byId(\"forth\")).focus();\n}\nfunction drawStage(state, act) {\nconst { tree, at } = state;\n\
-const run = runOf(state);\ndrawSaid(state);\nconst isCut = state.isCut && run.parent < 0;\nconst all = state.isHidden ? \"\" : \" of \" + le\
-ngthOf(run) + (isCut ? \"\\u2026\" : \"\");\nfill(byId(\"where\"), h(\"b\", {}, at), all);\nbyId(\"where\").title = isCut ? \"The plan goes \
-on; the first \" + lengthOf(run) + \" choices are shown\" : \"\";\ndrawNext(state, act);\nbyId(\"first\").disabled = byId(\"back\").disabled \
-= at === 0;\nbyId(\"forth\").disabled = byId(\"last\").disabled = at === lengthOf(run);\nconst kind = endKind(run.end);\nconst isQuiet = sta\
-te.isHidden || state.mode === \"quiz\";\nconst end = \"Run \" + (run.id + 1) + (kind === \"open\" ? \" stays open\" : \": \" + endText(tree.\
-program, run.end));\nfill(byId(\"ends\"), isQuiet ? \"\" : h(\"span.end.end-\" + kind, { title: outputText(tree.program, run.end) }, end));\n\
-}\nreturn { drawStage };\n})();\n// app/timeline.js\nconst m41 = (() => {\nconst { fill, h } = m3;\nconst { hueOf, threadName } = m1;\nconst \
-{ eventTo, hasMoment, lengthOf, momentOf } = m19;\nconst { shortMark, tagOf } = m24;\nconst { doingOf } = m17;\nconst BUDGET = 8;\nconst ROO\
-M = 100000;\nconst EDGE = 1000;\nconst AROUND = 6;\nconst DOING = {\nruns: \"runs\",\nwaits: \"waits\",\nfree: \"may go on\",\nheld: \"can\\\
-u2019t go on\",\nthrows: \"throws\",\nover: \"is over\",\ndead: \"is dead\"\n};\nfunction makeTimeline(go, select) {\nconst names = h(\"div.\
-time-names\", { role: \"row\" });\nconst lanes = h(\"div.time-lanes\", { \"aria-hidden\": \"true\" });\nconst lines = h(\"div.time-lines\", \
-{ role: \"rowgroup\" });\nconst body = h(\"div.time-body\", { role: \"presentation\" }, lanes, lines);\nconst label = \"Timeline: a column f\
-or each thread, a row for each choice\";\nconst scroll = h(\n\"div.scroll.time-scroll\",\n{ tabindex: 0, role: \"table\", \"aria-label\": la\
-bel, onscroll: () => scrolled() },\nnames,\nbody\n);\nconst head = h(\"p.time-head\");\nconst element = h(\"div.time\", {}, head, scroll);\n\
-let shown = null;\nlet rows = null;\nlet whole = 0;\nlet origin = 0;\nlet size = { row: 30, number: 50, column: 80, rem: 16 };\nlet view = { \
-top: 0, left: 0, height: 0, width: 0 };\nlet drawn = \"\";\nlet pending = 0;\nbody.addEventListener(\"click\", event => {\nconst k = Math.fl\
-oor((event.clientY - body.getBoundingClientRect().top) / size.row);\nif (shown && k >= 0 && k < count()) go(choiceAt(k));\n});\nnew ResizeOb\
-server(() => redraw()).observe(scroll);\nfunction scrolled() {\nview = { ...view, top: scroll.scrollTop, left: scroll.scrollLeft };\ndraw();\
-\n}\nfunction scrollTo(top, left) {\nconst most = bodyHeight() + 2.3 * size.rem - view.height;\nview = { ...view, top: Math.max(0, Math.min(\
-top, most)), left: Math.max(0, left) };\nscroll.scrollTo(view.left, view.top);\n}\nconst bodyHeight = () => (count() + 0.6) * size.row;\ncon\
-st count = () => Math.min(ROOM, whole - origin);\nconst choiceAt = k => (rows ? rows[origin + k] : origin + k);\nconst rowOf = i => (rows ? \
-rows.indexOf(i) : i) - origin;\nfunction fold() {\nconst { run, at, isFolded, isHidden } = shown;\nconst last = isHidden ? at : lengthOf(run\
-);\nrows = isFolded ? [] : null;\nif (isFolded) for (let i = 0; i <= last; i++) if (!i || i === at || !run.events.isIdle(i - 1)) rows.push(i\
-);\nwhole = rows ? rows.length : last + 1;\nconst here = rows ? rows.indexOf(at) : at;\nconst most = Math.max(0, whole - ROOM);\nconst isBel\
-ow = here < origin + EDGE && origin > 0;\nconst isAbove = here > origin + ROOM - EDGE && origin < most;\nif (isBelow || isAbove || origin > \
-most) origin = Math.max(0, Math.min(most, here - ROOM / 2));\n}\nfunction measure() {\nsize.rem = parseFloat(getComputedStyle(document.docum\
-entElement).fontSize);\nview = { top: scroll.scrollTop, left: scroll.scrollLeft, height: scroll.clientHeight, width: scroll.clientWidth };\n\
-divide();\n}\nfunction divide() {\nconst { rem } = size;\nconst threads = shown.tree.program.threads.length;\nconst number = Math.max(2.6, S\
-tring(lengthOf(shown.run)).length * 0.62 + 1.2) * rem;\nconst least = (threads <= 8 ? 5.4 : 3.2) * rem;\nconst column = Math.max(least, (vie\
-w.width - number - 4) / threads);\nconst isWide = number + column * threads > view.width + 4;\nsize = { row: Math.round(2.1 * rem), number, \
-column, rem, isWide };\nelement.style.setProperty(\"--number\", number + \"px\");\nelement.style.setProperty(\"--row\", size.row + \"px\");\n\
-body.style.width = names.style.width = number + column * threads + \"px\";\nscroll.setAttribute(\"aria-rowcount\", lengthOf(shown.run) + 2);\
-\nscroll.setAttribute(\"aria-colcount\", threads + 1);\n}\nfunction show(what) {\nconst isNew = !shown || shown.zoom !== what.zoom || !view.\
-height;\nconst isOther = isNew || shown.run !== what.run || shown.tree.program !== what.tree.program;\nconst isMoved = isOther || shown.at !\
-== what.at;\nshown = what;\nfold();\nif (isNew) measure();\nelse if (isOther) divide();\nconst part = whole > count() ? \"Choices \" + choic\
-eAt(0) + \" to \" + choiceAt(count() - 1) + \" stand here.\" : \"\";\nfill(head, what.title || \"\", part);\nhead.hidden = !what.title && !p\
-art;\nbody.style.height = bodyHeight() + \"px\";\nif (isMoved) follow();\ndraw(true);\n}\nfunction follow() {\nconst place = rowOf(shown.at) \
-* size.row;\nconst room = view.height - 2.3 * size.rem;\nlet { top, left } = view;\nif (place < top + size.row || place + size.row * 2.5 > t\
-op + room) top = place - room * 0.55;\nconst event = eventTo(shown.run, shown.at);\nconst column = event ? placeOf(event.thread) : 0;\nconst \
-isOut = column < left + size.number || column + size.column * 2 > left + view.width;\nif (event && size.isWide && isOut) left = column - vie\
-w.width / 2;\nif (top !== view.top || left !== view.left) scrollTo(top, left);\n}\nconst placeOf = t => size.number + t * size.column;\nfunc\
-tion draw(isForced) {\nif (!shown || !view.height) return;\nconst from = Math.max(0, Math.floor(view.top / size.row) - AROUND);\nconst to = \
-Math.min(count() - 1, Math.ceil((view.top + view.height) / size.row) + AROUND);\nconst threads = shown.tree.program.threads.length;\nconst l\
-eft = Math.max(0, Math.floor((view.left - size.number) / size.column) - 1);\nconst right = Math.min(threads - 1, Math.ceil((view.left + view\
-.width) / size.column) + 1);\nconst key = [from, to, left, right].join();\nif (!isForced && key === drawn) return;\ndrawn = key;\ndrawNames(\
-left, right);\nconst isWhole = drawLanes(from, to, left, right);\ndrawLines(from, to);\nif (!isWhole && !pending) {\npending = requestAnimat\
-ionFrame(() => {\npending = 0;\ndraw(true);\n});\n}\n}\nfunction drawNames(left, right) {\nconst { program } = shown.tree;\nconst moment = m\
-omentOf(shown.tree, shown.run.id, shown.at);\nconst list = [];\nfor (let t = left; t <= right; t++) {\nconst doing = doingOf(moment, t);\nco\
-nst name = threadName(program, t);\nconst isSelected = Boolean(shown.selected) && shown.selected.thread === t;\nconst number = program.names\
-.T[t] ? \" (t\" + t + \") \" : \" \";\nconst given = {\ntype: \"button\",\nvars: { left: placeOf(t) + \"px\", width: size.column + \"px\" },\
-\ntitle: name + number + DOING[doing] + \": why?\",\n\"aria-pressed\": String(isSelected),\n\"data-doing\": doing,\nonclick: () => select(t)\
-\n};\nconst cell = h(\n\"span.time-namecell\",\n{ role: \"columnheader\", \"aria-colindex\": t + 2 },\nh(\"button.time-name.\" + hueOf(t), g\
-iven, name)\n);\nlist.push(cell);\n}\nfill(names, h(\"span.time-corner\", { role: \"columnheader\", \"aria-colindex\": 1, \"aria-label\": \"\
-choice\" }), list);\n}\nfunction drawLanes(from, to, left, right) {\nconst until = performance.now() + BUDGET;\nconst { tree, run } = shown;\
-\nconst moments = [];\nlet isWhole = true;\nfor (let k = from; k <= to && isWhole; k++) {\nconst i = choiceAt(k);\nisWhole = hasMoment(tree, \
-run.id, i) || performance.now() < until || !moments.length;\nif (isWhole) moments.push(momentOf(tree, run.id, i));\n}\nconst list = [];\nfor \
-(let t = left; t <= right; t++) {\nfor (let k = 0, n; k < moments.length; k += n) {\nconst doing = doingOf(moments[k], t);\nconst isLater = \
-moments[k].i >= shown.at;\nconst isSame = one => one && doingOf(one, t) === doing && one.i >= shown.at === isLater;\nfor (n = 1; isSame(mome\
-nts[k + n]); n++);\nif (doing === \"over\" || doing === \"dead\") continue;\nconst isLast = k + n === moments.length && from + k + n === cou\
-nt();\nconst vars = {\nleft: placeOf(t) + \"px\",\ntop: (from + k + 0.5) * size.row + \"px\",\nheight: (n - (isLast ? 0.45 : 0)) * size.row \
-+ \"px\"\n};\nlist.push(h(\"i.lane.lane-\" + doing + \".\" + hueOf(t) + (isLater ? \".is-later\" : \"\"), { vars }));\n}\n}\nfill(lanes, lis\
-t);\nreturn isWhole;\n}\nfunction drawLines(from, to) {\nconst list = [];\nfor (let k = from; k <= to; k++) list.push(lineOf(k, choiceAt(k))\
-);\nfill(lines, list);\n}\nfunction lineOf(k, i) {\nconst event = eventTo(shown.run, i);\nconst isHere = i === shown.at;\nconst kinds = (\ni\
-sHere ? \".is-here\" : i > shown.at ? \".is-later\" : \"\"\n) + (shown.differs && i > shown.differs ? \".is-other\" : \"\");\nconst number = \
-h(\"span.line-number\" + (i ? \"\" : \".is-start\"), { role: \"rowheader\" }, i || \"start\");\nconst inside = [number];\nif (event) inside.\
-push(eventOf(event), event.mark ? markOf(event) : null);\nif (shown.isSide && shown.differs === i - 1 && i > 0) inside.push(h(\"span.line-pa\
-rt\", {}, \"they part here\"));\nconst given = {\nrole: \"row\",\n\"aria-rowindex\": i + 2,\n\"aria-current\": isHere ? \"step\" : null,\nva\
-rs: { top: k * size.row + \"px\" }\n};\nreturn h(\"div.line\" + kinds, given, inside);\n}\nfunction eventOf(event) {\nconst { program } = sh\
-own.tree;\nconst at = placeOf(event.thread);\nconst tag = tagOf(program, event, shown.isJava);\nconst name = threadName(program, event.threa\
-d);\nconst given = { role: \"cell\", \"aria-colindex\": event.thread + 2, \"aria-label\": name + \": \" + tag };\nif (at < view.left + size.\
-number - size.column || at > view.left + view.width) {\nconst sign = at < view.left + size.number ? \"\\u25C2 \" : \"\\u25B8 \";\nreturn h(\"\
-span.line-far.\" + hueOf(event.thread), given, sign + name + \" \" + tag);\n}\nconst isOnLeft = size.column < 5 * size.rem && at - view.left \
-> view.width * 0.6;\nconst kinds = \".event.event-\" + (\nevent.what === \"=\" ? \"value\" : event.what\n) + \".\" + hueOf(event.thread) + (\
-isOnLeft ? \".is-onleft\" : \"\");\nreturn h(\"span\" + kinds, { ...given, vars: { left: at + \"px\" } }, h(\"i.event-dot\"), h(\"span.event\
--tag\", {}, tag));\n}\nfunction markOf(event) {\nconst { program } = shown.tree;\nconst text = shortMark(program, event.mark);\nconst at = p\
-laceOf(event.thread);\nconst wide = (text.length * 0.47 + 1.3) * size.rem;\nconst own = (tagOf(program, event, shown.isJava).length * 0.55 + \
-2) * size.rem;\nconst hasRight = view.width - at - own > wide;\nconst side = size.isWide\n? \".is-left.is-under\"\n: hasRight ? \"\" : at - \
-size.number > wide ? \".is-left\" : \".is-under\";\nreturn h(\n\"span.mark\" + (event.mark.kind[0] === \"-\" ? \".mark-broke\" : \"\") + sid\
-e,\n{ role: \"note\" },\nh(\"span\", {}, text)\n);\n}\nfunction redraw() {\nif (!shown) return;\nmeasure();\nbody.style.height = bodyHeight(\
-) + \"px\";\ndraw(true);\n}\nreturn { element, show, redraw };\n}\nreturn { makeTimeline };\n})();\n// app/tree.js\nconst m42 = (() => {\nco\
-nst { endKind, endText, KIND_TEXT, outputText } = m2;\nconst { fill, h, who } = m3;\nconst { threadName } = m1;\nconst { inOrder, lengthOf } \
-= m19;\nfunction runName(tree, run) {\nif (run.parent < 0) return \"Run 1\";\nconst event = run.events.at(run.fork);\nconst old = tree.runs[\
-run.parent].events.at(run.fork);\nif (!event) return \"Run \" + (run.id + 1);\nconst name = threadName(tree.program, event.thread) + (event.\
-isLate ? \"\\u2019s time-out\" : \"\");\nreturn \"Run \" + (run.id + 1) + \": at \" + run.fork + \" \" + name + (\nold ? \", not \" + thread\
-Name(tree.program, old.thread) : \"\"\n);\n}\nfunction makeTree(walk) {\nconst element = h(\"div.tracks.scroll\", { role: \"list\", \"aria-l\
-abel\": \"Runs\" });\nfunction show({ tree, run, at, isQuiet }) {\nconst most = Math.max(1, ...tree.runs.map(lengthOf));\nconst part = i => \
-(100 * i) / most + \"%\";\nconst all = inOrder(tree);\nconst track = ({ run: one }, lane) => {\nconst isHere = one === run;\nconst begins = \
-one.parent < 0 ? 0 : one.fork;\nconst kind = endKind(one.end);\nconst event = one.events.at(one.fork);\nconst first = Math.min(begins + (one\
-.parent < 0 ? 0 : 1), lengthOf(one));\nconst name = {\ntype: \"button\",\n\"aria-current\": isHere ? \"true\" : null,\ntitle: runName(tree, \
-one) + (isQuiet ? \"\" : \" \\u2014 \" + endText(tree.program, one.end)),\nonclick: () => walk(one.id, isHere ? at : first)\n};\nconst said \
-= one.parent < 0 || !event\n? \" the run\"\n: [\" at \" + one.fork + \" \", who(tree.program, event.thread), event.isLate ? \" late\" : \"\"\
-];\nconst click = pressed => {\nconst box = pressed.currentTarget.getBoundingClientRect();\nconst i = Math.round(((pressed.clientX - box.lef\
-t) / box.width) * most);\nwalk(one.id, Math.max(begins, Math.min(lengthOf(one), i)));\n};\nconst up = lane - all.findIndex(other => other.ru\
-n.id === one.parent);\nreturn h(\n\"div.track\" + (isHere ? \".is-here\" : \"\"),\n{ role: \"listitem\" },\nh(\"button.track-name\", name, h\
-(\"b\", {}, one.id + 1), said),\nh(\n\"div.rail\",\n{ onclick: click },\nh(\n\"i.rail-bar.rail-\" + (isQuiet ? \"open\" : kind),\n{ vars: { \
-left: part(begins), width: part(lengthOf(one) - begins) } }\n),\none.parent >= 0 ? h(\"i.rail-fork\", { vars: { left: part(begins), \"--up\"\
-: up } }) : null,\nisHere ? h(\"i.rail-at\", { vars: { left: part(at) } }) : null\n),\nisQuiet ? h(\"span\") : h(\"span.end.end-\" + kind, { \
-title: outputText(tree.program, one.end) }, KIND_TEXT[kind])\n);\n};\nfill(element, all.map(track));\nconst here = element.querySelector(\".\
-is-here\");\nif (here) element.scrollTop = Math.max(0, here.offsetTop - element.clientHeight + here.offsetHeight + 2);\n}\nreturn { element, \
-show };\n}\nreturn { runName, makeTree };\n})();\n// app/values.js\nconst m43 = (() => {\nconst { h } = m3;\nconst { nameOf } = m0;\nconst { \
-hueOf, labelOf, phaseOf, rowText, thrown, threadName } = m1;\nconst { doingOf } = m17;\nconst DOES = {\nover: \"ended\",\ndead: \"died of\",\
-\nthrows: \"throws\",\nheld: \"can\\u2019t go on\",\nwaits: \"waits\",\nfree: \"may go on\",\nruns: \"runs\"\n};\nconst cell = (text, was) =\
-> h(\"td\" + (was !== undefined && String(was) !== String(text) ? \".is-new\" : \"\"), {}, text);\nfunction tableOf(caption, heads, rows) {\n\
-const head = h(\"thead\", {}, h(\"tr\", {}, heads.map(one => h(\"th\", { scope: \"col\" }, one))));\nreturn h(\"table.values-table\", {}, h(\
-\"caption\", {}, caption), head, h(\"tbody\", {}, rows));\n}\nconst rowHead = (text, kind = \"\") => h(\"th\" + kind, { scope: \"row\" }, te\
-xt);\nfunction entryOf(program, entry) {\nif (entry[0] === \"H\") return \"try \" + labelOf(program, Number(entry.slice(1)));\nif (entry[0] \
-=== \"C\") return \"call \" + entry.slice(1);\nreturn (entry[0] === \"A\" ? \"onAdvance \" : \"action \") + nameOf(\nprogram,\nentry[0] === \
-\"A\" ? \"P\" : \"B\",\nNumber(entry.slice(1))\n);\n}\nfunction threadsOf(program, moment, old) {\nconst { threads } = moment.state;\nconst \
-isUsed = r => program.rows.some(row => row.operands.includes(\"r\" + r)) ||\nthreads.some(one => one.registers[r]);\nconst used = [0, 1, 2, \
-3, 4, 5, 6, 7].filter(isUsed);\nconst row = (thread, t) => {\nconst was = old && old.threads[t];\nconst does = DOES[doingOf(moment, t)] + (t\
-hread.code === null ? \"\" : \" \" + thrown(thread.code));\nconst out = thread.out.slice(-6).join(\" \");\nreturn h(\n\"tr\",\n{},\nrowHead(\
-threadName(program, t), \".\" + hueOf(t)),\ncell(does + (thread.isInterrupted ? \", interrupted\" : \"\")),\nh(\"td\", {}, h(\"code\", {}, r\
-owText(program, program.rows[thread.row]))),\nused.map(r => cell(thread.registers[r], was ? was.registers[r] : undefined)),\ncell(out, was ? \
-was.out.slice(-6).join(\" \") : undefined),\ncell(thread.stack.map(one => entryOf(program, one)).join(\", \"))\n);\n};\nreturn tableOf(\n\"T\
-hreads\",\n[\"thread\", \"does\", \"row\", ...used.map(r => \"r\" + r), \"output\", \"stack\"],\nthreads.map(row)\n);\n}\nfunction phasersOf\
-(program, state, old) {\nconst phase = one => (one.view < 0 ? \"terminated in \" + phaseOf(one.view) : one.view);\nconst row = (one, p) => {\
-\nconst was = old ? old.phasers[p] : {};\nconst cells = [cell(phase(one), old ? phase(was) : undefined), cell(one.parties, was.parties)];\nr\
-eturn h(\n\"tr\",\n{},\nrowHead(nameOf(program, \"P\", p)),\ncells,\ncell(one.arrived, was.arrived),\ncell(one.missing, was.missing)\n);\n};\
-\nreturn tableOf(\"Phasers\", [\"phaser\", \"phase\", \"parties\", \"arrived\", \"missing\"], state.phasers.map(row));\n}\nfunction barriers\
-Of(program, state, old) {\nconst broken = one => (one.isBroken ? \"yes\" : \"no\");\nconst row = (one, b) => {\nconst was = old ? old.barrie\
-rs[b] : null;\nconst cells = [cell(program.barriers[b].parties), cell(one.waiting, was ? was.waiting : undefined)];\nreturn h(\"tr\", {}, ro\
-wHead(nameOf(program, \"B\", b)), cells, cell(broken(one), was ? broken(was) : undefined));\n};\nreturn tableOf(\"Barriers\", [\"barrier\", \
-\"parties\", \"waiting\", \"broken\"], state.barriers.map(row));\n}\nfunction cellsOf(program, state, old) {\nconst row = ([c, value]) => h(\
-\n\"tr\",\n{},\nrowHead(nameOf(program, \"C\", Number(c))),\ncell(value, old ? old.cells[c] || 0 : undefined)\n);\nreturn tableOf(\"Cells th\
-at aren\\u2019t 0\", [\"cell\", \"value\"], Object.entries(state.cells).map(row));\n}\nfunction valuesOf(program, moment, before) {\nconst { \
-state } = moment;\nconst old = before ? before.state : null;\nreturn [\nthreadsOf(program, moment, old),\nprogram.phasers.length ? phasersOf\
-(program, state, old) : null,\nprogram.barriers.length ? barriersOf(program, state, old) : null,\nObject.keys(state.cells).length ? cellsOf(\
-program, state, old) : null\n];\n}\nreturn { valuesOf };\n})();\n// app/app.js\nconst m44 = (() => {\nconst { endsBeside } = m4;\nconst { ch\
-eckOf, drawCheck } = m5;\nconst { endKind, endText } = m2;\nconst { button, byId, fill, h } = m3;\nconst { makeCommands } = m34;\nconst { it\
-emOf } = m21;\nconst { lessonCard } = m35;\nconst { addressOf, linkOf, MOST_LINK, readLink } = m20;\nconst { makeSheet } = m23;\nconst { ord\
-ersOf } = m37;\nconst { SEEDS } = m36;\nconst { listProgram } = m14;\nconst { isHeavy } = m16;\nconst { makeProgram } = m38;\nconst { challe\
-ngeCard, quizCard } = m26;\nconst { closeTree, eventTo, momentOf, lengthOf } = m19;\nconst { makeScene } = m39;\nconst { choicesOf, commonOf \
-} = m15;\nconst { drawStage } = m40;\nconst change = m33;\nconst { makeTimeline } = m41;\nconst { makeTree, runName } = m42;\nconst { values\
-Of } = m43;\nconst TYPING = 250;\nconst SAVING = 300;\nconst KEPT = 40;\nfunction makeApp(given) {\nlet state = change.firstState();\nlet wo\
-rking = null;\nlet typing = 0;\nlet typed = {};\nlet saving = 0;\nlet noteTimer = 0;\nconst past = new Map();\nlet entry = 0;\nconst sheet = \
-makeSheet();\nconst timeline = makeTimeline(i => set(change.at(state, i)), t => set(change.selectedThread(state, t)));\nconst second = makeT\
-imeline(\ni => set(change.walked(state, state.other, i)),\nt => set(change.selectedThread(state, t))\n);\nconst scene = makeScene({\nthread: \
-t => set(change.selectedThread(state, t)),\nphaser: p => set(change.selectedPhaser(state, p))\n});\nconst tree = makeTree((id, i) => set(cha\
-nge.walked(state, id, i)));\nconst program = makeProgram(\ntext => later({ text }),\nplan => later({ plan })\n);\nconst ends = h(\"div.ends\"\
-);\nconst tabs = { picture: \"Picture\", values: \"Values\", orders: \"Random orders\" };\nconst viewButton = name => button(tabs[name], () \
-=> setTab(name), { \"data-tab\": name });\nconst views = h(\n\"div.views\",\n{ role: \"group\", \"aria-label\": \"What the pane shows\" },\n\
-Object.keys(tabs).map(viewButton)\n);\nconst values = h(\"div.values.scroll\", { tabindex: 0 });\nconst orders = h(\"div.orders.scroll\", { \
-tabindex: 0 });\nconst side = button(\"Side by side\", () => setSide());\nconst only = button(\"Only run 1\", () => set(change.firstOnly(sta\
-te), true));\nfill(byId(\"time\"), h(\"div.time-two\", {}, timeline.element, second.element), ends);\nfill(byId(\"picture\"), views, scene.e\
-lement, values, orders);\nfill(byId(\"runs\"), tree.element, h(\"div.runs-tools\", {}, side, only));\nfunction set(next, isNew) {\nconst bef\
-ore = state;\nstate = next;\nif (before.text !== next.text || before.plan !== next.plan) {\nclearTimeout(typing);\ntyped = {};\n}\nif (befor\
-e.tree && next.tree && before.tree.program !== next.tree.program) closeTree(before.tree);\nif (isNew && before.tree) {\npast.set(entry, befo\
-re);\npast.delete(entry - KEPT);\nremember(\"replaceState\");\nentry++;\nremember(\"pushState\");\n}\ndraw();\n}\nfunction later(what) {\nty\
-ped = { ...typed, ...what };\nclearTimeout(typing);\ntyping = setTimeout(() => edit(typed.text ?? state.text, typed.plan ?? state.plan), TYP\
-ING);\n}\nasync function edit(text, plan) {\nconst isQuiz = state.mode === \"quiz\";\nconst played = await playedInWorker(text, plan, change\
-.scheduleIn(state.item, plan));\nif (played === null) return;\nset(change.edited(state, text, plan, played));\nif (isQuiz && !state.mistake) \
-setMode(\"quiz\");\n}\nasync function open(item, mode, isNew = true) {\nconst { program: text, plan } = item;\nconst played = await playedIn\
-Worker(text, plan, item.schedule);\nif (played === null) return;\nset(checked(change.opened(state, item, mode, played)), isNew);\nif (state.\
-mode === \"quiz\") playOrders();\nfitted();\n}\nfunction checked(next) {\nconst { page } = next.item;\nif (!page || next.mistake) return nex\
-t;\nreturn { ...next, check: checkOf(page, listProgram(next.text), next.tree.runs[0].trace) };\n}\nfunction openRun(run, isNew = true, isOfP\
-age = false) {\nconst item = { ...itemOf(run), isOfPage };\ngiven.menu.unshift(item);\nreturn open(item, \"explore\", isNew);\n}\nasync func\
-tion playedInWorker(text, plan, schedule = \"\") {\nif (!isHeavy(schedule || plan)) return undefined;\nconst played = await inWorker(\"plan\"\
-, { text, plan, schedule });\nreturn played && { ...played, choices: choicesOf(played.schedule) };\n}\nasync function inWorker(task, what) {\
-\nworking = { task, done: 0 };\nif (!state.tree) fill(byId(\"said\").lastChild, \"The machine plays the run.\");\ndraw();\ntry {\nreturn awa\
-it given.work.ask(task, what, done => {\nworking = { task, done };\nif (state.tab === \"orders\") drawOrders();\n});\n} catch (fault) {\nif \
-(fault.message === \"stopped\") return null;\nif (!fault.told) note(\"The worker stopped: \" + fault.message);\nreturn undefined;\n} finally \
-{\nworking = null;\ndraw();\n}\n}\nasync function playOrders() {\nconst { tree: asked } = state;\nconst found = await inWorker(\"orders\", { \
-text: asked.program.text, seeds: SEEDS });\nif (found && state.tree.program === asked.program) set(change.withOrders(state, found));\n}\nfun\
-ction stopWork() {\ngiven.work.stop();\nif (state.mode === \"quiz\" && !state.quiz) set(change.inMode(state, \"explore\"));\n}\nfunction set\
-Tab(tab) {\nset({ ...state, tab, pane: \"picture\" });\nif (tab === \"orders\" && !state.orders) playOrders();\n}\nfunction setMode(mode) {\n\
-set(change.inMode(state, mode));\nif (mode === \"quiz\" && !state.quiz) playOrders();\nfitted();\n}\nfunction setSide() {\nif (state.tree.ru\
-ns.length < 2) return note(\"There is only one run: choose another name first.\");\nset(change.sideBySide(state));\nfitted();\n}\nfunction c\
-hoose(token) {\ntry {\nconst isNew = change.runOf(state).choices[state.at] !== token;\nset(change.forked(state, state.at, token), isNew);\n} \
-catch (fault) {\nnote(fault.message);\n}\n}\nfunction fitted() {\nrequestAnimationFrame(() => {\ntimeline.redraw();\nsecond.redraw();\n});\n\
-}\nfunction note(...what) {\nfill(byId(\"note\"), what);\nbyId(\"note\").classList.add(\"is-shown\");\nclearTimeout(noteTimer);\nnoteTimer = \
-setTimeout(() => byId(\"note\").classList.remove(\"is-shown\"), 6000);\n}\nconst moment = i => momentOf(state.tree, state.id, i);\nfunction \
-draw() {\nif (!state.tree) return;\nconst { at } = state;\nconst run = change.runOf(state);\nconst { program: model } = state.tree;\nconst n\
-ow = moment(at);\nconst event = eventTo(run, at);\nconst title = model.title || state.item.title;\nObject.assign(document.body.dataset, { mo\
-de: state.mode, tab: state.tab, pane: state.pane });\ndocument.body.classList.toggle(\"is-refused\", Boolean(state.mistake));\ndocument.body\
-.classList.toggle(\"is-side\", Boolean(change.otherOf(state)));\ndocument.body.classList.toggle(\"is-alone\", state.isAlone);\ndocument.body\
-.classList.toggle(\"is-working\", Boolean(working));\nbyId(\"title\").textContent = title;\ndocument.title = title + \" \\u2014 Vuthgal\";\n\
-pressed(\"#modes button\", one => one.dataset.mode === state.mode);\npressed(\"#tabs button\", one => one.dataset.pane === state.pane);\npre\
-ssed(\".views button\", one => one.dataset.tab === state.tab);\nif (state.tab === \"picture\") scene.show({ tree: state.tree, run, at, momen\
-t: now, selected: state.selected });\ndrawStage(state, { choose, tryOut: token => tryOut(token) });\ndrawCheck(state);\nprogram.show(state, \
-now, event);\ndrawTime(run);\nif (state.tab === \"values\") fill(values, valuesOf(model, now, at ? moment(at - 1) : null));\nif (state.tab =\
-== \"orders\") drawOrders();\ntree.show({ tree: state.tree, run, at, isQuiet: state.mode === \"quiz\" || state.isHidden });\nside.disabled = \
-only.disabled = state.tree.runs.length < 2;\nside.setAttribute(\"aria-pressed\", String(Boolean(change.otherOf(state))));\ndrawCard(model, n\
-ow);\nclearTimeout(saving);\nsaving = setTimeout(keepLink, SAVING);\n}\nfunction pressed(which, isPressed) {\nfor (const one of document.que\
-rySelectorAll(which)) one.setAttribute(\"aria-pressed\", String(isPressed(one)));\n}\nfunction drawTime(run) {\nconst other = change.otherOf\
-(state);\nconst parts = other ? commonOf(run.choices, other.choices) : run.parent >= 0 ? run.fork : 0;\nconst { isJava, isFolded, selected, \
-zoom, tree: all } = state;\nconst isHidden = change.isLaterHidden(state);\nconst common = { tree: all, isJava, isFolded, selected, zoom, isH\
-idden, differs: parts, isSide: Boolean(other) };\nconst head = one => {\nconst end = h(\"span.end.end-\" + endKind(one.end), {}, isHidden ? \
-\"\" : endText(all.program, one.end));\nreturn other ? [h(\"b\", {}, runName(all, one)), end] : \"\";\n};\nsecond.element.hidden = !other;\n\
-timeline.show({ ...common, run, at: state.at, title: head(run) });\nif (other) second.show({ ...common, run: other, at: Math.min(state.at, l\
-engthOf(other)), title: head(other) });\nfill(ends, other && !isHidden ? endsBeside(all.program, run, other) : null);\n}\nfunction drawOrder\
-s() {\nconst act = { take: one => set(change.ordered(state, one), true), play: playOrders, stop: stopWork };\nfill(orders, ordersOf(state.tr\
-ee.program, state.orders, working, act));\n}\nfunction drawCard(model, now) {\nconst card = byId(\"card\");\ncard.hidden = state.mode === \"\
-explore\";\nif (state.mode === \"lesson\") fill(card, lessonCard(state.lesson, model, now, lessonActs));\nif (state.mode === \"quiz\") fill(\
-card, quizCard(state.quiz, model, quizActs));\nif (state.mode === \"challenge\") fill(\ncard,\nchallengeCard(change.challengeOf(state), { ag\
-ain: () => setMode(\"challenge\") })\n);\n}\nconst lessonActs = {\nstep: by => focused(() => set(change.lessonStep(state, by))),\nanswer: () \
-=> focused(() => set(change.lessonAnswer(state))),\nvote: (t, by) => set(change.voted(state, t, by)),\nchoose,\nshowFork: (i, token) => set(\
-change.forked({ ...state, id: 0 }, i, token), true),\ntab: setTab\n};\nconst quizActs = {\nanswer: option => focused(() => set(change.answer\
-ed(state, option))),\nshow: () => focused(() => set(change.shownOwn(state))),\nnext: () => focused(() => set(change.nextQuestion(state))),\n\
-again: () => setMode(\"quiz\"),\nstop: stopWork\n};\nfunction focused(what) {\nwhat();\nconst card = byId(\"card\");\n(\ncard.querySelector(\
-\".card-turn .main\") || card.querySelector(\".card-turn button\")\n)?.focus({ preventScroll: true });\n}\nfunction tryOut(preview) {\nif (c\
-hange.isVeiled(state) || state.preview === preview) return;\nstate = { ...state, preview };\ndrawStage(state, { choose, tryOut });\n}\nfunct\
-ion remember(how, hash) {\ntry {\nhistory[how]({ entry }, \"\", hash);\n} catch (_) {\npast.clear();\n}\n}\nconst linkNow = () => {\nconst { \
-text } = state.tree.program;\nconst address = addressOf(state.tree, change.runOf(state), state.at);\nif (isOfPage()) return \"#\" + address;\
-\nreturn linkOf({ text, plan: state.plan, name: state.item.name, address, mode: state.mode });\n};\nconst isOfPage = () => {\nconst { item, \
-mode, text, plan } = state;\nreturn item.isOfPage && mode === \"explore\" && text === item.program && plan === item.plan;\n};\nasync functio\
-n keepLink() {\nif (!state.tree || state.mistake) return;\nconst saved = state;\nconst hash = await linkNow();\nif (state === saved && hash.\
-length < MOST_LINK) remember(\"replaceState\", hash);\n}\nwindow.addEventListener(\"popstate\", event => {\nconst kept = event.state && past\
-.get(event.state.entry);\nif (!kept) return openLink();\npast.set(entry, state);\nentry = event.state.entry;\nstate = kept;\ndraw();\nfitted\
-();\n});\nasync function openLink() {\nlet link;\ntry {\nlink = await readLink(location.hash);\n} catch (fault) {\nnote(\"This link can\\u20\
-19t be read: \" + fault.message + \". A program that is here is shown.\");\nreturn false;\n}\nif (!link) return false;\nif (link.text === un\
-defined) {\nif (!state.tree) return false;\nset(change.addressed(state, link.address));\nreturn true;\n}\nconst known = given.menu.find(one \
-=> one.name === link.name);\nconst item = {\ngroup: \"Link\",\nname: link.name || \"link\",\ntitle: known ? known.title : \"From a link\",\n\
-program: link.text,\nplan: link.plan\n};\nconst isKnown = known && known.program === link.text;\nset(change.opened(state, isKnown ? { ...kno\
-wn, plan: link.plan } : item, \"explore\"));\nif (isKnown) state = { ...state, item: known };\nif (state.mistake) return true;\nif (link.mod\
-e === \"quiz\" || link.mode === \"challenge\") setMode(link.mode);\nelse set({ ...change.addressed(state, link.address), mode: link.mode });\
-\nfitted();\nreturn true;\n}\nconst app = {\nget: () => state,\nset,\nopen,\nopenRun,\nedit,\nopenLink,\nsetTab,\nsetMode,\nsetSide,\nchoose\
-,\nnote,\nlinkNow,\nplayOrders,\nstopWork,\nfitted,\nsheet,\nprogram\n};\nmakeCommands(app, given);\nreturn app;\n}\nreturn { makeApp };\n})\
-();\n// app/work.js\nconst m45 = (() => {\nconst { startMachine } = m14;\nconst { outcomesOf } = m36;\nconst { playedPlan } = m16;\nconst { \
-scheduleOf } = m15;\nconst packed = ({ choices, isCut, trace }) => ({ schedule: scheduleOf(choices), isCut, trace });\nconst TASKS = {\norde\
-rs: ({ text, seeds }, told) => outcomesOf(text, seeds, told),\nplan: ({ text, plan, schedule }) => packed(playedPlan(text, plan, schedule))\n\
-};\nfunction startWorker() {\nlet ready = null;\nself.onmessage = async ({ data }) => {\nif (data.machine) {\nready = startMachine(data.mach\
-ine);\nreturn;\n}\ntry {\nawait ready;\nself.postMessage({ answer: TASKS[data.task](data.given, done => self.postMessage({ done })) });\n} c\
-atch (fault) {\nself.postMessage({ fault: { message: fault.message, told: fault.told || \"\" } });\n}\n};\n}\nfunction makeWork(spawn, bytes\
-) {\nlet worker = null;\nlet current = null;\nfunction stop() {\nif (!current) return;\nworker.terminate();\nworker = null;\ncurrent.refuse(\
-new Error(\"stopped\"));\ncurrent = null;\n}\nfunction ask(task, given, told = () => {}) {\nstop();\nif (!worker) {\nworker = spawn();\nwork\
-er.postMessage({ machine: bytes });\n}\nreturn new Promise((answer, refuse) => {\ncurrent = { answer, refuse };\nworker.onmessage = ({ data \
-}) => {\nif (data.done !== undefined) return told(data.done);\ncurrent = null;\nif (data.fault) refuse(Object.assign(new Error(data.fault.me\
-ssage), data.fault));\nelse answer(data.answer);\n};\nworker.onerror = event => {\ncurrent = null;\nworker = null;\nrefuse(new Error(event.m\
-essage || \"the worker can\\u2019t be started\"));\n};\nworker.postMessage({ task, given });\n});\n}\nreturn { ask, stop };\n}\nreturn { sta\
-rtWorker, makeWork };\n})();\n// app/start.js\nconst m46 = (() => {\nconst { makeApp } = m44;\nconst { bareName, runIn, takePage } = m21;\nc\
-onst { byId } = m3;\nconst { startMachine, versionOf } = m14;\nconst { makeWork, startWorker } = m45;\nasync function unpacked(text) {\ncons\
-t zipped = Uint8Array.from(atob(text.trim()), sign => sign.charCodeAt(0));\nconst stream = new Blob([zipped]).stream().pipeThrough(new Decom\
-pressionStream(\"gzip\"));\nreturn new Response(stream).arrayBuffer();\n}\nfunction spawn() {\nconst address = URL.createObjectURL(new Blob(\
-[byId(\"script\").textContent], { type: \"text/javascript\" }));\nconst worker = new Worker(address);\nsetTimeout(() => URL.revokeObjectURL(\
-address), 10000);\nreturn worker;\n}\nfunction nameOfPage() {\ntry {\nreturn location.protocol === \"about:\" ? \"run\" : bareName(decodeURI\
-(location.pathname));\n} catch (_) {\nreturn \"run\";\n}\n}\nasync function startPage() {\nconst run = runIn(document, nameOfPage());\nconst \
-page = takePage();\nconst menu = JSON.parse(byId(\"programs\").textContent);\nconst bytes = await unpacked(byId(\"machine\").textContent);\n\
-await startMachine(bytes);\nconst app = makeApp({ menu, work: makeWork(spawn, bytes), page, version: versionOf() });\nif (run) await app.ope\
-nRun(run, false, true);\nconst isOpen = await app.openLink();\nif (!isOpen && !run) await app.open(menu[0], \"explore\", false);\nwindow.vut\
-hgal = { get: app.get, ready: performance.now() };\n}\nif (typeof document === \"undefined\") startWorker();\nelse {\nstartPage().catch(faul\
-t => {\nbyId(\"said\").dataset.kind = \"wrong\";\nbyId(\"said\").textContent = \"This browser can\\u2019t start the machine: \" + fault.mess\
-age;\n});\n}\nreturn {  };\n})();\n</script>\n</body>\n</html>\n";
+rd) mistake.near = nearest(word.text);\nreturn mistake;\n}\nreturn { nearest, mistakeOf };\n})();\n// app/arrivals.js\nconst m29 = (() => {\n\
+const { ARRIVES, operandOf, rootOf } = m0;\nconst { ownerOf } = m19;\nconst EVERY = 256;\nconst copyOf = fold => ({\ncame: fold.came.map(all \
+=> new Set(all)),\nwaits: new Map(fold.waits),\narrived: fold.arrived.map(list => list.slice()),\nended: fold.ended.map(list => list.slice()\
+)\n});\nconst emptyOf = program => ({\ncame: program.phasers.map(() => new Set()),\nwaits: new Map(),\narrived: program.phasers.map(() => []\
+),\nended: program.phasers.map(() => [])\n});\nfunction isArrival(row, event, isOfWait) {\nif (isOfWait || !row || !ARRIVES.has(row.word)) r\
+eturn false;\nreturn event.what === \"wait\" || event.what === \"enter\" || (\nevent.what === \"=\" && (event.value >= 0 || Boolean(event.ma\
+rk))\n);\n}\nfunction step(program, fold, event) {\nif (event.what === \"idle\" || event.row < 0) return;\nconst row = program.rows[event.ro\
+w];\nconst isOfWait = fold.waits.delete(event.thread);\nif (isArrival(row, event, isOfWait)) {\nconst p = operandOf(row, \"P\");\nfold.arriv\
+ed[p].push({ thread: event.thread, row: event.row });\nfold.came[p].add(event.thread);\n}\nif (event.what === \"wait\") fold.waits.set(event\
+.thread, event.row);\nif (!event.mark || event.mark.kind !== \"+p\") return;\nprogram.phasers.forEach((_, q) => {\nif (rootOf(program, q) !=\
+= event.mark.on) return;\nfold.ended[q] = fold.arrived[q];\nfold.arrived[q] = [];\n});\n}\nfunction arrivalsOf(tree, id, i) {\nconst run = o\
+wnerOf(tree, id, i);\nconst { folds } = run.kept;\nconst start = Math.min(Math.floor(i / EVERY), folds.length);\nconst fold = start ? copyOf\
+(folds[start - 1]) : emptyOf(tree.program);\nfor (let k = start * EVERY; k < i; k++) {\nstep(tree.program, fold, run.events.at(k));\nif ((k \
++ 1) % EVERY === 0 && folds.length < (k + 1) / EVERY) folds.push(copyOf(fold));\n}\nreturn fold;\n}\nreturn { isArrival, arrivalsOf };\n})()\
+;\n// app/reason.js\nconst m30 = (() => {\nconst { nameOf, operandOf, rootOf } = m0;\nconst { callOf, phaseOf, spread, strong } = m1;\nconst \
+{ arrivalsOf } = m29;\nconst { eventTo, momentOf } = m19;\nconst COUNTS = {\npparties: \"how many parties are registered now\",\nparrived: \"\
+how many parties have arrived in this phase\",\npunarr: \"how many parties are still to arrive\",\npphase: \"the number of the phase that go\
+es on\",\npterm: \"1 if it is terminated, else 0\",\ncwaiting: \"how many wait there now\",\ncparties: \"how many parties it has\",\ncbroken\
+: \"1 if it is broken, else 0\"\n};\nfunction phaserNumber(program, event, row, before, after) {\nconst p = operandOf(row, \"P\");\nconst na\
+me = nameOf(program, \"P\", p);\nconst was = before.state.phasers[p].view;\nconst is = after.state.phasers[p].view;\nif (event.value < 0 && \
+event.value === is) {\nreturn \"It is negative, since \" + name + \" is terminated: its last phase was \" + phaseOf(is) + \".\";\n}\nif (bef\
+ore.state.threads[event.thread].status === \"waits\" && event.value === was) {\nreturn event.value + \" is the phase of \" + name + \" now: \
+the phase for whose end it waited is over.\";\n}\nif (/^(parr|pdereg)$/.test(row.word) && event.value === was) {\nreturn event.value + \" is \
+the phase in which it arrived.\";\n}\nif (/^(preg|pbulk)$/.test(row.word) && event.value === was) {\nreturn event.value + \" is the phase fo\
+r which it registered.\";\n}\nif (row.word === \"paaa\" && event.mark && event.value === is) {\nreturn event.value + \" is the phase that be\
+gins: it was the last to arrive, so it didn\\u2019t have to wait.\";\n}\nif (/^pawait/.test(row.word) && event.value === was) {\nreturn even\
+t.value + \" is the phase of \" + name +\n\" now: the one that it named is over, so it didn\\u2019t have to wait.\";\n}\nreturn \"\";\n}\nfu\
+nction barrierNumber(program, event, row, before) {\nconst b = operandOf(row, \"B\");\nconst { parties } = program.barriers[b];\nconst came \
+= parties - event.value;\nconst waited = before.state.threads[event.thread].status === \"waits\";\nif (!/^cawait/.test(row.word) || came < 1\
+) return \"\";\nconst turn = event.value === 0 ? \"the last\" : came === 1 ? \"the first\" : \"number \" + came;\nreturn event.value + \": o\
+f \" + parties + \" it was \" + turn + \" to come\" + (\nwaited || !came ? \"\" : \", so it didn\\u2019t have to wait\"\n) + \".\";\n}\nfunc\
+tion throwReason(program, event, row, before) {\nconst p = operandOf(row, \"P\");\nconst b = operandOf(row, \"B\");\nconst thread = before.s\
+tate.threads[event.thread];\nif (event.isLate) return \"Nobody brought what it waited for before its time was up.\";\nif (\nevent.value === \
+3 && thread.isInterrupted\n) return \"Somebody had interrupted it: its interrupted status was set.\";\nif (b >= 0 && event.value === 4) {\nr\
+eturn \"The barrier \" + nameOf(program, \"B\", b) + \" broke while it waited, or was broken before it came.\";\n}\nif (p >= 0 && event.valu\
+e === 1 && /^(parr|pdereg|paaa)$/.test(row.word) && before.state.phasers[p].missing === 0) {\nconst name = nameOf(program, \"P\", p);\nretur\
+n \"No party of \" + name + \" is still to arrive, so there is no place for one more arrival.\";\n}\nreturn \"\";\n}\nfunction reasonOf(tree\
+, id, i) {\nconst { program } = tree;\nconst event = eventTo(tree.runs[id], i);\nif (!event || event.row < 0 || !/^(=|throw)$/.test(event.wh\
+at)) return \"\";\nconst row = program.rows[event.row];\nconst before = momentOf(tree, id, i - 1);\nif (event.what === \"throw\") return thr\
+owReason(program, event, row, before);\nif (COUNTS[row.word]) return event.value + \": \" + COUNTS[row.word] + \".\";\nif (operandOf(row, \"\
+P\") >= 0) return phaserNumber(program, event, row, before, momentOf(tree, id, i));\nif (operandOf(row, \"B\") >= 0) return barrierNumber(pr\
+ogram, event, row, before);\nreturn \"\";\n}\nfunction strayText(tree, id, i, p) {\nconst came = arrivalsOf(tree, id, i).came[p].size;\ncons\
+t parties = tree.program.everParties[p];\nif (came <= parties) return \"\";\nconst name = nameOf(tree.program, \"P\", p);\nconst its = \" fo\
+r its \" + parties + (parties === 1 ? \" party\" : \" parties\");\nreturn came + \" threads have arrived at \" + name + its + \": one was a \
+stray.\";\n}\nfunction strayOf(tree, id, i) {\nconst event = eventTo(tree.runs[id], i);\nconst p = event && event.row >= 0 ? operandOf(tree.\
+program.rows[event.row], \"P\") : -1;\nconst text = p < 0 ? \"\" : strayText(tree, id, i, p);\nreturn text === \"\" || strayText(tree, id, i \
+- 1, p) === text ? \"\" : text;\n}\nconst BACK = 400;\nfunction lastNumberOf(tree, run, i, t) {\nfor (let k = i; k > Math.max(0, i - BACK); \
+k--) {\nconst event = eventTo(run, k);\nif (event.thread !== t || !/^(=|throw)$/.test(event.what) || event.row < 0) continue;\nconst row = t\
+ree.program.rows[event.row];\nif (operandOf(row, \"P\") < 0 && operandOf(row, \"B\") < 0) continue;\nconst reason = reasonOf(tree, run.id, k\
+);\nconst call = callOf(tree.program, row, null);\nconst got = event.what === \"=\" ? \" returned \" : \" threw \";\nreturn reason ? [\"In c\
+hoice \" + k + \" \" + call + got, strong(event.value), \". \" + reason] : null;\n}\nreturn null;\n}\nconst namesOf = list => spread(list.ma\
+p(one => ({ thread: one.thread })));\nconst COUNTED = \"A phaser counts arrivals, and doesn\\u2019t ask who arrives. \";\nfunction arrivalsT\
+ext(tree, run, i, p) {\nconst { program } = tree;\nconst { arrived, ended } = arrivalsOf(tree, run.id, i);\nconst { state } = momentOf(tree, \
+run.id, i);\nconst name = nameOf(program, \"P\", p);\nconst one = state.phasers[p];\nconst view = phaseOf(state.phasers[rootOf(program, p)].\
+view);\nconst said = [\nstrong(name),\n\" is in phase \" + view + \" and has \" + one.parties + (one.parties === 1 ? \" party\" : \" parties\
+\") + \". \"\n];\nif (one.view < 0) said.splice(1, 1, \" is terminated. \");\nif (arrived[p].length) said.push(\n\"In this phase \",\n...nam\
+esOf(arrived[p]),\narrived[p].length > 1 ? \" have arrived. \" : \" has arrived. \"\n);\nif (ended[p].length) said.push(\"In the phase befor\
+e it was \", ...namesOf(ended[p]), \". \");\nconst stray = strayText(tree, run.id, i, p);\nif (stray) said.push(COUNTED + stray + \" Nobody \
+can know which.\");\nelse if (arrived[p].length || ended[p].length) {\nsaid.push(COUNTED + \"If one of them was surplus, nobody can know whi\
+ch.\");\n}\nreturn said;\n}\nreturn { reasonOf, strayOf, lastNumberOf, arrivalsText };\n})();\n// app/why.js\nconst m31 = (() => {\nconst { \
+ARRIVES, nameOf, operandOf, rootOf } = m0;\nconst { callOf, listed, phaseOf, spread, strong, thrown } = m1;\nconst { wouldText } = m24;\ncon\
+st { doingOf } = m17;\nconst reached = new WeakMap();\nfunction rowsFrom(program, start) {\nif (!reached.has(program)) reached.set(program, \
+new Map());\nconst known = reached.get(program);\nif (known.has(start)) return known.get(start);\nconst seen = new Set();\nconst open = [sta\
+rt];\nwhile (open.length) {\nconst at = open.pop();\nconst row = program.rows[at];\nif (!row || seen.has(at)) continue;\nseen.add(at);\ncons\
+t there = operandOf(row, \"L\");\nif (there >= 0) open.push(there);\nif (!/^(halt|jmp|ret|throw)$/.test(row.word)) open.push(at + 1);\n}\nco\
+nst rows = [...seen].sort((a, b) => a - b);\nknown.set(start, rows);\nreturn rows;\n}\nfunction startsOf(program, thread) {\nconst starts = \
+[thread.status === \"waits\" ? thread.row + 1 : thread.row];\nfor (const entry of thread.stack) {\nconst n = Number(entry.slice(1));\nif (en\
+try[0] === \"C\" || entry[0] === \"H\") starts.push(n);\nelse return program.rows.map((_, at) => at);\n}\nreturn starts;\n}\nfunction couldC\
+all(program, moment, t, isWanted) {\nconst thread = moment.state.threads[t];\nif (/ended|died/.test(thread.status)) return null;\nfor (const \
+start of startsOf(program, thread)) {\nfor (const at of rowsFrom(program, start)) if (isWanted(program.rows[at])) return program.rows[at];\n\
+}\nreturn null;\n}\nfunction missingIn(program, state, p) {\nconst out = [];\nconst look = q => {\nconst isOpen = child => state.phasers[chi\
+ld].parties > 0 && state.phasers[child].missing > 0;\nconst open = program.children[q].filter(isOpen);\nopen.forEach(look);\nconst own = sta\
+te.phasers[q].missing - open.length;\nif (own > 0) out.push({ phaser: q, count: own });\n};\nlook(rootOf(program, p));\nreturn out;\n}\ncons\
+t countText = count => (count === 1 ? \"one arrival is missing\" : count + \" arrivals are missing\");\nfunction missingText(program, missin\
+g, p) {\nreturn listed(\nmissing.map(one => countText(one.count) + (one.phaser === p ? \"\" : \" at \" + nameOf(program, \"P\", one.phaser))\
+)\n);\n}\nfunction findIn(program, moment, t, isWanted) {\nreturn program.threads.flatMap((_, n) => {\nconst found = n === t ? null : couldC\
+all(program, moment, n, isWanted);\nreturn found ? [[n, found]] : [];\n});\n}\nfunction runnersOf(program, moment, t, entry) {\nconst { thre\
+ads } = moment.state;\nreturn threads.flatMap((one, n) => (n !== t && one.stack.includes(entry) ? [[n, null]] : []));\n}\nconst once = list \
+=> list.filter(([n], k) => list.findIndex(([other]) => other === n) === k);\nfunction helpersOfPhaser(program, moment, t, p) {\nconst root = \
+rootOf(program, p);\nconst running = runnersOf(program, moment, t, \"A\" + root);\nconst isPlace = q => q >= 0 && rootOf(program, q) === roo\
+t && moment.state.phasers[q].missing > 0;\nconst { word } = program.rows[moment.state.threads[t].row];\nconst find = isWanted => findIn(prog\
+ram, moment, t, isWanted);\nconst helpers = [\n...running,\n...find(row => ARRIVES.has(row.word) && isPlace(operandOf(row, \"P\"))),\n...fin\
+d(row => row.word === \"pforce\" && rootOf(program, operandOf(row, \"P\")) === root)\n];\nconst isInterruptible = word === \"pawaiti\" || wo\
+rd === \"pawaitt\";\nif (isInterruptible) helpers.push(...find(row => row.word === \"intr\" && operandOf(row, \"T\") === t));\nreturn once(h\
+elpers);\n}\nfunction helpersOfBarrier(program, moment, t, b) {\nconst { threads } = moment.state;\nconst waitsHere = n => threads[n] && thr\
+eads[n].status === \"waits\" &&\noperandOf(program.rows[threads[n].row], \"B\") === b;\nconst find = isWanted => findIn(program, moment, t, \
+isWanted);\nreturn once([\n...runnersOf(program, moment, t, \"X\" + b),\n...find(row => /^cawait/.test(row.word) && operandOf(row, \"B\") ==\
+= b),\n...find(row => row.word === \"intr\" && waitsHere(operandOf(row, \"T\"))),\n...find(row => row.word === \"creset\" && operandOf(row, \
+\"B\") === b)\n]);\n}\nfunction releaseText(program, moment, helpers, isStuck) {\nconst said = (n, row) => (row ? callOf(program, row, null) \
+: \"it runs the routine\");\nconst call = ([n, row]) => [\n{ thread: n },\n\" (\" + said(n, row) + (doingOf(moment, n) === \"waits\" ? \", b\
+ut waits itself\" : \"\") + \")\"\n];\nif (!helpers.length) return [strong(\"Nobody is left who could\"), \": it waits for ever.\"];\nif (!i\
+sStuck) {\nconst more = helpers.length > 4 ? \" or others\" : \"\";\nconst names = spread(helpers.slice(0, 4).map(call), more ? \",\" : \"or\
+\").flat();\nreturn [...names, more + \" could release it.\"];\n}\nconst names = spread(helpers.slice(0, 4).map(([n]) => ({ thread: n })));\n\
+const wait = helpers.length > 1\n? \" could bring that, and they wait themselves: \"\n: \" could bring that, and waits itself: \";\nreturn [\
+strong(\"Only \"), ...names, wait, strong(\"for ever\"), \".\"];\n}\nfunction phaserText(program, moment, t, p) {\nconst { state } = moment;\
+\nconst missing = missingIn(program, state, p);\nconst text = [{ thread: t }, \" waits at \" + nameOf(program, \"P\", p) + \" for the end of \
+phase \"];\ntext.push(String(phaseOf(state.phasers[rootOf(program, p)].view)), \": \" + missingText(program, missing, p) + \". \");\nreturn \
+text;\n}\nfunction routineText(program, moment, t, p, b) {\nconst entry = p >= 0 ? \"A\" + rootOf(program, p) : \"X\" + b;\nconst runner = m\
+oment.state.threads.findIndex((thread, n) => n !== t && thread.stack.includes(entry));\nconst routine = p >= 0\n? \"onAdvance of \" + nameOf\
+(program, \"P\", rootOf(program, p))\n: \"the action of \" + nameOf(program, \"B\", b);\nif (runner < 0) return [{ thread: t }, \" can\\u201\
+9t go on yet.\"];\nreturn [\n{ thread: t },\n\" may not go: \",\n{ thread: runner },\n\" runs \" + routine + \", and this call has to wait u\
+ntil that is done.\"\n];\n}\nfunction goesText(program, moment, t, doing) {\nconst [head, ...rest] = wouldText(program, moment.next[t], mome\
+nt);\nconst isWho = head.thread === t;\nconst would = isWho ? [{ thread: t }, ...rest] : [head, ...rest];\nreturn [\n{ thread: t },\ndoing =\
+== \"free\" ? \" waited, and may go on. If it\\u2019s next: \" : \" may go. If it\\u2019s next: \",\n...would\n];\n}\nfunction waitText(prog\
+ram, moment, t, p, b, doing) {\nconst isStuck = moment.state.word === \"stuck\";\nif (doing === \"held\") return { text: routineText(program\
+, moment, t, p, b), helpers: [] };\nif (p >= 0) {\nconst text = phaserText(program, moment, t, p);\nconst helpers = helpersOfPhaser(program, \
+moment, t, p);\nreturn { text, helpers, release: releaseText(program, moment, helpers, isStuck) };\n}\nconst need = program.barriers[b].part\
+ies - moment.state.barriers[b].waiting;\nconst come = need === 1 ? \"one more has to come\" : need + \" more have to come\";\nconst helpers \
+= helpersOfBarrier(program, moment, t, b);\nconst text = [{ thread: t }, \" waits at \" + nameOf(program, \"B\", b) + \": \" + come + \". \"\
+];\nconst timed = Object.keys(moment.late).map(Number);\nconst others = timed.filter(n => n !== t && operandOf(program.rows[moment.state.thr\
+eads[n].row], \"B\") === b);\nconst breaks = others.length\n? [\"The time of \", { thread: others[0] }, \"\\u2019s wait may run out, which b\
+reaks the barrier. \"]\n: [];\nconst breaker = Object.values(moment.next).find(\nevent => event.mark && event.mark.kind === \"-b\" && event.\
+mark.on === b\n);\nif (breaker) breaks.push({ thread: breaker.thread }, \" breaks the barrier at its next turn. \");\nconst release = breaks\
+.length && !helpers.length ? [] : releaseText(program, moment, helpers, isStuck);\nreturn { text: [...text, ...breaks], helpers, release, is\
+Soon: breaks.length > 0 };\n}\nfunction whyOf(program, moment, t) {\nconst thread = moment.state.threads[t];\nconst doing = doingOf(moment, \
+t);\nif (doing === \"over\") return { thread: t, kind: \"over\", could: [], text: [{ thread: t }, \" has ended.\"] };\nif (doing === \"dead\"\
+) {\nconst text = [{ thread: t }, \" is dead: nothing caught \" + thrown(thread.code) + \".\"];\nreturn { thread: t, kind: \"dead\", could: \
+[], text };\n}\nif (moment.next[t]) {\nconst kind = doing === \"free\" ? \"free\" : \"runs\";\nreturn { thread: t, kind, could: [], text: go\
+esText(program, moment, t, doing) };\n}\nconst row = program.rows[thread.row];\nconst p = operandOf(row, \"P\");\nconst b = operandOf(row, \"\
+B\");\nif (p < 0 && b < 0) return { thread: t, kind: \"waits\", could: [], text: [{ thread: t }, \" can\\u2019t go on yet.\"] };\nconst { te\
+xt, helpers, release, isSoon } = waitText(program, moment, t, p, b, doing);\nconst isLate = Boolean(moment.late[t]);\nconst said = !release \
+|| (isLate && !helpers.length) ? text : [...text, ...release];\nif (isLate) said.push(\" Its time may run out.\");\nconst isStuck = moment.s\
+tate.word === \"stuck\" || (doing === \"waits\" && !helpers.length && !isLate && !isSoon);\nconst could = moment.state.word === \"stuck\" ? \
+[] : helpers.map(([n]) => n);\nreturn { thread: t, kind: isStuck ? \"stuck\" : \"waits\", could, text: said };\n}\nconst RANK = { stuck: 0, \
+waits: 1, free: 2, runs: 3, dead: 4, over: 5 };\nconst told = new WeakMap();\nfunction whysOf(program, moment) {\nif (!told.has(moment)) {\n\
+const all = program.threads.map((_, t) => whyOf(program, moment, t));\ntold.set(moment, all.sort((a, b) => RANK[a.kind] - RANK[b.kind]));\n}\
+\nreturn told.get(moment);\n}\nreturn { couldCall, whyOf, whysOf };\n})();\n// app/questions.js\nconst m32 = (() => {\nconst { callOf, liste\
+d, plain, rowText, strong, threadName, thrown } = m1;\nconst { endText, outputText } = m2;\nconst { planOf } = m16;\nconst { reasonOf } = m3\
+0;\nconst { eventTo, lengthOf, momentOf } = m19;\nconst { whyOf } = m31;\nconst LONGEST = 200;\nconst MOST_OPTIONS = 4;\nconst ASKED = /^(p|\
+c[awrb])/;\nconst PLAIN = /^(idle|ok|end|out|catch|unwind|none|limit)$/;\nfunction optionOf(program, event, isOfWait) {\nconst row = program\
+.rows[event.row];\nconst said = {\n\"=\": (isOfWait ? \"its wait ends: it returns \" : \"it returns \") + event.value,\nwait: \"it waits\",\n\
+throw: \"it throws \" + thrown(event.value, row),\ndie: \"it dies of \" + thrown(event.value, row),\nenter: \"it is the last, and enters the \
+routine\"\n};\nconst mark = event.mark && {\n\"+p\": event.mark.view < 0 ? \", and the phaser is terminated\" : \", and phase \" + event.mar\
+k.view + \" begins\",\n\"+b\": \", and the barrier trips\",\n\"-b\": \", and the barrier breaks\"\n};\nreturn said[event.what] + (mark ? mar\
+k[event.mark.kind] : \"\");\n}\nconst keyOf = (row, isOfWait) => row + (isOfWait ? \" wait\" : \"\");\nfunction happenedIn(program, outcomes\
+) {\nconst happened = new Map();\nfor (const one of outcomes) {\nconst waits = new Set();\nfor (const event of one.events) {\nif (event.row \
+< 0 || event.what === \"idle\") continue;\nconst isOfWait = waits.delete(event.thread);\nif (event.what === \"wait\") waits.add(event.thread\
+);\nif (PLAIN.test(event.what)) continue;\nconst key = keyOf(event.row, isOfWait);\nif (!happened.has(key)) happened.set(key, new Set());\nh\
+appened.get(key).add(optionOf(program, event, isOfWait));\n}\n}\nreturn happened;\n}\nfunction shuffled(list, seed) {\nconst keyed = list.ma\
+p((one, k) => [Math.sin(seed * 97 + k * 131 + one.length * 17) * 1e4 % 1, one]);\nreturn keyed.sort((a, b) => a[0] - b[0]).map(one => one[1]\
+);\n}\nfunction optionsOf(right, others, seed) {\nconst wrong = [...new Set(others)].filter(one => one !== right).slice(0, MOST_OPTIONS - 1)\
+;\nreturn wrong.length ? shuffled([right, ...wrong], seed) : null;\n}\nfunction reasonAt(tree, run, i) {\nconst reason = reasonOf(tree, run.\
+id, i);\nif (reason) return [reason];\nconst { what, thread } = eventTo(run, i);\nif (what !== \"wait\") return [\"The line below says what \
+happened.\"];\nconst { text } = whyOf(tree.program, momentOf(tree, run.id, i), thread);\nreturn text.slice(0, text.findIndex(part => typeof \
+part === \"string\" && part.endsWith(\". \")) + 1);\n}\nfunction callQuestion(tree, run, i, happened) {\nconst { program } = tree;\nconst ev\
+ent = run.events.at(i);\nconst row = program.rows[event.row];\nif (event.row < 0 || PLAIN.test(event.what) || !ASKED.test(row.word)) return \
+null;\nconst thread = momentOf(tree, run.id, i).state.threads[event.thread];\nconst isOfWait = thread.status === \"waits\";\nconst right = o\
+ptionOf(program, event, isOfWait);\nconst options = optionsOf(right, happened.get(keyOf(event.row, isOfWait)) || [], i + 1);\nif (!options) \
+return null;\nconst call = callOf(program, row, thread) || rowText(program, row);\nconst who = { thread: event.thread };\nconst ask = event.\
+isLate\n? [\"Choice \" + (i + 1) + \": the time of \", who, \"\\u2019s wait at \" + call + \" is up. What happens?\"]\n: isOfWait\n? [\"Choi\
+ce \" + (i + 1) + \": \", who, \" was waiting at \" + call + \". What happens?\"]\n: [\"Choice \" + (i + 1) + \": \", who, \" calls \" + cal\
+l + \". What happens?\"];\nreturn { at: i, leads: i + 1, ask, right, options, why: () => reasonAt(tree, run, i + 1) };\n}\nfunction whoQuest\
+ion(tree, run, i) {\nconst { program } = tree;\nconst event = run.events.at(i);\nif (event.what !== \"wait\" && !event.mark) return null;\nc\
+onst say = k => {\nconst names = Object.keys(momentOf(tree, run.id, k).next).map(t => threadName(program, Number(t)));\nreturn names.length \
+? listed(names) : \"nobody\";\n};\nconst near = [];\nfor (let k = Math.max(0, i - 4); k <= Math.min(lengthOf(run), i + 6); k++) near.push(sa\
+y(k));\nconst right = say(i + 1);\nconst options = optionsOf(right, near, i + 7);\nif (!options || options.length < 3) return null;\nconst m\
+oment = momentOf(tree, run.id, i + 1);\nconst why = () => {\nconst waits = program.threads.map((_, t) => t).filter(\nt => !moment.next[t] && \
+moment.state.threads[t].status === \"waits\"\n);\nreturn waits.length ? whyOf(program, moment, waits[0]).text : [\"Nobody waits.\"];\n};\nre\
+turn { at: i + 1, leads: i + 1, ask: [\"Who may go next, after choice \" + (i + 1) + \"?\"], right, options, why };\n}\nfunction ownQuestion\
+s(tree, run, i) {\nconst { program } = tree;\nconst { row } = run.events.at(i);\nconst isFirst = run.events.findIndex(event => event.row === \
+row && event.what !== \"idle\") === i;\nif (!isFirst) return [];\nconst asked = program.questions.filter(one => one.row === row);\nreturn as\
+ked.map(\none => ({ at: i, leads: i + 1, ask: [one.text], own: true, options: [], why: () => reasonAt(tree, run, i + 1) })\n);\n}\nfunction \
+endQuestion(tree, run, outcomes) {\nconst { program } = tree;\nconst say = end => {\nconst output = outputText(program, end);\nreturn endTex\
+t(program, end) + (output ? \" \\u2014 output: \" + output : \"\");\n};\nconst right = say(run.end);\nconst options = optionsOf(right, outco\
+mes.map(one => say(one.end)), 3);\nif (!options) return null;\nconst ask = [\"The order is \", strong(planOf(program, run.events, 24)), \". \
+How does it end?\"];\nreturn { at: 0, leads: lengthOf(run), ask, right, options, why: () => [\"It ends so: \", strong(right), \".\"] };\n}\n\
+function questionsOf(tree, run, outcomes) {\nconst happened = happenedIn(tree.program, outcomes);\nconst out = [];\nfor (let i = 0; i < Math\
+.min(lengthOf(run), LONGEST); i++) {\nout.push(...ownQuestions(tree, run, i), callQuestion(tree, run, i, happened), whoQuestion(tree, run, i\
+));\n}\nreturn [...out, endQuestion(tree, run, outcomes)].filter(Boolean);\n}\nconst askText = (program, question) => plain(program, questio\
+n.ask);\nreturn { questionsOf, askText };\n})();\n// app/state.js\nconst m33 = (() => {\nconst { endKind } = m2;\nconst { lessonOf } = m27;\n\
+const { walkTo, addressOf } = m20;\nconst { Refused } = m14;\nconst { mistakeOf } = m28;\nconst { playedPlan, readablePlan } = m16;\nconst { \
+questionsOf } = m32;\nconst { depthOf, firstAlone, forkRun, graftRun, inOrder, lengthOf, openProgram, plantTree } = m19;\nconst OWN = {\ngro\
+up: \"Yours\",\nname: \"own\",\ntitle: \"My own program\",\nplan: \"..\",\nprogram:\n\"; My own: two threads meet.\\n.phaser meet 2\\n.threa\
+d ann main\\n.thread bob main\\n\" +\n\"main: paaa r0 meet ; arriveAndAwaitAdvance\\n      out r0\\n      halt\\n\"\n};\nfunction firstState\
+() {\nreturn {\nitem: null,\ntext: \"\",\nplan: \"..\",\ntree: null,\nid: 0,\nat: 0,\nisCut: false,\nmistake: null,\nmode: \"explore\",\ntab\
+: \"picture\",\npane: \"time\",\nselected: null,\npreview: \"\",\norders: null,\nisJava: false,\nisHidden: false,\nisFolded: false,\nisAlone\
+: false,\nhasLetters: true,\nother: null,\nzoom: 1,\nlesson: null,\nquiz: null,\nchallenge: null,\ncheck: null\n};\n}\nconst runOf = state =\
+> state.tree.runs[state.id];\nconst otherOf = state => (\nstate.other === null || state.other === state.id ? null : state.tree.runs[state.ot\
+her] || null\n);\nfunction planted(state, program, text, plan, { choices, isCut, trace }) {\nconst tree = plantTree(program, choices, trace)\
+;\nconst next = { ...state, text, plan, tree, id: 0, isCut, mistake: null, orders: null };\nreturn { ...next, selected: null, preview: \"\", \
+other: null, challenge: null };\n}\nconst scheduleIn = (item, plan) => (item && plan === item.plan && item.schedule) || \"\";\nfunction edit\
+ed(state, text, plan, played) {\nconst isSamePlan = state.tree && plan === state.plan;\nconst place = isSamePlan ? addressOf(state.tree, run\
+Of(state), state.at) : String(state.at);\nlet next;\ntry {\nconst program = openProgram(text);\nnext = planted(state, program, text, plan, p\
+layed || playedPlan(text, plan, scheduleIn(state.item, plan)));\n} catch (fault) {\nif (!(fault instanceof Refused)) throw fault;\nreturn { \
+...state, text, plan, mistake: mistakeOf(fault, text) };\n}\nconst { tree, run, at } = walkTo(next.tree, place);\nnext = { ...next, tree, id\
+: run.id, at };\nreturn state.mode === \"lesson\" && state.lesson ? { ...next, lesson: begunLesson(next) } : next;\n}\nconst begunLesson = s\
+tate => ({\nlesson: lessonOf(state.item.name, state.tree.program, state.tree.runs[0]),\nstep: -1,\nisOpen: false,\nvotes: {}\n});\nfunction \
+opened(state, item, mode, played) {\nconst fresh = { ...state, item, at: 0, id: 0, tree: null, check: null, mode: \"explore\", quiz: null };\
+\nlet next = edited(fresh, item.program, item.plan, played);\nif (!next.tree) {\nconst stand = edited(fresh, OWN.program, OWN.plan);\nreturn \
+{ ...stand, text: item.program, plan: item.plan, mistake: next.mistake };\n}\nif (!next.mistake) next = { ...next, plan: readablePlan(next.t\
+ree.program, runOf(next), next.plan) };\nif (item.schedule) next = { ...next, item: { ...item, plan: next.plan } };\nnext = { ...next, lesso\
+n: begunLesson(next) };\nreturn inMode(next, mode || \"explore\");\n}\nfunction at(state, i) {\nreturn { ...state, at: Math.max(0, Math.min(\
+lengthOf(runOf(state)), i)), preview: \"\" };\n}\nfunction walked(state, id, i) {\nconst other = state.other === id ? state.id : state.other\
+;\nreturn at({ ...state, id, other }, i);\n}\nfunction forked(state, i, token) {\nconst { tree, run } = forkRun(state.tree, state.id, i, tok\
+en);\nconst isOn = runOf(state).choices[i] === token;\nreturn at({ ...state, tree, id: isOn ? state.id : run.id }, i + 1);\n}\nfunction addr\
+essed(state, address) {\nconst { tree, run, at: i } = walkTo(state.tree, address);\nreturn at({ ...state, tree, id: run.id }, i);\n}\nfuncti\
+on ordered(state, outcome) {\nconst { tree, run } = graftRun(state.tree, outcome.choices);\nconst from = run.parent < 0 ? 0 : run.fork + 1;\n\
+return at({ ...state, tree, id: run.id }, Math.min(from, lengthOf(run)));\n}\nfunction backToFork(state) {\nconst run = runOf(state);\nretur\
+n run.parent < 0 ? state : walked(state, run.parent, Math.min(run.fork, state.at));\n}\nfunction besideInTree(state, by) {\nconst list = inO\
+rder(state.tree).map(one => one.run);\nconst run = list[list.findIndex(one => one.id === state.id) + by];\nif (!run) return state;\nreturn w\
+alked(state, run.id, Math.max(state.at, run.parent < 0 ? 0 : run.fork + 1));\n}\nfunction madeFirst(state) {\nconst run = runOf(state);\nif \
+(run.parent < 0) return state;\nconst plan = readablePlan(state.tree.program, run, run.choices.join(\" \"));\nreturn at(planted(state, state\
+.tree.program, state.text, plan, { choices: run.choices, isCut: false }), state.at);\n}\nfunction firstOnly(state) {\nconst run = runOf(stat\
+e);\nconst i = run.parent < 0 ? state.at : Math.min(state.at, run.fork);\nreturn at({ ...state, tree: firstAlone(state.tree), id: 0, other: \
+null }, i);\n}\nfunction sideBySide(state) {\nif (state.other !== null) return { ...state, other: null };\nif (state.tree.runs.length < 2) r\
+eturn state;\nconst run = runOf(state);\nreturn { ...state, other: run.parent >= 0 ? run.parent : state.tree.runs.length - 1 };\n}\nfunction \
+selectedThread(state, thread) {\nconst isSame = state.selected && state.selected.thread === thread;\nreturn { ...state, selected: isSame ? n\
+ull : { thread }, tab: isSame ? state.tab : \"picture\" };\n}\nfunction selectedPhaser(state, phaser) {\nconst isSame = state.selected && st\
+ate.selected.phaser === phaser;\nreturn { ...state, selected: isSame ? null : { phaser } };\n}\nfunction inMode(state, mode) {\nconst next = \
+{ ...state, mode, pane: \"time\", preview: \"\", quiz: null, challenge: null };\nif (mode === \"quiz\") return quizOf(next);\nif (mode === \"\
+challenge\") {\nconst isStuck = endKind(state.tree.runs[0].end) === \"stuck\";\nreturn { ...at({ ...next, id: 0 }, 0), other: null, challeng\
+e: { goal: isStuck ? \"ended\" : \"stuck\" } };\n}\nreturn next;\n}\nfunction quizOf(state) {\nconst next = at({ ...state, id: 0, other: nul\
+l, tab: \"picture\" }, 0);\nif (!state.orders) return { ...next, quiz: null };\nconst list = questionsOf(state.tree, state.tree.runs[0], sta\
+te.orders.all);\nconst quiz = { list, k: 0, chosen: null, isOpen: false, right: 0, answered: 0 };\nreturn at({ ...next, quiz }, list.length \
+? list[0].at : 0);\n}\nfunction withOrders(state, orders) {\nconst next = { ...state, orders };\nreturn state.mode === \"quiz\" && !state.qu\
+iz ? quizOf(next) : next;\n}\nfunction answered(state, option) {\nconst { quiz } = state;\nconst question = quiz.list[quiz.k];\nif (!questio\
+n || quiz.chosen !== null) return state;\nconst right = quiz.right + (option === question.right ? 1 : 0);\nreturn at({ ...state, quiz: { ...\
+quiz, chosen: option, right, answered: quiz.answered + 1 } }, question.leads);\n}\nfunction shownOwn(state) {\nconst question = state.quiz.l\
+ist[state.quiz.k];\nreturn at({ ...state, quiz: { ...state.quiz, isOpen: true } }, question.leads);\n}\nfunction nextQuestion(state) {\ncons\
+t { quiz } = state;\nconst question = quiz.list[quiz.k + 1];\nconst next = { ...state, quiz: { ...quiz, k: quiz.k + 1, chosen: null, isOpen: \
+false } };\nreturn question ? at({ ...next, id: 0 }, question.at) : next;\n}\nfunction isVeiled(state) {\nconst { quiz } = state;\nif (state\
+.mode !== \"quiz\") return false;\nreturn !quiz || (Boolean(quiz.list[quiz.k]) && quiz.chosen === null && !quiz.isOpen);\n}\nfunction isLate\
+rHidden(state) {\nconst { quiz } = state;\nreturn state.isHidden || (state.mode === \"quiz\" && (!quiz || Boolean(quiz.list[quiz.k])));\n}\n\
+function lessonStep(state, by) {\nconst { lesson } = state.lesson;\nconst step = Math.max(-1, Math.min(lesson.steps.length, state.lesson.ste\
+p + by));\nconst place = lesson.steps[step] ? lesson.steps[step].at : 0;\nreturn at({ ...state, id: 0, lesson: { ...state.lesson, step, isOp\
+en: false, votes: {} } }, place);\n}\nfunction lessonAnswer(state) {\nconst one = state.lesson.lesson.steps[state.lesson.step];\nif (!one) r\
+eturn state;\nconst next = { ...state, lesson: { ...state.lesson, isOpen: true } };\nreturn one.next ? at(next, one.at + 1) : next;\n}\nfunc\
+tion voted(state, thread, by) {\nconst count = Math.max(0, (state.lesson.votes[thread] || 0) + by);\nreturn { ...state, lesson: { ...state.l\
+esson, votes: { ...state.lesson.votes, [thread]: count } } };\n}\nfunction challengeOf(state) {\nconst { goal } = state.challenge;\nconst ru\
+n = runOf(state);\nconst changes = depthOf(state.tree, run);\nconst isDone = changes > 0 && state.at === lengthOf(run) && endKind(run.end) =\
+== goal;\nreturn { goal, changes, isDone };\n}\nreturn { OWN, firstState, runOf, otherOf, scheduleIn, edited, opened, at, walked, forked, ad\
+dressed, ordered, backToFork, besideInTree, madeFirst, firstOnly, sideBySide, selectedThread, selectedPhaser, inMode, quizOf, withOrders, an\
+swered, shownOwn, nextQuestion, isVeiled, isLaterHidden, lessonStep, lessonAnswer, voted, challengeOf };\n})();\n// app/commands.js\nconst m\
+34 = (() => {\nconst { MOST_LINK } = m20;\nconst { button, byId, fill } = m3;\nconst { bareName, pageWith, readProgramFile, runIn, save } = \
+m21;\nconst { listenToKeys } = m22;\nconst { listProgram } = m14;\nconst { copySheet, mainMenu, programsMenu } = m23;\nconst { drawPaper } = \
+m25;\nconst { planOf } = m16;\nconst { optionAt } = m26;\nconst { lengthOf } = m19;\nconst { scheduleOf } = m15;\nconst change = m33;\nconst \
+ZOOM = 1.12;\nconst STORE = \"vuthgal\";\nfunction stored() {\ntry {\nreturn JSON.parse(localStorage.getItem(STORE)) || {};\n} catch (_) {\n\
+return {};\n}\n}\nfunction keep(more) {\ntry {\nlocalStorage.setItem(STORE, JSON.stringify({ ...stored(), ...more }));\nreturn true;\n} catc\
+h (_) {\nreturn false;\n}\n}\nfunction makeCommands(app, given) {\nconst settings = { speed: 1, theme: \"auto\", version: given.version };\n\
+let playing = 0;\nconst state = () => app.get();\nconst run = () => change.runOf(app.get());\nconst go = i => app.set(change.at(state(), i))\
+;\nfunction setZoom(zoom, isKept = true) {\nconst next = Math.max(0.7, Math.min(2.5, zoom));\ndocument.documentElement.style.setProperty(\"-\
+-zoom\", next);\nif (isKept) keep({ zoom: next });\nsetColumns();\nif (state().tree) app.set({ ...state(), zoom: next });\napp.fitted();\n}\n\
+const zoomBy = by => setZoom(state().zoom * by);\nfunction setTheme(theme) {\nsettings.theme = theme;\nif (theme === \"auto\") delete docume\
+nt.documentElement.dataset.theme;\nelse document.documentElement.dataset.theme = theme;\nkeep({ theme });\n}\nfunction setColumns() {\nconst \
+rem = parseFloat(getComputedStyle(document.documentElement).fontSize);\nconst isTwo = innerWidth > 900 && innerWidth / rem < 62;\nif (isTwo) \
+document.body.dataset.columns = \"2\";\nelse delete document.body.dataset.columns;\n}\nfunction play() {\nclearInterval(playing);\nconst ste\
+p = () => (state().at >= lengthOf(run()) ? play() : go(state().at + 1));\nplaying = playing ? 0 : setInterval(step, settings.speed * 1000);\n\
+if (playing) step();\n}\nasync function copy(text) {\ntry {\nawait navigator.clipboard.writeText(text);\napp.note(\"Copied.\");\n} catch (_) \
+{\napp.sheet.open(byId(\"more\"), \"Copy this\", copySheet(text));\nbyId(\"sheet\").querySelector(\"textarea\").select();\n}\n}\nasync funct\
+ion copyLink() {\nif (state().mistake) return app.note(\"The program is refused now, so there is no link to it. Mend it first.\");\nconst li\
+nk = location.href.split(\"#\")[0] + (await app.linkNow());\nif (link.length > MOST_LINK) return app.note(\"This program is too long for a l\
+ink. Save the page with the run.\");\nreturn copy(link);\n}\nfunction savePage() {\nconst { text: source } = state().tree.program;\nconst { \
+choices, trace } = run();\nconst texts = { listing: listProgram(source), source, schedule: scheduleOf(choices), trace };\nreturn save(state(\
+).item.name + \".html\", pageWith(given.page, texts), \"text/html\");\n}\nfunction copyCommand() {\nconst plan = planOf(state().tree.program\
+, run().events, Infinity);\ncopy(\"vuthgal show \" + state().item.name + \".asm --plan '\" + plan + \"' > \" + state().item.name + \".html\"\
+);\n}\nlet isSheet = false;\nfunction drawForPaper() {\nconst { tree, at, isJava, lesson, item } = state();\nconst asked = lesson ? lesson.l\
+esson.steps.map(one => one.ask) : [];\nconst title = (lesson && lesson.lesson.title) || tree.program.title || item.title;\ndrawPaper(byId(\"\
+paper\"), { tree, run: run(), at, isJava, title, asked }, isSheet);\n}\nfunction print(sheet) {\nisSheet = sheet;\nwindow.print();\n}\nwindo\
+w.addEventListener(\"beforeprint\", () => state().tree && drawForPaper());\nwindow.addEventListener(\"afterprint\", () => {\nisSheet = false\
+;\nfill(byId(\"paper\"));\n});\nfunction startAgain() {\nconst { text, plan, item } = state();\napp.open(item, state().mode);\nif (text !== \
+item.program) app.note(\"As it was at first. \", button(\"Undo\", () => app.edit(text, plan)));\n}\nfunction openOwn() {\nconst { own } = st\
+ored();\napp.open(own && own.program ? { ...change.OWN, ...own } : change.OWN, \"explore\");\n}\nfunction keepOwn() {\nconst { text, plan } \
+= state();\nconst isKept = keep({ own: { program: text, plan } });\napp.note(\nisKept ? \"Kept in this browser: \\u201CMy own program\\u201D\
+.\" : \"This browser keeps nothing. Save the program.\"\n);\n}\nasync function openFile(file) {\nconst text = await file.text();\nconst name \
+= bareName(file.name);\nif (/\\.html?$/i.test(file.name)) {\nconst found = runIn(new DOMParser().parseFromString(text, \"text/html\"), name)\
+;\nreturn found ? app.openRun(found) : app.note(\"There is no run in this page.\");\n}\nreturn app.open({ group: \"Yours\", name, title: fil\
+e.name, ...readProgramFile(text) }, \"explore\");\n}\nbyId(\"pick\").onclick = () => {\nconst act = {\nopen: item => app.open(item, item.gro\
+up === \"Lessons\" && state().mode === \"explore\" ? \"lesson\" : state().mode),\nown: openOwn,\nkeep: keepOwn,\nfile: openFile\n};\napp.she\
+et.open(byId(\"pick\"), \"Programs\", programsMenu(app.sheet, given.menu, state().item, act));\n};\nconst acts = {\nset: (name, value) => {\n\
+if (name === \"hasLetters\") keep({ letters: value });\napp.set({ ...state(), [name]: value });\napp.fitted();\n},\nspeed: speed => (setting\
+s.speed = speed),\ntheme: setTheme,\nplay,\nagain: startAgain,\nside: app.setSide,\nmakeFirst: () => (run().parent < 0 ? app.note(\"This is \
+run 1.\") : app.set(change.madeFirst(state()), true)),\nonlyFirst: () => app.set(change.firstOnly(state()), true),\nlarger: () => zoomBy(ZOO\
+M),\nsmaller: () => zoomBy(1 / ZOOM),\nhandout: () => print(false),\nworksheet: () => print(true),\ncopyLink,\ncopyPlan: () => copy(planOf(s\
+tate().tree.program, run().events, Infinity)),\ncopySchedule: () => copy(scheduleOf(run().choices)),\ncopyCommand,\nsaveTrace: () => save(st\
+ate().item.name + \".trace\", run().trace),\nsaveProgram: () => save(state().item.name + \".asm\", state().text),\nsavePage\n};\nbyId(\"more\
+\").onclick = () => app.sheet.open(byId(\"more\"), \"Menu\", mainMenu(app.sheet, state(), settings, acts));\nbyId(\"again\").onclick = start\
+Again;\nbyId(\"first\").onclick = () => go(0);\nbyId(\"back\").onclick = () => go(state().at - 1);\nbyId(\"forth\").onclick = () => go(state\
+().at + 1);\nbyId(\"last\").onclick = () => go(lengthOf(run()));\nbyId(\"smaller\").onclick = () => zoomBy(1 / ZOOM);\nbyId(\"larger\").oncl\
+ick = () => zoomBy(ZOOM);\nfor (const one of document.querySelectorAll(\"#modes button\")) one.onclick = () => app.setMode(one.dataset.mode)\
+;\nfor (const one of document.querySelectorAll(\"#tabs button\")) {\none.onclick = () => {\napp.set({ ...state(), pane: one.dataset.pane });\
+\napp.fitted();\n};\n}\nconst moves = {\nArrowRight: () => go(state().at + 1),\nPageDown: () => go(state().at + 1),\nArrowLeft: () => go(sta\
+te().at - 1),\nPageUp: () => go(state().at - 1),\nHome: () => go(0),\nEnd: () => go(lengthOf(run()))\n};\nconst letters = {\n\" \": play,\n\"\
++\": () => zoomBy(ZOOM),\n\"=\": () => zoomBy(ZOOM),\n\"-\": () => zoomBy(1 / ZOOM),\n0: () => setZoom(1),\n\"[\": () => app.set(change.besi\
+deInTree(state(), -1)),\n\"]\": () => app.set(change.besideInTree(state(), 1)),\np: () => app.setTab(\"picture\"),\nv: () => app.setTab(\"va\
+lues\"),\no: () => app.setTab(\"orders\"),\nf: () => acts.set(\"isAlone\", !state().isAlone),\ne: () => {\napp.set({ ...state(), pane: \"cod\
+e\", isAlone: false });\napp.program.focus();\n},\ns: app.setSide\n};\nconst keys = {\nkeys: moves,\nnumber: n => byId(\"next\").querySelect\
+orAll(\".chip\")[n - 1]?.click(),\nletter: sign => {\nconst option = state().mode === \"quiz\" ? optionAt(state().quiz, sign) : null;\nif (o\
+ption !== null) app.set(change.answered(state(), option));\nelse if (letters[sign]) letters[sign]();\nreturn option !== null || Boolean(lett\
+ers[sign]);\n},\nescape: field => {\nif (app.sheet.isOpen()) return app.sheet.close(true);\nif (field) return field.blur();\nif (state().isA\
+lone) return acts.set(\"isAlone\", false);\nreturn app.set(change.backToFork(state()));\n},\nprint: () => (isSheet = false)\n};\nlistenToKey\
+s(keys, () => state().hasLetters);\nwindow.addEventListener(\"resize\", () => {\nsetColumns();\napp.fitted();\n});\nconst kept = stored();\n\
+if (kept.theme) setTheme(kept.theme);\nif (kept.letters === false) app.set({ ...state(), hasLetters: false });\nsetColumns();\nif (kept.zoom\
+) {\ndocument.documentElement.style.setProperty(\"--zoom\", kept.zoom);\napp.set({ ...state(), zoom: kept.zoom });\nsetColumns();\n}\n}\nret\
+urn { makeCommands };\n})();\n// app/lesson.js\nconst m35 = (() => {\nconst { button, h } = m3;\nconst { hueOf, threadName } = m1;\nfunction \
+votesOf(program, moment, votes, act) {\nconst able = Object.keys(moment.next).map(Number);\nconst most = Math.max(0, ...able.map(t => votes[\
+t] || 0));\nconst first = able.filter(t => (votes[t] || 0) === most && most > 0);\nconst name = t => threadName(program, t);\nconst one = t \
+=> {\nconst count = votes[t] || 0;\nconst given = {\ntype: \"button\",\ntitle: \"A click counts up, Shift+click down\",\n\"aria-label\": nam\
+e(t) + \", \" + count + (count === 1 ? \" vote\" : \" votes\"),\nonclick: event => act.vote(t, event.shiftKey ? -1 : 1),\noncontextmenu: eve\
+nt => {\nevent.preventDefault();\nact.vote(t, -1);\n}\n};\nreturn h(\"button.vote.\" + hueOf(t), given, h(\"span\", {}, name(t)), h(\"b\", {\
+}, count));\n};\nconst play = button(first.length === 1 ? \"Play \" + name(first[0]) : \"Play\", () => act.choose(\"t\" + first[0]), {\nkind\
+: \".main\",\ndisabled: first.length !== 1\n});\nreturn [\nh(\"p.card-small\", {}, \"Votes: who is next?\"),\nh(\"div.votes\", {}, able.map(\
+one), play)\n];\n}\nfunction answerOf(one, act) {\nconst run = one.fork ? button(\"Show this run\", () => act.showFork(...one.fork), { kind: \
+\".card-show\" }) : null;\nconst tab = one.tab ? button(\"Random orders\", () => act.tab(one.tab), { kind: \".card-show\" }) : null;\nreturn \
+[h(\"p.card-small\", {}, \"Answer\"), h(\"p.card-answer\", {}, one.answer, run, tab)];\n}\nfunction dotsOf(step, count) {\nconst label = ste\
+p < 0 ? \"start\" : step >= count ? \"end\" : \"question \" + (step + 1) + \" of \" + count;\nconst dot = (_, k) => h(\"i.dot\" + (k === ste\
+p ? \".is-here\" : k < step ? \".is-done\" : \"\"));\nreturn h(\"span.dots\", { role: \"img\", \"aria-label\": label }, Array.from({ length: \
+count }, dot));\n}\nfunction edgeOf(lesson, step, act) {\nconst isStart = step < 0;\nconst count = lesson.steps.length;\nconst text = isStar\
+t\n? \"Step through the run first. Let the class say what each choice does, before you step.\"\n: \"Ask for the quiz, or change a row, and l\
+ook again.\";\nconst next = isStart && count ? button(\"First question\", () => act.step(1), { kind: \".main\" }) : null;\nconst back = isSt\
+art ? null : button(\"Back\", () => act.step(-1));\nconst head = isStart ? \"Aim\" : \"To remember\";\nreturn [\nh(\"div.card-ask\", {}, h(\"\
+p.card-small\", {}, head), h(\"p.card-large\", {}, isStart ? lesson.aim : lesson.last)),\nh(\"div.card-reply\", {}, h(\"p.card-small\", {}, \
+isStart ? lesson.title : \"End of the lesson\"), h(\"p\", {}, text)),\nh(\"div.card-turn\", {}, dotsOf(step, count), next, back)\n];\n}\nfun\
+ction lessonCard({ lesson, step, isOpen, votes }, program, moment, act) {\nconst one = lesson.steps[step];\nconst count = lesson.steps.lengt\
+h;\nif (!one) return edgeOf(lesson, step, act);\nconst reply = isOpen\n? answerOf(one, act)\n: one.votes ? votesOf(program, moment, votes, a\
+ct) : h(\"p.card-small\", {}, \"\\u00a0\");\nconst next = isOpen\n? button(step + 1 < count ? \"Next question\" : \"End\", () => act.step(1)\
+, { kind: \".main\" })\n: button(\"Answer\", act.answer, { kind: \".main\" });\nreturn [\nh(\n\"div.card-ask\",\n{},\nh(\"p.card-small\", {}\
+, \"Question \" + (step + 1) + \" of \" + count),\nh(\"p.card-large\", {}, one.ask)\n),\nh(\"div.card-reply\", {}, reply),\nh(\"div.card-tur\
+n\", {}, dotsOf(step, count), button(\"Back\", () => act.step(-1)), next)\n];\n}\nreturn { lessonCard };\n})();\n// app/outcomes.js\nconst m\
+36 = (() => {\nconst { playRun } = m14;\nconst { choicesOfPlan } = m16;\nconst { openProgram } = m19;\nconst { scheduleOf } = m15;\nconst { \
+readTrace } = m17;\nconst SEEDS = 300;\nconst LONGEST = 2000;\nconst outcomeKey = end => JSON.stringify([end.word, end.threads.map(one => [o\
+ne.status, one.code, one.out])]);\nfunction outcomesOf(text, seeds, told = () => {}) {\nconst program = openProgram(text);\nconst found = ne\
+w Map();\nfor (let seed = 1; seed <= seeds; seed++) {\nconst plan = \"?\" + seed + \"*\" + LONGEST;\nconst { choices } = choicesOfPlan(progr\
+am.text, plan);\nconst { events: read, end } = readTrace(playRun(program.text, scheduleOf(choices)));\nconst events = [...read];\nconst key \
+= outcomeKey(end);\nconst one = found.get(key) || { key, count: 0, plan, end, choices, events };\nfound.set(key, one);\none.count++;\nif (ch\
+oices.length < one.choices.length) Object.assign(one, { plan, choices, events, end });\nif (seed % 10 === 0) told(seed);\n}\nreturn { tried: \
+seeds, all: [...found.values()].sort((a, b) => b.count - a.count) };\n}\nreturn { SEEDS, outcomeKey, outcomesOf };\n})();\n// app/orders.js\n\
+const m37 = (() => {\nconst { endKind, endText, outputText } = m2;\nconst { button, h } = m3;\nconst { SEEDS } = m36;\nconst { planOf } = m1\
+6;\nconst SHOWN = 40;\nfunction outcomeOf(program, one, most, take) {\nconst output = outputText(program, one.end);\nreturn h(\n\"button.out\
+come.outcome-\" + endKind(one.end),\n{ type: \"button\", onclick: () => take(one), title: \"Show this run\" },\nh(\"span.outcome-count\", {}\
+, one.count),\nh(\"span.meter\", { vars: { \"--part\": one.count / most } }, h(\"i\")),\nh(\n\"span.outcome-said\",\n{},\nh(\"b\", {}, endTe\
+xt(program, one.end)),\nh(\"span\", {}, output ? \"output: \" + output : \"no output\"),\nh(\"code\", {}, planOf(program, one.events, 8))\n)\
+\n);\n}\nfunction ordersOf(program, orders, working, act) {\nif (working) {\nreturn [\nh(\"p.hint\", { role: \"status\" }, working.done + \" \
+of \" + SEEDS + \" random orders are played.\"),\nh(\"span.meter\", { vars: { \"--part\": working.done / SEEDS } }, h(\"i\")),\nbutton(\"Sto\
+p\", act.stop)\n];\n}\nif (!orders) {\nreturn [\nh(\n\"p.hint\",\n{},\n\"Plays \" + SEEDS + \" random orders of this program, and groups the\
+m by how they end and what they put out.\"\n),\nbutton(\"Play \" + SEEDS + \" random orders\", act.play, { kind: \".main\" })\n];\n}\nconst \
+most = Math.max(...orders.all.map(one => one.count));\nconst said = orders.all.length === 1\n? \"one outcome.\"\n: orders.all.length + \" ou\
+tcomes. Click one to see such a run.\";\nconst rest = orders.all.length - SHOWN;\nreturn [\nh(\"p.hint\", {}, orders.tried + \" random order\
+s: \" + said),\nh(\"div.outcomes\", {}, orders.all.slice(0, SHOWN).map(one => outcomeOf(program, one, most, act.take))),\nrest > 0 ? h(\"p.h\
+int\", {}, rest + \" more outcomes\") : null\n];\n}\nreturn { ordersOf };\n})();\n// app/program.js\nconst m38 = (() => {\nconst { DIRECTIVE\
+S, KINDS } = m0;\nconst { byId, fill, h } = m3;\nconst { hueOf, javaText, threadName } = m1;\nconst LONG = 20000;\nconst MARGIN = 2;\nconst \
+OPTIONS = /^(parent|phase|never|until|onadvance|action)$/;\nfunction kindOf(word) {\nif (word.endsWith(\":\")) return \"label\";\nif (DIRECT\
+IVES.includes(word)) return \"directive\";\nif (KINDS[word]) return \"word\";\nif (OPTIONS.test(word)) return \"option\";\nreturn /^(r[0-7]|\
+-?\\d+)$/.test(word) ? \"register\" : \"object\";\n}\nfunction coloured(line) {\nconst cut = line.indexOf(\";\");\nconst code = cut < 0 ? li\
+ne : line.slice(0, cut);\nconst parts = code.split(/(\\s+)/).map(part => (part.trim() ? h(\"span.code-\" + kindOf(part), {}, part) : part));\
+\nconst talk = cut < 0 ? null : h(\"span.code-\" + (line[cut + 1] === \"?\" ? \"asked\" : \"talk\"), {}, line.slice(cut));\nreturn [...parts\
+, talk];\n}\nfunction makeProgram(changed, planned) {\nconst margin = h(\"div.code-margin\", { \"aria-hidden\": \"true\" });\nconst copy = h\
+(\"pre.code-copy\", { \"aria-hidden\": \"true\" });\nconst marks = h(\"div.code-marks\", { \"aria-hidden\": \"true\" });\nconst bubble = h(\"\
+div.code-bubble\", { role: \"status\", \"aria-live\": \"polite\", id: \"mistake\", hidden: true });\nconst plainly = { spellcheck: \"false\"\
+, autocapitalize: \"off\", autocomplete: \"off\" };\nconst text = h(\"textarea.code-typed\", {\n...plainly,\nwrap: \"off\",\n\"aria-label\": \
+\"Program. It is played again as you type\",\n\"aria-describedby\": \"mistake\",\noninput: () => {\ngrow();\npaint();\nchanged(text.value);\n\
+}\n});\nconst sheet = h(\"div.code-sheet\", {}, margin, h(\"div.code-over\", {}, marks, copy, text, bubble));\nconst scroll = h(\"div.scroll\
+.code-scroll\", {}, sheet);\nconst plan = h(\"input.plan-typed\", {\n...plainly,\ntype: \"text\",\nid: \"plan\",\n\"aria-describedby\": \"pl\
+anhelp\",\ntitle: \"ann. is ann until she waits or ends, ann is one turn, .. is all until the end, ?7 a random order\",\noninput: () => plan\
+ned(plan.value)\n});\nconst help = h(\"span.plan-help\", { role: \"status\", id: \"planhelp\" });\nfill(byId(\"code\"), scroll, h(\"div.plan\
+\", {}, h(\"label\", { for: \"plan\" }, \"Plan\"), plan, help));\nlet shown = null;\nfunction grow() {\nconst lines = text.value.split(\"\\n\
+\");\nsheet.style.setProperty(\"--lines\", lines.length + 1);\nsheet.style.setProperty(\"--columns\", lines.reduce((most, line) => Math.max(\
+most, line.length), 20) + 2);\n}\nfunction paint() {\nfill(copy, text.value.split(\"\\n\").map((line, n) => h(\"span\", {}, coloured(line), \
+javaOf(n), \"\\n\")));\n}\nfunction javaOf(line) {\nif (!shown || !shown.isJava || shown.mistake) return null;\nconst row = shown.tree.progr\
+am.lineOf.indexOf(line);\nreturn row < 0\n? null\n: h(\"span.code-java\", {}, \"  \" + javaText(shown.tree.program, shown.tree.program.rows[\
+row]));\n}\nfunction show(what, moment, event) {\nconst isOther = text.value !== what.text;\nconst wasJava = shown && shown.isJava;\nconst i\
+sMended = Boolean(shown && shown.mistake) !== Boolean(what.mistake);\nshown = what;\nif (isOther) {\ntext.value = what.text;\nscroll.scrollT\
+op = 0;\n}\nshowPlan(what.plan);\nif (isOther || !copy.firstChild || wasJava !== what.isJava || (what.isJava && isMended)) {\ngrow();\npaint\
+();\n}\nshowPlaces(moment, event);\nshowMistake(what.mistake);\n}\nfunction showPlan(written) {\nconst isLong = written.length > LONG;\nplan\
+.placeholder = isLong ? \"the schedule of this page\" : \"\";\nif (plan !== document.activeElement && plan.value !== written) plan.value = i\
+sLong ? \"\" : written;\n}\nfunction showPlaces(moment, event) {\nfill(margin);\nfill(marks);\nif (shown.mistake && shown.mistake.isProgram) \
+return;\nconst { program } = shown.tree;\nconst at = new Map();\nmoment.state.threads.forEach((thread, t) => {\nif (/ended|died/.test(thread\
+.status)) return;\nconst line = program.lineOf[thread.row];\nat.set(line, [...(at.get(line) || []), t]);\n});\nconst sign = (t, list) => {\n\
+const room = list.length > MARGIN ? 1 : list.length > 1 ? 2 : 4;\nreturn h(\"i.place.\" + hueOf(t), { title: threadName(program, t) }, threa\
+dName(program, t).slice(0, room));\n};\nconst places = ([line, list]) => {\nconst some = list.length > MARGIN ? list.slice(0, 1) : list;\nco\
+nst more = list.length > some.length ? h(\"i.place\", {}, \"+\" + (list.length - 1)) : null;\nreturn h(\"span.places\", { vars: { \"--line\"\
+: line } }, some.map(t => sign(t, list)), more);\n};\nfill(margin, [...at].map(places));\nconst line = event && event.row >= 0 ? program.lin\
+eOf[event.row] : -1;\nif (line < 0) return;\nfill(marks, h(\"span.code-now\", { vars: { \"--line\": line } }));\nif (document.activeElement \
+!== text) requestAnimationFrame(() => bringIn(line));\n}\nfunction bringIn(line) {\nconst high = text.offsetHeight / (text.value.split(\"\\n\
+\").length + 1);\nconst top = line * high;\nconst isIn = top >= scroll.scrollTop && top + high * 2 <= scroll.scrollTop + scroll.clientHeight\
+;\nif (!isIn) scroll.scrollTop = Math.max(0, top - scroll.clientHeight / 2);\n}\nfunction showMistake(mistake) {\nconst isPlan = Boolean(mis\
+take) && !mistake.isProgram;\nbubble.hidden = !mistake || isPlan;\ntext.setAttribute(\"aria-invalid\", String(!bubble.hidden));\nplan.setAtt\
+ribute(\"aria-invalid\", String(isPlan));\nhelp.textContent = isPlan ? mistake.means + \".\" + (mistake.helps ? \" \" + mistake.helps + \".\" \
+: \"\") : \"\";\nif (bubble.hidden) return;\nconst line = mistake.line === null ? 0 : mistake.line - 1;\nmarks.append(h(\"span.code-bad\", { \
+vars: { \"--line\": line } }));\nif (mistake.word) {\nconst [from, to] = mistake.word;\nmarks.append(\nh(\"span.code-wave\", { vars: { \"--l\
+ine\": line, \"--from\": from, \"--wide\": Math.max(1, to - from) } })\n);\n}\nbubble.style.setProperty(\"--line\", line);\nconst where = mi\
+stake.line === null ? \"\" : \"Line \" + mistake.line + \": \";\nconst mend = h(\"button.code-mend\", { type: \"button\", onclick: () => men\
+ded(mistake) }, mistake.near);\nconst helps = mistake.near ? [\" Did you mean \", mend, \"?\"] : mistake.helps ? \" \" + mistake.helps + \".\
+\" : \"\";\nfill(bubble, h(\"b\", {}, where, mistake.means + \".\"), helps);\n}\nfunction mended(mistake) {\nconst lines = text.value.split(\
+\"\\n\");\nconst line = lines[mistake.line - 1];\nlines[mistake.line - 1] = line.slice(0, mistake.word[0]) + mistake.near + line.slice(mista\
+ke.word[1]);\ntext.value = lines.join(\"\\n\");\ngrow();\npaint();\nchanged(text.value);\ntext.focus();\n}\nreturn { show, focus: () => text\
+.focus() };\n}\nreturn { makeProgram };\n})();\n// app/scene.js\nconst m39 = (() => {\nconst { arrivalsOf } = m29;\nconst { fill, fly, h, pu\
+lse, s, shown } = m3;\nconst { nameOf, operandOf, rootOf } = m0;\nconst { hueOf, phaseOf, threadName } = m1;\nconst { arrivalsText, lastNumb\
+erOf } = m30;\nconst { eventTo } = m19;\nconst { doingOf } = m17;\nconst { whyOf, whysOf } = m31;\nconst MANY = 12;\nconst SHOWN = 24;\nfunc\
+tion makeScene(act) {\nconst edges = s(\"svg.edges\", { \"aria-hidden\": \"true\" });\nconst cards = h(\"div.cards\");\nconst crowd = h(\"di\
+v.crowd\");\nconst whys = h(\"ul.whys\", { \"aria-label\": \"Who waits, and for whom\" });\nconst space = h(\"div.space\", {}, edges, cards, \
+crowd);\nconst label = \"Phasers, barriers and threads\";\nconst element = h(\"div.scene.scroll\", { tabindex: 0, role: \"group\", \"aria-la\
+bel\": label }, space, whys);\nlet last = null;\nnew ResizeObserver(() => drawEdges(space, edges)).observe(space);\nfunction show(what) {\nc\
+onst before = last;\nlast = what;\nconst isStep = before && before.tree.program === what.tree.program && before.run === what.run &&\nbefore.\
+at + 1 === what.at;\nfly(space, () => draw(what));\ndrawEdges(space, edges);\nif (isStep) move(space, what.tree.program, eventTo(what.run, w\
+hat.at));\n}\nfunction draw(what) {\nconst { program } = what.tree;\nconst { state } = what.moment;\nconst things = program.phasers.length + \
+program.barriers.length;\nconst scene = {\n...what,\nprogram,\nstate,\nseated: new Set(),\nfold: arrivalsOf(what.tree, what.run.id, what.at)\
+,\nkeepsRoom: program.threads.length <= 8 && things <= 2,\nact\n};\nconst roots = program.phasers.flatMap((one, p) => (one.parent < 0 ? [p] \
+: []));\nfill(cards, roots.map(p => branchOf(scene, p)), program.barriers.map((_, b) => barrierCard(scene, b)));\ncards.classList.toggle(\"i\
+s-stuck\", state.word === \"stuck\");\nelement.classList.toggle(\"is-roomy\", program.threads.length + things <= 8);\nfill(crowd, crowdOf(sc\
+ene));\ndrawWhys(scene);\n}\nfunction drawWhys({ program, moment, selected, tree, run, at }) {\nconst all = whysOf(program, moment);\nconst \
+isTold = one => /stuck|waits|free|dead/.test(one.kind);\nconst chosen = selected && selected.thread !== undefined ? whyOf(program, moment, s\
+elected.thread) : null;\nconst lines = [];\nif (selected && selected.phaser !== undefined) {\nlines.push(h(\"li.why.is-selected\", {}, shown\
+(program, arrivalsText(tree, run, at, selected.phaser))));\n}\nif (chosen) {\nconst number = lastNumberOf(tree, run, at, chosen.thread);\nco\
+nst more = number ? h(\"span.why-number\", {}, shown(program, number)) : null;\nlines.push(h(\"li.why.is-selected.why-\" + chosen.kind, {}, \
+h(\"span\", {}, shown(program, chosen.text)), more));\n}\nconst rest = all.filter(one => isTold(one) && (!chosen || one.thread !== chosen.th\
+read));\nfor (const one of rest.slice(0, SHOWN)) lines.push(h(\"li.why.why-\" + one.kind, {}, shown(program, one.text)));\nif (rest.length > \
+SHOWN) lines.push(h(\"li.why\", {}, \"and \" + (rest.length - SHOWN) + \" more\"));\nif (!lines.length) lines.push(\nh(\"li.why.why-hint\", \
+{}, \"Nobody waits. Click a thread or a phaser: its line stands here.\")\n);\nfill(whys, lines);\nfor (const t of chosen ? chosen.could : []\
+) {\nspace.querySelector('[data-fly=\"t' + t + '\"]')?.classList.add(\"is-able\");\n}\n}\nreturn { element, show };\n}\nfunction tokenOf({ p\
+rogram, moment, selected, act }, t, kind = \"\") {\nconst doing = doingOf(moment, t);\nconst isSelected = Boolean(selected) && selected.thre\
+ad === t;\nconst given = {\ntype: \"button\",\n\"data-fly\": \"t\" + t,\n\"aria-pressed\": String(isSelected),\ntitle: threadName(program, t\
+) + \": why?\",\nonclick: () => act.thread(t)\n};\nreturn h(\"button.token.\" + hueOf(t) + \".token-\" + doing + kind, given, threadName(pro\
+gram, t));\n}\nconst standsAt = ({ program, state }, t, kind) =>\nstate.threads[t].status === \"waits\" ? operandOf(program.rows[state.threa\
+ds[t].row], kind) : -1;\nfunction visitorsOf(scene, label, list) {\nif (!list.length && !scene.keepsRoom) return null;\nconst more = list.le\
+ngth > 16 ? \"+\" + (list.length - 16) : null;\nconst said = list.length ? h(\"span\", {}, label) : null;\nreturn h(\"div.visitors\", {}, sa\
+id, list.slice(0, 16).map(t => tokenOf(scene, t, \".is-visitor\")), more);\n}\nfunction seatOf(scene, p, k, taken, who) {\nconst { program, \
+seated, moment } = scene;\nif (k >= taken) return h(\"span.seat\", { role: \"img\", \"aria-label\": \"an arrival is missing\" });\nconst t = \
+who[k] ? who[k].thread : undefined;\nconst isHere = t !== undefined && !seated.has(t) && standsAt(scene, t, \"P\") === p && doingOf(moment, \
+t) === \"waits\";\nif (isHere) {\nseated.add(t);\nreturn h(\"span.seat.is-full\", {}, tokenOf(scene, t));\n}\nif (t === undefined) return h(\
+\"span.seat.is-full.is-gone\", { title: \"arrived\" }, \"\\u2713\");\nconst name = threadName(program, t);\nreturn h(\n\"span.seat.is-full.i\
+s-gone\",\n{ title: name + \" arrived, and went on\" },\nh(\"span.seat-been.\" + hueOf(t), {}, \"\\u2713 \" + name)\n);\n}\nfunction phaserC\
+ard(scene, p) {\nconst { program, state, fold, seated, moment, selected, act } = scene;\nconst one = state.phasers[p];\nconst isRoot = progr\
+am.phasers[p].parent < 0;\nconst kids = program.children[p].filter(child => state.phasers[child].parties > 0);\nconst kidsIn = kids.filter(c\
+hild => state.phasers[child].missing === 0);\nconst taken = Math.max(0, one.arrived - kidsIn.length);\nconst own = Math.max(0, one.parties - \
+kids.length);\nconst who = taken ? fold.arrived[p].slice(-taken) : [];\nconst kid = child => {\nconst given = { \"data-child\": child };\nre\
+turn h(\"span.seat.seat-child\" + (kidsIn.includes(child) ? \".is-full\" : \"\"), given, nameOf(program, \"P\", child));\n};\nconst seats = \
+kids.map(kid);\nif (own > MANY) seats.push(h(\"span.meter\", { vars: { \"--part\": taken / own } }, h(\"i\")));\nelse for (let k = 0; k < ow\
+n; k++) seats.push(seatOf(scene, p, k, taken, who));\nconst visitors = program.threads.map((_, t) => t).filter(t => !seated.has(t) && stands\
+At(scene, t, \"P\") === p);\nvisitors.forEach(t => seated.add(t));\nconst isOver = one.view < 0;\nconst name = nameOf(program, \"P\", p);\nc\
+onst phase = isOver ? \"terminated\" : h(\"span\", {}, \"phase \", h(\"b\", {}, phaseOf(one.view)));\nconst isSaid = isRoot || one.view !== \
+state.phasers[rootOf(program, p)].view;\nconst isSelected = Boolean(selected) && selected.phaser === p;\nconst given = {\ntype: \"button\",\n\
+\"aria-pressed\": String(isSelected),\ntitle: name + \": who arrived?\",\nonclick: () => act.phaser(p)\n};\nconst head = h(\n\"p.thing-head\"\
+,\n{},\nh(\"button.thing-name\", given, name),\nisSaid ? h(\"span.thing-phase\", {}, phase) : null,\nh(\"span.thing-count\", {}, one.parties \
+? one.arrived + \" of \" + one.parties : \"empty\")\n);\nconst label = visitors.some(t => doingOf(moment, t) === \"free\") ? \"released\" : \
+\"waiting\";\nconst kinds = (isOver ? \".is-terminated\" : \"\") + (isRoot ? \"\" : \".is-child\");\nconst group = { \"data-phaser\": p, rol\
+e: \"group\", \"aria-label\": \"Phaser \" + name };\nreturn h(\"div.thing.phaser\" + kinds, group, head, h(\"div.seats\", {}, seats), visito\
+rsOf(scene, label, visitors));\n}\nfunction branchOf(scene, p) {\nconst kids = scene.program.children[p];\nconst card = phaserCard(scene, p)\
+;\nreturn h(\"div.branch\", {}, card, kids.length ? h(\"div.kids\", {}, kids.map(child => branchOf(scene, child))) : null);\n}\nfunction bar\
+rierCard(scene, b) {\nconst { program, state, seated, moment } = scene;\nconst { isBroken, waiting } = state.barriers[b];\nconst { parties } \
+= program.barriers[b];\nconst name = nameOf(program, \"B\", b);\nconst here = program.threads.map((_, t) => t).filter(t => standsAt(scene, t\
+, \"B\") === b);\nconst inside = here.filter(t => doingOf(moment, t) === \"waits\");\nconst freed = here.filter(t => doingOf(moment, t) !== \
+\"waits\");\nconst keeps = isBroken ? [] : [...inside, ...freed].slice(0, waiting);\nconst out = here.filter(t => !keeps.includes(t));\nhere\
+.forEach(t => seated.add(t));\nconst seats = [];\nif (parties > MANY) seats.push(h(\"span.meter\", { vars: { \"--part\": waiting / parties } \
+}, h(\"i\")));\nelse {\nfor (let k = 0; k < parties; k++) {\nconst missing = { role: \"img\", \"aria-label\": \"one has to come\" };\nseats.\
+push(k < keeps.length ? h(\"span.seat.is-full\", {}, tokenOf(scene, keeps[k])) : h(\"span.seat\", missing));\n}\n}\nconst head = h(\n\"p.thi\
+ng-head\",\n{},\nh(\"b.thing-name\", {}, name),\nh(\"span.thing-phase\", {}, isBroken ? \"broken\" : \"barrier\"),\nh(\"span.thing-count\", \
+{}, waiting + \" of \" + parties)\n);\nconst group = { \"data-barrier\": b, role: \"group\", \"aria-label\": \"Barrier \" + name };\nconst g\
+ateway = h(\"div.gateway\", {}, h(\"div.seats\", {}, seats), gateOf(isBroken));\nconst visitors = visitorsOf(scene, isBroken ? \"will throw\" \
+: \"released\", out);\nreturn h(\"div.thing.barrier\" + (isBroken ? \".is-broken\" : \"\"), group, head, gateway, visitors);\n}\nfunction ga\
+teOf(isBroken) {\nconst whole = [\"M16 10V52\", \"M26 10V52\", \"M36 10V52\", \"M46 10V52\"];\nconst bars = isBroken ? [\"M14 12L22 40\", \"\
+M23 9L40 26\", \"M30 48L47 32\", \"M44 8L50 18\"] : whole;\nconst given = { viewBox: \"0 0 62 60\", role: \"img\", \"aria-label\": isBroken \
+? \"a broken gate\" : \"a gate\" };\nconst rail = isBroken ? null : s(\"path.gate-rail\", { d: \"M5 16H57M5 46H57\" });\nreturn s(\n\"svg.ga\
+te\",\ngiven,\ns(\"path.gate-post\", { d: \"M5 4V56M57 4V56\" }),\nrail,\nbars.map(d => s(\"path.gate-bar\", { d }))\n);\n}\nfunction crowdO\
+f(scene) {\nconst { program, state, moment, seated } = scene;\nconst rest = program.threads.map((_, t) => t).filter(t => !seated.has(t));\nc\
+onst isOver = t => /over|dead/.test(doingOf(moment, t));\nconst member = t => {\nconst { out, isInterrupted } = state.threads[t];\nconst out\
+put = out.length ? h(\"span.crowd-output\", { title: \"its output\" }, out.slice(-4).join(\" \")) : null;\nconst flag = isInterrupted\n? h(\"\
+span.crowd-flag\", { title: \"interrupted\", role: \"img\", \"aria-label\": \"interrupted\" }, \"\\u26A1\\uFE0E\")\n: null;\nreturn h(\"span\
+.crowd-one\", {}, tokenOf(scene, t), output, flag);\n};\nconst group = (label, list) => {\nif (!list.length) return null;\nconst more = list\
+.length > SHOWN ? \"and \" + (list.length - SHOWN) + \" more\" : null;\nreturn h(\"div.crowd-group\", {}, h(\"span.crowd-label\", {}, label)\
+, list.slice(0, SHOWN).map(member), more);\n};\nreturn [group(\"on the way\", rest.filter(t => !isOver(t))), group(\"over\", rest.filter(isO\
+ver))];\n}\nfunction drawEdges(space, edges) {\nif (!space.querySelector(\".is-child\")) return fill(edges);\nconst frame = space.getBoundin\
+gClientRect();\nconst list = [];\nfor (const card of space.querySelectorAll(\".thing.is-child\")) {\nconst parent = card.closest(\".kids\").\
+previousElementSibling;\nconst seat = parent.querySelector('[data-child=\"' + card.dataset.phaser + '\"]');\nconst from = card.getBoundingCl\
+ientRect();\nconst to = (seat || parent).getBoundingClientRect();\nconst x1 = from.left + from.width / 2 - frame.left;\nconst y1 = from.top \
+- frame.top;\nconst x2 = to.left + to.width / 2 - frame.left;\nconst y2 = to.bottom - frame.top;\nconst middle = (y1 + y2) / 2;\nconst kind \
+= !seat ? \"loose\" : seat.classList.contains(\"is-full\") ? \"full\" : \"open\";\nlist.push(s(\"path.edge-\" + kind, { d: `M${x1} ${y1}C${x\
+1} ${middle} ${x2} ${middle} ${x2} ${y2}` }));\n}\nedges.setAttribute(\"width\", frame.width);\nedges.setAttribute(\"height\", frame.height)\
+;\nfill(edges, list);\n}\nfunction move(space, program, event) {\nif (event.mark) {\nconst isBarrier = event.mark.kind[1] === \"b\";\nconst \
+things = isBarrier\n? [...space.querySelectorAll('[data-barrier=\"' + event.mark.on + '\"]')]\n: [...space.querySelectorAll(\"[data-phaser]\"\
+)].filter(\ncard => rootOf(program, Number(card.dataset.phaser)) === event.mark.on\n);\nconst shakes = [{ transform: \"rotate(-1.2deg)\" }, \
+{ transform: \"rotate(1deg)\" }, { transform: \"none\" }];\nconst grows = [{ transform: \"scale(1.05)\", boxShadow: \"0 0 0 .4rem var(--go)\" \
+}, { transform: \"none\" }];\nfor (const thing of things) pulse(thing, event.mark.kind === \"-b\" ? shakes : grows);\n}\nif (/^(throw|die)$/\
+.test(event.what)) {\nconst shift = x => ({ transform: \"translateX(\" + x + \"rem)\" });\npulse(\nspace.querySelector('[data-fly=\"t' + eve\
+nt.thread + '\"]'),\n[shift(-0.4), shift(0.4), shift(-0.2), shift(0)]\n);\n}\n}\nreturn { makeScene };\n})();\n// app/stage.js\nconst m40 = \
+(() => {\nconst { endKind, endText, outputText } = m2;\nconst { byId, fill, h, shown } = m3;\nconst { hueOf, threadName } = m1;\nconst { rea\
+sonOf, strayOf } = m30;\nconst { eventTo, lengthOf, momentOf } = m19;\nconst { refusedText, sentenceOf, wouldText } = m24;\nconst { isVeiled\
+, runOf } = m33;\nconst eventOf = (moment, token) => (token[0] === \"x\" ? moment.late : moment.next)[Number(token.slice(1))];\nfunction sai\
+dOf(state) {\nconst { tree, at, mistake } = state;\nconst run = runOf(state);\nconst { program } = tree;\nif (mistake) {\nconst where = mist\
+ake.isProgram\n? \"The program has a mistake\" + (mistake.line ? \" in line \" + mistake.line : \"\")\n: \"The plan has a mistake\";\nreturn \
+{ badge: \"!\", kind: \"wrong\", parts: [where + \". The run below is the last that could be played.\"] };\n}\nconst moment = momentOf(tree, \
+run.id, at);\nconst tried = state.preview && eventOf(moment, state.preview);\nif (tried) return {\nbadge: \"?\",\nkind: \"would\",\nparts: [\
+\"If it\\u2019s next: \", ...wouldText(program, tried, moment)]\n};\nconst { word } = moment.state;\nconst kind = { stuck: \"stuck\", all: \"\
+ended\" }[word] || \"\";\nconst end = { stuck: \" Stuck: no thread can ever go on.\", all: \" All threads are over.\" }[word] || \"\";\ncons\
+t isRefused = run.refused && at === lengthOf(run);\nconst verdict = isRefused ? \" \" + refusedText(run.refused, at + 1) : end;\nif (!at) re\
+turn {\nbadge: 0,\nkind,\nverdict,\nparts: [program.about || \"Each thread is at its first row. Who goes first?\"]\n};\nconst parts = senten\
+ceOf(program, eventTo(run, at), momentOf(tree, run.id, at - 1), moment);\nconst reasons = isVeiled(state) ? [] : [reasonOf(tree, run.id, at)\
+, strayOf(tree, run.id, at)];\nconst reason = reasons.filter(Boolean).join(\" \");\nreturn { badge: at, kind, verdict, parts, reason };\n}\n\
+function drawSaid(state) {\nconst { badge, kind, parts, verdict, reason } = saidOf(state);\nbyId(\"said\").dataset.kind = kind;\nconst end = \
+verdict ? h(\"strong.said-verdict\", {}, verdict) : null;\nconst why = reason ? h(\"span.said-reason\", {}, \" \" + reason) : null;\nfill(\n\
+byId(\"said\"),\nh(\"span.said-badge\", {}, badge),\nh(\"span.said-text\", {}, shown(state.tree.program, parts), end, why)\n);\n}\nfunction \
+drawNext(state, act) {\nconst { tree, at } = state;\nconst run = runOf(state);\nconst { program } = tree;\nconst moment = momentOf(tree, run\
+.id, at);\nconst own = state.isHidden || isVeiled(state) || state.mode === \"quiz\" ? \"\" : run.choices[at];\nconst all = [...Object.values\
+(moment.next), ...Object.values(moment.late)];\nconst key = [program.text.length, at, run.id, own, ...all.map(one => one.token)].join(\" \")\
+;\nif (byId(\"next\").dataset.key === key) return;\nconst hadFocus = byId(\"next\").contains(document.activeElement);\nbyId(\"next\").datase\
+t.key = key;\nconst chip = (event, k) => {\nconst isOwn = event.token === own;\nconst kinds = \".chip.\" + hueOf(event.thread) + (event.isLa\
+te ? \".chip-late\" : \"\") + (isOwn ? \".chip-own\" : \"\");\nconst given = {\ntype: \"button\",\n\"data-token\": event.token,\ntitle: (isO\
+wn ? \"The run goes on so\" : \"Another run\") + (k < 9 ? \" (key \" + (k + 1) + \")\" : \"\"),\nonclick: () => act.choose(event.token),\non\
+pointerenter: () => act.tryOut(event.token),\nonpointerleave: () => act.tryOut(\"\"),\nonfocus: () => act.tryOut(event.token),\nonblur: () =\
+> act.tryOut(\"\")\n};\nconst name = threadName(program, event.thread);\nif (event.isLate) given[\"aria-label\"] = \"the time-out of \" + na\
+me;\nreturn h(\"button\" + kinds, given, (event.isLate ? \"\\u23F1\\uFE0E \" : \"\") + name);\n};\nconst label = all.length ? \"Next:\" : mo\
+ment.state.word === \"stuck\" ? \"Nobody may go\" : \"All are over\";\nfill(byId(\"next\"), h(\"span.next-label\", {}, label), all.map(chip)\
+);\nif (hadFocus) (byId(\"next\").querySelector(\".chip-own, .chip\") || byId(\"forth\")).focus();\n}\nfunction drawStage(state, act) {\ncon\
+st { tree, at } = state;\nconst run = runOf(state);\ndrawSaid(state);\nconst isCut = state.isCut && run.parent < 0;\nconst all = state.isHid\
+den ? \"\" : \" of \" + lengthOf(run) + (isCut ? \"\\u2026\" : \"\");\nfill(byId(\"where\"), h(\"b\", {}, at), all);\nbyId(\"where\").title \
+= isCut ? \"The plan goes on; the first \" + lengthOf(run) + \" choices are shown\" : \"\";\ndrawNext(state, act);\nbyId(\"first\").disabled \
+= byId(\"back\").disabled = at === 0;\nbyId(\"forth\").disabled = byId(\"last\").disabled = at === lengthOf(run);\nconst kind = endKind(run.\
+end);\nconst isQuiet = state.isHidden || state.mode === \"quiz\";\nconst end = \"Run \" + (run.id + 1) + (kind === \"open\" ? \" stays open\" \
+: \": \" + endText(tree.program, run.end));\nfill(byId(\"ends\"), isQuiet ? \"\" : h(\"span.end.end-\" + kind, { title: outputText(tree.prog\
+ram, run.end) }, end));\n}\nreturn { drawStage };\n})();\n// app/timeline.js\nconst m41 = (() => {\nconst { fill, h } = m3;\nconst { hueOf, \
+threadName } = m1;\nconst { eventTo, hasMoment, lengthOf, momentOf } = m19;\nconst { shortMark, tagOf } = m24;\nconst { doingOf } = m17;\nco\
+nst BUDGET = 8;\nconst ROOM = 100000;\nconst EDGE = 1000;\nconst AROUND = 6;\nconst DOING = {\nruns: \"runs\",\nwaits: \"waits\",\nfree: \"m\
+ay go on\",\nheld: \"can\\u2019t go on\",\nthrows: \"throws\",\nover: \"is over\",\ndead: \"is dead\"\n};\nfunction makeTimeline(go, select) \
+{\nconst names = h(\"div.time-names\", { role: \"row\" });\nconst lanes = h(\"div.time-lanes\", { \"aria-hidden\": \"true\" });\nconst lines \
+= h(\"div.time-lines\", { role: \"rowgroup\" });\nconst body = h(\"div.time-body\", { role: \"presentation\" }, lanes, lines);\nconst label \
+= \"Timeline: a column for each thread, a row for each choice\";\nconst scroll = h(\n\"div.scroll.time-scroll\",\n{ tabindex: 0, role: \"tab\
+le\", \"aria-label\": label, onscroll: () => scrolled() },\nnames,\nbody\n);\nconst head = h(\"p.time-head\");\nconst element = h(\"div.time\
+\", {}, head, scroll);\nlet shown = null;\nlet rows = null;\nlet whole = 0;\nlet origin = 0;\nlet size = { row: 30, number: 50, column: 80, \
+rem: 16 };\nlet view = { top: 0, left: 0, height: 0, width: 0 };\nlet drawn = \"\";\nlet pending = 0;\nbody.addEventListener(\"click\", even\
+t => {\nconst k = Math.floor((event.clientY - body.getBoundingClientRect().top) / size.row);\nif (shown && k >= 0 && k < count()) go(choiceA\
+t(k));\n});\nnew ResizeObserver(() => redraw()).observe(scroll);\nfunction scrolled() {\nview = { ...view, top: scroll.scrollTop, left: scro\
+ll.scrollLeft };\ndraw();\n}\nfunction scrollTo(top, left) {\nconst most = bodyHeight() + 2.3 * size.rem - view.height;\nview = { ...view, t\
+op: Math.max(0, Math.min(top, most)), left: Math.max(0, left) };\nscroll.scrollTo(view.left, view.top);\n}\nconst bodyHeight = () => (count(\
+) + 0.6) * size.row;\nconst count = () => Math.min(ROOM, whole - origin);\nconst choiceAt = k => (rows ? rows[origin + k] : origin + k);\nco\
+nst rowOf = i => (rows ? rows.indexOf(i) : i) - origin;\nfunction fold() {\nconst { run, at, isFolded, isHidden } = shown;\nconst last = isH\
+idden ? at : lengthOf(run);\nrows = isFolded ? [] : null;\nif (isFolded) for (let i = 0; i <= last; i++) if (!i || i === at || !run.events.i\
+sIdle(i - 1)) rows.push(i);\nwhole = rows ? rows.length : last + 1;\nconst here = rows ? rows.indexOf(at) : at;\nconst most = Math.max(0, wh\
+ole - ROOM);\nconst isBelow = here < origin + EDGE && origin > 0;\nconst isAbove = here > origin + ROOM - EDGE && origin < most;\nif (isBelo\
+w || isAbove || origin > most) origin = Math.max(0, Math.min(most, here - ROOM / 2));\n}\nfunction measure() {\nsize.rem = parseFloat(getCom\
+putedStyle(document.documentElement).fontSize);\nview = { top: scroll.scrollTop, left: scroll.scrollLeft, height: scroll.clientHeight, width\
+: scroll.clientWidth };\ndivide();\n}\nfunction divide() {\nconst { rem } = size;\nconst threads = shown.tree.program.threads.length;\nconst \
+number = Math.max(2.6, String(lengthOf(shown.run)).length * 0.62 + 1.2) * rem;\nconst least = (threads <= 8 ? 5.4 : 3.2) * rem;\nconst colum\
+n = Math.max(least, (view.width - number - 4) / threads);\nconst isWide = number + column * threads > view.width + 4;\nsize = { row: Math.ro\
+und(2.1 * rem), number, column, rem, isWide };\nelement.style.setProperty(\"--number\", number + \"px\");\nelement.style.setProperty(\"--row\
+\", size.row + \"px\");\nbody.style.width = names.style.width = number + column * threads + \"px\";\nscroll.setAttribute(\"aria-rowcount\", \
+lengthOf(shown.run) + 2);\nscroll.setAttribute(\"aria-colcount\", threads + 1);\n}\nfunction show(what) {\nconst isNew = !shown || shown.zoo\
+m !== what.zoom || !view.height;\nconst isOther = isNew || shown.run !== what.run || shown.tree.program !== what.tree.program;\nconst isMove\
+d = isOther || shown.at !== what.at;\nshown = what;\nfold();\nif (isNew) measure();\nelse if (isOther) divide();\nconst part = whole > count\
+() ? \"Choices \" + choiceAt(0) + \" to \" + choiceAt(count() - 1) + \" stand here.\" : \"\";\nfill(head, what.title || \"\", part);\nhead.h\
+idden = !what.title && !part;\nbody.style.height = bodyHeight() + \"px\";\nif (isMoved) follow();\ndraw(true);\n}\nfunction follow() {\ncons\
+t place = rowOf(shown.at) * size.row;\nconst room = view.height - 2.3 * size.rem;\nlet { top, left } = view;\nif (place < top + size.row || \
+place + size.row * 2.5 > top + room) top = place - room * 0.55;\nconst event = eventTo(shown.run, shown.at);\nconst column = event ? placeOf\
+(event.thread) : 0;\nconst isOut = column < left + size.number || column + size.column * 2 > left + view.width;\nif (event && size.isWide && \
+isOut) left = column - view.width / 2;\nif (top !== view.top || left !== view.left) scrollTo(top, left);\n}\nconst placeOf = t => size.numbe\
+r + t * size.column;\nfunction draw(isForced) {\nif (!shown || !view.height) return;\nconst from = Math.max(0, Math.floor(view.top / size.ro\
+w) - AROUND);\nconst to = Math.min(count() - 1, Math.ceil((view.top + view.height) / size.row) + AROUND);\nconst threads = shown.tree.progra\
+m.threads.length;\nconst left = Math.max(0, Math.floor((view.left - size.number) / size.column) - 1);\nconst right = Math.min(threads - 1, M\
+ath.ceil((view.left + view.width) / size.column) + 1);\nconst key = [from, to, left, right].join();\nif (!isForced && key === drawn) return;\
+\ndrawn = key;\ndrawNames(left, right);\nconst isWhole = drawLanes(from, to, left, right);\ndrawLines(from, to);\nif (!isWhole && !pending) \
+{\npending = requestAnimationFrame(() => {\npending = 0;\ndraw(true);\n});\n}\n}\nfunction drawNames(left, right) {\nconst { program } = sho\
+wn.tree;\nconst moment = momentOf(shown.tree, shown.run.id, shown.at);\nconst list = [];\nfor (let t = left; t <= right; t++) {\nconst doing \
+= doingOf(moment, t);\nconst name = threadName(program, t);\nconst isSelected = Boolean(shown.selected) && shown.selected.thread === t;\ncon\
+st number = program.names.T[t] ? \" (t\" + t + \") \" : \" \";\nconst given = {\ntype: \"button\",\nvars: { left: placeOf(t) + \"px\", width\
+: size.column + \"px\" },\ntitle: name + number + DOING[doing] + \": why?\",\n\"aria-pressed\": String(isSelected),\n\"data-doing\": doing,\n\
+onclick: () => select(t)\n};\nconst cell = h(\n\"span.time-namecell\",\n{ role: \"columnheader\", \"aria-colindex\": t + 2 },\nh(\"button.ti\
+me-name.\" + hueOf(t), given, name)\n);\nlist.push(cell);\n}\nfill(names, h(\"span.time-corner\", { role: \"columnheader\", \"aria-colindex\"\
+: 1, \"aria-label\": \"choice\" }), list);\n}\nfunction drawLanes(from, to, left, right) {\nconst until = performance.now() + BUDGET;\nconst \
+{ tree, run } = shown;\nconst moments = [];\nlet isWhole = true;\nfor (let k = from; k <= to && isWhole; k++) {\nconst i = choiceAt(k);\nisW\
+hole = hasMoment(tree, run.id, i) || performance.now() < until || !moments.length;\nif (isWhole) moments.push(momentOf(tree, run.id, i));\n}\
+\nconst list = [];\nfor (let t = left; t <= right; t++) {\nfor (let k = 0, n; k < moments.length; k += n) {\nconst doing = doingOf(moments[k\
+], t);\nconst isLater = moments[k].i >= shown.at;\nconst isSame = one => one && doingOf(one, t) === doing && one.i >= shown.at === isLater;\n\
+for (n = 1; isSame(moments[k + n]); n++);\nif (doing === \"over\" || doing === \"dead\") continue;\nconst isLast = k + n === moments.length \
+&& from + k + n === count();\nconst vars = {\nleft: placeOf(t) + \"px\",\ntop: (from + k + 0.5) * size.row + \"px\",\nheight: (n - (isLast ? \
+0.45 : 0)) * size.row + \"px\"\n};\nlist.push(h(\"i.lane.lane-\" + doing + \".\" + hueOf(t) + (isLater ? \".is-later\" : \"\"), { vars }));\n\
+}\n}\nfill(lanes, list);\nreturn isWhole;\n}\nfunction drawLines(from, to) {\nconst list = [];\nfor (let k = from; k <= to; k++) list.push(l\
+ineOf(k, choiceAt(k)));\nfill(lines, list);\n}\nfunction lineOf(k, i) {\nconst event = eventTo(shown.run, i);\nconst isHere = i === shown.at\
+;\nconst kinds = (\nisHere ? \".is-here\" : i > shown.at ? \".is-later\" : \"\"\n) + (shown.differs && i > shown.differs ? \".is-other\" : \"\
+\");\nconst number = h(\"span.line-number\" + (i ? \"\" : \".is-start\"), { role: \"rowheader\" }, i || \"start\");\nconst inside = [number]\
+;\nif (event) inside.push(eventOf(event), event.mark ? markOf(event) : null);\nif (shown.isSide && shown.differs === i - 1 && i > 0) inside.\
+push(h(\"span.line-part\", {}, \"they part here\"));\nconst given = {\nrole: \"row\",\n\"aria-rowindex\": i + 2,\n\"aria-current\": isHere ? \
+\"step\" : null,\nvars: { top: k * size.row + \"px\" }\n};\nreturn h(\"div.line\" + kinds, given, inside);\n}\nfunction eventOf(event) {\nco\
+nst { program } = shown.tree;\nconst at = placeOf(event.thread);\nconst tag = tagOf(program, event, shown.isJava);\nconst name = threadName(\
+program, event.thread);\nconst given = { role: \"cell\", \"aria-colindex\": event.thread + 2, \"aria-label\": name + \": \" + tag };\nif (at \
+< view.left + size.number - size.column || at > view.left + view.width) {\nconst sign = at < view.left + size.number ? \"\\u25C2 \" : \"\\u2\
+5B8 \";\nreturn h(\"span.line-far.\" + hueOf(event.thread), given, sign + name + \" \" + tag);\n}\nconst isOnLeft = size.column < 5 * size.r\
+em && at - view.left > view.width * 0.6;\nconst kinds = \".event.event-\" + (\nevent.what === \"=\" ? \"value\" : event.what\n) + \".\" + hu\
+eOf(event.thread) + (isOnLeft ? \".is-onleft\" : \"\");\nreturn h(\"span\" + kinds, { ...given, vars: { left: at + \"px\" } }, h(\"i.event-d\
+ot\"), h(\"span.event-tag\", {}, tag));\n}\nfunction markOf(event) {\nconst { program } = shown.tree;\nconst text = shortMark(program, event\
+.mark);\nconst at = placeOf(event.thread);\nconst wide = (text.length * 0.47 + 1.3) * size.rem;\nconst own = (tagOf(program, event, shown.is\
+Java).length * 0.55 + 2) * size.rem;\nconst hasRight = view.width - at - own > wide;\nconst side = size.isWide\n? \".is-left.is-under\"\n: h\
+asRight ? \"\" : at - size.number > wide ? \".is-left\" : \".is-under\";\nreturn h(\n\"span.mark\" + (event.mark.kind[0] === \"-\" ? \".mark\
+-broke\" : \"\") + side,\n{ role: \"note\" },\nh(\"span\", {}, text)\n);\n}\nfunction redraw() {\nif (!shown) return;\nmeasure();\nbody.styl\
+e.height = bodyHeight() + \"px\";\ndraw(true);\n}\nreturn { element, show, redraw };\n}\nreturn { makeTimeline };\n})();\n// app/tree.js\nco\
+nst m42 = (() => {\nconst { endKind, endText, KIND_TEXT, outputText } = m2;\nconst { fill, h, who } = m3;\nconst { threadName } = m1;\nconst \
+{ inOrder, lengthOf } = m19;\nfunction runName(tree, run) {\nif (run.parent < 0) return \"Run 1\";\nconst event = run.events.at(run.fork);\n\
+const old = tree.runs[run.parent].events.at(run.fork);\nif (!event) return \"Run \" + (run.id + 1);\nconst name = threadName(tree.program, e\
+vent.thread) + (event.isLate ? \"\\u2019s time-out\" : \"\");\nreturn \"Run \" + (run.id + 1) + \": at \" + run.fork + \" \" + name + (\nold \
+? \", not \" + threadName(tree.program, old.thread) : \"\"\n);\n}\nfunction makeTree(walk) {\nconst element = h(\"div.tracks.scroll\", { rol\
+e: \"list\", \"aria-label\": \"Runs\" });\nfunction show({ tree, run, at, isQuiet }) {\nconst most = Math.max(1, ...tree.runs.map(lengthOf))\
+;\nconst part = i => (100 * i) / most + \"%\";\nconst all = inOrder(tree);\nconst track = ({ run: one }, lane) => {\nconst isHere = one === \
+run;\nconst begins = one.parent < 0 ? 0 : one.fork;\nconst kind = endKind(one.end);\nconst event = one.events.at(one.fork);\nconst first = M\
+ath.min(begins + (one.parent < 0 ? 0 : 1), lengthOf(one));\nconst name = {\ntype: \"button\",\n\"aria-current\": isHere ? \"true\" : null,\n\
+title: runName(tree, one) + (isQuiet ? \"\" : \" \\u2014 \" + endText(tree.program, one.end)),\nonclick: () => walk(one.id, isHere ? at : fi\
+rst)\n};\nconst said = one.parent < 0 || !event\n? \" the run\"\n: [\" at \" + one.fork + \" \", who(tree.program, event.thread), event.isLa\
+te ? \" late\" : \"\"];\nconst click = pressed => {\nconst box = pressed.currentTarget.getBoundingClientRect();\nconst i = Math.round(((pres\
+sed.clientX - box.left) / box.width) * most);\nwalk(one.id, Math.max(begins, Math.min(lengthOf(one), i)));\n};\nconst up = lane - all.findIn\
+dex(other => other.run.id === one.parent);\nreturn h(\n\"div.track\" + (isHere ? \".is-here\" : \"\"),\n{ role: \"listitem\" },\nh(\"button.\
+track-name\", name, h(\"b\", {}, one.id + 1), said),\nh(\n\"div.rail\",\n{ onclick: click },\nh(\n\"i.rail-bar.rail-\" + (isQuiet ? \"open\" \
+: kind),\n{ vars: { left: part(begins), width: part(lengthOf(one) - begins) } }\n),\none.parent >= 0 ? h(\"i.rail-fork\", { vars: { left: pa\
+rt(begins), \"--up\": up } }) : null,\nisHere ? h(\"i.rail-at\", { vars: { left: part(at) } }) : null\n),\nisQuiet ? h(\"span\") : h(\"span.\
+end.end-\" + kind, { title: outputText(tree.program, one.end) }, KIND_TEXT[kind])\n);\n};\nfill(element, all.map(track));\nconst here = elem\
+ent.querySelector(\".is-here\");\nif (here) element.scrollTop = Math.max(0, here.offsetTop - element.clientHeight + here.offsetHeight + 2);\n\
+}\nreturn { element, show };\n}\nreturn { runName, makeTree };\n})();\n// app/values.js\nconst m43 = (() => {\nconst { h } = m3;\nconst { na\
+meOf } = m0;\nconst { hueOf, labelOf, phaseOf, rowText, thrown, threadName } = m1;\nconst { doingOf } = m17;\nconst DOES = {\nover: \"ended\"\
+,\ndead: \"died of\",\nthrows: \"throws\",\nheld: \"can\\u2019t go on\",\nwaits: \"waits\",\nfree: \"may go on\",\nruns: \"runs\"\n};\nconst \
+cell = (text, was) => h(\"td\" + (was !== undefined && String(was) !== String(text) ? \".is-new\" : \"\"), {}, text);\nfunction tableOf(capt\
+ion, heads, rows) {\nconst head = h(\"thead\", {}, h(\"tr\", {}, heads.map(one => h(\"th\", { scope: \"col\" }, one))));\nreturn h(\"table.v\
+alues-table\", {}, h(\"caption\", {}, caption), head, h(\"tbody\", {}, rows));\n}\nconst rowHead = (text, kind = \"\") => h(\"th\" + kind, { \
+scope: \"row\" }, text);\nfunction entryOf(program, entry) {\nif (entry[0] === \"H\") return \"try \" + labelOf(program, Number(entry.slice(\
+1)));\nif (entry[0] === \"C\") return \"call \" + entry.slice(1);\nreturn (entry[0] === \"A\" ? \"onAdvance \" : \"action \") + nameOf(\npro\
+gram,\nentry[0] === \"A\" ? \"P\" : \"B\",\nNumber(entry.slice(1))\n);\n}\nfunction threadsOf(program, moment, old) {\nconst { threads } = m\
+oment.state;\nconst isUsed = r => program.rows.some(row => row.operands.includes(\"r\" + r)) ||\nthreads.some(one => one.registers[r]);\ncon\
+st used = [0, 1, 2, 3, 4, 5, 6, 7].filter(isUsed);\nconst row = (thread, t) => {\nconst was = old && old.threads[t];\nconst does = DOES[doin\
+gOf(moment, t)] + (thread.code === null ? \"\" : \" \" + thrown(thread.code));\nconst out = thread.out.slice(-6).join(\" \");\nreturn h(\n\"\
+tr\",\n{},\nrowHead(threadName(program, t), \".\" + hueOf(t)),\ncell(does + (thread.isInterrupted ? \", interrupted\" : \"\")),\nh(\"td\", {\
+}, h(\"code\", {}, rowText(program, program.rows[thread.row]))),\nused.map(r => cell(thread.registers[r], was ? was.registers[r] : undefined\
+)),\ncell(out, was ? was.out.slice(-6).join(\" \") : undefined),\ncell(thread.stack.map(one => entryOf(program, one)).join(\", \"))\n);\n};\n\
+return tableOf(\n\"Threads\",\n[\"thread\", \"does\", \"row\", ...used.map(r => \"r\" + r), \"output\", \"stack\"],\nthreads.map(row)\n);\n}\
+\nfunction phasersOf(program, state, old) {\nconst phase = one => (one.view < 0 ? \"terminated in \" + phaseOf(one.view) : one.view);\nconst \
+row = (one, p) => {\nconst was = old ? old.phasers[p] : {};\nconst cells = [cell(phase(one), old ? phase(was) : undefined), cell(one.parties\
+, was.parties)];\nreturn h(\n\"tr\",\n{},\nrowHead(nameOf(program, \"P\", p)),\ncells,\ncell(one.arrived, was.arrived),\ncell(one.missing, w\
+as.missing)\n);\n};\nreturn tableOf(\"Phasers\", [\"phaser\", \"phase\", \"parties\", \"arrived\", \"missing\"], state.phasers.map(row));\n}\
+\nfunction barriersOf(program, state, old) {\nconst broken = one => (one.isBroken ? \"yes\" : \"no\");\nconst row = (one, b) => {\nconst was \
+= old ? old.barriers[b] : null;\nconst cells = [cell(program.barriers[b].parties), cell(one.waiting, was ? was.waiting : undefined)];\nretur\
+n h(\"tr\", {}, rowHead(nameOf(program, \"B\", b)), cells, cell(broken(one), was ? broken(was) : undefined));\n};\nreturn tableOf(\"Barriers\
+\", [\"barrier\", \"parties\", \"waiting\", \"broken\"], state.barriers.map(row));\n}\nfunction cellsOf(program, state, old) {\nconst row = \
+([c, value]) => h(\n\"tr\",\n{},\nrowHead(nameOf(program, \"C\", Number(c))),\ncell(value, old ? old.cells[c] || 0 : undefined)\n);\nreturn \
+tableOf(\"Cells that aren\\u2019t 0\", [\"cell\", \"value\"], Object.entries(state.cells).map(row));\n}\nfunction valuesOf(program, moment, \
+before) {\nconst { state } = moment;\nconst old = before ? before.state : null;\nreturn [\nthreadsOf(program, moment, old),\nprogram.phasers\
+.length ? phasersOf(program, state, old) : null,\nprogram.barriers.length ? barriersOf(program, state, old) : null,\nObject.keys(state.cells\
+).length ? cellsOf(program, state, old) : null\n];\n}\nreturn { valuesOf };\n})();\n// app/app.js\nconst m44 = (() => {\nconst { endsBeside \
+} = m4;\nconst { checkOf, drawCheck } = m5;\nconst { endKind, endText } = m2;\nconst { button, byId, fill, h } = m3;\nconst { makeCommands } \
+= m34;\nconst { itemOf } = m21;\nconst { lessonCard } = m35;\nconst { addressOf, linkOf, MOST_LINK, readLink } = m20;\nconst { makeSheet } = \
+m23;\nconst { ordersOf } = m37;\nconst { SEEDS } = m36;\nconst { listProgram } = m14;\nconst { isHeavy } = m16;\nconst { makeProgram } = m38\
+;\nconst { challengeCard, quizCard } = m26;\nconst { closeTree, eventTo, momentOf, lengthOf } = m19;\nconst { makeScene } = m39;\nconst { ch\
+oicesOf, commonOf } = m15;\nconst { drawStage } = m40;\nconst change = m33;\nconst { makeTimeline } = m41;\nconst { makeTree, runName } = m4\
+2;\nconst { valuesOf } = m43;\nconst TYPING = 250;\nconst SAVING = 300;\nconst KEPT = 40;\nfunction makeApp(given) {\nlet state = change.fir\
+stState();\nlet working = null;\nlet typing = 0;\nlet typed = {};\nlet saving = 0;\nlet noteTimer = 0;\nconst past = new Map();\nlet entry = \
+0;\nconst sheet = makeSheet();\nconst timeline = makeTimeline(i => set(change.at(state, i)), t => set(change.selectedThread(state, t)));\nco\
+nst second = makeTimeline(\ni => set(change.walked(state, state.other, i)),\nt => set(change.selectedThread(state, t))\n);\nconst scene = ma\
+keScene({\nthread: t => set(change.selectedThread(state, t)),\nphaser: p => set(change.selectedPhaser(state, p))\n});\nconst tree = makeTree\
+((id, i) => set(change.walked(state, id, i)));\nconst program = makeProgram(\ntext => later({ text }),\nplan => later({ plan })\n);\nconst e\
+nds = h(\"div.ends\");\nconst tabs = { picture: \"Picture\", values: \"Values\", orders: \"Random orders\" };\nconst viewButton = name => bu\
+tton(tabs[name], () => setTab(name), { \"data-tab\": name });\nconst views = h(\n\"div.views\",\n{ role: \"group\", \"aria-label\": \"What t\
+he pane shows\" },\nObject.keys(tabs).map(viewButton)\n);\nconst values = h(\"div.values.scroll\", { tabindex: 0 });\nconst orders = h(\"div\
+.orders.scroll\", { tabindex: 0 });\nconst side = button(\"Side by side\", () => setSide());\nconst only = button(\"Only run 1\", () => set(\
+change.firstOnly(state), true));\nfill(byId(\"time\"), h(\"div.time-two\", {}, timeline.element, second.element), ends);\nfill(byId(\"pictur\
+e\"), views, scene.element, values, orders);\nfill(byId(\"runs\"), tree.element, h(\"div.runs-tools\", {}, side, only));\nfunction set(next, \
+isNew) {\nconst before = state;\nstate = next;\nif (before.text !== next.text || before.plan !== next.plan) {\nclearTimeout(typing);\ntyped \
+= {};\n}\nif (before.tree && next.tree && before.tree.program !== next.tree.program) closeTree(before.tree);\nif (isNew && before.tree) {\np\
+ast.set(entry, before);\npast.delete(entry - KEPT);\nremember(\"replaceState\");\nentry++;\nremember(\"pushState\");\n}\ndraw();\n}\nfunctio\
+n later(what) {\ntyped = { ...typed, ...what };\nclearTimeout(typing);\ntyping = setTimeout(() => edit(typed.text ?? state.text, typed.plan \
+?? state.plan), TYPING);\n}\nasync function edit(text, plan) {\nconst isQuiz = state.mode === \"quiz\";\nconst played = await playedInWorker\
+(text, plan, change.scheduleIn(state.item, plan));\nif (played === null) return;\nset(change.edited(state, text, plan, played));\nif (isQuiz \
+&& !state.mistake) setMode(\"quiz\");\n}\nasync function open(item, mode, isNew = true) {\nconst { program: text, plan } = item;\nconst play\
+ed = await playedInWorker(text, plan, item.schedule);\nif (played === null) return;\nset(checked(change.opened(state, item, mode, played)), \
+isNew);\nif (state.mode === \"quiz\") playOrders();\nfitted();\n}\nfunction checked(next) {\nconst { page } = next.item;\nif (!page || next.\
+mistake) return next;\nreturn { ...next, check: checkOf(page, listProgram(next.text), next.tree.runs[0].trace) };\n}\nfunction openRun(run, \
+isNew = true, isOfPage = false) {\nconst item = { ...itemOf(run), isOfPage };\ngiven.menu.unshift(item);\nreturn open(item, \"explore\", isN\
+ew);\n}\nasync function playedInWorker(text, plan, schedule = \"\") {\nif (!isHeavy(schedule || plan)) return undefined;\nconst played = awa\
+it inWorker(\"plan\", { text, plan, schedule });\nreturn played && { ...played, choices: choicesOf(played.schedule) };\n}\nasync function in\
+Worker(task, what) {\nworking = { task, done: 0 };\nif (!state.tree) fill(byId(\"said\").lastChild, \"The machine plays the run.\");\ndraw()\
+;\ntry {\nreturn await given.work.ask(task, what, done => {\nworking = { task, done };\nif (state.tab === \"orders\") drawOrders();\n});\n} \
+catch (fault) {\nif (fault.message === \"stopped\") return null;\nif (!fault.told) note(\"The worker stopped: \" + fault.message);\nreturn u\
+ndefined;\n} finally {\nworking = null;\ndraw();\n}\n}\nasync function playOrders() {\nconst { tree: asked } = state;\nconst found = await i\
+nWorker(\"orders\", { text: asked.program.text, seeds: SEEDS });\nif (found && state.tree.program === asked.program) set(change.withOrders(s\
+tate, found));\n}\nfunction stopWork() {\ngiven.work.stop();\nif (state.mode === \"quiz\" && !state.quiz) set(change.inMode(state, \"explore\
+\"));\n}\nfunction setTab(tab) {\nset({ ...state, tab, pane: \"picture\" });\nif (tab === \"orders\" && !state.orders) playOrders();\n}\nfun\
+ction setMode(mode) {\nset(change.inMode(state, mode));\nif (mode === \"quiz\" && !state.quiz) playOrders();\nfitted();\n}\nfunction setSide\
+() {\nif (state.tree.runs.length < 2) return note(\"There is only one run: choose another name first.\");\nset(change.sideBySide(state));\nf\
+itted();\n}\nfunction choose(token) {\ntry {\nconst isNew = change.runOf(state).choices[state.at] !== token;\nset(change.forked(state, state\
+.at, token), isNew);\n} catch (fault) {\nnote(fault.message);\n}\n}\nfunction fitted() {\nrequestAnimationFrame(() => {\ntimeline.redraw();\n\
+second.redraw();\n});\n}\nfunction note(...what) {\nfill(byId(\"note\"), what);\nbyId(\"note\").classList.add(\"is-shown\");\nclearTimeout(n\
+oteTimer);\nnoteTimer = setTimeout(() => byId(\"note\").classList.remove(\"is-shown\"), 6000);\n}\nconst moment = i => momentOf(state.tree, \
+state.id, i);\nfunction draw() {\nif (!state.tree) return;\nconst { at } = state;\nconst run = change.runOf(state);\nconst { program: model \
+} = state.tree;\nconst now = moment(at);\nconst event = eventTo(run, at);\nconst title = model.title || state.item.title;\nObject.assign(doc\
+ument.body.dataset, { mode: state.mode, tab: state.tab, pane: state.pane });\ndocument.body.classList.toggle(\"is-refused\", Boolean(state.m\
+istake));\ndocument.body.classList.toggle(\"is-side\", Boolean(change.otherOf(state)));\ndocument.body.classList.toggle(\"is-alone\", state.\
+isAlone);\ndocument.body.classList.toggle(\"is-working\", Boolean(working));\nbyId(\"title\").textContent = title;\ndocument.title = title + \
+\" \\u2014 Vuthgal\";\npressed(\"#modes button\", one => one.dataset.mode === state.mode);\npressed(\"#tabs button\", one => one.dataset.pan\
+e === state.pane);\npressed(\".views button\", one => one.dataset.tab === state.tab);\nif (state.tab === \"picture\") scene.show({ tree: sta\
+te.tree, run, at, moment: now, selected: state.selected });\ndrawStage(state, { choose, tryOut: token => tryOut(token) });\ndrawCheck(state)\
+;\nprogram.show(state, now, event);\ndrawTime(run);\nif (state.tab === \"values\") fill(values, valuesOf(model, now, at ? moment(at - 1) : n\
+ull));\nif (state.tab === \"orders\") drawOrders();\ntree.show({ tree: state.tree, run, at, isQuiet: state.mode === \"quiz\" || state.isHidd\
+en });\nside.disabled = only.disabled = state.tree.runs.length < 2;\nside.setAttribute(\"aria-pressed\", String(Boolean(change.otherOf(state\
+))));\ndrawCard(model, now);\nclearTimeout(saving);\nsaving = setTimeout(keepLink, SAVING);\n}\nfunction pressed(which, isPressed) {\nfor (c\
+onst one of document.querySelectorAll(which)) one.setAttribute(\"aria-pressed\", String(isPressed(one)));\n}\nfunction drawTime(run) {\ncons\
+t other = change.otherOf(state);\nconst parts = other ? commonOf(run.choices, other.choices) : run.parent >= 0 ? run.fork : 0;\nconst { isJa\
+va, isFolded, selected, zoom, tree: all } = state;\nconst isHidden = change.isLaterHidden(state);\nconst common = { tree: all, isJava, isFol\
+ded, selected, zoom, isHidden, differs: parts, isSide: Boolean(other) };\nconst head = one => {\nconst end = h(\"span.end.end-\" + endKind(o\
+ne.end), {}, isHidden ? \"\" : endText(all.program, one.end));\nreturn other ? [h(\"b\", {}, runName(all, one)), end] : \"\";\n};\nsecond.el\
+ement.hidden = !other;\ntimeline.show({ ...common, run, at: state.at, title: head(run) });\nif (other) second.show({ ...common, run: other, \
+at: Math.min(state.at, lengthOf(other)), title: head(other) });\nfill(ends, other && !isHidden ? endsBeside(all.program, run, other) : null)\
+;\n}\nfunction drawOrders() {\nconst act = { take: one => set(change.ordered(state, one), true), play: playOrders, stop: stopWork };\nfill(o\
+rders, ordersOf(state.tree.program, state.orders, working, act));\n}\nfunction drawCard(model, now) {\nconst card = byId(\"card\");\ncard.hi\
+dden = state.mode === \"explore\";\nif (state.mode === \"lesson\") fill(card, lessonCard(state.lesson, model, now, lessonActs));\nif (state.\
+mode === \"quiz\") fill(card, quizCard(state.quiz, model, quizActs));\nif (state.mode === \"challenge\") fill(\ncard,\nchallengeCard(change.\
+challengeOf(state), { again: () => setMode(\"challenge\") })\n);\n}\nconst lessonActs = {\nstep: by => focused(() => set(change.lessonStep(s\
+tate, by))),\nanswer: () => focused(() => set(change.lessonAnswer(state))),\nvote: (t, by) => set(change.voted(state, t, by)),\nchoose,\nsho\
+wFork: (i, token) => set(change.forked({ ...state, id: 0 }, i, token), true),\ntab: setTab\n};\nconst quizActs = {\nanswer: option => focuse\
+d(() => set(change.answered(state, option))),\nshow: () => focused(() => set(change.shownOwn(state))),\nnext: () => focused(() => set(change\
+.nextQuestion(state))),\nagain: () => setMode(\"quiz\"),\nstop: stopWork\n};\nfunction focused(what) {\nwhat();\nconst card = byId(\"card\")\
+;\n(\ncard.querySelector(\".card-turn .main\") || card.querySelector(\".card-turn button\")\n)?.focus({ preventScroll: true });\n}\nfunction \
+tryOut(preview) {\nif (change.isVeiled(state) || state.preview === preview) return;\nstate = { ...state, preview };\ndrawStage(state, { choo\
+se, tryOut });\n}\nfunction remember(how, hash) {\ntry {\nhistory[how]({ entry }, \"\", hash);\n} catch (_) {\npast.clear();\n}\n}\nconst li\
+nkNow = () => {\nconst { text } = state.tree.program;\nconst address = addressOf(state.tree, change.runOf(state), state.at);\nif (isOfPage()\
+) return \"#\" + address;\nreturn linkOf({ text, plan: state.plan, name: state.item.name, address, mode: state.mode });\n};\nconst isOfPage \
+= () => {\nconst { item, mode, text, plan } = state;\nreturn item.isOfPage && mode === \"explore\" && text === item.program && plan === item\
+.plan;\n};\nasync function keepLink() {\nif (!state.tree || state.mistake) return;\nconst saved = state;\nconst hash = await linkNow();\nif \
+(state === saved && hash.length < MOST_LINK) remember(\"replaceState\", hash);\n}\nwindow.addEventListener(\"popstate\", event => {\nconst k\
+ept = event.state && past.get(event.state.entry);\nif (!kept) return openLink();\npast.set(entry, state);\nentry = event.state.entry;\nstate \
+= kept;\ndraw();\nfitted();\n});\nasync function openLink() {\nlet link;\ntry {\nlink = await readLink(location.hash);\n} catch (fault) {\nn\
+ote(\"This link can\\u2019t be read: \" + fault.message + \". A program that is here is shown.\");\nreturn false;\n}\nif (!link) return fals\
+e;\nif (link.text === undefined) {\nif (!state.tree) return false;\nset(change.addressed(state, link.address));\nreturn true;\n}\nconst know\
+n = given.menu.find(one => one.name === link.name);\nconst item = {\ngroup: \"Link\",\nname: link.name || \"link\",\ntitle: known ? known.ti\
+tle : \"From a link\",\nprogram: link.text,\nplan: link.plan\n};\nconst isKnown = known && known.program === link.text;\nset(change.opened(s\
+tate, isKnown ? { ...known, plan: link.plan } : item, \"explore\"));\nif (isKnown) state = { ...state, item: known };\nif (state.mistake) re\
+turn true;\nif (link.mode === \"quiz\" || link.mode === \"challenge\") setMode(link.mode);\nelse set({ ...change.addressed(state, link.addre\
+ss), mode: link.mode });\nfitted();\nreturn true;\n}\nconst app = {\nget: () => state,\nset,\nopen,\nopenRun,\nedit,\nopenLink,\nsetTab,\nse\
+tMode,\nsetSide,\nchoose,\nnote,\nlinkNow,\nplayOrders,\nstopWork,\nfitted,\nsheet,\nprogram\n};\nmakeCommands(app, given);\nreturn app;\n}\n\
+return { makeApp };\n})();\n// app/work.js\nconst m45 = (() => {\nconst { startMachine } = m14;\nconst { outcomesOf } = m36;\nconst { played\
+Plan } = m16;\nconst { scheduleOf } = m15;\nconst packed = ({ choices, isCut, trace }) => ({ schedule: scheduleOf(choices), isCut, trace });\
+\nconst TASKS = {\norders: ({ text, seeds }, told) => outcomesOf(text, seeds, told),\nplan: ({ text, plan, schedule }) => packed(playedPlan(\
+text, plan, schedule))\n};\nfunction startWorker() {\nlet ready = null;\nself.onmessage = async ({ data }) => {\nif (data.machine) {\nready \
+= startMachine(data.machine);\nreturn;\n}\ntry {\nawait ready;\nself.postMessage({ answer: TASKS[data.task](data.given, done => self.postMes\
+sage({ done })) });\n} catch (fault) {\nself.postMessage({ fault: { message: fault.message, told: fault.told || \"\" } });\n}\n};\n}\nfuncti\
+on makeWork(spawn, bytes) {\nlet worker = null;\nlet current = null;\nfunction stop() {\nif (!current) return;\nworker.terminate();\nworker \
+= null;\ncurrent.refuse(new Error(\"stopped\"));\ncurrent = null;\n}\nfunction ask(task, given, told = () => {}) {\nstop();\nif (!worker) {\n\
+worker = spawn();\nworker.postMessage({ machine: bytes });\n}\nreturn new Promise((answer, refuse) => {\ncurrent = { answer, refuse };\nwork\
+er.onmessage = ({ data }) => {\nif (data.done !== undefined) return told(data.done);\ncurrent = null;\nif (data.fault) refuse(Object.assign(\
+new Error(data.fault.message), data.fault));\nelse answer(data.answer);\n};\nworker.onerror = event => {\ncurrent = null;\nworker = null;\nr\
+efuse(new Error(event.message || \"the worker can\\u2019t be started\"));\n};\nworker.postMessage({ task, given });\n});\n}\nreturn { ask, s\
+top };\n}\nreturn { startWorker, makeWork };\n})();\n// app/start.js\nconst m46 = (() => {\nconst { makeApp } = m44;\nconst { bareName, runI\
+n, takePage } = m21;\nconst { byId } = m3;\nconst { startMachine, versionOf } = m14;\nconst { makeWork, startWorker } = m45;\nasync function \
+unpacked(text) {\nconst zipped = Uint8Array.from(atob(text.trim()), sign => sign.charCodeAt(0));\nconst stream = new Blob([zipped]).stream()\
+.pipeThrough(new DecompressionStream(\"gzip\"));\nreturn new Response(stream).arrayBuffer();\n}\nfunction spawn() {\nconst address = URL.cre\
+ateObjectURL(new Blob([byId(\"script\").textContent], { type: \"text/javascript\" }));\nconst worker = new Worker(address);\nsetTimeout(() =\
+> URL.revokeObjectURL(address), 10000);\nreturn worker;\n}\nfunction nameOfPage() {\ntry {\nreturn location.protocol === \"about:\" ? \"run\" \
+: bareName(decodeURI(location.pathname));\n} catch (_) {\nreturn \"run\";\n}\n}\nasync function startPage() {\nconst run = runIn(document, n\
+ameOfPage());\nconst page = takePage();\nconst menu = JSON.parse(byId(\"programs\").textContent);\nconst bytes = await unpacked(byId(\"machi\
+ne\").textContent);\nawait startMachine(bytes);\nconst app = makeApp({ menu, work: makeWork(spawn, bytes), page, version: versionOf() });\ni\
+f (run) await app.openRun(run, false, true);\nconst isOpen = await app.openLink();\nif (!isOpen && !run) await app.open(menu[0], \"explore\"\
+, false);\nwindow.vuthgal = { get: app.get, ready: performance.now() };\n}\nif (typeof document === \"undefined\") startWorker();\nelse {\ns\
+tartPage().catch(fault => {\nbyId(\"said\").dataset.kind = \"wrong\";\nbyId(\"said\").textContent = \"This browser can\\u2019t start the mac\
+hine: \" + fault.message;\n});\n}\nreturn {  };\n})();\n</script>\n</body>\n</html>\n";

@@ -2,4 +2,4 @@
 
 /// The version, and the sum of the sources but for this file.
 pub const VERSION: &str =
-    "2.0.0\nsources 9b4e4f4601a47b26d55dd63be0844e7550084d2919c2aed8c43e59e74b34571a";
+    "2.0.0\nsources 4dec455bc65673ebd251287ae0014711240a3772378103692130a0c7b03152d0";
