@@ -116,16 +116,15 @@ fn push_text(rt: &HostRuntime, text: Result<String, AllocError>) {
     }
 }
 
-/// A text without its blank lines: a failure has at most five lines.
-fn without_blank_lines(rt: &HostRuntime, text: &str) -> Result<String, AllocError> {
-    let mut lines = String::new(rt.alloc());
+/// Writes a text to standard error without its blank lines: a failure has at most five lines.
+fn push_without_blank_lines(rt: &HostRuntime, text: &str) {
+    let mut errors = WritePort::new(printable::errors(rt));
     for line in text.split('\n') {
         if !line.trim_ascii().is_empty() {
-            lines.push_str(line)?;
-            lines.push('\n')?;
+            let _ = errors.push(line.as_bytes());
+            let _ = errors.push(b"\n");
         }
     }
-    Ok(lines)
 }
 
 /// Whether a plan or a STATE has no quotes: an option for one has two words behind it, or a word ends with a dot that isn't
@@ -181,7 +180,7 @@ impl NoCommand {
         };
         match (text, self) {
             (Ok(text), NoCommand::Words(error)) if error.use_stderr() => {
-                push_text(rt, without_blank_lines(rt, text.as_str()));
+                push_without_blank_lines(rt, text.as_str());
                 push_way(rt, error.kind(), words);
                 WRONG_WORDS
             }

@@ -2,4 +2,4 @@
 
 /// The version, and the sum of the sources but for this file.
 pub const VERSION: &str =
-    "2.0.0\nsources 4dec455bc65673ebd251287ae0014711240a3772378103692130a0c7b03152d0";
+    "2.0.0\nsources f1a45ea6ee4739e6e04c611d967e15602223c23049f70742c948afea7006dbf9";
