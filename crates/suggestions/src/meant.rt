@@ -212,7 +212,9 @@ fn is_behind(words: &[&[u8]], before: &[u8], word: &[u8]) -> bool {
 
 /// What helps at a number that is out of range: the range. `first` is the row's or directive's word of its line.
 fn helps_at_range(first: &[u8], words: &[&[u8]], word: &[u8]) -> &'static str {
-    if word.starts_with(b"#") {
+    if is_behind(words, b"parent", word) {
+        "a parent is a phaser above, #0 to #63"
+    } else if word.starts_with(b"#") {
         "behind # there is a number from 0 to 65535"
     } else if first == b"ldi".as_slice() {
         "`ldi` takes -2147483648 to 2147483647"
