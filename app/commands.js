@@ -2,7 +2,8 @@
 // along, or a print.
 import { MOST_LINK } from "./link.js";
 import { button, byId, fill } from "./elements.js";
-import { bareName, pageWith, readProgramFile, runIn, save } from "./file.js";
+import { bareName, readProgramFile, runIn, save } from "./file.js";
+import { pageWith } from "../web/page.mjs";
 import { listenToKeys } from "./keys.js";
 import { listProgram } from "./machine.js";
 import { copySheet, mainMenu, programsMenu } from "./menu.js";

@@ -20,17 +20,6 @@ export function takePage() {
   document.getElementById("texts").remove();
   return page;
 }
-const ESCAPED = { "&": "&amp;", "<": "&lt;", ">": "&gt;", "\r": "&#13;" };
-const escaped = text => text.replace(/[&<>\r]/g, sign => ESCAPED[sign]);
-
-// The page with other texts in it.
-export function pageWith(page, texts) {
-  const put = (made, name) => {
-    const [begin, end] = [`<pre id="${name}">`, "</pre>"];
-    return made.replace(begin + end, () => begin + "\n" + escaped(texts[name]) + end);
-  };
-  return NAMES.reduce(put, page);
-}
 // A run in a file as a program of the menu. Of a plan the machine makes the schedule.
 export function itemOf(page) {
   const { name, listing, source, schedule, trace } = page;

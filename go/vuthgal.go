@@ -191,9 +191,9 @@ func Page(program, schedule []byte, app string) (string, error) {
 	if strings.HasPrefix(source, "PBW1") || strings.HasPrefix(source, "PBW2") {
 		source = ""
 	}
-	for _, it := range [][2]string{{"listing", listing}, {"source", source}, {"schedule", played + "\n"}, {"trace", trace}} {
+	for _, it := range [][2]string{{"listing", listing}, {"source", source}, {"schedule", played}, {"trace", trace}} {
 		begin := `<pre id="` + it[0] + `">`
-		app = strings.Replace(app, begin+"</pre>", begin+"\n"+escaped.Replace(it[1])+"</pre>", 1)
+		app = strings.Replace(app, begin+"\n</pre>", begin+"\n"+escaped.Replace(it[1])+"</pre>", 1)
 	}
 	return app, nil
 }

@@ -54,7 +54,7 @@ func TestCalls(t *testing.T) {
 	same(t, strings.HasPrefix(done(List(image))(t), ".phaser p0 2\n"), true)
 	same(t, done(Choices(trace))(t), "t0 t1 t0*3 t1*2")
 	same(t, Compare(program, trace), nil)
-	same(t, strings.HasSuffix(done(Page(program, schedule, `<pre id="trace"></pre>`))(t), "</pre>"), true)
+	same(t, strings.HasSuffix(done(Page(program, schedule, "<pre id=\"trace\">\n</pre>"))(t), "</pre>"), true)
 	same(t, strings.HasPrefix(done(Draw(program, schedule, 80))(t), "choice  a"), true)
 	same(t, done(Debug(program, []byte("k 1\ng t0 t1 t0 t0\nb\nq\n")))(t), "break 1\nat 2\nback 1\n")
 	same(t, strings.Contains(done(Explain("memory"))(t), "memory"), true)

@@ -15,6 +15,8 @@ import { Ended, opened, openedToWrite, STANDARD_INPUT, write, writeLine, writeTo
 import { load, OutOfMemory } from "./vuthgal.mjs";
 
 const MOST_PLANNED = 1_000_000;
+/** How many bytes the schedule of a page has at most. */
+const MOST_SCHEDULE = 16_777_216;
 let vuthgal;
 
 /** A call: its output and line are written, and its status is the program's. */
@@ -126,10 +128,26 @@ function opening(program) {
   }
 }
 
+/**
+ * Ends the program if a page has no room for so many choices, or if the schedule has a fault: of both for the one that
+ * comes first, but a text that holds its schedule is read whole.
+ */
+function checkSchedule(program, tokens, isBeside) {
+  const text = textOf(tokens);
+  const found = vuthgal.mistake(program, { schedule: tokens });
+  const at = found?.told.startsWith("refused schedule") ? Number(found.told.split(" ").at(-1)) : text.length;
+  const before = found ? text.slice(0, at).replace(/\S*$/, "") : text;
+  const isTooLong = choicesIn(before) > MOST_CHOICES;
+  if (found && !(isTooLong && !isBeside)) throw new Ended(3, `${found.told}\n`);
+  if (isTooLong) throw new Ended(3, `refused show ${MOST_CHOICES}\n`);
+}
+
 /** Writes the app with a run in it. The app stands beside this file, or above it. */
 function show([file, schedule], options) {
   const [program, tokens] = steps(file, schedule, options);
-  if (choicesIn(textOf(tokens)) > MOST_CHOICES) throw new Ended(3, `refused show ${MOST_CHOICES}\n`);
+  if (tokens.length > MOST_SCHEDULE) throw new Ended(5, "read\n");
+  const isBeside = [schedule, options.plan, options["plan-file"]].every((it) => it === undefined);
+  checkSchedule(program, tokens, isBeside);
   const { status, output, line } = vuthgal.call("run", [program, tokens]);
   if (status !== 0) throw new Ended(status, line);
   if (output.length > MOST_TRACE) throw new Ended(3, `refused show ${MOST_TRACE}\n`);

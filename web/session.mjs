@@ -174,6 +174,7 @@ export class Session {
     const words = [this.#open(), this.#number(thread), expires ? 1 : 0, most];
     const told = this.#library.called("session_other", [bytesOf(rest)], { first: words, hasLine: false });
     if (told.status === NOT_READ) throw new RangeError(`no schedule of at most 2,000 choices: ${rest}`);
+    if (told.status === NO_THREAD) throw new RangeError(`there is no thread ${thread}`);
     this.#check(told.status);
     return new Schedule(textOf(told.output).trimEnd());
   }

@@ -13,7 +13,7 @@
 import { bytesOf, textOf } from "./bytes.mjs";
 import { Closed, Differs, Fault, NoLine, NotATrace, OutOfMemory, Refused, TooLong } from "./faults.mjs";
 import { Library } from "./library.mjs";
-import { choicesIn, MOST_CHOICES, MOST_TRACE, pageWith } from "./page.mjs";
+import { choicesIn, MOST_CHOICES, MOST_TRACE, pageWith, tokensIn } from "./page.mjs";
 import { Session } from "./session.mjs";
 import { Ending, Line, Schedule, State, Trace, Went } from "./values.mjs";
 
@@ -126,14 +126,15 @@ class Vuthgal {
 
   /** The page that shows a run: `app`, which is the text of `vuthgal.html`, with its program, schedule and trace in it. */
   page(program, schedule, app) {
-    if (choicesIn(textOf(bytesOf(schedule))) > MOST_CHOICES) throw new TooLong();
+    const tokens = textOf(bytesOf(schedule));
+    if (choicesIn(tokens) > MOST_CHOICES) throw new TooLong();
     const trace = this.#text("run", [program, schedule]);
     if (trace.length > MOST_TRACE) throw new TooLong();
     const source = textOf(bytesOf(program));
     return pageWith(app, {
       listing: this.list(program),
       source: /^PBW[12]/.test(source) ? "" : source,
-      schedule: `${this.choices(trace)}\n`,
+      schedule: tokensIn(tokens),
       trace,
     });
   }

@@ -130,7 +130,7 @@ class Native:
     def other(self, thread, expiry, most, rest):
         words = (U8(thread), U8(expiry), U32(most), *self.given([rest.encode()]))
         status = self.ask("session_other", self.handle, *words, *self.places()[:3])
-        return {"fault": "RangeError"} if status == 3 else self.output.raw[: self.length.value].decode().rstrip()
+        return {"fault": "RangeError"} if status in (3, 7) else self.output.raw[: self.length.value].decode().rstrip()
 
     def command(self, line):
         self.ask("session_command", self.handle, *self.given([line.encode()]), *self.places()[:3])

@@ -2,4 +2,4 @@
 
 /// The version, and the sum of the sources but for this file.
 pub const VERSION: &str =
-    "2.0.0\nsources f1a45ea6ee4739e6e04c611d967e15602223c23049f70742c948afea7006dbf9";
+    "2.0.0\nsources 576a236222ac5c9936f572a79b2bc2eaace5ec7a49371638d074f69a557594c0";

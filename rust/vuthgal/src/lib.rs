@@ -262,7 +262,7 @@ pub fn page(program: &[u8], schedule: &[u8], app: &str) -> Result<String, Fault>
     let texts = [
         ("listing", list(program)?),
         ("source", text(source)),
-        ("schedule", choices(trace.as_bytes())?.schedule + "\n"),
+        ("schedule", choices(trace.as_bytes())?.schedule),
         ("trace", trace),
     ];
     Ok(texts.iter().fold(app.to_owned(), |page, (name, it)| put(&page, name, it)))
@@ -272,7 +272,7 @@ pub fn page(program: &[u8], schedule: &[u8], app: &str) -> Result<String, Fault>
 fn put(page: &str, name: &str, it: &str) -> String {
     let escaped = it.replace('&', "&amp;").replace('<', "&lt;").replace('>', "&gt;").replace('\r', "&#13;");
     let begin = format!("<pre id=\"{name}\">");
-    page.replacen(&format!("{begin}</pre>"), &format!("{begin}\n{escaped}</pre>"), 1)
+    page.replacen(&format!("{begin}\n</pre>"), &format!("{begin}\n{escaped}</pre>"), 1)
 }
 
 /// A run drawn as text, in lines of at most `width` bytes. What has no room is cut: below 60 little is left to read.

@@ -30,7 +30,7 @@ fn plans_and_names() {
 
 #[test]
 fn shows() {
-    let page = vuthgal::page(PROGRAM, SCHEDULE, "<pre id=\"trace\"></pre>").unwrap();
+    let page = vuthgal::page(PROGRAM, SCHEDULE, "<pre id=\"trace\">\n</pre>").unwrap();
     assert_eq!(page, format!("<pre id=\"trace\">\n{}</pre>", vuthgal::run(PROGRAM, SCHEDULE).unwrap()));
     assert!(vuthgal::draw(PROGRAM, SCHEDULE, 80).unwrap().starts_with("choice  a"));
     assert_eq!(vuthgal::debug(PROGRAM, b"k 1\ng t0 t1 t0 t0\nb\nq\n").unwrap(), "break 1\nat 2\nback 1\n");
