@@ -2,4 +2,4 @@
 
 /// The version, and the sum of the sources but for this file.
 pub const VERSION: &str =
-    "2.0.0\nsources 576a236222ac5c9936f572a79b2bc2eaace5ec7a49371638d074f69a557594c0";
+    "2.0.0\nsources 8c8a055e42a88bac0146b8aa986e1f545310b266c29fe0c102e2779812825e40";
