@@ -22,7 +22,8 @@ import { refusedText, sentenceOf, wouldText } from "../../app/sentence.js";
 import * as change from "../../app/state.js";
 import { whyOf } from "../../app/why.js";
 import { differenceOf } from "../../app/check.js";
-import { itemOf, pageWith, readProgramFile, runIn } from "../../app/file.js";
+import { itemOf, readProgramFile, runIn } from "../../app/file.js";
+import { pageWith } from "../../web/page.mjs";
 import { done, look } from "./counting.mjs";
 import { programOf, randomOf } from "./programs.mjs";
 
