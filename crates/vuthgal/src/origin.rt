@@ -2,4 +2,4 @@
 
 /// The version, and the sum of the sources but for this file.
 pub const VERSION: &str =
-    "2.0.0\nsources 8c8a055e42a88bac0146b8aa986e1f545310b266c29fe0c102e2779812825e40";
+    "2.0.0\nsources e768c2a742e828b9efc107543123c827c4c2a175b3ee65c6eed445ac51d8bc52";
