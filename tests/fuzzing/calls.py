@@ -13,12 +13,13 @@ REFUSED = rb"""(?x)refused[ ](
     | load[ ]([29]|1[ ](row|thread|phaser|barrier)[ ]\d+|[3-6][ ]\d+|7[ ]\d+[ ][1-6]|8[ ]\d+)
     | schedule[ ][1-3][ ]\d+
     | plan[ ]\d+[ ][1-8]
-    | (show|draw)[ ]2000
+    | show[ ](1000000|16777216)
+    | draw[ ]2000
     )\n"""
 # clap's own texts, and below them what may have been meant; `explain` says so itself
 WRONG_WORDS = rb"""(?xs)error:[ ](
-    .*\n\nFor[ ]more[ ]information,[ ]try[ ]'--help'\.\n(help:[ ][^\n]*\n)?
-    | unrecognized[ ]subcommand[ ].*\n\nUsage:[ ]vuthgal[ ]help[ ]\[COMMAND\]\.\.\.\n
+    .*\nFor[ ]more[ ]information,[ ]try[ ]'--help'\.\n(help:[ ][^\n]*\n)?
+    | unrecognized[ ]subcommand[ ].*\nUsage:[ ]vuthgal[ ]help[ ]\[COMMAND\]\.\.\.\n
     | `explain`[ ]doesn't[ ]know[ ]these[ ]words.*\n
     )"""
 # a run that ended otherwise, or a plan that wanted more choices than there are

@@ -7,7 +7,9 @@ from formats import BLANKS, Schedule, choices_of_trace, image_fault, schedule_of
 
 MOST_CHOICES = 5_000
 MOST_PLANNED = 1_000_000
-SHOWN = 2_000
+# how many choices a page and a drawing have at most, and how many bytes the trace of a page
+SHOWN = {"show": 1_000_000, "draw": 2_000}
+MOST_TRACE = 16_777_216
 KEPT = 4_096
 RUN_LINE = re.compile(rb"(?m)^[ \t\r]*\.run[ \t\r]*(;.*)?$")
 
@@ -142,8 +144,11 @@ def look_at(room, chance, program, asked):
         if chance.random() < 0.5:
             continue
         answer = room.call(*words)
-        if asked.count() > SHOWN:
-            agrees((answer.status, answer.errors), (3, b"refused %s %d\n" % (words[0].encode(), SHOWN)), f"{words[0]} of too many choices")
+        most = SHOWN[words[0]]
+        if asked.count() > most:
+            agrees((answer.status, answer.errors), (3, b"refused %s %d\n" % (words[0].encode(), most)), f"{words[0]} of too many choices")
+            continue
+        if answer.errors == b"refused show %d\n" % MOST_TRACE and len(room.call("run", program, "schedule").output) > MOST_TRACE:
             continue
         agrees((answer.status, answer.errors), (3 if fault else 0, fault), words[0])
         if any(byte not in b"\n\r\t" and not 32 <= byte < 127 for byte in answer.output):
