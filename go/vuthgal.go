@@ -183,15 +183,11 @@ func Page(program, schedule []byte, app string) (string, error) {
 	if err != nil {
 		return "", err
 	}
-	played, err := Choices([]byte(trace))
-	if err != nil {
-		return "", err
-	}
 	source := string(program)
 	if strings.HasPrefix(source, "PBW1") || strings.HasPrefix(source, "PBW2") {
 		source = ""
 	}
-	for _, it := range [][2]string{{"listing", listing}, {"source", source}, {"schedule", played}, {"trace", trace}} {
+	for _, it := range [][2]string{{"listing", listing}, {"source", source}, {"schedule", strings.Join(strings.Fields(string(schedule)), " ")}, {"trace", trace}} {
 		begin := `<pre id="` + it[0] + `">`
 		app = strings.Replace(app, begin+"\n</pre>", begin+"\n"+escaped.Replace(it[1])+"</pre>", 1)
 	}

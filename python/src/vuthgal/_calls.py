@@ -130,7 +130,7 @@ def page(program: Text, schedule: Text, height: int = 720) -> Page:
     if len(trace) > MOST_TRACE:
         raise TooLong(f"the trace of a page has at most {MOST_TRACE} bytes")
     text = "" if source.startswith(b"PBW") else source.decode("ascii")
-    page = with_texts(app_text(), listing=list(source), source=text, schedule=choices(trace), trace=trace.decode("ascii"))
+    page = with_texts(app_text(), listing=list(source), source=text, schedule=" ".join(tokens.decode("ascii").split()), trace=trace.decode("ascii"))
     return Page(page, height)
 
 

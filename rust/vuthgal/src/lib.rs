@@ -262,7 +262,7 @@ pub fn page(program: &[u8], schedule: &[u8], app: &str) -> Result<String, Fault>
     let texts = [
         ("listing", list(program)?),
         ("source", text(source)),
-        ("schedule", choices(trace.as_bytes())?.schedule),
+        ("schedule", text(schedule.to_vec()).split_whitespace().collect::<Vec<_>>().join(" ")),
         ("trace", trace),
     ];
     Ok(texts.iter().fold(app.to_owned(), |page, (name, it)| put(&page, name, it)))
