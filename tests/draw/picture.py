@@ -104,7 +104,7 @@ class Run:
 
     @staticmethod
     def state(lines, tries):
-        state = {"word": next(lines).split()[3], "t": [], "p": [], "b": [], "ready": set()}
+        state = {"word": next(lines).split()[3], "t": [], "p": [], "b": [], "ready": {}}
         after = next(lines)
         while True:
             words = after.split()
@@ -116,7 +116,7 @@ class Run:
         for number, name in enumerate(tries):
             event = after if number == 0 else next(lines)
             if not event.endswith(" idle"):
-                state["ready"].add(name)
+                state["ready"][name] = event
             next(lines)
         return state
 
@@ -139,6 +139,13 @@ def missing_for(run, state, number):
     return number
 
 
+def released(letter, throws):
+    """What ended a wait that can end, and what its thread does then."""
+    if not throws:
+        return "its phase has ended" if letter == "p" else "tripped", ": can go on"
+    return "broken" if throws[1] == "4" else None, ": throws " + throws[1]
+
+
 def closing(run, state, names, room, width):
     out = []
     for t, words in enumerate(state["t"]):
@@ -157,9 +164,14 @@ def closing(run, state, names, room, width):
         else:
             arrived = of[1]
             parties = re.findall(r"^\.barrier \S+ (\d+)", run.listing, re.M)[number]
-        hope = (": can go on" if "t%d" % t in state["ready"] else ": can expire" if "x%d" % t in state["ready"]
-                else ": stuck" if state["word"] == "stuck" else "")
+        hope = ": can expire" if "x%d" % t in state["ready"] else ": stuck" if state["word"] == "stuck" else ""
         front = "%s waits at %s" % (who, shortened(room, names.name(letter, number)))
+        turn = state["ready"].get("t%d" % t)
+        if turn:
+            by, hope = released(letter, re.search(r" throws (\S+)", turn))
+            if by:
+                out.append(kept_behind(width, "%s (%s)" % (front, by), hope))
+                continue
         at = missing_for(run, state, number) if letter == "p" else number
         if at == number:
             out.append(kept_behind(width, "%s (%s of %s arrived)" % (front, arrived, parties), hope))

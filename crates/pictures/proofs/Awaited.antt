@@ -8,9 +8,9 @@ use Rattle.machine_scene.specs.Scene.{Scene}
 use Rattle.pictures.specs.Picture.{at_phaser, awaited_text}
 use Rattle.pictures.specs.declared.sheet.Sheet.{Sheet}
 
-pub awaited_at : (sheet : Sheet) (symbols : SymbolTable) (scene : Scene) (row : Row) (p : ℕ)
+pub awaited_at : (sheet : Sheet) (symbols : SymbolTable) (scene : Scene) (t : ℕ) (row : Row) (p : ℕ)
     → ((x : Reg) × (row ≡ Paaa x p)) ⊎ (((x : Reg) × (y : Reg) × (row ≡ Pawait x p y))
     ⊎ (((x : Reg) × (y : Reg) × (row ≡ Pawaiti x p y))
     ⊎ ((x : Reg) × (y : Reg) × (z : Reg) × (row ≡ Pawaitt x p y z))))
-    → awaited_text sheet symbols scene row ≡ at_phaser sheet symbols scene.phasers p
-awaited_at sheet symbols scene row p given = grind arith
+    → awaited_text sheet symbols scene t row ≡ at_phaser sheet symbols scene t p
+awaited_at sheet symbols scene t row p given = grind arith

@@ -1,16 +1,20 @@
 -- The picture of a run as a text, line by line. Each block of threads has a line with their names and a line for each choice.
 -- Then follows a line for each thread that waits or died. No line is longer than the picture is wide.
-use Rattle.std.specs.Prelude.{◌≡◌, ℕ, ℤ, zero, suc, ◌+◌, ◌-◌, ◌*◌, ◌/◌, ◌==◌, ◌&&◌, not, nat_lt, min, Bool, if◌then◌else◌, List, [], ◌∷◌, ◌++◌, length, take, flat_map, codes, decimal, Option, Some, None, slice_get}
+use Rattle.std.specs.Prelude.{◌≡◌, ℕ, ℤ, zero, suc, ◌+◌, ◌-◌, ◌*◌, ◌/◌, ◌==◌, ◌&&◌, not, nat_lt, min, Bool, true, false, if◌then◌else◌, List, [], ◌∷◌, ◌++◌, length, take, flat_map, codes, decimal, Option, Some, None, slice_get}
 use Rattle.std.specs.Fmt.{signed_decimal}
 use Rattle.assembler.specs.Symbols.{SymbolTable}
 use Rattle.cyclic_barrier.specs.Barrier.{BarrierState, number_waiting}
+use Rattle.cyclic_barrier.specs.Waits.{wait_at}
+use Rattle.cyclic_barrier.specs.declared.answer.WaitState.{WaitState}
+use Rattle.cyclic_barrier.specs.declared.answer.WaitState.TheVariants as state
 use Rattle.instruction_table.specs.declared.row.Row.{Row}
 use Rattle.instruction_table.specs.declared.row.Row.TheVariants.{Paaa, Pawait, Pawaiti, Pawaitt, Cawait, Cawaitt}
 use Rattle.instruction_table.specs.declared.shape.OperandKind.{OperandKind}
 use Rattle.instruction_table.specs.declared.shape.OperandKind.TheVariants as kind
 use Rattle.loader.specs.Program.{row_at}
-use Rattle.machine_scene.specs.Outcomes.{is_ready}
-use Rattle.machine_scene.specs.Scene.{Scene, thread_at}
+use Rattle.machine_scene.specs.Outcomes.{is_ready, outcome_of}
+use Rattle.machine_scene.specs.PhaserRows.{is_past}
+use Rattle.machine_scene.specs.Scene.{Outcome, Scene, thread_at}
 use Rattle.thread_machine.specs.declared.choice.Choice.{Choice}
 use Rattle.thread_machine.specs.declared.fault.StepFault.{StepFault}
 use Rattle.thread_machine.specs.declared.fault.StepFault.TheVariants as fault
@@ -19,6 +23,8 @@ use Rattle.thread_machine.specs.Ready.{can_expire, is_stuck}
 use Rattle.thread_machine.specs.Step.{Played, played, refusal_of}
 use Rattle.thread_machine.specs.World.{World}
 use Rattle.thread_state.specs.declared.event.Event.{Event}
+use Rattle.thread_state.specs.declared.event.What.{What}
+use Rattle.thread_state.specs.declared.event.What.TheVariants as what
 use Rattle.thread_state.specs.declared.status.Status.{Status}
 use Rattle.thread_state.specs.declared.status.Status.TheVariants as status
 use Rattle.row_code.specs.declared.image.Image.{Image}
@@ -130,9 +136,15 @@ arrived_text arrived parties =
 abbrev pub above_text : ℕ → ℕ → List ℕ
 above_text arrived parties = codes ": " ++ (decimal arrived ++ (codes " of " ++ (decimal parties ++ codes ")")))
 
-abbrev pub barrier_arrived : Option BarrierState → List ℕ
-barrier_arrived None = []
-barrier_arrived (Some barrier) = arrived_text (number_waiting barrier) barrier.parties
+-- how many have arrived at a barrier, or what released a thread that waited at it
+abbrev pub wait_text : Option WaitState → BarrierState → List ℕ
+wait_text (Some state.Tripped) barrier = codes " (tripped)"
+wait_text (Some state.Broken) barrier = codes " (broken)"
+wait_text _ barrier = arrived_text (number_waiting barrier) barrier.parties
+
+abbrev pub barrier_wait : ℕ → Option BarrierState → List ℕ
+barrier_wait t None = []
+barrier_wait t (Some barrier) = wait_text (wait_at barrier.waits t) barrier
 
 -- if all parties of a phaser have arrived, it has arrived at its parent, and a party is missing there or further up
 abbrev pub have_all_arrived : Flat → Bool
@@ -167,43 +179,69 @@ abbrev pub arrived_above : List PhaserState → ℕ → ℕ → List ℕ
 arrived_above phasers p at =
     if at == p then [] else above_text (flat_at phasers at).arrived (flat_at phasers at).parties
 
--- a phaser or a barrier, and how many have arrived there
-abbrev pub at_phaser : Sheet → SymbolTable → List PhaserState → ℕ → List ℕ
-at_phaser sheet symbols phasers p =
+-- a thread of this status waits
+abbrev pub waits : Status → Bool
+waits (status.AwaitsPhase phase) = true
+waits (status.AwaitsBarrier index) = true
+waits _ = false
+
+-- whether the phase that a thread of this status awaits at phaser p has ended
+abbrev pub has_ended : Status → ℕ → Scene → Bool
+has_ended (status.AwaitsPhase phase) p scene = is_past p phase scene
+has_ended _ p scene = false
+
+-- a phaser or a barrier, and how many have arrived there while the wait of thread t goes on
+abbrev pub at_phaser : Sheet → SymbolTable → Scene → ℕ → ℕ → List ℕ
+at_phaser sheet symbols scene t p =
     place_name sheet symbols kind.Phaser p
-    ++ (if nat_lt p (length phasers)
-    then arrived_at sheet symbols phasers p (missing_for phasers p) else [])
+    ++ (if nat_lt p (length scene.phasers)
+    then (if has_ended (thread_at scene t).status p scene then codes " (its phase has ended)"
+    else arrived_at sheet symbols scene.phasers p (missing_for scene.phasers p))
+    else [])
 
-abbrev pub behind_phaser : List PhaserState → ℕ → List ℕ
-behind_phaser phasers p =
-    if nat_lt p (length phasers) then arrived_above phasers p (missing_for phasers p) else []
+abbrev pub behind_phaser : Scene → ℕ → ℕ → List ℕ
+behind_phaser scene t p =
+    if nat_lt p (length scene.phasers) && not (has_ended (thread_at scene t).status p scene)
+    then arrived_above scene.phasers p (missing_for scene.phasers p) else []
 
-abbrev pub at_barrier : Sheet → SymbolTable → Scene → ℕ → List ℕ
-at_barrier sheet symbols scene b = place_name sheet symbols kind.Barrier b ++ barrier_arrived (slice_get scene.barriers b)
+abbrev pub at_barrier : Sheet → SymbolTable → Scene → ℕ → ℕ → List ℕ
+at_barrier sheet symbols scene t b =
+    place_name sheet symbols kind.Barrier b ++ barrier_wait t (slice_get scene.barriers b)
 
--- what a thread at this row waits at
-abbrev pub awaited_text : Sheet → SymbolTable → Scene → Row → List ℕ
-awaited_text sheet symbols scene (Paaa into phaser) = at_phaser sheet symbols scene.phasers phaser
-awaited_text sheet symbols scene (Pawait into phaser phase) = at_phaser sheet symbols scene.phasers phaser
-awaited_text sheet symbols scene (Pawaiti into phaser phase) = at_phaser sheet symbols scene.phasers phaser
-awaited_text sheet symbols scene (Pawaitt into phaser phase timeout) = at_phaser sheet symbols scene.phasers phaser
-awaited_text sheet symbols scene (Cawait into barrier) = at_barrier sheet symbols scene barrier
-awaited_text sheet symbols scene (Cawaitt into barrier timeout) = at_barrier sheet symbols scene barrier
-awaited_text sheet symbols scene _ = []
+-- what thread t waits at, at this row
+abbrev pub awaited_text : Sheet → SymbolTable → Scene → ℕ → Row → List ℕ
+awaited_text sheet symbols scene t (Paaa into phaser) = at_phaser sheet symbols scene t phaser
+awaited_text sheet symbols scene t (Pawait into phaser phase) = at_phaser sheet symbols scene t phaser
+awaited_text sheet symbols scene t (Pawaiti into phaser phase) = at_phaser sheet symbols scene t phaser
+awaited_text sheet symbols scene t (Pawaitt into phaser phase timeout) = at_phaser sheet symbols scene t phaser
+awaited_text sheet symbols scene t (Cawait into barrier) = at_barrier sheet symbols scene t barrier
+awaited_text sheet symbols scene t (Cawaitt into barrier timeout) = at_barrier sheet symbols scene t barrier
+awaited_text sheet symbols scene t _ = []
 
-abbrev pub behind_text : Scene → Row → List ℕ
-behind_text scene (Paaa into phaser) = behind_phaser scene.phasers phaser
-behind_text scene (Pawait into phaser phase) = behind_phaser scene.phasers phaser
-behind_text scene (Pawaiti into phaser phase) = behind_phaser scene.phasers phaser
-behind_text scene (Pawaitt into phaser phase timeout) = behind_phaser scene.phasers phaser
-behind_text scene _ = []
+abbrev pub behind_text : Scene → ℕ → Row → List ℕ
+behind_text scene t (Paaa into phaser) = behind_phaser scene t phaser
+behind_text scene t (Pawait into phaser phase) = behind_phaser scene t phaser
+behind_text scene t (Pawaiti into phaser phase) = behind_phaser scene t phaser
+behind_text scene t (Pawaitt into phaser phase timeout) = behind_phaser scene t phaser
+behind_text scene t _ = []
 
--- whether the thread's wait can end, whether its time can run out, or whether the program is stuck
+-- the exception that a turn meets, if it does
+abbrev pub thrown_in : What → Option ℤ
+thrown_in (what.Throws code) = Some code
+thrown_in _ = None
+
+-- what a thread does whose turn ends its wait
+abbrev pub end_text : Option ℤ → List ℕ
+end_text None = codes ": can go on"
+end_text (Some code) = codes ": throws " ++ signed_decimal code
+
+-- how the thread's wait ends at its next turn, or else whether its time can run out, or the program is stuck
 abbrev pub hope_text : World → ℕ → List ℕ
-hope_text world t =
-    if is_ready t world.program world.scene then codes ": can go on"
-    else (if can_expire t world.program world.scene then codes ": can expire"
-    else (if is_stuck world then codes ": stuck" else []))
+hope_text world t = elim (outcome_of t world.program world.scene) [
+  | Some outcome ↦ end_text (thrown_in outcome.event.what)
+  | None ↦ if can_expire t world.program world.scene then codes ": can expire"
+      else (if is_stuck world then codes ": stuck" else [])
+]
 
 abbrev pub thread_caption : Sheet → SymbolTable → ℕ → List ℕ
 thread_caption sheet symbols t = shortened (name_room sheet) (called symbols kind.Thread t)
@@ -213,8 +251,8 @@ abbrev pub waiting_line : Sheet → SymbolTable → World → ℕ → List ℕ
 waiting_line sheet symbols world t =
     let row = row_at world.program.rows (thread_at world.scene t).pc in
     kept_behind sheet.width
-    (thread_caption sheet symbols t ++ (codes " waits at " ++ awaited_text sheet symbols world.scene row))
-    (behind_text world.scene row ++ hope_text world t)
+    (thread_caption sheet symbols t ++ (codes " waits at " ++ awaited_text sheet symbols world.scene t row))
+    (behind_text world.scene t row ++ hope_text world t)
 
 -- the line of a thread that died of an exception
 abbrev pub dead_line : Sheet → SymbolTable → ℕ → ℤ → List ℕ

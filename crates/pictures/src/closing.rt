@@ -1,8 +1,12 @@
 // The last lines of a picture: who waits at the end, and who died.
-ghost use Rattle.std.specs.Prelude.{◌≡◌, ◌++◌, ◌<◌, length, slice_get, IfOk, OnOk};
-ghost use Rattle.machine_scene.specs.Scene.{scene_of};
+ghost use Rattle.std.specs.Prelude.{◌≡◌, ◌++◌, ◌<◌, ℤ, length, slice_get, true, IfOk, IfSome, OnOk};
+ghost use Rattle.cyclic_barrier.specs.Waits.{wait_at};
+ghost use Rattle.loader.specs.Program.{row_at};
+ghost use Rattle.machine_scene.specs.Scene.{barrier_at, scene_of, thread_at};
+ghost use Rattle.machine_scene.specs.Waits.{outcome_of_barrier_wait, outcome_of_phase_wait};
+ghost use Rattle.packed_phaser.specs.Flat.{view_of};
 ghost use Rattle.thread_machine.specs.World.{world_of};
-ghost use Rattle.pictures.specs.Picture.{above_text, arrived_above, arrived_at, arrived_text, at_phaser, awaited_text, barrier_arrived, behind_phaser, behind_text, closing_lines, closing_of, dead_line, have_all_arrived, hope_text, lines_text, missing_for, name_room, waiting_line};
+ghost use Rattle.pictures.specs.Picture.{above_text, arrived_above, arrived_at, arrived_text, at_phaser, awaited_text, barrier_wait, behind_phaser, behind_text, closing_lines, closing_of, dead_line, has_ended, have_all_arrived, hope_text, lines_text, missing_for, name_room, thrown_in, waiting_line, waits};
 ghost use Rattle.pictures.specs.Caption.{called};
 ghost use Rattle.pictures.specs.Sheet.{shortened};
 ghost use Rattle.tier_tree.specs.Forest.{flat_at};
@@ -12,6 +16,7 @@ use crate::caption::push_called;
 use crate::fitting::{kept_behind, push_count, push_value, shortened};
 use crate::line::{push_line, row_of};
 use crate::pen::Pen;
+use cyclic_barrier::WaitState;
 use instruction_table::{OperandKind, Row};
 use std::alloc::AllocError;
 use thread_machine::{Machine, Status};
@@ -91,40 +96,90 @@ fn push_arrived_at(
     push_arrived_above(back, forest.arrived(at), forest.parties(at))
 }
 
-/// Appends to `front` a phaser's name, and to `front` or `back` how many have arrived there or further up, if it exists.
+/// Returns the phase that a phaser shows, as `Phaser.getPhase`: 0 if it doesn't exist.
+fn phase(forest: &Forest, number: u16) -> i32
+    ensures { result ≡ view_of (flat_at (phasers_of forest.now) number) }
+{
+    if usize::from(number) >= forest.len() {
+        return 0;
+    }
+    forest.is_forest();
+    forest.phase(PhaserId(number as u8))
+}
+
+/// Returns whether the phase that a thread awaits at this phaser has ended.
+fn has_ended(machine: &Machine, thread: u8, phaser: u16) -> bool
+    requires { thread < length machine.now.scene.threads }
+    ensures { let scene = scene_of machine.now.scene in
+        result ≡ has_ended (thread_at scene thread).status phaser scene }
+{
+    match machine.status(thread) {
+        Status::AwaitsPhase(awaited) => phase(machine.forest(), phaser) != awaited,
+        _ => false,
+    }
+}
+
+/// Appends to `front` a phaser's name, and to `front` or `back` how many have arrived there or further up, if it exists and
+/// the thread's wait goes on there.
 fn push_phaser(
     pen: &Pen<'_, '_>,
     front: &mut Vec<u8>,
     back: &mut Vec<u8>,
-    forest: &Forest,
+    machine: &Machine,
+    thread: u8,
     number: u16,
 ) -> Result<(), AllocError>
+    requires { thread < length machine.now.scene.threads }
     ensures front { OnOk result (front.new.items
-        ≡ front.old.items ++ at_phaser pen.now.sheet pen.now.symbols.now (phasers_of forest.now) number) }
-    ensures back { OnOk result (back.new.items ≡ back.old.items ++ behind_phaser (phasers_of forest.now) number) }
+        ≡ front.old.items ++ at_phaser pen.now.sheet pen.now.symbols.now (scene_of machine.now.scene) thread number) }
+    ensures back { OnOk result (back.new.items ≡ back.old.items ++ behind_phaser (scene_of machine.now.scene) thread number) }
 {
     push_name(pen, front, OperandKind::Phaser, u32::from(number))?;
+    let forest = machine.forest();
     if usize::from(number) >= forest.len() {
         return Ok(());
+    }
+    if has_ended(machine, thread, number) {
+        return front.extend_from_slice(b" (its phase has ended)");
     }
     forest.is_forest();
     push_arrived_at(pen, front, back, forest, PhaserId(number as u8))
 }
 
-/// Appends how many parties have arrived at a barrier, and how many there are, if it exists.
-fn push_barrier_arrived(
+/// Returns the state of a thread's wait at a barrier, or `None` if it has none there.
+fn wait_at(machine: &Machine, thread: u8, barrier: u16) -> Option<WaitState>
+    requires { thread < length machine.now.scene.threads }
+    ensures { result ≡ wait_at (barrier_at (scene_of machine.now.scene) barrier).waits thread }
+{
+    // There are at most 64.
+    let _ = machine.thread_count();
+    if usize::from(barrier) >= machine.barrier_count() {
+        return None;
+    }
+    machine.barrier(barrier as u8).wait(thread)
+}
+
+/// Appends how many parties have arrived at a barrier, and how many there are, or what released the thread that waited there. A
+/// barrier that doesn't exist adds nothing.
+fn push_barrier_wait(
     text: &mut Vec<u8>,
     machine: &Machine,
+    thread: u8,
     number: u16,
 ) -> Result<(), AllocError>
+    requires { thread < length machine.now.scene.threads }
     ensures { OnOk result (text.new.items
-        ≡ text.old.items ++ barrier_arrived (slice_get (scene_of machine.now.scene).barriers number)) }
+        ≡ text.old.items ++ barrier_wait thread (slice_get (scene_of machine.now.scene).barriers number)) }
 {
     if usize::from(number) >= machine.barrier_count() {
         return Ok(());
     }
     let barrier = machine.barrier(number as u8);
-    push_arrived(text, barrier.number_waiting(), barrier.parties())
+    match wait_at(machine, thread, number) {
+        Some(WaitState::Tripped) => text.extend_from_slice(b" (tripped)"),
+        Some(WaitState::Broken) => text.extend_from_slice(b" (broken)"),
+        _ => push_arrived(text, barrier.number_waiting(), barrier.parties()),
+    }
 }
 
 /// Appends a name to `text`, shortened to the width that a name may have in the last lines of a picture.
@@ -150,44 +205,81 @@ fn push_awaited(
     front: &mut Vec<u8>,
     back: &mut Vec<u8>,
     machine: &Machine,
+    thread: u8,
     row: Row,
 ) -> Result<(), AllocError>
+    requires { thread < length machine.now.scene.threads }
     ensures front { OnOk result (front.new.items
-        ≡ front.old.items ++ awaited_text pen.now.sheet pen.now.symbols.now (scene_of machine.now.scene) row) }
-    ensures back { OnOk result (back.new.items ≡ back.old.items ++ behind_text (scene_of machine.now.scene) row) }
+        ≡ front.old.items ++ awaited_text pen.now.sheet pen.now.symbols.now (scene_of machine.now.scene) thread row) }
+    ensures back { OnOk result (back.new.items ≡ back.old.items ++ behind_text (scene_of machine.now.scene) thread row) }
 {
     match row {
         Row::Paaa { phaser, .. }
         | Row::Pawait { phaser, .. }
         | Row::Pawaiti { phaser, .. }
-        | Row::Pawaitt { phaser, .. } => push_phaser(pen, front, back, machine.forest(), phaser),
+        | Row::Pawaitt { phaser, .. } => push_phaser(pen, front, back, machine, thread, phaser),
         Row::Cawait { barrier, .. } | Row::Cawaitt { barrier, .. } => {
             push_name(pen, front, OperandKind::Barrier, u32::from(barrier))?;
-            push_barrier_arrived(front, machine, barrier)
+            push_barrier_wait(front, machine, thread, barrier)
         }
         _ => Ok(()),
     }
 }
 
-/// Returns `: can go on`, `: can expire` or `: stuck` for a waiting thread, or nothing if it depends on others that go on.
-fn hope(machine: &Machine, thread: u8) -> &'static [u8]
+/// Returns the exception that a waiting thread throws at its next turn, if its wait can end and does so by one: 3 if the
+/// thread is interrupted, 4 if its barrier broke.
+fn thrown(machine: &Machine, thread: u8, row: Row) -> Option<i32>
     requires { thread < length machine.now.scene.threads }
-    ensures { result.now ≡ hope_text (world_of machine.now) thread }
+    ensures phase { let scene = scene_of machine.now.scene in (phase : ℤ) → (thread_at scene thread).status ≡ Status.AwaitsPhase phase
+        → IfSome (outcome_of_phase_wait row phase thread scene) (λ outcome. result ≡ thrown_in outcome.event.what) }
+    ensures barrier { let scene = scene_of machine.now.scene in (index : ℤ)
+        → IfSome (outcome_of_barrier_wait row index thread scene) (λ outcome. result ≡ thrown_in outcome.event.what) }
+{
+    match row {
+        Row::Pawaiti { phaser, .. } | Row::Pawaitt { phaser, .. } => {
+            if has_ended(machine, thread, phaser) {
+                None
+            } else {
+                Some(3)
+            }
+        }
+        Row::Cawait { barrier, .. } | Row::Cawaitt { barrier, .. } => {
+            match wait_at(machine, thread, barrier) {
+                Some(WaitState::Waiting) => Some(3),
+                Some(WaitState::Broken) => Some(4),
+                _ => None,
+            }
+        }
+        _ => None,
+    }
+}
+
+/// Appends `: can go on`, `: throws 4`, `: can expire` or `: stuck` for a waiting thread, or nothing if it depends on others
+/// that go on.
+fn push_hope(text: &mut Vec<u8>, machine: &Machine, thread: u8, row: Row) -> Result<(), AllocError>
+    requires thread { thread < length machine.now.scene.threads }
+    requires row { let world = world_of machine.now in row ≡ row_at world.program.rows (thread_at world.scene thread).pc }
+    requires waits { waits (thread_at (scene_of machine.now.scene) thread).status ≡ true }
+    ensures { OnOk result (text.new.items ≡ text.old.items ++ hope_text (world_of machine.now) thread) }
 {
     if machine.is_ready(thread) {
-        b": can go on"
+        match thrown(machine, thread, row) {
+            Some(code) => push_value(text, b": throws ", code),
+            None => text.extend_from_slice(b": can go on"),
+        }
     } else if machine.can_expire(thread) {
-        b": can expire"
+        text.extend_from_slice(b": can expire")
     } else if machine.stuck() {
-        b": stuck"
+        text.extend_from_slice(b": stuck")
     } else {
-        b""
+        Ok(())
     }
 }
 
 /// Returns the line of a waiting thread, as `a waits at p (1 of 2 arrived): stuck`. If it is too long, its front is cut.
 fn waiting_line(pen: &Pen<'_, '_>, machine: &Machine, thread: u8) -> Result<Vec<u8>, AllocError>
-    requires { thread < length machine.now.scene.threads }
+    requires thread { thread < length machine.now.scene.threads }
+    requires waits { waits (thread_at (scene_of machine.now.scene) thread).status ≡ true }
     ensures { IfOk result (λ line. line.items ≡ waiting_line pen.now.sheet pen.now.symbols.now (world_of machine.now) thread) }
 {
     let mut front = Vec::new(pen.alloc);
@@ -195,8 +287,8 @@ fn waiting_line(pen: &Pen<'_, '_>, machine: &Machine, thread: u8) -> Result<Vec<
     let row = row_of(machine, thread);
     push_name(pen, &mut front, OperandKind::Thread, u32::from(thread))?;
     front.extend_from_slice(b" waits at ")?;
-    push_awaited(pen, &mut front, &mut back, machine, row)?;
-    back.extend_from_slice(hope(machine, thread))?;
+    push_awaited(pen, &mut front, &mut back, machine, thread, row)?;
+    push_hope(&mut back, machine, thread, row)?;
     kept_behind(
         pen.alloc,
         usize::from(pen.sheet.width),

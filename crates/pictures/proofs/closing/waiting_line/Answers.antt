@@ -23,19 +23,21 @@ returns c =
     let row = row_at world.program.rows (thread_at world.scene c.args.thread).pc in
     let caption = thread_caption sheet symbols c.args.thread in
     let named : c.push_name.new.text.items ≡ c.new-front.result.items ++ caption = search rules in
-    let awaited : c.push_awaited.new.front.items ≡ c.extend_from_slice.new.self.items ++ awaited_text sheet symbols world.scene row =
+    let awaited : c.push_awaited.new.front.items
+    ≡ c.extend_from_slice.new.self.items ++ awaited_text sheet symbols world.scene c.args.thread row =
     c.in_ok-push_awaited.ensures.front
-    ∙ ap (λ r. c.extend_from_slice.new.self.items ++ awaited_text sheet symbols world.scene r) c.row_of-row.ensures in
-    let behind : c.push_awaited.new.back.items ≡ c.new-back.result.items ++ behind_text world.scene row =
-    c.in_ok-push_awaited.ensures.back ∙ ap (λ r. c.new-back.result.items ++ behind_text world.scene r) c.row_of-row.ensures in
-    let hope : c.extend_from_slice-2.new.self.items ≡ c.push_awaited.new.back.items ++ hope_text world c.args.thread = search rules in
-    let front = c.as_slice.ensures.value ∙ three caption (codes " waits at ") (awaited_text sheet symbols world.scene row) _ _ _ _
+    ∙ ap (λ r. c.extend_from_slice.new.self.items ++ awaited_text sheet symbols world.scene c.args.thread r) c.row_of-row.ensures in
+    let behind : c.push_awaited.new.back.items ≡ c.new-back.result.items ++ behind_text world.scene c.args.thread row =
+    c.in_ok-push_awaited.ensures.back
+    ∙ ap (λ r. c.new-back.result.items ++ behind_text world.scene c.args.thread r) c.row_of-row.ensures in
+    let hope : c.push_hope.new.text.items ≡ c.push_awaited.new.back.items ++ hope_text world c.args.thread = search rules in
+    let front = c.as_slice.ensures.value ∙ three caption (codes " waits at ") (awaited_text sheet symbols world.scene c.args.thread row) _ _ _ _
     c.new-front.ensures.items named c.in_ok-extend_from_slice.ensures.items awaited in
-    let back = c.as_slice-2.ensures.value ∙ two (behind_text world.scene row) (hope_text world c.args.thread) _ _ _
+    let back = c.as_slice-2.ensures.value ∙ two (behind_text world.scene c.args.thread row) (hope_text world c.args.thread) _ _ _
     c.new-back.ensures.items behind hope in
     IfOk-weaker c.kept_behind.result (λ line. line.items ≡ kept_behind c.from-2.result c.as_slice.result.now c.as_slice-2.result.now)
     (λ line. line.items ≡ kept_behind sheet.width
-    (caption ++ (codes " waits at " ++ awaited_text sheet symbols world.scene row))
-    (behind_text world.scene row ++ hope_text world c.args.thread))
+    (caption ++ (codes " waits at " ++ awaited_text sheet symbols world.scene c.args.thread row))
+    (behind_text world.scene c.args.thread row ++ hope_text world c.args.thread))
     (λ line is. is ∙ ap (λ room. kept_behind room c.as_slice.result.now c.as_slice-2.result.now) c.from-2.ensures
     ∙ ap₂ (kept_behind sheet.width) front back) c.kept_behind.ensures
