@@ -17,7 +17,7 @@
  * all. If *LENGTH is more than ROOM, the bytes end at ROOM, and the rest is as usual: call again with more room.
  * Nothing is written after the bytes. No zero byte ends them. LINE gets, in the same way, the one line that the program
  * `vuthgal` writes to standard error, with its line feed; it is empty if the status is 0, and for nearly all calls if it is 1.
- * VUTHGAL_LINE bytes are enough for every line but that of vuthgal_explain, which goes on with a list of what can be asked.
+ * VUTHGAL_LINE bytes are enough for every line.
  *
  * Status. Each call returns the exit status of the program, which has a constant VUTHGAL_.. below.
  *
@@ -80,7 +80,7 @@ extern "C" {
 #define VUTHGAL_MOST_COMMANDS 1000000000
 #define VUTHGAL_KEPT 4096
 
-/* Room for the line of every call but vuthgal_explain. */
+/* Room for the line of every call. */
 #define VUTHGAL_LINE 96
 /* Room for the reply of a session to each command but `p`. */
 #define VUTHGAL_REPLY 192

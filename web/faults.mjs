@@ -47,7 +47,7 @@ export class NotATrace extends Differs {
   }
 }
 
-/** No line has the words that were to be explained. `told` lists what can be asked. */
+/** No line has the words that were to be explained. */
 export class NoLine extends Fault {
   constructor(words, told) {
     super(words);

@@ -363,10 +363,10 @@ export class NotATrace extends Differs {
   readonly before: string;
 }
 
-/** No line has the words that were to be explained. */
+/** No line has the words that were to be explained. `explain("")` says what can be asked. */
 export class NoLine extends Fault {
   private constructor();
-  /** What can be asked. */
+  /** The library's line. */
   readonly told: string;
 }
 

@@ -114,8 +114,8 @@ int main(int count, char **words) {
   status = call(command, output.length, line.length);
   if (status == 2 && strcmp(command, "explain") == 0) {
     /* what the library returns for words that it doesn't know is checked here, since the program writes more */
-    const char *known = "error: `explain` doesn't know these words.";
-    if (output.length != 0 || line.length < strlen(known) || memcmp(line.bytes, known, strlen(known)) != 0) return 99;
+    const char *known = "error: `explain` doesn't know these words\n";
+    if (output.length != 0 || line.length != strlen(known) || memcmp(line.bytes, known, strlen(known)) != 0) return 99;
     execv(PROGRAM, words);
     return 127;
   }

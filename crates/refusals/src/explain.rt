@@ -35,25 +35,8 @@ explain rows                        which instructions there are
 explain locks, latch, join, ..      what Java has, and how it is here
 ";
 
-/// What is written if no line has the words, before what can be asked.
-pub const NO_LINE: &[u8] = b"error: `explain` doesn't know these words. You can ask:\n\n";
-
-/// Writes what can be asked.
-fn push_questions<W: Sink>(output: &mut W) -> Result<(), Failed>
-    ensures bytes { OnOk result (Appends (W.written output.old) (W.written output.new) QUESTIONS.now) }
-    ensures failed { OnErr result (IsTrue (W.has_failed output.new)) }
-{
-    output.push(QUESTIONS.as_bytes())
-}
-
-/// Writes that no line has the words, and what can be asked.
-pub fn push_no_line<E: Sink>(errors: &mut E) -> Result<(), Failed>
-    ensures bytes { OnOk result (Appends (E.written errors.old) (E.written errors.new) (NO_LINE.now ++ QUESTIONS.now)) }
-    ensures failed { OnErr result (IsTrue (E.has_failed errors.new)) }
-{
-    errors.push(NO_LINE)?;
-    push_questions(errors)
-}
+/// What is written if no line has the words.
+pub const NO_LINE: &[u8] = b"error: `explain` doesn't know these words\n";
 
 /// Returns the entry of the one word that is asked for, if it is a word of the language.
 fn entry_asked(words: &[&str]) -> Option<WordEntry>
@@ -79,7 +62,7 @@ pub fn explain<W: Sink>(tables: &[&[Entry]], words: &[&str], output: &mut W) -> 
     ensures failed { OnErr result (IsTrue (W.has_failed output.new)) }
 {
     if words.is_empty() {
-        push_questions(output)?;
+        output.push(QUESTIONS.as_bytes())?;
         return Ok(true);
     }
     if let Some(entry) = entry_asked(words) {

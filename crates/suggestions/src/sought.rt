@@ -140,7 +140,7 @@ pub fn push_near_questions<E: Sink>(
     errors: &mut E,
     words: &[&str],
 ) -> Result<(), Failed> {
-    errors.push(NO_LINE)?;
+    push_pieces(errors, &[NO_LINE, b"You can ask:\n"])?;
     let mut found: usize = 0;
     for question in QUESTIONS.split('\n') {
         if found < MOST_LINES && words.iter().any(|word| is_about(question, *word)) {

@@ -7,7 +7,8 @@ ghost use Rattle.vuthgal_c.specs.Words.{AreWordsOf};
 use crate::reply::Reply;
 use byte_ports::Sink;
 use refusals::entries::tables;
-use refusals::explain::{NO_LINE, QUESTIONS, explain, push_no_line};
+use refusals::entry::Entry;
+use refusals::explain::{NO_LINE, QUESTIONS, explain};
 use std::alloc::{AllocError, Global};
 use workbench::done;
 use workbench::fault::Fault;
@@ -26,10 +27,15 @@ fn words_of(alloc: Global, text: &str) -> Result<Vec<&str>, AllocError>
     Ok(words)
 }
 
-/// Writes the entry that a text's words request. Returns whether there is one: false if it isn't UTF-8. If it is too long,
-/// it isn't read (`Read`).
-fn explained<K: Sink>(alloc: Global, text: &[u8], output: &mut K) -> Result<bool, Fault>
-    ensures { ExplainsText QUESTIONS.now text.now result (K.written output.old) (K.written output.new) (K.has_failed output.new) }
+/// Writes the entry of these tables that a text's words request. Returns whether there is one: false if it isn't UTF-8. If it is
+/// too long, it isn't read (`Read`).
+fn explained<K: Sink>(
+    alloc: Global,
+    tables: &[&[Entry]],
+    text: &[u8],
+    output: &mut K,
+) -> Result<bool, Fault>
+    ensures { ExplainsText tables.now QUESTIONS.now text.now result (K.written output.old) (K.written output.new) (K.has_failed output.new) }
 {
     if text.len() > MOST_BYTES {
         return Err(Fault::Read);
@@ -40,7 +46,7 @@ fn explained<K: Sink>(alloc: Global, text: &[u8], output: &mut K) -> Result<bool
     let Ok(words) = words_of(alloc, text) else {
         return Err(Fault::Memory);
     };
-    match explain(&tables(), words.as_slice(), output) {
+    match explain(tables, words.as_slice(), output) {
         Ok(means) => Ok(means),
         Err(_) => Err(Fault::Write),
     }
@@ -48,12 +54,12 @@ fn explained<K: Sink>(alloc: Global, text: &[u8], output: &mut K) -> Result<bool
 
 /// Returns the status: 0, or 2 with a line if there is no entry, or that of the fault, whose line goes to `line`.
 fn settled<E: Sink>(answer: Result<bool, Fault>, line: &mut E) -> u8
-    ensures { SettlesExplaining QUESTIONS.now NO_LINE.now answer result (E.has_failed line.new) (E.written line.old) (E.written line.new) }
+    ensures { SettlesExplaining NO_LINE.now answer result (E.has_failed line.new) (E.written line.old) (E.written line.new) }
 {
     match answer {
         Ok(true) => 0,
         Ok(false) => {
-            let _ = push_no_line(line);
+            let _ = line.push(NO_LINE);
             2
         }
         Err(fault) => done::settled(Err(fault), line),
@@ -73,7 +79,7 @@ pub extern "C" fn vuthgal_explain(
     ensures { Shows (Explains QUESTIONS.now NO_LINE.now words.now) result output.old output.new output_length.new line.old line.new line_length.new }
 {
     let mut reply = Reply::new(alloc, output.len(), line.len());
-    let answer = explained(alloc, words, &mut reply.shown);
+    let answer = explained(alloc, &tables(), words, &mut reply.shown);
     let status = settled(answer, &mut reply.told);
     reply.hand(status, output, output_length, line, line_length)
 }

@@ -62,7 +62,7 @@ class NotATrace(Differs):
 
 
 class NoLine(Error, LookupError):
-    """Words to be explained are those of no line. `told` lists what can be asked."""
+    """Words to be explained are those of no line. `explain("")` says what can be asked."""
 
     def __init__(self, words: str, told: str = "") -> None:
         super().__init__(words, told)
