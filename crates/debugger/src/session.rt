@@ -9,7 +9,7 @@ use crate::stop::NoHistory;
 use crate::undos::Undos;
 use std::alloc::{AllocError, Global};
 use std::marker::Model;
-use thread_machine::{Choice, Event, Machine, StepFault, Undo};
+use thread_machine::{Choice, Event, Machine, StepFault};
 
 mod again;
 mod go;
@@ -118,12 +118,10 @@ impl Debugger {
         ensures memory { result ≡ Err StepFault.Memory → puts_out (world_of self.old.machine) choice ≡ true }
         ensures err { OnErr result (self.new ≡ self.old) }
     {
-        let mut undo = Undo::new();
-        let event = match self.played.step_into(choice, &mut undo) {
+        let event = match self.undos.play(&mut self.played, choice) {
             Ok(event) => event,
             Err(fault) => return Err(fault),
         };
-        self.undos.push(undo);
         Ok(event)
     }
 

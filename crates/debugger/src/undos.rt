@@ -1,27 +1,30 @@
 // What takes back the last choices, in a ring.
-ghost use Rattle.std.specs.Prelude.{◌≡◌, ◌<◌, [], length, slice_get, option_copied, IfOk};
+ghost use Rattle.std.specs.Prelude.{◌≡◌, ◌<◌, [], length, slice_get, option_copied, IfOk, OnOk, OnErr, Option};
+ghost use Rattle.machine_scene.specs.Undo.{Note};
+ghost use Rattle.thread_machine.specs.Stepped.{IsStep};
 ghost use Rattle.debugger.specs.Undos.{with_note, without_newest};
 
 use circular_buffer::HeapCircularBuffer;
 use std::alloc::{AllocError, Global};
 use std::marker::Model;
-use thread_machine::Undo;
+use thread_machine::{Choice, Event, Machine, StepFault, Undo};
 
 /// What undoes the last choices, the newest first, in one block that is allocated whole and written as choices are played.
+/// There is one place more than choices can be undone, for what undoes the next one.
 #[derive(Drop)]
 pub struct Undos {
     kept: HeapCircularBuffer<Undo>,
 }
 
 impl Model for Undos {
-    ghost use Rattle.std.specs.Prelude.{◌<◌};
+    ghost use Rattle.std.specs.Prelude.{◌<◌, ◌-◌, length};
     ghost use Rattle.debugger.specs.Undos.{Kept};
 
     ghost Value = { Kept };
 
-    ghost view = { λ undos. record { notes = undos.kept.items; most = undos.kept.capacity } };
+    ghost view = { λ undos. record { notes = undos.kept.items; most = undos.kept.capacity - 1 } };
 
-    ghost invariant = { λ undos. 0 < undos.kept.capacity };
+    ghost invariant = { λ undos. (length undos.kept.items < undos.kept.capacity) × (1 < undos.kept.capacity) };
 }
 
 impl Undos {
@@ -31,7 +34,7 @@ impl Undos {
         ensures { IfOk result (λ undos. undos ≡ record { notes = []; most = most }) }
     {
         Ok(Undos {
-            kept: HeapCircularBuffer::with_capacity(alloc, most as usize)?,
+            kept: HeapCircularBuffer::with_capacity(alloc, most as usize + 1)?,
         })
     }
 
@@ -44,12 +47,25 @@ impl Undos {
         })
     }
 
-    /// Keeps what undoes one more choice. If the ring is full, what undoes the oldest is lost.
+    /// Plays one choice, and keeps what undoes it, which the step writes into its place in the ring: copying it costs half a
+    /// step. If the ring is full, what undoes the oldest is lost. If the choice is refused, what is kept stays.
     #[inline(always)]
-    pub fn push(&mut self, undo: Undo)
-        ensures { self.new ≡ with_note undo self.old }
+    pub fn play(&mut self, machine: &mut Machine, choice: Choice) -> Result<Event, StepFault>
+        ensures step { (undo : Option Note) × (IsStep machine.old choice result undo machine.new
+            × OnOk result (self.new ≡ with_note undo self.old)) }
+        ensures err { OnErr result (self.new ≡ self.old) }
     {
-        let _ = self.kept.push_front(undo);
+        let _ = self.kept.push_front(Undo::new());
+        let Some(undo) = self.kept.get_mut(0) else {
+            unreachable!()
+        };
+        let played = machine.step_into(choice, undo);
+        if played.is_err() {
+            let _ = self.kept.pop_front();
+        } else if self.kept.is_full() {
+            let _ = self.kept.pop_back();
+        }
+        played
     }
 
     /// Returns how many choices can be undone.

@@ -13,7 +13,7 @@ use crate::stop::Stop;
 use byte_ports::{Failed, Sink};
 use schedule_reader::{Few, Run};
 use std::alloc::AllocError;
-use thread_machine::{Choice, StepFault, Undo};
+use thread_machine::{Choice, StepFault};
 use trace_text::line::{put_event, put_refusal};
 use trace_text::line_end::LineEnd;
 use trace_text::state::state_text;
@@ -129,7 +129,6 @@ impl Debugger {
         ensures { IsCarriedOut (wants_memory self.old (Step choice) ≡ true) result self.old (Step choice) self.new
             (W.written output.old) (W.written output.new) (W.has_failed output.new) }
     {
-        let mut undo = Undo::new();
         let number = self.played.choices() + 1;
         let mut line = LineEnd::new();
         if usize::from(choice.thread) >= self.played.thread_count() {
@@ -137,18 +136,16 @@ impl Debugger {
             return say_line(output, &line);
         }
         let pc = self.played.pc(choice.thread);
-        match self.played.step_into(choice, &mut undo) {
-            Ok(event) => {
-                self.undos.push(undo);
-                put_event(&mut line, number, choice, pc, &event);
-                say_line(output, &line)
-            }
-            Err(StepFault::Memory) => Err(CommandFault::Memory),
+        let event = match self.undos.play(&mut self.played, choice) {
+            Ok(event) => event,
+            Err(StepFault::Memory) => return Err(CommandFault::Memory),
             Err(_) => {
                 put_refusal(&mut line, number, choice, Some(pc));
-                say_line(output, &line)
+                return say_line(output, &line);
             }
-        }
+        };
+        put_event(&mut line, number, choice, pc, &event);
+        say_line(output, &line)
     }
 
     /// Plays the choices of runs like the command `g`, and writes its reply.
