@@ -20,6 +20,9 @@ use workbench::fault::Fault;
 /// The program's name, by whatever name it was called.
 const NAME: &str = "vuthgal";
 
+/// Room for most arguments.
+const ROOM: usize = 4_096;
+
 /// More bytes than the system lets an argument have.
 const LONGEST_WORD: usize = 131_072;
 
@@ -65,13 +68,28 @@ fn push_word(rt: &HostRuntime, words: &mut Vec<String>, word: &str) -> Result<()
     Ok(())
 }
 
+/// Reads the argument of this number into the room, which is made larger only for a long one: clearing it takes time.
+fn read_word(
+    rt: &HostRuntime,
+    number: usize,
+    room: &mut Vec<u8>,
+) -> Result<Result<usize, FillError>, AllocError> {
+    match rt.arg(number, room.as_mut_slice()) {
+        Err(FillError::TooLong) => {
+            room.resize(LONGEST_WORD, 0)?;
+            Ok(rt.arg(number, room.as_mut_slice()))
+        }
+        answer => Ok(answer),
+    }
+}
+
 /// Returns the arguments behind a fixed name of the program, whatever it was called by. One that isn't UTF-8 is an error.
 pub fn given(rt: &HostRuntime) -> Result<Vec<String>, NoCommand> {
     let mut words = Vec::new(rt.alloc());
     push_word(rt, &mut words, NAME)?;
-    let mut room = Vec::from_elem(rt.alloc(), 0u8, LONGEST_WORD)?;
+    let mut room = Vec::from_elem(rt.alloc(), 0u8, ROOM)?;
     for number in 1..usize::MAX {
-        let length = match rt.arg(number, room.as_mut_slice()) {
+        let length = match read_word(rt, number, &mut room)? {
             Ok(length) => length,
             Err(FillError::TooLong) => return Err(NoCommand::Memory),
             Err(FillError::NotPresent) => break,
