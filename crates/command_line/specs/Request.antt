@@ -3,7 +3,7 @@ use Rattle.std.specs.Prelude.{◌≡◌, ◌≢◌, ◌≤◌, ◌+◌, ℕ, Lis
 use Rattle.std.specs.Borrow.{Bor}
 use Rattle.std.specs.Global.{Vec}
 use Rattle.std.specs.Str.Parse.{digits_value}
-use Rattle.clap.specs.Words.{Row, Text, all_of, first_of, found_of, rows_of}
+use Rattle.clap.specs.Words.{App, Row, Text, all_of, first_of, found_of, is_simple, matches_of, rows_of, subcommand_of}
 use Rattle.clap.specs.declared.parser.matches.ArgMatches.{ArgMatches}
 use Rattle.command_line.specs.declared.request.Request.{Request}
 use Rattle.command_line.specs.declared.request.Request.TheVariants as request
@@ -123,3 +123,7 @@ AsksBy name rows (request.Explain words) =
 abbrev pub Asks : List Row → Option (Text × List Row) → Request → Type 0
 Asks rows None asked = IsRun None rows asked
 Asks rows (Some command) asked = AsksBy command.0 command.1 asked
+
+-- the request is what the words of a command line ask for by these commands, if they are simple ones
+abbrev pub AsksFor : App → List Text → Request → Type 0
+AsksFor app words asked = is_simple app ≡ true → Asks (matches_of app words) (subcommand_of app words) asked

@@ -1,8 +1,8 @@
 //! What the arguments of a command line ask for.
-ghost use Rattle.std.specs.Prelude.{◌≡◌, ◌≤◌, ◌+◌, IfOk, IfSome, Some, codes, option_map};
+ghost use Rattle.std.specs.Prelude.{◌≡◌, ◌≤◌, ◌+◌, IfOk, IfSome, Some, codes, map, option_map, string_bytes};
 ghost use Rattle.std.specs.Str.Parse.{digits_value};
-ghost use Rattle.clap.specs.Words.{subcommand_rows_of};
-ghost use Rattle.command_line.specs.Request.{AreInRange, AreOrders, AreSteps, AreWords, Asks, AsksBy, IsFlag, IsInRange, IsNumber, IsRun, given, rows_in, word_of};
+ghost use Rattle.clap.specs.Words.{app_of, subcommand_rows_of};
+ghost use Rattle.command_line.specs.Request.{AreInRange, AreOrders, AreSteps, AreWords, Asks, AsksBy, AsksFor, IsFlag, IsInRange, IsNumber, IsRun, given, rows_in, word_of};
 
 use crate::commands::program;
 use clap::error::ErrorKind;
@@ -428,7 +428,8 @@ fn parsed<'a>(
     program: &mut Command<'a>,
     words: &'a [String],
 ) -> Result<(Request<'a>, Option<When>), Error>
-    ensures { IfOk result (λ both. IsInRange both.0) }
+    ensures range { IfOk result (λ both. IsInRange both.0) }
+    ensures asked { IfOk result (λ both. AsksFor (app_of program.old) (map (λ word. string_bytes word) words.now) both.0) }
 {
     let matches = program.try_get_matches_from_mut(words)?;
     let when = matches.get_str("explain").and_then(|word| When::of(word));

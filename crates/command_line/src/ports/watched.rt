@@ -54,13 +54,17 @@ fn lines_in_piece(bytes: &[u8]) -> u8
 }
 
 /// Returns how many lines end in these bytes.
-pub fn lines_in(bytes: &[u8]) -> u64 {
-    let (pieces, rest) = bytes.as_chunks::<PIECE>();
-    let mut lines = u64::from(lines_in_piece(rest));
-    for piece in pieces {
-        lines = lines.wrapping_add(u64::from(lines_in_piece(piece)));
+pub fn lines_in(bytes: &[u8]) -> u64
+    ensures { result ≡ count_by (λ byte. byte == 10) bytes.now }
+{
+    let mut lines = 0u64;
+    let mut left = bytes;
+    while left.len() > PIECE {
+        let (piece, others) = left.split_at(PIECE);
+        lines += u64::from(lines_in_piece(piece));
+        left = others;
     }
-    lines
+    lines + u64::from(lines_in_piece(left))
 }
 
 /// Where the last line of these bytes begins: behind the last LF, or at 0.
