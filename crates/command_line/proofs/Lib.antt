@@ -1,3 +1,2 @@
 mod Words
 mod ShownFront
-mod FewerGiven

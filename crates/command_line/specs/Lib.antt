@@ -1,4 +1,3 @@
 pub mod Request
 pub mod Input
-pub mod Needed
 pub mod Shown

@@ -1,7 +1,6 @@
 //! The ports of the program: what it reads and writes, over any readers and writers of the system.
 
 pub mod input;
-pub mod needed;
 pub mod printable;
 pub mod reasoned;
 pub mod watched;

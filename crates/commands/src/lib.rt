@@ -23,6 +23,7 @@ mod verdict_lines;
 
 // Pictures of a run.
 pub mod drawing;
+mod enough;
 pub mod page;
 pub mod picture;
 pub mod write_picture;

@@ -1,11 +1,12 @@
 //! Writes a picture of a run, once it is whole.
 ghost use Rattle.std.specs.Prelude.{◌≡◌, ◌≢◌, ◌⊎◌, ◌≤◌, Err, IfErr, IfOk, IsTrue, OnOk, false, length};
-ghost use Rattle.commands.specs.Pictures.{HasMade, HasMissing, HasWritten, HaveNone, program_of, schedule_behind};
+ghost use Rattle.commands.specs.Pictures.{HasMade, HasMissing, HasWritten, HaveNone, IsCut, program_of, schedule_behind};
 ghost use Rattle.pictures.specs.Missing.{IsMissingIn};
 ghost use Rattle.commands.specs.Picture.{HaveNoPicture};
 ghost use Rattle.workbench.specs.Fault.{status_of};
 ghost use Rattle.workbench.specs.Input.{GivesTooMuch, most_bytes};
 
+use crate::enough::read_enough;
 use crate::picture::Picture;
 use byte_ports::{Sink, Source};
 use row_code::is_image_file;
@@ -13,14 +14,15 @@ use std::alloc::Global;
 use thread_machine::Choice;
 use workbench::Program;
 use workbench::fault::Fault;
-use workbench::input::read_all;
 use workbench::run_line::split_at_run;
 
 /// Writes the picture of a program under the schedule in `schedule` to `output`, once it is whole. Returns the choice of a
-/// thread that doesn't exist, with its place from 1, if one ended the run.
+/// thread that doesn't exist, with its place from 1, if one ended the run. A schedule that is refused, or that has more than
+/// `most` choices, isn't read further than that.
 pub fn make<P: Picture, S: Source, K: Sink>(
     alloc: Global,
     picture: &P,
+    most: u64,
     program: Program<'_>,
     schedule: &mut S,
     output: &mut K,
@@ -32,13 +34,32 @@ pub fn make<P: Picture, S: Source, K: Sink>(
         → HaveNone P.kind fault program.entry.image (S.left schedule.old) (S.left schedule.new)) }
     ensures unwritten { IfErr result (λ fault. fault ≢ Fault.Write → K.written output.new ≡ K.written output.old) }
     ensures read { result ≡ Err Fault.Read → IsTrue (S.has_failed schedule.new)
-        ⊎ GivesTooMuch (S.left schedule.old) (S.left schedule.new) }
+        ⊎ (GivesTooMuch (S.left schedule.old) (S.left schedule.new)
+        ⊎ IsCut (S.left schedule.old) (S.left schedule.new)) }
     ensures memory { result ≡ Err Fault.Memory → S.has_failed schedule.new ≡ false }
     ensures spawn { result ≢ Err Fault.Spawn }
     ensures write { result ≡ Err Fault.Write → IsTrue (K.has_failed output.new) }
 {
-    let choices = read_all(alloc, schedule)?;
-    write(alloc, picture, program, choices.as_slice(), output)
+    let (choices, is_whole) = read_enough(alloc, schedule, most)?;
+    if is_whole {
+        write(alloc, picture, program, choices.as_slice(), output)
+    } else {
+        Err(why_none(alloc, picture, program, choices.as_slice()))
+    }
+}
+
+/// Returns why there is no picture under a schedule that begins like this, and that wasn't read further.
+fn why_none<P: Picture>(alloc: Global, picture: &P, program: Program<'_>, front: &[u8]) -> Fault
+    requires { length front.now ≤ most_bytes }
+    ensures refused { status_of result ≡ 3 → HaveNoPicture P.kind result program.entry.image front.now }
+    ensures other { (result ≢ Fault.Write) × (result ≢ Fault.Spawn) }
+{
+    match picture.of(alloc, program, front) {
+        Err(fault) => fault,
+        // The front has a fault or too many choices, so nothing comes here. But because of this a picture that is written is one of
+        // the whole schedule, whatever `read_enough` takes for enough.
+        Ok(_) => Fault::Read,
+    }
 }
 
 /// Returns the program and the schedule of a file: a text has one after its line `.run`. An image, or a text without, has none.
@@ -54,8 +75,9 @@ pub fn parts_of(file: &[u8]) -> (&[u8], &[u8])
     }
 }
 
-/// Writes a picture, once it is whole. Returns the choice of a thread that doesn't exist, with its place, if one ended the run.
-fn write<P: Picture, K: Sink>(
+/// Writes a picture under this schedule, once it is whole. Returns the choice of a thread that doesn't exist, with its place from
+/// 1, if one ended the run.
+pub fn write<P: Picture, K: Sink>(
     alloc: Global,
     picture: &P,
     program: Program<'_>,

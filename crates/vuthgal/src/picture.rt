@@ -4,7 +4,6 @@ use crate::run::{Choices, NO_SCHEDULE, fail};
 use crate::steps::{OpenSteps, opened, planned};
 use crate::{input, notes};
 use byte_ports::{ReadPort, WritePort};
-use command_line::ports::needed::Needed;
 use command_line::ports::watched::Watched;
 use command_line::request::Steps;
 use commands::drawing::Drawing;
@@ -40,29 +39,27 @@ fn made<P: Picture>(
         _ => shown,
     };
     let source = ReadPort::new(choices.stream);
-    let watched = Watched::new(report.alloc(), source, choices.lines);
-    let mut schedule = Needed::new(report.alloc(), watched, most).map_err(|_| report.fault(
-        Fault::Memory,
-    ))?;
+    let mut schedule = Watched::new(report.alloc(), source, choices.lines);
     let mut output = WritePort::new(report.kept(report.rt.stdout()));
-    let answer = make(report.alloc(), picture, program, &mut schedule, &mut output);
+    let answer = make(
+        report.alloc(),
+        picture,
+        most,
+        program,
+        &mut schedule,
+        &mut output,
+    );
     match flushed(answer, &mut output) {
         Ok(missing) => {
             if choices.live == NO_SCHEDULE {
                 report.help(NO_SCHEDULE);
             }
             if let Some((number, _)) = missing {
-                schedule::note_missing(report, name, schedule.source(), number);
+                schedule::note_missing(report, name, &schedule, number);
             }
             Ok(Done::AsAsked)
         }
-        Err(Fault::Schedule(fault)) => Err(schedule::fail(
-            report,
-            name,
-            origin,
-            schedule.source(),
-            fault,
-        )),
+        Err(Fault::Schedule(fault)) => Err(schedule::fail(report, name, origin, &schedule, fault)),
         Err(fault) => Err(fail(report, file, name, fault)),
     }
 }

@@ -8,11 +8,10 @@ use crate::files::{is_within, whole_program};
 use crate::reply::Reply;
 use byte_ports::Sink;
 use commands::drawing::Drawing;
-use commands::write_picture::make;
+use commands::write_picture::write;
 use std::alloc::Global;
 use workbench::done::settled_as_asked;
 use workbench::fault::Fault;
-use workbench::slice_source::SliceSource;
 
 /// Writes the drawing of the program in a file under a schedule. If one of them has more than 16,777,216 bytes, it is `Read`.
 fn drawn<K: Sink>(
@@ -29,13 +28,12 @@ fn drawn<K: Sink>(
     if !is_within(file) || !is_within(schedule) {
         return Err(Fault::Read);
     }
-    let mut schedule = SliceSource::new(schedule);
     let program = match whole_program(alloc, file) {
         Ok(program) => program,
         Err(fault) => return Err(fault),
     };
     let drawing = Drawing { width };
-    match make(alloc, &drawing, program, &mut schedule, output) {
+    match write(alloc, &drawing, program, schedule, output) {
         Ok(_) => Ok(()),
         Err(fault) => Err(fault),
     }

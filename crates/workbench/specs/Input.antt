@@ -1,5 +1,5 @@
 -- How many bytes an input may have, and what it means that all of them were read.
-use Rattle.std.specs.Prelude.{ℕ, ◌+◌, ◌<◌, ◌≤◌, List, length, Option}
+use Rattle.std.specs.Prelude.{ℕ, ◌+◌, ◌<◌, ◌≤◌, Bool, true, false, List, ◌++◌, length, Option}
 use Rattle.std.specs.Io.KnownBytes.{Consumes, IsAtEnd}
 
 -- how many bytes an input may have
@@ -14,6 +14,12 @@ GivesTooMuch before after =
 -- a source gave this text, no longer than an input may be, and has nothing left
 abbrev pub GivesAll : Option (List ℕ) → Option (List ℕ) → List ℕ → Type 0
 GivesAll before after text = Consumes before after text × IsAtEnd after × (length text ≤ most_bytes)
+
+-- a source gave this text first, no longer than an input may be; if that is the whole, it has nothing left
+abbrev pub GivesFront : Option (List ℕ) → Option (List ℕ) → List ℕ → (is_whole : Bool) → Type 0
+GivesFront before after text true = GivesAll before after text
+GivesFront before after text false =
+    (others : List ℕ) × (Consumes before after (text ++ others) × (length text ≤ most_bytes))
 
 -- each of so many reads returned a byte
 abbrev pub GivesInEach : ℕ → Option (List ℕ) → Option (List ℕ) → Type 0

@@ -8,10 +8,10 @@ use byte_ports::Source;
 use std::alloc::Global;
 
 /// How many bytes an input may have.
-const MOST_BYTES: usize = 16_777_216;
+pub const MOST_BYTES: usize = 16_777_216;
 
 /// How many bytes are asked for at a time.
-const PIECE: usize = 4096;
+pub const PIECE: usize = 4096;
 
 /// Reads the next bytes to the start of `piece`, and returns how many: 0 only at the end.
 pub fn pull<S: Source>(source: &mut S, piece: &mut [u8]) -> Result<usize, Fault>
@@ -28,7 +28,7 @@ pub fn pull<S: Source>(source: &mut S, piece: &mut [u8]) -> Result<usize, Fault>
 }
 
 /// Appends a piece. Fails with `Read` if there would be more than 16,777,216 bytes.
-fn append(bytes: &mut Vec<u8>, piece: &[u8]) -> Result<(), Fault>
+pub fn append(bytes: &mut Vec<u8>, piece: &[u8]) -> Result<(), Fault>
     requires { length bytes.old.items ≤ most_bytes }
     ensures appended { OnOk result (bytes.new.items ≡ bytes.old.items ++ piece.now) }
     ensures few { OnOk result (length bytes.new.items ≤ most_bytes) }
