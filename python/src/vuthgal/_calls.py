@@ -8,6 +8,7 @@ from ._errors import Differs, Malformed, NoLine, NotATrace, OutOfMemory, Refused
 from ._library import called, expects, mistaken, version_text
 from ._page import app_text, with_texts
 from ._shown import INPUTS, Drawing, Mistake, Outcome, Page, Schedule
+from ._text import is_image
 from ._trace import State, Trace
 
 #: What a page can hold.
@@ -129,7 +130,7 @@ def page(program: Text, schedule: Text, height: int = 720) -> Page:
     trace = bytes(run(source, tokens))
     if len(trace) > MOST_TRACE:
         raise TooLong(f"the trace of a page has at most {MOST_TRACE} bytes")
-    text = "" if source.startswith(b"PBW") else source.decode("ascii")
+    text = "" if is_image(source) else source.decode("ascii")
     page = with_texts(app_text(), listing=list(source), source=text, schedule=" ".join(tokens.decode("ascii").split()), trace=trace.decode("ascii"))
     return Page(page, height)
 
@@ -166,7 +167,7 @@ def mistake(program: Text, plan: Optional[Text] = None, schedule: Optional[Text]
     elif schedule is not None:
         kind, steps = 2, _bytes(schedule)
     else:
-        kind, steps = 3 if re.search(rb"^\.run\s*$", text, re.M) else 0, b""
+        kind, steps = 0 if is_image(text) else 3, b""
     status, hint, line, place = mistaken(text, kind, steps)
     if status != 3:
         _told(status, b"", line)

@@ -2,13 +2,13 @@
 plays the program itself."""
 import argparse
 import html
-import re
 import tempfile
 import webbrowser
 from pathlib import Path
 from typing import Dict, List, Optional, Sequence, Union
 
 from ._page import app_text, with_programs, with_texts
+from ._text import parts
 
 MOST = 4_000_000
 
@@ -17,16 +17,12 @@ def _read(path: Path) -> Dict[str, str]:
     """A program's file: its text and its plan, which is behind its line `.run`, or in a file beside it."""
     if path.stat().st_size > MOST:
         raise ValueError(f"{path} has more than {MOST} bytes")
-    run, behind = "", ""
-    program = path.read_text(encoding="utf-8", errors="replace")
-    found = re.search(r"^[ \t]*\.run[ \t\r]*(?:;.*)?$\n?", program, re.M)
-    if found:
-        program, run = program[: found.start()], program[found.end():]
-    for suffix in (".plan", ".schedule"):
-        if path.with_suffix(suffix).is_file() and not run:
-            behind = path.with_suffix(suffix).read_text(encoding="utf-8", errors="replace")
-            break
-    return {"name": path.stem, "title": path.stem, "program": program, "plan": " ".join((run or behind or "..").split())}
+    program, plan = parts(path.read_bytes())
+    for beside in (path.with_suffix(".plan"), path.with_suffix(".schedule")):
+        if not plan and beside.is_file():
+            plan = beside.read_bytes()
+    text, order = (it.decode("utf-8", "replace").replace("\r\n", "\n") for it in (program, plan or b".."))
+    return {"name": path.stem, "title": path.stem, "program": text, "plan": " ".join(order.split())}
 
 
 class Playground:

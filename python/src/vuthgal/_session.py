@@ -7,6 +7,7 @@ from typing import Any, Hashable, Iterator, List, Optional, Tuple, Type, Union
 from ._calls import Text, _program, _told
 from ._errors import Closed, Malformed, NoHistory, NoThread, StepLimit
 from ._library import Held
+from ._text import names
 from ._trace import Barrier, Cells, Line, Phaser, State, Thread, What
 
 #: The number of a thread, or its name in the program's text.
@@ -53,19 +54,6 @@ def _thread(number: int, numbers: Tuple[int, ...], stack: List[Any], outputs: Li
 def _place(numbers: Tuple[int, ...]) -> Optional[str]:
     """Where a thread of these numbers waits."""
     return {2: f"p{numbers[10]}", 3: f"b{numbers[10]}"}.get(numbers[13])
-
-
-def _names(program: bytes) -> List[str]:
-    """The names of a text's threads. An image has none."""
-    names = []
-    if not program.startswith((b"PBW1", b"PBW2")):
-        for line in program.split(b"\n"):
-            words = line.split(b";")[0].split()
-            if words[:1] == [b".run"]:
-                break
-            if words[:1] == [b".thread"] and len(words) > 1:
-                names.append(words[1].decode("ascii"))
-    return names
 
 
 class _Use:
@@ -116,7 +104,7 @@ class Session:
         self._used = _Use(self._held)
         status, line = self._held.open(text)
         _told(status, b"", line)
-        self.threads = tuple(_names(text))
+        self.threads = tuple(name for name, word in names(text) if word.startswith("t"))
 
     def command(self, line: Union[str, bytes]) -> str:
         """The reply to a command of the debugger, such as `k 3` or `g t0*3 t1`. It raises `Malformed` where the reply would be `?`."""
