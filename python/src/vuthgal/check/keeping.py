@@ -8,8 +8,10 @@ from pathlib import Path
 from typing import List, Sequence, Union
 
 from .. import _calls as vuthgal
+from .ends import Outcome
 from .kept import ENDINGS
 
+WRITABLE = "a folder and a file that may be written, and free space"
 _COUNTED = re.compile(r"[0-9]+ ((?:all|stuck|live)(?:[+]died)?)(?: [?][0-9]+)?((?: [^ ]+)+)")
 
 
@@ -33,6 +35,17 @@ def write(path: Union[str, Path], text: bytes, new: bool = False) -> None:
     finally:
         if os.path.lexists(beside):
             os.unlink(beside)
+
+
+def updated(outcome: Outcome) -> Outcome:
+    """Writes the trace that an outcome says is to be written. It is another outcome where this can't be done."""
+    if outcome.trace is None or outcome.path is None:
+        return outcome
+    try:
+        write(outcome.path, outcome.trace)
+    except OSError:
+        return Outcome(f"{outcome.path.name} can't be written", 5, outcome.path, more=(f"help: {WRITABLE}",))
+    return outcome
 
 
 def keep(name: str, lines: Sequence[str], which: str = "") -> List[Path]:
