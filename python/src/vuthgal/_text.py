@@ -1,4 +1,4 @@
-"""What the package itself reads of a program's text: its line `.run`, and its names. The library reads all else."""
+"""What the package itself reads of texts: their lines, and of a program the line `.run` and the names. The library reads all else."""
 import re
 from typing import List, Optional, Tuple
 
@@ -8,6 +8,11 @@ _LETTERS = {b".thread": "t", b".phaser": "p", b".barrier": "b", b".cell": "c"}
 
 def is_image(program: bytes) -> bool:
     return program.startswith((b"PBW1", b"PBW2"))
+
+
+def lines_of(text: bytes) -> List[bytes]:
+    """The lines of a text, each with its LF: only an LF ends a line, and the last line may lack it."""
+    return re.findall(rb"[^\n]*\n|[^\n]+", text)
 
 
 def parts(text: bytes) -> Tuple[bytes, Optional[bytes]]:

@@ -3,7 +3,6 @@ import errno
 import os
 import re
 import stat
-import tempfile
 from pathlib import Path
 from typing import List, Sequence, Union
 
@@ -21,13 +20,12 @@ def write(path: Union[str, Path], text: bytes, new: bool = False) -> None:
     path = Path(os.path.realpath(path))
     if not new and path.exists() and not os.access(path, os.W_OK):
         raise PermissionError(errno.EACCES, "it may not be written", str(path))
-    handle, beside = tempfile.mkstemp(prefix=f".{path.name}.", dir=path.parent)
+    beside = path.with_name(f".{path.name}.{os.urandom(4).hex()}")
     try:
-        with os.fdopen(handle, "wb") as file:
+        with open(beside, "xb") as file:
             file.write(text)
-        mask = os.umask(0)
-        os.umask(mask)
-        os.chmod(beside, stat.S_IMODE(path.stat().st_mode) if path.exists() else 0o666 & ~mask)
+        if path.exists():
+            beside.chmod(stat.S_IMODE(path.stat().st_mode))
         if new:
             os.link(beside, path)
         else:

@@ -5,7 +5,7 @@ import functools
 import os
 import re
 from pathlib import Path
-from typing import Collection, Dict, Iterator, List, NamedTuple, Optional, Sequence, Tuple, Union
+from typing import Collection, Iterator, List, NamedTuple, Optional, Sequence, Set, Tuple, Union
 
 #: the endings of a run's files
 ENDINGS = ("asm", "txt", "schedule", "plan", "trace", "expect")
@@ -157,27 +157,25 @@ def _where(folder: Path) -> str:
         return str(folder)
 
 
-def collect(
-    folder: Union[str, Path], below: bool = False, lead: str = "", seen: Optional[Dict[str, bool]] = None
-) -> Iterator[Found]:
-    """All of a folder, and with `below` of the folders in it; otherwise those that have runs are told. A folder is looked at
-    once, whatever links lead to it: `seen` says of each whether it, or one in it, has a run."""
-    folder, seen = Path(folder), {} if seen is None else seen
+def collect(folder: Union[str, Path], below: bool = False, seen: Optional[Set[str]] = None) -> Iterator[Found]:
+    """All of a folder, and with `below` of the folders in it; otherwise those that have runs are told. A folder that has been seen
+    isn't looked at again, whatever link leads to it."""
+    return _collect(Path(folder), below, "", set() if seen is None else seen)
+
+
+def _collect(folder: Path, below: bool, lead: str, seen: Set[str]) -> Iterator[Found]:
     where = _where(folder)
     if where in seen:
         return
-    seen[where] = False
-    for found in look(folder, lead):
-        seen[where] = seen[where] or isinstance(found, Kept) or found.status == 5
-        yield found
+    seen.add(where)
+    yield from look(folder, lead)
     try:
         folders = _entries(folder)[1]
     except OSError:
         return
     for name in folders:
         if below:
-            yield from collect(folder / name, True, f"{lead}{name}/", seen)
-            seen[where] = seen[where] or seen[_where(folder / name)]
+            yield from _collect(folder / name, True, f"{lead}{name}/", seen)
         elif _has_parts(folder / name):
             yield Left(f"{lead}{name}/", folder / name, "it isn't looked at", "--below", 0, False)
 
@@ -202,16 +200,16 @@ def named(paths: Sequence[Union[str, Path]], below: bool = False) -> Iterator[Fo
 
 
 def _found(paths: List[Path], below: bool) -> Iterator[Found]:
-    seen: Dict[str, bool] = {}
+    seen: Set[str] = set()
     wheres = set(map(_where, paths))
     for path in paths:
         run = None if path.is_dir() else run_of(path)
         if run:
             yield run
             continue
-        for found in collect(path, below, "", seen):
+        for found in collect(path, below, seen):
             if not (isinstance(found, Left) and found.status == 0 and _where(found.path) in wheres):
                 yield found
-        if not seen[_where(path)]:
+        if not any(isinstance(it, Kept) or it.status == 5 for it in collect(path, below)):
             helps = A_PROGRAM if below else "--below looks at the folders in it, too"
             yield Left(str(path), path, "no program is in it", helps, 1, False)

@@ -9,7 +9,7 @@ from typing import Dict, List, Optional, Tuple
 
 from .. import _calls as vuthgal
 from .._errors import Differs, Error, NotATrace, Refused, TooLong
-from .._text import parts
+from .._text import lines_of, parts
 from . import expected
 from .ends import Ends, Outcome
 from .kept import Found, Kept, WITH_RUN, reason
@@ -76,7 +76,7 @@ def _shown(who: str, line: bytes) -> str:
 
 def _differences(trace: bytes, run: bytes, most: int) -> Tuple[int, List[str]]:
     """The first line in which a trace isn't that of the run, and at most so many lines of each that differ."""
-    left, right = (re.findall(rb"[^\n]*\n|[^\n]+", text) for text in (trace, run))
+    left, right = lines_of(trace), lines_of(run)
     differ = [n for n in range(max(len(left), len(right))) if left[n : n + 1] != right[n : n + 1]]
     both = (("trace", left), ("run", right))
     shown = [_shown(who, lines[n].rstrip(b"\n")) for n in differ[:most] for who, lines in both if n < len(lines)]
