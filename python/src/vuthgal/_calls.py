@@ -30,6 +30,11 @@ def _bytes(text: Text) -> bytes:
         return file.read()
 
 
+def trace_bytes(trace: Union[Trace, Text]) -> bytes:
+    """The bytes of a trace, of its text, or of the file that holds it."""
+    return bytes(trace) if isinstance(trace, Trace) else _bytes(trace)
+
+
 def _program(text: Text) -> bytes:
     """The bytes of a program. A string is its text: one line that looks like the name of a file is a mistake, since no program has one
     line. No file is looked for: the string may be that of a stranger."""
@@ -78,7 +83,7 @@ def list(program: Text) -> str:
 
 def compare(program: Text, trace: Union[Trace, Text]) -> None:
     """Compares a trace with the run that it names. It raises `Differs` where a line differs, `NotATrace` where it is none."""
-    told = _two("compare", _program(program), bytes(trace) if isinstance(trace, Trace) else _bytes(trace)).decode("ascii").rstrip()
+    told = _two("compare", _program(program), trace_bytes(trace)).decode("ascii").rstrip()
     if told != "same":
         which = NotATrace if told.startswith("not") else Differs
         raise which(told, int(told.split()[-1]))
@@ -86,7 +91,7 @@ def compare(program: Text, trace: Union[Trace, Text]) -> None:
 
 def choices(trace: Union[Trace, Text]) -> str:
     """The schedule of a trace. It raises `NotATrace` where it is none."""
-    text = bytes(trace) if isinstance(trace, Trace) else _bytes(trace)
+    text = trace_bytes(trace)
     status, output, line = called("choices", text, len(text))
     told = _told(status, output, line).decode("ascii")
     if status == 0:
