@@ -1,10 +1,8 @@
 """The plugin of pytest: kept runs are tests where they are asked for, and nothing is green by mistake. It needs pytest:
 python3 tests/check/plugin.py."""
 import os
-import shutil
 import subprocess
 import sys
-import unittest
 from pathlib import Path
 from xml.etree import ElementTree as xml
 

@@ -56,8 +56,8 @@ GREEN = [
     text(b" .run ; its turns\nt0", expect=b"a waits"),
     # none of these endings is taken for one of ours
     {f"m.{it}": b"" for it in (
-        "java commands session c go rs js ts py kt html css png svg pdf json yaml yml xml csv log out err sh sed lua image bak orig"
-        " png.md text table expr train").split()},
+        "java commands session c go rs js ts py kt html css png svg pdf json yaml yml xml csv log out err sh sed lua image bak"
+        " orig png.md text table expr train").split()},
 ]
 # .. or one run isn't: what is said of it, its status, its line, and a part of what is shown
 RED = [

@@ -1,4 +1,4 @@
-"""What the package itself reads of texts: their lines, and of a program the line `.run` and the names. The library reads all else."""
+"""What the package itself reads of texts: lines, and of a program's the line `.run` and the names. The library reads all else."""
 import re
 from typing import List, Optional, Tuple
 

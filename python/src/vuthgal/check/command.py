@@ -34,7 +34,7 @@ import re
 import signal
 import sys
 import time
-from typing import Any, List, NoReturn, Optional, Sequence
+from typing import Any, NoReturn, Optional, Sequence
 
 from .._errors import Error
 from .keeping import WRITABLE, keep, updated

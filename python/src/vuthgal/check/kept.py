@@ -64,7 +64,7 @@ def reason(error: OSError) -> str:
 
 @functools.lru_cache(maxsize=None)
 def near_ending(ending: str) -> Optional[str]:
-    """Which ending of a run's files this one is, or nearly is: in capitals, cut, with more behind it, or with other letters."""
+    """Which ending of a run's files this one is, or nearly is: in capitals, cut, with more behind it, with other letters."""
     small = ending.lower()
     if small in ENDINGS or len(small) < 3:
         return small if small in ENDINGS else None
@@ -122,9 +122,10 @@ def _left(folder: Path, name: str, run: Optional[Kept], lead: str) -> Optional[L
         return None
     if near and near != ending:
         return Left(lead + name, path, f"its ending is written .{near}", "this ending, or one that is less like it")
+    if run and ending == "txt" and _has_line(path, rb"\.run"):
+        return Left(lead + name, path, f"{stem}.asm is played in its place", "another name for one of them")
     if run:
-        is_run = ending == "txt" and _has_line(path, rb"\.run")
-        return Left(lead + name, path, f"{stem}.asm is played in its place", "another name for one of them") if is_run else None
+        return None
     if ending == "txt" and stem and _has_line(path, rb"\.thread"):
         return Left(lead + name, path, "it has no line `.run`", WITH_RUN)
     why = f"there is no {stem}.asm" if near and near != "txt" else "it belongs to no run"
@@ -158,8 +159,8 @@ def _where(folder: Path) -> str:
 
 
 def collect(folder: Union[str, Path], below: bool = False, seen: Optional[Set[str]] = None) -> Iterator[Found]:
-    """All of a folder, and with `below` of the folders in it; otherwise those that have runs are told. A folder that has been seen
-    isn't looked at again, whatever link leads to it."""
+    """All of a folder, and with `below` of the folders in it; otherwise those that have runs are told. A folder that has been
+    seen isn't looked at again, whatever link leads to it."""
     return _collect(Path(folder), below, "", set() if seen is None else seen)
 
 
@@ -184,7 +185,8 @@ def run_of(path: Union[str, Path]) -> Optional[Kept]:
     """The run that a path names: by one of its files, or by its name alone."""
     path = Path(path)
     for stem in (path.name, path.name.rpartition(".")[0] if os.path.lexists(path) else ""):
-        found = _kept(path.parent, stem, [name for name in (f"{stem}.{it}" for it in ENDINGS) if os.path.lexists(path.parent / name)])
+        names = (f"{stem}.{it}" for it in ENDINGS)
+        found = _kept(path.parent, stem, [it for it in names if os.path.lexists(path.parent / it)])
         if found:
             return found
     return None
