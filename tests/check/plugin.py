@@ -1,10 +1,8 @@
 """The plugin of pytest: kept runs are tests where they are asked for, and nothing is green by mistake. It needs pytest:
 python3 tests/check/plugin.py."""
 import os
-import shutil
 import subprocess
 import sys
-import unittest
 from pathlib import Path
 from xml.etree import ElementTree as xml
 
@@ -37,25 +35,23 @@ class ByPytest(units.Folder):
         Path("test_own.py").write_text("def test_own():\n    pass\n")
         self.assertEqual(self.pytest()[1][-1].split(" in ")[0], "1 passed")
         Path("pytest.ini").write_text("[pytest]\nvuthgal = kept\n")
-        self.assertEqual(self.pytest()[1][-1].split(" in ")[0], "3 passed")
-        self.assertEqual(self.pytest("test_own.py")[1][-1].split(" in ")[0], "1 passed")
-        self.assertEqual(self.pytest("kept/d.asm")[1][-1].split(" in ")[0], "1 passed")
-        self.assertEqual(self.pytest("kept/m.asm::m", "test_own.py")[1][-1].split(" in ")[0], "2 passed")
+        for words, said in (
+            ([], "3 passed"), (["test_own.py"], "1 passed"), (["kept/d.asm"], "1 passed"), (["kept/d.plan"], "1 passed"),
+            (["kept/m.asm::m", "test_own.py"], "2 passed"),
+        ):
+            self.assertEqual(self.pytest(*words)[1][-1].split(" in ")[0], said)
 
     def test_loaded_late(self):
         """Where nobody asks for it, neither the package nor the library is loaded."""
         late = "import sys\ndef test_late():\n    assert 'vuthgal_pytest' in sys.modules and 'vuthgal' not in sys.modules\n"
         Path("test_late.py").write_text(late)
-        sources = str(Path(units.__file__).resolve().parents[2] / "python" / "src")
-        command = [sys.executable, "-m", "pytest", "-q", "-p", "no:cacheprovider", "-p", "vuthgal_pytest"]
-        environment = {**os.environ, "PYTHONPATH": sources, "PYTHONDONTWRITEBYTECODE": "1"}
-        told = subprocess.run(command, stdout=subprocess.PIPE, env=environment)
+        command = [sys.executable, "-B", "-m", "pytest", "-q", "-p", "no:cacheprovider", "-p", "vuthgal_pytest"]
+        told = subprocess.run(command, stdout=subprocess.PIPE, env={**os.environ, "PYTHONPATH": os.pathsep.join(sys.path)})
         self.assertEqual(told.returncode, 0, told.stdout)
 
     def test_places(self):
-        self.put("m.trace", units.TRACE.replace(b"out 1", b"out 5", 1))
-        self.put("d.asm", units.DOOR.replace(b"lds", b"lsd"))
-        self.put("late.plan", b"")
+        trace, door = units.TRACE.replace(b"out 1", b"out 5", 1), units.DOOR.replace(b"lds", b"lsd")
+        self.put({"m.trace": trace, "d.asm": door, "late.plan": b""})
         status, lines = self.pytest("--vuthgal", "kept", "--junitxml", "report.xml")
         self.assertEqual(status, 1)
         for line in (
@@ -70,10 +66,9 @@ class ByPytest(units.Folder):
         os.mkdir("empty")
         self.assertEqual(self.red("--vuthgal", "kept", "empty"), (1, ["empty::no program is in it - no program is in it"]))
         self.assertEqual(self.red("--vuthgal", "empty", "kept")[0], 1)
-        Path("pytest.ini").write_text("[pytest]\nvuthgal = kept empty\n")
-        self.assertEqual(self.red()[0], 1)
-        Path("pytest.ini").write_text("[pytest]\nvuthgal = kept nowhere\n")
-        self.assertEqual(self.pytest()[0], 4)
+        for folders, status in (("kept empty", 1), ("kept nowhere", 4)):
+            Path("pytest.ini").write_text(f"[pytest]\nvuthgal = {folders}\n")
+            self.assertEqual(self.pytest()[0], status)
         os.unlink("pytest.ini")
         os.mkdir("kept/.hidden")
         os.rename("kept/m.asm", "kept/.hidden/m.asm")
@@ -82,12 +77,10 @@ class ByPytest(units.Folder):
             "kept/m.schedule::there is no m.asm", "kept/m.trace::there is no m.asm",
             "kept/.hidden::it has runs, and pytest doesn't look at it"]))
 
-    def test_no_kept_file_is_written_over(self):
-        self.assertEqual(self.pytest("--vuthgal", "kept", "--junitxml=kept/m.trace")[0], 4)
-        self.assertEqual(Path("kept/m.trace").read_bytes(), units.TRACE)
-
     def test_options(self):
-        self.put("m.trace", b"old")
+        self.put({"m.trace": b"old"})
+        self.assertEqual(self.pytest("--vuthgal", "kept", "--junitxml=kept/m.trace")[0], 4)  # no kept file is written over
+        self.assertEqual(Path("kept/m.trace").read_bytes(), b"old")
         self.assertEqual(self.pytest("--vuthgal", "kept", "--vuthgal-choices", "6")[0], 1)
         self.assertEqual(self.pytest("--vuthgal", "kept", "--vuthgal-update")[0], 0)
         self.assertEqual(Path("kept/m.trace").read_bytes(), units.TRACE)
@@ -95,17 +88,11 @@ class ByPytest(units.Folder):
         self.assertIn("m: it has 7 choices, and may have 6", lines)
 
     def test_each_mistake(self):
-        """What the command sees, pytest sees: each mistake has a folder here."""
-        for n, (name, text, *_) in enumerate(units.RED):
-            shutil.copytree("kept", f"all/{n}")
-            os.rename("kept", "before")
-            os.rename(f"all/{n}", "kept")
-            self.put(name, text)
-            os.rename("kept", f"all/{n}")
-            os.rename("before", "kept")
+        """What the command sees, pytest sees: each row of both tables has a folder here."""
+        for n, files in enumerate([it[0] for it in units.RED] + units.GREEN):
+            self.put({**units.RIGHT, **files}, f"all/{n}")
         status, red = self.red("--vuthgal", "all")
-        wanted = {str(n) for n, it in enumerate(units.RED) if it[3]}
-        self.assertEqual((status, {it.split("/")[1] for it in red}), (1, wanted))
+        self.assertEqual((status, {it.split("/")[1] for it in red}), (1, {str(n) for n in range(len(units.RED))}))
 
 
 if __name__ == "__main__":

@@ -8,6 +8,7 @@ from ._errors import Differs, Malformed, NoLine, NotATrace, OutOfMemory, Refused
 from ._library import called, expects, mistaken, version_text
 from ._page import app_text, with_texts
 from ._shown import INPUTS, Drawing, Mistake, Outcome, Page, Schedule
+from ._text import is_image
 from ._trace import State, Trace
 
 #: What a page can hold.
@@ -27,6 +28,11 @@ def _bytes(text: Text) -> bytes:
         return bytes(text)
     with open(text, "rb") as file:
         return file.read()
+
+
+def trace_bytes(trace: Union[Trace, Text]) -> bytes:
+    """The bytes of a trace, of its text, or of the file that holds it."""
+    return bytes(trace) if isinstance(trace, Trace) else _bytes(trace)
 
 
 def _program(text: Text) -> bytes:
@@ -77,7 +83,7 @@ def list(program: Text) -> str:
 
 def compare(program: Text, trace: Union[Trace, Text]) -> None:
     """Compares a trace with the run that it names. It raises `Differs` where a line differs, `NotATrace` where it is none."""
-    told = _two("compare", _program(program), bytes(trace) if isinstance(trace, Trace) else _bytes(trace)).decode("ascii").rstrip()
+    told = _two("compare", _program(program), trace_bytes(trace)).decode("ascii").rstrip()
     if told != "same":
         which = NotATrace if told.startswith("not") else Differs
         raise which(told, int(told.split()[-1]))
@@ -85,7 +91,7 @@ def compare(program: Text, trace: Union[Trace, Text]) -> None:
 
 def choices(trace: Union[Trace, Text]) -> str:
     """The schedule of a trace. It raises `NotATrace` where it is none."""
-    text = bytes(trace) if isinstance(trace, Trace) else _bytes(trace)
+    text = trace_bytes(trace)
     status, output, line = called("choices", text, len(text))
     told = _told(status, output, line).decode("ascii")
     if status == 0:
@@ -129,7 +135,7 @@ def page(program: Text, schedule: Text, height: int = 720) -> Page:
     trace = bytes(run(source, tokens))
     if len(trace) > MOST_TRACE:
         raise TooLong(f"the trace of a page has at most {MOST_TRACE} bytes")
-    text = "" if source.startswith(b"PBW") else source.decode("ascii")
+    text = "" if is_image(source) else source.decode("ascii")
     page = with_texts(app_text(), listing=list(source), source=text, schedule=" ".join(tokens.decode("ascii").split()), trace=trace.decode("ascii"))
     return Page(page, height)
 
@@ -166,7 +172,7 @@ def mistake(program: Text, plan: Optional[Text] = None, schedule: Optional[Text]
     elif schedule is not None:
         kind, steps = 2, _bytes(schedule)
     else:
-        kind, steps = 3 if re.search(rb"^\.run\s*$", text, re.M) else 0, b""
+        kind, steps = 0 if is_image(text) else 3, b""
     status, hint, line, place = mistaken(text, kind, steps)
     if status != 3:
         _told(status, b"", line)

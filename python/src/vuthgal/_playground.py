@@ -1,14 +1,11 @@
 """The app with a program in it: for a notebook, or as a file that a browser opens. No server runs, and the library isn't called: the app
 plays the program itself."""
-import argparse
-import html
-import re
-import tempfile
-import webbrowser
 from pathlib import Path
-from typing import Dict, List, Optional, Sequence, Union
+from typing import Dict, Optional, Sequence, Union
 
 from ._page import app_text, with_programs, with_texts
+from ._shown import Page
+from ._text import parts
 
 MOST = 4_000_000
 
@@ -17,39 +14,16 @@ def _read(path: Path) -> Dict[str, str]:
     """A program's file: its text and its plan, which is behind its line `.run`, or in a file beside it."""
     if path.stat().st_size > MOST:
         raise ValueError(f"{path} has more than {MOST} bytes")
-    run, behind = "", ""
-    program = path.read_text(encoding="utf-8", errors="replace")
-    found = re.search(r"^[ \t]*\.run[ \t\r]*(?:;.*)?$\n?", program, re.M)
-    if found:
-        program, run = program[: found.start()], program[found.end():]
-    for suffix in (".plan", ".schedule"):
-        if path.with_suffix(suffix).is_file() and not run:
-            behind = path.with_suffix(suffix).read_text(encoding="utf-8", errors="replace")
-            break
-    return {"name": path.stem, "title": path.stem, "program": program, "plan": " ".join((run or behind or "..").split())}
+    program, plan = parts(path.read_bytes())
+    for beside in (path.with_suffix(".plan"), path.with_suffix(".schedule")):
+        if not plan and beside.is_file():
+            plan = beside.read_bytes()
+    text, order = (it.decode("utf-8", "replace").replace("\r\n", "\n") for it in (program, plan or b".."))
+    return {"name": path.stem, "title": path.stem, "program": text, "plan": " ".join(order.split())}
 
 
-class Playground:
+class Playground(Page):
     """The app with a program in it. A notebook shows it in a frame of its own."""
-
-    def __init__(self, text: str, height: int) -> None:
-        #: the page
-        self.html: str = text
-        #: how many pixels high the frame is
-        self.height: int = height
-
-    def save(self, path: Union[str, Path]) -> None:
-        """Writes the page to a file, for a browser."""
-        Path(path).write_text(self.html, encoding="utf-8")
-
-    def _repr_html_(self) -> str:
-        return (
-            f'<iframe srcdoc="{html.escape(self.html, quote=True)}" sandbox="allow-scripts allow-modals allow-downloads" '
-            f'style="width: 100%; height: {self.height}px; border: 0"></iframe>'
-        )
-
-    def __repr__(self) -> str:
-        return f"<Playground of {len(self.html)} characters>"
 
 
 def playground(program: Union[str, Path, None] = None, plan: Optional[str] = None, *, height: int = 720) -> Playground:
@@ -68,6 +42,10 @@ def playground(program: Union[str, Path, None] = None, plan: Optional[str] = Non
 
 def main(words: Optional[Sequence[str]] = None) -> int:
     """The command vuthgal-playground."""
+    import argparse
+    import tempfile
+    import webbrowser
+
     parser = argparse.ArgumentParser(prog="vuthgal-playground", description="Opens a browser with the app and a program in it.")
     parser.add_argument("file", nargs="?", type=Path, metavar="FILE|FOLDER", help="a program, or a folder of programs")
     parser.add_argument("--plan", help="who goes, such as 'ann. bob ..'")
@@ -87,6 +65,3 @@ def main(words: Optional[Sequence[str]] = None) -> int:
     if not webbrowser.open(path.as_uri()):
         print(f"no browser was found; open {path}")
     return 0
-
-
-__all__: List[str] = ["Playground", "main", "playground"]

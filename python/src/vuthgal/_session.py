@@ -7,17 +7,21 @@ from typing import Any, Hashable, Iterator, List, Optional, Tuple, Type, Union
 from ._calls import Text, _program, _told
 from ._errors import Closed, Malformed, NoHistory, NoThread, StepLimit
 from ._library import Held
-from ._trace import Barrier, Cells, Line, Phaser, State, Thread, What
+from ._text import names
+from ._trace import HAS_VALUE, Barrier, Cells, Line, Phaser, State, Thread, What
 
 #: The number of a thread, or its name in the program's text.
 ThreadName = Union[int, str]
 
-
+# by their numbers in the header
 _STANDINGS = ("live", "stuck", "all")
 _STATUSES = ("runs", "throws", "waits", "waits", "ended", "died")
 _WHATS = tuple(What)[:11]
+_HAVE_VALUE = tuple(number for number, what in enumerate(_WHATS) if what in HAS_VALUE)
 _MARKS = (None, "+p", "+b", "-b")
-_ENTRIES = "CHAX"
+_KINDS = "CHAX"
+# where the numbers of a thread stand, behind its eight registers
+_VALUE, _ROW, _OBJECT, _OUTPUTS, _ENTRIES, _STATUS, _INTERRUPTED = range(8, 15)
 
 
 def _event(thread: int, expiry: bool, event: Tuple[int, ...]) -> Line:
@@ -29,43 +33,39 @@ def _event(thread: int, expiry: bool, event: Tuple[int, ...]) -> Line:
         thread,
         row,
         _WHATS[what],
-        value if what in (2, 3, 5, 8, 9) else None,
+        value if what in _HAVE_VALUE else None,
         f"{_MARKS[mark]}{at}" if mark else None,
-        view if mark == 1 else None,
+        view if _MARKS[mark] == "+p" else None,
     )
 
 
 def _thread(number: int, numbers: Tuple[int, ...], stack: List[Any], outputs: List[int]) -> Thread:
     """A thread of the numbers that a look has of it."""
-    status = numbers[13]
+    status = _STATUSES[numbers[_STATUS]]
     return Thread(
         number,
-        numbers[9],
-        _STATUSES[status],
-        numbers[8] if status in (1, 5) else None,
-        bool(numbers[14]),
-        numbers[:8],
-        tuple(f"{_ENTRIES[kind]}{of}" for of, kind in stack),
+        numbers[_ROW],
+        status,
+        numbers[_VALUE] if status in ("throws", "died") else None,
+        bool(numbers[_INTERRUPTED]),
+        numbers[:_VALUE],
+        tuple(f"{_KINDS[kind]}{of}" for of, kind in stack),
         tuple(outputs),
     )
 
 
 def _place(numbers: Tuple[int, ...]) -> Optional[str]:
     """Where a thread of these numbers waits."""
-    return {2: f"p{numbers[10]}", 3: f"b{numbers[10]}"}.get(numbers[13])
+    return {2: f"p{numbers[_OBJECT]}", 3: f"b{numbers[_OBJECT]}"}.get(numbers[_STATUS])
 
 
-def _names(program: bytes) -> List[str]:
-    """The names of a text's threads. An image has none."""
-    names = []
-    if not program.startswith((b"PBW1", b"PBW2")):
-        for line in program.split(b"\n"):
-            words = line.split(b";")[0].split()
-            if words[:1] == [b".run"]:
-                break
-            if words[:1] == [b".thread"] and len(words) > 1:
-                names.append(words[1].decode("ascii"))
-    return names
+def _played(status: int, no_thread: str) -> None:
+    """Raises what a choice was refused for."""
+    if status == 7:
+        raise NoThread(no_thread)
+    if status == 8:
+        raise StepLimit("the session has done all its steps")
+    _told(status, b"", b"")
 
 
 class _Use:
@@ -116,7 +116,7 @@ class Session:
         self._used = _Use(self._held)
         status, line = self._held.open(text)
         _told(status, b"", line)
-        self.threads = tuple(_names(text))
+        self.threads = tuple(name for name, word in names(text) if word.startswith("t"))
 
     def command(self, line: Union[str, bytes]) -> str:
         """The reply to a command of the debugger, such as `k 3` or `g t0*3 t1`. It raises `Malformed` where the reply would be `?`."""
@@ -142,11 +142,7 @@ class Session:
         number = self._number(thread)
         with self._used as held:
             status, event = held.step(number, expiry)
-        if status == 7:
-            raise NoThread(f"no thread has the number {number}")
-        if status == 8:
-            raise StepLimit("the session has done all its steps")
-        _told(status, b"", b"")
+        _played(status, f"no thread has the number {number}")
         return _event(number, expiry, event)
 
     def step(self, thread: ThreadName) -> Line:
@@ -181,11 +177,7 @@ class Session:
             raise Malformed(f"fewer than {number} choices were played")
         if status == 3:
             raise Malformed("no schedule")
-        if status == 7:
-            raise NoThread("the schedule has a thread that isn't there")
-        if status == 8:
-            raise StepLimit("the session has done all its steps")
-        _told(status, b"", b"")
+        _played(status, "the schedule has a thread that isn't there")
 
     def enabled(self) -> "tuple[str, ...]":
         """The choices that would do something now, as a schedule has them: `t0`, or `x0` where a timed wait can expire."""
@@ -236,15 +228,16 @@ class Session:
         """How all stand now."""
         with self._used as held:
             _, counts, threads, phasers, barriers, cells = held.look()
-            stacks = [held.stack(n) if it[12] else [] for n, it in enumerate(threads)]
-            outputs = [held.outputs(n) if it[11] else [] for n, it in enumerate(threads)]
+            stacks = [held.stack(n) if it[_ENTRIES] else [] for n, it in enumerate(threads)]
+            outputs = [held.outputs(n) if it[_OUTPUTS] else [] for n, it in enumerate(threads)]
+        choices, steps, *_, standing = counts
         return State(
-            counts[0],
-            counts[1],
-            _STANDINGS[counts[5]],
+            choices,
+            steps,
+            _STANDINGS[standing],
             tuple(_thread(n, it, stacks[n], outputs[n]) for n, it in enumerate(threads)),
             tuple(Phaser(n, *it[:4]) for n, it in enumerate(phasers)),
-            tuple(Barrier(n, it[1], bool(it[3])) for n, it in enumerate(barriers)),
+            tuple(Barrier(n, waiting, bool(broken)) for n, (_, waiting, _, broken) in enumerate(barriers)),
             Cells(tuple((n, value) for n, value in enumerate(cells) if value)),
         )
 
@@ -253,8 +246,8 @@ class Session:
         counts of choices and steps. A look doesn't see which registers a routine has saved, nor how a released wait will end."""
         with self._used as held:
             _, counts, threads, phasers, barriers, cells = held.look()
-            stacks = tuple(tuple(held.stack(n)) for n, it in enumerate(threads) if it[12])
-            outputs = tuple(tuple(held.outputs(n)) for n, it in enumerate(threads) if it[11])
+            stacks = tuple(tuple(held.stack(n)) for n, it in enumerate(threads) if it[_ENTRIES])
+            outputs = tuple(tuple(held.outputs(n)) for n, it in enumerate(threads) if it[_OUTPUTS])
             return (counts[5], tuple(threads), tuple(phasers), tuple(barriers), cells, stacks, outputs, held.enabled())
 
     def close(self) -> None:

@@ -71,7 +71,7 @@ class Page:
         )
 
     def __repr__(self) -> str:
-        return f"<Page of {len(self.html)} characters>"
+        return f"<{type(self).__name__} of {len(self.html)} characters>"
 
 
 class Drawing(str):

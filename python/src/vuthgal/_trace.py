@@ -28,7 +28,8 @@ class What(str, Enum):
         return self.value
 
 
-_HAS_VALUE = frozenset((What.RESULT, What.OUT, What.THROW, What.CATCH, What.DIE))
+#: what has a number behind its word
+HAS_VALUE = frozenset((What.RESULT, What.OUT, What.THROW, What.CATCH, What.DIE))
 
 
 class Line(NamedTuple):
@@ -176,7 +177,7 @@ def _line(text: str) -> Line:
     step, choice, row, word = words[:4]
     rest = words[4:]
     what = What(word)
-    value = int(rest.pop(0)) if what in _HAS_VALUE else None
+    value = int(rest.pop(0)) if what in HAS_VALUE else None
     mark = rest.pop(0) if rest else None
     if mark is not None and mark[:2] not in ("+p", "+b", "-b"):
         raise ValueError("no mark")

@@ -1,15 +1,10 @@
 """For tests: two traces, and where they part."""
-import re
 from typing import List, Optional, Union
 
-from ._calls import Text, _bytes, choices, draw, run
+from ._calls import Text, choices, draw, run, trace_bytes
 from ._errors import Error
+from ._text import lines_of
 from ._trace import Trace
-
-
-def _lines(trace: bytes) -> List[bytes]:
-    """The lines of a trace, each with its LF: only an LF ends a line, and the last line may lack it."""
-    return [line for line in re.split(rb"(?<=\n)", trace) if line]
 
 
 def _shown(lines: List[bytes], at: int) -> str:
@@ -23,7 +18,7 @@ def _shown(lines: List[bytes], at: int) -> str:
 
 def parting(program: Text, wanted: Union[Trace, Text], got: Union[Trace, Text], width: int = 80) -> Optional[str]:
     """None where two traces of a program are the same. Else the first line in which they part, and a drawing of the run up to it."""
-    left, right = (_lines(bytes(it) if isinstance(it, Trace) else _bytes(it)) for it in (wanted, got))
+    left, right = (lines_of(trace_bytes(it)) for it in (wanted, got))
     if left == right:
         return None
     at = next((n for n, pair in enumerate(zip(left, right)) if pair[0] != pair[1]), min(len(left), len(right)))

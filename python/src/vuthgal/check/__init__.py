@@ -8,10 +8,11 @@ A kept run is NAME.asm with NAME.schedule or NAME.plan, or NAME.txt with its sch
 NAME.trace, NAME.expect, or both. docs/TESTING.md says more. Nothing here prints. `python3 -m vuthgal check` is the command,
 and the plugin `vuthgal_pytest` makes each run a test.
 """
+from .ends import Outcome
 from .keeping import keep, write
 from .kept import Found, Kept, Left, collect, look, named, run_of
-from .playing import MOST, Outcome, outcome, play
 from .player import Player
+from .playing import MOST, outcome, play
 
 __all__ = [
     "Found", "Kept", "Left", "MOST", "Outcome", "Player", "collect", "keep", "look", "named", "outcome", "play", "run_of",

@@ -7,9 +7,9 @@ from typing import Any, Dict, List, Optional, Set
 
 import pytest
 
-from .keeping import write
-from .kept import Found, Kept, Left, folders_in, has_parts, look
-from .playing import Outcome
+from .ends import Outcome
+from .keeping import updated
+from .kept import A_PROGRAM, Found, Kept, Left, look, named
 from .player import Player
 from .report import clean
 
@@ -51,37 +51,24 @@ class Collector:
         self.seen.add(where)
         if isinstance(found, Kept):
             self.played.append(file_path)
-        file: _File = _File.from_parent(parent, path=file_path)
-        file.found, file.player = found, self.player
-        return file
+        return _File.of(parent, file_path, found, self.player)
 
     @pytest.hookimpl(tryfirst=True)
     def pytest_collection_modifyitems(self, session: Any, items: List[Any]) -> None:
         """What no file stands for fails, too: a folder without a run, and folders that can't be read or that pytest passes
         over."""
-        left = [Left(str(it), it, "no program is in it", "a program NAME.asm, and NAME.schedule or NAME.plan", 1, False)
-                for it in self.wanted if not any(_inside(path, it) for path in self.played)]
-        left += [it for it in self._unlooked() if it.path not in {other.path for other in left}]
-        for found in left:
-            file: _File = _File.from_parent(session, path=found.path)
-            file.found, file.player = found, self.player
-            items += file.collect()
-
-    def _unlooked(self) -> List[Left]:
-        """Folders with runs, in those that pytest was asked to look into, that it hasn't looked into."""
-        left, folders = [], list(self.wanted)
-        for folder in folders:
-            left += [it for it in look(folder, f"{folder}/") if isinstance(it, Left) and not it.is_file]
-            for name in folders_in(folder):
-                inside = folder / name
-                if inside in self.looked or inside.is_symlink():
-                    folders += [] if inside.is_symlink() else [inside]
-                elif has_parts(inside, 0):
-                    helps = "another name, or pytest's norecursedirs without it"
-                    left.append(Left(str(inside), inside, "it has runs, and pytest doesn't look at it", helps, 1, False))
-                else:
-                    folders.append(inside)
-        return left
+        looked, left = set(map(os.path.realpath, self.looked)), {}
+        for it in self.wanted:
+            if not any(_inside(path, it) for path in self.played):
+                left[it] = Left(str(it), it, "no program is in it", A_PROGRAM, 1, False)
+        for found in named(self.wanted, below=True):
+            if isinstance(found, Left) and not found.is_file:
+                left.setdefault(found.path, found)
+            elif os.path.realpath(found.folder) not in looked:
+                why, helps = "it has runs, and pytest doesn't look at it", "another name, or pytest's norecursedirs without it"
+                left.setdefault(found.folder, Left(str(found.folder), found.folder, why, helps, 1, False))
+        for found in left.values():
+            items += _File.of(session, found.path, found, self.player).collect()
 
     def pytest_unconfigure(self) -> None:
         self.player.close()
@@ -91,10 +78,14 @@ class _File(pytest.File):
     found: Found
     player: Player
 
+    @classmethod
+    def of(cls, parent: Any, path: Path, found: Found, player: Player) -> "_File":
+        file: _File = cls.from_parent(parent, path=path)
+        file.found, file.player = found, player
+        return file
+
     def collect(self) -> List["_Run"]:
-        run: _Run = _Run.from_parent(self, name=clean(self.found.name if isinstance(self.found, Kept) else self.found.why))
-        run.found, run.player = self.found, self.player
-        return [run]
+        return [_Run.from_parent(self, name=clean(self.found.name if isinstance(self.found, Kept) else self.found.why))]
 
 
 class _Failed(Exception):
@@ -102,13 +93,10 @@ class _Failed(Exception):
 
 
 class _Run(pytest.Item):
-    found: Found
-    player: Player
+    parent: _File
 
     def runtest(self) -> None:
-        outcome = self.player.outcome(self.found)
-        if outcome.trace is not None and outcome.path is not None:
-            write(outcome.path, outcome.trace)
+        outcome = updated(self.parent.player.outcome(self.parent.found))
         if outcome.status:
             raise _Failed(outcome)
         self.user_properties.append(("vuthgal", outcome.said))
@@ -121,16 +109,15 @@ class _Run(pytest.Item):
             return super().repr_failure(excinfo, style)
         outcome: Outcome = excinfo.value.args[0]
         here = f"{self.config.invocation_params.dir}{os.sep}"
-        lines = [f"{self.name}: {outcome.said}" if isinstance(self.found, Kept) else outcome.said]
+        lines = [f"{self.name}: {outcome.said}" if isinstance(self.parent.found, Kept) else outcome.said]
         lines += [f"    {it}" for it in (outcome.what, *outcome.more) if it]
         lines = [clean(re.sub("--(?=update|choices)", "--vuthgal-", it.replace(here, ""))) for it in lines]
         path, said = clean(str(outcome.path or self.path).replace(here, "")), clean(outcome.said)
-        place = f"{path}:{outcome.line or 1}: {said}"
+        lines.append(f"{path}:{outcome.line or 1}: {said}")
         try:
             from _pytest._code.code import ReprEntryNative, ReprExceptionInfo, ReprFileLocation, ReprTraceback
         except ImportError:
-            return "\n".join([*lines, place])
+            return "\n".join(lines)
         # the form that editors, `-rf`, JUnit's report and -n take: what is said, and at which line of which file
-        shown = ReprEntryNative([f"{it}\n" for it in [*lines, place]])
-        traceback = ReprTraceback([shown], None, "native")
+        traceback = ReprTraceback([ReprEntryNative([f"{it}\n" for it in lines])], None, "native")
         return ReprExceptionInfo(reprtraceback=traceback, reprcrash=ReprFileLocation(path, outcome.line or 1, said))

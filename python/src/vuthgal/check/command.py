@@ -26,91 +26,79 @@ a file NAME.OTHER belongs to the run NAME, unless OTHER is nearly one of these e
 (`.py`, `.ini`, `.toml`, `.cfg`) are ignored. The last line is `N passed, N failed`, and `, N left out` if files are. It names
 folders with runs that weren't looked at. The exit status is 0 if there are runs and all passed, 1 if a run isn't as expected
 or a file is left out, and otherwise that of the first program or schedule that was refused; 2 is a wrong command line, 5 what
-can't be read or written or isn't there, 130 and 143 are an interrupt and SIGTERM. The library plays all of it in this process.
-VUTHGAL_LIBRARY names another library. Where a text is refused, the program vuthgal says what helps; VUTHGAL names another
-program.
+can't be read or written or isn't there, 130 and 143 are an interrupt and SIGTERM. VUTHGAL_LIBRARY names another library.
 """
+import getopt
 import os
 import re
 import signal
 import sys
 import time
-from typing import Any, List, NoReturn, Optional, Sequence
+from typing import Any, NoReturn, Optional, Sequence
 
 from .._errors import Error
-from .keeping import keep, write
-from .kept import A_RUN, ENDINGS, Left, named, reason, run_of
-from .playing import MOST, Outcome
+from .keeping import WRITABLE, keep, updated
+from .kept import A_RUN, ENDINGS, Left, named, reason
 from .player import Player
+from .playing import MOST
 from .report import Report, clean
 
-_WRITABLE = "a folder and a file that may be written, and free space"
+_OPTIONS = ["below", "show", "tap", "update", "help", "explain=", "junit=", "choices=", "jobs=", "keep="]
+_WHEN = ("always", "auto", "never")
 
 
-class _Words:
-    """The words of the command line."""
+def _complain(line: str) -> None:
+    print(clean(line), file=sys.stderr)
+
+
+class _Asked:
+    """What the words of the command line ask for."""
 
     def __init__(self, words: Sequence[str], name: str) -> None:
         self.name = name
-        self.paths: List[str] = []
-        self.below = self.show = self.tap = self.update = False
-        self.junit = self.keep = ""
-        self.jobs, self.choices = "1", str(MOST)
-        self.explain = os.environ.get("VUTHGAL_EXPLAIN") or "auto"
-        if self.explain not in ("always", "auto", "never"):
-            _complain(f"VUTHGAL_EXPLAIN is always, auto or never: {self.explain} counts for nothing")
-            self.explain = "auto"
-        self._read(list(words))
-        self.show = self.show or self.explain == "always"
-        if self.explain not in ("always", "auto", "never"):
+        try:
+            options, self.paths = getopt.gnu_getopt([*words], "h", _OPTIONS)
+        except getopt.GetoptError as error:
+            self.wrong(error.msg)
+        given = dict(options)
+        if "--help" in given or "-h" in given:
+            print((__doc__ or "").replace("bin/check", name), end="")
+            sys.exit(0)
+        for option, value in options:
+            if not value and f"{option[2:]}=" in _OPTIONS:
+                self.wrong(f"{option} has nothing behind it")
+        self.below, self.tap, self.update = (it in given for it in ("--below", "--tap", "--update"))
+        self.junit, self.keep = given.get("--junit", ""), given.get("--keep", "")
+        when = os.environ.get("VUTHGAL_EXPLAIN") or "auto"
+        if when not in _WHEN:
+            _complain(f"VUTHGAL_EXPLAIN is always, auto or never: {when} counts for nothing")
+            when = "auto"
+        self.explain = given.get("--explain", when)
+        self.show = "--show" in given or self.explain == "always"
+        if self.explain not in _WHEN:
             self.wrong("--explain is always, auto or never")
-        if not re.fullmatch("[1-9][0-9]{0,3}", self.jobs):
+        if not re.fullmatch("[1-9][0-9]{0,3}", given.get("--jobs", "1")):
             self.wrong("--jobs is a number from 1 on")
-        if not re.fullmatch("[1-9][0-9]{0,8}", self.choices):
+        choices = given.get("--choices", str(MOST))
+        if not re.fullmatch("[1-9][0-9]{0,8}", choices):
             self.wrong("--choices is a number from 1 to 999999999")
-        self._check_report()
+        self.choices = int(choices)
+        if self.junit:
+            self._check_report()
         if self.keep and len(self.paths) > 1:
             self.wrong("--keep takes NAME, and one word for the line")
         if not self.keep and not self.paths:
             self.wrong()
 
-    def _read(self, words: List[str]) -> None:
-        while words:
-            word = words.pop(0)
-            name, is_joined, value = word.partition("=")
-            if word == "--":
-                self.paths += words
-                return
-            if not word.startswith("-") or word == "-":
-                self.paths.append(word)
-            elif name in ("--junit", "--jobs", "--explain", "--keep", "--choices"):
-                value = value if is_joined else words.pop(0) if words else ""
-                if not value:
-                    self.wrong(f"{name} has nothing behind it")
-                setattr(self, name[2:], value)
-            elif word in ("--update", "--show", "--tap", "--below"):
-                setattr(self, word[2:], True)
-            elif word in ("--help", "-h"):
-                print((__doc__ or "").replace("bin/check", self.name), end="")
-                sys.exit(0)
-            else:
-                self.wrong(f"there is no option {word}")
-
     def _check_report(self) -> None:
         """A report is written over no other file."""
-        if not self.junit:
-            return
-        if os.path.isdir(self.junit):
-            self.wrong(f"--junit takes a file to write, and {self.junit} is a folder")
         begin = b""
-        if os.path.isfile(self.junit):
-            try:
-                with open(self.junit, "rb") as file:
-                    begin = file.read(5)
-            except OSError:
-                pass
-        if self.junit.rpartition(".")[2] in ENDINGS or begin not in (b"", b"<?xml"):
-            self.wrong(f"--junit takes a file to write, and {self.junit} is another file")
+        if os.path.isfile(self.junit) and os.access(self.junit, os.R_OK):
+            with open(self.junit, "rb") as file:
+                begin = file.read(5)
+        is_folder = os.path.isdir(self.junit)
+        if is_folder or self.junit.rpartition(".")[2] in ENDINGS or begin not in (b"", b"<?xml"):
+            self.wrong(f"--junit takes a file to write, and {self.junit} is {'a folder' if is_folder else 'another file'}")
 
     def wrong(self, why: str = "") -> NoReturn:
         if why:
@@ -125,63 +113,44 @@ class _Words:
         sys.exit(5)
 
 
-def _complain(line: str) -> None:
-    print(clean(line), file=sys.stderr)
-
-
-def _kept(asked: _Words) -> List[str]:
-    """Keeps a run, and names it."""
+def _keep(asked: _Asked) -> None:
+    """Keeps a run, which is then what is asked for."""
     try:
         keep(asked.keep, sys.stdin.read().splitlines(), *asked.paths)
     except LookupError as error:
         asked.wrong(str(error.args[0]))
-    except Error as error:
+    except (Error, ValueError) as error:
         _complain(str(error).split("\n")[0])
-        sys.exit(3)
-    except ValueError as error:
-        _complain(str(error))
-        sys.exit(1)
+        sys.exit(3 if isinstance(error, Error) else 1)
     except FileExistsError as error:
         asked.cannot(f"{error.filename} is there already: {error.strerror}", "the files of the other run taken away")
     except FileNotFoundError as error:
         asked.cannot(f"there is no program {error.filename}", "NAME.asm is the program that the line is of")
     except OSError as error:
-        asked.cannot(f"{error.filename or asked.keep} can't be read or written: {reason(error)}", _WRITABLE)
-    return [asked.keep[:-4] if asked.keep.endswith(".asm") else asked.keep]
+        asked.cannot(f"{error.filename or asked.keep} can't be read or written: {reason(error)}", WRITABLE)
+    asked.paths = [asked.keep[:-4] if asked.keep.endswith(".asm") else asked.keep]
 
 
-def _updated(outcome: Outcome) -> Outcome:
-    """Writes a trace that is to be written."""
-    if outcome.trace is None or outcome.path is None:
-        return outcome
-    try:
-        write(outcome.path, outcome.trace)
-    except OSError:
-        return Outcome(f"{outcome.path.name} can't be written", 5, outcome.path, more=(f"help: {_WRITABLE}",))
-    return outcome
-
-
-def _check(asked: _Words) -> int:
+def _check(asked: _Asked) -> int:
     """Plays all that is named, and tells of each as soon as it is played."""
-    for path in asked.paths:
-        if not os.path.isdir(path) and (not path or run_of(path) is None):
-            there = os.path.lexists(path)
-            asked.cannot(f"{path} belongs to no run" if there else f"there is no folder or run {path}", A_RUN)
+    try:
+        all_found = named(asked.paths, asked.below)
+    except FileNotFoundError as error:
+        asked.cannot(error.strerror, A_RUN)
     report = Report(asked.tap, asked.show, asked.explain != "never")
-    with Player(asked.update, int(asked.choices)) as player:
-        for found in named(asked.paths, asked.below):
+    with Player(asked.update, asked.choices) as player:
+        for found in all_found:
             if isinstance(found, Left) and asked.junit and os.path.realpath(found.path) == os.path.realpath(asked.junit):
                 continue
             began = time.monotonic()
-            outcome = _updated(player.outcome(found))
-            report.tell(found, outcome, time.monotonic() - began)
+            report.tell(found, updated(player.outcome(found)), time.monotonic() - began)
     status = report.end()
     if asked.junit:
-        _write_report(asked, b"<?xml version='1.0' encoding='us-ascii'?>\n" + report.junit())
+        _write_report(asked, report.junit())
     return status
 
 
-def _write_report(asked: _Words, text: bytes) -> None:
+def _write_report(asked: _Asked, text: bytes) -> None:
     try:
         with open(asked.junit, "wb") as file:
             file.write(text)
@@ -202,13 +171,13 @@ def main(words: Optional[Sequence[str]] = None, name: str = "vuthgal-check") -> 
         if stream is not None:
             stream.reconfigure(encoding="utf-8", errors="replace", newline="\n")  # type: ignore[attr-defined]
     try:
-        asked = _Words(sys.argv[1:] if words is None else words, name)
+        asked = _Asked(sys.argv[1:] if words is None else words, name)
         if sys.stdout is None:
             raise OSError(9, "Bad file descriptor")
         if asked.junit:
             _write_report(asked, b"")  # what an earlier check wrote there isn't taken for this one's
         if asked.keep:
-            asked.paths = _kept(asked)
+            _keep(asked)
         return _check(asked)
     except BrokenPipeError:
         os._exit(128 + signal.SIGPIPE)

@@ -1,15 +1,35 @@
-"""How a look at a run ends before all of it is looked at."""
-from typing import Optional
+"""How a look at a run ends: what the run came to."""
+from pathlib import Path
+from typing import NamedTuple, Optional, Tuple
+
+
+class Outcome(NamedTuple):
+    """What a run came to: `same`, `as expected`, `written`, `differs 4`, .. The status is as the program's: 0 is good."""
+
+    said: str
+    status: int = 0
+    #: where it is: the file, and perhaps the line and the column from 1
+    path: Optional[Path] = None
+    line: Optional[int] = None
+    column: Optional[int] = None
+    #: what is wrong there
+    what: str = ""
+    #: what else there is to show: the lines that differ, what is near, what helps, and the command that shows the run
+    more: Tuple[str, ...] = ()
+    #: the trace that is to be written, if it is
+    trace: Optional[bytes] = None
+
+    @property
+    def place(self) -> str:
+        return ":".join(str(it) for it in (self.path, self.line, self.column) if it)
 
 
 class Ends(Exception):
-    """What a run has come to: what is said of it, its status, the ending of the file that this is about, and perhaps the line
-    and the column; what stands there; lines to show, and what helps."""
+    """A look ends before all of the run is looked at: `outcome` is what the run came to."""
 
     def __init__(
-        self, said: str, status: int, ending: str, line: Optional[int] = None, *more: str,
+        self, said: str, status: int, path: Path, line: Optional[int] = None, *more: str,
         column: Optional[int] = None, what: str = "", help: Optional[str] = None,
     ) -> None:
         super().__init__(said)
-        self.said, self.status, self.ending, self.line, self.column, self.what = said, status, ending, line, column, what
-        self.more = [*more, *([f"help: {help}"] if help else [])]
+        self.outcome = Outcome(said, status, path, line, column, what, (*more, *([f"help: {help}"] if help else [])))

@@ -3,13 +3,14 @@ import errno
 import os
 import re
 import stat
-import tempfile
 from pathlib import Path
 from typing import List, Sequence, Union
 
 from .. import _calls as vuthgal
+from .ends import Outcome
 from .kept import ENDINGS
 
+WRITABLE = "a folder and a file that may be written, and free space"
 _COUNTED = re.compile(r"[0-9]+ ((?:all|stuck|live)(?:[+]died)?)(?: [?][0-9]+)?((?: [^ ]+)+)")
 
 
@@ -19,13 +20,12 @@ def write(path: Union[str, Path], text: bytes, new: bool = False) -> None:
     path = Path(os.path.realpath(path))
     if not new and path.exists() and not os.access(path, os.W_OK):
         raise PermissionError(errno.EACCES, "it may not be written", str(path))
-    handle, beside = tempfile.mkstemp(prefix=f".{path.name}.", dir=path.parent)
+    beside = path.with_name(f".{path.name}.{os.urandom(4).hex()}")
     try:
-        with os.fdopen(handle, "wb") as file:
+        with open(beside, "xb") as file:
             file.write(text)
-        mask = os.umask(0)
-        os.umask(mask)
-        os.chmod(beside, stat.S_IMODE(path.stat().st_mode) if path.exists() else 0o666 & ~mask)
+        if path.exists():
+            beside.chmod(stat.S_IMODE(path.stat().st_mode))
         if new:
             os.link(beside, path)
         else:
@@ -33,6 +33,17 @@ def write(path: Union[str, Path], text: bytes, new: bool = False) -> None:
     finally:
         if os.path.lexists(beside):
             os.unlink(beside)
+
+
+def updated(outcome: Outcome) -> Outcome:
+    """Writes the trace that an outcome says is to be written. It is another outcome where this can't be done."""
+    if outcome.trace is None or outcome.path is None:
+        return outcome
+    try:
+        write(outcome.path, outcome.trace)
+    except OSError:
+        return Outcome(f"{outcome.path.name} can't be written", 5, outcome.path, more=(f"help: {WRITABLE}",))
+    return outcome
 
 
 def keep(name: str, lines: Sequence[str], which: str = "") -> List[Path]:

@@ -2,14 +2,14 @@
 import os
 import pickle
 import signal
+import socket
 import threading
 import traceback
 from typing import Any, Optional
 
+from .ends import Outcome
 from .kept import Found, Kept
-from .playing import MOST, Outcome, outcome
-
-_SIGNALS = (signal.SIGINT, signal.SIGTERM, signal.SIGHUP)
+from .playing import MOST, outcome
 
 
 class Player:
@@ -29,8 +29,8 @@ class Player:
         try:
             pickle.dump(found, self._asks)
             self._asks.flush()
-            told: Outcome = pickle.load(self._answers)
-        except (EOFError, BrokenPipeError, pickle.UnpicklingError):
+            told: Outcome = pickle.load(self._asks)
+        except (EOFError, ConnectionError, pickle.UnpicklingError):
             ended = self.close()
             number = os.WTERMSIG(ended) if os.WIFSIGNALED(ended) else 0
             why = f"signal {number}" if number else f"status {os.WEXITSTATUS(ended)}"
@@ -38,34 +38,31 @@ class Player:
         return told
 
     def _begin(self) -> None:
-        asked, asks = os.pipe()
-        answered, answers = os.pipe()
+        ours, theirs = socket.socketpair()
         child = os.fork()
         if child == 0:
-            try:
-                os.close(asks)
-                os.close(answered)
-                self._serve(os.fdopen(asked, "rb"), os.fdopen(answers, "wb"))
-            except BaseException:
-                traceback.print_exc()
-                os._exit(1)
-            os._exit(0)
-        os.close(asked)
-        os.close(answers)
-        self._child, self._asks, self._answers = child, os.fdopen(asks, "wb"), os.fdopen(answered, "rb")
+            self._serve(ours, theirs)
+        theirs.close()
+        self._child, self._asks = child, ours.makefile("rwb")
+        ours.close()  # the file holds it
 
-    def _serve(self, asked: Any, answers: Any) -> None:
+    def _serve(self, parents: socket.socket, own: socket.socket) -> None:
         """In the child: an outcome for each run, until no more comes. It ends with its parent, and by no signal of a
         terminal."""
-        for it in _SIGNALS:
-            signal.signal(it, signal.SIG_IGN)
-        while True:
-            try:
-                found = pickle.load(asked)
-            except EOFError:
-                return
-            pickle.dump(outcome(found, self.update, self.most), answers)
-            answers.flush()
+        try:
+            parents.close()
+            for it in (signal.SIGINT, signal.SIGTERM, signal.SIGHUP):
+                signal.signal(it, signal.SIG_IGN)
+            asked = own.makefile("rwb")
+            while True:
+                pickle.dump(outcome(pickle.load(asked), self.update, self.most), asked)
+                asked.flush()
+        except EOFError:
+            os._exit(0)
+        except BaseException:
+            traceback.print_exc()
+        finally:
+            os._exit(1)
 
     def close(self) -> int:
         """Ends the child. Returns how it ended, as `os.waitpid` says it."""
@@ -73,11 +70,10 @@ class Player:
             return 0
         child, self._child = self._child, None
         os.kill(child, signal.SIGKILL)  # one that has ended keeps its status
-        for pipe in (self._asks, self._answers):
-            try:
-                pipe.close()
-            except OSError:
-                pass
+        try:
+            self._asks.close()
+        except OSError:
+            pass
         return os.waitpid(child, 0)[1]
 
     def __enter__(self) -> "Player":

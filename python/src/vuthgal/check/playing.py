@@ -5,39 +5,21 @@ import re
 import shlex
 import stat
 from pathlib import Path
-from typing import Dict, List, NamedTuple, Optional, Tuple
+from typing import Dict, List, Optional, Tuple
 
 from .. import _calls as vuthgal
-from .._errors import Differs, Error, NotATrace, OutOfMemory, Refused, TooLong
+from .._errors import Differs, Error, NotATrace, Refused, TooLong
+from .._text import lines_of, parts
 from . import expected
-from .ends import Ends
-from .kept import Found, Kept, reason
+from .ends import Ends, Outcome
+from .kept import Found, Kept, WITH_RUN, reason
 
 #: how many choices a run may have, so that one without an end doesn't hold up the others
 MOST = 1_000_000
 _WIDE = 5  # so many lines of the trace, of the run, and of expectations are shown
 _LOOKED = 2000  # a longer run isn't drawn
-
-
-class Outcome(NamedTuple):
-    """What a run came to: `same`, `as expected`, `written`, `differs 4`, .. The status is as the program's: 0 is good."""
-
-    said: str
-    status: int = 0
-    #: where it is: the file, and perhaps the line and the column from 1
-    path: Optional[Path] = None
-    line: Optional[int] = None
-    column: Optional[int] = None
-    #: what is wrong there
-    what: str = ""
-    #: what else there is to show: the lines that differ, what is near, what helps, and the command that shows the run
-    more: Tuple[str, ...] = ()
-    #: the trace that is to be written, if it is
-    trace: Optional[bytes] = None
-
-    @property
-    def place(self) -> str:
-        return ":".join(str(it) for it in (self.path, self.line, self.column) if it)
+_LONGEST = 1 << 24  # so many bytes of an input are read
+_WANTED = "wanted STEP tN ROW WHAT, STEP xN ROW WHAT, or the lines of a state, from state CHOICES STEPS WORD on"
 
 
 def outcome(found: Found, update: bool = False, most: int = MOST) -> Outcome:
@@ -53,8 +35,7 @@ def play(kept: Kept, update: bool = False, most: int = MOST) -> Outcome:
     try:
         return _Look(kept, most).outcome(update)
     except Ends as ends:
-        path = kept.folder / f"{kept.name}.{ends.ending}"
-        return Outcome(ends.said, ends.status, path, ends.line, ends.column, ends.what, tuple(ends.more))
+        return ends.outcome
 
 
 def _read(path: Path) -> bytes:
@@ -65,24 +46,13 @@ def _read(path: Path) -> bytes:
         why = "it is a folder" if stat.S_ISDIR(mode) else "it is no ordinary file"
     except OSError as error:
         why = "it is a link that leads nowhere" if path.is_symlink() and not path.exists() else reason(error)
-    raise Ends(f"{path.name} can't be read: {why}", 5, path.suffix[1:], help="a file that may be read")
-
-
-def _parts(text: bytes) -> Tuple[bytes, Optional[bytes]]:
-    """A text's program, and what stands behind its line `.run`."""
-    found = re.search(rb"^[ \t\r]*\.run(?:[ \t\r;][^\n]*)?(?:\n|\Z)", text, re.M)
-    return (text[: found.start()], text[found.end() :]) if found else (text, None)
+    raise Ends(f"{path.name} can't be read: {why}", 5, path, help="a file that may be read")
 
 
 def _count(schedule: bytes) -> int:
     """How many choices a schedule has at most, without its being played."""
     counts = re.findall(rb"\*0*([0-9]{1,10})", schedule)
     return len(schedule.split()) + sum(map(int, counts)) - len(counts)
-
-
-def _at(text: bytes, at: int) -> Tuple[int, int]:
-    """The line and the column of a byte."""
-    return text.count(b"\n", 0, at) + 1, at - text.rfind(b"\n", 0, at)
 
 
 def _token(schedule: bytes, number: int) -> Tuple[int, int]:
@@ -100,15 +70,16 @@ def _marked(text: bytes, line: int, column: Optional[int], length: int = 1) -> L
     return [shown] + ([" " * (column - 1) + "^" * length] if column and column < 72 else [])
 
 
+def _shown(who: str, line: bytes) -> str:
+    return f"{who} {line[:400].decode('latin-1')}".replace("\r", "^M")
+
+
 def _differences(trace: bytes, run: bytes, most: int) -> Tuple[int, List[str]]:
     """The first line in which a trace isn't that of the run, and at most so many lines of each that differ."""
-    left, right = ([line.decode("latin-1") for line in re.findall(rb"[^\n]*\n|[^\n]+", text)] for text in (trace, run))
+    left, right = lines_of(trace), lines_of(run)
     differ = [n for n in range(max(len(left), len(right))) if left[n : n + 1] != right[n : n + 1]]
-    shown = []
-    for n in differ[:most]:
-        for who, lines in (("trace", left), ("run", right)):
-            if n < len(lines):
-                shown.append(f"{who} {lines[n].rstrip(chr(10))[:400]}".replace("\r", "^M"))
+    both = (("trace", left), ("run", right))
+    shown = [_shown(who, lines[n].rstrip(b"\n")) for n in differ[:most] for who, lines in both if n < len(lines)]
     return differ[0] + 1, shown
 
 
@@ -122,41 +93,48 @@ def _other_form(trace: bytes, run: Optional[bytes]) -> Optional[str]:
 
 
 class _Look:
-    """A look at a run."""
+    """A look at a run. Its parts are named by the endings of its files."""
 
     def __init__(self, kept: Kept, most: int) -> None:
-        self.kept, self.most = kept, most
+        self.kept, self.most, self.name = kept, most, kept.name
         self.its = kept.program.suffix[1:]
-        self.text = _read(kept.program)
-        self.texts: Dict[str, bytes] = {path.suffix[1:]: _read(path) for path in kept.files[1:]}
-        self.program, self.behind = _parts(self.text) if self.its == "txt" else (self.text, None)
+        self.texts: Dict[str, bytes] = {path.suffix[1:]: _read(path) for path in kept.files}
+        self.text = self.texts[self.its]
+        self.program, self.behind = parts(self.text) if self.its == "txt" else (self.text, None)
         self.trace = self.texts.get("trace")
         #: the schedule; which file it is of, from which byte on
         self.schedule, self.of, self.base = b"", self.its, 0
 
+    def _path(self, ending: str) -> Path:
+        return self.kept.folder / f"{self.name}.{ending}"
+
+    def _fails(self, said: str, ending: str, helps: str) -> Ends:
+        return Ends(said, 1, self._path(ending), help=helps)
+
     def _check_files(self) -> None:
-        name, its = self.kept.name, self.its
-        if its == "txt" and self.behind is None:
-            raise Ends(f"{name}.txt has no line `.run`", 1, its, help="`.run` and the schedule behind it, or the ending .asm")
         orders = [it for it in ("schedule", "plan") if it in self.texts]
+        if self.its == "txt" and self.behind is None:
+            raise self._fails(f"{self.name}.txt has no line `.run`", self.its, WITH_RUN)
         if self.behind is not None and orders:
-            raise Ends("it has a schedule in its text and another", 1, its, help="one of them taken away")
+            raise self._fails("it has a schedule in its text and another", self.its, "one of them taken away")
         if len(orders) == 2:
-            raise Ends("it has a schedule and a plan", 1, "schedule", help="one of them taken away")
+            raise self._fails("it has a schedule and a plan", "schedule", "one of them taken away")
         self.is_alone = self.behind is None and not orders
         if self.is_alone and self.trace is None:
-            raise Ends("it has no schedule", 1, its, help=f"a plan in {name}.plan, or a schedule in {name}.schedule")
+            helps = f"a plan in {self.name}.plan, or a schedule in {self.name}.schedule"
+            raise self._fails("it has no schedule", self.its, helps)
 
     def _find_schedule(self) -> None:
         """Finds the schedule: that of the text, of its own file, of a plan, or of the trace. It isn't too long."""
-        plan = self.texts.get("plan")
         if self.behind is not None:
             self.schedule, self.base = self.behind, len(self.text) - len(self.behind)
-        elif plan is not None:
+        elif "plan" in self.texts:
             self.of = "plan"
-            planned = vuthgal.plan(self.program, plan, self.most)
+            planned = vuthgal.plan(self.program, self.texts["plan"], self.most)
             if planned.stopped:
-                raise self._stopped()
+                said, what = f"stopped at {self.most} choices", "the plan needs more choices"
+                helps = "a count in place of the dot, or behind `..`, `?7` or `)`, as in `ann*50` and `..*50`"
+                raise Ends(said, 1, self._path("plan"), 1, what=what, help=helps)
             self.schedule = planned.encode()
         elif "schedule" in self.texts:
             self.of, self.schedule = "schedule", self.texts["schedule"]
@@ -164,30 +142,24 @@ class _Look:
             self.of, self.schedule = "trace", vuthgal.choices(self.trace or b"").encode()
         count = _count(self.schedule)
         if count > self.most:
-            raise Ends(f"it has {count} choices, and may have {self.most}", 1, self.of, help="fewer choices, or --choices N")
-
-    def _stopped(self) -> Ends:
-        helps = "a count in place of the dot, or behind `..`, `?7` or `)`, as in `ann*50` and `..*50`"
-        return Ends(f"stopped at {self.most} choices", 1, "plan", 1, what="the plan needs more choices", help=helps)
-
-    def _path(self, ending: str) -> Path:
-        return self.kept.folder / f"{self.kept.name}.{ending}"
+            said = f"it has {count} choices, and may have {self.most}"
+            raise self._fails(said, self.of, "fewer choices, or --choices N")
 
     def _refused(self, error: Error) -> Ends:
         """Why an input is refused: the place, the line with its mark, and what helps."""
         if isinstance(error, TooLong):
-            return Ends("read", 5, self.its if len(self.text) > 1 << 24 else self.of, None, "it has more than 16777216 bytes")
+            ending = self.its if len(self.text) > _LONGEST else self.of
+            return Ends("read", 5, self._path(ending), None, f"it has more than {_LONGEST} bytes")
         if not isinstance(error, Refused):
-            return Ends("memory" if isinstance(error, OutOfMemory) else str(error), 4, self.its)
+            return Ends(str(error), 4, self._path(self.its))  # out of memory
         ending = self.its if error.group in ("asm", "load", "image") else self.of
-        text = self.texts.get(ending, self.text)
         meant = dict(re.findall(r"^  (Means|Helps): +(.*)", error.meaning, re.M))
         steps = {self.of: self.texts[self.of]} if self.of in ("plan", "schedule") else {}
         found = vuthgal.mistake(self.text, **steps)
         line, column, length = (found.line, found.column, found.length) if found else (None, None, 1)
-        shown = _marked(text, line, column, length) if line else []
+        shown = _marked(self.texts[ending], line, column, length) if line else []
         helps = found.hint if found and found.hint else f"help: {meant.get('Helps')}"
-        return Ends(error.told, 3, ending, line, *shown, helps, column=column, what=meant.get("Means", ""))
+        return Ends(error.told, 3, self._path(ending), line, *shown, helps, column=column, what=meant.get("Means", ""))
 
     def _see(self) -> str:
         """The command that shows the run."""
@@ -206,65 +178,66 @@ class _Look:
             return []
         return [line for line in drawn if re.match(r"\S+ (waits at|died of) ", line)]
 
-    def _of_trace(self, run: Optional[bytes], error: Optional[Differs]) -> Ends:
+    def _helps_trace(self, run: Optional[bytes]) -> str:
+        other = _other_form(self.trace or b"", run)
+        if self.is_alone and not other:
+            return f"help: {self.name}.schedule, or a trace as `vuthgal run` writes it; --update needs the schedule"
+        return f"help: {other or 'a plan or schedule that fits the program; or where the change was meant, --update'}"
+
+    def _no_trace(self, error: NotATrace) -> Ends:
+        """Why a trace without a schedule names no choices that could be played."""
+        there = b"".join((self.trace or b"").split(b"\n")[error.line - 1 : error.line])
+        shown = _shown("trace", there) if there else "trace ends here"
+        return Ends(str(error.args[0]), 1, self._path("trace"), error.line, shown, _WANTED, self._helps_trace(None))
+
+    def _of_trace(self, run: bytes) -> Ends:
         """How the trace differs from the run."""
-        trace, name = self.trace or b"", self.kept.name
-        helps = "a plan or schedule that fits the program; or where the change was meant, --update"
-        if self.is_alone:
-            helps = f"{name}.schedule, or a trace as `vuthgal run` writes it; --update needs the schedule"
-        other = _other_form(trace, run)
-        line, shown = _differences(trace, run, 1 if other else _WIDE) if run is not None else (0, [])
-        see = [self._see()] if run is not None else []
-        if not isinstance(error, NotATrace):
-            return Ends(f"differs {line}", 1, "trace", line, *shown, f"help: {other or helps}", *see)
-        line = error.line
-        if run is None:
-            there = b"".join(trace.split(b"\n")[line - 1 : line])[:400].decode("latin-1").replace("\r", "^M")
-            shown = [f"trace {there}"] if there else ["trace ends here"]
-        shown.append("wanted STEP tN ROW WHAT, STEP xN ROW WHAT, or the lines of a state, from state CHOICES STEPS WORD on")
-        return Ends(str(error.args[0]), 1, "trace", line, *shown, f"help: {other or helps}", *see)
+        trace = self.trace or b""
+        line, shown = _differences(trace, run, 1 if _other_form(trace, run) else _WIDE)
+        said = f"differs {line}"
+        try:
+            vuthgal.compare(self.program, trace)
+        except NotATrace as error:
+            said, line = str(error.args[0]), error.line
+            shown.append(_WANTED)
+        except Differs:
+            pass
+        return Ends(said, 1, self._path("trace"), line, *shown, self._helps_trace(run), self._see())
 
     def _otherwise(self, wrong: List[expected.Unmet], refused: Optional[str]) -> Ends:
         """How the end isn't as expected."""
+        said = wrong[0].said
         if refused and refused.endswith(" none") and self.of in ("schedule", "txt"):
-            start, length = _token(self.schedule, int(refused.split()[0]))
-            text = self.texts.get(self.of, self.text)
-            line, column = _at(text, self.base + start)
+            text, (start, length) = self.texts[self.of], _token(self.schedule, int(refused.split()[0]))
+            before = text[: self.base + start].split(b"\n")
+            line, column = len(before), len(before[-1]) + 1
             why = "none: the program has no such thread, and the rest of the schedule wasn't played"
             helps = "threads are numbered from 0, in the order of their `.thread` lines"
             shown = _marked(text, line, column, length)
-            return Ends(wrong[0].said, 1, self.of, line, *shown, column=column, what=why, help=helps)
+            return Ends(said, 1, self._path(self.of), line, *shown, column=column, what=why, help=helps)
         more: List[str] = []
         for it in wrong[:_WIDE]:
-            said, near = it.said if it is not wrong[0] else "", f"near: {it.near}" if it.near else ""
-            more += filter(None, (f"line {it.line}: {it.text}", said, near))
+            its_own = it.said if it is not wrong[0] else None
+            more += filter(None, (f"line {it.line}: {it.text}", its_own, it.near and f"near: {it.near}"))
         if len(wrong) > _WIDE:
             more.append(f"and {len(wrong) - _WIDE} more")
-        return Ends(wrong[0].said, 1, "expect", wrong[0].line, *more, *self._waiting(), self._see())
-
-    def _compared(self, run: Optional[bytes]) -> Optional[Differs]:
-        """What `compare` says of the trace."""
-        try:
-            vuthgal.compare(self.program, self.trace or b"")
-        except Differs as error:
-            return error
-        return None
+        return Ends(said, 1, self._path("expect"), wrong[0].line, *more, *self._waiting(), self._see())
 
     def outcome(self, update: bool) -> Outcome:
         self._check_files()
-        expectations = expected.read(f"{self.kept.name}.expect", self.texts["expect"]) if "expect" in self.texts else []
+        expectations = expected.read(self._path("expect"), self.texts["expect"]) if "expect" in self.texts else []
         if self.trace is None and not expectations and not update:
-            helps = f"what shall hold in {self.kept.name}.expect, or --update, which writes {self.kept.name}.trace"
-            raise Ends("nothing is expected of it", 1, self.its, help=helps)
+            helps = f"what shall hold in {self.name}.expect, or --update, which writes {self.name}.trace"
+            raise self._fails("nothing is expected of it", self.its, helps)
         try:
             self._find_schedule()
             run = bytes(vuthgal.run(self.text) if self.its == "txt" else vuthgal.run(self.program, self.schedule))
         except NotATrace as error:
-            raise self._of_trace(None, error) from None
+            raise self._no_trace(error) from None
         except Error as error:
             raise self._refused(error) from None
         if self.is_alone and self.trace != run:
-            raise self._of_trace(run, self._compared(run))
+            raise self._of_trace(run)
         at = run.rfind(b"\nstate ") + 1
         last = run[:at].rstrip(b"\n").rpartition(b"\n")[2].decode()
         refused = last if last.endswith((" none", " limit")) else None
@@ -276,5 +249,5 @@ class _Look:
         if update and (self.trace is not None or "expect" not in self.texts):
             return Outcome("written", path=self._path("trace"), trace=run)
         if self.trace is not None:
-            raise self._of_trace(run, self._compared(run))
+            raise self._of_trace(run)
         return Outcome("as expected")

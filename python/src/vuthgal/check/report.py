@@ -3,8 +3,8 @@ import re
 import sys
 from typing import List, NamedTuple, Optional
 
+from .ends import Outcome
 from .kept import Found, Left
-from .playing import Outcome
 
 
 def clean(text: str) -> str:
@@ -16,7 +16,8 @@ def clean(text: str) -> str:
 class _Told(NamedTuple):
     suite: str
     title: str
-    kind: str  # of a failure: its status, or `left out`
+    status: int
+    is_left: bool  # it is a file that belongs to no run
     lines: List[str]
     seconds: float
 
@@ -27,7 +28,6 @@ class Report:
     def __init__(self, tap: bool = False, show: bool = False, explain: bool = True) -> None:
         self.tap, self.show, self.explain = tap, show, explain
         self.told: List[_Told] = []
-        self.passed = self.failed = self.left = self.first = 0
         self.unlooked: List[str] = []
         if tap:
             print("TAP version 13")
@@ -37,22 +37,13 @@ class Report:
         if isinstance(found, Left) and not found.status:
             self.unlooked.append(found.title)
             return
-        is_left = isinstance(found, Left) and found.is_file
-        if not outcome.status:
-            self.passed += 1
-        elif is_left:
-            self.left += 1
-        else:
-            self.failed += 1
-        self.first = self.first if self.first > 1 else outcome.status or self.first
         more = self._more(outcome) if outcome.status else []
-        kind = "left out" if is_left else str(outcome.status) if outcome.status else ""
         lines = [clean(it) for it in (outcome.said, *more)]
-        self.told.append(_Told(clean(str(found.folder)), clean(found.title), kind, lines, seconds))
-        line = f"{found.title}: {outcome.said}"
+        is_left = isinstance(found, Left) and found.is_file
+        self.told.append(_Told(clean(str(found.folder)), clean(found.title), outcome.status, is_left, lines, seconds))
+        line, lead = f"{found.title}: {outcome.said}", "    "
         if self.tap:
-            line = f"{'not ' if outcome.status else ''}ok {len(self.told)} - " + line.replace("#", "\\#")
-        lead = "#   " if self.tap else "    "
+            line, lead = f"{'not ' if outcome.status else ''}ok {len(self.told)} - " + line.replace("#", "\\#"), "#   "
         lines = [clean(line), *(clean(lead + it) for it in more if self.show)]
         sys.stdout.write("".join(f"{it}\n" for it in lines))
 
@@ -65,13 +56,15 @@ class Report:
     def end(self) -> int:
         """Tells the sum. Returns the status of all: the first that isn't 1, else whether each run passed, and there was
         one."""
-        line = f"{self.passed} passed, {self.failed} failed" + (f", {self.left} left out" if self.left else "")
+        statuses = [it.status for it in self.told]
+        passed, left = statuses.count(0), sum(it.is_left for it in self.told)
+        line = f"{passed} passed, {len(statuses) - passed - left} failed" + (f", {left} left out" if left else "")
         if self.unlooked:
             more = f", and {len(self.unlooked) - 5} more" if len(self.unlooked) > 5 else ""
             line += clean(f", not looked at: {', '.join(self.unlooked[:5])}{more} (--below)")
         print(f"1..{len(self.told)}\n# {line}" if self.tap else line)
         sys.stdout.flush()
-        return self.first or (0 if self.passed else 1)
+        return next((it for it in statuses if it > 1), max(statuses, default=1))
 
     def junit(self) -> bytes:
         """The report in JUnit's XML: a suite a folder, and a case a run."""
@@ -83,8 +76,9 @@ class Report:
             if suite is None or suite.get("name") != it.suite:
                 suite = xml.SubElement(root, "testsuite", name=it.suite)
             case = xml.SubElement(suite, "testcase", classname=it.suite, name=it.title, time=f"{it.seconds:.6f}")
-            if it.kind:
-                xml.SubElement(case, "failure", type=it.kind, message=it.lines[0]).text = "\n".join(it.lines)
+            if it.status:
+                kind = "left out" if it.is_left else str(it.status)
+                xml.SubElement(case, "failure", type=kind, message=it.lines[0]).text = "\n".join(it.lines)
         for part in (root, *root):
             cases = list(part.iter("testcase"))
             failures = sum(case.find("failure") is not None for case in cases)
@@ -93,4 +87,4 @@ class Report:
             part.text = part.tail = "\n"
         for case in root.iter("testcase"):
             case.tail = "\n"
-        return bytes(xml.tostring(root, "us-ascii")) + b"\n"
+        return bytes(xml.tostring(root, "us-ascii", xml_declaration=True)) + b"\n"
