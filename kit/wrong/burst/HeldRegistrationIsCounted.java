@@ -3,7 +3,7 @@ package kit.wrong.burst;
 /**
  * A registration that is held counts its parties before it waits: a look from inside onAdvance finds more than were there.
  *
- * <p>Found by calls-inside-on-advance.
+ * <p>Found by calls-inside-on-advance; in lock-step where a registration is held.
  */
 public final class HeldRegistrationIsCounted extends LockedFactory {
     @Override

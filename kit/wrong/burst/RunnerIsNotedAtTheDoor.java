@@ -7,7 +7,7 @@ import java.util.function.IntSupplier;
  * Who comes notes itself as the thread that runs the action before it waits at the door: a look from inside the action then
  * waits for the action's end.
  *
- * <p>Found by calls-inside-an-action.
+ * <p>Found by calls-inside-an-action; in lock-step where others come while it runs.
  */
 public final class RunnerIsNotedAtTheDoor extends LockedFactory {
     @Override
