@@ -8,21 +8,31 @@ record Burst(String kind, long seed, long round, List<Phaser> phasers, List<Barr
         Request closer, List<BurstStep> pokes, BurstClaim claim) {
 
     /**
-     * Whose {@code onAdvance} answers by {@code policy} after {@code lasts} nanoseconds; the class's own is kept where the
-     * policy is DEFAULT.
+     * Whose {@code onAdvance} makes the calls {@code inner} after {@code lasts} nanoseconds, and answers by {@code policy}; the
+     * class's own is kept where the policy is DEFAULT.
      */
-    record Phaser(int parent, int parties, Policy policy, long lasts) {
+    record Phaser(int parent, int parties, Policy policy, long lasts, List<Request> inner) {
         boolean asks() {
             return policy.kind() != Policy.Kind.DEFAULT;
         }
     }
 
-    /** {@code lasts} is how long the action runs, in nanoseconds; {@code fails}: it throws. */
-    record Barrier(int parties, boolean withAction, long lasts, boolean fails) {
+    /** {@code lasts} is how long the action runs, in nanoseconds, before its calls {@code inner}; {@code fails}: it throws. */
+    record Barrier(int parties, boolean withAction, long lasts, boolean fails, List<Request> inner) {
     }
 
     /** The exception that a failing action throws. */
     static final int FAILURE = 77;
+
+    /** The calls that the onAdvance or action makes there. */
+    List<Request> inner(Entered where) {
+        return where.ofPhaser() ? phasers.get(where.object()).inner() : barriers.get(where.object()).inner();
+    }
+
+    boolean forces() {
+        return threads.stream().flatMap(List::stream)
+            .anyMatch(step -> !step.interrupts() && step.request().method() == Method.FORCE_TERMINATION);
+    }
 
     boolean hasInterrupts() {
         return threads.stream().flatMap(List::stream).anyMatch(BurstStep::interrupts);

@@ -27,6 +27,8 @@ final class BurstByLists {
     private final Map<Integer, Deque<Given>> given = new HashMap<>();
     /** What each thread has entered in its present call. */
     private final Map<Integer, List<PortLine>> entered = new HashMap<>();
+    /** What each onAdvance and action calls, by its number. */
+    private final Map<Integer, Request> inner = new HashMap<>();
     /** When the last step of each thread ended. */
     private final Map<Integer, Long> ended = new HashMap<>();
     private int numbers;
@@ -63,12 +65,14 @@ final class BurstByLists {
             Burst.Phaser phaser = burst.phasers().get(number);
             if (phaser.asks()) {
                 boolean never = phaser.policy().kind() == Policy.Kind.NEVER;
+                tellInner("phaser " + number, phaser.inner());
                 lines.add("advance " + number + " " + phaser.lasts() + " " + (never ? -1 : phaser.policy().argument()));
             }
         }
         for (int number = 0; number < burst.barriers().size(); number++) {
             Burst.Barrier barrier = burst.barriers().get(number);
             if (barrier.withAction()) {
+                tellInner("barrier " + number, barrier.inner());
                 lines.add("action " + number + " " + barrier.lasts() + " " + (barrier.fails() ? Burst.FAILURE : 0));
             }
         }
@@ -77,6 +81,13 @@ final class BurstByLists {
         }
         went = System.nanoTime();
         go();
+    }
+
+    private void tellInner(String where, List<Request> requests) {
+        for (Request request : requests) {
+            inner.put(++numbers, request);
+            stage.tellInner("inside " + where + " " + numbers + " " + request.words());
+        }
     }
 
     /** The looker makes this call at once. */
@@ -132,7 +143,14 @@ final class BurstByLists {
                 given.remove(thread);
                 running--;
             }
-            default -> step(thread, list, BurstLine.of(said));
+            default -> {
+                BurstLine line = BurstLine.of(said);
+                if (inner.containsKey((int) line.number())) {
+                    callInside(thread, line);
+                } else {
+                    step(thread, list, line);
+                }
+            }
         }
     }
 
@@ -148,6 +166,21 @@ final class BurstByLists {
     long now() {
         long first = history.entries().stream().mapToLong(BurstEntry::beganAt).min().orElse(0);
         return first + System.nanoTime() - went;
+    }
+
+    /** A call from inside what its thread has entered in its present call. */
+    private void callInside(int thread, BurstLine line) {
+        List<PortLine> where = entered.getOrDefault(thread, List.of());
+        if (where.isEmpty() || !line.hasEnded()) {
+            throw line.fault("that is a call inside an onAdvance or an action, and comes behind `enter`");
+        }
+        Request request = inner.get((int) line.number());
+        history.add(new InnerCall(thread, entered(where.get(where.size() - 1)), request, line.answer(request.method())));
+    }
+
+    private static Entered entered(PortLine where) {
+        return where.kind() == PortLine.Kind.ENTERS_ROUTINE
+            ? Entered.onAdvance(where.number(0), where.number(1), where.number(2)) : Entered.action(where.number(0));
     }
 
     private void step(int thread, Deque<Given> list, BurstLine line) {
@@ -173,9 +206,9 @@ final class BurstByLists {
 
     private void enter(BurstEntry entry, PortLine where) {
         if (where.kind() == PortLine.Kind.ENTERS_ROUTINE) {
-            history.asks(Entered.onAdvance(where.number(0), where.number(1), where.number(2)), entry);
+            history.asks(entered(where), entry);
         } else {
-            entry.enters(Entered.action(where.number(0)));
+            entry.enters(entered(where));
         }
     }
 }

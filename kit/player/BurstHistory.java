@@ -14,6 +14,7 @@ final class BurstHistory {
     private final AtomicLong clock = new AtomicLong();
     private final Queue<BurstEntry> entries = new ConcurrentLinkedQueue<>();
     private final Queue<Entered> asked = new ConcurrentLinkedQueue<>();
+    private final Queue<InnerCall> inner = new ConcurrentLinkedQueue<>();
     /** What this thread has begun, where it makes the calls itself. */
     private final ThreadLocal<BurstEntry> begun = new ThreadLocal<>();
     private long givenUpAt;
@@ -77,6 +78,15 @@ final class BurstHistory {
         if (by != null && !by.step().interrupts()) {
             by.asks(where);
         }
+    }
+
+    void add(InnerCall call) {
+        inner.add(call);
+    }
+
+    /** What was called from inside an onAdvance or an action. */
+    List<InnerCall> inner() {
+        return new ArrayList<>(inner);
     }
 
     boolean wasAsked(Entered where) {

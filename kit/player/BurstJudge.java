@@ -58,6 +58,11 @@ final class BurstJudge {
         if (new HashSet<>(history.asked()).size() < history.asked().size()) {
             return "onAdvance is asked twice for one phase";
         }
+        for (InnerCall call : history.inner()) {
+            if (!call.isRight(history.burst())) {
+                return call.words();
+            }
+        }
         return switch (history.burst().claim()) {
             case NONE -> null;
             case MEETS -> meets();

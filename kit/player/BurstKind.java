@@ -21,6 +21,7 @@ record BurstKind(String name, Consumer<BurstMaker> maker, String words) {
         all.addAll(TripBursts.KINDS);
         all.addAll(BreakBursts.KINDS);
         all.addAll(DoorBursts.KINDS);
+        all.addAll(InsideBursts.KINDS);
         return List.copyOf(all);
     }
 
@@ -42,7 +43,7 @@ record BurstKind(String name, Consumer<BurstMaker> maker, String words) {
     private static final Map<String, Pattern> SYMPTOMS = new TreeMap<>(Map.of(
         "action", Pattern.compile("action|^trips$"),
         "hang", Pattern.compile("meetings|^trips$|crowd|barg|alone$|alone-at|wait-against|two-who|at-an-empty|at-once|behind-an"
-            + "|looks-at-a-tree|levels"),
+            + "|looks-at-a-tree|levels|inside-an"),
         "interrupt", Pattern.compile("interrupt"),
         "reset", Pattern.compile("reset|broken|break|barging$|looks-at-a-barrier"),
         "time", Pattern.compile("time"),

@@ -68,7 +68,7 @@ final class BurstMaker {
 
     int phaser(int parent, int parties, Policy policy) {
         long lasts = of(50) ? 0 : time(0, of(50) ? 200 : 3_000);
-        phasers.add(new Burst.Phaser(parent, parties, policy, lasts));
+        phasers.add(new Burst.Phaser(parent, parties, policy, lasts, List.of()));
         return phasers.size() - 1;
     }
 
@@ -81,8 +81,25 @@ final class BurstMaker {
     }
 
     int barrier(int parties, boolean withAction, long lasts, boolean fails) {
-        barriers.add(new Burst.Barrier(parties, withAction, lasts, fails));
+        barriers.add(new Burst.Barrier(parties, withAction, lasts, fails, List.of()));
         return barriers.size() - 1;
+    }
+
+    /** The {@code onAdvance} of a phaser, which isn't the class's own, calls this phaser. */
+    void insideOnAdvance(int phaser, List<Method> methods) {
+        Burst.Phaser it = phasers.get(phaser);
+        phasers.set(phaser, new Burst.Phaser(it.parent(), it.parties(), it.policy(), it.lasts(), requests(methods, phaser)));
+    }
+
+    /** The action of a barrier calls this barrier. */
+    void insideAction(int barrier, List<Method> methods) {
+        Burst.Barrier it = barriers.get(barrier);
+        barriers.set(barrier,
+            new Burst.Barrier(it.parties(), it.withAction(), it.lasts(), it.fails(), requests(methods, barrier)));
+    }
+
+    private static List<Request> requests(List<Method> methods, int object) {
+        return methods.stream().map(method -> Request.of(method, object)).toList();
     }
 
     // ---- steps

@@ -143,6 +143,9 @@ final class BurstPlayer {
             int at = number;
             Stage.Advance advance = !phaser.asks() ? null : (phase, parties) -> {
                 history.asks(Entered.onAdvance(at, phase, parties));
+                if (!phaser.inner().isEmpty()) {
+                    return null;
+                }
                 BurstGate.pauseUntil(System.nanoTime() + phaser.lasts());
                 return phaser.policy().decide(phase, parties);
             };

@@ -5,6 +5,7 @@ import java.util.Collections;
 import java.util.Comparator;
 import java.util.List;
 import java.util.Locale;
+import java.util.stream.Collectors;
 
 /** A burst that fails, in words: what is wrong, its objects and calls, and the answer that no order explains. */
 final class BurstReport {
@@ -109,14 +110,20 @@ final class BurstReport {
             line("  phaser " + number + ": " + phaser.parties() + " parties"
                 + (phaser.parent() < 0 ? "" : ", child of " + phaser.parent())
                 + (phaser.asks() ? ", onAdvance overridden: " + phaser.policy().kind().name().toLowerCase(Locale.ROOT)
-                    + (phaser.policy().kind() == Policy.Kind.UNTIL ? " " + phaser.policy().argument() : "") : ""));
+                    + (phaser.policy().kind() == Policy.Kind.UNTIL ? " " + phaser.policy().argument() : "") : "")
+                + inside(phaser.inner()));
         }
         for (int number = 0; number < burst.barriers().size(); number++) {
             Burst.Barrier barrier = burst.barriers().get(number);
             line("  barrier " + number + ": " + barrier.parties() + " parties"
                 + (!barrier.withAction() ? "" : barrier.fails() ? ", with an action that throws" : ", with an action")
-                + (barrier.lasts() > 0 ? " that takes " + barrier.lasts() / 1_000 + " us" : ""));
+                + (barrier.lasts() > 0 ? " that takes " + barrier.lasts() / 1_000 + " us" : "") + inside(barrier.inner()));
         }
+    }
+
+    private static String inside(List<Request> inner) {
+        return inner.isEmpty() ? "" : ", which calls " + inner.stream().map(request -> request.method().word).distinct()
+            .collect(Collectors.joining(", "));
     }
 
     private static String asked(Entered where) {

@@ -1,6 +1,7 @@
 package kit.player;
 
 import java.util.ArrayList;
+import java.util.Iterator;
 import java.util.List;
 
 /**
@@ -85,12 +86,56 @@ abstract class BurstRunner implements CallWatcher {
 
     @Override
     public final void entered(Call call, Entered where) {
-        present.enters(where);
-        Burst.Barrier at = history.burst().barriers().get(where.object());
-        if (at.lasts() > 0) {
-            stands(real, at);
+        if (!where.ofPhaser()) {
+            present.enters(where);
+        }
+        Burst burst = history.burst();
+        if (!burst.inner(where).isEmpty()) {
+            pauseInside(burst, where);
+            callInside(where, burst.inner(where).iterator());
+        } else if (burst.barriers().get(where.object()).lasts() > 0) {
+            stands(real, burst.barriers().get(where.object()));
         } else {
-            endAction(real, at);
+            endAction(real, burst.barriers().get(where.object()));
+        }
+    }
+
+    /** In a port the way through the pipe is a pause. */
+    private void pauseInside(Burst burst, Entered where) {
+        if (here) {
+            int object = where.object();
+            long lasts = where.ofPhaser() ? burst.phasers().get(object).lasts() : burst.barriers().get(object).lasts();
+            BurstGate.pauseUntil(System.nanoTime() + lasts);
+        }
+    }
+
+    /** Makes what is left to be called there, and ends the onAdvance or action. */
+    private void callInside(Entered where, Iterator<Request> left) {
+        if (!left.hasNext()) {
+            end(where);
+            return;
+        }
+        Request request = left.next();
+        real.tell(request, new CallWatcher() {
+            @Override
+            public void entered(Call call, Entered again) {
+                end(again);
+            }
+
+            @Override
+            public void done(Call call) {
+                history.add(new InnerCall(thread, where, request, call.answer()));
+                callInside(where, left);
+            }
+        });
+    }
+
+    private void end(Entered where) {
+        if (where.ofPhaser()) {
+            Policy policy = history.burst().phasers().get(where.object()).policy();
+            real.answer(policy.decide(where.phase(), where.parties()) ? 1 : 0);
+        } else {
+            endAction(real, history.burst().barriers().get(where.object()));
         }
     }
 

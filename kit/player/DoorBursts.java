@@ -25,18 +25,19 @@ final class DoorBursts {
         return make.barrier(parties, true, make.time(0, make.of(50) ? 200 : 3_000), fails);
     }
 
-    private static void comers(BurstMaker make, int barrier, int count, int often) {
-        for (int comer = 0; comer < count; comer++) {
-            List<BurstStep> steps = new ArrayList<>(BurstMaker.times(make.between(1, often), await(barrier)));
-            make.thread(steps);
+    /** More comers than parties, so often at most each; answers the number of their barrier. */
+    static int comers(BurstMaker make, boolean fails, int often) {
+        int parties = make.between(1, 3);
+        int barrier = barrier(make, parties, fails);
+        for (int comer = parties + make.between(1, 3); comer > 0; comer--) {
+            make.thread(BurstMaker.times(make.between(1, often), await(barrier)));
         }
         make.closes(Request.of(Method.RESET, barrier));
+        return barrier;
     }
 
     private static void behind(BurstMaker make) {
-        int parties = make.between(1, 3);
-        int barrier = barrier(make, parties, false);
-        comers(make, barrier, parties + make.between(1, 3), 3);
+        int barrier = comers(make, false, 3);
         if (make.of(50)) {
             Method method = make.any(List.of(Method.RESET, Method.IS_BROKEN, Method.GET_NUMBER_WAITING));
             make.thread(BurstMaker.times(make.between(1, 3), BurstMaker.call(method, barrier).after(make.time(0, 300))));
@@ -44,9 +45,7 @@ final class DoorBursts {
     }
 
     private static void failing(BurstMaker make) {
-        int parties = make.between(1, 3);
-        int barrier = barrier(make, parties, true);
-        comers(make, barrier, parties + make.between(1, 3), 2);
+        int barrier = comers(make, true, 2);
         if (make.of(50)) {
             make.thread(BurstMaker.call(Method.IS_BROKEN, barrier).after(make.time(0, 300)), BurstMaker.call(Method.RESET, barrier));
         }

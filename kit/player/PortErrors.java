@@ -3,6 +3,7 @@ package kit.player;
 import java.io.IOException;
 import java.io.InputStream;
 import java.util.concurrent.locks.LockSupport;
+import java.util.regex.Pattern;
 
 /**
  * A port's standard error. It is passed on as it comes, and the first warning of a race detector is kept. While the port lives
@@ -11,7 +12,10 @@ import java.util.concurrent.locks.LockSupport;
 final class PortErrors {
     private static final String OF_GO = "WARNING: DATA RACE";
     private static final String OF_THREAD_SANITIZER = "WARNING: ThreadSanitizer:";
-    /** What begins and ends a warning of either. */
+    /** Of Helgrind and DRD, whose warnings have no end of their own: each line goes with those before it. */
+    private static final Pattern OF_VALGRIND = Pattern.compile("^==\\d+== (Possible data race|Conflicting (load|store) by) ");
+    private static final Pattern RULE_OF_VALGRIND = Pattern.compile("^==\\d+== --");
+    /** What begins and ends a warning of the others. */
     private static final String RULE = "====";
     private static final int MOST_LINES = 80;
     private static final int CHUNK = 8_192;
@@ -26,6 +30,7 @@ final class PortErrors {
     private final byte[] chunk = new byte[CHUNK];
     private final StringBuilder line = new StringBuilder();
     private StringBuilder warning;
+    private boolean ofValgrind;
     private int lines;
     private volatile String whole;
     private boolean ended;
@@ -104,13 +109,23 @@ final class PortErrors {
         }
         String told = line.toString();
         line.setLength(0);
-        if (warning == null && (told.contains(OF_GO) || told.contains(OF_THREAD_SANITIZER))) {
-            warning = new StringBuilder();
+        if (warning == null) {
+            ofValgrind = OF_VALGRIND.matcher(told).find();
+            boolean begins = ofValgrind || told.contains(OF_GO) || told.contains(OF_THREAD_SANITIZER);
+            warning = begins ? new StringBuilder() : null;
         }
-        if (warning != null && told.startsWith(RULE)) {
+        if (warning == null) {
+            return;
+        }
+        if (told.startsWith(RULE)) {
             end();
-        } else if (warning != null && lines++ < MOST_LINES) {
+        } else if (ofValgrind && RULE_OF_VALGRIND.matcher(told).find()) {
+            lines = MOST_LINES;
+        } else if (lines++ < MOST_LINES) {
             warning.append("    ").append(told).append('\n');
+            if (ofValgrind) {
+                whole = warning.toString().stripTrailing();
+            }
         }
     }
 

@@ -97,6 +97,12 @@ final class PortStage implements Stage {
         return done || call.done();
     }
 
+    /** One that can't leaves out the bursts that need it. */
+    @Override
+    public void tellInner(String line) {
+        process.order(line);
+    }
+
     @Override
     public void tellLists(List<String> lines, BlockingQueue<PortLine> told) {
         process.writeLists(lines, told);

@@ -64,6 +64,11 @@ interface Stage {
         throw new IllegalStateException("it takes no lists");
     }
 
+    /** Tells a call that an onAdvance or an action makes in a list, in the words of the port protocol. */
+    default void tellInner(String line) {
+        throw new IllegalStateException("it takes no lists");
+    }
+
     /** Tells lists of calls, in the words of the port protocol; what comes of them goes to {@code told}. */
     default void tellLists(List<String> lines, BlockingQueue<PortLine> told) {
         throw new IllegalStateException("it takes no lists");

@@ -89,7 +89,15 @@ struct Step {
   std::atomic<Nanoseconds> begun{0};
   Nanoseconds ended = 0;
   std::string answer{};
-  std::string entered{};  // a line for each onAdvance and action
+  std::string entered{};  // a line for each onAdvance and action, and for each call inside
+};
+
+/// What an onAdvance or an action does in a list: the calls that it makes, with their numbers; from which phase on it answers
+/// true, or never, where that is negative; what it throws, or nothing, where that is 0.
+struct Plan {
+  Nanoseconds lasts = 0;
+  int number = 0;
+  std::vector<std::pair<int, Call>> inside{};
 };
 
 /// A thread of a case: makes the calls that it is told to make, also in the middle of an onAdvance or an action.
@@ -116,14 +124,21 @@ class Actor : public Thread {
     return actor.serve();
   }
 
-  /// The same in a list, where nobody is asked: notes it, and goes on behind so long a pause. False where it is in none.
-  static bool passes(const std::string& what, Nanoseconds length) {
+  /// The same in a list, where nobody is asked: notes it, and goes by the plan. False where it is in none.
+  static bool passes(const std::string& what, const Plan& plan) {
     Actor& actor = static_cast<Actor&>(current());
     if (!actor.present_) {
       return false;
     }
-    actor.present_->entered += std::to_string(actor.number_) + " enter " + what + '\n';
-    pause(length);
+    std::ostringstream lines;
+    lines << actor.number_ << " enter " << what << '\n';
+    pause(plan.lasts);
+    for (const auto& [number, call] : plan.inside) {
+      const Nanoseconds begun = now();
+      const std::string answer = outcome(call);
+      lines << actor.number_ << " did " << number << ' ' << begun << ' ' << now() << ' ' << answer << '\n';
+    }
+    actor.present_->entered += lines.str();
     return true;
   }
 
@@ -232,13 +247,6 @@ class Actor : public Thread {
   Step* present_ = nullptr;
 };
 
-/// What an onAdvance or an action does in a list: from which phase on it answers true, or never, where that is negative;
-/// what it throws, or nothing, where that is 0.
-struct Plan {
-  Nanoseconds lasts = 0;
-  int number = 0;
-};
-
 // The plans of the burst, by the numbers of phasers and barriers.
 std::map<int, Plan> advances;
 std::map<int, Plan> actions;
@@ -254,7 +262,7 @@ class AskingPhaser : public Phaser {
     std::ostringstream what;
     what << "phaser " << number_ << ' ' << phase << ' ' << parties;
     const Plan& plan = advances.at(number_);
-    if (Actor::passes(what.str(), plan.lasts)) {
+    if (Actor::passes(what.str(), plan)) {
       return plan.number >= 0 && (phase >= plan.number || parties == 0);
     }
     return Actor::enter(what.str()) != 0;
@@ -423,7 +431,7 @@ void make_barrier(std::istringstream& words) {
     asks = [number] {
       const std::string what = "barrier " + std::to_string(number);
       const Plan& plan = actions.at(number);
-      if (!Actor::passes(what, plan.lasts)) {
+      if (!Actor::passes(what, plan)) {
         Actor::enter(what);
       } else if (plan.number != 0) {
         throw Through{plan.number};
@@ -461,6 +469,14 @@ std::string so_far() {
     lines += entry.second->so_far();
   }
   return lines;
+}
+
+void plan_inside(std::istringstream& words) {
+  std::string what;
+  words >> what;
+  Plan& plan = (what == "phaser" ? advances : actions)[number(words)];
+  const int step = number(words);
+  plan.inside.emplace_back(step, call_of(words));
 }
 
 void plan(std::map<int, Plan>& plans, std::istringstream& words) {
@@ -513,6 +529,9 @@ class Reader : public Thread {
       say(make(word, words));
     } else if (word == "lists" || word == "so-far") {
       say((word == "lists" ? "" : so_far()) + "ok");
+    } else if (word == "inside") {
+      plan_inside(words);
+      say("ok");
     } else if (word == "live") {
       say("no there is no collector");
     } else if (word == "advance" || word == "action") {

@@ -153,12 +153,17 @@ func (a *actor) serve() (int32, error) {
 }
 
 // enter stands at the beginning of an OnAdvance or an action, until it is told how that ends. In a list nobody is asked: it goes
-// on behind so long a pause, and answers false.
-func (a *actor) enter(what string, lasts int64) (asked bool, number int32, err error) {
+// by the plan, and answers false.
+func (a *actor) enter(what string, does plan) (asked bool, number int32, err error) {
 	line := fmt.Sprint(a.number, " enter ", what)
 	if a.inList {
 		a.entered += line + "\n"
-		pause(lasts)
+		pause(does.lasts)
+		for _, each := range does.inside {
+			begun := now()
+			answer := outcome(a.Thread, each.made)
+			a.entered += fmt.Sprint(a.number, " did ", each.number, " ", begun, " ", now(), " ", answer, "\n")
+		}
 		return false, 0, nil
 	}
 	say(line)
@@ -209,11 +214,12 @@ func (a *actor) soFar() string {
 
 // ---------------------------------------------------------------- objects
 
-// plan is what an OnAdvance or an action does in a list: how long it lasts; then from which phase on it answers true, or never,
-// where that is negative; or what it throws, if it isn't 0.
+// plan is what an OnAdvance or an action does in a list: how long it lasts; the calls that it makes; then from which phase on it
+// answers true, or never, where that is negative; or what it throws, if it isn't 0.
 type plan struct {
 	lasts  int64
 	number int32
+	inside []step
 }
 
 // The objects of the case, and the plans of the burst by their numbers. The reader of commands makes them while no thread is
@@ -244,10 +250,17 @@ func named(number int) *actor {
 	return a
 }
 
+func plansOf(phaser bool) map[int]plan {
+	if phaser {
+		return advances
+	}
+	return actions
+}
+
 func askingAdvance(number int) OnAdvance {
 	return func(t *Thread, phase, parties int32) (bool, error) {
 		does := advances[number]
-		asked, answer, err := actorOf(t).enter(fmt.Sprint("phaser ", number, " ", phase, " ", parties), does.lasts)
+		asked, answer, err := actorOf(t).enter(fmt.Sprint("phaser ", number, " ", phase, " ", parties), does)
 		if asked {
 			return answer != 0, err
 		}
@@ -258,7 +271,7 @@ func askingAdvance(number int) OnAdvance {
 func askingAction(number int) Action {
 	return func(t *Thread) error {
 		does := actions[number]
-		asked, _, err := actorOf(t).enter(fmt.Sprint("barrier ", number), does.lasts)
+		asked, _, err := actorOf(t).enter(fmt.Sprint("barrier ", number), does)
 		if !asked && does.number != 0 {
 			return through(does.number)
 		}
@@ -463,10 +476,17 @@ func carryOut(command string, words []string) {
 		say(live())
 	case "so-far":
 		say(soFar())
-	case "advance":
-		advances[int(number(words[0]))] = plan{number(words[1]), int32(number(words[2]))}
-	case "action":
-		actions[int(number(words[0]))] = plan{number(words[1]), int32(number(words[2]))}
+	case "advance", "action":
+		plans := plansOf(command == "advance")
+		at := int(number(words[0]))
+		plans[at] = plan{number(words[1]), int32(number(words[2])), plans[at].inside}
+	case "inside":
+		plans := plansOf(words[0] == "phaser")
+		at := int(number(words[1]))
+		does := plans[at]
+		does.inside = append(does.inside, step{number: int(number(words[2])), made: callOf(words[3:])})
+		plans[at] = does
+		say("ok")
 	case "list":
 		addToList(words)
 	case "go":

@@ -20,6 +20,7 @@ THROWN = {IllegalState: 1, IllegalArgument: 2, Interrupted: 3, BrokenBarrier: 4,
 
 phasers, barriers, actors = [], [], {}
 advances, actions = {}, {}      # what an onAdvance and an action do in a list: how long, and what
+inside = {}                     # and what they call then
 listed = []                     # who has a list, and wasn't told to go
 writing = threading.Lock()
 
@@ -67,6 +68,10 @@ class Actor(Thread):
             return False
         self.present[2].append(f"{self.number} enter {what}")
         pause(plan[0])
+        for number, call in inside.get(tuple(what.split()[:2]), ()):
+            begun = time.monotonic_ns()
+            answer = outcome(*call)
+            self.present[2].append(f"{self.number} did {number} {begun} {time.monotonic_ns()} {answer}")
         return True
 
     def make_list(self, gate):
@@ -166,7 +171,7 @@ CALLS = {
 
 
 def begin():
-    for each in phasers, barriers, advances, actions:
+    for each in phasers, barriers, advances, actions, inside:
         each.clear()
     for actor in actors.values():
         actor.interrupted = False
@@ -188,6 +193,10 @@ def ask_action(number):
         current().enter(f"barrier {number}")
     elif plan[1] != 0:
         raise Through(plan[1])
+
+
+def add_inside(kind, at, number, method, *numbers):
+    inside.setdefault((kind, at), []).append((number, (method, [int(n) for n in numbers])))
 
 
 def actor(number):
@@ -216,7 +225,14 @@ def tell_so_far():
             say(line)
 
 
-MAKES = {"case": begin, "phaser": make_phaser, "barrier": make_barrier, "lists": lambda: None, "so-far": tell_so_far}
+MAKES = {
+    "case": begin,
+    "phaser": make_phaser,
+    "barrier": make_barrier,
+    "lists": lambda: None,
+    "inside": add_inside,
+    "so-far": tell_so_far,
+}
 LISTS = {
     "list": add_to_list,
     "advance": lambda number, *plan: advances.update({int(number): [int(n) for n in plan]}),

@@ -44,7 +44,7 @@ fn pause(length: u64) {
 }
 
 /// A call that is ready to be made; it answers what it returned, if it has a value.
-type Call = Box<dyn Fn() -> Answer<Option<i32>> + Send>;
+type Call = Box<dyn Fn() -> Answer<Option<i32>> + Send + Sync>;
 
 /// What became of a call, in the protocol's words.
 fn words_of(answer: Answer<Option<i32>>) -> String {
@@ -147,13 +147,19 @@ impl Actor {
     }
 
     /// Stands at the beginning of an `onAdvance` or an action, until it is told how that ends. None in a list, where nobody is
-    /// asked, and it goes on behind so long a pause.
-    fn enter(what: &str, lasts: u64) -> Option<Answer<i32>> {
+    /// asked, and it goes by the plan.
+    fn enter(what: &str, plan: &Plan) -> Option<Answer<i32>> {
         let actor = ACTOR.with(|actor| actor.get().unwrap().clone());
         let line = format!("{} enter {what}", actor.number);
         let in_list = ENTERED.with(|entered| entered.borrow_mut().as_mut().map(|lines| *lines += &format!("{line}\n")));
         if in_list.is_some() {
-            pause(lasts);
+            pause(plan.lasts);
+            for (number, call) in plan.inside.iter() {
+                let begin = now();
+                let answer = words_of(call());
+                let line = format!("{} did {number} {begin} {} {answer}\n", actor.number, now());
+                ENTERED.with(|entered| entered.borrow_mut().as_mut().unwrap().push_str(&line));
+            }
             return None;
         }
         say(&line);
@@ -193,12 +199,13 @@ impl Actor {
 
 // ---------------------------------------------------------------- objects
 
-/// What an `onAdvance` or an action does in a list: how long it lasts; then from which phase on it answers true, or never, where
-/// that is negative; or what it throws, if it isn't 0.
-#[derive(Clone, Copy, Default)]
+/// What an `onAdvance` or an action does in a list: how long it lasts; the calls that it makes, with their numbers; then from which
+/// phase on it answers true, or never, where that is negative; or what it throws, if it isn't 0.
+#[derive(Clone, Default)]
 struct Plan {
     lasts: u64,
     number: i32,
+    inside: Arc<Vec<(i32, Call)>>,
 }
 
 /// All that there is in a case, and the threads.
@@ -227,8 +234,8 @@ fn world() -> MutexGuard<'static, World> {
 
 fn asking_advance(number: usize) -> OnAdvance {
     Box::new(move |phase, parties| {
-        let plan = world().advances.get(&number).copied().unwrap_or_default();
-        match Actor::enter(&format!("phaser {number} {phase} {parties}"), plan.lasts) {
+        let plan = world().advances.get(&number).cloned().unwrap_or_default();
+        match Actor::enter(&format!("phaser {number} {phase} {parties}"), &plan) {
             Some(answer) => Ok(answer? != 0),
             None => Ok(plan.number >= 0 && (phase >= plan.number || parties == 0)),
         }
@@ -237,8 +244,8 @@ fn asking_advance(number: usize) -> OnAdvance {
 
 fn asking_action(number: usize) -> Action {
     Box::new(move || {
-        let plan = world().actions.get(&number).copied().unwrap_or_default();
-        match Actor::enter(&format!("barrier {number}"), plan.lasts) {
+        let plan = world().actions.get(&number).cloned().unwrap_or_default();
+        match Actor::enter(&format!("barrier {number}"), &plan) {
             Some(answer) => answer.map(|_| ()),
             None if plan.number != 0 => Err(Thrown::Through(plan.number)),
             None => Ok(()),
@@ -299,6 +306,11 @@ impl World {
                 call_of_phaser(self.phasers[at()].clone(), words[0].to_string(), number, words.get(3).map(|word| read(word)))
             }
         }
+    }
+
+    fn plan(&mut self, of_phaser: bool, number: usize) -> &mut Plan {
+        let plans = if of_phaser { &mut self.advances } else { &mut self.actions };
+        plans.entry(number).or_default()
     }
 
     fn number_of(&self, phaser: Option<Arc<Phaser>>) -> i32 {
@@ -366,8 +378,15 @@ fn carry_out(command: &str, words: &[&str]) {
         "live" => say("no there is no collector"),
         "so-far" => say(&(world.actors.values().map(|actor| actor.so_far()).collect::<String>() + "ok")),
         "advance" | "action" => {
-            let plans = if command == "advance" { &mut world.advances } else { &mut world.actions };
-            plans.insert(read(words[0]), Plan { lasts: read(words[1]), number: read(words[2]) });
+            let plan = world.plan(command == "advance", read(words[0]));
+            plan.lasts = read(words[1]);
+            plan.number = read(words[2]);
+        }
+        "inside" => {
+            let call = world.call_of(&words[3..]);
+            let plan = world.plan(words[0] == "phaser", read(words[1]));
+            Arc::get_mut(&mut plan.inside).unwrap().push((read(words[2]), call));
+            say("ok");
         }
         "list" => {
             let actor = world.actor(read(words[0]));

@@ -29,6 +29,7 @@ class LockedBarrier implements BarrierUnderTest {
     private final Runnable action;
     private volatile Generation generation = new Generation();
     private volatile int waiting;
+    private Thread runner;
 
     LockedBarrier(int parties, Runnable action) {
         this.parties = parties;
@@ -148,12 +149,14 @@ class LockedBarrier implements BarrierUnderTest {
 
     private void trip() {
         boolean ran = false;
+        runner = Thread.currentThread();
         try {
             if (action != null) {
                 act();
             }
             ran = true;
         } finally {
+            runner = null;
             if (!ran) {
                 breakIt();
             }
@@ -226,7 +229,7 @@ class LockedBarrier implements BarrierUnderTest {
     public int getNumberWaiting() {
         lock.lock();
         try {
-            return waiting;
+            return runner == Thread.currentThread() ? parties : waiting;
         } finally {
             lock.unlock();
         }
