@@ -32,6 +32,7 @@ export class Session {
   #handle;
   #word;
   #calls;
+  #rooms;
 
   /**
    * `fill` opens a session at a handle. Of the calls, `answer` throws the fault that a status stands for, and `plan`
@@ -147,8 +148,8 @@ export class Session {
   /** How all stand now, by numbers. */
   look() {
     const { at, word } = this.#library.struct;
-    const rooms = LOOK.rooms.flatMap((room) => [BigInt(at + room.at), BigInt(room.most)]);
-    this.#check(this.#library.call("session_look", this.#open(), word, ...rooms));
+    this.#rooms ??= LOOK.rooms.flatMap((room) => [BigInt(at + room.at), BigInt(room.most)]);
+    this.#check(this.#library.call("session_look", this.#open(), word, ...this.#rooms));
     return lookAt(this.#library.view, at);
   }
 
