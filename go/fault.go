@@ -62,6 +62,8 @@ type Fault struct {
 	Line string
 	// At is the line of a trace that isn't as it should be, from 1.
 	At int
+	// Mistake is where a plan is refused, and what helps.
+	Mistake *Mistake
 }
 
 // Error is the line of an input that is refused, or what is wrong.

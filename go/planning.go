@@ -18,7 +18,8 @@ func Plan(program, plan []byte) (schedule string, stopped bool, err error) {
 }
 
 // PlanWithin returns the schedule that a plan stands for, of at most so many choices, and whether the plan was stopped there. With names
-// threads have their names: it is a plan, too. A schedule is a plan, so this also writes a schedule by names.
+// threads have their names: it is a plan, too. A schedule is a plan, so this also writes a schedule by names. The fault Refused has a
+// Mistake.
 func PlanWithin(program, plan []byte, most int, names bool) (schedule string, stopped bool, err error) {
 	if most < 0 || most > math.MaxUint32 {
 		return "", false, malformed("at most " + strconv.Itoa(most))
@@ -27,7 +28,23 @@ func PlanWithin(program, plan []byte, most int, names bool) (schedule string, st
 		return C.vuthgal_plan(at(program), size(program), at(plan), size(plan), C.uint32_t(most), flag(names),
 			at(r.output), size(r.output), &r.outputLength, at(r.line), size(r.line), &r.lineLength)
 	})
+	if err, is := err.(*Fault); is && err.Status == Refused {
+		err.Mistake, _ = FindMistake(program, InPlan, plan)
+	}
 	return strings.TrimSpace(string(output)), stopped, err
+}
+
+// choicesIn is how many choices a schedule has.
+func choicesIn(schedule string) int {
+	choices := 0
+	for _, token := range strings.Fields(schedule) {
+		count := 1
+		if _, repeated, is := strings.Cut(token, "*"); is {
+			count, _ = strconv.Atoi(repeated)
+		}
+		choices += count
+	}
+	return choices
 }
 
 // Orders are the seeds by which orders are made.

@@ -14,8 +14,9 @@ import (
 // Session is a program that is played choice by choice, as `vuthgal debug` plays it: each step takes as long as the first. Close frees
 // what it holds. Goroutines may share it: its calls follow one another.
 type Session struct {
-	mutex  sync.Mutex
-	handle C.vuthgal_session
+	mutex   sync.Mutex
+	handle  C.vuthgal_session
+	program []byte
 	// Threads are the names of the threads, if the program is a text.
 	Threads []string
 }
@@ -48,6 +49,7 @@ func Open(program []byte) (*Session, error) {
 	if err := fault(status, line[:length]); err != nil {
 		return nil, err
 	}
+	session.program = append([]byte(nil), program...)
 	session.Threads = names(program)
 	return session, nil
 }
@@ -162,6 +164,17 @@ func (s *Session) GoTo(played string, number int) error {
 	}
 }
 
+// PlayPlan begins again, and plays a plan of at most so many choices. It returns the schedule, and whether the plan was stopped there. No
+// breakpoint stops it. What was played goes on if its schedule stands before the plan. With a fault nothing changes; Refused has a
+// Mistake.
+func (s *Session) PlayPlan(plan string, most int) (schedule string, stopped bool, err error) {
+	schedule, stopped, err = PlanWithin(s.program, []byte(plan), most, false)
+	if err == nil {
+		err = s.GoTo(schedule, choicesIn(schedule))
+	}
+	return schedule, stopped, err
+}
+
 // enabled are the two words of the library.
 func (s *Session) enabled() (turns, expiries uint64) {
 	var words [2]C.uint64_t
@@ -192,7 +205,7 @@ func (s *Session) Enabled() []Choice {
 func (s *Session) Copy() (*Session, error) {
 	s.mutex.Lock()
 	defer s.mutex.Unlock()
-	copied := &Session{Threads: s.Threads}
+	copied := &Session{program: s.program, Threads: s.Threads}
 	if err := fault(C.vuthgal_session_copy(&s.handle, &copied.handle), nil); err != nil {
 		return nil, err
 	}

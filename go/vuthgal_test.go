@@ -159,6 +159,29 @@ func TestMistakes(t *testing.T) {
 		Mistake{"refused schedule 1 5", InSchedule, 2, 3, 1, "help: a schedule can't have comments; a program text can, above its line `.run`"})
 }
 
+func TestPlayPlan(t *testing.T) {
+	session := done(Open(read(t, "meeting.asm")))(t)
+	done(session.Step(1))(t)
+	done(session.Command("k 1"))(t)
+	schedule, stopped, err := session.PlayPlan("a. b. a.", MostChoices)
+	same(t, []any{schedule, stopped, err}, []any{"t0 t1*3 t0*3", false, nil})
+	same(t, done(session.State())(t).Choices, uint64(7))
+	_, stopped, err = session.PlayPlan("a b*3 a*9", 5)
+	same(t, []any{stopped, err}, []any{true, nil})
+	_, _, err = session.PlayPlan("a.\n(b. aa)*2", 9)
+	fails(t, err, Refused)
+	same(t, *err.(*Fault).Mistake, Mistake{"refused plan 2 4", InPlan, 2, 5, 2, "near: a"})
+	_, _, err = session.PlayPlan("a", -1)
+	fails(t, err, Malformed)
+	same(t, done(session.State())(t).Choices, uint64(5))
+	copied := done(session.Copy())(t)
+	schedule, _, err = copied.PlayPlan("t0 t1*3 b.", 9)
+	same(t, []any{schedule, err}, []any{"t0 t1*3", nil})
+	session.Close()
+	_, _, err = session.PlayPlan("a", 1)
+	fails(t, err, Closed)
+}
+
 func TestSession(t *testing.T) {
 	session := done(Open(read(t, "meeting.asm")))(t)
 	same(t, session.Threads, []string{"a", "b"})

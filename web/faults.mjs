@@ -28,6 +28,7 @@ export class Refused extends Fault {
     this.means = said("Means");
     this.help = said("Helps");
     this.output = output;
+    this.mistake = null;
   }
 }
 

@@ -26,6 +26,13 @@ const STATUSES = ["runs", "throws", "waits", "waits", "ended", "died"];
 const STANDINGS = ["live", "stuck", "all"];
 const ENTRIES = ["C", "H", "A", "X"];
 
+/** What `one` gives for each number below a count, sooner than by `Array.from`. */
+function listed(count, one) {
+  const list = [];
+  for (let n = 0; n < count; n++) list.push(one(n));
+  return list;
+}
+
 const numbered = (number) => (number === NOTHING ? null : number);
 
 /** What a choice did, by the struct that the call filled. */
@@ -68,7 +75,7 @@ function threadAt(view, at, number) {
     awaits: status === "waits" && object !== null ? `${awaits}${object}` : null,
     phase: status === "waits" && awaits === "p" ? value : null,
     interrupted: view.getUint8(at + 44) === 1,
-    registers: Array.from({ length: 8 }, (_, register) => view.getInt32(at + 4 * register, true)),
+    registers: listed(8, (register) => view.getInt32(at + 4 * register, true)),
     entries: view.getUint8(at + 42),
     outputs: view.getUint16(at + 40, true),
   };
@@ -93,8 +100,8 @@ const barrierAt = (view, at, number) => ({
 
 /** How all stand, by the structs that the call filled. */
 export function lookAt(view, at) {
-  const all = (count, room, one) => Array.from({ length: count }, (_, i) => one(view, at + room.at + room.each * i, i));
-  const cells = all(CELLS.most, CELLS, (_, place, cell) => [cell, view.getInt32(place, true)]);
+  const all = (count, room, one) => listed(count, (n) => one(view, at + room.at + room.each * n, n));
+  const cells = all(CELLS.most, CELLS, (_, place) => view.getInt32(place, true));
   return {
     choices: view.getUint32(at, true) + view.getUint32(at + 4, true) * 2 ** 32,
     steps: view.getUint32(at + 8, true),
@@ -102,22 +109,27 @@ export function lookAt(view, at) {
     threads: all(view.getUint8(at + 12), THREADS, threadAt),
     phasers: all(view.getUint8(at + 13), PHASERS, phaserAt),
     barriers: all(view.getUint8(at + 14), BARRIERS, barrierAt),
-    cells: new Map(cells.filter(([, value]) => value !== 0)),
+    cells: new Map(cells.some(Boolean) ? [...cells.entries()].filter(([, value]) => value !== 0) : []),
   };
 }
 
 /** The entries of a stack from the bottom, as a state's text has them, such as `C5`. */
 export function entriesAt(view, at, count) {
-  const one = (_, i) => ENTRIES[view.getUint8(at + ENTRY_SIZE * i + 2)] + view.getUint16(at + ENTRY_SIZE * i, true);
-  return Array.from({ length: count }, one);
+  const one = (place) => ENTRIES[view.getUint8(place + 2)] + view.getUint16(place, true);
+  return listed(count, (n) => one(at + ENTRY_SIZE * n));
 }
 
 export function numbersAt(view, at, count) {
-  return Array.from({ length: count }, (_, i) => view.getInt32(at + NUMBER_SIZE * i, true));
+  return listed(count, (n) => view.getInt32(at + NUMBER_SIZE * n, true));
 }
 
 /** The numbers of the bits of 64 that are set. */
 export function bitsAt(view, at) {
-  const words = [view.getUint32(at, true), view.getUint32(at + 4, true)];
-  return Array.from({ length: 64 }, (_, bit) => bit).filter((bit) => (words[bit >> 5] >>> (bit & 31)) & 1);
+  const bits = [];
+  for (let first = 0; first < 64; first += 32) {
+    for (let word = view.getUint32(at + first / 8, true); word !== 0; word &= word - 1) {
+      bits.push(first + 31 - Math.clz32(word & -word));
+    }
+  }
+  return bits;
 }

@@ -31,13 +31,17 @@ export class Session {
   #library;
   #handle;
   #word;
-  #answer;
+  #calls;
+  #rooms;
 
-  /** `fill` opens a session at a handle, and `answer` throws the fault that a status stands for. */
-  constructor(library, answer, threads, fill) {
+  /**
+   * `fill` opens a session at a handle. Of the calls, `answer` throws the fault that a status stands for, and `plan`
+   * gives the schedule of a plan.
+   */
+  constructor(library, calls, threads, fill) {
     const handle = library.handle();
     try {
-      answer(fill(handle));
+      calls.answer(fill(handle));
     } catch (fault) {
       library.close(handle);
       throw fault;
@@ -45,14 +49,13 @@ export class Session {
     this.#library = library;
     this.#handle = handle;
     this.#word = BigInt(handle);
-    this.#answer = answer;
+    this.#calls = calls;
     this.threads = threads;
     forgotten.register(this, { library, handle }, this);
   }
 
-  static of(library, answer, program) {
-    const bytes = bytesOf(program);
-    return new Session(library, answer, namesOf(bytes), (handle) => library.open(handle, bytes));
+  static of(library, calls, program) {
+    return new Session(library, calls, namesOf(program), (handle) => library.open(handle, program));
   }
 
   get isOpen() {
@@ -61,7 +64,7 @@ export class Session {
 
   /** Throws the fault of a status that isn't 0. A handle of 0 has no session. */
   #check(status) {
-    if (status !== 0) this.#answer({ status, line: "" });
+    if (status !== 0) this.#calls.answer({ status, line: "" });
   }
 
   /** The address of a session that is open. */
@@ -127,6 +130,13 @@ export class Session {
     this.#check(status);
   }
 
+  /** Begins again, plays a plan of at most `most` choices, and returns its schedule. No breakpoint stops it. */
+  playPlan(plan, options = {}) {
+    const schedule = this.#calls.plan(plan, { most: options.most });
+    this.goTo(schedule, schedule.choices);
+    return schedule;
+  }
+
   /** The threads whose turn would do something now, and those whose wait would expire. */
   get enabled() {
     const { at } = this.#library.struct;
@@ -138,8 +148,8 @@ export class Session {
   /** How all stand now, by numbers. */
   look() {
     const { at, word } = this.#library.struct;
-    const rooms = LOOK.rooms.flatMap((room) => [BigInt(at + room.at), BigInt(room.most)]);
-    this.#check(this.#library.call("session_look", this.#open(), word, ...rooms));
+    this.#rooms ??= LOOK.rooms.flatMap((room) => [BigInt(at + room.at), BigInt(room.most)]);
+    this.#check(this.#library.call("session_look", this.#open(), word, ...this.#rooms));
     return lookAt(this.#library.view, at);
   }
 
@@ -166,7 +176,7 @@ export class Session {
   copy() {
     const from = this.#open();
     const fill = (to) => ({ status: this.#library.call("session_copy", from, BigInt(to)), line: "" });
-    return new Session(this.#library, this.#answer, this.threads, fill);
+    return new Session(this.#library, this.#calls, this.threads, fill);
   }
 
   /** The schedule of another run, in which a thread goes first. The session doesn't change. */

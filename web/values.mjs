@@ -137,6 +137,11 @@ export class Schedule {
     this.stopped = stopped;
   }
 
+  /** How many choices it has. */
+  get choices() {
+    return [...this.text.matchAll(/\S+/g)].reduce((sum, [token]) => sum + Number(token.split("*")[1] ?? 1), 0);
+  }
+
   *[Symbol.iterator]() {
     for (const [token] of this.text.matchAll(/\S+/g)) {
       const [choice, count = 1] = token.split("*");

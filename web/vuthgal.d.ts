@@ -47,7 +47,7 @@ export interface Vuthgal {
   choices(trace: Text): Schedule;
   /**
    * The schedule that a plan stands for on a program: at most `most` choices, and at most 1,000,000. With `names` it
-   * has the names of the threads, so that it is a plan.
+   * has the names of the threads, so that it is a plan. If the plan is refused, the fault has a `mistake`.
    */
   plan(program: Text, plan: Text, options?: { most?: number; names?: boolean }): Schedule;
   /**
@@ -146,6 +146,11 @@ export class Session {
    * on. They are played anew, so they may be more than 4,096 back. If it throws, nothing changes.
    */
   goTo(played: string | Schedule, number: number): void;
+  /**
+   * Begins again, plays a plan of at most `most` choices, and returns its schedule. No breakpoint stops it. What was
+   * played goes on if its schedule stands before the plan. If it throws, nothing changes; `Refused` has a `mistake`.
+   */
+  playPlan(plan: Text, options?: { most?: number }): Schedule;
   /** How all stand now, by numbers. */
   look(): Look;
   /** The entries of a thread's stack, from the bottom: `C5`, `H7`, `A0`, `X2`. */
@@ -304,6 +309,8 @@ export class Schedule implements Iterable<string> {
   readonly text: string;
   /** Whether its plan needs more choices than it may have. */
   readonly stopped: boolean;
+  /** How many choices it has. */
+  readonly choices: number;
   [Symbol.iterator](): IterableIterator<string>;
   toString(): string;
 }
@@ -347,6 +354,8 @@ export class Refused extends Fault {
   readonly help: string;
   /** What was written before: of a schedule, the lines of the choices before its fault. */
   readonly output: Uint8Array;
+  /** Of a plan: where it is refused, and what helps. */
+  readonly mistake: Mistake | null;
 }
 
 /** A trace isn't that of the run. */

@@ -111,10 +111,16 @@ class Vuthgal {
     return new Schedule(lines[0]);
   }
 
-  /** The schedule that a plan stands for on a program. */
+  /** The schedule that a plan stands for on a program. `Refused` has a `mistake`. */
   plan(program, plan, { most = MOST_PLANNED, names = false } = {}) {
-    const { status, output } = this.#answer(this.call("plan", [program, plan], most, names ? 1 : 0));
-    return new Schedule(textOf(output).trimEnd(), status === 1);
+    if (!(most >= 0 && most < 2 ** 32)) throw new RangeError(`no number of choices: ${most}`);
+    const told = this.call("plan", [program, plan], most, names ? 1 : 0);
+    try {
+      return new Schedule(textOf(this.#answer(told).output).trimEnd(), told.status === 1);
+    } catch (fault) {
+      if (fault instanceof Refused) fault.mistake = this.mistake(program, { plan });
+      throw fault;
+    }
   }
 
   /** How the runs of an order by each seed end, after a plan. */
@@ -182,7 +188,9 @@ class Vuthgal {
 
   /** Opens a session of a program. */
   session(program) {
-    return Session.of(this.#library, (told) => this.#answer(told), program);
+    const text = bytesOf(program).slice();
+    const answer = (told) => this.#answer(told);
+    return Session.of(this.#library, { answer, plan: (plan, options) => this.plan(text, plan, options) }, text);
   }
 
   /** The version of the library, and the sum of its sources. */

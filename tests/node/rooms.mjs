@@ -265,6 +265,32 @@ function going() {
 }
 look("a session at any choice", going());
 
+function planned() {
+  const session = loaded.session(meeting);
+  session.step("b");
+  session.setBreakpoint(1);
+  const schedule = session.playPlan("a. b. a.");
+  const wrong = [`${schedule}, ${schedule.choices}, ${schedule.stopped}` === "t0 t1*3 t0*3, 7, false" ? "" : `${schedule}`];
+  wrong.push(session.state.text === loaded.run(meeting, schedule).state.text ? "" : "another state than the run's");
+  wrong.push(session.playPlan("a b*3 a*9", { most: 5 }).stopped ? "" : "it isn't stopped");
+  wrong.push(thrown(RangeError, () => session.playPlan("a", { most: -1 })));
+  wrong.push(thrown(vuthgal.Refused, () => session.playPlan("a.\n(b. aa)*2")));
+  try {
+    session.playPlan("a.\n(b. aa)*2");
+  } catch ({ mistake }) {
+    const wanted = { told: "refused plan 2 4", input: "plan", line: 2, column: 5, length: 2, hint: "near: a" };
+    wrong.push(JSON.stringify(mistake) === JSON.stringify(wanted) ? "" : JSON.stringify(mistake));
+  }
+  wrong.push(session.look().choices === 5 ? "" : "what was refused changed it");
+  const copy = session.copy();
+  wrong.push(`${copy.playPlan("t0 t1*3 b.")}` === "t0 t1*3" ? "" : "a copy plays another plan");
+  wrong.push(loaded.plan(meeting, "a b*3", { names: true }).choices === 4 ? "" : "names aren't counted");
+  copy.close();
+  session.close();
+  return [...wrong, thrown(vuthgal.Closed, () => session.playPlan("a"))];
+}
+look("plans in a session", planned());
+
 function mistakes() {
   const wanted = [
     [["ldi r8 1\n"], { told: "refused asm 1 5", input: "program", line: 1, column: 5, length: 2 }],

@@ -16,4 +16,6 @@ const threads: number[] = look.threads.map((thread) => thread.registers[0] ?? 0)
 for (const choice of vuthgal.plan("", "..")) console.log(choice.length);
 console.log(lines.length, threads, session.enabled.turns.length, session.go("t0").why, [...session.state.cells]);
 vuthgal.call("explain", ["?"]).status.toFixed();
+const planned: number = session.playPlan("..", { most: 9 }).choices;
+console.log(planned);
 session.close();

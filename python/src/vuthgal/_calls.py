@@ -109,10 +109,14 @@ def _count(number: int, least: int = 0) -> int:
 
 def plan(program: Text, plan: Text, most: int = 1_000_000, names: bool = False) -> Schedule:
     """The schedule that a plan stands for on a program, of at most `most` choices. With `names` threads have their names: it is a plan,
-    too. A schedule is a plan, so this also writes a schedule by names."""
+    too. A schedule is a plan, so this also writes a schedule by names. `Refused` has a `mistake`."""
     first, second = _program(program), _bytes(plan)
     status, output, line = called("plan", first, len(first), second, len(second), _count(most), names)
-    schedule = Schedule(_told(status, output, line).decode("ascii").rstrip("\n"))
+    try:
+        schedule = Schedule(_told(status, output, line).decode("ascii").rstrip("\n"))
+    except Refused as refused:
+        refused.mistake = mistake(first, plan=second)
+        raise
     schedule.stopped = status == 1
     return schedule
 

@@ -1,5 +1,8 @@
 """What ends a call that doesn't do as it was asked."""
-from typing import Optional, Tuple
+from typing import TYPE_CHECKING, Optional, Tuple
+
+if TYPE_CHECKING:
+    from ._shown import Mistake
 
 
 class Error(Exception):
@@ -29,6 +32,8 @@ class Refused(Error, ValueError):
         self.place: Tuple[str, ...] = tuple(numbers)
         #: what was written before: of a schedule, the lines of the choices before its fault
         self.output: bytes = output
+        #: of a plan: the place of the mistake in its text, and what helps
+        self.mistake: "Optional[Mistake]" = None
 
     @property
     def meaning(self) -> str:

@@ -5,8 +5,10 @@ from types import TracebackType
 from typing import Any, Hashable, Iterator, List, Optional, Tuple, Type, Union
 
 from ._calls import Text, _program, _told
+from ._calls import plan as _planned
 from ._errors import Closed, Malformed, NoHistory, NoThread, StepLimit
 from ._library import Held
+from ._shown import Schedule
 from ._text import names
 from ._trace import HAS_VALUE, Barrier, Cells, Line, Phaser, State, Thread, What
 
@@ -106,10 +108,10 @@ class Session:
     One thread may use a session at a time. `close`, or the end of `with`, frees what it holds.
     """
 
-    __slots__ = ("_held", "_used", "threads")
+    __slots__ = ("_held", "_text", "_used", "threads")
 
     def __init__(self, program: Text) -> None:
-        text = _program(program)
+        self._text = text = _program(program)
         #: the names of the threads, where the program is a text
         self.threads: Tuple[str, ...] = ()
         self._held = Held()
@@ -179,6 +181,13 @@ class Session:
             raise Malformed("no schedule")
         _played(status, "the schedule has a thread that isn't there")
 
+    def play_plan(self, plan: Text, most: int = 1_000_000) -> Schedule:
+        """Begins again, plays a plan of at most `most` choices, and returns its schedule. No breakpoint stops it. What was played goes on if
+        its schedule stands before the plan. Where it raises, nothing changes; `Refused` has a `mistake`."""
+        schedule = _planned(self._text, plan, most)
+        self.go_to(schedule, schedule.choices)
+        return schedule
+
     def enabled(self) -> "tuple[str, ...]":
         """The choices that would do something now, as a schedule has them: `t0`, or `x0` where a timed wait can expire."""
         with self._used as held:
@@ -189,7 +198,7 @@ class Session:
         """A second session in the same state, with the same breakpoints, which goes on alone. It has nothing of the past to take
         back."""
         other = object.__new__(Session)
-        other.threads = self.threads
+        other._text, other.threads = self._text, self.threads
         other._held = Held()
         other._used = _Use(other._held)
         with self._used as held:

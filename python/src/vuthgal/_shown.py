@@ -9,8 +9,13 @@ INPUTS = ("program", "plan", "schedule")
 class Schedule(str):
     """The schedule of a plan."""
 
-    #: whether the plan wanted one more choice than 1,000,000
+    #: whether the plan wanted one more choice than it might make
     stopped: bool = False
+
+    @property
+    def choices(self) -> int:
+        """How many choices it has."""
+        return sum(int(token.partition("*")[2] or 1) for token in self.split())
 
 
 class Outcome(NamedTuple):

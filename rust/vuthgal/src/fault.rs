@@ -1,5 +1,5 @@
 //! What ends a call that doesn't do as it was asked.
-use crate::Malformed;
+use crate::{Malformed, Mistake};
 use std::error::Error;
 use std::fmt;
 
@@ -7,8 +7,8 @@ use std::fmt;
 #[derive(Clone, Debug, PartialEq, Eq, Hash)]
 #[non_exhaustive]
 pub enum Fault {
-    /// An input is refused: the line of it, and what was written before.
-    Refused { line: String, output: Vec<u8> },
+    /// An input is refused: the line of it, and what was written before; and of a plan where, and what helps.
+    Refused { line: String, output: Vec<u8>, mistake: Option<Box<Mistake>> },
     /// There is no memory: what stands there is a beginning of the whole.
     Memory { output: Vec<u8> },
     /// An input has more than 16,777,216 bytes, or words to explain have more than 65,536.

@@ -108,7 +108,7 @@ fn text(bytes: Vec<u8>) -> String {
 fn answer((status, output, line): (u8, Vec<u8>, Vec<u8>)) -> Result<(bool, Vec<u8>), Fault> {
     match status {
         sys::VUTHGAL_DONE | sys::VUTHGAL_UNLIKE => Ok((status == sys::VUTHGAL_UNLIKE, output)),
-        sys::VUTHGAL_REFUSED => Err(Fault::Refused { line: text(line).trim_end().to_owned(), output }),
+        sys::VUTHGAL_REFUSED => Err(Fault::Refused { line: text(line).trim_end().to_owned(), output, mistake: None }),
         sys::VUTHGAL_MEMORY => Err(Fault::Memory { output }),
         sys::VUTHGAL_TOO_LONG => Err(Fault::TooLong),
         sys::VUTHGAL_CLOSED => Err(Fault::Closed),
@@ -210,7 +210,7 @@ pub enum Input<'a> {
 }
 
 /// Where an input is refused, and what helps.
-#[derive(Clone, Debug, PartialEq, Eq)]
+#[derive(Clone, Debug, PartialEq, Eq, Hash)]
 pub struct Mistake {
     /// The line of the refusal, as the program writes it.
     pub told: String,

@@ -1,5 +1,5 @@
 //! Plans, and orders by seeds.
-use crate::{call, text, unknown, Fault, Word};
+use crate::{call, mistake, text, unknown, Fault, Input, Word};
 use std::ops::Range;
 
 /// How a schedule has its threads.
@@ -16,6 +16,14 @@ pub enum Written {
 pub struct Planned {
     pub schedule: String,
     pub stopped: bool,
+}
+
+impl Planned {
+    /// How many choices the schedule has.
+    pub fn choices(&self) -> u64 {
+        let tokens = self.schedule.split_whitespace();
+        tokens.map(|token| token.split_once('*').map_or(1, |(_, count)| count.parse().unwrap_or(1))).sum()
+    }
 }
 
 /// A state that runs by seeds ended in.
@@ -38,9 +46,16 @@ pub fn plan(program: &[u8], plan: &[u8]) -> Result<Planned, Fault> {
 }
 
 /// The schedule that a plan stands for on a program, of at most `most` choices and at most 1,000,000. A schedule is a plan, so this also
-/// writes a schedule by names.
+/// writes a schedule by names. `Refused` has a mistake.
 pub fn plan_within(program: &[u8], plan: &[u8], most: u32, written: Written) -> Result<Planned, Fault> {
-    let (stopped, output) = call!(vuthgal_plan, program, plan; most, u8::from(written == Written::Names))?;
+    let told = call!(vuthgal_plan, program, plan; most, u8::from(written == Written::Names));
+    let (stopped, output) = told.map_err(|fault| match fault {
+        Fault::Refused { line, output, .. } => {
+            let mistake = mistake(program, Input::Plan(plan)).ok().flatten().map(Box::new);
+            Fault::Refused { line, output, mistake }
+        }
+        other => other,
+    })?;
     Ok(Planned { schedule: text(output).trim_end().to_owned(), stopped })
 }
 

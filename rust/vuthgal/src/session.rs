@@ -1,9 +1,10 @@
 //! A program that is played choice by choice.
 use crate::looking::{entries, values, Look};
-use crate::{answer, called, text, unknown, Choice, Enabled, Fault, Line, Mark, State, What};
+use crate::{answer, called, plan_within, text, unknown, Choice, Enabled, Fault, Line, Mark, Planned, State, What, Written};
 use std::cell::UnsafeCell;
 use std::fmt;
 use std::ptr::null_mut;
+use std::sync::Arc;
 use vuthgal_sys as sys;
 
 /// A program that is played choice by choice, as `vuthgal debug` plays it: each step takes as long as the first.
@@ -16,6 +17,7 @@ use vuthgal_sys as sys;
 /// ```
 pub struct Session {
     handle: UnsafeCell<sys::vuthgal_session>,
+    program: Arc<[u8]>,
     names: Vec<String>,
 }
 
@@ -102,7 +104,7 @@ fn closed() -> sys::vuthgal_session {
 impl Session {
     /// Opens a session of a program, a text or an image.
     pub fn open(program: &[u8]) -> Result<Session, Fault> {
-        let session = Session { handle: UnsafeCell::new(closed()), names: names(program) };
+        let session = Session { handle: UnsafeCell::new(closed()), program: program.into(), names: names(program) };
         let mut line = [0; sys::VUTHGAL_LINE];
         let mut length = 0;
         let status = unsafe {
@@ -195,6 +197,14 @@ impl Session {
         }
     }
 
+    /// Begins again, and plays a plan of at most `most` choices. No breakpoint stops it. What was played goes on if its schedule stands
+    /// before the plan. With a fault nothing changes; `Refused` has a mistake.
+    pub fn play_plan(&mut self, plan: &str, most: u32) -> Result<Planned, Fault> {
+        let planned = plan_within(&self.program, plan.as_bytes(), most, Written::Numbers)?;
+        self.go_to(&planned.schedule, planned.choices())?;
+        Ok(planned)
+    }
+
     /// The choices that would do something now. Every other one would be idle.
     pub fn enabled(&self) -> Enabled {
         let mut enabled = Enabled { turns: 0, expiries: 0 };
@@ -204,7 +214,7 @@ impl Session {
 
     /// A second session in the same state, with the same breakpoints, which goes on alone. It has nothing of the past to take back.
     pub fn copy(&self) -> Result<Session, Fault> {
-        let copy = Session { handle: UnsafeCell::new(closed()), names: self.names.clone() };
+        let copy = Session { handle: UnsafeCell::new(closed()), program: self.program.clone(), names: self.names.clone() };
         answer((unsafe { sys::vuthgal_session_copy(self.at(), copy.at()) }, Vec::new(), Vec::new()))?;
         Ok(copy)
     }

@@ -1,6 +1,6 @@
 //! Each call once, on a program of two threads that meet; the expected texts are those of examples/ and docs/TRACES.md.
 use std::collections::HashSet;
-use vuthgal::{Choice, Entry, Fault, Gone, Input, Line, Mark, Place, Session, State, Trace, Verdict, What, Word, Written};
+use vuthgal::{Choice, Entry, Fault, Gone, Input, Line, Mark, Mistake, Place, Session, State, Trace, Verdict, What, Word, Written};
 
 const PROGRAM: &[u8] = include_bytes!("../../../examples/meeting.asm");
 const SCHEDULE: &[u8] = include_bytes!("../../../examples/meeting.schedule");
@@ -226,4 +226,26 @@ fn goes_to_any_choice() {
     assert_eq!(session.go_to("t0", 2), Err(Fault::Malformed { text: "t0".into() }));
     assert_eq!(session.go_to("t9", 1), Err(Fault::NoThread { thread: "t9".into() }));
     assert_eq!(session.state().unwrap().choices, 2);
+}
+
+#[test]
+fn plays_plans() {
+    let mut session = Session::open(PROGRAM).unwrap();
+    session.step(1).unwrap();
+    session.command("k 1").unwrap();
+    let planned = session.play_plan("a. b. a.", 1_000_000).unwrap();
+    assert_eq!((planned.schedule.as_str(), planned.choices(), planned.stopped), ("t0 t1*3 t0*3", 7, false));
+    let trace: Trace = vuthgal::run(PROGRAM, planned.schedule.as_bytes()).unwrap().parse().unwrap();
+    assert_eq!(session.state(), Ok(trace.state));
+    assert!(session.play_plan("a b*3 a*9", 5).unwrap().stopped);
+    let hint = "near: a".to_owned();
+    let mistake = Mistake { told: "refused plan 2 4".into(), line: 2, column: 5, length: 2, is_in_steps: true, hint };
+    match session.play_plan("a.\n(b. aa)*2", 9).unwrap_err() {
+        Fault::Refused { line, mistake: Some(found), .. } => assert_eq!((line.as_str(), *found), ("refused plan 2 4", mistake)),
+        other => panic!("{other:?}"),
+    }
+    assert_eq!(session.state().unwrap().choices, 5);
+    let mut copy = session.copy().unwrap();
+    assert_eq!(copy.play_plan("t0 t1*3 b.", 9).unwrap().schedule, "t0 t1*3");
+    assert_eq!((copy.state().unwrap().choices, session.state().unwrap().choices), (4, 5));
 }
