@@ -56,5 +56,10 @@ const keySigns = () => KEY_TEXTS.map(([sign, text]) => [h("kbd", {}, sign), text
 export const helpSheet = close => [
   h("div.sheet-column", {}, part("Timeline", timelineSigns()), part("Colours", coloursSigns())),
   h("div.sheet-column", {}, part("Picture", pictureSigns()), part("Program", programSigns())),
-  h("div.sheet-column.help-last", {}, h("div.sheet-keys", {}, part("Keys", keySigns())), button("Close", close, { kind: ".main" }))
+  h(
+    "div.sheet-column.help-last",
+    {},
+    h("div.sheet-keys", {}, part("Keys", keySigns())),
+    button("Close", close, { kind: ".main" })
+  )
 ];

@@ -55,8 +55,9 @@ function edgeOf(lesson, step, act) {
   const next = isStart && count ? button("First question", () => act.step(1), { kind: ".main" }) : null;
   const back = isStart ? null : button("Back", () => act.step(-1));
   const head = isStart ? "Aim" : "To remember";
+  const large = isStart ? lesson.aim : lesson.last;
   return [
-    h("div.card-ask", {}, h("p.card-small", {}, head), h("p.card-large" + sizeOf(lesson.aim), {}, isStart ? lesson.aim : lesson.last)),
+    h("div.card-ask", {}, h("p.card-small", {}, head), h("p.card-large" + sizeOf(large), {}, large)),
     h("div.card-reply", {}, h("p.card-small", {}, isStart ? lesson.title : "End of the lesson"), h("p", {}, text)),
     h("div.card-turn", {}, dotsOf(step, count), next, back)
   ];

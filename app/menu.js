@@ -1,5 +1,5 @@
-// The sheets: the menu of programs, the menu of what can be shown, taken along and printed, the help, and a text to copy
-// where there is no clipboard. One is open at a time; Escape closes it, and the focus goes back to where it was.
+// The sheets: the menu of programs, the menu of what can be shown, taken along and printed, the help, and a text to
+// copy where there is no clipboard. One is open at a time; Escape closes it, and the focus goes back to where it was.
 import { byId, fill, h } from "./elements.js";
 
 export function makeSheet() {

@@ -95,7 +95,8 @@ function drawNext(state, act) {
     if (event.isLate) given["aria-label"] = "the time-out of " + name;
     return h("button" + kinds, given, (event.isLate ? "\u23F1\uFE0E " : "") + name);
   };
-  const label = isHidden ? "Next: after the answer" : all.length ? "Next:" : moment.state.word === "stuck" ? "Nobody may go" : "All are over";
+  const nobody = moment.state.word === "stuck" ? "Nobody may go" : "All are over";
+  const label = isHidden ? "Next: after the answer" : all.length ? "Next:" : nobody;
   // a name has its place also while its thread may not go, so that none moves below the pointer
   const list = places.length ? [...places.map(t => moment.next[t] || t), ...Object.values(moment.late)] : all;
   const chips = all.length ? list.map((one, k) => (one.token ? chip(one, k) : blank(one))) : null;

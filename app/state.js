@@ -281,7 +281,8 @@ export function voted(state, thread, by) {
   const count = Math.max(0, (state.lesson.votes[thread] || 0) + by);
   return { ...state, lesson: { ...state.lesson, votes: { ...state.lesson.votes, [thread]: count } } };
 }
-// { goal, tried, changes, isDone }, or null while orders are played. Only the class's own changes count, not those of the plan
+// { goal, tried, changes, isDone }, or null while orders are played. Only the class's own changes count, not those of
+// the plan
 export function challengeOf(state) {
   if (!state.challenge) return null;
   const { goal, tried } = state.challenge;

@@ -233,7 +233,8 @@ export function makeTimeline(go, select) {
     for (let k = from; k <= to; k++) {
       const i = choiceAt(k);
       const isHere = i === shown.at;
-      const kinds = (isHere ? ".is-here" : i > shown.at ? ".is-later" : "") + (differs && i > differs ? ".is-other" : "");
+      const isOther = differs && i > differs;
+      const kinds = (isHere ? ".is-here" : i > shown.at ? ".is-later" : "") + (isOther ? ".is-other" : "");
       list.push(shelf.take([k, i, kinds, common].join(), () => lineOf(k, i, kinds, isHere)));
     }
     arrange(lines, list);
