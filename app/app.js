@@ -18,6 +18,7 @@ import { challengeCard, quizCard } from "./quiz.js";
 import { closeTree, eventTo, momentOf, lengthOf } from "./run.js";
 import { makeScene } from "./scene.js";
 import { choicesOf, commonOf } from "./schedule.js";
+import { veiled } from "./trace.js";
 import { drawStage } from "./stage.js";
 import * as change from "./state.js";
 import { makeTimeline } from "./timeline.js";
@@ -84,9 +85,13 @@ export function makeApp(given) {
     if (isNew && before.tree) {
       past.set(entry, before);
       past.delete(entry - KEPT);
-      remember("replaceState");
       entry++;
-      remember("pushState");
+      // behind the frame in which it shows: a browser takes its time for it
+      const made = entry;
+      setTimeout(() => {
+        if (history.state?.entry !== made - 1) remember("replaceState", undefined, made - 1);
+        remember("pushState", undefined, made);
+      });
     }
     draw();
   }
@@ -98,20 +103,23 @@ export function makeApp(given) {
   }
   // plays a text and a plan; a plan that may take long, in the worker
   async function edit(text, plan) {
-    const isQuiz = state.mode === "quiz";
-    const played = await playedInWorker(text, plan, change.scheduleIn(state.item, plan));
+    const { mode } = state;
+    const its = change.planFor(state, text, plan);
+    const played = await playedInWorker(text, its, change.scheduleIn(state.item, its));
     if (played === null) return;
     set(change.edited(state, text, plan, played));
-    if (isQuiz && !state.mistake) setMode("quiz");
+    if (!state.mistake && (mode === "quiz" || mode === "challenge")) setMode(mode);
   }
   async function open(item, mode, isNew = true) {
     const { program: text, plan } = item;
     const played = await playedInWorker(text, plan, item.schedule);
     if (played === null) return;
     set(checked(change.opened(state, item, mode, played)), isNew);
-    if (state.mode === "quiz") playOrders();
+    if (isUnasked()) playOrders();
     fitted();
   }
+  // whether a quiz or a challenge waits for what random orders do
+  const isUnasked = () => !state[state.mode] && (state.mode === "quiz" || state.mode === "challenge");
   // what the machine played of a page is compared with what stands in it
   function checked(next) {
     const { page } = next.item;
@@ -156,7 +164,7 @@ export function makeApp(given) {
   }
   function stopWork() {
     given.work.stop();
-    if (state.mode === "quiz" && !state.quiz) set(change.inMode(state, "explore"));
+    if (isUnasked()) set(change.inMode(state, "explore"));
   }
   function setTab(tab) {
     set({ ...state, tab, pane: "picture" });
@@ -164,7 +172,7 @@ export function makeApp(given) {
   }
   function setMode(mode) {
     set(change.inMode(state, mode));
-    if (mode === "quiz" && !state.quiz) playOrders();
+    if (isUnasked()) playOrders();
     fitted();
   }
   function setSide() {
@@ -202,12 +210,16 @@ export function makeApp(given) {
     const { at } = state;
     const run = change.runOf(state);
     const { program: model } = state.tree;
-    const now = moment(at);
+    const isVeiled = change.isVeiled(state);
+    const now = isVeiled ? veiled(moment(at)) : moment(at);
     const event = eventTo(run, at);
     const title = model.title || state.item.title;
+    // the picture first: it measures where things are before anything else has moved
+    if (state.tab === "picture") scene.show({ tree: state.tree, run, at, moment: now, selected: state.selected });
     Object.assign(document.body.dataset, { mode: state.mode, tab: state.tab, pane: state.pane });
     document.body.classList.toggle("is-refused", Boolean(state.mistake));
     document.body.classList.toggle("is-side", Boolean(change.otherOf(state)));
+    document.body.classList.toggle("is-veiled", isVeiled);
     document.body.classList.toggle("is-alone", state.isAlone);
     document.body.classList.toggle("is-working", Boolean(working));
     byId("title").textContent = title;
@@ -215,18 +227,19 @@ export function makeApp(given) {
     pressed("#modes button", one => one.dataset.mode === state.mode);
     pressed("#tabs button", one => one.dataset.pane === state.pane);
     pressed(".views button", one => one.dataset.tab === state.tab);
-    // the picture first: it measures where things are before anything else has moved
-    if (state.tab === "picture") scene.show({ tree: state.tree, run, at, moment: now, selected: state.selected });
     drawStage(state, { choose, tryOut: token => tryOut(token) });
     drawCheck(state);
     program.show(state, now, event);
     drawTime(run);
     if (state.tab === "values") fill(values, valuesOf(model, now, at ? moment(at - 1) : null));
     if (state.tab === "orders") drawOrders();
-    tree.show({ tree: state.tree, run, at, isQuiet: state.mode === "quiz" || state.isHidden });
+    tree.show({ tree: state.tree, run, at, isQuiet: change.isLaterHidden(state) });
     side.disabled = only.disabled = state.tree.runs.length < 2;
     side.setAttribute("aria-pressed", String(Boolean(change.otherOf(state))));
-    drawCard(model, now);
+    drawCard(model);
+    // the page is laid out once: what is measured is measured last
+    for (const one of [tree, program, timeline, second]) one.settle();
+    if (state.tab === "picture") scene.settle();
     clearTimeout(saving);
     saving = setTimeout(keepLink, SAVING);
   }
@@ -238,7 +251,11 @@ export function makeApp(given) {
     const parts = other ? commonOf(run.choices, other.choices) : run.parent >= 0 ? run.fork : 0;
     const { isJava, isFolded, selected, zoom, tree: all } = state;
     const isHidden = change.isLaterHidden(state);
-    const common = { tree: all, isJava, isFolded, selected, zoom, isHidden, differs: parts, isSide: Boolean(other) };
+    const isVeiled = change.isVeiled(state);
+    const common = {
+      ...{ tree: all, isJava, isFolded, selected, zoom, isHidden, isVeiled },
+      ...{ differs: parts, isSide: Boolean(other) }
+    };
     const head = one => {
       const end = h("span.end.end-" + endKind(one.end), {}, isHidden ? "" : endText(all.program, one.end));
       return other ? [h("b", {}, runName(all, one)), end] : "";
@@ -251,17 +268,20 @@ export function makeApp(given) {
   }
   function drawOrders() {
     const act = { take: one => set(change.ordered(state, one), true), play: playOrders, stop: stopWork };
+    if (change.isVeiled(state) && !working) return fill(orders, h("p.hint", {}, change.VEIL));
     fill(orders, ordersOf(state.tree.program, state.orders, working, act));
   }
-  function drawCard(model, now) {
+  function drawCard(model) {
     const card = byId("card");
+    const key = card.contains(document.activeElement) ? document.activeElement.dataset.key : "";
     card.hidden = state.mode === "explore";
-    if (state.mode === "lesson") fill(card, lessonCard(state.lesson, model, now, lessonActs));
+    if (state.mode === "lesson") fill(card, lessonCard(state.lesson, model, moment(state.at), lessonActs));
     if (state.mode === "quiz") fill(card, quizCard(state.quiz, model, quizActs));
     if (state.mode === "challenge") fill(
       card,
-      challengeCard(change.challengeOf(state), { again: () => setMode("challenge") })
+      challengeCard(change.challengeOf(state), { again: () => setMode("challenge"), stop: stopWork })
     );
+    if (key) card.querySelector('[data-key="' + key + '"]')?.focus({ preventScroll: true });
   }
   const lessonActs = {
     step: by => focused(() => set(change.lessonStep(state, by))),
@@ -294,9 +314,9 @@ export function makeApp(given) {
 
   // ---- the address
   // a frame without an address of its own, as a notebook has, has no past that could be written
-  function remember(how, hash) {
+  function remember(how, hash, of = entry) {
     try {
-      history[how]({ entry }, "", hash);
+      history[how]({ entry: of }, "", hash);
     } catch (_) {
       past.clear();
     }
@@ -344,10 +364,11 @@ export function makeApp(given) {
       set(change.addressed(state, link.address));
       return true;
     }
-    const known = given.menu.find(one => one.name === link.name);
+    const named = given.menu.find(one => one.name === link.name);
+    const known = named && !change.isOther(named, link.text) ? named : null;
     const item = {
       group: "Link",
-      name: link.name || "link",
+      name: (!named || known) && link.name ? link.name : "link",
       title: known ? known.title : "From a link",
       program: link.text,
       plan: link.plan

@@ -4,6 +4,7 @@ import { MOST_LINK } from "./link.js";
 import { button, byId, fill } from "./elements.js";
 import { bareName, readProgramFile, runIn, save } from "./file.js";
 import { pageWith } from "../web/page.mjs";
+import { helpSheet } from "./help.js";
 import { listenToKeys } from "./keys.js";
 import { listProgram } from "./machine.js";
 import { copySheet, mainMenu, programsMenu } from "./menu.js";
@@ -61,13 +62,13 @@ export function makeCommands(app, given) {
   // with large type there is no room for three columns
   function setColumns() {
     const rem = parseFloat(getComputedStyle(document.documentElement).fontSize);
-    const isTwo = innerWidth > 900 && innerWidth / rem < 62;
+    const isTwo = innerWidth > 900 && innerHeight > 520 && innerWidth / rem < 62;
     if (isTwo) document.body.dataset.columns = "2";
     else delete document.body.dataset.columns;
   }
   function play() {
     clearInterval(playing);
-    const step = () => (state().at >= lengthOf(run()) ? play() : go(state().at + 1));
+    const step = () => (state().at >= change.lastOf(state()) ? play() : go(state().at + 1));
     playing = playing ? 0 : setInterval(step, settings.speed * 1000);
     if (playing) step();
   }
@@ -178,8 +179,10 @@ export function makeCommands(app, given) {
     copyCommand,
     saveTrace: () => save(state().item.name + ".trace", run().trace),
     saveProgram: () => save(state().item.name + ".asm", state().text),
-    savePage
+    savePage,
+    help: () => app.sheet.open(byId("help"), "Help", helpSheet(() => app.sheet.close(true)))
   };
+  byId("help").onclick = acts.help;
   byId("more").onclick = () => app.sheet.open(byId("more"), "Menu", mainMenu(app.sheet, state(), settings, acts));
 
   // ---- buttons
@@ -223,11 +226,12 @@ export function makeCommands(app, given) {
       app.set({ ...state(), pane: "code", isAlone: false });
       app.program.focus();
     },
-    s: app.setSide
+    s: app.setSide,
+    "?": acts.help
   };
   const keys = {
     keys: moves,
-    number: n => byId("next").querySelectorAll(".chip")[n - 1]?.click(),
+    number: n => byId("next").querySelectorAll(".chip, .next-place")[n - 1]?.click(),
     letter: sign => {
       const option = state().mode === "quiz" ? optionAt(state().quiz, sign) : null;
       if (option !== null) app.set(change.answered(state(), option));

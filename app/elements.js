@@ -31,11 +31,44 @@ export function s(kind, given = {}, ...children) {
   return dress(document.createElementNS("http://www.w3.org/2000/svg", tag), classes, given, children);
 }
 export const fill = (element, ...children) => element.replaceChildren(...childrenOf(children));
+// Fills an element, in which those that are there already stay: only what is new is laid out.
+export function arrange(element, list) {
+  const wanted = new Set(list);
+  for (const one of [...element.childNodes]) if (!wanted.has(one)) one.remove();
+  let next = element.firstChild;
+  for (const one of list) {
+    if (one === next) next = next.nextSibling;
+    else element.insertBefore(one, next);
+  }
+}
+// Fills an element, in which what is equal to what stands there already stays; it must do the same when it is clicked.
+export function renew(element, ...children) {
+  const old = [...element.childNodes];
+  arrange(element, childrenOf(children).map((one, k) => (old[k] && old[k].isEqualNode(one) ? old[k] : one)));
+}
+// Elements by all that they show: what shows the same as in the last drawing is the same element.
+export function makeShelf() {
+  let last = new Map();
+  let now = new Map();
+  return {
+    begin() {
+      last = now;
+      now = new Map();
+    },
+    take(key, make) {
+      const one = last.get(key) || make();
+      now.set(key, one);
+      return one;
+    }
+  };
+}
 
 export function button(text, onclick, given = {}) {
   const { kind = "", ...rest } = given;
   return h("button" + kind, { type: "button", onclick, ...rest }, text);
 }
+// Long texts are smaller, so that they have room where short ones have.
+export const sizeOf = text => (text.length > 130 ? ".is-longer" : text.length > 60 ? ".is-long" : "");
 export const who = (program, t) => h("b.who." + hueOf(t), {}, threadName(program, t));
 
 // The parts of a sentence as elements.
@@ -53,15 +86,19 @@ const isCalm = () => matchMedia("(prefers-reduced-motion: reduce)").matches;
 export function pulse(element, frames) {
   if (element && !isCalm()) element.animate(frames, { duration: MOTION, easing: "ease-out" });
 }
-// What has a new place after a change of `root` moves there from its old one; the same thing is known by `data-fly`.
-export function fly(root, change) {
-  if (isCalm()) return change();
+// Where the things of `root` are; a thing is known by `data-fly`.
+export function placesIn(root) {
   const places = new Map();
+  if (isCalm()) return places;
   for (const one of root.querySelectorAll("[data-fly]")) places.set(one.dataset.fly, one.getBoundingClientRect());
-  change();
-  for (const one of root.querySelectorAll("[data-fly]")) {
-    const from = places.get(one.dataset.fly);
-    const to = one.getBoundingClientRect();
+  return places;
+}
+// What has another place than before moves there from its old one.
+export function fly(root, before) {
+  const now = before.size ? placesIn(root) : before;
+  for (const one of before.size ? root.querySelectorAll("[data-fly]") : []) {
+    const from = before.get(one.dataset.fly);
+    const to = now.get(one.dataset.fly);
     if (!from || (Math.abs(from.left - to.left) < 2 && Math.abs(from.top - to.top) < 2)) continue;
     pulse(one, [{ transform: `translate(${from.left - to.left}px, ${from.top - to.top}px)` }, { transform: "none" }]);
   }

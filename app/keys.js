@@ -3,7 +3,7 @@
 const isField = element => /^(INPUT|TEXTAREA|SELECT)$/.test(element.tagName);
 const isButton = element => element.tagName === "BUTTON" || element.tagName === "A";
 
-// What stands in the menu of keys.
+// What stands in the help.
 export const KEY_TEXTS = [
   ["\u2190 \u2192", "a choice back, forward"],
   ["Page Up, Down", "the same: a presenter\u2019s keys"],
@@ -11,13 +11,14 @@ export const KEY_TEXTS = [
   ["Space", "play"],
   ["1 \u2026 9", "that name is next"],
   ["[ ]", "the run before, after"],
-  ["Esc", "back to the fork"],
+  ["Esc", "close this; back to the fork"],
   ["+ \u2212 0", "size"],
   ["p v o", "picture, values, orders"],
   ["f", "timeline alone"],
   ["e", "edit the program"],
   ["s", "side by side"],
-  ["a \u2026 d", "an answer of the quiz"]
+  ["a \u2026 d", "an answer of the quiz"],
+  ["?", "this help"]
 ];
 
 // act: names of keys, and `escape(isField)`, `number(n)`, `letter(sign)`, `print()`; hasLetters(): whether keys of

@@ -1,11 +1,14 @@
 // The card of a lesson: title and aim, a question in large type, the class's votes, the answer, and the next. The
 // card has one place and one height; the run below it is where the question is.
-import { button, h } from "./elements.js";
+import { button, h, sizeOf } from "./elements.js";
 import { hueOf, threadName } from "./names.js";
+import { PLACES } from "./stage.js";
 
-// A big row of names: a click counts a vote up; with Shift, or the right button, down.
+// A big row of names: a click counts a vote up, and the minus beside the name, or Shift, down. Each thread has its
+// place, also while it may not go.
 function votesOf(program, moment, votes, act) {
   const able = Object.keys(moment.next).map(Number);
+  const places = program.threads.length > PLACES ? able : program.threads.map((_, t) => t);
   const most = Math.max(0, ...able.map(t => votes[t] || 0));
   const first = able.filter(t => (votes[t] || 0) === most && most > 0);
   const name = t => threadName(program, t);
@@ -13,29 +16,30 @@ function votesOf(program, moment, votes, act) {
     const count = votes[t] || 0;
     const given = {
       type: "button",
-      title: "A click counts up, Shift+click down",
+      "data-key": "vote" + t,
       "aria-label": name(t) + ", " + count + (count === 1 ? " vote" : " votes"),
-      onclick: event => act.vote(t, event.shiftKey ? -1 : 1),
-      oncontextmenu: event => {
-        event.preventDefault();
-        act.vote(t, -1);
-      }
+      onclick: event => act.vote(t, event.shiftKey ? -1 : 1)
     };
-    return h("button.vote." + hueOf(t), given, h("span", {}, name(t)), h("b", {}, count));
+    const less = button("\u2212", () => act.vote(t, -1), {
+      kind: ".vote-less",
+      "data-key": "less" + t,
+      "aria-label": "one vote less for " + name(t),
+      "aria-disabled": String(!count)
+    });
+    const vote = h("button.vote", given, h("span", {}, name(t)), h("b", {}, count));
+    return h("span.vote-place." + hueOf(t) + (able.includes(t) ? "" : ".is-out"), {}, vote, less);
   };
   const play = button(first.length === 1 ? "Play " + name(first[0]) : "Play", () => act.choose("t" + first[0]), {
-    kind: ".main",
+    kind: ".main.votes-play",
     disabled: first.length !== 1
   });
-  return [
-    h("p.card-small", {}, "Votes: who is next?"),
-    h("div.votes", {}, able.map(one), play)
-  ];
+  const head = h("div.votes-head", {}, h("p.card-small", {}, "Votes: who is next?"), play);
+  return h("div.votes", {}, head, h("div.votes-list", {}, places.map(one)));
 }
 function answerOf(one, act) {
   const run = one.fork ? button("Show this run", () => act.showFork(...one.fork), { kind: ".card-show" }) : null;
   const tab = one.tab ? button("Random orders", () => act.tab(one.tab), { kind: ".card-show" }) : null;
-  return [h("p.card-small", {}, "Answer"), h("p.card-answer", {}, one.answer, run, tab)];
+  return [h("p.card-small", {}, "Answer"), h("p.card-answer" + sizeOf(one.answer), {}, one.answer, run, tab)];
 }
 function dotsOf(step, count) {
   const label = step < 0 ? "start" : step >= count ? "end" : "question " + (step + 1) + " of " + count;
@@ -51,8 +55,9 @@ function edgeOf(lesson, step, act) {
   const next = isStart && count ? button("First question", () => act.step(1), { kind: ".main" }) : null;
   const back = isStart ? null : button("Back", () => act.step(-1));
   const head = isStart ? "Aim" : "To remember";
+  const large = isStart ? lesson.aim : lesson.last;
   return [
-    h("div.card-ask", {}, h("p.card-small", {}, head), h("p.card-large", {}, isStart ? lesson.aim : lesson.last)),
+    h("div.card-ask", {}, h("p.card-small", {}, head), h("p.card-large" + sizeOf(large), {}, large)),
     h("div.card-reply", {}, h("p.card-small", {}, isStart ? lesson.title : "End of the lesson"), h("p", {}, text)),
     h("div.card-turn", {}, dotsOf(step, count), next, back)
   ];
@@ -75,7 +80,7 @@ export function lessonCard({ lesson, step, isOpen, votes }, program, moment, act
       "div.card-ask",
       {},
       h("p.card-small", {}, "Question " + (step + 1) + " of " + count),
-      h("p.card-large", {}, one.ask)
+      h("p.card-large" + sizeOf(one.ask), {}, one.ask)
     ),
     h("div.card-reply", {}, reply),
     h("div.card-turn", {}, dotsOf(step, count), button("Back", () => act.step(-1)), next)

@@ -44,7 +44,7 @@ export const LESSONS = {
     last: "One interrupted thread breaks the meeting for all.",
     steps: [
       {
-        at: 7,
+        at: 9,
         ask: "Why can Bob continue in choice 9, and not in choice 7?",
         answer: "The interrupt ends only Ann\u2019s wait. The barrier breaks at her next turn, in choice 8."
       },
@@ -151,8 +151,9 @@ export const LESSONS = {
 
 // The lesson of a program: its own, or the teacher's questions in it (`;?`), each at the choice that first plays its
 // row.
-export function lessonOf(name, program, run) {
-  if (Object.hasOwn(LESSONS, name)) return LESSONS[name];
+export function lessonOf({ group, name }, program, run) {
+  // a file of one's own may have any name
+  if (group !== "Yours" && Object.hasOwn(LESSONS, name)) return LESSONS[name];
   const steps = program.questions.flatMap(one => {
     const at = run.events.findIndex(event => event.row === one.row);
     return at < 0 ? [] : [{ at, ask: one.text, answer: "Step on, and see.", next: true }];

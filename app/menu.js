@@ -1,7 +1,6 @@
-// The sheets: the menu of programs, the menu of what can be shown, taken along and printed, and a text to copy where
-// there is no clipboard. One is open at a time; Escape closes it, and the focus goes back to where it was.
+// The sheets: the menu of programs, the menu of what can be shown, taken along and printed, the help, and a text to
+// copy where there is no clipboard. One is open at a time; Escape closes it, and the focus goes back to where it was.
 import { byId, fill, h } from "./elements.js";
-import { KEY_TEXTS } from "./keys.js";
 
 export function makeSheet() {
   const sheet = byId("sheet");
@@ -27,7 +26,9 @@ export function makeSheet() {
     sheet.style.setProperty("left", left + "px");
     sheet.style.setProperty("top", box.bottom + 6 + "px");
     sheet.style.setProperty("max-height", innerHeight - box.bottom - 14 + "px");
-    sheet.querySelector("[aria-current], button, input, textarea")?.focus();
+    const current = sheet.querySelector("[aria-current]");
+    (current || sheet.querySelector("button, input, textarea"))?.focus();
+    if (!current) sheet.scrollTop = 0;
   }
   document.addEventListener("pointerdown", event => {
     if (!sheet.contains(event.target) && !event.target.closest("[aria-expanded]")) close(false);
@@ -110,7 +111,6 @@ export function mainMenu(sheet, state, settings, act) {
     const given = { type: "button", "aria-pressed": String(settings.theme === name), onclick: () => act.theme(name) };
     return h("button", given, name);
   };
-  const key = ([sign, text]) => h("p.sheet-key", {}, h("kbd", {}, sign), " " + text);
   return [
     h(
       "div.sheet-column",
@@ -152,9 +152,10 @@ export function mainMenu(sheet, state, settings, act) {
       entry("Save the program", act.saveProgram),
       entry("Save the trace", act.saveTrace),
       entry("Save this page with the run", act.savePage),
+      h("h2", {}, "Help"),
+      entry("Keys, signs, colours", act.help, "?"),
       h("p.sheet-key", {}, settings.version)
-    ),
-    h("div.sheet-column.sheet-keys", {}, h("h2", {}, "Keys"), KEY_TEXTS.map(key))
+    )
   ];
 }
 export const copySheet = text => column(

@@ -28,6 +28,7 @@ function coloured(line) {
 // changed(text), planned(text): what was typed
 export function makeProgram(changed, planned) {
   const margin = h("div.code-margin", { "aria-hidden": "true" });
+  const numbers = h("pre.code-numbers", { "aria-hidden": "true" });
   const copy = h("pre.code-copy", { "aria-hidden": "true" });
   const marks = h("div.code-marks", { "aria-hidden": "true" });
   const bubble = h("div.code-bubble", { role: "status", "aria-live": "polite", id: "mistake", hidden: true });
@@ -43,7 +44,7 @@ export function makeProgram(changed, planned) {
       changed(text.value);
     }
   });
-  const sheet = h("div.code-sheet", {}, margin, h("div.code-over", {}, marks, copy, text, bubble));
+  const sheet = h("div.code-sheet", {}, numbers, margin, h("div.code-over", {}, marks, copy, text, bubble));
   const scroll = h("div.scroll.code-scroll", {}, sheet);
   const plan = h("input.plan-typed", {
     ...plainly,
@@ -56,6 +57,10 @@ export function makeProgram(changed, planned) {
   const help = h("span.plan-help", { role: "status", id: "planhelp" });
   fill(byId("code"), scroll, h("div.plan", {}, h("label", { for: "plan" }, "Plan"), plan, help));
   let shown = null;
+  // the program whose rows have their numbers
+  let numbered = null;
+  // a line that is to come into view
+  let brought = -1;
 
   function grow() {
     const lines = text.value.split("\n");
@@ -88,6 +93,7 @@ export function makeProgram(changed, planned) {
       grow();
       paint();
     }
+    showNumbers();
     showPlaces(moment, event);
     showMistake(what.mistake);
   }
@@ -96,6 +102,16 @@ export function makeProgram(changed, planned) {
     const isLong = written.length > LONG;
     plan.placeholder = isLong ? "the schedule of this page" : "";
     if (plan !== document.activeElement && plan.value !== written) plan.value = isLong ? "" : written;
+  }
+  // the numbers of the rows, by which the trace names them
+  function showNumbers() {
+    const { program } = shown.tree;
+    const isKnown = !shown.mistake || !shown.mistake.isProgram;
+    if (numbered === (isKnown && program)) return;
+    numbered = isKnown && program;
+    const lines = [];
+    if (isKnown) program.lineOf.forEach((line, row) => (lines[line] = row));
+    numbers.textContent = Array.from(lines, row => row ?? "").join("\n");
   }
   function showPlaces(moment, event) {
     fill(margin);
@@ -122,10 +138,13 @@ export function makeProgram(changed, planned) {
     const line = event && event.row >= 0 ? program.lineOf[event.row] : -1;
     if (line < 0) return;
     fill(marks, h("span.code-now", { vars: { "--line": line } }));
-    // behind the frame's own layout
-    if (document.activeElement !== text) requestAnimationFrame(() => bringIn(line));
+    if (document.activeElement !== text) brought = line;
   }
-  function bringIn(line) {
+  // what is measured, when all that is drawn is there
+  function settle() {
+    const line = brought;
+    brought = -1;
+    if (line < 0) return;
     const high = text.offsetHeight / (text.value.split("\n").length + 1);
     const top = line * high;
     const isIn = top >= scroll.scrollTop && top + high * 2 <= scroll.scrollTop + scroll.clientHeight;
@@ -163,5 +182,5 @@ export function makeProgram(changed, planned) {
     changed(text.value);
     text.focus();
   }
-  return { show, focus: () => text.focus() };
+  return { show, settle, focus: () => text.focus() };
 }

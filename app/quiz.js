@@ -1,6 +1,7 @@
 // The cards of a quiz and of a challenge. A quiz asks, counts what was right, and says why; a challenge counts the
 // class's own changes of the run.
-import { button, h, shown } from "./elements.js";
+import { button, h, shown, sizeOf } from "./elements.js";
+import { plain } from "./names.js";
 
 const letter = k => String.fromCharCode(97 + k);
 
@@ -69,7 +70,7 @@ export function quizCard(quiz, program, act) {
       "div.card-ask",
       {},
       h("p.card-small", {}, "Question " + (k + 1) + " of " + list.length + score),
-      h("p.card-large", {}, shown(program, question.ask))
+      h("p.card-large" + sizeOf(plain(program, question.ask)), {}, shown(program, question.ask))
     ),
     h("div.card-reply.options", {}, optionsOf(question, chosen, act), hint),
     h("div.card-turn", {}, isDone ? verdictOf(question, chosen, program) : null, turn)
@@ -82,8 +83,21 @@ export function optionAt(quiz, sign) {
   return question.options[sign.charCodeAt(0) - 97] || null;
 }
 
-// challenge: { goal, changes, isDone }
-export function challengeCard({ goal, changes, isDone }, act) {
+// challenge: what challengeOf gave. act: { again(), stop() }
+export function challengeCard(challenge, act) {
+  if (!challenge) return plainCard(
+    "Challenge",
+    "Random orders are being played.",
+    "What is asked for is an end to which one of them came.",
+    button("Stop", act.stop)
+  );
+  const { goal, tried, changes, isDone } = challenge;
+  if (!goal) return plainCard(
+    "Challenge",
+    "There is none here.",
+    "No order that ends otherwise was found in " + tried + " tries. Change a row, or take another program.",
+    button("From the start", act.again)
+  );
   const count = changes === 1 ? "one change" : changes + " changes";
   const aim = goal === "stuck"
     ? "Get it stuck: let somebody wait for ever."

@@ -2,7 +2,7 @@
 // barriers as gates that open and break, the threads that are elsewhere, and a line why for each that waits. A seat
 // is a party. How many seats are taken is the machine's; who took them is read off the lines of the choices.
 import { arrivalsOf } from "./arrivals.js";
-import { fill, fly, h, pulse, s, shown } from "./elements.js";
+import { fill, fly, h, placesIn, pulse, renew, s, shown } from "./elements.js";
 import { nameOf, operandOf, rootOf } from "./language.js";
 import { hueOf, phaseOf, threadName } from "./names.js";
 import { arrivalsText, lastNumberOf } from "./reason.js";
@@ -24,17 +24,24 @@ export function makeScene(act) {
   const label = "Phasers, barriers and threads";
   const element = h("div.scene.scroll", { tabindex: 0, role: "group", "aria-label": label }, space, whys);
   let last = null;
+  let places = new Map();
+  let isStep = false;
   new ResizeObserver(() => drawEdges(space, edges)).observe(space);
 
-  // what: { tree, run, at, moment, selected, isVeiled }
+  // what: { tree, run, at, moment, selected }
   function show(what) {
     const before = last;
     last = what;
-    const isStep = before && before.tree.program === what.tree.program && before.run === what.run &&
+    isStep = before && before.tree.program === what.tree.program && before.run === what.run &&
       before.at + 1 === what.at;
-    fly(space, () => draw(what));
+    places = placesIn(space);
+    draw(what);
+  }
+  // what is measured, when all that is drawn is there
+  function settle() {
+    fly(space, places);
     drawEdges(space, edges);
-    if (isStep) move(space, what.tree.program, eventTo(what.run, what.at));
+    if (isStep) move(space, last.tree.program, eventTo(last.run, last.at));
   }
   function draw(what) {
     const { program } = what.tree;
@@ -51,13 +58,14 @@ export function makeScene(act) {
       act
     };
     const roots = program.phasers.flatMap((one, p) => (one.parent < 0 ? [p] : []));
-    fill(cards, roots.map(p => branchOf(scene, p)), program.barriers.map((_, b) => barrierCard(scene, b)));
+    renew(cards, roots.map(p => branchOf(scene, p)), program.barriers.map((_, b) => barrierCard(scene, b)));
     cards.classList.toggle("is-stuck", state.word === "stuck");
     element.classList.toggle("is-roomy", program.threads.length + things <= 8);
-    fill(crowd, crowdOf(scene));
+    renew(crowd, crowdOf(scene));
     drawWhys(scene);
   }
   function drawWhys({ program, moment, selected, tree, run, at }) {
+    if (moment.isVeiled) return renew(whys, h("li.why.why-hint", {}, "Who waits, and for whom: after the answer."));
     const all = whysOf(program, moment);
     const isTold = one => /stuck|waits|free|dead/.test(one.kind);
     const chosen = selected && selected.thread !== undefined ? whyOf(program, moment, selected.thread) : null;
@@ -76,12 +84,12 @@ export function makeScene(act) {
     if (!lines.length) lines.push(
       h("li.why.why-hint", {}, "Nobody waits. Click a thread or a phaser: its line stands here.")
     );
-    fill(whys, lines);
+    renew(whys, lines);
     for (const t of chosen ? chosen.could : []) {
       space.querySelector('[data-fly="t' + t + '"]')?.classList.add("is-able");
     }
   }
-  return { element, show };
+  return { element, show, settle };
 }
 
 // ---- threads
@@ -245,7 +253,7 @@ function crowdOf(scene) {
 // ---- edges and motion
 // edges from each child to its seat at the parent, measured on the page
 function drawEdges(space, edges) {
-  if (!space.querySelector(".is-child")) return fill(edges);
+  if (!space.querySelector(".is-child")) return edges.firstChild ? fill(edges) : undefined;
   const frame = space.getBoundingClientRect();
   const list = [];
   for (const card of space.querySelectorAll(".thing.is-child")) {

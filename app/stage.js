@@ -2,11 +2,16 @@
 // one height, so nothing moves while one steps.
 import { endKind, endText, outputText } from "./ending.js";
 import { byId, fill, h, shown } from "./elements.js";
-import { hueOf, threadName } from "./names.js";
+import { hueOf, plain, threadName } from "./names.js";
 import { reasonOf, strayOf } from "./reason.js";
 import { eventTo, lengthOf, momentOf } from "./run.js";
 import { refusedText, sentenceOf, wouldText } from "./sentence.js";
-import { isVeiled, runOf } from "./state.js";
+import { isLaterHidden, isNextHidden, isVeiled, lastOf, runOf } from "./state.js";
+
+// programs of at most so many threads have a place for each name
+export const PLACES = 8;
+// on a phone so many
+const FEW = 4;
 
 const eventOf = (moment, token) => (token[0] === "x" ? moment.late : moment.next)[Number(token.slice(1))];
 
@@ -28,7 +33,8 @@ function saidOf(state) {
     kind: "would",
     parts: ["If it\u2019s next: ", ...wouldText(program, tried, moment)]
   };
-  const { word } = moment.state;
+  // in a quiz, that nobody may go is an answer
+  const word = state.mode === "quiz" && isVeiled(state) ? "" : moment.state.word;
   const kind = { stuck: "stuck", all: "ended" }[word] || "";
   const end = { stuck: " Stuck: no thread can ever go on.", all: " All threads are over." }[word] || "";
   const isRefused = run.refused && at === lengthOf(run);
@@ -46,7 +52,9 @@ function saidOf(state) {
 }
 function drawSaid(state) {
   const { badge, kind, parts, verdict, reason } = saidOf(state);
+  const text = plain(state.tree.program, parts) + (verdict || "") + (reason || "");
   byId("said").dataset.kind = kind;
+  byId("said").className = text.length > 210 ? "is-longer" : text.length > 130 ? "is-long" : "";
   const end = verdict ? h("strong.said-verdict", {}, verdict) : null;
   const why = reason ? h("span.said-reason", {}, " " + reason) : null;
   fill(
@@ -60,20 +68,23 @@ function drawNext(state, act) {
   const run = runOf(state);
   const { program } = tree;
   const moment = momentOf(tree, run.id, at);
-  const own = state.isHidden || isVeiled(state) || state.mode === "quiz" ? "" : run.choices[at];
-  const all = [...Object.values(moment.next), ...Object.values(moment.late)];
+  const own = isLaterHidden(state) ? "" : run.choices[at];
+  const isHidden = isNextHidden(state);
+  const all = isHidden ? [] : [...Object.values(moment.next), ...Object.values(moment.late)];
   // the same names again keep their elements, and with them the focus
-  const key = [program.text.length, at, run.id, own, ...all.map(one => one.token)].join(" ");
+  const key = [program.text.length, at, run.id, own, isHidden, ...all.map(one => one.token)].join(" ");
   if (byId("next").dataset.key === key) return;
   const hadFocus = byId("next").contains(document.activeElement);
   byId("next").dataset.key = key;
+  const places = program.threads.length > PLACES ? [] : program.threads.map((_, t) => t);
+  const blank = t => h("span.next-place", { "aria-hidden": "true" }, threadName(program, t));
   const chip = (event, k) => {
     const isOwn = event.token === own;
     const kinds = ".chip." + hueOf(event.thread) + (event.isLate ? ".chip-late" : "") + (isOwn ? ".chip-own" : "");
     const given = {
       type: "button",
       "data-token": event.token,
-      title: (isOwn ? "The run goes on so" : "Another run") + (k < 9 ? " (key " + (k + 1) + ")" : ""),
+      title: (isOwn ? "The run goes on so" : own ? "Another run" : "Next") + (k < 9 ? " (key " + (k + 1) + ")" : ""),
       onclick: () => act.choose(event.token),
       onpointerenter: () => act.tryOut(event.token),
       onpointerleave: () => act.tryOut(""),
@@ -84,8 +95,13 @@ function drawNext(state, act) {
     if (event.isLate) given["aria-label"] = "the time-out of " + name;
     return h("button" + kinds, given, (event.isLate ? "\u23F1\uFE0E " : "") + name);
   };
-  const label = all.length ? "Next:" : moment.state.word === "stuck" ? "Nobody may go" : "All are over";
-  fill(byId("next"), h("span.next-label", {}, label), all.map(chip));
+  const nobody = moment.state.word === "stuck" ? "Nobody may go" : "All are over";
+  const label = isHidden ? "Next: after the answer" : all.length ? "Next:" : nobody;
+  // a name has its place also while its thread may not go, so that none moves below the pointer
+  const list = places.length ? [...places.map(t => moment.next[t] || t), ...Object.values(moment.late)] : all;
+  const chips = all.length ? list.map((one, k) => (one.token ? chip(one, k) : blank(one))) : null;
+  byId("next").classList.toggle("is-many", places.length > FEW);
+  fill(byId("next"), h("span.next-label", {}, label), chips);
   if (hadFocus) (byId("next").querySelector(".chip-own, .chip") || byId("forth")).focus();
 }
 
@@ -95,14 +111,15 @@ export function drawStage(state, act) {
   const run = runOf(state);
   drawSaid(state);
   const isCut = state.isCut && run.parent < 0;
-  const all = state.isHidden ? "" : " of " + lengthOf(run) + (isCut ? "\u2026" : "");
+  const isQuiet = isLaterHidden(state);
+  const all = isQuiet ? "" : " of " + lengthOf(run) + (isCut ? "\u2026" : "");
   fill(byId("where"), h("b", {}, at), all);
+  byId("where").style.setProperty("--digits", String(lengthOf(run)).length);
   byId("where").title = isCut ? "The plan goes on; the first " + lengthOf(run) + " choices are shown" : "";
   drawNext(state, act);
   byId("first").disabled = byId("back").disabled = at === 0;
-  byId("forth").disabled = byId("last").disabled = at === lengthOf(run);
+  byId("forth").disabled = byId("last").disabled = at === lastOf(state);
   const kind = endKind(run.end);
-  const isQuiet = state.isHidden || state.mode === "quiz";
   const end = "Run " + (run.id + 1) + (kind === "open" ? " stays open" : ": " + endText(tree.program, run.end));
   fill(byId("ends"), isQuiet ? "" : h("span.end.end-" + kind, { title: outputText(tree.program, run.end) }, end));
 }

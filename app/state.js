@@ -25,6 +25,8 @@ export function firstState() {
     item: null,
     text: "",
     plan: "..",
+    // the item's plan, as it was opened
+    itsPlan: "..",
     tree: null,
     id: 0,
     at: 0,
@@ -67,14 +69,28 @@ function planted(state, program, text, plan, { choices, isCut, trace }) {
 // The schedule of a page's run, for which its plan stands; "" where there is none.
 export const scheduleIn = (item, plan) => (item && plan === item.plan && item.schedule) || "";
 
+// Whether a text is another program than that of an item: more than half of its rows are gone.
+const rowsOf = text => text.split("\n").map(line => line.split(";")[0].trim().replace(/\s+/g, " ")).filter(Boolean);
+export function isOther(item, text) {
+  const old = rowsOf(item.program);
+  const all = new Set(rowsOf(text));
+  return old.filter(row => all.has(row)).length * 2 < old.length;
+}
+// The plan of a text: who writes another program over one doesn't mean its plan.
+export function planFor({ item, itsPlan }, text, plan) {
+  return plan === itsPlan && isOther(item, text) ? OWN.plan : plan;
+}
+
 // What a text and a plan make of a state: the same place of the new program, where it still is; of what is refused,
 // the state before with the mistake. `played`, what playedPlan gives, saves playing the plan where a worker did.
 export function edited(state, text, plan, played) {
   const isSamePlan = state.tree && plan === state.plan;
   const place = isSamePlan ? addressOf(state.tree, runOf(state), state.at) : String(state.at);
+  const isNew = isOther(state.item, text);
   let next;
   try {
     const program = openProgram(text);
+    plan = planFor(state, text, plan);
     next = planted(state, program, text, plan, played || playedPlan(text, plan, scheduleIn(state.item, plan)));
   } catch (fault) {
     if (!(fault instanceof Refused)) throw fault;
@@ -82,12 +98,14 @@ export function edited(state, text, plan, played) {
   }
   const { tree, run, at } = walkTo(next.tree, place);
   next = { ...next, tree, id: run.id, at };
-  return state.mode === "lesson" && state.lesson ? { ...next, lesson: begunLesson(next) } : next;
+  if (isNew) next = { ...next, item: { ...OWN, program: text, plan }, itsPlan: plan };
+  return next.lesson && (isNew || state.mode === "lesson") ? { ...next, lesson: begunLesson(next) } : next;
 }
 const begunLesson = state => ({
-  lesson: lessonOf(state.item.name, state.tree.program, state.tree.runs[0]),
+  lesson: lessonOf(state.item, state.tree.program, state.tree.runs[0]),
   step: -1,
   isOpen: false,
+  isPlayed: false,
   votes: {}
 });
 
@@ -103,13 +121,20 @@ export function opened(state, item, mode, played) {
   }
   if (!next.mistake) next = { ...next, plan: readablePlan(next.tree.program, runOf(next), next.plan) };
   if (item.schedule) next = { ...next, item: { ...item, plan: next.plan } };
-  next = { ...next, lesson: begunLesson(next) };
+  next = { ...next, itsPlan: next.plan, lesson: begunLesson(next) };
   return inMode(next, mode || "explore");
 }
 
 // ---- places
+// The last choice to which one may step: in a quiz that to which its question leads, once it is answered.
+export function lastOf(state) {
+  const { quiz } = state;
+  const last = lengthOf(runOf(state));
+  if (state.mode !== "quiz" || state.id || (quiz && !quiz.list[quiz.k])) return last;
+  return quiz ? quiz.list[quiz.k][isVeiled(state) ? "at" : "leads"] : 0;
+}
 export function at(state, i) {
-  return { ...state, at: Math.max(0, Math.min(lengthOf(runOf(state)), i)), preview: "" };
+  return { ...state, at: Math.max(0, Math.min(lastOf(state), i)), preview: "" };
 }
 export function walked(state, id, i) {
   const other = state.other === id ? state.id : state.other;
@@ -119,7 +144,9 @@ export function walked(state, id, i) {
 export function forked(state, i, token) {
   const { tree, run } = forkRun(state.tree, state.id, i, token);
   const isOn = runOf(state).choices[i] === token;
-  return at({ ...state, tree, id: isOn ? state.id : run.id }, i + 1);
+  // a class that has played its vote sees what came of it, and votes anew
+  const lesson = state.lesson && { ...state.lesson, isPlayed: true, votes: {} };
+  return at({ ...state, tree, id: isOn ? state.id : run.id, lesson }, i + 1);
 }
 export function addressed(state, address) {
   const { tree, run, at: i } = walkTo(state.tree, address);
@@ -171,14 +198,20 @@ export function selectedPhaser(state, phaser) {
 }
 
 // ---- lessons, quiz, challenge
+// what stands where it would give the answer away
+export const VEIL = "This stands here after the answer.";
 export function inMode(state, mode) {
   const next = { ...state, mode, pane: "time", preview: "", quiz: null, challenge: null };
   if (mode === "quiz") return quizOf(next);
-  if (mode === "challenge") {
-    const isStuck = endKind(state.tree.runs[0].end) === "stuck";
-    return { ...at({ ...next, id: 0 }, 0), other: null, challenge: { goal: isStuck ? "ended" : "stuck" } };
-  }
-  return next;
+  return mode === "challenge" ? challengeIn({ ...at({ ...next, id: 0 }, 0), other: null }) : next;
+}
+// A challenge is another end, to which one of the random orders came; without such an order there is none. It begins
+// when their outcomes are there.
+function challengeIn(state) {
+  if (!state.orders) return state;
+  const found = ["stuck", "ended"].filter(kind => state.orders.all.some(one => endKind(one.end) === kind));
+  const own = endKind(state.tree.runs[0].end);
+  return { ...state, challenge: { goal: found.find(kind => kind !== own) || "", tried: state.orders.tried } };
 }
 // A quiz about the first run; it begins when the outcomes of random orders are there.
 export function quizOf(state) {
@@ -190,6 +223,7 @@ export function quizOf(state) {
 }
 export function withOrders(state, orders) {
   const next = { ...state, orders };
+  if (state.mode === "challenge" && !state.challenge) return challengeIn(next);
   return state.mode === "quiz" && !state.quiz ? quizOf(next) : next;
 }
 export function answered(state, option) {
@@ -210,22 +244,32 @@ export function nextQuestion(state) {
   const next = { ...state, quiz: { ...quiz, k: quiz.k + 1, chosen: null, isOpen: false } };
   return question ? at({ ...next, id: 0 }, question.at) : next;
 }
+// The question of a lesson that is neither answered nor played, or null.
+function openStep({ mode, lesson }) {
+  const isOpen = mode === "lesson" && lesson && !lesson.isOpen && !lesson.isPlayed;
+  return (isOpen && lesson.lesson.steps[lesson.step]) || null;
+}
 // Whether the answer to a question would be given away by what is shown.
 export function isVeiled(state) {
   const { quiz } = state;
-  if (state.mode !== "quiz") return false;
+  if (state.mode !== "quiz") return Boolean(openStep(state));
   return !quiz || (Boolean(quiz.list[quiz.k]) && quiz.chosen === null && !quiz.isOpen);
 }
-// Whether later choices are hidden: in a quiz until its end, since they are the answers to what is asked next.
+// Whether who may go next isn't told: where a class doesn't vote about it.
+export function isNextHidden(state) {
+  return isVeiled(state) && !(openStep(state) || {}).votes;
+}
+// Whether later choices are hidden: while a question is open, and in a quiz until its end, since they are the answers
+// to what is asked next.
 export function isLaterHidden(state) {
   const { quiz } = state;
-  return state.isHidden || (state.mode === "quiz" && (!quiz || Boolean(quiz.list[quiz.k])));
+  return state.isHidden || isVeiled(state) || (state.mode === "quiz" && Boolean(quiz.list[quiz.k]));
 }
 export function lessonStep(state, by) {
   const { lesson } = state.lesson;
   const step = Math.max(-1, Math.min(lesson.steps.length, state.lesson.step + by));
   const place = lesson.steps[step] ? lesson.steps[step].at : 0;
-  return at({ ...state, id: 0, lesson: { ...state.lesson, step, isOpen: false, votes: {} } }, place);
+  return at({ ...state, id: 0, lesson: { ...begunLesson(state), ...{ lesson, step } } }, place);
 }
 export function lessonAnswer(state) {
   const one = state.lesson.lesson.steps[state.lesson.step];
@@ -237,11 +281,13 @@ export function voted(state, thread, by) {
   const count = Math.max(0, (state.lesson.votes[thread] || 0) + by);
   return { ...state, lesson: { ...state.lesson, votes: { ...state.lesson.votes, [thread]: count } } };
 }
-// { goal, changes, isDone }: only the class's own changes count, not those of the plan
+// { goal, tried, changes, isDone }, or null while orders are played. Only the class's own changes count, not those of
+// the plan
 export function challengeOf(state) {
-  const { goal } = state.challenge;
+  if (!state.challenge) return null;
+  const { goal, tried } = state.challenge;
   const run = runOf(state);
   const changes = depthOf(state.tree, run);
   const isDone = changes > 0 && state.at === lengthOf(run) && endKind(run.end) === goal;
-  return { goal, changes, isDone };
+  return { goal, tried, changes, isDone };
 }

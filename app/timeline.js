@@ -1,11 +1,11 @@
 // The timeline: a column for each thread, a row for each choice. Only the rows and columns in view are in the page,
 // so a run of a million choices and 64 threads scrolls. What threads do between the rows is asked of the machine for
 // the rows in view, some milliseconds a frame. For a screen reader it is a table.
-import { fill, h } from "./elements.js";
+import { arrange, fill, h, makeShelf } from "./elements.js";
 import { hueOf, threadName } from "./names.js";
 import { eventTo, hasMoment, lengthOf, momentOf } from "./run.js";
 import { shortMark, tagOf } from "./sentence.js";
-import { doingOf } from "./trace.js";
+import { doingOf, veiled } from "./trace.js";
 
 const BUDGET = 8;
 // browsers scroll no higher boxes than those of so many rows: of a longer run the rows near this choice are there
@@ -47,6 +47,10 @@ export function makeTimeline(go, select) {
   let view = { top: 0, left: 0, height: 0, width: 0 };
   let drawn = "";
   let pending = 0;
+  // whether the view has been moved, and the page not yet
+  let isAhead = false;
+  // the rows and bars that are drawn
+  let shelf = makeShelf();
 
   body.addEventListener("click", event => {
     const k = Math.floor((event.clientY - body.getBoundingClientRect().top) / size.row);
@@ -61,7 +65,12 @@ export function makeTimeline(go, select) {
   function scrollTo(top, left) {
     const most = bodyHeight() + 2.3 * size.rem - view.height;
     view = { ...view, top: Math.max(0, Math.min(top, most)), left: Math.max(0, left) };
-    scroll.scrollTo(view.left, view.top);
+    isAhead = true;
+  }
+  // what is measured, when all that is drawn is there
+  function settle() {
+    if (isAhead) scroll.scrollTo(view.left, view.top);
+    isAhead = false;
   }
   const bodyHeight = () => (count() + 0.6) * size.row;
 
@@ -101,18 +110,19 @@ export function makeTimeline(go, select) {
     scroll.setAttribute("aria-rowcount", lengthOf(shown.run) + 2);
     scroll.setAttribute("aria-colcount", threads + 1);
   }
-  // what: { tree, run, at, isJava, isHidden, isFolded, selected, title, differs, zoom }
+  // what: { tree, run, at, isJava, isHidden, isVeiled, isFolded, isSide, selected, title, differs, zoom }
   function show(what) {
     const isNew = !shown || shown.zoom !== what.zoom || !view.height;
     const isOther = isNew || shown.run !== what.run || shown.tree.program !== what.tree.program;
     const isMoved = isOther || shown.at !== what.at;
+    if (isOther) shelf = makeShelf();
     shown = what;
     fold();
     if (isNew) measure();
     else if (isOther) divide();
     const part = whole > count() ? "Choices " + choiceAt(0) + " to " + choiceAt(count() - 1) + " stand here." : "";
-    fill(head, what.title || "", part);
     head.hidden = !what.title && !part;
+    if (!head.hidden) fill(head, what.title || "", part);
     body.style.height = bodyHeight() + "px";
     if (isMoved) follow();
     draw(true);
@@ -140,6 +150,7 @@ export function makeTimeline(go, select) {
     const key = [from, to, left, right].join();
     if (!isForced && key === drawn) return;
     drawn = key;
+    shelf.begin();
     drawNames(left, right);
     const isWhole = drawLanes(from, to, left, right);
     drawLines(from, to);
@@ -152,8 +163,9 @@ export function makeTimeline(go, select) {
   }
   function drawNames(left, right) {
     const { program } = shown.tree;
-    const moment = momentOf(shown.tree, shown.run.id, shown.at);
-    const list = [];
+    const moment = momentIn(shown.at);
+    const corner = { role: "columnheader", "aria-colindex": 1, "aria-label": "choice" };
+    const list = [shelf.take("corner", () => h("span.time-corner", corner))];
     for (let t = left; t <= right; t++) {
       const doing = doingOf(moment, t);
       const name = threadName(program, t);
@@ -168,14 +180,19 @@ export function makeTimeline(go, select) {
         "data-doing": doing,
         onclick: () => select(t)
       };
-      const cell = h(
+      const cell = () => h(
         "span.time-namecell",
         { role: "columnheader", "aria-colindex": t + 2 },
         h("button.time-name." + hueOf(t), given, name)
       );
-      list.push(cell);
+      list.push(shelf.take(["name", t, doing, isSelected, size.number, size.column].join(), cell));
     }
-    fill(names, h("span.time-corner", { role: "columnheader", "aria-colindex": 1, "aria-label": "choice" }), list);
+    arrange(names, list);
+  }
+  // while a question is open, who may go isn't told
+  function momentIn(i) {
+    const moment = momentOf(shown.tree, shown.run.id, i);
+    return shown.isVeiled && i === shown.at ? veiled(moment) : moment;
   }
   // what each thread does behind each row, as bars from row to row; false if some moments aren't there yet
   function drawLanes(from, to, left, right) {
@@ -186,7 +203,7 @@ export function makeTimeline(go, select) {
     for (let k = from; k <= to && isWhole; k++) {
       const i = choiceAt(k);
       isWhole = hasMoment(tree, run.id, i) || performance.now() < until || !moments.length;
-      if (isWhole) moments.push(momentOf(tree, run.id, i));
+      if (isWhole) moments.push(momentIn(i));
     }
     const list = [];
     for (let t = left; t <= right; t++) {
@@ -202,23 +219,28 @@ export function makeTimeline(go, select) {
           top: (from + k + 0.5) * size.row + "px",
           height: (n - (isLast ? 0.45 : 0)) * size.row + "px"
         };
-        list.push(h("i.lane.lane-" + doing + "." + hueOf(t) + (isLater ? ".is-later" : ""), { vars }));
+        const kind = "i.lane.lane-" + doing + "." + hueOf(t) + (isLater ? ".is-later" : "");
+        list.push(shelf.take([kind, vars.left, vars.top, vars.height].join(), () => h(kind, { vars })));
       }
     }
-    fill(lanes, list);
+    arrange(lanes, list);
     return isWhole;
   }
   function drawLines(from, to) {
     const list = [];
-    for (let k = from; k <= to; k++) list.push(lineOf(k, choiceAt(k)));
-    fill(lines, list);
+    const { isJava, isSide, differs } = shown;
+    const common = [isJava, isSide, differs, view.left, view.width, ...Object.values(size)].join();
+    for (let k = from; k <= to; k++) {
+      const i = choiceAt(k);
+      const isHere = i === shown.at;
+      const isOther = differs && i > differs;
+      const kinds = (isHere ? ".is-here" : i > shown.at ? ".is-later" : "") + (isOther ? ".is-other" : "");
+      list.push(shelf.take([k, i, kinds, common].join(), () => lineOf(k, i, kinds, isHere)));
+    }
+    arrange(lines, list);
   }
-  function lineOf(k, i) {
+  function lineOf(k, i, kinds, isHere) {
     const event = eventTo(shown.run, i);
-    const isHere = i === shown.at;
-    const kinds = (
-      isHere ? ".is-here" : i > shown.at ? ".is-later" : ""
-    ) + (shown.differs && i > shown.differs ? ".is-other" : "");
     const number = h("span.line-number" + (i ? "" : ".is-start"), { role: "rowheader" }, i || "start");
     const inside = [number];
     if (event) inside.push(eventOf(event), event.mark ? markOf(event) : null);
@@ -270,6 +292,7 @@ export function makeTimeline(go, select) {
     measure();
     body.style.height = bodyHeight() + "px";
     draw(true);
+    settle();
   }
-  return { element, show, redraw };
+  return { element, show, settle, redraw };
 }

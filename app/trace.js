@@ -110,9 +110,13 @@ export function doingOf(moment, t) {
   if (status === "ended") return "over";
   if (status === "died") return "dead";
   if (status === "throws") return "throws";
+  if (moment.isVeiled) return status === "waits" ? "waits" : "runs";
   if (status === "waits") return moment.next[t] ? "free" : "waits";
   return moment.next[t] ? "runs" : "held";
 }
+
+// A moment of which it isn't told who may go next.
+export const veiled = moment => ({ ...moment, next: {}, late: {}, isVeiled: true });
 
 // Whether a run got into a choice that the machine refuses; then the run ends before it.
 export const isRefused = event => event.what === "none" || event.what === "limit";

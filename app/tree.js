@@ -19,9 +19,19 @@ export function runName(tree, run) {
 // walk(id, i): a place of a run was clicked
 export function makeTree(walk) {
   const element = h("div.tracks.scroll", { role: "list", "aria-label": "Runs" });
+  let shown = {};
+  let isMoved = false;
 
   // isQuiet: how the runs end isn't told
-  function show({ tree, run, at, isQuiet }) {
+  function show(what) {
+    const isSame = ["tree", "run", "isQuiet"].every(name => shown[name] === what[name]);
+    isMoved = !isSame;
+    shown = what;
+    if (!isSame) return draw(what);
+    const most = Math.max(1, ...what.tree.runs.map(lengthOf));
+    element.querySelector(".rail-at").style.setProperty("left", (100 * what.at) / most + "%");
+  }
+  function draw({ tree, run, at, isQuiet }) {
     const most = Math.max(1, ...tree.runs.map(lengthOf));
     const part = i => (100 * i) / most + "%";
     const all = inOrder(tree);
@@ -35,7 +45,7 @@ export function makeTree(walk) {
         type: "button",
         "aria-current": isHere ? "true" : null,
         title: runName(tree, one) + (isQuiet ? "" : " \u2014 " + endText(tree.program, one.end)),
-        onclick: () => walk(one.id, isHere ? at : first)
+        onclick: () => walk(one.id, isHere ? shown.at : first)
       };
       const said = one.parent < 0 || !event
         ? " the run"
@@ -64,8 +74,11 @@ export function makeTree(walk) {
       );
     };
     fill(element, all.map(track));
-    const here = element.querySelector(".is-here");
+  }
+  // what is measured, when all that is drawn is there
+  function settle() {
+    const here = isMoved && element.querySelector(".is-here");
     if (here) element.scrollTop = Math.max(0, here.offsetTop - element.clientHeight + here.offsetHeight + 2);
   }
-  return { element, show };
+  return { element, show, settle };
 }

@@ -355,7 +355,7 @@ await look("the teacher's own questions are asked once, in their order", () => {
     [["Whom does this thread meet?", 0, 1]]
   );
   assert.deepEqual(
-    lessonOf("mine", tree.program, tree.runs[0]).steps.map(one => one.ask),
+    lessonOf({ group: "Yours", name: "mine" }, tree.program, tree.runs[0]).steps.map(one => one.ask),
     ["Whom does this thread meet?"]
   );
 });
@@ -389,12 +389,57 @@ await look("a state is never changed", () => {
   assert.deepEqual(change.backToFork(next).at, 1);
 });
 await look("a challenge counts the class's own changes", () => {
-  const stuck = change.inMode(first("lost-meeting"), "challenge");
-  assert.deepEqual(change.challengeOf(stuck), { goal: "ended", changes: 0, isDone: false });
+  const begun = change.inMode(first("lost-meeting"), "challenge");
+  assert.equal(change.challengeOf(begun), null);
+  const stuck = change.withOrders(begun, outcomesOf(begun.text, 50));
+  assert.deepEqual(change.challengeOf(stuck), { goal: "ended", tried: 50, changes: 0, isDone: false });
   const atEnd = change.at(stuck, 99);
   assert.equal(change.challengeOf(atEnd).isDone, false);
   const forked = change.at(change.forked(stuck, 1, "t1"), 99);
-  assert.deepEqual(change.challengeOf(forked), { goal: "ended", changes: 1, isDone: true });
+  assert.deepEqual(change.challengeOf(forked), { goal: "ended", tried: 50, changes: 1, isDone: true });
+});
+await look("a challenge that no order meets isn't offered", () => {
+  // TEACHING: two-orders is stuck in every run
+  const begun = change.inMode(first("two-orders"), "challenge");
+  assert.equal(change.challengeOf(change.withOrders(begun, outcomesOf(begun.text, 50))).goal, "");
+});
+await look("an open question of a lesson hides what comes later, who may go, and why", () => {
+  const begun = change.inMode(first("lost-meeting"), "lesson");
+  assert.equal(change.isLaterHidden(begun), false);
+  const asked = change.lessonStep(begun, 1);
+  assert.deepEqual([change.isLaterHidden(asked), change.isVeiled(asked)], [true, true]);
+  // those for whom the class votes have to be named
+  assert.deepEqual([change.isNextHidden(asked), change.isNextHidden(change.lessonStep(asked, 1))], [false, true]);
+  for (const told of [change.lessonAnswer(asked), change.forked(asked, 1, "t1")]) {
+    assert.deepEqual([change.isLaterHidden(told), change.isVeiled(told)], [false, false]);
+  }
+  assert.equal(change.isVeiled(change.lessonStep(change.lessonAnswer(asked), 1)), true);
+});
+await look("an open question of a quiz can't be stepped over", () => {
+  const begun = change.inMode(first("broken-barrier"), "quiz");
+  assert.equal(change.at(begun, 99).at, 0);
+  let state = change.withOrders(begun, outcomesOf(begun.text, 50));
+  for (const question of state.quiz.list) {
+    assert.deepEqual([change.at(state, 99).at, change.isNextHidden(state)], [question.at, true]);
+    state = question.own ? change.shownOwn(state) : change.answered(state, question.right);
+    assert.deepEqual([change.at(state, 99).at, change.isNextHidden(state)], [question.leads, false]);
+    state = change.nextQuestion(state);
+  }
+  assert.deepEqual([change.isLaterHidden(state), change.at(state, 99).at], [false, lengthOf(change.runOf(state))]);
+});
+await look("another program over a lesson has its own plan, title and questions", () => {
+  const state = change.lessonStep(change.inMode(first("lost-meeting"), "lesson"), 1);
+  const text = ".phaser table 1\n.thread fay eats\neats: parr r0 table ;? What does fay get?\nhalt\n";
+  const own = change.edited(state, text, state.plan);
+  assert.deepEqual([own.mistake, own.plan, own.item.title], [null, "..", "My own program"]);
+  assert.deepEqual(own.lesson.lesson.steps.map(one => one.ask), ["What does fay get?"]);
+  // a plan that was typed stays; a row that is changed is no other program
+  assert.equal(change.edited(state, text, "fay").plan, "fay");
+  const changed = change.edited(state, state.text.replace("parr", "paaa"), state.plan);
+  assert.deepEqual([changed.plan, changed.item.name], [state.plan, "lost-meeting"]);
+  // a file may have a lesson's name
+  const named = { group: "Yours", name: "lost-meeting", title: "mine.asm", program: text, plan: ".." };
+  assert.deepEqual(change.opened(state, named, "lesson").lesson.lesson.steps.length, 1);
 });
 await look("what is refused keeps the run before, with help", () => {
   const state = first("lost-meeting");
@@ -597,7 +642,12 @@ await look("text has a contrast of 4.5", () => {
       pairs.push([hue, pane], [pane, hue], [hue, mixed(hue, pane, 0.09)], [mixed(hue, pane, 0.9), pane]);
       pairs.push([hue, mixed(now, pane, 0.62)]);
     }
-    for (const [text, ground] of pairs) {
+    // beside a mistake the panes are gray, as the filter grayscale makes them
+    const gray = hex => {
+      const [r, g, b] = [1, 3, 5].map(k => parseInt(hex.slice(k, k + 2), 16));
+      return "#" + Math.round(0.2126 * r + 0.7152 * g + 0.0722 * b).toString(16).padStart(2, "0").repeat(3);
+    };
+    for (const [text, ground] of [...pairs, ...pairs.map(pair => pair.map(gray))]) {
       const [a, b] = [light(text), light(ground)].sort((x, y) => y - x);
       const contrast = (a + 0.05) / (b + 0.05);
       assert.ok(contrast >= 4.5, `${text} on ${ground}: ${contrast.toFixed(2)}`);
