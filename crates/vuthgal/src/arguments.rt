@@ -1,5 +1,5 @@
 //! The arguments of the command line, and what is reported if they ask for no command.
-ghost use Rattle.std.specs.Prelude.{IfOk};
+ghost use Rattle.std.specs.Prelude.{◌≤◌, IfOk, length};
 ghost use Rattle.command_line.specs.Request.{IsInRange};
 
 use crate::origin::VERSION;
@@ -73,7 +73,9 @@ fn read_word(
     rt: &HostRuntime,
     number: usize,
     room: &mut Vec<u8>,
-) -> Result<Result<usize, FillError>, AllocError> {
+) -> Result<Result<usize, FillError>, AllocError>
+    ensures { IfOk result (λ answer. IfOk answer (λ n. n ≤ length room.new.items)) }
+{
     match rt.arg(number, room.as_mut_slice()) {
         Err(FillError::TooLong) => {
             room.resize(LONGEST_WORD, 0)?;

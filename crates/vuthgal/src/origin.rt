@@ -2,4 +2,4 @@
 
 /// The version, and the sum of the sources but for this file.
 pub const VERSION: &str =
-    "2.0.0\nsources e768c2a742e828b9efc107543123c827c4c2a175b3ee65c6eed445ac51d8bc52";
+    "2.0.0\nsources 3bdabd4d9e83bb52fea73cff33e642bb2c826a392e884ea36dfe3533c4801c63";
