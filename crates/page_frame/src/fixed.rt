@@ -4,8 +4,8 @@
 #[rattlefmt::skip]
 pub const HEAD: &[u8] = b"\
 <!doctype html>\n<html lang=\"en\">\n<head>\n<meta charset=\"utf-8\">\n<meta name=\"viewport\" content=\"width=device-width, initial-scale=1\
-\">\n<meta http-equiv=\"Content-Security-Policy\" content=\"default-src 'none'; style-src 'sha256-eYPfV9F6c9Gm//+OdpYhW+u78xo6Y0w0R5PHzhxKwR\
-o='; script-src 'sha256-hxAbatslrCn+QS26tYhhd4GUun9nfz/qsM0MsoVC9gU=' 'wasm-unsafe-eval'; worker-src blob:; base-uri 'none'; form-action 'no\
+\">\n<meta http-equiv=\"Content-Security-Policy\" content=\"default-src 'none'; style-src 'sha256-dYqS0EERoD1G9DioA2//4dTmexFWEG5D1T6Bwae0UR\
+s='; script-src 'sha256-hxAbatslrCn+QS26tYhhd4GUun9nfz/qsM0MsoVC9gU=' 'wasm-unsafe-eval'; worker-src blob:; base-uri 'none'; form-action 'no\
 ne'\">\n<meta name=\"generator\" content=\"vuthgal\">\n<title>Vuthgal</title>\n<style>:root {\n--zoom: 1;\n--paper: #f3f1ea;\n--pane: #fffef\
 b;\n--ink: #1d1b17;\n--soft: #5f5a4f;\n--line: #d9d4c7;\n--hover: #ece8dc;\n--now: #ffe27a;\n--now-ink: #1d1b17;\n--red: #b3201a;\n--red-sof\
 t: #fbe3df;\n--go: #1a7038;\n--go-soft: #ddf1e1;\n--later: #716b5f;\n--focus: #1747c4;\n--hue0: #1d4fc4;\n--hue1: #a0420a;\n--hue2: #7a2aa8;\
@@ -271,26 +271,28 @@ r\n/ minmax(15rem, 44%) minmax(0, 1fr);\n}\nbody:not([data-mode=\"explore\"]) {\
 ard stage\" max-content \"card tabs\" auto \"card panes\" minmax(0, 1fr)\n/ minmax(15rem, 46%) minmax(0, 1fr);\n}\n#head { grid-area: head; \
 flex-wrap: nowrap; padding: 0; height: 2.4rem; }\n#check { grid-area: check; }\n#check:not(.is-wrong) { display: none; }\n#modes { order: 0; \
 flex: none; }\n#modes button { padding: 0.1rem 0.5rem; }\n#stage { grid-area: stage; min-height: max-content; }\n#panes { grid-area: panes; \
-min-height: 0; }\n#tabs { grid-area: tabs; align-self: end; }\n#card, [data-mode=\"quiz\"] #card { grid-area: card; max-height: none; min-he\
-ight: 0; align-content: start; }\n#runs { display: none; }\n#said { height: clamp(5.8rem, 100dvh - 13.5rem, 11rem); }\nbody:not([data-mode=\"\
-explore\"]) #said { height: clamp(3.6rem, 100dvh - 20rem, 5.8rem); font-size: 0.98rem; }\n.card-turn { position: sticky; bottom: -0.5rem; ba\
-ckground: var(--pane); padding-bottom: 0.3rem; }\nbody:not([data-mode=\"explore\"]) #controls { height: auto; }\nbody:not([data-mode=\"explo\
-re\"]) #steps button { min-height: 2.3rem; }\n.is-veiled #next { display: none; }\n.options { grid-template-columns: 1fr; }\n}\n@media (forc\
-ed-colors: active) {\n.chip, .token, .seat, .thing, .pane, .vote, .option, #card, .why, .sheet, #check.is-wrong { border: 1px solid; }\n.chi\
-p-own { border: 3px solid; }\n.line.is-here { background: Highlight; color: HighlightText; forced-color-adjust: none; }\n.code-now { border: \
-2px solid Highlight; }\n.places { border: 1px solid; background: Canvas; }\n.line.is-here .event, .line.is-here .line-number, .line.is-here \
-.event-tag {\ncolor: HighlightText;\nbackground: none;\n}\n.lane, .event-dot, .rail-bar, .rail-at, .meter i, .dot { forced-color-adjust: non\
-e; }\n#modes [aria-pressed=\"true\"], .views [aria-pressed=\"true\"], #tabs [aria-pressed=\"true\"] {\noutline: 2px solid Highlight;\n}\n.co\
-de-typed { color: transparent; forced-color-adjust: none; caret-color: CanvasText; }\n.code-wave { border-color: Highlight; }\n}\n@media pri\
-nt {\nhtml { font-size: 11pt; color-scheme: light; }\nbody { display: block; height: auto; overflow: visible; background: #fff; color: #000; \
-padding: 0; }\nbody > *:not(#paper) { display: none !important; }\n#paper { display: block; }\n#paper h1 { font-size: 16pt; }\n#paper p { ma\
-rgin: 4pt 0; }\n#paper pre { font: 9.5pt var(--mono); border: 1pt solid #999; padding: 6pt; white-space: pre-wrap; }\n#paper table { width: \
-100%; font-size: 9.5pt; }\n#paper td, #paper th { border-bottom: 0.5pt solid #999; padding: 2pt 5pt; text-align: left; vertical-align: top; \
-}\n#paper .is-own { font-weight: 700; }\n#paper small { display: block; color: #555; }\n#paper .paper-number { color: #555; }\n#paper tr { b\
-reak-inside: avoid; }\n.paper-rule { display: block; height: 18pt; border-bottom: 0.5pt solid #999; }\n}\n</style>\n</head>\n<body data-mode\
-=\"explore\" data-pane=\"time\" data-tab=\"picture\">\n<section id=\"texts\">\n<p>This page plays a run of a program. It needs its script, w\
-hich it holds itself. Without it, the run stands here as text. In the trace t0, p0, b0 and c0 are the first thread, phaser, barrier and cell \
-of the program.</p>\n<h2>Program, in canonical form</h2>\n<pre id=\"listing\">\n";
+min-height: 0; }\n#tabs { grid-area: tabs; align-self: end; min-width: 0; }\n#tabs button { padding: 0 0.2rem; min-width: 0; }\n#card, [data\
+-mode=\"quiz\"] #card { grid-area: card; max-height: none; min-height: 0; align-content: start; }\n#runs { display: none; }\n#said { height: \
+clamp(5.8rem, 100dvh - 13.5rem, 11rem); }\nbody:not([data-mode=\"explore\"]) #said { height: clamp(3.6rem, 100dvh - 20rem, 5.8rem); font-siz\
+e: 0.98rem; }\n.card-turn { position: sticky; bottom: -0.5rem; background: var(--pane); padding-bottom: 0.3rem; }\nbody:not([data-mode=\"exp\
+lore\"]) #controls { height: auto; }\nbody:not([data-mode=\"explore\"]) .next-label { display: none; }\nbody:not([data-mode=\"explore\"]) .c\
+hip { padding: 0.15rem 0.6rem; }\nbody:not([data-mode=\"explore\"]) #steps button { min-height: 2.3rem; }\n.is-veiled #next { display: none; \
+}\n.options { grid-template-columns: 1fr; }\n}\n@media (forced-colors: active) {\n.chip, .token, .seat, .thing, .pane, .vote, .option, #card\
+, .why, .sheet, #check.is-wrong { border: 1px solid; }\n.chip-own { border: 3px solid; }\n.line.is-here { background: Highlight; color: High\
+lightText; forced-color-adjust: none; }\n.code-now { border: 2px solid Highlight; }\n.places { border: 1px solid; background: Canvas; }\n.li\
+ne.is-here .event, .line.is-here .line-number, .line.is-here .event-tag {\ncolor: HighlightText;\nbackground: none;\n}\n.lane, .event-dot, .\
+rail-bar, .rail-at, .meter i, .dot { forced-color-adjust: none; }\n#modes [aria-pressed=\"true\"], .views [aria-pressed=\"true\"], #tabs [ar\
+ia-pressed=\"true\"] {\noutline: 2px solid Highlight;\n}\n.code-typed { color: transparent; forced-color-adjust: none; caret-color: CanvasTe\
+xt; }\n.code-wave { border-color: Highlight; }\n}\n@media print {\nhtml { font-size: 11pt; color-scheme: light; }\nbody { display: block; he\
+ight: auto; overflow: visible; background: #fff; color: #000; padding: 0; }\nbody > *:not(#paper) { display: none !important; }\n#paper { di\
+splay: block; }\n#paper h1 { font-size: 16pt; }\n#paper p { margin: 4pt 0; }\n#paper pre { font: 9.5pt var(--mono); border: 1pt solid #999; \
+padding: 6pt; white-space: pre-wrap; }\n#paper table { width: 100%; font-size: 9.5pt; }\n#paper td, #paper th { border-bottom: 0.5pt solid #\
+999; padding: 2pt 5pt; text-align: left; vertical-align: top; }\n#paper .is-own { font-weight: 700; }\n#paper small { display: block; color: \
+#555; }\n#paper .paper-number { color: #555; }\n#paper tr { break-inside: avoid; }\n.paper-rule { display: block; height: 18pt; border-botto\
+m: 0.5pt solid #999; }\n}\n</style>\n</head>\n<body data-mode=\"explore\" data-pane=\"time\" data-tab=\"picture\">\n<section id=\"texts\">\n\
+<p>This page plays a run of a program. It needs its script, which it holds itself. Without it, the run stands here as text. In the trace t0, \
+p0, b0 and c0 are the first thread, phaser, barrier and cell of the program.</p>\n<h2>Program, in canonical form</h2>\n<pre id=\"listing\">\n\
+";
 
 /// What stands between the listing and the program's text.
 #[rattlefmt::skip]

@@ -2,4 +2,4 @@
 
 /// The version, and the sum of the sources but for this file.
 pub const VERSION: &str =
-    "2.0.0\nsources 3bdabd4d9e83bb52fea73cff33e642bb2c826a392e884ea36dfe3533c4801c63";
+    "2.0.0\nsources 65fd8a56f9170b2a4e19ace8a0dd8862c46f49cf6c677c94855d510f9d8aaf97";
