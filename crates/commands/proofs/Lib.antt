@@ -1,5 +1,6 @@
 pub mod Blanks
 mod Drawings
+mod Fronts
 mod Naming
 mod NoPicture
 mod Pages

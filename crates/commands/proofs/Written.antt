@@ -1,9 +1,8 @@
 -- A picture that was written, by the schedule that was read.
-use Rattle.std.proofs.Common.{◌≡◌, ◌<◌, ◌++◌, ℕ, List, length, take, Option, Result, OnOk, arith}
-use Rattle.std.proofs.lemmas.List.{length-append, length-take}
+use Rattle.std.proofs.Common.{◌≡◌, ℕ, List, Option, Result, OnOk, arith}
 use Rattle.std.specs.Io.KnownBytes.{Appends}
 use Rattle.commands.specs.Pictures.{HasMade, HasWritten}
-use Rattle.workbench.specs.Input.{GivesAll, most_bytes}
+use Rattle.workbench.specs.Input.{GivesAll}
 
 pub picture_written : (IsPicture : List ℕ → Type 0) (picture bytes : List ℕ) (old new : Option (List ℕ)) → bytes ≡ picture
     → IsPicture picture → Appends old new bytes → HasWritten IsPicture old new
@@ -15,7 +14,3 @@ pub schedule_read : {A E : Type 0} (IsPicture : List ℕ → List ℕ → Type 0
     → OnOk result (HasWritten (IsPicture schedule) old new)
     → OnOk result (HasMade IsPicture schedule_before schedule_after old new)
 schedule_read IsPicture result schedule choices sb sa old new also gives written = grind arith
-
--- with a whole piece there are no fewer bytes than with a part of it
-pub is_longer : (before piece : List ℕ) (n : ℕ) → most_bytes < length (before ++ take n piece) → most_bytes < length (before ++ piece)
-is_longer before piece n is = grind (arith, length-append, length-take)

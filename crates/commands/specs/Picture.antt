@@ -1,10 +1,10 @@
 -- Which programs and schedules have no picture.
-use Rattle.std.specs.Prelude.{◌≡◌, ℕ, List, Some}
+use Rattle.std.specs.Prelude.{◌≡◌, ◌<◌, ℕ, List, None, Some, length}
 use Rattle.loader.specs.declared.load_fault.LoadFault.{LoadFault}
 use Rattle.row_code.specs.declared.image.Image.{Image}
 use Rattle.pictures.specs.Choices.{HasMoreChoices, most_choices, most_page_choices}
 use Rattle.pictures.specs.Page.{HasLongTrace}
-use Rattle.schedule_reader.specs.Schedule.{finished_schedule}
+use Rattle.schedule_reader.specs.Schedule.{choices_of, finished_schedule, open_schedule}
 use Rattle.trace_text.specs.Start.{IsRefused}
 use Rattle.workbench.specs.declared.fault.Fault.{Fault}
 use Rattle.workbench.specs.declared.fault.Fault.TheVariants as fault
@@ -29,3 +29,16 @@ HaveNoPicture kind (fault.TooLong k) image schedule =
     (k ≡ kind) × (IsLoadable image × HasMoreChoices (most_of kind) schedule)
 HaveNoPicture kind fault.LongTrace image schedule = (kind ≡ picture.Page) × (IsLoadable image × HasLongTrace image schedule)
 HaveNoPicture kind f image schedule = ⊥
+
+-- the beginning of a schedule shows that it has no picture of a kind, whatever follows: it has this fault, or too many choices
+abbrev pub ShowsNone : PictureKind → Fault → (front : List ℕ) → Type 0
+ShowsNone kind (fault.Schedule f) front = (open_schedule front).fault ≡ Some f
+ShowsNone kind (fault.TooLong k) front =
+    (k ≡ kind) × (((open_schedule front).fault ≡ None) × (most_of kind < length (choices_of (open_schedule front).runs)))
+ShowsNone kind f front = ⊥
+
+-- why a program has no picture under any schedule that begins so: the program can't be loaded; or it can, and the beginning shows
+-- it
+abbrev pub HaveNoPictureSoFar : PictureKind → Fault → Image → (front : List ℕ) → Type 0
+HaveNoPictureSoFar kind (fault.Load f) image front = IsRefused f image
+HaveNoPictureSoFar kind f image front = IsLoadable image × ShowsNone kind f front

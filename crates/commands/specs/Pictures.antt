@@ -1,10 +1,10 @@
 -- What the commands read and write for any kind of picture: `IsPicture schedule bytes` says which bytes are a picture.
-use Rattle.std.specs.Prelude.{ℕ, if◌then◌else◌, Bool, false, List, [], Option}
+use Rattle.std.specs.Prelude.{◌⊎◌, ℕ, if◌then◌else◌, false, List, [], Option}
 use Rattle.std.specs.Io.KnownBytes.{Appends}
 use Rattle.pictures.specs.Missing.{IsMissingIn}
 use Rattle.row_code.specs.declared.image.Image.{Image}
 use Rattle.thread_machine.specs.declared.choice.Choice.{Choice}
-use Rattle.commands.specs.Picture.{HaveNoPicture}
+use Rattle.commands.specs.Picture.{HaveNoPicture, HaveNoPictureSoFar}
 use Rattle.workbench.specs.declared.fault.Fault.{Fault}
 use Rattle.workbench.specs.declared.fault.PictureKind.{PictureKind}
 use Rattle.workbench.specs.Input.{GivesAll, GivesFront}
@@ -35,12 +35,8 @@ abbrev pub HasMissing : Image → (schedule_before schedule_after : Option (List
 HasMissing image schedule_before schedule_after missing =
     (schedule : List ℕ) × (GivesAll schedule_before schedule_after schedule × IsMissingIn image schedule missing)
 
--- so much of it was read, and there is no picture of it for this reason
+-- it was read to its end, or in part, and there is no picture for this reason
 abbrev pub HaveNone : PictureKind → Fault → Image → (schedule_before schedule_after : Option (List ℕ)) → Type 0
 HaveNone kind fault image schedule_before schedule_after =
-    (schedule : List ℕ) × (is_whole : Bool) × (GivesFront schedule_before schedule_after schedule is_whole
-    × HaveNoPicture kind fault image schedule)
-
--- it was read in part
-abbrev pub IsCut : (schedule_before schedule_after : Option (List ℕ)) → Type 0
-IsCut schedule_before schedule_after = (schedule : List ℕ) × GivesFront schedule_before schedule_after schedule false
+    ((schedule : List ℕ) × (GivesAll schedule_before schedule_after schedule × HaveNoPicture kind fault image schedule))
+    ⊎ ((front : List ℕ) × (GivesFront schedule_before schedule_after front false × HaveNoPictureSoFar kind fault image front))

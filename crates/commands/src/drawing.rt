@@ -80,6 +80,10 @@ impl Picture for Drawing {
 
     ghost kind = { picture.Drawing };
 
+    fn kind(&self) -> PictureKind {
+        PictureKind::Drawing
+    }
+
     fn of(&self, alloc: Global, program: Program<'_>, schedule: &[u8]) -> Result<Shown, Fault> {
         drawing_of(alloc, self.width, program, schedule)
     }

@@ -1,83 +1,129 @@
 // As much of a schedule as a picture needs: nothing behind its fault, or behind one choice too many.
-ghost use Rattle.std.specs.Prelude.{◌≡◌, ◌⊎◌, ◌≤◌, Err, IsTrue, false, IfErr, IfOk, IfSome, OnOk, length};
-ghost use Rattle.workbench.specs.Input.{GivesFront, GivesTooMuch};
+ghost use Rattle.std.specs.Prelude.{◌≡◌, ◌≢◌, ◌⊎◌, ◌≤◌, ◌<◌, ◌+◌, ◌++◌, ℕ, List, [], ◌∷◌, Err, IsTrue, false, IfErr, IfOk, length, take};
+ghost use Rattle.commands.specs.Picture.{ShowsNone, most_of};
+ghost use Rattle.schedule_reader.specs.Schedule.{choices_of};
+ghost use Rattle.workbench.specs.Fault.{status_of};
+ghost use Rattle.workbench.specs.Input.{GivesAll, GivesFront, GivesTooMuch, most_bytes};
 
 use byte_ports::Source;
-use schedule_reader::{Reader, Run};
-use std::alloc::{AllocError, Global};
-use workbench::fault::Fault;
+use schedule_reader::{Reader, Run, ScheduleFault};
+use std::alloc::Global;
+use std::marker::Model;
+use workbench::fault::{Fault, PictureKind};
 use workbench::input::{MOST_BYTES, PIECE, append, pull};
 
-/// What was seen of a schedule: whether a picture needs more of it.
+/// The beginning of a schedule, which has no fault so far.
 #[derive(Drop)]
-struct Seen {
+struct Front {
+    bytes: Vec<u8>,
     reader: Reader,
     choices: u64,
-    /// How many choices a picture shows.
-    most: u64,
+    /// The run that the last byte ended, if it ended one.
+    ended: Vec<Run>,
 }
 
-impl Seen {
-    /// Takes a schedule's next byte. Returns whether a picture needs no more: it has a fault, or one choice too many. In `ended`
-    /// there is room for the run that the byte ends.
-    fn is_enough_with(&mut self, byte: u8, ended: &mut Vec<Run>) -> bool {
-        if self.reader.bytes_read() > MOST_BYTES as u64 {
-            return false;
-        }
-        ended.clear();
-        let told = self.reader.feed(&[byte], ended);
-        for run in ended.as_slice() {
-            self.choices = self.choices.saturating_add(u64::from(run.times));
-        }
-        told.is_err() || self.choices > self.most
-    }
+impl Model for Front {
+    ghost use Rattle.std.specs.Prelude.{◌≤◌, ℕ, List, length};
+    ghost use Rattle.schedule_reader.specs.Places.{HasRead};
+    ghost use Rattle.schedule_reader.specs.Schedule.{choices_of, open_schedule};
+    ghost use Rattle.workbench.specs.Input.{most_bytes};
 
-    /// Returns how many of these bytes a picture needs, if it needs nothing after one of them.
-    fn needed(&mut self, alloc: Global, bytes: &[u8]) -> Result<Option<usize>, AllocError>
-        ensures { IfOk result (λ needed. IfSome needed (λ n. n ≤ length bytes.now)) }
+    ghost Value = { List ℕ };
+
+    ghost view = { λ front. front.bytes.items };
+
+    ghost invariant = { λ front. HasRead front.reader front.bytes.items × (length front.bytes.items ≤ most_bytes)
+        × (front.choices ≤ length (choices_of (open_schedule front.bytes.items).runs)) };
+}
+
+impl Front {
+    /// Makes the beginning of a schedule of which nothing was read.
+    fn new(alloc: Global) -> Front
+        ensures { result ≡ [] }
     {
-        let mut ended = Vec::with_capacity(alloc, 1)?;
-        for (at, byte) in bytes.iter().enumerate() {
-            if self.is_enough_with(*byte, &mut ended) {
-                return Ok(Some(at + 1));
-            }
+        Front {
+            bytes: Vec::new(alloc),
+            reader: Reader::new(),
+            choices: 0,
+            ended: Vec::new(alloc),
         }
-        Ok(None)
+    }
+
+    /// Takes the next byte. Fails if with it the schedule has a fault, more than `most` choices, or too many bytes.
+    fn with_byte(mut self, kind: PictureKind, most: u64, byte: u8) -> Result<Front, Fault>
+        requires { most_of kind ≤ most }
+        ensures bytes { IfOk result (λ front. front ≡ self ++ (byte ∷ [])) }
+        ensures refused { IfErr result (λ fault. status_of fault ≡ 3
+            → ShowsNone kind fault (self ++ (byte ∷ [])) × (length (self ++ (byte ∷ [])) ≤ most_bytes)) }
+        ensures read { result ≡ Err Fault.Read → most_bytes < length (self ++ (byte ∷ [])) }
+        ensures other { (result ≢ Err Fault.Write) × (result ≢ Err Fault.Spawn) }
+    {
+        append(&mut self.bytes, &[byte])?;
+        self.ended.clear();
+        match self.reader.feed(&[byte], &mut self.ended) {
+            Ok(()) => {}
+            Err(ScheduleFault::Memory) => return Err(Fault::Memory),
+            Err(fault) => return Err(Fault::Schedule(fault)),
+        }
+        self.choices = with_first(self.choices, self.ended.as_slice());
+        if self.choices > most {
+            return Err(Fault::TooLong(kind));
+        }
+        Ok(self)
+    }
+
+    /// Takes the next bytes, up to the first with which it fails as above.
+    fn with_bytes(self, kind: PictureKind, most: u64, piece: &[u8]) -> Result<Front, Fault>
+        requires { most_of kind ≤ most }
+        ensures bytes { IfOk result (λ front. front ≡ self ++ piece.now) }
+        ensures refused { IfErr result (λ fault. status_of fault ≡ 3 → (n : ℕ)
+            × (ShowsNone kind fault (self ++ take n piece.now) × (length (self ++ take n piece.now) ≤ most_bytes))) }
+        ensures read { result ≡ Err Fault.Read → most_bytes < length (self ++ piece.now) }
+        ensures other { (result ≢ Err Fault.Write) × (result ≢ Err Fault.Spawn) }
+    {
+        let mut front = self;
+        for byte in piece {
+            front = front.with_byte(kind, most, *byte)?;
+        }
+        Ok(front)
     }
 }
 
-/// Reads a schedule for a picture of at most `most` choices: to its end, or as far as the byte that makes its fault or ends one
-/// choice too many, without waiting for what follows. Returns the bytes, and whether they are all. Fails with `Read` if there are
-/// more than 16,777,216.
+/// Returns so many choices and those of the first of these runs, if there is one.
+fn with_first(choices: u64, runs: &[Run]) -> u64
+    ensures { result ≤ choices + length (choices_of runs.now) }
+{
+    match runs.first() {
+        Some(run) => choices.saturating_add(u64::from(run.times)),
+        None => choices,
+    }
+}
+
+/// Reads a schedule for a picture of this kind: to its end, or as far as the byte that makes its fault or ends the first choice
+/// behind `most`, without waiting for what follows. Fails with that fault, or with `Read` if there are more than 16,777,216 bytes.
 pub(crate) fn read_enough<S: Source>(
     alloc: Global,
     source: &mut S,
+    kind: PictureKind,
     most: u64,
-) -> Result<(Vec<u8>, bool), Fault>
-    ensures front { IfOk result (λ read. GivesFront (S.left source.old) (S.left source.new) read.0.items read.1) }
+) -> Result<Vec<u8>, Fault>
+    requires { most_of kind ≤ most }
+    ensures whole { IfOk result (λ bytes. GivesAll (S.left source.old) (S.left source.new) bytes.items) }
+    ensures refused { IfErr result (λ fault. status_of fault ≡ 3 → (front : List ℕ)
+        × (GivesFront (S.left source.old) (S.left source.new) front false × ShowsNone kind fault front)) }
     ensures read { result ≡ Err Fault.Read → IsTrue (S.has_failed source.new)
         ⊎ GivesTooMuch (S.left source.old) (S.left source.new) }
-    ensures fault { IfErr result (λ fault. ((fault ≡ Fault.Memory) × (S.has_failed source.new ≡ false)) ⊎ (fault ≡ Fault.Read)) }
-    ensures sound { OnOk result (S.has_failed source.new ≡ false) }
+    ensures sound { (result ≢ Err Fault.Read) → S.has_failed source.new ≡ false }
+    ensures other { (result ≢ Err Fault.Write) × (result ≢ Err Fault.Spawn) }
 {
-    let mut seen = Seen {
-        reader: Reader::new(),
-        choices: 0,
-        most,
-    };
-    let mut bytes = Vec::new(alloc);
+    let mut front = Front::new(alloc);
     let mut piece = [0u8; PIECE];
     for _ in 0..=MOST_BYTES {
         let count = pull(source, &mut piece)?;
         if count == 0 {
-            return Ok((bytes, true));
+            return Ok(front.bytes);
         }
-        let given = &piece[..count];
-        if let Some(needed) = seen.needed(alloc, given).map_err(|_| Fault::Memory)? {
-            append(&mut bytes, &given[..needed])?;
-            return Ok((bytes, false));
-        }
-        append(&mut bytes, given)?;
+        front = front.with_bytes(kind, most, &piece[..count])?;
     }
     unreachable!()
 }

@@ -64,6 +64,10 @@ impl<'a> Picture for Page<'a> {
 
     ghost kind = { picture.Page };
 
+    fn kind(&self) -> PictureKind {
+        PictureKind::Page
+    }
+
     fn of(&self, alloc: Global, program: Program<'_>, schedule: &[u8]) -> Result<Shown, Fault> {
         page_of(alloc, self.frame, program, schedule)
     }

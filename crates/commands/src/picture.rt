@@ -1,6 +1,6 @@
 //! What a picture of a run can be made as, and why there is none.
 ghost use Rattle.std.specs.Prelude.{◌≡◌, ◌≢◌, ◌≤◌, ℕ, List, Err, IfErr, IfOk, length};
-ghost use Rattle.commands.specs.Picture.{HaveNoPicture};
+ghost use Rattle.commands.specs.Picture.{HaveNoPicture, most_of};
 ghost use Rattle.pictures.specs.Missing.{IsMissingIn};
 ghost use Rattle.commands.specs.PictureFault.{fault_of, start_fault};
 ghost use Rattle.workbench.specs.declared.fault.PictureKind.{PictureKind};
@@ -8,6 +8,7 @@ ghost use Rattle.workbench.specs.declared.program.Program.{Program};
 ghost use Rattle.workbench.specs.Fault.{status_of};
 ghost use Rattle.workbench.specs.Input.{most_bytes};
 
+use pictures::choices::{MOST_CHOICES, MOST_PAGE_CHOICES};
 use pictures::missing::Shown;
 use pictures::page::PageFault;
 use std::alloc::Global;
@@ -23,6 +24,10 @@ pub trait Picture {
     // Which picture it is.
     ghost kind: { PictureKind };
 
+    /// Returns which picture it is.
+    fn kind(&self) -> PictureKind
+        ensures { result ≡ kind };
+
     /// Returns the picture of a program's run under a schedule as a whole, or why there is none.
     fn of(&self, alloc: Global, program: Program<'_>, schedule: &[u8]) -> Result<Shown, Fault>
         requires { length schedule.now ≤ most_bytes }
@@ -30,6 +35,16 @@ pub trait Picture {
         ensures missing { IfOk result (λ shown. IsMissingIn program.entry.image schedule.now shown.missing) }
         ensures refused { IfErr result (λ fault. status_of fault ≡ 3 → HaveNoPicture kind fault program.entry.image schedule.now) }
         ensures other { (result ≢ Err Fault.Read) × (result ≢ Err Fault.Write) × (result ≢ Err Fault.Spawn) };
+}
+
+/// Returns how many choices a picture of this kind has room for.
+pub(crate) fn most_of(kind: PictureKind) -> u64
+    ensures { result ≡ most_of kind }
+{
+    match kind {
+        PictureKind::Page => MOST_PAGE_CHOICES,
+        PictureKind::Drawing => MOST_CHOICES,
+    }
 }
 
 /// Returns a page's fault as a command's fault for a picture of this kind.

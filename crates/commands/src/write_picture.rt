@@ -1,30 +1,32 @@
 //! Writes a picture of a run, once it is whole.
-ghost use Rattle.std.specs.Prelude.{◌≡◌, ◌≢◌, ◌⊎◌, ◌≤◌, Err, IfErr, IfOk, IsTrue, OnOk, false, length};
-ghost use Rattle.commands.specs.Pictures.{HasMade, HasMissing, HasWritten, HaveNone, IsCut, program_of, schedule_behind};
+ghost use Rattle.std.specs.Prelude.{◌≡◌, ◌≢◌, ◌⊎◌, ◌≤◌, ℕ, List, Err, IfErr, IfOk, IsTrue, OnOk, false, length};
+ghost use Rattle.commands.specs.Picture.{HaveNoPicture, HaveNoPictureSoFar, ShowsNone};
+ghost use Rattle.commands.specs.Pictures.{HasMade, HasMissing, HasWritten, HaveNone, program_of, schedule_behind};
 ghost use Rattle.pictures.specs.Missing.{IsMissingIn};
-ghost use Rattle.commands.specs.Picture.{HaveNoPicture};
+ghost use Rattle.workbench.specs.declared.fault.PictureKind.{PictureKind};
 ghost use Rattle.workbench.specs.Fault.{status_of};
 ghost use Rattle.workbench.specs.Input.{GivesTooMuch, most_bytes};
 
 use crate::enough::read_enough;
-use crate::picture::Picture;
+use crate::picture::{Picture, most_of, start_fault};
 use byte_ports::{Sink, Source};
-use row_code::is_image_file;
+use row_code::{Image, is_image_file};
 use std::alloc::Global;
 use thread_machine::Choice;
+use trace_text::start::first_machine;
 use workbench::Program;
 use workbench::fault::Fault;
 use workbench::run_line::split_at_run;
 
 /// Writes the picture of a program under the schedule in `schedule` to `output`, once it is whole. Returns the choice of a
-/// thread that doesn't exist, with its place from 1, if one ended the run. A schedule that is refused, or that has more than
-/// `most` choices, isn't read further than that.
+/// thread that doesn't exist, with its place from 1, if one ended the run. A schedule isn't read further than its fault, or than
+/// one choice too many. With `to_end` one that has too many choices is read on, and a fault behind these is reported.
 pub fn make<P: Picture, S: Source, K: Sink>(
     alloc: Global,
     picture: &P,
-    most: u64,
     program: Program<'_>,
     schedule: &mut S,
+    to_end: bool,
     output: &mut K,
 ) -> Result<Option<(u64, Choice)>, Fault>
     ensures done { OnOk result (HasMade (P.is_picture picture.now program.entry)
@@ -34,31 +36,33 @@ pub fn make<P: Picture, S: Source, K: Sink>(
         → HaveNone P.kind fault program.entry.image (S.left schedule.old) (S.left schedule.new)) }
     ensures unwritten { IfErr result (λ fault. fault ≢ Fault.Write → K.written output.new ≡ K.written output.old) }
     ensures read { result ≡ Err Fault.Read → IsTrue (S.has_failed schedule.new)
-        ⊎ (GivesTooMuch (S.left schedule.old) (S.left schedule.new)
-        ⊎ IsCut (S.left schedule.old) (S.left schedule.new)) }
+        ⊎ GivesTooMuch (S.left schedule.old) (S.left schedule.new) }
     ensures memory { result ≡ Err Fault.Memory → S.has_failed schedule.new ≡ false }
     ensures spawn { result ≢ Err Fault.Spawn }
     ensures write { result ≡ Err Fault.Write → IsTrue (K.has_failed output.new) }
 {
-    let (choices, is_whole) = read_enough(alloc, schedule, most)?;
-    if is_whole {
-        write(alloc, picture, program, choices.as_slice(), output)
-    } else {
-        Err(why_none(alloc, picture, program, choices.as_slice()))
+    let kind = picture.kind();
+    let most = if to_end { u64::MAX } else { most_of(kind) };
+    match read_enough(alloc, schedule, kind, most) {
+        Ok(choices) => write(alloc, picture, program, choices.as_slice(), output),
+        Err(fault) => Err(first_fault(alloc, program.image, fault)),
     }
 }
 
-/// Returns why there is no picture under a schedule that begins like this, and that wasn't read further.
-fn why_none<P: Picture>(alloc: Global, picture: &P, program: Program<'_>, front: &[u8]) -> Fault
-    requires { length front.now ≤ most_bytes }
-    ensures refused { status_of result ≡ 3 → HaveNoPicture P.kind result program.entry.image front.now }
-    ensures other { (result ≢ Fault.Write) × (result ≢ Fault.Spawn) }
+/// Returns why a program has no picture, if reading its schedule failed like this. A program that can't be loaded has no schedule
+/// that could be refused, so its own fault is returned.
+fn first_fault(alloc: Global, image: Image, fault: Fault) -> Fault
+    ensures refused { (kind : PictureKind) (front : List ℕ) → ShowsNone kind fault front
+        → status_of result ≡ 3 → HaveNoPictureSoFar kind result image front }
+    ensures status { status_of result ≡ 3 → status_of fault ≡ 3 }
+    ensures other { (result ≡ fault) ⊎ ((fault ≢ Fault.Read) × (result ≢ Fault.Read) × (result ≢ Fault.Write) × (result ≢ Fault.Spawn)) }
 {
-    match picture.of(alloc, program, front) {
-        Err(fault) => fault,
-        // The front has a fault or too many choices, so nothing comes here. But because of this a picture that is written is one of
-        // the whole schedule, whatever `read_enough` takes for enough.
-        Ok(_) => Fault::Read,
+    if fault.status() != 3 {
+        return fault;
+    }
+    match first_machine(alloc, image) {
+        Ok(_) => fault,
+        Err(why) => start_fault(why),
     }
 }
 
