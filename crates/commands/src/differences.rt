@@ -46,30 +46,37 @@ fn name_of<'a>(names: &[&'a [u8]], line: &'a [u8]) -> &'a [u8] {
     }
 }
 
-/// Writes how the line of a thread differs from its other one: in its status, its output, its row or its registers.
+/// Writes how the line of a thread differs from its other one: in its status, its output and whether it is interrupted, or else in its
+/// row, its registers or its stack.
 fn push_thread<E: Sink>(errors: &mut E, line: &[u8], first: &[u8]) -> Result<(), Failed> {
     let output = output_of(line);
-    let is_other_status = word(line, 2) != word(first, 2);
-    let is_other_output = output != output_of(first);
-    if is_other_status {
-        errors.push(b" ")?;
+    let mut before: &[u8] = b" ";
+    if word(line, 2) != word(first, 2) {
+        errors.push(before)?;
         errors.push(word(line, 2))?;
+        before = b", ";
     }
-    if is_other_output {
-        errors.push(if is_other_status {
-            b", "
-        } else {
-            b" ".as_slice()
-        })?;
+    if output != output_of(first) {
+        errors.push(before)?;
         errors.push(if output == b"out".as_slice() {
             b"out nothing"
         } else {
             output
         })?;
+        before = b", ";
     }
-    if !is_other_status && !is_other_output {
+    if word(line, 3) != word(first, 3) {
+        errors.push(before)?;
+        errors.push(if word(line, 3) == b"0".as_slice() {
+            b"not interrupted".as_slice()
+        } else {
+            b"interrupted"
+        })?;
+        before = b", ";
+    }
+    if before == b" ".as_slice() {
         errors.push(if word(line, 1) == word(first, 1) {
-            b" other registers"
+            b" other registers or stack"
         } else {
             b" another row".as_slice()
         })?;

@@ -3,7 +3,7 @@
 use crate::report::{Report, Reported};
 use commands::unplanned::Unplanned;
 use std::io;
-use suggestions::file_name::{near_file, programs_in};
+use suggestions::file_name::{is_of_program, near_file, programs_in};
 use suggestions::hint::{Hint, help, help_by_names, near};
 use workbench::fault::Fault;
 
@@ -23,7 +23,14 @@ const BROKEN_PIPE: i32 = 32;
 /// The system's number for a folder that is read as a file.
 const IS_A_FOLDER: i32 = 21;
 
-/// What helps if no file of this name can be opened: it is `-`, a page or a plan, or near to a file's name.
+/// Whether the name of a file looks like a plan: it has a blank, a star or a `?`, or ends with a dot, and isn't that of a program.
+fn is_like_plan(name: &str) -> bool {
+    !name.contains('/')
+        && !is_of_program(name)
+        && (name.ends_with(".") || name.contains(' ') || name.contains('*') || name.contains('?'))
+}
+
+/// What helps if no file of this name can be opened: it is `-`, a page, a path of Windows or a plan, or near to a file's name.
 fn hint_at_name(rt: &HostRuntime, name: &str) -> Hint {
     let alloc = rt.alloc();
     if name == "-" {
@@ -35,8 +42,14 @@ fn hint_at_name(rt: &HostRuntime, name: &str) -> Hint {
             b"`vuthgal show FILE > page.html` writes the page to a file",
         );
     }
-    if name.ends_with(".") || name.contains(' ') || name.contains('*') || name.contains('?') {
-        let plan = format!(in alloc; "`--plan '{name}'` plays this as a plan")?;
+    if name.contains('\\') {
+        return help(
+            alloc,
+            b"a path has `/` between its folders, as in `examples/meeting.asm`",
+        );
+    }
+    if is_like_plan(name) {
+        let plan = format!(in alloc; "`vuthgal run FILE --plan '{name}'` plays this as a plan")?;
         return help(alloc, plan.as_bytes());
     }
     match near_file(rt, name) {

@@ -82,9 +82,13 @@ fn endless_word(alloc: Global, plan: &[u8]) -> Result<Option<(u64, WordPlace)>, 
     Ok(found)
 }
 
-/// Writes that a plan stopped at 1,000,000 choices, and for a person the word that lacks a count.
-pub fn report_stopped(report: &Report<'_>, plan: PlanFile<'_>) {
+/// Writes that a plan stopped at 1,000,000 choices.
+pub fn push_stopped(report: &Report<'_>) {
     let _ = WritePort::new(report.rt.stderr()).push(b"stopped at 1000000 choices\n");
+}
+
+/// Shows a person the word of a plan that lacks a count, so that the plan stopped.
+pub fn explain_stopped(report: &Report<'_>, plan: PlanFile<'_>) {
     let place = match endless_word(report.alloc(), plan.bytes) {
         Ok(Some((number, place))) => Place::in_text(plan.bytes, number, Some(place)),
         _ => None,
@@ -95,4 +99,10 @@ pub fn report_stopped(report: &Report<'_>, plan: PlanFile<'_>) {
         "the plan needs more choices: only the first 1000000 are written or played",
         "a count in place of the dot, or behind `..`, `?7` or `)`, as in `ann*50` and `..*50`",
     );
+}
+
+/// Writes that a plan stopped at 1,000,000 choices, and for a person the word that lacks a count.
+pub fn report_stopped(report: &Report<'_>, plan: PlanFile<'_>) {
+    push_stopped(report);
+    explain_stopped(report, plan);
 }

@@ -103,7 +103,7 @@ fn may_go(alloc: Global, symbols: &Symbols<'_>, machine: &Machine) -> Result<Vec
         text.extend_from_slice(if machine.stuck() {
             b"  no thread can continue: stuck\n".as_slice()
         } else {
-            b"  all have ended\n"
+            b"  all have ended or died\n"
         })?;
     }
     push_threads(&mut text, symbols, machine, false)?;

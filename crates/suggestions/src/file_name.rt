@@ -13,8 +13,8 @@ fn stem_of(name: &str) -> &str {
     name.rsplit_once('.').map_or(name, |(stem, _)| stem)
 }
 
-/// Whether a name ends as those of programs, texts or images, do.
-fn is_of_program(name: &str) -> bool {
+/// Returns whether a name ends as those of programs, texts or images, do.
+pub fn is_of_program(name: &str) -> bool {
     name.ends_with(".asm")
         || name.ends_with(".txt")
         || name.ends_with(".image")

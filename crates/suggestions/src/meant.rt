@@ -60,6 +60,14 @@ fn declares(text: &[u8], directive: &[u8], name: &[u8]) -> bool {
         && word_in(line, 1) == Some(name))
 }
 
+/// Whether a line of a text begins with the label of this name.
+fn has_label(text: &[u8], name: &[u8]) -> bool {
+    text.split(|byte| *byte == b'\n').any(|line| match word_in(line, 0) {
+        Some(label) => is_label(label) && before_last(label) == name,
+        None => false,
+    })
+}
+
 /// The word after the word `=`, if a line has one: `5` of `r0 = 5`.
 fn word_assigned<'a>(words: &[&'a [u8]]) -> Option<&'a [u8]> {
     words
@@ -125,9 +133,11 @@ fn helps_at_word(alloc: Global, text: &[u8], words: &[&[u8]], word: &[u8]) -> Op
         Some("`.run` is alone in its line, and the schedule is below it")
     } else if word == b"run".as_slice() && words.len() == 1 {
         Some("the line between a program and its schedule is `.run`, with a dot")
+    } else if word.eq_ignore_ascii_case(b".run") {
+        Some("the line between a program and its schedule is `.run`, in small letters")
     } else if has_comment_sign(word) {
         Some(AT_COMMENT)
-    } else if word.ends_with(b".") {
+    } else if word.ends_with(b".") && !is_word_of_the_language(behind) {
         Some("this looks like a plan: the program comes first")
     } else if is_schedule(alloc, word) {
         Some("a schedule follows a line `.run`, below the program")
@@ -222,6 +232,8 @@ fn helps_at_range(first: &[u8], words: &[&[u8]], word: &[u8]) -> &'static str {
         "a phase is 0 to 2147483647"
     } else if is_behind(words, b"until", word) {
         "`until` takes a phase, 0 to 2147483647"
+    } else if first == b".barrier".as_slice() {
+        "PARTIES is 1 to 65535"
     } else {
         "PARTIES is 0 to 65535"
     }
@@ -291,7 +303,8 @@ fn helps_at_kind(
             "the program has no rows: an instruction is one, as in `main: halt`",
         ),
         AsmFaultKind::NameTwice
-            if is_label(word) && declares(text, b".thread", before_last(word)) => Some(
+            if is_label(word) && declares(text, b".thread", before_last(word))
+                || first == b".thread".as_slice() && has_label(text, word) => Some(
             "a thread's name is before its label, as in `.thread ann main` and `main: halt`",
         ),
         _ => None,

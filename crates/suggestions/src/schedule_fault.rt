@@ -14,8 +14,9 @@ pub enum Origin {
     Plan,
 }
 
-/// What helps if a schedule is refused at the first byte of the `rest` of its line, if that is more than its entry says.
-fn helps_at(bytes: &[u8], rest: &[u8], origin: Origin) -> Option<&'static str> {
+/// What helps if a schedule is refused at the first byte of the `rest` of its line, if that is more than its entry says; `before` is the
+/// byte before it.
+fn helps_at(bytes: &[u8], before: Option<u8>, rest: &[u8], origin: Origin) -> Option<&'static str> {
     let byte = rest.first().copied().unwrap_or(0);
     if let Some(helps) = helps_at_encoding(bytes) {
         Some(helps)
@@ -25,10 +26,14 @@ fn helps_at(bytes: &[u8], rest: &[u8], origin: Origin) -> Option<&'static str> {
         Some("this looks like a trace: `vuthgal choices TRACE` writes its schedule")
     } else if byte == b';' {
         Some("a schedule can't have comments; a program text can, above its line `.run`")
+    } else if byte == b'*' || before == Some(b'*') && !byte.is_ascii_digit() {
+        Some("a count follows its star, and no blank is beside the star: `t0*3`")
+    } else if matches!((before, byte), (Some(b'0'..=b'9'), b't' | b'x')) {
+        Some("put a blank between two turns, as in `t0 t1`; a count follows a star: `t0*3`")
     } else if matches!(rest, [b't' | b'T' | b'X', b'0'..=b'9', ..]) {
         Some(AT_TURN)
-    } else if byte == b'*' {
-        Some("a count follows its star, and no blank is beside the star: `t0*3`")
+    } else if origin != Origin::Beside && rest.starts_with(b".run") {
+        Some("`.run` is a line of a program's text: a schedule in a file of its own has none")
     } else if matches!(rest, [b't' | b'x'])
         || !byte.is_ascii_alphabetic() && !matches!(byte, b'.' | b'?' | b'(' | b')')
     {
@@ -50,8 +55,6 @@ pub fn helps_in_schedule(
     at: usize,
     origin: Origin,
 ) -> Option<&'static str> {
-    let rest = line
-        .get(at.min(line.len().saturating_sub(1))..)
-        .unwrap_or(&[]);
-    helps_at(schedule, rest, origin)
+    let (before, rest) = line.split_at(at.min(line.len().saturating_sub(1)));
+    helps_at(schedule, before.last().copied(), rest, origin)
 }

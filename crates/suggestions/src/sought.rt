@@ -9,6 +9,7 @@ use line_reader::label::is_label;
 use refusals::entries::tables;
 use refusals::entry::push_pieces;
 use refusals::explain::{NO_LINE, QUESTIONS};
+use refusals::question::question_in_line;
 use refusals::table::directive::DIRECTIVES;
 use refusals::word::word_entry;
 use std::alloc::{AllocError, Global};
@@ -43,8 +44,13 @@ fn are_sentence(means: &str, words: &[&str]) -> bool {
     said.next().is_none()
 }
 
-/// The words that ask for an entry whose sentence a failure at a terminal has: these.
+/// The words that ask for an entry whose sentence a failure at a terminal has: these, behind its place and its kind, which have colons.
 fn asked_by_sentence(words: &[&str]) -> Option<&'static [&'static str]> {
+    let before = words
+        .iter()
+        .take_while(|word| is_label(word.as_bytes()))
+        .count();
+    let words = words.get(before..).unwrap_or(&[]);
     for table in tables().iter() {
         for entry in table.iter() {
             if are_sentence(entry.means, words) {
@@ -93,6 +99,20 @@ fn asked_by(name: &str) -> Option<&'static [&'static str]> {
     None
 }
 
+/// The words that ask for what a line of a trace says, if it lacks its number, as `t0 0 wait`.
+fn asked_by_event(
+    alloc: Global,
+    words: &[&str],
+) -> Result<Option<&'static [&'static str]>, AllocError> {
+    let mut line = Vec::from_slice(alloc, b"1")?;
+    for word in words {
+        line.extend_from_slice(b" ")?;
+        line.extend_from_slice(word.as_bytes())?;
+    }
+    let question = question_in_line(alloc, line.as_slice())?;
+    Ok(question.and_then(|question| question.entry.asked.first().copied()))
+}
+
 /// Returns the words of an entry that was meant by words that ask for none, or no word if that isn't known.
 pub fn words_sought(alloc: Global, words: &[&str]) -> Result<Vec<&'static str>, AllocError> {
     let meant = match words {
@@ -114,6 +134,10 @@ pub fn words_sought(alloc: Global, words: &[&str]) -> Result<Vec<&'static str>, 
                 return Vec::from_slice(alloc, asked);
             }
             match words.first().map_or(None, |word| numbered_word(*word)) {
+                Some("schedule") if words.len() > 2 => {
+                    let asked = asked_by_event(alloc, words)?.unwrap_or(&["schedule"]);
+                    Vec::from_slice(alloc, asked)
+                }
                 Some(word) => Vec::from_slice(alloc, &[word]),
                 None => Ok(Vec::new(alloc)),
             }

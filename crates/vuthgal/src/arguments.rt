@@ -30,8 +30,28 @@ const LONGEST_WORD: usize = 131_072;
 const QUOTES: &str =
     "help: quote a plan and a STATE that have blanks: `--plan 'ann. bob.' --expect 'ann out 1'`\n";
 
+/// What helps where an option begins with one hyphen, or with a dash.
+const HYPHENS: &str = "help: an option begins with two hyphens, as in `--plan`\n";
+
+/// Words that people write in place of a command, and what there is.
+static NO_COMMANDS: [(&str, &str); 3] = [
+    ("version", "help: `vuthgal --version` writes the version\n"),
+    (
+        "playground app web",
+        "help: the app is the file `vuthgal.html`; `vuthgal show FILE > page.html` writes it with a run\n",
+    ),
+    (
+        "check test",
+        "help: `bin/check FOLDER` checks the kept runs of a folder, and `vuthgal compare` one trace\n",
+    ),
+];
+
 /// Options that people write, and what there is in their place.
-static OPTIONS: [(&str, &str); 3] = [
+static OPTIONS: [(&str, &str); 4] = [
+    (
+        "--plan --plan-file",
+        "help: `run`, `debug`, `show` and `draw` have this option, behind the command's name\n",
+    ),
     ("--threads --thread", "help: `race` has `--parties N`\n"),
     (
         "--seed",
@@ -129,31 +149,33 @@ fn push_help(rt: &HostRuntime, text: &str) -> u8 {
     }
 }
 
-/// Writes a text to standard error, if there was memory for it.
-fn push_text(rt: &HostRuntime, text: Result<String, AllocError>) {
-    if let Ok(text) = text {
-        let _ = WritePort::new(printable::errors(rt)).push(text.as_bytes());
-    }
-}
-
-/// Writes a text to standard error without its blank lines: a failure has at most five lines.
-fn push_without_blank_lines(rt: &HostRuntime, text: &str) {
+/// Writes a text to standard error without its blank lines: a failure has at most five lines. It is also without what `clap` guesses
+/// if more is known, and without its way to give a word that begins like an option as a value: no command takes one.
+fn push_without_blank_lines(rt: &HostRuntime, text: &str, is_known: bool) {
     let mut errors = WritePort::new(printable::errors(rt));
     for line in text.split('\n') {
-        if !line.trim_ascii().is_empty() {
+        let said = line.trim_ascii();
+        let is_tip = said.starts_with("tip: to pass ") || is_known && said.starts_with("tip: ");
+        if !said.is_empty() && !is_tip {
             let _ = errors.push(line.as_bytes());
             let _ = errors.push(b"\n");
         }
     }
 }
 
-/// Whether a plan or a STATE has no quotes: an option for one has two words behind it, or a word ends with a dot that isn't
-/// behind an option.
-fn lack_quotes(words: &[String]) -> bool {
+/// Whether there is a file of this name.
+fn is_file(rt: &HostRuntime, path: &str) -> bool {
+    fs::metadata(rt, path).is_ok_and(|metadata| metadata.is_file())
+}
+
+/// Whether a plan or a STATE has no quotes: an option for one has two words behind it, the second of which is no file, or a word ends
+/// with a dot that isn't behind an option.
+fn lack_quotes(rt: &HostRuntime, words: &[String]) -> bool {
     let mut before = 0;
     for word in words {
         let word = word.as_str();
-        if before == 2 && !word.starts_with("-") || before == 0 && word.ends_with(".") {
+        let is_second = before == 2 && !word.starts_with("-") && !is_file(rt, word);
+        if is_second || before == 0 && word.ends_with(".") {
             return true;
         }
         before = match word {
@@ -166,27 +188,38 @@ fn lack_quotes(words: &[String]) -> bool {
     false
 }
 
-/// Says what may have been meant: a file is no command, texts with blanks are quoted, and options have names.
-fn push_way(rt: &HostRuntime, kind: ErrorKind, words: &[String]) {
-    let [_, word, ..] = words else {
-        return;
-    };
-    let word = word.as_str();
-    if kind == ErrorKind::InvalidSubcommand && fs::metadata(rt, word).is_ok() {
-        push_text(
-            rt,
-            format!(in rt.alloc();
-                "help: `vuthgal run {word}` plays a text with its schedule, `vuthgal run {word} SCHEDULE` a program\n"
-            ),
-        );
-    } else if kind != ErrorKind::InvalidSubcommand && lack_quotes(words) {
-        push_text(rt, String::from_str(rt.alloc(), QUOTES));
-    } else if kind == ErrorKind::UnknownArgument {
-        for word in words {
-            if let Some(line) = found_in(&OPTIONS, word.as_bytes()) {
-                return push_text(rt, String::from_str(rt.alloc(), line));
-            }
+/// Whether a word begins like an option, but with one hyphen, as `-plan`, or with a dash, as a text on paper has it.
+fn have_other_dash(words: &[String]) -> bool {
+    words.iter().any(|word| matches!(
+        word.as_bytes(),
+        [b'-', b'a'..=b'z', _, ..] | [0xe2, 0x80, 0x93 | 0x94, ..]
+    ))
+}
+
+/// Returns what may have been meant: a file is no command, texts with blanks are quoted, and options have names. `wrong` is the word
+/// that the error is about.
+fn help_with(
+    rt: &HostRuntime,
+    kind: ErrorKind,
+    words: &[String],
+    wrong: &str,
+) -> Result<Option<String>, AllocError> {
+    let helps = match kind {
+        ErrorKind::InvalidSubcommand if fs::metadata(rt, wrong).is_ok() => {
+            let run = format!(in rt.alloc();
+                "help: `vuthgal run {wrong}` plays a text with its schedule, `vuthgal run {wrong} SCHEDULE` a program\n"
+            )?;
+            return Ok(Some(run));
         }
+        ErrorKind::InvalidSubcommand => found_in(&NO_COMMANDS, wrong.as_bytes()),
+        ErrorKind::UnknownArgument if have_other_dash(words) => Some(HYPHENS),
+        _ if lack_quotes(rt, words) => Some(QUOTES),
+        ErrorKind::UnknownArgument => found_in(&OPTIONS, wrong.as_bytes()),
+        _ => None,
+    };
+    match helps {
+        Some(helps) => Ok(Some(String::from_str(rt.alloc(), helps)?)),
+        None => Ok(None),
     }
 }
 
@@ -200,8 +233,12 @@ impl NoCommand {
         };
         match (text, self) {
             (Ok(text), NoCommand::Words(error)) if error.use_stderr() => {
-                push_without_blank_lines(rt, text.as_str());
-                push_way(rt, error.kind(), words);
+                let wrong = text.as_str().split('\'').nth(1).unwrap_or("");
+                let help = help_with(rt, error.kind(), words, wrong).unwrap_or(None);
+                push_without_blank_lines(rt, text.as_str(), help.is_some());
+                if let Some(help) = help {
+                    let _ = WritePort::new(printable::errors(rt)).push(help.as_bytes());
+                }
                 WRONG_WORDS
             }
             (Ok(text), _) => push_help(rt, text.as_str()),

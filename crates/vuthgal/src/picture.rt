@@ -1,7 +1,7 @@
 //! The commands `show` and `draw`, which write a picture of a run: a page, or a text.
 
 use crate::run::{Choices, NO_SCHEDULE, fail};
-use crate::steps::{OpenSteps, opened, planned};
+use crate::steps::{OpenSteps, opened, played};
 use crate::{input, notes};
 use byte_ports::{ReadPort, WritePort};
 use command_line::ports::watched::Watched;
@@ -10,12 +10,11 @@ use commands::drawing::Drawing;
 use commands::page::Page;
 use commands::picture::Picture;
 use commands::write_picture::make;
-use fault_reports::plan::PlanFile;
+use fault_reports::plan::{PlanFile, explain_stopped, push_stopped};
 use fault_reports::program::ProgramFile;
 use fault_reports::report::{Report, Reported};
 use fault_reports::schedule;
 use page_frame::frame;
-use pictures::choices::{MOST_CHOICES, MOST_PAGE_CHOICES};
 use schedule_reader::write_schedule;
 use suggestions::schedule_fault::Origin;
 use workbench::Program;
@@ -23,30 +22,26 @@ use workbench::done::Done;
 use workbench::ending::flushed;
 use workbench::fault::Fault;
 
-/// Writes the picture, of at most `shown` choices, of a program under a schedule. It is written at once, so nothing is kept back.
+/// Writes the picture of a program under a schedule. It is written at once, so nothing is kept back.
 fn made<P: Picture>(
     report: &Report<'_>,
     picture: &P,
-    shown: u64,
     file: ProgramFile<'_>,
     program: Program<'_>,
     choices: Choices<'_>,
 ) -> Result<Done, Reported> {
     let Choices { name, origin, .. } = choices;
-    // Below `.run` the whole schedule was read, so its fault is told even behind too many choices.
-    let most = match origin {
-        Origin::Beside => u64::MAX,
-        _ => shown,
-    };
     let source = ReadPort::new(choices.stream);
     let mut schedule = Watched::new(report.alloc(), source, choices.lines);
     let mut output = WritePort::new(report.kept(report.rt.stdout()));
+    // Below `.run` the whole schedule is in memory, so its fault is reported even behind too many choices.
+    let to_end = matches!(origin, Origin::Beside);
     let answer = make(
         report.alloc(),
         picture,
-        most,
         program,
         &mut schedule,
+        to_end,
         &mut output,
     );
     match flushed(answer, &mut output) {
@@ -64,11 +59,10 @@ fn made<P: Picture>(
     }
 }
 
-/// Writes the picture, of at most `shown` choices, of the program in a file, under the choices that `steps` name.
+/// Writes the picture of the program in a file, under the choices that `steps` name.
 fn picture<P: Picture>(
     report: &Report<'_>,
     picture: &P,
-    shown: u64,
     name: &str,
     steps: Steps<'_>,
 ) -> Result<Done, Reported> {
@@ -83,34 +77,39 @@ fn picture<P: Picture>(
     match steps {
         OpenSteps::Beside => {
             let choices = Choices::beside(file, beside);
-            made(report, picture, shown, file, program, choices)
+            made(report, picture, file, program, choices)
         }
         OpenSteps::Named(name, stream) => {
             let choices = Choices::named(name, stream);
-            made(report, picture, shown, file, program, choices)
+            made(report, picture, file, program, choices)
         }
         OpenSteps::Plan(name, plan) => {
             let bytes = plan.as_slice();
-            let planned = planned(report, file, &program, PlanFile { name, bytes })?;
+            let written = PlanFile { name, bytes };
+            let planned = played(report, file, &program, written)?;
+            if planned.stopped {
+                push_stopped(report);
+            }
             let schedule = write_schedule(report.alloc(), planned.runs.as_slice()).map_err(
                 |_| report.fault(Fault::Memory),
             )?;
             let choices = Choices::planned(name, schedule.as_bytes());
-            made(report, picture, shown, file, program, choices)
+            let done = made(report, picture, file, program, choices)?;
+            // A picture that is refused has its own help.
+            if planned.stopped {
+                explain_stopped(report, written);
+            }
+            Ok(done)
         }
     }
 }
 
 /// Writes the page of the program in a file.
 pub fn show(report: &Report<'_>, name: &str, steps: Steps<'_>) -> Result<Done, Reported> {
+    let done = picture(report, &Page { frame: frame() }, name, steps)?;
+    // Behind the page, which is longer than a terminal.
     notes::push_page_on_terminal(report);
-    picture(
-        report,
-        &Page { frame: frame() },
-        MOST_PAGE_CHOICES,
-        name,
-        steps,
-    )
+    Ok(done)
 }
 
 /// Draws the run of the program in a file, in lines of at most so many bytes.
@@ -120,5 +119,5 @@ pub fn draw(
     steps: Steps<'_>,
     width: u16,
 ) -> Result<Done, Reported> {
-    picture(report, &Drawing { width }, MOST_CHOICES, name, steps)
+    picture(report, &Drawing { width }, name, steps)
 }

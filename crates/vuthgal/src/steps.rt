@@ -81,7 +81,8 @@ impl<'a> OpenSteps<'a> {
     }
 }
 
-/// Returns the names of the threads of a program whose plan may be refused.
+/// Returns the names of a program's threads by number, for the report of a plan that is refused. A thread without a name has an
+/// empty one.
 pub fn names_of<'a>(report: &Report<'_>, program: &Program<'a>) -> Result<Vec<&'a [u8]>, Reported> {
     let threads = program.image.threads.as_slice().len();
     thread_names(report.alloc(), &program.names, threads.min(MOST_THREADS)).map_err(
@@ -89,7 +90,8 @@ pub fn names_of<'a>(report: &Report<'_>, program: &Program<'a>) -> Result<Vec<&'
     )
 }
 
-/// Reports why a plan isn't played on this program, whose threads have these names, or its schedule isn't written.
+/// Reports why a plan isn't played, or why the schedule that it plays isn't written: the plan is refused, the program in `file`
+/// can't be loaded, or anything else failed. `names` are those of the threads, by number.
 pub fn fail_at_plan(
     report: &Report<'_>,
     file: ProgramFile<'_>,
@@ -107,6 +109,25 @@ pub fn fail_at_plan(
     }
 }
 
+/// Returns what a plan plays on a program. Nothing is reported if the plan needs more choices than it may make.
+pub fn played(
+    report: &Report<'_>,
+    file: ProgramFile<'_>,
+    program: &Program<'_>,
+    plan: PlanFile<'_>,
+) -> Result<Planned, Reported>
+    ensures { IfOk result (λ planned. AreRuns planned.runs.items) }
+{
+    let names = names_of(report, program)?;
+    planned_in(report.alloc(), program, plan.bytes).map_err(|why| fail_at_plan(
+        report,
+        file,
+        names.as_slice(),
+        plan,
+        why,
+    ))
+}
+
 /// Returns what a plan plays on a program. It is reported if the plan needs more choices than it may make.
 pub fn planned(
     report: &Report<'_>,
@@ -116,14 +137,7 @@ pub fn planned(
 ) -> Result<Planned, Reported>
     ensures { IfOk result (λ planned. AreRuns planned.runs.items) }
 {
-    let names = names_of(report, program)?;
-    let planned = planned_in(report.alloc(), program, plan.bytes).map_err(|why| fail_at_plan(
-        report,
-        file,
-        names.as_slice(),
-        plan,
-        why,
-    ))?;
+    let planned = played(report, file, program, plan)?;
     if planned.stopped {
         report_stopped(report, plan);
     }
