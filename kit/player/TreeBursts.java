@@ -118,12 +118,25 @@ final class TreeBursts {
         for (int leaf = 0; leaf < leaves; leaf++) {
             int lowest = make.phaser(middle, make.between(1, 2), Policy.DEFAULT);
             for (int party = make.partiesOf(lowest); party > 0; party--) {
-                make.thread(BurstMaker.times(often, meets ? meet(lowest) : BurstMaker.call(Method.ARRIVE, lowest)));
+                make.thread(meets ? BurstMaker.times(often, meet(lowest)) : arrivals(lowest, often));
             }
         }
         if (meets) {
             make.claims(BurstClaim.MEETS);
         }
+    }
+
+    /**
+     * Arrives in each phase once, and awaits its end. Who arrived again before that could see an arrival of others on its way up,
+     * step by step, which no order explains.
+     */
+    private static List<BurstStep> arrivals(int phaser, int phases) {
+        List<BurstStep> steps = new ArrayList<>();
+        for (int phase = 0; phase < phases; phase++) {
+            steps.add(BurstMaker.call(Method.ARRIVE, phaser));
+            steps.add(BurstMaker.call(Method.AWAIT_ADVANCE, phaser, phase));
+        }
+        return steps;
     }
 
     private static void force(BurstMaker make) {
