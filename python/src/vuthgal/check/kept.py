@@ -1,70 +1,53 @@
-"""What a folder has of kept runs, and what it has besides. Nothing is played here."""
+"""What a folder has of kept runs, and what it has besides; and what each comes to. Nothing is played here."""
 import difflib
-import errno
-import functools
 import os
 import re
 from pathlib import Path
-from typing import Collection, Iterator, List, NamedTuple, Optional, Sequence, Set, Tuple, Union
+from typing import Collection, Dict, List, NamedTuple, Optional, Sequence, Tuple, Union
 
 #: the endings of a run's files
 ENDINGS = ("asm", "txt", "schedule", "plan", "trace", "expect")
 #: endings of documents, and of what pytest reads: these stand anywhere
 IGNORED = ("md", "py", "ini", "toml", "cfg")
-A_RUN = "a folder with runs, or one run: NAME.asm with NAME.schedule or NAME.plan beside it, or NAME.txt with a line `.run`"
-A_PROGRAM = "a program NAME.asm, and NAME.schedule or NAME.plan"
+_A_PROGRAM = "a program NAME.asm, and NAME.schedule or NAME.plan"
+_A_RUN = "a folder with runs, or one run: NAME.asm with NAME.schedule or NAME.plan, or NAME.txt with a line `.run`"
 WITH_RUN = "`.run` and the schedule behind it, or the ending .asm"
 
 
-class Kept(NamedTuple):
-    """A kept run."""
+class Outcome(Exception):
+    """What a run came to: `same`, `as expected`, `written`, `differs 4`, .. The status is as the program's: 0 is good.
+    It is raised where a look ends before all is looked at, and where a command can't do what it is asked for."""
+
+    def __init__(
+        self, said: str, status: int = 0, path: Optional[Path] = None, line: Optional[int] = None, *more: str,
+        column: Optional[int] = None, what: str = "", help: str = "", trace: Optional[bytes] = None,
+    ) -> None:
+        super().__init__(said)
+        self.said, self.status, self.trace = said, status, trace
+        #: where it is: the file, and perhaps the line and the column from 1; and what is wrong there
+        self.path, self.line, self.column, self.what = path, line, column, what
+        #: what else there is to show: the lines that differ, what is near, what helps, the command that shows the run
+        self.more: Tuple[str, ...] = (*more, f"help: {help}") if help else more
+
+    @property
+    def place(self) -> str:
+        return ":".join(str(it) for it in (self.path, self.line, self.column) if it)
+
+
+class Found(NamedTuple):
+    """A kept run, or a file or a folder that isn't played."""
 
     #: its name, behind those of the folders in the one that was named
     title: str
-    program: Path
-    #: its schedule or plan, and what is expected of it
-    others: Tuple[Path, ...]
-
-    @property
-    def folder(self) -> Path:
-        return self.program.parent
-
-    @property
-    def name(self) -> str:
-        return self.program.stem
-
-    @property
-    def files(self) -> Tuple[Path, ...]:
-        return (self.program, *self.others)
+    folder: Path
+    #: of a run its program first, then its schedule or plan and what is expected of it; of a folder none
+    files: Tuple[Path, ...] = ()
+    #: why it isn't played; with the status 0 this is only told
+    left: Optional[Outcome] = None
 
 
-class Left(NamedTuple):
-    """A file or a folder that isn't played: why, and what helps. It fails with this status; with 0 it is only told."""
-
-    title: str
-    path: Path
-    why: str
-    help: str
-    status: int = 1
-    #: whether it is a file that belongs to no run
-    is_file: bool = True
-
-    @property
-    def folder(self) -> Path:
-        return self.path.parent if self.is_file else self.path
-
-
-Found = Union[Kept, Left]
-
-
-def reason(error: OSError) -> str:
-    """Why a file can't be read or written."""
-    return "that isn't permitted" if error.errno in (errno.EACCES, errno.EPERM) else os.strerror(error.errno or 0)
-
-
-@functools.lru_cache(maxsize=None)
 def near_ending(ending: str) -> Optional[str]:
-    """Which ending of a run's files this one is, or nearly is: in capitals, cut, with more behind it, with other letters."""
+    """Which ending of a run's files this one is, or nearly is: in capitals, cut, with more behind it, other letters."""
     small = ending.lower()
     if small in ENDINGS or len(small) < 3:
         return small if small in ENDINGS else None
@@ -82,9 +65,8 @@ def _is_part(name: str) -> bool:
 def _has_line(path: Path, word: bytes) -> bool:
     """Whether a text has a line that begins with this word, or can't be read, so that it may have one."""
     try:
-        if not path.exists():
-            return path.is_symlink()
-        return path.is_file() and re.search(rb"^[ \t\r]*" + word + rb"(?:[\s;]|$)", path.read_bytes(), re.M) is not None
+        found = path.is_file() and re.search(rb"^[ \t\r]*" + word + rb"(?:[\s;]|$)", path.read_bytes(), re.M)
+        return bool(found) or path.is_symlink() and not path.exists()
     except OSError:
         return True
 
@@ -105,113 +87,83 @@ def _has_parts(folder: Path, depth: int = 4) -> bool:
     return any(map(_is_part, files)) or depth > 0 and any(_has_parts(folder / it, depth - 1) for it in folders)
 
 
-def _kept(folder: Path, stem: str, names: Collection[str], lead: str = "") -> Optional[Kept]:
-    """The run of this name, where the folder has one among these files."""
-    programs = [folder / it for it in (f"{stem}.asm", f"{stem}.txt") if stem and it in names]
-    others = tuple(folder / f"{stem}.{it}" for it in ENDINGS[2:] if f"{stem}.{it}" in names)
-    if not programs or programs[0].suffix == ".txt" and not others and not _has_line(programs[0], rb"\.run"):
+def _run(folder: Path, stem: str, names: Collection[str], lead: str = "") -> Optional[Found]:
+    """The run of this name, where the folder has one among these files. NAME.asm goes before NAME.txt."""
+    endings = [it for it in ENDINGS if stem and f"{stem}.{it}" in names]
+    if endings[:2] == ["asm", "txt"]:
+        del endings[1]
+    if endings[:1] not in (["asm"], ["txt"]) or endings == ["txt"] and not _has_line(folder / f"{stem}.txt", rb"\.run"):
         return None
-    return Kept(lead + stem, programs[0], others)
+    return Found(lead + stem, folder, tuple(folder / f"{stem}.{it}" for it in endings))
 
 
-def _left(folder: Path, name: str, run: Optional[Kept], lead: str) -> Optional[Left]:
-    """Why a file is left out, or None where it belongs to the run of its name, or to nothing that is played."""
-    stem, dot, ending = name.rpartition(".")
-    path, near = folder / name, near_ending(ending) if dot else None
-    if ending in IGNORED or near is None and (run or name.startswith(".")) or run and path in run.files:
-        return None
-    if near and near != ending:
-        return Left(lead + name, path, f"its ending is written .{near}", "this ending, or one that is less like it")
-    if run and ending == "txt" and _has_line(path, rb"\.run"):
-        return Left(lead + name, path, f"{stem}.asm is played in its place", "another name for one of them")
-    if run:
-        return None
-    if ending == "txt" and stem and _has_line(path, rb"\.thread"):
-        return Left(lead + name, path, "it has no line `.run`", WITH_RUN)
-    why = f"there is no {stem}.asm" if near and near != "txt" else "it belongs to no run"
-    return Left(lead + name, path, why, "a program of this name, or else the file taken away")
-
-
-def look(folder: Path, lead: str = "") -> List[Found]:
-    """The runs of a folder in the order of their names, and then its files that belong to none. Hidden files count. Titles
-    have `lead` in front; where there is one, a folder without a part of a run is passed over."""
-    try:
-        names = dict.fromkeys(_entries(folder)[0])
-    except FileNotFoundError:
-        return []
-    except OSError as error:
-        title, helps = lead.rstrip("/") or str(folder), "permission to read it and to go into it"
-        return [Left(title, folder, f"it can't be read: {reason(error)}", helps, 5, False)]
-    stems = sorted({name.rpartition(".")[0] for name in names}, key=os.fsencode)
-    runs = {run.name: run for run in (_kept(folder, stem, names, lead) for stem in stems) if run}
-    if not runs and lead and not any(map(_is_part, names)):
-        return []
-    left = (_left(folder, name, runs.get(name.rpartition(".")[0]), lead) for name in names)
-    return [*runs.values(), *(it for it in left if it)]
-
-
-def _where(folder: Path) -> str:
-    """Where a folder is, behind all links."""
-    try:
-        return os.path.realpath(folder)
-    except OSError:  # the current folder is gone
-        return str(folder)
-
-
-def collect(folder: Union[str, Path], below: bool = False, seen: Optional[Set[str]] = None) -> Iterator[Found]:
-    """All of a folder, and with `below` of the folders in it; otherwise those that have runs are told. A folder that has been
-    seen isn't looked at again, whatever link leads to it."""
-    return _collect(Path(folder), below, "", set() if seen is None else seen)
-
-
-def _collect(folder: Path, below: bool, lead: str, seen: Set[str]) -> Iterator[Found]:
-    where = _where(folder)
-    if where in seen:
-        return
-    seen.add(where)
-    yield from look(folder, lead)
-    try:
-        folders = _entries(folder)[1]
-    except OSError:
-        return
-    for name in folders:
-        if below:
-            yield from _collect(folder / name, True, f"{lead}{name}/", seen)
-        elif _has_parts(folder / name):
-            yield Left(f"{lead}{name}/", folder / name, "it isn't looked at", "--below", 0, False)
-
-
-def run_of(path: Union[str, Path]) -> Optional[Kept]:
+def run_of(path: Union[str, Path]) -> Optional[Found]:
     """The run that a path names: by one of its files, or by its name alone."""
     path = Path(path)
-    for stem in (path.name, path.name.rpartition(".")[0] if os.path.lexists(path) else ""):
-        names = (f"{stem}.{it}" for it in ENDINGS)
-        found = _kept(path.parent, stem, [it for it in names if os.path.lexists(path.parent / it)])
-        if found:
-            return found
-    return None
+    stems = [path.name, *([path.name.rpartition(".")[0]] if os.path.lexists(path) else [])]
+    names = [it for it in (f"{stem}.{it}" for stem in stems for it in ENDINGS) if os.path.lexists(path.parent / it)]
+    return next(filter(None, (_run(path.parent, stem, names) for stem in stems)), None)
 
 
-def named(paths: Sequence[Union[str, Path]], below: bool = False) -> Iterator[Found]:
-    """All that arguments name. It raises FileNotFoundError where one is nothing. A folder without a run fails."""
+def _left(path: Path, run: Optional[Found]) -> Optional[Tuple[str, str]]:
+    """Why a file is left out, and what helps; or None where it belongs to the run of its name, or to nothing played."""
+    stem, dot, ending = path.name.rpartition(".")
+    near = near_ending(ending) if dot else None
+    if ending in IGNORED or near is None and (run or path.name.startswith(".")) or run and path in run.files:
+        return None
+    if near and near != ending:
+        return f"its ending is written .{near}", "this ending, or one that is less like it"
+    if run:
+        played = (f"{stem}.asm is played in its place", "another name for one of them")
+        return played if ending == "txt" and _has_line(path, rb"\.run") else None
+    if ending == "txt" and stem and _has_line(path, rb"\.thread"):
+        return "it has no line `.run`", WITH_RUN
+    why = f"there is no {stem}.asm" if near and near != "txt" else "it belongs to no run"
+    return why, "a program of this name, or else the file taken away"
+
+
+def _walk(folder: Path, lead: str, below: bool, found: List[Found], has: Dict[str, bool]) -> bool:
+    """Finds the runs of a folder in the order of their names, then its files that belong to none; then what is in the
+    folders in it. Titles have `lead` in front; where there is one, a folder without a part of a run is passed over.
+    Returns whether there is a program. `has` knows this of those that were seen: none is looked at again by a link."""
+    try:
+        where = os.path.realpath(folder)
+        if where in has:
+            return has[where]
+        names, folders = _entries(folder)
+    except OSError as error:
+        why = Outcome(f"it can't be read: {error.strerror}", 5, folder, help="permission to read it and to go into it")
+        found.append(Found(lead.rstrip("/") or str(folder), folder, (), why))
+        return True
+    there, stems = frozenset(names), sorted({name.rpartition(".")[0] for name in names}, key=os.fsencode)
+    runs = {run.title: run for run in (_run(folder, stem, there, lead) for stem in stems) if run}
+    has[where] = bool(runs)
+    found += runs.values()
+    for name in names if runs or not lead or any(map(_is_part, names)) else []:
+        left = _left(folder / name, runs.get(lead + name.rpartition(".")[0]))
+        if left:
+            found.append(Found(lead + name, folder, (folder / name,), Outcome(left[0], 1, folder / name, help=left[1])))
+    for name in folders:
+        if below:
+            has[where] |= _walk(folder / name, f"{lead}{name}/", True, found, has)
+        elif _has_parts(folder / name):
+            found.append(Found(f"{lead}{name}/", folder / name, (), Outcome("it isn't looked at")))
+    return has[where]
+
+
+def named(paths: Sequence[Union[str, Path]], below: bool = False) -> List[Found]:
+    """All that arguments name: runs, and folders, with `below` with those in them. Hidden files count. A folder without
+    a run fails; one that isn't looked at is told. It raises an outcome where an argument is nothing."""
+    found: List[Found] = []
+    has: Dict[str, bool] = {}
     for it in paths:
-        if not os.path.isdir(it) and run_of(it) is None:
-            why = f"{it} belongs to no run" if os.path.lexists(it) else f"there is no folder or run {it}"
-            raise FileNotFoundError(errno.ENOENT, why, str(it))
-    return _found(list(map(Path, paths)), below)
-
-
-def _found(paths: List[Path], below: bool) -> Iterator[Found]:
-    seen: Set[str] = set()
-    wheres = set(map(_where, paths))
-    for path in paths:
-        run = None if path.is_dir() else run_of(path)
+        path, run = Path(it), None if os.path.isdir(it) else run_of(it)
         if run:
-            yield run
-            continue
-        for found in collect(path, below, seen):
-            if not (isinstance(found, Left) and found.status == 0 and _where(found.path) in wheres):
-                yield found
-        if not any(isinstance(it, Kept) or it.status == 5 for it in collect(path, below)):
-            helps = A_PROGRAM if below else "--below looks at the folders in it, too"
-            yield Left(str(path), path, "no program is in it", helps, 1, False)
+            found.append(run)
+        elif not os.path.isdir(it):
+            why = f"{it} belongs to no run" if os.path.lexists(it) else f"there is no folder or run {it}"
+            raise Outcome(why, 5, path, help=_A_RUN)
+        elif not _walk(path, "", below, found, has):
+            helps = _A_PROGRAM if below else "--below looks at the folders in it, too"
+            found.append(Found(str(path), path, (), Outcome("no program is in it", 1, path, help=helps)))
+    return [it for it in found if not it.left or it.left.status or os.path.realpath(it.folder) not in has]

@@ -1,83 +1,52 @@
-"""Runs played in a child process, so that one that ends the library ends no check: it is named, and the others are played."""
-import os
-import pickle
+"""Runs played in a child process: one that ends the library ends no check. It is named, and the others are played."""
+import contextlib
+import multiprocessing
 import signal
-import socket
 import threading
-import traceback
-from typing import Any, Optional
+from multiprocessing.connection import Connection
+from typing import Iterable, Iterator
 
-from .ends import Outcome
-from .kept import Found, Kept
+from .keeping import updated
+from .kept import Found, Outcome
 from .playing import MOST, outcome
 
+_FORK = multiprocessing.get_context("fork")
 
-class Player:
-    """Plays runs, one at a time. In a process that has threads it plays them in this process: a forked child may not call the
-    library."""
 
-    def __init__(self, update: bool = False, most: int = MOST) -> None:
-        self.update, self.most = update, most
-        self._child: Optional[int] = None
+def outcomes(all_found: Iterable[Found], update: bool = False, most: int = MOST) -> Iterator[Outcome]:
+    """What each of these comes to; with `update` traces are written. A process that has threads plays all by itself: a
+    child of it may not call the library."""
+    child = None
+    try:
+        for found in all_found:
+            if threading.active_count() > 1:
+                yield updated(outcome(found, update, most))
+                continue
+            if child is None:
+                ours, theirs = _FORK.Pipe()
+                child = _FORK.Process(target=_serve, args=(update, most, ours, theirs))
+                child.start()
+                theirs.close()
+            try:
+                ours.send(found)
+                its = ours.recv()
+            except (EOFError, OSError):
+                child.join()
+                status, child = child.exitcode or 0, None
+                why = f"signal {-status}" if status < 0 else f"status {status}"
+                its = Outcome(f"the library was ended by {why}", 128 - status if status < 0 else 1, found.files[0])
+            yield updated(its)
+    finally:
+        if child and child.pid:
+            child.kill()
+            child.join()
 
-    def outcome(self, found: Found) -> Outcome:
-        """What this comes to."""
-        if not isinstance(found, Kept) or threading.active_count() > 1:
-            return outcome(found, self.update, self.most)
-        if self._child is None:
-            self._begin()
-        try:
-            pickle.dump(found, self._asks)
-            self._asks.flush()
-            told: Outcome = pickle.load(self._asks)
-        except (EOFError, ConnectionError, pickle.UnpicklingError):
-            ended = self.close()
-            number = os.WTERMSIG(ended) if os.WIFSIGNALED(ended) else 0
-            why = f"signal {number}" if number else f"status {os.WEXITSTATUS(ended)}"
-            return Outcome(f"the library was ended by {why}", 128 + number if number else 1, found.program)
-        return told
 
-    def _begin(self) -> None:
-        ours, theirs = socket.socketpair()
-        child = os.fork()
-        if child == 0:
-            self._serve(ours, theirs)
-        theirs.close()
-        self._child, self._asks = child, ours.makefile("rwb")
-        ours.close()  # the file holds it
-
-    def _serve(self, parents: socket.socket, own: socket.socket) -> None:
-        """In the child: an outcome for each run, until no more comes. It ends with its parent, and by no signal of a
-        terminal."""
-        try:
-            parents.close()
-            for it in (signal.SIGINT, signal.SIGTERM, signal.SIGHUP):
-                signal.signal(it, signal.SIG_IGN)
-            asked = own.makefile("rwb")
-            while True:
-                pickle.dump(outcome(pickle.load(asked), self.update, self.most), asked)
-                asked.flush()
-        except EOFError:
-            os._exit(0)
-        except BaseException:
-            traceback.print_exc()
-        finally:
-            os._exit(1)
-
-    def close(self) -> int:
-        """Ends the child. Returns how it ended, as `os.waitpid` says it."""
-        if self._child is None:
-            return 0
-        child, self._child = self._child, None
-        os.kill(child, signal.SIGKILL)  # one that has ended keeps its status
-        try:
-            self._asks.close()
-        except OSError:
-            pass
-        return os.waitpid(child, 0)[1]
-
-    def __enter__(self) -> "Player":
-        return self
-
-    def __exit__(self, *_: Any) -> None:
-        self.close()
+def _serve(update: bool, most: int, parents: Connection, own: Connection) -> None:
+    """In the child: an outcome for each that is asked for. It ends with its parent, and by no signal of a terminal."""
+    parents.close()
+    for it in (signal.SIGINT, signal.SIGTERM, signal.SIGHUP):
+        signal.signal(it, signal.SIG_IGN)
+    with contextlib.suppress(EOFError, ConnectionError):
+        while True:
+            own.send(outcome(own.recv(), update, most))
