@@ -108,6 +108,8 @@ export function makeApp(given) {
     const played = await playedInWorker(text, its, change.scheduleIn(state.item, its));
     if (played === null) return;
     set(change.edited(state, text, plan, played));
+    // the box of the plan, which is longer now, isn't always in view
+    if (state.plan === its + " ..") note("The plan ended before the threads did: all go on in turn (\u201C..\u201D).");
     if (!state.mistake && (mode === "quiz" || mode === "challenge")) setMode(mode);
   }
   async function open(item, mode, isNew = true) {

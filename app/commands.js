@@ -17,6 +17,7 @@ import * as change from "./state.js";
 
 const ZOOM = 1.12;
 const STORE = "vuthgal";
+const KEPT = { hasLetters: "letters", isHidden: "hidden" };
 
 function stored() {
   try {
@@ -158,7 +159,7 @@ export function makeCommands(app, given) {
   };
   const acts = {
     set: (name, value) => {
-      if (name === "hasLetters") keep({ letters: value });
+      if (KEPT[name]) keep({ [KEPT[name]]: value });
       app.set({ ...state(), [name]: value });
       app.fitted();
     },
@@ -255,7 +256,7 @@ export function makeCommands(app, given) {
   // ---- what this browser keeps
   const kept = stored();
   if (kept.theme) setTheme(kept.theme);
-  if (kept.letters === false) app.set({ ...state(), hasLetters: false });
+  app.set({ ...state(), hasLetters: kept.letters !== false, isHidden: kept.hidden === true });
   setColumns();
   if (kept.zoom) {
     document.documentElement.style.setProperty("--zoom", kept.zoom);

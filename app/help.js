@@ -7,7 +7,7 @@ import { KEY_TEXTS } from "./keys.js";
 const dot = kind => h("span.event-" + kind + ".hue0", {}, h("i.event-dot"));
 const lane = kind => h("i.lane.lane-" + kind + ".hue0");
 const token = kind => h("span.token.token-" + kind + ".hue0", {}, "ann");
-const rule = kind => h("span.mark" + kind);
+const rule = (kind, dot) => h("span.mark" + kind, {}, dot);
 const swatch = kind => h("i.help-colour.help-" + kind);
 
 const timelineSigns = () => [
@@ -19,7 +19,7 @@ const timelineSigns = () => [
   [lane("waits"), "it waits"],
   [lane("free"), "it waited, and may go on"],
   [lane("held"), "it has to wait for a routine"],
-  [rule(""), "a phase ends, or a barrier trips"],
+  [rule("", h("i.mark-dot")), "a phase ends, or a barrier trips; dots: who arrived for it"],
   [rule(".mark-broke"), "a barrier breaks"]
 ];
 const pictureSigns = () => [
@@ -33,7 +33,7 @@ const pictureSigns = () => [
   [token("over"), "ann has ended; the number beside a name is its output"],
   ["gate", "a barrier; its bars break with it"],
   ["\u26A1\uFE0E", "interrupted"],
-  ["\u23F1\uFE0E", "the time-out of a wait"]
+  [h("i.clock"), "the time-out of a wait"]
 ];
 const programSigns = () => [
   ["0 1 2", "the number of a row, as the trace has it"],

@@ -1,9 +1,10 @@
 // The program: one view that is read and edited. Threads stand in the margin at their rows, the row of this choice is
-// marked, and a mistake is underlined at its word, with the help below it. It is a text area over its own coloured
-// copy, in one scroller.
+// marked, and a mistake is underlined at its word, with the help below the text. It is a text area over its own
+// coloured copy, in one scroller.
 import { DIRECTIVES, KINDS } from "./language.js";
 import { byId, fill, h } from "./elements.js";
 import { hueOf, javaText, threadName } from "./names.js";
+import { isPlanHidden } from "./state.js";
 
 const LONG = 20000;
 // so many threads have room beside a row
@@ -31,7 +32,7 @@ export function makeProgram(changed, planned) {
   const numbers = h("pre.code-numbers", { "aria-hidden": "true" });
   const copy = h("pre.code-copy", { "aria-hidden": "true" });
   const marks = h("div.code-marks", { "aria-hidden": "true" });
-  const bubble = h("div.code-bubble", { role: "status", "aria-live": "polite", id: "mistake", hidden: true });
+  const told = h("div.code-told", { role: "status", id: "mistake" });
   const plainly = { spellcheck: "false", autocapitalize: "off", autocomplete: "off" };
   const text = h("textarea.code-typed", {
     ...plainly,
@@ -44,23 +45,24 @@ export function makeProgram(changed, planned) {
       changed(text.value);
     }
   });
-  const sheet = h("div.code-sheet", {}, numbers, margin, h("div.code-over", {}, marks, copy, text, bubble));
+  const sheet = h("div.code-sheet", {}, numbers, margin, h("div.code-over", {}, marks, copy, text));
   const scroll = h("div.scroll.code-scroll", {}, sheet);
   const plan = h("input.plan-typed", {
     ...plainly,
     type: "text",
     id: "plan",
-    "aria-describedby": "planhelp",
+    "aria-describedby": "mistake",
     title: "ann. is ann until she waits or ends, ann is one turn, .. is all until the end, ?7 a random order",
     oninput: () => planned(plan.value)
   });
-  const help = h("span.plan-help", { role: "status", id: "planhelp" });
-  fill(byId("code"), scroll, h("div.plan", {}, h("label", { for: "plan" }, "Plan"), plan, help));
+  fill(byId("code"), scroll, told, h("div.plan", {}, h("label", { for: "plan" }, "Plan"), plan));
   let shown = null;
-  // the program whose rows have their numbers
+  // the program whose rows have their numbers, or the text whose lines have theirs
   let numbered = null;
   // a line that is to come into view
   let brought = -1;
+  // the mistake that is told
+  let wrong = null;
 
   function grow() {
     const lines = text.value.split("\n");
@@ -88,7 +90,7 @@ export function makeProgram(changed, planned) {
       text.value = what.text;
       scroll.scrollTop = 0;
     }
-    showPlan(what.plan);
+    showPlan(what);
     if (isOther || !copy.firstChild || wasJava !== what.isJava || (what.isJava && isMended)) {
       grow();
       paint();
@@ -98,19 +100,22 @@ export function makeProgram(changed, planned) {
     showMistake(what.mistake);
   }
   // the schedule of a long run is no text that one reads
-  function showPlan(written) {
-    const isLong = written.length > LONG;
-    plan.placeholder = isLong ? "the schedule of this page" : "";
-    if (plan !== document.activeElement && plan.value !== written) plan.value = isLong ? "" : written;
+  function showPlan(state) {
+    const isLong = state.plan.length > LONG;
+    const isHidden = isPlanHidden(state);
+    const written = isLong || isHidden ? "" : state.plan;
+    plan.placeholder = isHidden ? "after the answer" : isLong ? "the schedule of this page" : "";
+    if (plan !== document.activeElement && plan.value !== written) plan.value = written;
   }
-  // the numbers of the rows, by which the trace names them
+  // the numbers of the rows, by which the trace names them; of the lines, by which a mistake does
   function showNumbers() {
     const { program } = shown.tree;
-    const isKnown = !shown.mistake || !shown.mistake.isProgram;
-    if (numbered === (isKnown && program)) return;
-    numbered = isKnown && program;
-    const lines = [];
-    if (isKnown) program.lineOf.forEach((line, row) => (lines[line] = row));
+    const isLines = Boolean(shown.mistake) && shown.mistake.isProgram;
+    const what = isLines ? shown.text : program;
+    if (numbered === what) return;
+    numbered = what;
+    const lines = isLines ? shown.text.split("\n").map((_, n) => n + 1) : [];
+    if (!isLines) program.lineOf.forEach((line, row) => (lines[line] = row));
     numbers.textContent = Array.from(lines, row => row ?? "").join("\n");
   }
   function showPlaces(moment, event) {
@@ -151,13 +156,18 @@ export function makeProgram(changed, planned) {
     if (!isIn) scroll.scrollTop = Math.max(0, top - scroll.clientHeight / 2);
   }
   function showMistake(mistake) {
-    const isPlan = Boolean(mistake) && !mistake.isProgram;
-    bubble.hidden = !mistake || isPlan;
-    text.setAttribute("aria-invalid", String(!bubble.hidden));
-    plan.setAttribute("aria-invalid", String(isPlan));
-    help.textContent = isPlan ? mistake.means + "." + (mistake.helps ? " " + mistake.helps + "." : "") : "";
-    if (bubble.hidden) return;
-    const line = mistake.line === null ? 0 : mistake.line - 1;
+    const isProgram = Boolean(mistake) && mistake.isProgram;
+    text.setAttribute("aria-invalid", String(isProgram));
+    plan.setAttribute("aria-invalid", String(Boolean(mistake) && !isProgram));
+    const line = isProgram && mistake.line !== null ? mistake.line - 1 : 0;
+    if (wrong !== mistake) {
+      wrong = mistake;
+      fill(told, mistake ? toldOf(mistake) : null);
+      // who types sees what is typed
+      const typed = text.value.slice(0, text.selectionStart).split("\n").length - 1;
+      if (isProgram) brought = document.activeElement === text ? typed : line;
+    }
+    if (!isProgram) return;
     marks.append(h("span.code-bad", { vars: { "--line": line } }));
     if (mistake.word) {
       const [from, to] = mistake.word;
@@ -165,11 +175,12 @@ export function makeProgram(changed, planned) {
         h("span.code-wave", { vars: { "--line": line, "--from": from, "--wide": Math.max(1, to - from) } })
       );
     }
-    bubble.style.setProperty("--line", line);
-    const where = mistake.line === null ? "" : "Line " + mistake.line + ": ";
+  }
+  function toldOf(mistake) {
+    const where = mistake.isProgram && mistake.line !== null ? "Line " + mistake.line + ": " : "";
     const mend = h("button.code-mend", { type: "button", onclick: () => mended(mistake) }, mistake.near);
     const helps = mistake.near ? [" Did you mean ", mend, "?"] : mistake.helps ? " " + mistake.helps + "." : "";
-    fill(bubble, h("b", {}, where, mistake.means + "."), helps);
+    return [h("b", {}, where, mistake.means + "."), helps];
   }
   // puts in the word that was probably meant
   function mended(mistake) {

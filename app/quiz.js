@@ -107,7 +107,7 @@ export function challengeCard(challenge, act) {
     return plainCard(
       "Challenge",
       done,
-      "Is there a way with fewer changes? Why does it end so? Click a thread.",
+      (changes > 1 ? "Is there a way with fewer changes? " : "") + "Why does it end so? Click a thread.",
       button("Again", act.again, { kind: ".main" })
     );
   }

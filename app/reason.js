@@ -91,7 +91,7 @@ function strayText(tree, id, i, p) {
   if (came <= parties) return "";
   const name = nameOf(tree.program, "P", p);
   const its = " for its " + parties + (parties === 1 ? " party" : " parties");
-  return came + " threads have arrived at " + name + its + ": one was a stray.";
+  return came + " threads have arrived at " + name + its + ": one took the place of another.";
 }
 // The same of the choice before moment i, if it is the one by which that many have arrived.
 export function strayOf(tree, id, i) {

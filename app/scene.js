@@ -59,7 +59,7 @@ export function makeScene(act) {
     };
     const roots = program.phasers.flatMap((one, p) => (one.parent < 0 ? [p] : []));
     renew(cards, roots.map(p => branchOf(scene, p)), program.barriers.map((_, b) => barrierCard(scene, b)));
-    cards.classList.toggle("is-stuck", state.word === "stuck");
+    cards.classList.toggle("is-stuck", state.word === "stuck" && !what.moment.isVeiled);
     element.classList.toggle("is-roomy", program.threads.length + things <= 8);
     renew(crowd, crowdOf(scene));
     drawWhys(scene);

@@ -6,6 +6,7 @@ import {
   entryText,
   hasSeveral,
   labelOf,
+  listed,
   objectOf,
   phaseOf,
   rowText,
@@ -223,4 +224,12 @@ export function shortMark(program, mark) {
   if (mark.kind === "+b") return (name && name + " ") + "trips";
   if (mark.kind === "-b") return (name && name + " ") + "breaks";
   return (name && name + ": ") + (mark.view < 0 ? "terminated" : "phase " + mark.view + " begins");
+}
+// Who arrived for the phase that ended, or for the barrier that tripped, behind the words of its line.
+export function metText(program, { mark, row }, met) {
+  if (!met.length) return "";
+  const names = ": " + listed(met.map(t => threadName(program, t))) + " arrived";
+  // by force it is the phase itself that is terminated, and not the one behind it
+  const back = program.rows[row].word === "pforce" ? 0 : 1;
+  return mark.kind === "+b" ? names : names + " for phase " + phaseOf((mark.view - back) | 0);
 }

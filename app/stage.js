@@ -13,6 +13,10 @@ export const PLACES = 8;
 // on a phone so many
 const FEW = 4;
 
+// where the pointer was last: a name that is drawn anew below one that rests isn't tried
+let rest = "";
+const placeOf = event => event.clientX + " " + event.clientY;
+
 const eventOf = (moment, token) => (token[0] === "x" ? moment.late : moment.next)[Number(token.slice(1))];
 
 // What the sentence says: { badge, kind, parts, reason, verdict }.
@@ -33,8 +37,8 @@ function saidOf(state) {
     kind: "would",
     parts: ["If it\u2019s next: ", ...wouldText(program, tried, moment)]
   };
-  // in a quiz, that nobody may go is an answer
-  const word = state.mode === "quiz" && isVeiled(state) ? "" : moment.state.word;
+  // that nobody may go is an answer
+  const word = isVeiled(state) ? "" : moment.state.word;
   const kind = { stuck: "stuck", all: "ended" }[word] || "";
   const end = { stuck: " Stuck: no thread can ever go on.", all: " All threads are over." }[word] || "";
   const isRefused = run.refused && at === lengthOf(run);
@@ -76,6 +80,7 @@ function drawNext(state, act) {
   if (byId("next").dataset.key === key) return;
   const hadFocus = byId("next").contains(document.activeElement);
   byId("next").dataset.key = key;
+  byId("next").onpointermove = moved => (rest = placeOf(moved));
   const places = program.threads.length > PLACES ? [] : program.threads.map((_, t) => t);
   const blank = t => h("span.next-place", { "aria-hidden": "true" }, threadName(program, t));
   const chip = (event, k) => {
@@ -86,14 +91,15 @@ function drawNext(state, act) {
       "data-token": event.token,
       title: (isOwn ? "The run goes on so" : own ? "Another run" : "Next") + (k < 9 ? " (key " + (k + 1) + ")" : ""),
       onclick: () => act.choose(event.token),
-      onpointerenter: () => act.tryOut(event.token),
+      onpointerenter: moved => placeOf(moved) !== rest && act.tryOut(event.token),
       onpointerleave: () => act.tryOut(""),
-      onfocus: () => act.tryOut(event.token),
+      // the Tab by which it got the focus; the focus that it gets when it is drawn anew tries nothing
+      onkeyup: pressed => pressed.key === "Tab" && act.tryOut(event.token),
       onblur: () => act.tryOut("")
     };
     const name = threadName(program, event.thread);
     if (event.isLate) given["aria-label"] = "the time-out of " + name;
-    return h("button" + kinds, given, (event.isLate ? "\u23F1\uFE0E " : "") + name);
+    return h("button" + kinds, given, event.isLate ? h("i.clock") : null, name);
   };
   const nobody = moment.state.word === "stuck" ? "Nobody may go" : "All are over";
   const label = isHidden ? "Next: after the answer" : all.length ? "Next:" : nobody;

@@ -92,15 +92,25 @@ export function edited(state, text, plan, played) {
     const program = openProgram(text);
     plan = planFor(state, text, plan);
     next = planted(state, program, text, plan, played || playedPlan(text, plan, scheduleIn(state.item, plan)));
+    // where the run had an end, and the plan ends too early for this text, all go on in turn
+    if (!played && isSamePlan && !isLive(state) && isLive(next) && !next.isCut) {
+      const on = plan + " ..";
+      const itsPlan = plan === state.itsPlan ? on : state.itsPlan;
+      next = planted({ ...state, itsPlan }, program, text, on, playedPlan(text, on));
+    }
   } catch (fault) {
     if (!(fault instanceof Refused)) throw fault;
     return { ...state, text, plan, mistake: mistakeOf(fault, text) };
   }
   const { tree, run, at } = walkTo(next.tree, place);
   next = { ...next, tree, id: run.id, at };
-  if (isNew) next = { ...next, item: { ...OWN, program: text, plan }, itsPlan: plan };
-  return next.lesson && (isNew || state.mode === "lesson") ? { ...next, lesson: begunLesson(next) } : next;
+  if (isNew) next = { ...next, item: { ...OWN, program: text, plan: next.plan }, itsPlan: next.plan };
+  if (!next.lesson) return next;
+  const begun = begunLesson(next);
+  const { step, isOpen } = next.lesson;
+  return { ...next, lesson: isNew ? begun : { ...begun, step: Math.min(step, begun.lesson.steps.length), isOpen } };
 }
+const isLive = ({ tree: { runs: [run] } }) => run.end.word === "live" && !run.refused;
 const begunLesson = state => ({
   lesson: lessonOf(state.item, state.tree.program, state.tree.runs[0]),
   step: -1,
@@ -203,6 +213,7 @@ export const VEIL = "This stands here after the answer.";
 export function inMode(state, mode) {
   const next = { ...state, mode, pane: "time", preview: "", quiz: null, challenge: null };
   if (mode === "quiz") return quizOf(next);
+  if (mode === "lesson") return atStep({ ...next, tab: "picture" });
   return mode === "challenge" ? challengeIn({ ...at({ ...next, id: 0 }, 0), other: null }) : next;
 }
 // A challenge is another end, to which one of the random orders came; without such an order there is none. It begins
@@ -259,17 +270,25 @@ export function isVeiled(state) {
 export function isNextHidden(state) {
   return isVeiled(state) && !(openStep(state) || {}).votes;
 }
-// Whether later choices are hidden: while a question is open, and in a quiz until its end, since they are the answers
-// to what is asked next.
-export function isLaterHidden(state) {
-  const { quiz } = state;
-  return state.isHidden || isVeiled(state) || (state.mode === "quiz" && Boolean(quiz.list[quiz.k]));
+// Whether the class is to guess: in a lesson until the answer is shown, and in a quiz until its end, since what comes
+// later are the answers to what is asked next.
+function isGuessed({ mode, lesson, quiz }) {
+  if (mode === "quiz") return !quiz || Boolean(quiz.list[quiz.k]);
+  return mode === "lesson" && !lesson.isOpen && (lesson.step < 0 || Boolean(lesson.lesson.steps[lesson.step]));
 }
+// Whether later choices are hidden, and the plan, unless the class has written its own.
+export const isLaterHidden = state => state.isHidden || isGuessed(state);
+export const isPlanHidden = state => isGuessed(state) && state.plan === state.itsPlan;
+// Back from an answer leads to its question.
 export function lessonStep(state, by) {
-  const { lesson } = state.lesson;
-  const step = Math.max(-1, Math.min(lesson.steps.length, state.lesson.step + by));
-  const place = lesson.steps[step] ? lesson.steps[step].at : 0;
-  return at({ ...state, id: 0, lesson: { ...begunLesson(state), ...{ lesson, step } } }, place);
+  const { lesson, isOpen } = state.lesson;
+  const to = state.lesson.step + (isOpen && by < 0 ? 0 : by);
+  const step = Math.max(-1, Math.min(lesson.steps.length, to));
+  return atStep({ ...state, lesson: { ...begunLesson(state), ...{ lesson, step } } });
+}
+function atStep(state) {
+  const { lesson, step } = state.lesson;
+  return at({ ...state, id: 0 }, lesson.steps[step] ? lesson.steps[step].at : 0);
 }
 export function lessonAnswer(state) {
   const one = state.lesson.lesson.steps[state.lesson.step];

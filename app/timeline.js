@@ -1,10 +1,11 @@
 // The timeline: a column for each thread, a row for each choice. Only the rows and columns in view are in the page,
 // so a run of a million choices and 64 threads scrolls. What threads do between the rows is asked of the machine for
 // the rows in view, some milliseconds a frame. For a screen reader it is a table.
+import { metOf } from "./arrivals.js";
 import { arrange, fill, h, makeShelf } from "./elements.js";
 import { hueOf, threadName } from "./names.js";
 import { eventTo, hasMoment, lengthOf, momentOf } from "./run.js";
-import { shortMark, tagOf } from "./sentence.js";
+import { metText, shortMark, tagOf } from "./sentence.js";
 import { doingOf, veiled } from "./trace.js";
 
 const BUDGET = 8;
@@ -243,7 +244,7 @@ export function makeTimeline(go, select) {
     const event = eventTo(shown.run, i);
     const number = h("span.line-number" + (i ? "" : ".is-start"), { role: "rowheader" }, i || "start");
     const inside = [number];
-    if (event) inside.push(eventOf(event), event.mark ? markOf(event) : null);
+    if (event) inside.push(eventOf(event), event.mark ? markOf(event, i) : null);
     if (shown.isSide && shown.differs === i - 1 && i > 0) inside.push(h("span.line-part", {}, "they part here"));
     const given = {
       role: "row",
@@ -270,10 +271,14 @@ export function makeTimeline(go, select) {
     ) + "." + hueOf(event.thread) + (isOnLeft ? ".is-onleft" : "");
     return h("span" + kinds, { ...given, vars: { left: at + "px" } }, h("i.event-dot"), h("span.event-tag", {}, tag));
   }
-  // the end of a phase is a rule below its row; its words stand where the row has room, else below the rule
-  function markOf(event) {
+  // the end of a phase is a rule below its row, with a dot for each who arrived for it; its words stand where the row
+  // has room, else below the rule
+  function markOf(event, i) {
     const { program } = shown.tree;
     const text = shortMark(program, event.mark);
+    const met = metOf(shown.tree, shown.run.id, i, event.mark);
+    const isIn = t => placeOf(t + 1) > view.left && placeOf(t) < view.left + view.width;
+    const dot = t => h("i.mark-dot", { vars: { left: placeOf(t) - size.number + "px" } });
     const at = placeOf(event.thread);
     const wide = (text.length * 0.47 + 1.3) * size.rem;
     const own = (tagOf(program, event, shown.isJava).length * 0.55 + 2) * size.rem;
@@ -283,8 +288,9 @@ export function makeTimeline(go, select) {
       : hasRight ? "" : at - size.number > wide ? ".is-left" : ".is-under";
     return h(
       "span.mark" + (event.mark.kind[0] === "-" ? ".mark-broke" : "") + side,
-      { role: "note" },
-      h("span", {}, text)
+      { role: "note", "aria-label": text + metText(program, event, met) },
+      h("span", {}, text),
+      met.filter(isIn).map(dot)
     );
   }
   function redraw() {

@@ -5,7 +5,7 @@ import { spawnSync } from "node:child_process";
 import { existsSync, mkdtempSync, readdirSync, readFileSync, rmSync, writeFileSync } from "node:fs";
 import { tmpdir } from "node:os";
 import assert from "node:assert/strict";
-import { arrivalsOf } from "../../app/arrivals.js";
+import { arrivalsOf, metOf } from "../../app/arrivals.js";
 import { endKind, endText } from "../../app/ending.js";
 import { lessonOf, LESSONS } from "../../app/lessons.js";
 import { addressOf, linkOf, readLink, walkTo } from "../../app/link.js";
@@ -249,6 +249,40 @@ await look("the lost meeting, sentence by sentence", () => {
   assert.match(stray, /ann and cem.*If one of them was surplus, nobody can know which\.$/);
   assert.deepEqual(arrivalsOf(tree, 0, 8).arrived[0].map(one => one.thread), [1]);
 });
+await look("who met is who arrived, as many as the machine counts", () => {
+  const named = (name, schedule) => {
+    const { text, plan } = lesson(name);
+    const tree = treeOf(text, schedule || plan);
+    const marks = [...tree.runs[0].events].flatMap((event, k) => (event.mark ? [[event.mark, k + 1]] : []));
+    return marks.map(([mark, i]) => metOf(tree, 0, i, mark).map(t => tree.program.names.T[t]).join(" "));
+  };
+  assert.deepEqual(named("lost-meeting"), ["ann cem"]);
+  assert.deepEqual(named("late-team"), ["ann bob"]);
+  // one that was interrupted still counts until its turn
+  assert.deepEqual(named("broken-barrier", "ann. bob. eve. cem. .."), ["ann bob cem"]);
+  assert.deepEqual(named("broken-barrier"), [""]);
+  let count = 0;
+  for (let seed = 1; seed <= 120; seed++) {
+    const text = programOf(seed);
+    const tree = treeOf(text, "?" + seed + "*120");
+    const { program: model, runs: [run] } = tree;
+    for (let i = 0; i <= lengthOf(run); i++) {
+      const { arrived, stand } = arrivalsOf(tree, 0, i);
+      const { state } = at(tree, run, i);
+      state.barriers.forEach((one, b) => {
+        if (!one.isBroken) assert.equal(stand[b].length, one.waiting, `program ${seed} at ${i}\n${text}`);
+      });
+      state.phasers.forEach((one, p) => {
+        // who leaves with its arrival isn't counted behind it
+        const stay = arrived[p].filter(({ row }) => model.rows[row].word !== "pdereg");
+        if (one.view < 0 || model.children[p].length) return;
+        assert.equal(stay.length, one.arrived, `program ${seed} at ${i}, phaser ${p}\n${text}`);
+        count++;
+      });
+    }
+  }
+  assert.ok(count > 1000, `only ${count} were compared`);
+});
 // what is said of a choice; `which` is its number, and who would be next where that is asked
 function saidOf(tree, which) {
   const [number, who] = which.split(" ");
@@ -405,15 +439,42 @@ await look("a challenge that no order meets isn't offered", () => {
 });
 await look("an open question of a lesson hides what comes later, who may go, and why", () => {
   const begun = change.inMode(first("lost-meeting"), "lesson");
-  assert.equal(change.isLaterHidden(begun), false);
+  const hiddenIn = state => [change.isLaterHidden(state), change.isPlanHidden(state), change.isVeiled(state)];
+  assert.deepEqual(hiddenIn(begun), [true, true, false]);
   const asked = change.lessonStep(begun, 1);
   assert.deepEqual([change.isLaterHidden(asked), change.isVeiled(asked)], [true, true]);
   // those for whom the class votes have to be named
   assert.deepEqual([change.isNextHidden(asked), change.isNextHidden(change.lessonStep(asked, 1))], [false, true]);
-  for (const told of [change.lessonAnswer(asked), change.forked(asked, 1, "t1")]) {
-    assert.deepEqual([change.isLaterHidden(told), change.isVeiled(told)], [false, false]);
-  }
-  assert.equal(change.isVeiled(change.lessonStep(change.lessonAnswer(asked), 1)), true);
+  const told = change.lessonAnswer(asked);
+  assert.deepEqual(hiddenIn(told), [false, false, false]);
+  // what a vote led to is seen, and not yet how it goes on
+  const tried = change.forked(asked, 1, "t1");
+  assert.deepEqual(hiddenIn(tried), [true, true, false]);
+  // a plan of the class's own is shown
+  assert.equal(change.isPlanHidden(change.edited(asked, asked.text, "cem ..")), false);
+  assert.equal(change.isVeiled(change.lessonStep(told, 1)), true);
+  // back from an answer is its question, and then the one before
+  const back = change.lessonStep(told, -1);
+  assert.deepEqual([back.lesson.step, back.lesson.isOpen, change.lessonStep(back, -1).lesson.step], [0, false, -1]);
+  // in explore all is shown, and the question stands where it stood
+  const away = change.inMode(change.at(asked, 8), "explore");
+  assert.deepEqual([change.isLaterHidden(away), change.inMode(away, "lesson").at], [false, 1]);
+});
+await look("a choice that is made isn't tried any more", () => {
+  const tried = { ...first("lost-meeting"), preview: "t1" };
+  for (const next of [change.forked(tried, 0, "t1"), change.at(tried, 1)]) assert.equal(next.preview, "");
+});
+await look("an edit keeps a lesson's question and answer, and the run has an end", () => {
+  let state = change.inMode(first("lost-meeting"), "lesson");
+  for (let k = 0; k < 5; k++) state = change.lessonAnswer(change.lessonStep(state, 1));
+  const text = state.text.replace("stray: ", "stray: preg r0 meet\n");
+  const next = change.edited(state, text, state.plan);
+  assert.deepEqual([next.lesson.step, next.lesson.isOpen, next.mode], [4, true, "lesson"]);
+  assert.deepEqual([next.plan, endKind(change.runOf(next).end)], [state.plan + " ..", "ended"]);
+  // a plan that is typed is played as it is, and one that was open stays so
+  const typed = change.edited(state, text, "ann.");
+  assert.deepEqual([typed.plan, endKind(change.runOf(typed).end)], ["ann.", "open"]);
+  assert.equal(change.edited(typed, state.text, "ann.").plan, "ann.");
 });
 await look("an open question of a quiz can't be stepped over", () => {
   const begun = change.inMode(first("broken-barrier"), "quiz");
@@ -599,7 +660,7 @@ await look("a program's file may hold its schedule", () => {
 });
 
 // ---- colours: contrast as WCAG 2.2 AA asks for
-await look("text has a contrast of 4.5", () => {
+await look("text has a contrast of 4.5, marks one of 3", () => {
   const css = read("app/style/tokens.css");
   const blocks = [
     css.slice(css.indexOf(":root {"), css.indexOf("@media")),
@@ -641,6 +702,13 @@ await look("text has a contrast of 4.5", () => {
     for (const hue of hues) {
       pairs.push([hue, pane], [pane, hue], [hue, mixed(hue, pane, 0.09)], [mixed(hue, pane, 0.9), pane]);
       pairs.push([hue, mixed(now, pane, 0.62)]);
+    }
+    // what comes later is pale, also below the row of this choice
+    const pale = Number(/--pale: (\d+)%/.exec(css)[1]) / 100;
+    const marks = [...hues, red].flatMap(one => [[pane, one], [mixed(now, pane, 0.62), one]]);
+    for (const [ground, one] of [...marks, [pane, go]]) {
+      const [a, b] = [light(ground), light(mixed(one, pane, pale))].sort((x, y) => y - x);
+      assert.ok((a + 0.05) / (b + 0.05) >= 3, `${one} on ${ground}`);
     }
     // beside a mistake the panes are gray, as the filter grayscale makes them
     const gray = hex => {
