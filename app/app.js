@@ -357,7 +357,7 @@ export function makeApp(given) {
     try {
       link = await readLink(location.hash);
     } catch (fault) {
-      note("This link can\u2019t be read: " + fault.message + ". A program that is here is shown.");
+      note("This link can\u2019t be read: " + fault.message.replace(/\.$/, "") + ". A program that is here is shown.");
       return false;
     }
     if (!link) return false;

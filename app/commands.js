@@ -181,7 +181,7 @@ export function makeCommands(app, given) {
     saveTrace: () => save(state().item.name + ".trace", run().trace),
     saveProgram: () => save(state().item.name + ".asm", state().text),
     savePage,
-    help: () => app.sheet.open(byId("help"), "Help", helpSheet(() => app.sheet.close(true)))
+    help: () => app.sheet.open(byId("help"), "Help", helpSheet(state().tree.program, () => app.sheet.close(true)))
   };
   byId("help").onclick = acts.help;
   byId("more").onclick = () => app.sheet.open(byId("more"), "Menu", mainMenu(app.sheet, state(), settings, acts));

@@ -22,7 +22,10 @@ export function endText(program, end) {
       waits.length ? "stuck: " + few(waits) + (waits.length === 1 ? " waits" : " wait") + " for ever" : "stuck"
     );
   }
-  if (died.length) parts.push(few(died) + (died.length === 1 ? " dies" : " die"));
+  for (const code of new Set(end.threads.flatMap(one => (one.status === "died" ? [one.code] : [])))) {
+    const its = end.threads.flatMap((one, t) => (one.status === "died" && one.code === code ? [threadName(program, t)] : []));
+    parts.push(few(its) + (its.length === 1 ? " dies of " : " die of ") + code);
+  }
   return parts.join("; ");
 }
 const lastOf = list => (list.length > 5 ? "\u2026 " : "") + list.slice(-5).join(" ");

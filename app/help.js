@@ -1,8 +1,9 @@
-// The help: the keys, the signs of the timeline, the colours, and what the picture's drawings mean. It is what a sheet
-// shows; the signs are drawn as the panes draw them. A worker, which has no page, reads this module, too: nothing is
-// made before it is asked for.
+// The help: the keys, the words of a program and of plans, the signs of the timeline, the colours, and what the
+// picture's drawings mean. It is what a sheet shows; the signs are drawn as the panes draw them. A worker, which has
+// no page, reads this module, too: nothing is made before it is asked for.
 import { button, h } from "./elements.js";
 import { KEY_TEXTS } from "./keys.js";
+import { javaText, rowText } from "./names.js";
 
 const dot = kind => h("span.event-" + kind + ".hue0", {}, h("i.event-dot"));
 const lane = kind => h("i.lane.lane-" + kind + ".hue0");
@@ -47,18 +48,33 @@ const coloursSigns = () => [
   [swatch("thread"), "a thread has a colour, and always its name"]
 ];
 
+const planSigns = () => [
+  ["ann", "ann has one turn"],
+  ["ann.", "ann goes on until she waits or ends"],
+  ["ann*3", "three turns"],
+  ["..", "all go on in turn, to the end"],
+  ["?7", "a random order, the seventh"],
+  ["xann", "the time of ann\u2019s wait runs out"]
+];
+// each instruction of a program once, and what it is in Java
+function wordsOf(program) {
+  const rows = program.rows.filter((row, n, all) => all.findIndex(other => other.word === row.word) === n);
+  return rows.map(row => [h("code", {}, rowText(program, row)), javaText(program, row)]);
+}
+
 function part(title, list) {
   const one = ([sign, text]) => [h("dt", {}, sign), h("dd", {}, text)];
   return [h("h2", {}, title), h("dl.help-list", {}, list.map(one))];
 }
 const keySigns = () => KEY_TEXTS.map(([sign, text]) => [h("kbd", {}, sign), text]);
 
-export const helpSheet = close => [
-  h("div.sheet-column", {}, part("Timeline", timelineSigns()), part("Colours", coloursSigns())),
+export const helpSheet = (program, close) => [
+  h("div.sheet-column", {}, part("Timeline", timelineSigns()), part("Colours", coloursSigns()), part("Plan", planSigns())),
   h("div.sheet-column", {}, part("Picture", pictureSigns()), part("Program", programSigns())),
   h(
     "div.sheet-column.help-last",
     {},
+    part("Words of this program", wordsOf(program)),
     h("div.sheet-keys", {}, part("Keys", keySigns())),
     button("Close", close, { kind: ".main" })
   )

@@ -26,7 +26,7 @@ export const LESSONS = {
       {
         at: 1,
         ask: "Choose a plan in which Cem arrives, and no thread waits at the end. Is the program right, then?",
-        answer: "Let Bob go at 1: all threads end. At 0 with Cem first, Bob is stuck again. It only works by luck.",
+        answer: "Let Bob go at 1: all threads end. At 0 with Cem first, and then Ann, Bob is stuck again. It only works by luck.",
         fork: [1, "t1"],
         votes: true
       },

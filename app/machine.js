@@ -15,4 +15,6 @@ export const listProgram = program => machine.list(program);
 export const playRun = (program, schedule) => machine.run(program, schedule).text;
 export const planSchedule = (program, plan) => machine.plan(program, plan).text.trim();
 export const openSession = program => machine.session(program);
+// where a program is refused, or { plan } on it, and what helps
+export const mistakeIn = (program, input) => machine.mistake(program, input);
 export const versionOf = () => machine.version.split("\n")[0];

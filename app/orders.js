@@ -45,7 +45,7 @@ export function ordersOf(program, orders, working, act) {
   }
   const most = Math.max(...orders.all.map(one => one.count));
   const said = orders.all.length === 1
-    ? "one outcome."
+    ? "one outcome. Others may be rare."
     : orders.all.length + " outcomes. Click one to see such a run.";
   const rest = orders.all.length - SHOWN;
   return [

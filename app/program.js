@@ -178,8 +178,10 @@ export function makeProgram(changed, planned) {
   }
   function toldOf(mistake) {
     const where = mistake.isProgram && mistake.line !== null ? "Line " + mistake.line + ": " : "";
-    const mend = h("button.code-mend", { type: "button", onclick: () => mended(mistake) }, mistake.near);
-    const helps = mistake.near ? [" Did you mean ", mend, "?"] : mistake.helps ? " " + mistake.helps + "." : "";
+    const mend = mistake.isProgram
+      ? h("button.code-mend", { type: "button", onclick: () => mended(mistake) }, mistake.near)
+      : h("b", {}, mistake.near);
+    const helps = mistake.near ? [" Did you mean ", mend, " ?"] : mistake.helps ? " " + mistake.helps + "." : "";
     return [h("b", {}, where, mistake.means + "."), helps];
   }
   // puts in the word that was probably meant

@@ -94,8 +94,8 @@ export function challengeCard(challenge, act) {
   const { goal, tried, changes, isDone } = challenge;
   if (!goal) return plainCard(
     "Challenge",
-    "There is none here.",
-    "No order that ends otherwise was found in " + tried + " tries. Change a row, or take another program.",
+    "None was found.",
+    "No order that ends otherwise came in " + tried + " tries. A rare one may exist. Change a row, or take another program.",
     button("From the start", act.again)
   );
   const count = changes === 1 ? "one change" : changes + " changes";

@@ -62,7 +62,8 @@ function throwReason(program, event, row, before) {
     event.value === 3 && thread.isInterrupted
   ) return "Somebody had interrupted it: its interrupted status was set.";
   if (b >= 0 && event.value === 4) {
-    return "The barrier " + nameOf(program, "B", b) + " broke while it waited, or was broken before it came.";
+    const when = thread.status === "waits" ? " broke while it waited." : " was broken before it came.";
+    return "The barrier " + nameOf(program, "B", b) + when;
   }
   if (p >= 0 && event.value === 1 && /^(parr|pdereg|paaa)$/.test(row.word) && before.state.phasers[p].missing === 0) {
     const name = nameOf(program, "P", p);
@@ -112,7 +113,8 @@ export function lastNumberOf(tree, run, i, t) {
     const reason = reasonOf(tree, run.id, k);
     const call = callOf(tree.program, row, null);
     const got = event.what === "=" ? " returned " : " threw ";
-    return reason ? ["In choice " + k + " " + call + got, strong(event.value), ". " + reason] : null;
+    const then = reason.replace(" now", " at that moment");
+    return reason ? ["In choice " + k + " " + call + got, strong(event.value), ". " + then] : null;
   }
   return null;
 }

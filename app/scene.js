@@ -26,6 +26,8 @@ export function makeScene(act) {
   let last = null;
   let places = new Map();
   let isStep = false;
+  // the thread or phaser whose answer came into view
+  let answered = null;
   new ResizeObserver(() => drawEdges(space, edges)).observe(space);
 
   // what: { tree, run, at, moment, selected }
@@ -85,6 +87,10 @@ export function makeScene(act) {
       h("li.why.why-hint", {}, "Nobody waits. Click a thread or a phaser: its line stands here.")
     );
     renew(whys, lines);
+    if (selected !== answered) {
+      answered = selected;
+      whys.querySelector(".is-selected")?.scrollIntoView({ block: "nearest" });
+    }
     for (const t of chosen ? chosen.could : []) {
       space.querySelector('[data-fly="t' + t + '"]')?.classList.add("is-able");
     }

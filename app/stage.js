@@ -39,7 +39,7 @@ function saidOf(state) {
   };
   // that nobody may go is an answer
   const word = isVeiled(state) ? "" : moment.state.word;
-  const kind = { stuck: "stuck", all: "ended" }[word] || "";
+  const kind = word === "all" ? endKind(moment.state) : word === "stuck" ? word : "";
   const end = { stuck: " Stuck: no thread can ever go on.", all: " All threads are over." }[word] || "";
   const isRefused = run.refused && at === lengthOf(run);
   const verdict = isRefused ? " " + refusedText(run.refused, at + 1) : end;

@@ -100,7 +100,7 @@ export function edited(state, text, plan, played) {
     }
   } catch (fault) {
     if (!(fault instanceof Refused)) throw fault;
-    return { ...state, text, plan, mistake: mistakeOf(fault, text) };
+    return { ...state, text, plan, mistake: mistakeOf(fault, text, plan) };
   }
   const { tree, run, at } = walkTo(next.tree, place);
   next = { ...next, tree, id: run.id, at };

@@ -125,9 +125,8 @@ function releaseText(program, moment, helpers, isStuck) {
   ];
   if (!helpers.length) return [strong("Nobody is left who could"), ": it waits for ever."];
   if (!isStuck) {
-    const more = helpers.length > 4 ? " or others" : "";
-    const names = spread(helpers.slice(0, 4).map(call), more ? "," : "or").flat();
-    return [...names, more + " could release it."];
+    const others = helpers.length > 4 ? [["others"]] : [];
+    return ["What could release it is still ahead of ", ...spread([...helpers.slice(0, 4).map(call), ...others]).flat(), "."];
   }
   const names = spread(helpers.slice(0, 4).map(([n]) => ({ thread: n })));
   const wait = helpers.length > 1

@@ -237,7 +237,7 @@ await look("the lost meeting, sentence by sentence", () => {
   assert.equal(
     why(1, 0),
     "ann waits at meet for the end of phase 0: one arrival is missing. " +
-      "bob (meet.arriveAndAwaitAdvance()) or cem (meet.arrive()) could release it."
+      "What could release it is still ahead of bob (meet.arriveAndAwaitAdvance()) and cem (meet.arrive())."
   );
   const stuck = "bob waits at meet for the end of phase 1: one arrival is missing. Nobody is left who could";
   assert.ok(why(8, 1).startsWith(stuck), why(8, 1));
@@ -507,7 +507,7 @@ await look("what is refused keeps the run before, with help", () => {
   const text = state.text.replace("paaa r0 meet", "paaa r0, meet");
   const next = change.edited(state, text, state.plan);
   assert.equal(next.tree, state.tree);
-  assert.match(next.mistake.means, /commas/);
+  assert.match(next.mistake.helps, /commas/);
   const line = text.split("\n")[next.mistake.line - 1];
   assert.equal(line.slice(...next.mistake.word), "r0,");
   assert.equal(change.edited(next, state.text, state.plan).mistake, null);
@@ -546,16 +546,17 @@ const MISTAKES = [
   ["register r0 p", "register", "preg"],
   ["paaa r9 p", "r9", ""],
   ["paaa r0 nobody", "nobody", ""],
+  ["paaa r0 met", "met", "meet"],
   ["ldi r0 x", "x", ""]
 ];
 for (const [row, word, near] of MISTAKES) {
   await look(`the word of ${row}`, () => {
-    const text = ".phaser p 1\n.thread a m\nm: halt\n" + row + "\n";
+    const text = ".phaser p 1\n.phaser meet 1\n.thread a m\nm: halt\n" + row + "\n";
     try {
       openProgram(text);
     } catch (fault) {
       assert.ok(fault instanceof Refused);
-      const mistake = mistakeOf(fault, text);
+      const mistake = mistakeOf(fault, text, "..");
       assert.equal(text.split("\n")[mistake.line - 1].slice(...mistake.word), word);
       assert.equal(mistake.near, near);
       return;
