@@ -13,6 +13,7 @@ use fault_reports::report::Report;
 use std::alloc::AllocError;
 use std::env::{Env, FillError};
 use std::fs;
+use suggestions::file_name::is_of_program;
 use suggestions::java::found_in;
 use thiserror::Error;
 use workbench::fault::Fault;
@@ -163,18 +164,13 @@ fn push_without_blank_lines(rt: &HostRuntime, text: &str, is_known: bool) {
     }
 }
 
-/// Whether there is a file of this name.
-fn is_file(rt: &HostRuntime, path: &str) -> bool {
-    fs::metadata(rt, path).is_ok_and(|metadata| metadata.is_file())
-}
-
-/// Whether a plan or a STATE has no quotes: an option for one has two words behind it, the second of which is no file, or a word ends
-/// with a dot that isn't behind an option.
-fn lack_quotes(rt: &HostRuntime, words: &[String]) -> bool {
+/// Whether a plan or a STATE has no quotes: an option for one has two words behind it, the second of which isn't the name of a program,
+/// or a word ends with a dot that isn't behind an option.
+fn lack_quotes(words: &[String]) -> bool {
     let mut before = 0;
     for word in words {
         let word = word.as_str();
-        let is_second = before == 2 && !word.starts_with("-") && !is_file(rt, word);
+        let is_second = before == 2 && !word.starts_with("-") && !is_of_program(word);
         if is_second || before == 0 && word.ends_with(".") {
             return true;
         }
@@ -213,7 +209,7 @@ fn help_with(
         }
         ErrorKind::InvalidSubcommand => found_in(&NO_COMMANDS, wrong.as_bytes()),
         ErrorKind::UnknownArgument if have_other_dash(words) => Some(HYPHENS),
-        _ if lack_quotes(rt, words) => Some(QUOTES),
+        _ if lack_quotes(words) => Some(QUOTES),
         ErrorKind::UnknownArgument => found_in(&OPTIONS, wrong.as_bytes()),
         _ => None,
     };

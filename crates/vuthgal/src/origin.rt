@@ -2,4 +2,4 @@
 
 /// The version, and the sum of the sources but for this file.
 pub const VERSION: &str =
-    "2.0.0\nsources 65fd8a56f9170b2a4e19ace8a0dd8862c46f49cf6c677c94855d510f9d8aaf97";
+    "2.0.0\nsources 03ac4dd0deae3898917941e831835241112bd726b62408eca9307ba101b4189e";
