@@ -26,12 +26,15 @@ final class BurstCore {
     private final Set<BurstEntry> answers = new HashSet<>();
     private final Set<BurstEntry> calls = new HashSet<>();
     private final List<BurstEntry> entries;
+    private final BurstEntry first;
     private boolean whole;
+    private BurstEntry early;
 
-    /** {@code until}: the end of the first answer that no order explains, where that is known; what ends later plays no part. */
-    private BurstCore(BurstHistory history, long until, long limit) {
+    /** {@code first}: the first answer that no order explains, or null where that isn't known; what ends later plays no part. */
+    private BurstCore(BurstHistory history, BurstEntry first, long limit) {
         this.history = history;
-        this.until = until;
+        this.first = first;
+        until = first == null ? LegalHistory.ALL : first.end();
         this.limit = limit;
         waiting = history.hasOpen();
         entries = history.entries();
@@ -42,17 +45,18 @@ final class BurstCore {
     /** The core of a burst that fails, the smaller of two; null where some order explains it, or where the search took too long. */
     static BurstCore of(BurstHistory history) {
         BurstEntry first = history.hasOpen() ? null : LegalHistory.firstUnexplained(history);
-        long until = first == null ? LegalHistory.ALL : first.end();
         long now = System.nanoTime();
         long longest = (long) (LONGEST * Load.factor());
-        BurstCore core = new BurstCore(history, until, now + longest);
+        BurstCore core = new BurstCore(history, first, now + longest);
         if (first == null && !core.isImpossible()) {
             return null;
         }
         core.reduce(true);
-        BurstCore other = new BurstCore(history, until, now + 2 * longest);
+        BurstCore other = new BurstCore(history, first, now + 2 * longest);
         other.reduce(false);
-        return other.whole && other.size() < core.size() ? other : core;
+        BurstCore smaller = other.whole && other.size() < core.size() ? other : core;
+        smaller.early = smaller.findEarly();
+        return smaller;
     }
 
     private int size() {
@@ -122,9 +126,28 @@ final class BurstCore {
         return entries.stream().filter(entry -> !answers.contains(entry) && !calls.contains(entry)).toList();
     }
 
+    private BurstEntry findEarly() {
+        List<BurstEntry> judged = judged();
+        if (first == null || first.step().interrupts()) {
+            return null;
+        }
+        if (judged.isEmpty()) {
+            return first;
+        }
+        LegalHistory.Freedom any =
+            new LegalHistory.Freedom(Set.of(first), Set.of(), false, System.nanoTime() + longestSearch);
+        boolean alone = judged.equals(List.of(first));
+        return alone && LegalHistory.outcome(history, until, any) == LegalHistory.Outcome.NO_ORDER ? first : null;
+    }
+
+    /** The call that returned too early: no answer of it would do; null where some would, or where that isn't known. */
+    BurstEntry early() {
+        return early;
+    }
+
     /** What has to be made for that, whatever it answers. */
     List<BurstEntry> needed() {
-        return entries.stream().filter(answers::contains).toList();
+        return entries.stream().filter(entry -> answers.contains(entry) && entry != early).toList();
     }
 
     /** How many calls play no part. */

@@ -66,7 +66,7 @@ final class BurstKit {
         checkSays(arrival, "  no order explains these alone, whatever the other 2 did:\n    thread 0: arrive 0 = 0\n"
             + "  with these made, whatever they answer:\n    thread 0: arrive 0\n    thread 1: arrive 0\n"
             + "  with one other answer there is an order: thread 0: arrive 0 = 1\n");
-        String two = report(new Told(0, arrive, 1, 2, Answer.value(1)), new Told(1, look, 1, 2, Answer.value(7)));
+        String two = report(new Told(0, arrive, 1, 2, Answer.value(1)), new Told(1, look, 1, 3, Answer.value(7)));
         checkSays(two, "  one other answer isn't enough\n");
         Request await = new Request(Method.AWAIT_ADVANCE, 0, 0, 0);
         String lost = report(new Told(0, arrive, 1, 2, Answer.value(0)), new Told(1, arrive, 1, 2, Answer.value(0)),
@@ -90,9 +90,23 @@ final class BurstKit {
         checkSays(Excerpt.lines("a\n".repeat(60), "; kept") + "end", "a\n".repeat(60) + "end");
         String right = report(new Told(0, arrive, 1, 2, Answer.value(0)), new Told(2, await, 1, Long.MAX_VALUE, null));
         part.take("a wait that has to be", !right.contains("no order explains these"), right);
+        checkEarly(arrive);
         checkLongOne(arrive);
         checkNamed(arrive, look);
         checkResets();
+    }
+
+    /** A wait that returns before it may: no answer would do, so that there is none to list. */
+    private void checkEarly(Request arrive) {
+        String early = "  too early: whatever it answers, this mustn't have returned yet: thread 2: awaitAdvance 0 ";
+        String alone = report(new Told(2, new Request(Method.AWAIT_ADVANCE, 0, 0, 0), 1, 2, Answer.value(0)));
+        checkSays(alone, "thread 2: awaitAdvance 0 0 = 0\n  no order explains thread 2: awaitAdvance 0 0 = 0\n" + early + "0\n");
+        for (int answer = 0; answer < 2; answer++) {
+            String behind = report(new Told(0, arrive, 1, 2, Answer.value(0)), new Told(1, arrive, 1, 2, Answer.value(0)),
+                new Told(2, new Request(Method.AWAIT_ADVANCE, 0, 1, 0), 3, 4, Answer.value(answer)));
+            checkSays(behind, early + "1\n");
+            part.take("too early", !behind.contains("one other answer") && !behind.contains("alone"), behind);
+        }
     }
 
     /** The one whose answer would have to be another is named at once; where several would do, each is told. */

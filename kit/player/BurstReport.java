@@ -80,15 +80,19 @@ final class BurstReport {
     }
 
     private void core(BurstCore core, List<BurstRemedy> remedies) {
-        String alone = core.isWhole() ? "alone" : "alone, or fewer of them";
-        line("  no order explains these " + alone
-            + (core.others() == 0 ? ":" : ", whatever the other " + core.others() + " did:"));
-        core.judged().forEach(entry -> line("    " + entry.words()));
+        if (core.early() != null) {
+            line("  too early: whatever it answers, this mustn't have returned yet: " + call(core.early()));
+        } else {
+            String alone = core.isWhole() ? "alone" : "alone, or fewer of them";
+            line("  no order explains these " + alone
+                + (core.others() == 0 ? ":" : ", whatever the other " + core.others() + " did:"));
+            core.judged().forEach(entry -> line("    " + entry.words()));
+        }
         if (!core.needed().isEmpty()) {
             line("  with these made, whatever they answer:");
             core.needed().forEach(entry -> line("    " + call(entry)));
         }
-        if (remedies != null && remedies.isEmpty()) {
+        if (remedies != null && remedies.isEmpty() && core.early() == null) {
             line("  one other answer isn't enough");
         }
         for (BurstRemedy remedy : remedies == null ? List.<BurstRemedy>of() : remedies) {
@@ -174,7 +178,6 @@ final class BurstReport {
         if (first == null) {
             return;
         }
-        line("  what ended before " + at(first.end()) + " is explained by this order:");
         List<BurstEntry> order = new ArrayList<>(LegalHistory.orderBefore(history, first));
         Collections.reverse(order);
         List<BurstEntry> told = new ArrayList<>();
@@ -187,6 +190,11 @@ final class BurstReport {
             }
             told.add(entry);
         }
+        if (lines.isEmpty()) {
+            line("  no order explains " + first.words());
+            return;
+        }
+        line("  what ended before " + at(first.end()) + " is explained by this order:");
         folded(lines);
         line("  no order explains, with these, " + first.words());
     }

@@ -332,7 +332,8 @@ final class Caller {
             thread.interrupted = false;
         } else if (method.waitsAtBarrier() && atOnce && value == 0) {
             scene.tripped(pending.object());
-        } else if (method.waitsForPhase() && pending.released() && value == pending.viewAtRelease()) {
+        } else if (method.waitsForPhase() && pending.released() && value == pending.viewAtRelease()
+            && value != pending.awaited()) {
             told = scene.look(Method.GET_PHASE, scene.root(pending.object()));
             if (told != value) {
                 scene.note(Notes.Kind.TOLD_AGAIN, method.word + " answered " + value + " when it was released");

@@ -227,11 +227,11 @@ final class CommandChecks {
                 kit.resolve("differences").toString()),
             new Check(0, "the port takes no lists, so its calls came one by one", "--burst", "3", "--port", port + "without lists"),
             new Check(0, "the port takes no lists, so its calls came one by one", "--burst", "3", "--port", port + "old lists"),
-            new Check(0, "112 bursts of 56 kinds, ", "--burst", "112", "--jobs", "2", "--port", port + "nothing ''"),
-            new Check(0, "21 kinds left out: it makes no barrier\n56 bursts of 35 kinds, ",
-                "--burst", "56", "--port", port + "without barrier"),
-            new Check(0, "2 kinds left out: it makes no inside\n56 bursts of 54 kinds, ",
-                "--burst", "56", "--port", port + "without inside"),
+            new Check(0, "116 bursts of 58 kinds, ", "--burst", "116", "--jobs", "2", "--port", port + "nothing ''"),
+            new Check(0, "21 kinds left out: it makes no barrier\n58 bursts of 37 kinds, ",
+                "--burst", "58", "--port", port + "without barrier"),
+            new Check(0, "2 kinds left out: it makes no inside\n58 bursts of 56 kinds, ",
+                "--burst", "58", "--port", port + "without inside"),
             new Check(1, "that is a call inside an onAdvance or an action, and comes behind `enter`\n", "--burst", "40",
                 "--kind", "calls-inside-an-action", "--port", port + "'0 enter' 'say '"),
             new Check(2, "nothing was compared\n", "--burst", "50", "--port", port + "without case"),
@@ -244,6 +244,10 @@ final class CommandChecks {
             spins("spins.py interrupted", wrong, "waiting/interrupted-before.txt"),
             spins("spins.py held", wrong, "registration/held-while-onadvance-runs.txt"),
             spins("spins.py action", wrong, "action/others-come-while-it-runs.txt"),
+            new Check(1, "who-has-arrived-goes-on-waiting.txt differs ", "--port", wrong + "wakes_others.py meetings",
+                folder("interruption")),
+            new Check(1, "an-interrupt-wakes-no-other-waiter.txt differs ", "--port", wrong + "wakes_others.py action",
+                folder("action")),
             new Check(1, "with POINTS=7\nagain: --burst 20000 --seed 1 --round 0 --points 7..7\n",
                 "--burst", "1", "--points", "7..9", "--port", port + "'0 did' 'exit 3'"),
             new Check(1, "burst 1 0 meetings\n  the port's race detector warns:\n    WARNING: DATA RACE, as kit/faults/port.py"
@@ -267,9 +271,24 @@ final class CommandChecks {
         checkScript(new Check(0, "1 bursts of 1 kind, ", "--burst", "1", "--port", "[ -z \"${POINTS+set}\" ] && " + right(python)),
             "env", PointSeeds.VARIABLE + "=5");
         checkScript(new Check(1, "--keep FOLDER writes it\n", "--random", "1", "--port", port + "'64 = ' 'say 64 = x\\n'"));
+        checkEarly(wrong + "wakes_others.py ");
         checkNothingIsWritten();
         checkKept(port);
         checkLists(port);
+    }
+
+    /** Who comes out too early is seen though its next turn comes behind the end, where its answer is the right one. */
+    private void checkEarly(String wakesOthers) throws IOException {
+        Path early = Files.createTempDirectory("vuthgal-early");
+        Path meeting = early.resolve("meeting.txt");
+        write(meeting, ".phaser root 2\n.thread one meets\n.thread two hurries\n.thread driver main\nmeets: paaa r1 root\nhalt\n"
+            + "hurries: pawaiti r1 root r0\nhalt\nmain: intr two\nparr r0 root\nhalt\n.run\nt0 t1 t2 t1*2 t2*2 t0*2\n");
+        check(new Check(1, " odd: arriveAndAwaitAdvance 0 of t0 ends too early\n", "--port", wakesOthers + "meetings", meeting.toString()));
+        Path action = early.resolve("action.txt");
+        write(action, ".phaser root 1\n.barrier gate 3 action act\n.thread one comes\n.thread two comes\n.thread last comes\n"
+            + ".thread driver main\ncomes: cawait r0 gate\nhalt\nact: ret\nmain: intr one\nparr r0 root\nhalt\n.run\n"
+            + "t0 t1 t2 t3*3 t2*2 t0*2 t1*2\n");
+        check(new Check(1, " odd: await 0 of t0 ends too early\n", "--port", wakesOthers + "action", action.toString()));
     }
 
     /** How soon the player says what hangs, and what a signal leaves. */

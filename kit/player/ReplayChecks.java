@@ -51,7 +51,7 @@ final class ReplayChecks {
         ports.forEach(port -> checks.add(() -> checkAll(port.command(), everything)));
         String java = Path.of(System.getProperty("java.home"), "bin", "java") + " --add-opens"
             + " java.base/java.util.concurrent=ALL-UNNAMED -cp " + System.getProperty("java.class.path") + " kit.player.JdkPort";
-        for (String folder : List.of("children", "constructors", "phase-numbers")) {
+        for (String folder : List.of("children", "constructors", "times", "phase-numbers")) {
             Check right = right(java, folder);
             checks.add(() -> check(right));
         }
@@ -99,11 +99,13 @@ final class ReplayChecks {
             constructs("too-many", "a-phaser-of-too-many-parties"),
             constructs("no-room", "a-child-without-room-in-its-parent"),
             constructs("barrier", "a-barrier-of-0-parties"),
+            new Check(1, "times/the-longest-of-a-phase differs, at line ", wrong + "overflows.py", "times"),
+            new Check(1, "times/the-longest-at-a-barrier differs, at line ", wrong + "overflows.py", "times"),
             new Check(1, "0 same, ", wrong + "flushes_nothing.py threads", "phase-numbers"),
             new Check(1, "`< 0 = 0`: ['0 = 7'] came", faults + "'0 = 0' 'say 0 = 7\\n'", "phase-numbers"),
             new Check(1, "waiting/for-the-present-phase differs, at line ", faults + "'1 = 0' 'also 0 = 1\\n'", "waiting"),
             new Check(0, " left out: no it makes no barrier\n", faults + "without barrier", "tiers action"),
-            new Check(2, "0 same, 0 different, 370 left out\n", faults + "without case", ""),
+            new Check(2, "0 same, 0 different, 374 left out\n", faults + "without case", ""),
             new Check(2, "kit/replay [--patience FACTOR] COMMAND [FILE..]", "--none", ""));
     }
 

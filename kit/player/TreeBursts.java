@@ -22,7 +22,11 @@ final class TreeBursts {
         new BurstKind("looks-at-a-tree", TreeBursts::looks,
             "Looks at the counts of children while their parties meet: whoever looks first in a phase may renew them."),
         new BurstKind("a-tree-of-three-levels", TreeBursts::threeLevels,
-            "Phases end by arrivals at the lowest of three levels, and nobody looks at the middle."));
+            "Phases end by arrivals at the lowest of three levels, and nobody looks at the middle."),
+        new BurstKind("phase-of-a-child", TreeBursts::phaseOfAChild,
+            "All meet at children, and each looks at its child's phase behind each meeting."),
+        new BurstKind("tree-departures-and-force", TreeBursts::departuresAndForce,
+            "The last departure from a child ends a phase while a forced termination comes, which is never undone."));
 
     private static final int MANY_LOOKS = 20;
 
@@ -137,6 +141,28 @@ final class TreeBursts {
             steps.add(BurstMaker.call(Method.AWAIT_ADVANCE, phaser, phase));
         }
         return steps;
+    }
+
+    private static void phaseOfAChild(BurstMaker make) {
+        int often = make.between(2, 4);
+        for (int leaf : tree(make, make.between(2, 3), 1)) {
+            List<BurstStep> steps = new ArrayList<>();
+            for (int time = 0; time < often; time++) {
+                steps.add(meet(leaf));
+                steps.add(BurstMaker.call(Method.GET_PHASE, leaf));
+            }
+            make.thread(steps);
+        }
+        make.claims(BurstClaim.MEETS);
+    }
+
+    private static void departuresAndForce(BurstMaker make) {
+        int root = make.root(1, make.of(50) ? Policy.DEFAULT : BurstMaker.NEVER);
+        int child = make.phaser(root, 1, Policy.DEFAULT);
+        make.thread(BurstMaker.call(Method.ARRIVE, root));
+        make.thread(BurstMaker.call(Method.ARRIVE_AND_DEREGISTER, child));
+        make.thread(BurstMaker.call(Method.FORCE_TERMINATION, child).after(make.time(0, 20)),
+            BurstMaker.call(make.of(50) ? Method.GET_PHASE : Method.IS_TERMINATED, child));
     }
 
     private static void force(BurstMaker make) {

@@ -148,6 +148,9 @@ final class Waiter {
             }
         }
         if (waits) {
+            if (pending.call().answer().kind() == Answer.Kind.VALUE && !mustComeOut(pending, true)) {
+                scene.odd(pending.words(thread) + " ends too early");
+            }
             comesOut(thread);
         }
     }

@@ -71,7 +71,7 @@ class Gate {
     missing_ -= 1;
     while (missing_ > 0) {
       if (now() > until) {
-        std::this_thread::yield();
+        std::this_thread::sleep_for(std::chrono::microseconds(20));
       }
     }
   }

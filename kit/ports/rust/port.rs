@@ -80,7 +80,7 @@ impl Gate {
         self.0.fetch_sub(1, SeqCst);
         while self.0.load(SeqCst) > 0 {
             if Instant::now() > until {
-                thread::yield_now();
+                thread::sleep(Duration::from_micros(20));
             }
         }
     }

@@ -72,6 +72,10 @@ class LockedPhaser implements PhaserUnderTest {
         }
     }
 
+    final void forgetTermination() {
+        terminated = false;
+    }
+
     final int unarrived() {
         return unarrived;
     }

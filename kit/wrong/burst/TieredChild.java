@@ -42,7 +42,7 @@ class TieredChild implements PhaserUnderTest {
     }
 
     private void follow() {
-        renew(parent.getPhase());
+        renew(getRoot().getPhase());
     }
 
     /** The present phase is this one; the lock is held. */
