@@ -9,7 +9,9 @@ const sentence = text => plainly(text).replace(/^[a-z](?=[a-z]* )/, sign => sign
 // means, helps }
 export function mistakeOf(fault, text, plan) {
   const isProgram = fault.group !== "plan" && fault.group !== "schedule";
-  const { line, column, length, hint } = mistakeIn(text, isProgram ? {} : { plan });
+  // of a page it may be the schedule of its run, which isn't written here
+  const none = { line: null, column: null, length: 0, hint: "help: " + fault.help };
+  const { line, column, length, hint } = mistakeIn(text, isProgram ? {} : { plan }) || none;
   const helps = hint.replace(/^\w+: /, "");
   // help with a word that isn't known begins with the instruction that does this
   const form = fault.group === "asm" && fault.kind === 3 ? /^(\w+) [A-Z]/.exec(helps) : null;

@@ -2,4 +2,4 @@
 
 /// The version, and the sum of the sources but for this file.
 pub const VERSION: &str =
-    "2.0.0\nsources 03ac4dd0deae3898917941e831835241112bd726b62408eca9307ba101b4189e";
+    "2.0.0\nsources 54342211c0b3281a70a3ba2a074fb02f4c0b4c943aa81c92f46536169a5ee276";
