@@ -1,24 +1,18 @@
 -- The lines of phasers, barriers and threads as words, and what they say.
 use Rattle.std.proofs.Common.{inl, inr, ℕ, zero, suc, ◌<◌, ◌≤◌, ℤ, pos, negsuc, List, [], ◌∷◌, ◌++◌, length, length-append, Option, Some, None, IfSome, option_map, refl, arith, codes, decimal, rules}
-use Rattle.std.specs.Fmt.{signed_decimal}
 use Rattle.std.proofs.lemmas.Int.{ints}
-use Rattle.row_code.specs.declared.barriers.DeclaredBarrier.{DeclaredBarrier}
-use Rattle.row_code.specs.declared.phasers.DeclaredPhaser.{DeclaredPhaser}
-use Rattle.row_code.specs.declared.phasers.DeclaredPolicy.{DeclaredPolicy}
+use Rattle.std.specs.Fmt.{signed_decimal}
+use Rattle.row_code.specs.declared.{barriers.DeclaredBarrier.DeclaredBarrier, phasers.DeclaredPhaser.DeclaredPhaser}
+use Rattle.row_code.specs.declared.{phasers.DeclaredPolicy.DeclaredPolicy, threads.DeclaredThread.DeclaredThread}
+use Rattle.row_code.specs.{Barriers.IsBarrier, Phasers.IsCount, Phasers.IsPolicy, Phasers.IsPhaser, Threads.IsThread}
 use Rattle.row_code.specs.declared.phasers.DeclaredPolicy.TheVariants as declared
-use Rattle.row_code.specs.declared.threads.DeclaredThread.{DeclaredThread}
-use Rattle.row_code.specs.Barriers.{IsBarrier}
-use Rattle.row_code.specs.Phasers.{IsCount, IsPolicy, IsPhaser}
-use Rattle.row_code.specs.Threads.{IsThread}
-use Rattle.line_reader.specs.declared.reference.Reference.{Reference}
-use Rattle.line_reader.specs.declared.reference.Reference.TheVariants.{Numbered}
-use Rattle.line_reader.specs.declared.symbolic_phaser.SymbolicPolicy.{SymbolicPolicy}
-use Rattle.line_reader.specs.declared.symbolic_phaser.SymbolicPolicy.TheVariants as policy
-use Rattle.line_reader.specs.declared.statement.Statement.{Statement}
-use Rattle.line_reader.specs.declared.statement.Statement.TheVariants as statement
+use Rattle.line_reader.specs.declared.reference.Reference.{Reference, TheVariants.Numbered}
+use Rattle.line_reader.specs.declared.{symbolic_phaser.SymbolicPolicy.SymbolicPolicy, statement.Statement.Statement}
 use Rattle.line_reader.specs.Symbols.{Name}
 use Rattle.line_reader.specs.Spelling.{greatest_int, greatest_number, SpellsNumber, SpellsReference, SpellReference, SpellFirstPhase, SpellPolicy, Says}
 use Rattle.line_reader.specs.Listing.{joined, number_word, parent_words, phase_words, policy_words, action_words, phaser_words, barrier_words, thread_words}
+use Rattle.line_reader.specs.declared.symbolic_phaser.SymbolicPolicy.TheVariants as policy
+use Rattle.line_reader.specs.declared.statement.Statement.TheVariants as statement
 use Rattle.assembler.proofs.JoinedWords.{IsWord, AreWords, AreWords-append, words_of-line, is_line}
 use Rattle.assembler.proofs.Decimals.{decimal_digits, digits_word, marked_word, marked_name, decimal_spells, int_word}
 

@@ -1,28 +1,17 @@
 -- The canonical text of an image stands for it.
 use Rattle.std.proofs.Common.{◌≡◌, ℕ, true, List, [], ◌∷◌, ◌++◌, Option, option_map, refl, ap, ◌∙◌, arith, append-nil, rules}
-use Rattle.std.specs.List.{flat_map, list_all}
-use Rattle.std.proofs.lemmas.Bool.{and_from}
-use Rattle.std.proofs.lemmas.Grind.{flat_map-append}
-use Rattle.std.proofs.lemmas.List.Elements.{recursion_from_All}
+use Rattle.std.proofs.lemmas.{Bool.and_from, Grind.flat_map-append, List.Elements.recursion_from_All}
 use Rattle.std.proofs.lemmas.List.Folds.{list_all-append}
-use Rattle.instruction_table.specs.declared.row.Row.{Row}
-use Rattle.instruction_table.specs.declared.shape.OperandKind.{OperandKind}
+use Rattle.std.specs.List.{flat_map, list_all}
+use Rattle.instruction_table.specs.declared.{row.Row.Row, shape.OperandKind.OperandKind}
 use Rattle.instruction_table.specs.declared.shape.OperandKind.TheVariants as kind
-use Rattle.row_code.specs.declared.barriers.DeclaredBarrier.{DeclaredBarrier}
-use Rattle.row_code.specs.declared.image.Image.{Image}
-use Rattle.row_code.specs.declared.phasers.DeclaredPhaser.{DeclaredPhaser}
-use Rattle.row_code.specs.declared.phasers.DeclaredPolicy.{DeclaredPolicy}
-use Rattle.row_code.specs.Barriers.{IsBarrier}
-use Rattle.row_code.specs.Image.{IsImage}
-use Rattle.row_code.specs.Phasers.{IsPhaser}
-use Rattle.row_code.specs.RowFields.{IsRow}
-use Rattle.row_code.specs.Threads.{IsThread}
-use Rattle.line_reader.specs.declared.statement.Line.{Line}
-use Rattle.line_reader.specs.declared.statement.Statement.{Statement}
-use Rattle.line_reader.specs.Words.{lines_of}
+use Rattle.row_code.specs.{declared.barriers.DeclaredBarrier.DeclaredBarrier, declared.image.Image.Image, Barriers.IsBarrier}
+use Rattle.row_code.specs.declared.phasers.{DeclaredPhaser.DeclaredPhaser, DeclaredPolicy.DeclaredPolicy}
+use Rattle.row_code.specs.{Image.IsImage, Phasers.IsPhaser, RowFields.IsRow, Threads.IsThread}
+use Rattle.line_reader.specs.{declared.statement.Line.Line, declared.statement.Statement.Statement, Words.lines_of}
 use Rattle.line_reader.specs.Symbols.{Name}
-use Rattle.assembler.specs.Statements.{adds, EachFollows}
 use Rattle.line_reader.specs.Listing.{numbered, phaser_words, barrier_words, thread_words, row_words, lines_listed, canonical}
+use Rattle.assembler.specs.Statements.{adds, EachFollows}
 use Rattle.assembler.specs.Meaning.{is_known_or_none, is_policy_known, are_known, phasers_in, barriers_in, threads_in, rows_in, image_of, SayInOrder, StandsFor}
 use Rattle.assembler.proofs.CanonicalDirectives.{number_said, policy_said, phaser_said, barrier_said, thread_said, phaser_says, barrier_says, thread_says}
 use Rattle.assembler.proofs.CanonicalRows.{row_said, row_known, row_back, row_says}

@@ -1,18 +1,12 @@
 -- Each line of a canonical text may stand behind the lines before it.
 use Rattle.std.proofs.Common.{◌≡◌, ℕ, ◌+◌, ◌<◌, ◌≤◌, false, not, ◌||◌, nat_lt, List, [], ◌∷◌, ◌++◌, length, bytes_eq, Some, refl, sym, ap, subst, ◌∙◌, arith, append_assoc, append-nil, lt-ltb, decimal}
-use Rattle.std.proofs.lemmas.Fmt.{decimal_injective}
-use Rattle.std.proofs.lemmas.List.Folds.{list_any-append}
-use Rattle.std.proofs.lemmas.Slice.Eq.{bytes_eq-Decides}
-use Rattle.instruction_table.specs.declared.row.Row.{Row}
-use Rattle.instruction_table.specs.declared.shape.OperandKind.{OperandKind}
+use Rattle.std.proofs.lemmas.{Fmt.decimal_injective, List.Folds.list_any-append, Slice.Eq.bytes_eq-Decides}
+use Rattle.instruction_table.specs.declared.{row.Row.Row, shape.OperandKind.OperandKind}
 use Rattle.instruction_table.specs.declared.shape.OperandKind.TheVariants as kind
-use Rattle.line_reader.specs.declared.statement.Line.{Line}
-use Rattle.line_reader.specs.declared.statement.Statement.{Statement}
-use Rattle.line_reader.specs.Symbols.{Name}
-use Rattle.assembler.specs.Statements.{name_in, is_named, gives, adds, count, is_given, is_code, has_code, has_room, is_new, Follows, EachFollows}
-use Rattle.assembler.proofs.CanonicalRows.{row_said}
+use Rattle.line_reader.specs.{declared.statement.Line.Line, declared.statement.Statement.Statement, Symbols.Name}
 use Rattle.line_reader.specs.Listing.{numbered}
-use Rattle.assembler.proofs.NumberedLines.{lines_from}
+use Rattle.assembler.specs.Statements.{name_in, is_named, gives, adds, count, is_given, is_code, has_code, has_room, is_new, Follows, EachFollows}
+use Rattle.assembler.proofs.{CanonicalRows.row_said, NumberedLines.lines_from}
 
 -- ---- lists of lines
 

@@ -1,30 +1,19 @@
 -- The lines of rows as words, and what they say.
 use Rattle.std.proofs.Common.{◌≡◌, ℕ, ◌<◌, ◌≤◌, ℤ, pos, negsuc, ◌≤ℤ◌, ◌<ℤ◌, FitsSigned, w32, Bool, true, ◌&&◌, nat_lt, List, [], ◌∷◌, length, Some, None, refl, ap, arith, rules, decimal, ltb-true}
-use Rattle.std.specs.Fmt.{signed_decimal}
-use Rattle.std.specs.List.{list_all}
-use Rattle.std.proofs.lemmas.Bool.{and_parts}
-use Rattle.std.proofs.lemmas.Fmt.{decimal_digit}
-use Rattle.std.proofs.lemmas.Int.{ints}
-use Rattle.instruction_table.specs.declared.register.Reg.{Reg}
-use Rattle.instruction_table.specs.declared.row.Row.{Row}
-use Rattle.instruction_table.specs.declared.row.Row.TheVariants.{Halt}
-use Rattle.instruction_table.specs.declared.shape.OperandKind.{OperandKind}
-use Rattle.instruction_table.specs.declared.shape.OperandKind.TheVariants as kind
-use Rattle.instruction_table.specs.Register.{number_of}
+use Rattle.std.proofs.lemmas.{Bool.and_parts, Fmt.decimal_digit, Int.ints}
+use Rattle.std.specs.{Fmt.signed_decimal, List.list_all}
+use Rattle.instruction_table.specs.declared.{register.Reg.Reg, row.Row.Row, row.Row.TheVariants.Halt}
+use Rattle.instruction_table.specs.{declared.shape.OperandKind.OperandKind, Register.number_of}
 use Rattle.instruction_table.specs.Table.{Entry, table, entry_named, entry_for}
-use Rattle.row_code.specs.RowFields.{fields_of, IsRow}
-use Rattle.row_code.specs.RowOperands.{register_at}
-use Rattle.line_reader.specs.declared.reference.Reference.TheVariants.{Numbered}
-use Rattle.line_reader.specs.declared.symbolic_row.Operand.{Operand}
-use Rattle.line_reader.specs.declared.symbolic_row.Operand.TheVariants as operand
-use Rattle.line_reader.specs.declared.symbolic_row.SymbolicRow.{SymbolicRow}
-use Rattle.line_reader.specs.declared.statement.Line.{Line}
-use Rattle.line_reader.specs.declared.statement.Statement.{Statement}
-use Rattle.line_reader.specs.declared.statement.Statement.TheVariants as statement
-use Rattle.line_reader.specs.Symbols.{Name, operands_in}
+use Rattle.instruction_table.specs.declared.shape.OperandKind.TheVariants as kind
+use Rattle.row_code.specs.{RowFields.fields_of, RowFields.IsRow, RowOperands.register_at}
+use Rattle.line_reader.specs.declared.{reference.Reference.TheVariants.Numbered, symbolic_row.Operand.Operand}
+use Rattle.line_reader.specs.declared.{symbolic_row.SymbolicRow.SymbolicRow, statement.Line.Line, statement.Statement.Statement}
+use Rattle.line_reader.specs.{Symbols.Name, Symbols.operands_in, Listing.joined, Listing.operand_words, Listing.row_words}
 use Rattle.line_reader.specs.Spelling.{greatest_number, SpellsReference, SpellOperands, with_operands, Says}
+use Rattle.line_reader.specs.declared.symbolic_row.Operand.TheVariants as operand
+use Rattle.line_reader.specs.declared.statement.Statement.TheVariants as statement
 use Rattle.assembler.specs.Meaning.{is_operand_known, row_of}
-use Rattle.line_reader.specs.Listing.{joined, operand_words, row_words}
 use Rattle.assembler.proofs.JoinedWords.{is_plain, IsWord, AreWords, words_of-line, is_line}
 use Rattle.assembler.proofs.Decimals.{decimal_digits, marked_word, decimal_spells, int_spells, int_word}
 

@@ -1,12 +1,8 @@
 -- How many things of a kind there are, and the numbers that names stand for.
-use Rattle.std.proofs.Common.{◌≡◌, ℕ, ◌+◌, ◌<◌, ◌≤◌, Bool, true, false, cond, List, [], ◌∷◌, ◌++◌, Option, Some, subst, append_assoc, arith}
-use Rattle.std.specs.Prelude.{IfSome, option_map}
-use Rattle.std.proofs.lemmas.List.{append-nil}
+use Rattle.std.proofs.Common.{◌≡◌, ℕ, ◌+◌, ◌<◌, ◌≤◌, Bool, true, false, cond, List, [], ◌∷◌, ◌++◌, Option, Some, subst, append_assoc, arith, IfSome, option_map, append-nil}
 use Rattle.instruction_table.specs.declared.shape.OperandKind.{OperandKind}
 use Rattle.instruction_table.specs.declared.shape.OperandKind.TheVariants as kind
-use Rattle.line_reader.specs.declared.statement.Statement.{Statement}
-use Rattle.line_reader.specs.declared.statement.Line.{Line}
-use Rattle.line_reader.specs.Symbols.{Name}
+use Rattle.line_reader.specs.{declared.statement.Statement.Statement, declared.statement.Line.Line, Symbols.Name}
 use Rattle.assembler.proofs.Drafts.{count-append}
 use Rattle.assembler.specs.Statements.{adds, count, gives_to, has_room, most, number_named, EachFollows}
 

@@ -1,13 +1,8 @@
 -- Numbers as they are printed, read as words, names and numbers.
 use Rattle.std.proofs.Common.{◌≡◌, ℕ, suc, ◌<◌, ◌≤◌, ℤ, pos, negsuc, ◌≤ℤ◌, Bool, true, List, [], ◌∷◌, length, refl, arith, decimal}
-use Rattle.std.specs.Fmt.{signed_decimal}
-use Rattle.std.specs.List.{list_all}
-use Rattle.std.specs.Str.Parse.{AllDigits, digits_value}
-use Rattle.std.proofs.lemmas.Bool.{and_from}
-use Rattle.std.proofs.lemmas.Bool.Decides.{nat_tests}
-use Rattle.std.proofs.lemmas.Fmt.{decimal_is_IsNumeral, length-decimal-le}
-use Rattle.std.proofs.lemmas.Int.{ints}
+use Rattle.std.proofs.lemmas.{Bool.and_from, Bool.Decides.nat_tests, Fmt.decimal_is_IsNumeral, Fmt.length-decimal-le, Int.ints}
 use Rattle.std.proofs.lemmas.Str.Parse.{digit_from_value}
+use Rattle.std.specs.{Fmt.signed_decimal, List.list_all, Str.Parse.AllDigits, Str.Parse.digits_value}
 use Rattle.line_reader.specs.Names.{begins_name, goes_on_name, is_name}
 use Rattle.line_reader.specs.Spelling.{SpellsNumber, least_int, greatest_int}
 use Rattle.assembler.proofs.JoinedWords.{is_plain, IsWord}

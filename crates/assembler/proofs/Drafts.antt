@@ -1,21 +1,13 @@
 -- What is kept beside the lines, with one line more.
-use Rattle.std.proofs.Common.{◌≡◌, ◌∙◌, ℕ, ◌+◌, Bool, true, false, cond, ◌||◌, List, [], ◌∷◌, ◌++◌, Option, Some, None, is_some, bytes_eq, refl, sym, ap, arith, rules}
+use Rattle.std.proofs.Common.{◌≡◌, ◌∙◌, ℕ, ◌+◌, Bool, true, false, cond, ◌||◌, List, [], ◌∷◌, ◌++◌, Option, Some, None, is_some, bytes_eq, refl, sym, ap, arith, rules, append-nil}
+use Rattle.std.proofs.lemmas.{Grind.flat_map-append, List.Folds.list_any-append, Slice.Eq.bytes_eq-Decides}
 use Rattle.std.specs.List.{flat_map, list_any}
-use Rattle.std.proofs.lemmas.Grind.{flat_map-append}
-use Rattle.std.proofs.lemmas.List.{append-nil}
-use Rattle.std.proofs.lemmas.List.Folds.{list_any-append}
-use Rattle.std.proofs.lemmas.Slice.Eq.{bytes_eq-Decides}
 use Rattle.instruction_table.specs.declared.shape.OperandKind.{OperandKind}
-use Rattle.assembler.specs.declared.draft.Counts.{Counts}
-use Rattle.assembler.specs.declared.draft.Place.{Place}
-use Rattle.assembler.specs.declared.symbols.Symbol.{Symbol}
-use Rattle.line_reader.specs.declared.statement.Line.{Line}
-use Rattle.line_reader.specs.declared.statement.Statement.{Statement}
-use Rattle.line_reader.specs.Symbols.{Name}
-use Rattle.line_reader.specs.Seen.{Borrowed}
+use Rattle.assembler.specs.declared.{draft.Counts.Counts, draft.Place.Place, symbols.Symbol.Symbol}
 use Rattle.assembler.specs.Statements.{name_in, kind_named, is_kind, is_named, gives, gives_to, adds, count, is_given, is_new, number_named, is_code}
 use Rattle.assembler.specs.Symbols.{number_by, symbol_by, symbol_in, symbols_of}
 use Rattle.assembler.specs.Draft.{counted, number_there, IsKept, named_with}
+use Rattle.line_reader.specs.{declared.statement.Line.Line, declared.statement.Statement.Statement, Symbols.Name, Seen.Borrowed}
 use Rattle.line_reader.proofs.Steps.{is_bytes, not_true}
 
 -- the number found, or else this one

@@ -1,20 +1,12 @@
 -- The first pass, one line more.
-use Rattle.std.proofs.Common.{◌≡◌, ◌≢◌, ◌⊎◌, ◌∙◌, inl, inr, ℕ, zero, suc, ◌+◌, ◌-◌, ◌<◌, ◌≤◌, ◌==◌, true, false, List, [], ◌∷◌, length, take, drop, Result, Ok, Err, IfErr, Some, refl, sym, ap, arith}
-use Rattle.std.specs.Prelude.{slice_get}
-use Rattle.std.proofs.lemmas.Bool.Decides.{nat_tests}
-use Rattle.std.proofs.lemmas.List.{length-take, length-drop, drop-drop, take-take, drop-take}
-use Rattle.line_reader.specs.declared.asm_fault.AsmFault.{AsmFault}
-use Rattle.line_reader.specs.declared.asm_fault.AsmFaultKind.{AsmFaultKind}
-use Rattle.line_reader.specs.declared.asm_fault.WordFault.{WordFault}
-use Rattle.line_reader.specs.declared.statement.Line.{Line}
-use Rattle.line_reader.specs.Symbols.{Name}
-use Rattle.line_reader.specs.Words.{lines_of, words_of}
-use Rattle.assembler.specs.Answers.{IsWrong}
+use Rattle.std.proofs.Common.{◌≡◌, ◌≢◌, ◌⊎◌, ◌∙◌, inl, inr, ℕ, zero, suc, ◌+◌, ◌-◌, ◌<◌, ◌≤◌, ◌==◌, true, false, List, [], ◌∷◌, length, take, drop, Result, Ok, Err, IfErr, Some, refl, sym, ap, arith, slice_get, length-take, length-drop, drop-drop, take-take}
+use Rattle.std.proofs.lemmas.{Bool.Decides.nat_tests, List.drop-take}
+use Rattle.line_reader.specs.declared.asm_fault.{AsmFault.AsmFault, AsmFaultKind.AsmFaultKind, WordFault.WordFault}
+use Rattle.line_reader.specs.{declared.statement.Line.Line, Symbols.Name, Words.lines_of, Words.words_of}
+use Rattle.assembler.specs.{Answers.IsWrong, declared.placed.PlacedFault.PlacedFault, Reading.line_behind}
 use Rattle.assembler.specs.Placed.{IsMemory, IsPlacedIn, IsUnknownPlaced, place_by, place_in}
-use Rattle.assembler.specs.declared.placed.PlacedFault.{PlacedFault}
-use Rattle.row_code.specs.Answers.{◌>>=◌}
-use Rattle.assembler.specs.Reading.{line_behind}
 use Rattle.assembler.specs.Passes.{behind, lines_read}
+use Rattle.row_code.specs.Answers.{◌>>=◌}
 use Rattle.assembler.proofs.ReadLines.{lines_read-middle}
 
 -- a text more is there

@@ -1,23 +1,15 @@
 -- What lines say is within the ranges of an image.
-use Rattle.std.proofs.Common.{◌≡◌, inl, inr, ℕ, ◌+◌, List, [], ◌∷◌, ◌++◌, length, refl, sym, subst, arith}
-use Rattle.std.specs.List.{flat_map, AllByRecursion}
-use Rattle.std.proofs.lemmas.List.{length-append}
+use Rattle.std.proofs.Common.{◌≡◌, inl, inr, ℕ, ◌+◌, List, [], ◌∷◌, ◌++◌, length, refl, sym, subst, arith, length-append}
 use Rattle.std.proofs.lemmas.List.Elements.{All-from_recursion}
+use Rattle.std.specs.List.{flat_map, AllByRecursion}
 use Rattle.instruction_table.specs.declared.shape.OperandKind.{OperandKind}
 use Rattle.instruction_table.specs.declared.shape.OperandKind.TheVariants as kind
-use Rattle.row_code.specs.RowFields.{IsRow}
-use Rattle.row_code.specs.Phasers.{IsPhaser}
-use Rattle.row_code.specs.Barriers.{IsBarrier}
-use Rattle.row_code.specs.Threads.{IsThread}
-use Rattle.row_code.specs.Image.{IsImage}
-use Rattle.line_reader.specs.declared.statement.Statement.{Statement}
-use Rattle.line_reader.specs.declared.statement.Line.{Line}
-use Rattle.line_reader.specs.Words.{words_of}
+use Rattle.row_code.specs.{RowFields.IsRow, Phasers.IsPhaser, Barriers.IsBarrier, Threads.IsThread, Image.IsImage}
+use Rattle.line_reader.specs.{declared.statement.Statement.Statement, declared.statement.Line.Line, Words.words_of}
 use Rattle.line_reader.specs.Symbols.{Name}
 use Rattle.assembler.specs.Statements.{adds, count, EachFollows}
 use Rattle.assembler.specs.Meaning.{SayInOrder, barriers_in, image_of, phasers_in, rows_in, threads_in}
-use Rattle.assembler.proofs.Counts.{AreFew, few_of_each}
-use Rattle.assembler.proofs.StatementRanges.{Fits, spelled_fits}
+use Rattle.assembler.proofs.{Counts.AreFew, Counts.few_of_each, StatementRanges.Fits, StatementRanges.spelled_fits}
 
 each_said : (all : List (Line Name)) → AreFew all → (n : ℕ) (texts : List (List ℕ)) (lines : List (Line Name)) → SayInOrder n texts lines →
     AllByRecursion (λ line. Fits all line.statement) lines

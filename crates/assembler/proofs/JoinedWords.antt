@@ -1,12 +1,9 @@
 -- Lines of plain words with a space between each two.
 use Rattle.std.proofs.Common.{◌≡◌, ℕ, ◌+◌, ◌*◌, ◌<◌, ◌≤◌, Bool, true, cond, not, ◌&&◌, nat_lt, ◌==◌, List, [], ◌∷◌, ◌++◌, length, take, refl, ap, ◌∙◌, arith, append_assoc, append-nil, length-append, one-add}
-use Rattle.std.specs.List.{slice_split, filter, list_all, position_or_len, before_first}
-use Rattle.std.proofs.lemmas.Bool.{and_from, and_parts}
-use Rattle.std.proofs.lemmas.List.Folds.{list_all-append}
+use Rattle.std.proofs.lemmas.{Bool.and_from, Bool.and_parts, List.Folds.list_all-append, List.Sums.AllPass-from_list_all}
 use Rattle.std.proofs.lemmas.List.Splits.{slice_split_none, slice_split_at}
-use Rattle.std.proofs.lemmas.List.Sums.{AllPass-from_list_all}
-use Rattle.line_reader.specs.Words.{is_line_end, is_allowed, is_blank, words_of}
-use Rattle.line_reader.specs.Spelling.{IsLine}
+use Rattle.std.specs.List.{slice_split, filter, list_all, position_or_len, before_first}
+use Rattle.line_reader.specs.{Words.is_line_end, Words.is_allowed, Words.is_blank, Words.words_of, Spelling.IsLine}
 use Rattle.line_reader.specs.Listing.{spaced}
 
 -- a byte that is no blank, ends nothing and begins no comment

@@ -1,12 +1,9 @@
 -- What a line is kept as: a row where there is room for one, and a directive, which is no code.
 use Rattle.std.proofs.Common.{◌≡◌, ℕ, ◌+◌, Bool, true, false, List, length, Option, None, Ok, Err, refl, sym, arith}
 use Rattle.line_reader.specs.declared.asm_fault.AsmFaultKind.TheVariants as fault
-use Rattle.line_reader.specs.declared.statement.Line.{Line}
-use Rattle.line_reader.specs.declared.statement.Statement.{Statement}
+use Rattle.line_reader.specs.declared.{statement.Line.Line, statement.Statement.Statement, symbolic_row.SymbolicRow.SymbolicRow}
+use Rattle.line_reader.specs.{Reading.directive_at, Reading.fault_at, Reading.is_directive, Reading.row_at, Symbols.Name}
 use Rattle.line_reader.specs.declared.statement.Statement.TheVariants as statement
-use Rattle.line_reader.specs.declared.symbolic_row.SymbolicRow.{SymbolicRow}
-use Rattle.line_reader.specs.Reading.{directive_at, fault_at, is_directive, row_at}
-use Rattle.line_reader.specs.Symbols.{Name}
 use Rattle.assembler.specs.Reading.{directive_behind, row_behind}
 use Rattle.assembler.specs.Statements.{Follows, has_room, is_code}
 use Rattle.assembler.proofs.SpelledLines.{directive_behind_takes, row_behind_takes}

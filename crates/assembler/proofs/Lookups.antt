@@ -1,6 +1,5 @@
 -- Look-ups one behind the other: what they give where all of them find something.
-use Rattle.std.proofs.Common.{◌≡◌, Bool, true, false, ◌&&◌, List, [], ◌∷◌, ◌++◌, Option, Some, None, cond, Result, Ok, refl, arith}
-use Rattle.std.specs.Prelude.{IfOk, is_some}
+use Rattle.std.proofs.Common.{◌≡◌, Bool, true, false, ◌&&◌, List, [], ◌∷◌, ◌++◌, Option, Some, None, cond, Result, Ok, refl, arith, IfOk, is_some}
 use Rattle.std.specs.List.{cons_option}
 
 -- what was found is used

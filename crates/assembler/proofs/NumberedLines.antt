@@ -1,12 +1,9 @@
 -- Lists of numbered texts and statements, and statements as lines.
 use Rattle.std.proofs.Common.{◌≡◌, ℕ, ◌+◌, ◌<◌, ◌≤◌, Bool, true, ◌&&◌, List, [], ◌∷◌, ◌++◌, length, map, refl, ap, ◌∙◌, arith}
-use Rattle.std.specs.List.{flat_map, list_all, AllByRecursion, slice_split}
 use Rattle.std.proofs.lemmas.Bool.{and_from}
-use Rattle.line_reader.specs.declared.statement.Line.{Line}
-use Rattle.line_reader.specs.declared.statement.Statement.{Statement}
+use Rattle.std.specs.List.{flat_map, list_all, AllByRecursion, slice_split}
+use Rattle.line_reader.specs.{declared.statement.Line.Line, declared.statement.Statement.Statement, Symbols.Name, Spelling.Says}
 use Rattle.line_reader.specs.Words.{is_line_end, without_empty_last, lines_of}
-use Rattle.line_reader.specs.Symbols.{Name}
-use Rattle.line_reader.specs.Spelling.{Says}
 use Rattle.line_reader.specs.Listing.{joined, line_text, numbered}
 use Rattle.assembler.specs.Meaning.{SayInOrder}
 use Rattle.assembler.proofs.JoinedWords.{lines_of-ended}

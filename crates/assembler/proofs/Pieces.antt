@@ -1,12 +1,9 @@
 -- The words of a text, one piece after the other.
-use Rattle.std.proofs.Common.{◌≡◌, ℕ, ◌+◌, ◌-◌, List, ◌++◌, length, take, drop, Some, None, arith}
+use Rattle.std.proofs.Common.{◌≡◌, ℕ, ◌+◌, ◌-◌, List, ◌++◌, length, take, drop, Some, None, arith, length-drop, length-take}
+use Rattle.std.proofs.lemmas.List.{drop_all, Splits.slice_split_first, Splits.slice_split_none, Sums.fails_before_first}
 use Rattle.std.specs.List.{position, slice_split}
-use Rattle.std.proofs.lemmas.List.{drop_all, length-drop, length-take}
-use Rattle.std.proofs.lemmas.List.Splits.{slice_split_first, slice_split_none}
-use Rattle.std.proofs.lemmas.List.Sums.{fails_before_first}
-use Rattle.line_reader.specs.Words.{is_blank, words_in}
+use Rattle.line_reader.specs.{Words.is_blank, Words.words_in, FirstLine.word_alone}
 use Rattle.line_reader.proofs.Places.{position_some, position_within, position_none}
-use Rattle.line_reader.specs.FirstLine.{word_alone}
 use Rattle.line_reader.proofs.FirstLines.{kept_piece, to_end}
 use Rattle.assembler.specs.Placed.{places_from, with_piece}
 

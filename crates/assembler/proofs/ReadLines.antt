@@ -1,20 +1,12 @@
 -- Lines read one after the other, and a text with its image: what is read is said, and what is said is read.
-use Rattle.std.proofs.Common.{◌≡◌, inl, inr, ℕ, suc, ◌+◌, Bool, true, not, List, [], ◌∷◌, ◌++◌, length, take, drop, find, Option, Some, None, Result, Ok, Err, IfOk, refl, sym, ap, subst, ◌∙◌, append_assoc, arith}
+use Rattle.std.proofs.Common.{◌≡◌, inl, inr, ℕ, suc, ◌+◌, Bool, true, not, List, [], ◌∷◌, ◌++◌, length, take, drop, find, Option, Some, None, Result, Ok, Err, IfOk, refl, sym, ap, subst, ◌∙◌, append_assoc, arith, append-nil, take-append-drop}
 use Rattle.std.specs.List.{list_all}
-use Rattle.std.proofs.lemmas.List.{append-nil, take-append-drop}
-use Rattle.row_code.specs.declared.image.Image.{Image}
-use Rattle.line_reader.specs.declared.asm_fault.AsmFault.{AsmFault}
-use Rattle.line_reader.specs.declared.asm_fault.AsmFaultKind.{AsmFaultKind}
-use Rattle.line_reader.specs.declared.asm_fault.WordFault.{WordFault}
-use Rattle.line_reader.specs.declared.statement.Line.{Line}
-use Rattle.line_reader.specs.declared.statement.Statement.{Statement}
-use Rattle.line_reader.specs.Words.{lines_of}
+use Rattle.row_code.specs.{declared.image.Image.Image, Answers.◌>>=◌}
+use Rattle.line_reader.specs.declared.asm_fault.{AsmFault.AsmFault, AsmFaultKind.AsmFaultKind, WordFault.WordFault}
+use Rattle.line_reader.specs.{declared.statement.Line.Line, declared.statement.Statement.Statement, Words.lines_of}
 use Rattle.line_reader.specs.Symbols.{Name}
-use Rattle.assembler.specs.Statements.{EachFollows}
-use Rattle.assembler.specs.Meaning.{are_known, SayInOrder, StandsFor}
-use Rattle.row_code.specs.Answers.{◌>>=◌}
-use Rattle.assembler.specs.Reading.{line_behind}
-use Rattle.assembler.specs.Answers.{AnswersAt, FailsAt, unplaced}
+use Rattle.assembler.specs.{Statements.EachFollows, Meaning.are_known, Meaning.SayInOrder, Meaning.StandsFor}
+use Rattle.assembler.specs.{Reading.line_behind, Answers.AnswersAt, Answers.FailsAt, Answers.unplaced}
 use Rattle.assembler.specs.declared.placed.PlacedFault.{PlacedFault}
 use Rattle.assembler.specs.Passes.{behind, lines_read, first_unknown, looked_up, assembled}
 use Rattle.line_reader.proofs.Steps.{by_test, both_true}

@@ -1,8 +1,7 @@
 -- What the lines that are left add to what those before them added.
 use Rattle.std.proofs.Common.{◌≡◌, ℕ, ◌<◌, List, [], ◌∷◌, ◌++◌, length, get_or, drop, map, All, arith}
+use Rattle.std.proofs.{Math.Seq.drop-cons, lemmas.List.Elements.recursion_from_All}
 use Rattle.std.specs.List.{flat_map, AllByRecursion}
-use Rattle.std.proofs.Math.Seq.{drop-cons}
-use Rattle.std.proofs.lemmas.List.Elements.{recursion_from_All}
 
 front_of : {A : Type 0} (P : A → Type 0) (xs ys : List A) → AllByRecursion P (xs ++ ys) → AllByRecursion P xs
 front_of P [] ys h = tt

@@ -1,21 +1,15 @@
 -- Lines behind others: what is read is said, and what is said is read.
-use Rattle.std.proofs.Common.{◌≡◌, ℕ, suc, ◌+◌, ◌-◌, Bool, true, false, not, ◌&&◌, List, [], ◌∷◌, ◌++◌, length, map, take, codes, bytes_eq, find, Option, Some, None, Ok, refl, sym, ap, subst, ◌∙◌, arith}
+use Rattle.std.proofs.Common.{◌≡◌, ℕ, suc, ◌+◌, ◌-◌, Bool, true, false, not, ◌&&◌, List, [], ◌∷◌, ◌++◌, length, map, take, codes, bytes_eq, find, Option, Some, None, Ok, refl, sym, ap, subst, ◌∙◌, arith, eqb-true, ltb-false, le-ltb, take_at, length-append}
+use Rattle.std.proofs.lemmas.List.{length-map}
 use Rattle.std.specs.List.{list_all}
-use Rattle.std.proofs.lemmas.Bool.{eqb-true, ltb-false, le-ltb}
-use Rattle.std.proofs.lemmas.List.{take_at, length-append, length-map}
 use Rattle.instruction_table.specs.Table.{Entry, table, entry_named}
 use Rattle.line_reader.specs.declared.asm_fault.AsmFaultKind.TheVariants as fault
-use Rattle.line_reader.specs.declared.symbolic_row.SymbolicRow.{SymbolicRow}
-use Rattle.line_reader.specs.declared.statement.Line.{Line}
-use Rattle.line_reader.specs.declared.statement.Statement.{Statement}
-use Rattle.line_reader.specs.declared.statement.Statement.TheVariants as statement
-use Rattle.line_reader.specs.Seen.{Borrowed, name_seen}
-use Rattle.line_reader.specs.Words.{words_of}
-use Rattle.line_reader.specs.Names.{is_name}
-use Rattle.line_reader.specs.Symbols.{Name}
+use Rattle.line_reader.specs.declared.{symbolic_row.SymbolicRow.SymbolicRow, statement.Line.Line, statement.Statement.Statement}
+use Rattle.line_reader.specs.{Seen.Borrowed, Seen.name_seen, Words.words_of, Names.is_name, Symbols.Name}
 use Rattle.line_reader.specs.Spelling.{SpellRow, SpellsLabel, Spell, IsLine, Says, SaysNothing}
-use Rattle.assembler.specs.Statements.{is_new, has_room, Follows}
 use Rattle.line_reader.specs.Reading.{fault_at, line_words, name_at, is_directive, directive_at, is_label, before_last}
+use Rattle.line_reader.specs.declared.statement.Statement.TheVariants as statement
+use Rattle.assembler.specs.Statements.{is_new, has_room, Follows}
 use Rattle.assembler.specs.Reading.{directive_behind, row_behind, labelled_behind, statement_behind, words_behind, line_behind}
 use Rattle.line_reader.proofs.Steps.{bound, bound_at, ok_is, check_ok, by_test, passed, not_true, both_true, or_right, is_bytes}
 use Rattle.line_reader.proofs.SpelledNumbers.{name_takes, name_again}

@@ -1,28 +1,19 @@
 -- What a statement adds to each list of an image is in its ranges.
-use Rattle.std.proofs.Common.{ℕ, suc, ◌<◌, ◌≤◌, pos, FitsSigned, List, [], ◌∷◌, Option, Some, None, sym, subst, arith, rules}
-use Rattle.std.specs.Prelude.{IfSome}
-use Rattle.std.specs.Int.{w32}
-use Rattle.std.specs.List.{AllByRecursion}
+use Rattle.std.proofs.Common.{ℕ, suc, ◌<◌, ◌≤◌, pos, FitsSigned, List, [], ◌∷◌, Option, Some, None, sym, subst, arith, rules, IfSome}
 use Rattle.std.proofs.lemmas.Int.{ints}
+use Rattle.std.specs.{Int.w32, List.AllByRecursion}
 use Rattle.instruction_table.specs.declared.shape.OperandKind.{OperandKind}
 use Rattle.instruction_table.specs.declared.shape.OperandKind.TheVariants as kind
-use Rattle.row_code.specs.declared.operands.Operands.{Operands}
-use Rattle.row_code.specs.RowFields.{IsRow}
-use Rattle.row_code.specs.Phasers.{IsPolicy, IsPhaser}
-use Rattle.row_code.specs.Barriers.{IsBarrier}
-use Rattle.row_code.specs.Threads.{IsThread}
+use Rattle.row_code.specs.{declared.operands.Operands.Operands, RowFields.IsRow, Phasers.IsPolicy, Phasers.IsPhaser}
+use Rattle.row_code.specs.{Barriers.IsBarrier, Threads.IsThread}
 use Rattle.row_code.proofs.RowLaws.{row_with_fits}
-use Rattle.line_reader.specs.declared.reference.Reference.{Reference}
-use Rattle.line_reader.specs.declared.reference.Reference.TheVariants.{Named, Numbered}
-use Rattle.line_reader.specs.declared.symbolic_row.Operand.{Operand}
-use Rattle.line_reader.specs.declared.symbolic_row.Operand.TheVariants as operand
-use Rattle.line_reader.specs.declared.symbolic_row.SymbolicRow.{SymbolicRow}
-use Rattle.line_reader.specs.declared.symbolic_phaser.SymbolicPolicy.{SymbolicPolicy}
-use Rattle.line_reader.specs.declared.statement.Statement.{Statement}
-use Rattle.line_reader.specs.declared.statement.Statement.TheVariants as statement
-use Rattle.line_reader.specs.declared.statement.Line.{Line}
+use Rattle.line_reader.specs.declared.reference.Reference.{Reference, TheVariants.Named, TheVariants.Numbered}
+use Rattle.line_reader.specs.declared.{symbolic_row.Operand.Operand, symbolic_row.SymbolicRow.SymbolicRow, statement.Line.Line}
+use Rattle.line_reader.specs.declared.{symbolic_phaser.SymbolicPolicy.SymbolicPolicy, statement.Statement.Statement}
 use Rattle.line_reader.specs.Symbols.{Name}
 use Rattle.line_reader.specs.Spelling.{Spell, SpellOperands, SpellPolicy, SpellRow, SpellsNumber, SpellsReference, greatest_number, operand_in}
+use Rattle.line_reader.specs.declared.symbolic_row.Operand.TheVariants as operand
+use Rattle.line_reader.specs.declared.statement.Statement.TheVariants as statement
 use Rattle.assembler.specs.Statements.{count, most, number_named}
 use Rattle.assembler.specs.Meaning.{barriers_in, referent_or_0, number_or_0, operands_of, phasers_in, policy_of, row_of, rows_in, threads_in, with_operand}
 use Rattle.assembler.proofs.Counts.{AreFew, number_within, phaser_below}

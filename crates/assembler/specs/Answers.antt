@@ -1,9 +1,7 @@
 -- How the result of a call is compared with the result of the definitions. Any call may be out of memory instead.
 use Rattle.std.specs.Prelude.{◌≡◌, ◌⊎◌, ℕ, Bool, true, false, Result, Ok, Err}
 use Rattle.row_code.specs.Answers.{Answers, FailsUnless}
-use Rattle.line_reader.specs.declared.asm_fault.AsmFault.{AsmFault}
-use Rattle.line_reader.specs.declared.asm_fault.AsmFaultKind.{AsmFaultKind}
-use Rattle.line_reader.specs.declared.asm_fault.WordFault.{WordFault}
+use Rattle.line_reader.specs.declared.asm_fault.{AsmFault.AsmFault, AsmFaultKind.AsmFaultKind, WordFault.WordFault}
 use Rattle.line_reader.specs.Reading.{fault_at}
 use Rattle.assembler.specs.declared.placed.PlacedFault.{PlacedFault}
 use Rattle.line_reader.specs.declared.asm_fault.AsmFaultKind.TheVariants as fault

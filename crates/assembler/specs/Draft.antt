@@ -3,15 +3,10 @@ use Rattle.std.specs.Prelude.{◌≡◌, ℕ, if◌then◌else◌, Bool, bytes_e
 use Rattle.indexmap.specs.IndexMap.{IndexMap, get}
 use Rattle.instruction_table.specs.declared.shape.OperandKind.{OperandKind}
 use Rattle.instruction_table.specs.declared.shape.OperandKind.TheVariants as kind
-use Rattle.assembler.specs.declared.draft.Counts.{Counts}
-use Rattle.assembler.specs.declared.draft.Place.{Place}
-use Rattle.assembler.specs.declared.name_hash.NameKey.{NameKey}
-use Rattle.assembler.specs.declared.symbols.Symbol.{Symbol}
-use Rattle.line_reader.specs.declared.statement.Line.{Line}
-use Rattle.line_reader.specs.Symbols.{Name}
-use Rattle.line_reader.specs.Seen.{Borrowed}
+use Rattle.assembler.specs.declared.{draft.Counts.Counts, draft.Place.Place, name_hash.NameKey.NameKey, symbols.Symbol.Symbol}
 use Rattle.assembler.specs.Symbols.{symbols_of}
 use Rattle.assembler.specs.Statements.{is_kind, count, is_given, number_named, has_code}
+use Rattle.line_reader.specs.{declared.statement.Line.Line, Symbols.Name, Seen.Borrowed}
 
 -- how many things of a kind were counted
 abbrev pub counted : Counts → OperandKind → ℕ

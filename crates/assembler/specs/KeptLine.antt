@@ -2,12 +2,9 @@
 use Rattle.std.specs.Prelude.{ℕ, Bool, true, false, Some, None}
 use Rattle.assembler.specs.declared.kept_line.KeptLine.{KeptLine}
 use Rattle.assembler.specs.declared.kept_line.KeptLine.TheVariants as line
-use Rattle.line_reader.specs.declared.statement.Statement.{Statement}
+use Rattle.line_reader.specs.{declared.statement.Statement.Statement, declared.statement.Line.Line, KeptRow.row_kept}
+use Rattle.line_reader.specs.{Seen.barrier_seen, Seen.phaser_seen, Seen.thread_seen, Symbols.Name}
 use Rattle.line_reader.specs.declared.statement.Statement.TheVariants as statement
-use Rattle.line_reader.specs.declared.statement.Line.{Line}
-use Rattle.line_reader.specs.KeptRow.{row_kept}
-use Rattle.line_reader.specs.Seen.{barrier_seen, phaser_seen, thread_seen}
-use Rattle.line_reader.specs.Symbols.{Name}
 
 -- what a line says, and its number
 abbrev pub statement_kept : KeptLine → Statement Name

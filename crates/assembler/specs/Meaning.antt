@@ -1,34 +1,21 @@
 -- The image that a text represents.
 use Rattle.std.specs.Prelude.{◌≡◌, ◌⊎◌, ℕ, ◌+◌, ◌&&◌, Bool, true, pos, List, [], ◌∷◌, Option, Some, None, option_map, is_some}
 use Rattle.std.specs.List.{flat_map, list_all}
-use Rattle.instruction_table.specs.declared.register.Reg.TheVariants.{R0}
-use Rattle.instruction_table.specs.declared.row.Row.{Row}
-use Rattle.instruction_table.specs.declared.shape.OperandKind.{OperandKind}
+use Rattle.instruction_table.specs.declared.{register.Reg.TheVariants.R0, row.Row.Row, shape.OperandKind.OperandKind}
 use Rattle.instruction_table.specs.declared.shape.OperandKind.TheVariants as kind
-use Rattle.row_code.specs.declared.barriers.DeclaredBarrier.{DeclaredBarrier}
-use Rattle.row_code.specs.declared.image.Image.{Image}
-use Rattle.row_code.specs.declared.operands.Operands.{Operands}
-use Rattle.row_code.specs.declared.phasers.DeclaredPhaser.{DeclaredPhaser}
-use Rattle.row_code.specs.declared.phasers.DeclaredPolicy.{DeclaredPolicy}
+use Rattle.row_code.specs.declared.{barriers.DeclaredBarrier.DeclaredBarrier, image.Image.Image, operands.Operands.Operands}
+use Rattle.row_code.specs.declared.phasers.{DeclaredPhaser.DeclaredPhaser, DeclaredPolicy.DeclaredPolicy}
+use Rattle.row_code.specs.{declared.threads.DeclaredThread.DeclaredThread, RowOperands.row_with}
 use Rattle.row_code.specs.declared.phasers.DeclaredPolicy.TheVariants as declared
-use Rattle.row_code.specs.declared.threads.DeclaredThread.{DeclaredThread}
-use Rattle.row_code.specs.RowOperands.{row_with}
-use Rattle.line_reader.specs.declared.reference.Reference.{Reference}
-use Rattle.line_reader.specs.declared.reference.Reference.TheVariants.{Named, Numbered}
-use Rattle.line_reader.specs.declared.symbolic_row.Operand.{Operand}
+use Rattle.line_reader.specs.declared.reference.Reference.{Reference, TheVariants.Named, TheVariants.Numbered}
+use Rattle.line_reader.specs.declared.{symbolic_row.Operand.Operand, symbolic_row.SymbolicRow.SymbolicRow, statement.Line.Line}
+use Rattle.line_reader.specs.declared.symbolic_phaser.{SymbolicPolicy.SymbolicPolicy, SymbolicPhaser.SymbolicPhaser}
+use Rattle.line_reader.specs.declared.{symbolic_barrier.SymbolicBarrier.SymbolicBarrier, statement.Statement.Statement}
+use Rattle.line_reader.specs.{declared.symbolic_thread.SymbolicThread.SymbolicThread, Words.lines_of}
+use Rattle.line_reader.specs.{Symbols.Name, Symbols.operands_in, Spelling.Says, Spelling.SaysNothing}
 use Rattle.line_reader.specs.declared.symbolic_row.Operand.TheVariants as operand
-use Rattle.line_reader.specs.declared.symbolic_row.SymbolicRow.{SymbolicRow}
-use Rattle.line_reader.specs.declared.symbolic_phaser.SymbolicPolicy.{SymbolicPolicy}
 use Rattle.line_reader.specs.declared.symbolic_phaser.SymbolicPolicy.TheVariants as policy
-use Rattle.line_reader.specs.declared.symbolic_phaser.SymbolicPhaser.{SymbolicPhaser}
-use Rattle.line_reader.specs.declared.symbolic_barrier.SymbolicBarrier.{SymbolicBarrier}
-use Rattle.line_reader.specs.declared.symbolic_thread.SymbolicThread.{SymbolicThread}
-use Rattle.line_reader.specs.declared.statement.Statement.{Statement}
 use Rattle.line_reader.specs.declared.statement.Statement.TheVariants as statement
-use Rattle.line_reader.specs.declared.statement.Line.{Line}
-use Rattle.line_reader.specs.Words.{lines_of}
-use Rattle.line_reader.specs.Symbols.{Name, operands_in}
-use Rattle.line_reader.specs.Spelling.{Says, SaysNothing}
 use Rattle.assembler.specs.Statements.{number_named, EachFollows}
 
 -- the number of the row or the object of a kind that is referred to, if there is one

@@ -1,16 +1,10 @@
 -- The image of a text, or the first fault of the text. First every line is read, and then every name is looked up.
 use Rattle.std.specs.Prelude.{ℕ, ◌+◌, not, List, [], ◌∷◌, ◌++◌, find, Option, Some, None, Result, Ok, Err}
-use Rattle.row_code.specs.declared.image.Image.{Image}
-use Rattle.line_reader.specs.declared.asm_fault.AsmFault.{AsmFault}
+use Rattle.row_code.specs.{declared.image.Image.Image, Answers.◌>>=◌}
+use Rattle.line_reader.specs.declared.{asm_fault.AsmFault.AsmFault, asm_fault.WordFault.WordFault, statement.Line.Line}
+use Rattle.line_reader.specs.{declared.statement.Statement.Statement, Words.lines_of, Symbols.Name}
 use Rattle.line_reader.specs.declared.asm_fault.AsmFaultKind.TheVariants as fault
-use Rattle.line_reader.specs.declared.asm_fault.WordFault.{WordFault}
-use Rattle.line_reader.specs.declared.statement.Line.{Line}
-use Rattle.line_reader.specs.declared.statement.Statement.{Statement}
-use Rattle.line_reader.specs.Words.{lines_of}
-use Rattle.line_reader.specs.Symbols.{Name}
-use Rattle.assembler.specs.Meaning.{are_known, image_of}
-use Rattle.row_code.specs.Answers.{◌>>=◌}
-use Rattle.assembler.specs.Reading.{line_behind}
+use Rattle.assembler.specs.{Meaning.are_known, Meaning.image_of, Reading.line_behind}
 
 -- the lines before, and then what the line of this number says
 abbrev pub behind : List (Line Name) → ℕ → Result (Option (Statement Name)) WordFault →

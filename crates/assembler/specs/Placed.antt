@@ -3,28 +3,19 @@ use Rattle.std.specs.Prelude.{◌≡◌, ◌⊎◌, ℕ, zero, ◌+◌, ◌-◌,
 use Rattle.std.specs.List.{before_first, position, slice_split}
 use Rattle.instruction_table.specs.declared.shape.OperandKind.{OperandKind}
 use Rattle.instruction_table.specs.declared.shape.OperandKind.TheVariants as kind
-use Rattle.line_reader.specs.declared.asm_fault.AsmFaultKind.{AsmFaultKind}
-use Rattle.line_reader.specs.declared.asm_fault.AsmFaultKind.TheVariants as fault
-use Rattle.line_reader.specs.declared.asm_fault.WordFault.{WordFault}
-use Rattle.line_reader.specs.declared.reference.Reference.{Reference}
-use Rattle.line_reader.specs.declared.reference.Reference.TheVariants.{Named, Numbered}
-use Rattle.line_reader.specs.declared.symbolic_row.Operand.{Operand}
-use Rattle.line_reader.specs.declared.symbolic_row.Operand.TheVariants as operand
-use Rattle.line_reader.specs.declared.symbolic_row.SymbolicRow.{SymbolicRow}
-use Rattle.line_reader.specs.declared.symbolic_phaser.SymbolicPolicy.{SymbolicPolicy}
-use Rattle.line_reader.specs.declared.symbolic_phaser.SymbolicPolicy.TheVariants as policy
-use Rattle.line_reader.specs.declared.statement.Line.{Line}
-use Rattle.line_reader.specs.declared.statement.Statement.{Statement}
-use Rattle.line_reader.specs.declared.statement.Statement.TheVariants as statement
+use Rattle.line_reader.specs.declared.{asm_fault.AsmFaultKind.AsmFaultKind, asm_fault.WordFault.WordFault, statement.Line.Line}
+use Rattle.line_reader.specs.declared.reference.Reference.{Reference, TheVariants.Named, TheVariants.Numbered}
+use Rattle.line_reader.specs.declared.symbolic_row.{Operand.Operand, SymbolicRow.SymbolicRow}
+use Rattle.line_reader.specs.declared.{symbolic_phaser.SymbolicPolicy.SymbolicPolicy, statement.Statement.Statement}
 use Rattle.line_reader.specs.Symbols.{Name}
 use Rattle.line_reader.specs.Words.{begins_comment, is_allowed, is_blank, lines_of, words_in, words_of}
-use Rattle.assembler.specs.Meaning.{is_known}
-use Rattle.assembler.specs.Passes.{first_unknown, lines_read}
-use Rattle.assembler.specs.Reading.{line_behind}
-use Rattle.assembler.specs.Statements.{is_given, number_named}
-use Rattle.assembler.specs.declared.placed.PlacedFault.{PlacedFault}
-use Rattle.assembler.specs.declared.placed.UnknownName.{UnknownName}
-use Rattle.assembler.specs.declared.word_place.WordPlace.{WordPlace}
+use Rattle.line_reader.specs.declared.asm_fault.AsmFaultKind.TheVariants as fault
+use Rattle.line_reader.specs.declared.symbolic_row.Operand.TheVariants as operand
+use Rattle.line_reader.specs.declared.symbolic_phaser.SymbolicPolicy.TheVariants as policy
+use Rattle.line_reader.specs.declared.statement.Statement.TheVariants as statement
+use Rattle.assembler.specs.{Meaning.is_known, Passes.first_unknown, Passes.lines_read, Reading.line_behind}
+use Rattle.assembler.specs.{Statements.is_given, Statements.number_named, declared.placed.PlacedFault.PlacedFault}
+use Rattle.assembler.specs.declared.{placed.UnknownName.UnknownName, word_place.WordPlace.WordPlace}
 
 -- the place of a piece between blanks that begins here, before others; an empty piece is no word
 abbrev pub with_piece : ℕ → ℕ → List WordPlace → List WordPlace

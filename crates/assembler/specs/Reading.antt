@@ -2,13 +2,11 @@
 -- made in the order in which they are written here. The first check that fails gives the fault.
 use Rattle.std.specs.Prelude.{ℕ, ◌+◌, not, if◌then◌else◌, List, [], ◌∷◌, length, Option, Some, None, Result, Ok, Err}
 use Rattle.line_reader.specs.declared.asm_fault.AsmFaultKind.TheVariants as fault
-use Rattle.line_reader.specs.declared.asm_fault.WordFault.{WordFault}
-use Rattle.line_reader.specs.declared.statement.Line.{Line}
-use Rattle.line_reader.specs.declared.statement.Statement.{Statement}
-use Rattle.line_reader.specs.declared.statement.Statement.TheVariants as statement
+use Rattle.line_reader.specs.declared.{asm_fault.WordFault.WordFault, statement.Line.Line, statement.Statement.Statement}
 use Rattle.line_reader.specs.Symbols.{Name}
-use Rattle.row_code.specs.Answers.{◌>>=◌}
 use Rattle.line_reader.specs.Reading.{check, fault_at, line_words, name_at, read_at, row_at, is_directive, directive_at, is_label, before_last}
+use Rattle.line_reader.specs.declared.statement.Statement.TheVariants as statement
+use Rattle.row_code.specs.Answers.{◌>>=◌}
 use Rattle.assembler.specs.Statements.{name_in, is_new, has_code, has_room}
 
 -- a directive after these lines: it comes before all code, with a new name, if there is room. Its name is its first operand

@@ -2,16 +2,11 @@
 use Rattle.std.specs.Prelude.{ℕ, ◌==◌, ◌&&◌, Bool, List, [], ◌∷◌, find, Option, Some, None, option_map, Result, Ok}
 use Rattle.std.specs.List.{flat_map}
 use Rattle.instruction_table.specs.declared.shape.OperandKind.{OperandKind}
-use Rattle.line_reader.specs.declared.asm_fault.AsmFault.{AsmFault}
-use Rattle.line_reader.specs.declared.statement.Line.{Line}
-use Rattle.line_reader.specs.declared.statement.Statement.{Statement}
+use Rattle.line_reader.specs.declared.{asm_fault.AsmFault.AsmFault, statement.Line.Line, statement.Statement.Statement}
+use Rattle.line_reader.specs.{Seen.Borrowed, Symbols.Name, Words.lines_of}
 use Rattle.line_reader.specs.declared.statement.Statement.TheVariants as statement
-use Rattle.line_reader.specs.Seen.{Borrowed}
-use Rattle.line_reader.specs.Symbols.{Name}
-use Rattle.line_reader.specs.Words.{lines_of}
 use Rattle.row_code.specs.Answers.{◌>>=◌}
-use Rattle.assembler.specs.declared.symbols.Symbol.{Symbol}
-use Rattle.assembler.specs.Passes.{lines_read}
+use Rattle.assembler.specs.{declared.symbols.Symbol.Symbol, Passes.lines_read}
 use Rattle.assembler.specs.Statements.{is_kind, kind_named, name_in, number_named}
 
 -- the names of a text in order, each with the kind and number of what it refers to (a label refers to a row), and the line of

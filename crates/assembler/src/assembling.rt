@@ -1,11 +1,8 @@
 //! The assembler's calls: from the text of a program to its image.
 ghost use Rattle.std.specs.Prelude.{◌≡◌, ◌≤◌, IfErr, IfOk, Ok, length, max};
 ghost use Rattle.row_code.specs.declared.image.Image.{Image};
-ghost use Rattle.assembler.specs.Answers.{AnswersAt, AnswersPlaced};
-ghost use Rattle.assembler.specs.Meaning.{StandsFor};
-ghost use Rattle.assembler.specs.Passes.{assembled};
-ghost use Rattle.assembler.specs.Placed.{IsPlacedIn};
-ghost use Rattle.assembler.specs.Symbols.{symbols_in};
+ghost use Rattle.assembler.specs.{Answers.AnswersAt, Answers.AnswersPlaced, Meaning.StandsFor, Passes.assembled};
+ghost use Rattle.assembler.specs.{Placed.IsPlacedIn, Symbols.symbols_in};
 ghost use Rattle.line_reader.specs.Words.{lines_of};
 ghost use Rattle.line_reader.specs.declared.asm_fault.AsmFaultKind.TheVariants as fault;
 

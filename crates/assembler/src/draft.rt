@@ -1,16 +1,13 @@
 //! What is known after some lines: the lines, the names, and the counts of rows and objects.
 ghost use Rattle.std.specs.Prelude.{◌≡◌, ◌+◌, ◌<◌, ◌||◌, ◌++◌, ◌∷◌, [], IfErr, IfOk, IfSome, List, Option, None, Some, false, is_some, map, option_copied, option_map};
 ghost use Rattle.instruction_table.specs.declared.shape.OperandKind.{OperandKind};
-ghost use Rattle.line_reader.specs.declared.statement.Line.{Line};
-ghost use Rattle.assembler.specs.Draft.{IsKept, counted, named_with, number_there, places, symbol_there};
-ghost use Rattle.assembler.specs.Meaning.{referent};
-ghost use Rattle.assembler.specs.Statements.{Follows, adds, has_code, has_room, is_code, is_given, kind_named, most, name_in, number_named};
-ghost use Rattle.assembler.specs.Symbols.{symbol_by, symbols_of};
-ghost use Rattle.line_reader.specs.Symbols.{Name};
+ghost use Rattle.line_reader.specs.{declared.statement.Line.Line, Symbols.Name, declared.symbolic_row.SymbolicRow.SymbolicRow};
 ghost use Rattle.line_reader.specs.Seen.{Borrowed, name_seen, reference_seen, statement_seen};
-ghost use Rattle.line_reader.specs.declared.statement.Statement.TheVariants as statement;
-ghost use Rattle.line_reader.specs.declared.symbolic_row.SymbolicRow.{SymbolicRow};
+ghost use Rattle.assembler.specs.Draft.{IsKept, counted, named_with, number_there, places, symbol_there};
+ghost use Rattle.assembler.specs.{Meaning.referent, Symbols.symbol_by, Symbols.symbols_of};
+ghost use Rattle.assembler.specs.Statements.{Follows, adds, has_code, has_room, is_code, is_given, kind_named, most, name_in, number_named};
 ghost use Rattle.assembler.specs.KeptLine.{line_kept, statement_kept};
+ghost use Rattle.line_reader.specs.declared.statement.Statement.TheVariants as statement;
 
 use crate::kept_line::KeptLine;
 use crate::name_hash::{NameHash, NameKey};

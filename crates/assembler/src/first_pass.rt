@@ -1,14 +1,11 @@
 //! From a text to its draft: each line is read after the lines before it, and added.
 ghost use Rattle.std.specs.Prelude.{◌≡◌, ◌≢◌, ◌<◌, ◌≤◌, [], ◌∷◌, IfErr, IfOk, IsErr, Ok, OnOk, false, length, map, true};
-ghost use Rattle.line_reader.specs.Reading.{fault_at, is_directive, is_label};
+ghost use Rattle.line_reader.specs.{Reading.fault_at, Reading.is_directive, Reading.is_label, FirstLine.first_line};
+ghost use Rattle.line_reader.specs.{Seen.name_seen, Words.lines_of, Words.words_of};
 ghost use Rattle.assembler.specs.Answers.{AnswersAt, AnswersPlaced, IsWrong, at_line};
-ghost use Rattle.line_reader.specs.declared.asm_fault.AsmFaultKind.TheVariants as fault;
-ghost use Rattle.assembler.specs.Passes.{behind, lines_read};
-ghost use Rattle.assembler.specs.Placed.{IsPlacedIn};
+ghost use Rattle.assembler.specs.{Passes.behind, Passes.lines_read, Placed.IsPlacedIn};
 ghost use Rattle.assembler.specs.Reading.{line_behind, words_behind};
-ghost use Rattle.line_reader.specs.FirstLine.{first_line};
-ghost use Rattle.line_reader.specs.Seen.{name_seen};
-ghost use Rattle.line_reader.specs.Words.{lines_of, words_of};
+ghost use Rattle.line_reader.specs.declared.asm_fault.AsmFaultKind.TheVariants as fault;
 
 use crate::draft::Draft;
 use crate::kept_line::KeptLine;

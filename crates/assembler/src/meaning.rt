@@ -1,10 +1,8 @@
 // What texts mean. Each law is the contract of a function that does nothing.
 ghost use Rattle.std.specs.Prelude.{◌≡◌, ℕ, List, Ok};
-ghost use Rattle.row_code.specs.declared.image.Image.{Image};
-ghost use Rattle.row_code.specs.Image.{IsImage};
+ghost use Rattle.row_code.specs.{declared.image.Image.Image, Image.IsImage};
 ghost use Rattle.line_reader.specs.Listing.{canonical};
-ghost use Rattle.assembler.specs.Meaning.{StandsFor};
-ghost use Rattle.assembler.specs.Passes.{assembled};
+ghost use Rattle.assembler.specs.{Meaning.StandsFor, Passes.assembled};
 
 /// No text represents two images.
 pub fn one_image()

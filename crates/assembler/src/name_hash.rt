@@ -1,7 +1,5 @@
-ghost use Rattle.std.specs.Prelude.{◌≡◌, [], ◌∷◌, bytes_eq};
-ghost use Rattle.std.proofs.Common.{rules};
-ghost use Rattle.std.specs.Cmp.Rules.{comparing, hashing};
-ghost use Rattle.std.specs.Hash.DefaultHasher.{initial, write};
+ghost use Rattle.std.proofs.Common.{◌≡◌, [], ◌∷◌, bytes_eq, rules};
+ghost use Rattle.std.specs.{Cmp.Rules.comparing, Cmp.Rules.hashing, Hash.DefaultHasher.initial, Hash.DefaultHasher.write};
 
 use std::hash::{BuildHasher, DefaultHasher, Hash, Hasher};
 

@@ -1,8 +1,7 @@
 //! The fault of a text, and the place of the word that makes it.
 ghost use Rattle.std.specs.Prelude.{◌≡◌, ◌-◌, ◌≤◌, List, None, Some, option_map, slice_get, ℕ};
 ghost use Rattle.line_reader.specs.declared.asm_fault.AsmFaultKind.TheVariants as kinds;
-ghost use Rattle.line_reader.specs.Seen.{name_seen, reference_seen};
-ghost use Rattle.line_reader.specs.KeptRow.{operand_kept, row_kept};
+ghost use Rattle.line_reader.specs.{Seen.name_seen, Seen.reference_seen, KeptRow.operand_kept, KeptRow.row_kept};
 ghost use Rattle.line_reader.specs.Words.{lines_of};
 ghost use Rattle.assembler.specs.KeptLine.{line_kept, number_kept, statement_kept};
 ghost use Rattle.assembler.specs.Placed.{IsPlacedName, place_in, unknown_by, unknown_in, unknown_in_row, unknown_operand};

@@ -1,13 +1,10 @@
 //! How a line is read after the lines before it: which names are new, what has room, and where a directive may be.
 ghost use Rattle.std.specs.Prelude.{◌≡◌, IfOk, Option, false, map, option_map, true};
-ghost use Rattle.line_reader.specs.Seen.{seen, name_seen, statement_seen};
-ghost use Rattle.line_reader.specs.Reading.{before_last, is_label};
-ghost use Rattle.line_reader.specs.Symbols.{Name};
+ghost use Rattle.line_reader.specs.{Seen.seen, Seen.name_seen, Seen.statement_seen, Reading.before_last, Reading.is_label};
+ghost use Rattle.line_reader.specs.{Symbols.Name, KeptRow.row_kept};
 ghost use Rattle.line_reader.specs.declared.statement.Statement.TheVariants as statement;
-ghost use Rattle.assembler.specs.KeptLine.{number_kept, statement_kept};
-ghost use Rattle.line_reader.specs.KeptRow.{row_kept};
+ghost use Rattle.assembler.specs.{KeptLine.number_kept, KeptLine.statement_kept, Statements.is_code, Statements.is_new};
 ghost use Rattle.assembler.specs.Reading.{directive_behind, labelled_behind, row_behind, statement_behind};
-ghost use Rattle.assembler.specs.Statements.{is_code, is_new};
 
 use crate::draft::{Draft, name_in};
 use crate::kept_line::KeptLine;

@@ -1,11 +1,8 @@
 ghost use Rattle.std.specs.Prelude.{◌≡◌, ◌⊎◌, map, IfErr};
 ghost use Rattle.row_code.specs.Image.{IsImage};
 ghost use Rattle.line_reader.specs.declared.asm_fault.AsmFaultKind.TheVariants as fault;
-ghost use Rattle.assembler.specs.Answers.{AnswersPlaced};
-ghost use Rattle.assembler.specs.Meaning.{image_of};
-ghost use Rattle.assembler.specs.Passes.{first_unknown, looked_up};
-ghost use Rattle.assembler.specs.KeptLine.{line_kept};
-ghost use Rattle.assembler.specs.Placed.{IsMemory, IsUnknownPlaced};
+ghost use Rattle.assembler.specs.{Answers.AnswersPlaced, Meaning.image_of, Passes.first_unknown, Passes.looked_up};
+ghost use Rattle.assembler.specs.{KeptLine.line_kept, Placed.IsMemory, Placed.IsUnknownPlaced};
 
 use crate::draft::Draft;
 use crate::kept_line::KeptLine;

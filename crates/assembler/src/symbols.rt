@@ -1,8 +1,7 @@
 ghost use Rattle.std.specs.Prelude.{◌≡◌, [], find, length, map, option_map, slice_get, IfOk};
 ghost use Rattle.std.specs.List.{flat_map};
 ghost use Rattle.line_reader.specs.Seen.{name_seen};
-ghost use Rattle.assembler.specs.Draft.{symbol_there};
-ghost use Rattle.assembler.specs.KeptLine.{line_kept};
+ghost use Rattle.assembler.specs.{Draft.symbol_there, KeptLine.line_kept};
 ghost use Rattle.assembler.specs.Symbols.{SymbolTable, is_symbol_of, name_of, row_line, symbol_seen, symbols_of};
 
 use crate::draft::{Draft, Place};

@@ -1,9 +1,7 @@
 //! Where a word is in its line.
 ghost use Rattle.std.specs.Prelude.{◌≡◌, ◌+◌, ◌-◌, ◌<◌, ◌≤◌, ◌++◌, IfSome, Some, drop, length, option_map, slice_get, take, ℕ};
 ghost use Rattle.std.specs.List.{position, slice_split};
-ghost use Rattle.line_reader.specs.FirstLine.{word_alone};
-ghost use Rattle.line_reader.specs.Seen.{name_seen};
-ghost use Rattle.line_reader.specs.Words.{is_blank, lines_of, words_in};
+ghost use Rattle.line_reader.specs.{FirstLine.word_alone, Seen.name_seen, Words.is_blank, Words.lines_of, Words.words_in};
 ghost use Rattle.assembler.specs.Placed.{IsWordAt, places_from, places_in, with_piece};
 
 use line_reader::first_line::first_line;

@@ -1,12 +1,8 @@
 -- What is held of a source's lines, and a line of it.
-use Rattle.std.proofs.Common.{◌≡◌, ◌∙◌, ◌+◌, ◌<◌, ◌≤◌, ℕ, false, List, [], ◌∷◌, ◌++◌, length, take, drop, get_or, ap, refl, sym, subst, append_assoc, take-append-drop, arith}
-use Rattle.std.specs.Prelude.{Option}
-use Rattle.std.specs.Io.KnownBytes.{Consumes, Keeps, prepend_known}
-use Rattle.std.proofs.KnownBytes.{prepend_known-read}
-use Rattle.std.proofs.Math.Seq.{take-add}
-use Rattle.std.proofs.lemmas.Bool.{ne_eqb}
-use Rattle.std.proofs.lemmas.List.{take-append-le, take_all, take-take, drop_more}
+use Rattle.std.proofs.Common.{◌≡◌, ◌∙◌, ◌+◌, ◌<◌, ◌≤◌, ℕ, false, List, [], ◌∷◌, ◌++◌, length, take, drop, get_or, ap, refl, sym, subst, append_assoc, take-append-drop, arith, Option, ne_eqb, take_all, take-take}
+use Rattle.std.proofs.{KnownBytes.prepend_known-read, Math.Seq.take-add, lemmas.List.take-append-le, lemmas.List.drop_more}
 use Rattle.std.proofs.lemmas.List.Elements.{All-push, All-take}
+use Rattle.std.specs.Io.KnownBytes.{Consumes, Keeps, prepend_known}
 use Rattle.byte_ports.specs.SourceLines.{EndsInAPiece, IsOneLine, is_lf}
 
 -- a byte more of one line

@@ -1,6 +1,6 @@
 -- Bytes that are copied by their two ends.
-use Rattle.std.proofs.Common.{◌≡◌, ◌+◌, ◌-◌, ◌≤◌, ℕ, List, ◌++◌, length, take, drop, arith, length-take-le, take-append-drop}
-use Rattle.std.proofs.lemmas.List.{take-take, take-append-le}
+use Rattle.std.proofs.Common.{◌≡◌, ◌+◌, ◌-◌, ◌≤◌, ℕ, List, ◌++◌, length, take, drop, arith, length-take-le, take-append-drop, take-take}
+use Rattle.std.proofs.lemmas.List.{take-append-le}
 
 -- the first n of some bytes, and over what is behind them the last n, are all of them
 pub both_ends : (n : ℕ) (from rest : List ℕ) → n ≤ length from → length from ≤ n + n

@@ -1,8 +1,7 @@
 -- The lines of a source, as a caller sees them.
 use Rattle.std.specs.Prelude.{◌≡◌, ◌≤◌, ◌+◌, ◌==◌, ℕ, All, Bool, false, List, [], ◌∷◌, ◌++◌, length, Option, Result, Ok, Err}
 use Rattle.std.specs.Io.KnownBytes.{IsAtEnd}
-use Rattle.byte_ports.specs.declared.failed.Failed.{Failed}
-use Rattle.byte_ports.specs.declared.source_lines.LineEnded.{LineEnded}
+use Rattle.byte_ports.specs.declared.{failed.Failed.Failed, source_lines.LineEnded.LineEnded}
 use Rattle.byte_ports.specs.declared.source_lines.LineEnded.TheVariants as ended
 
 -- the last line without its LF, what was read and not taken yet, and how often the source was read

@@ -1,8 +1,7 @@
 //! A sink in memory that counts all bytes, and keeps only the first ones.
 ghost use Rattle.std.specs.Prelude.{◌≡◌, ◌≤◌, ◌↔◌, ◌++◌, [], ℕ, List, Some, IsTrue, false, length, min};
 ghost use Rattle.std.specs.Io.KnownBytes.{Appends};
-ghost use Rattle.byte_ports.specs.Port.{FailsForGood};
-ghost use Rattle.byte_ports.specs.Counting.{AreFirst, Tally, most_counted};
+ghost use Rattle.byte_ports.specs.{Port.FailsForGood, Counting.AreFirst, Counting.Tally, Counting.most_counted};
 
 use crate::came::Came;
 use crate::failed::Failed;

@@ -1,8 +1,6 @@
 ghost use Rattle.std.specs.Prelude.{◌≡◌, ◌≤◌, [], Some, true, false, IfOk, OnOk, OnErr, vec_len, vec_capacity};
 ghost use Rattle.std.specs.Io.KnownBytes.{Appends};
-ghost use Rattle.byte_ports.specs.Port.{FailsForGood};
-ghost use Rattle.byte_ports.specs.FailAt.{one_nearer};
-ghost use Rattle.byte_ports.specs.MemorySink.{Store, push_fails};
+ghost use Rattle.byte_ports.specs.{Port.FailsForGood, FailAt.one_nearer, MemorySink.Store, MemorySink.push_fails};
 
 use crate::fail_at::{after_a_call, is_next_call};
 use crate::failed::Failed;

@@ -1,8 +1,6 @@
 ghost use Rattle.std.specs.Prelude.{◌≡◌, ◌≤◌, ◌+◌, Some, true, false, IfOk, OnOk, OnErr, length, min, drop};
 ghost use Rattle.std.specs.Io.KnownBytes.{ReadConsumes};
-ghost use Rattle.byte_ports.specs.Port.{FailsForGood};
-ghost use Rattle.byte_ports.specs.FailAt.{one_nearer};
-ghost use Rattle.byte_ports.specs.MemorySource.{Feed, pull_fails};
+ghost use Rattle.byte_ports.specs.{Port.FailsForGood, FailAt.one_nearer, MemorySource.Feed, MemorySource.pull_fails};
 
 use crate::fail_at::{after_a_call, is_next_call};
 use crate::failed::Failed;

@@ -1,7 +1,7 @@
 -- What a terminal is shown of the first bytes is the first of what it is shown of all.
-use Rattle.std.proofs.Common.{◌≡◌, ◌∙◌, ◌≤◌, ℕ, List, length, map, take, Option, Result, Ok, Err, IfOk, sym, ap, subst, arith}
+use Rattle.std.proofs.Common.{◌≡◌, ◌∙◌, ◌≤◌, ℕ, List, length, map, take, Option, Result, Ok, Err, IfOk, sym, ap, subst, arith, length-take, take-take}
+use Rattle.std.proofs.lemmas.List.{take-map}
 use Rattle.std.specs.Io.KnownBytes.{Appends, WriteAppends}
-use Rattle.std.proofs.lemmas.List.{length-take, take-map, take-take}
 use Rattle.command_line.specs.Shown.{shown_for}
 
 pub shown_front : {E : Type 0} (old new : Option (List ℕ)) (r : Result ℕ E) (bytes piece : List ℕ) (count : ℕ) →

@@ -1,6 +1,5 @@
 -- What the getters of the matches give, by the rows of the matches.
-use Rattle.std.proofs.Common.{◌≡◌, ◌∙◌, List, [], Option, Some, None, refl, ap, map}
-use Rattle.std.specs.Prelude.{option_map, unwrap_or}
+use Rattle.std.proofs.Common.{◌≡◌, ◌∙◌, List, [], Option, Some, None, refl, ap, map, option_map, unwrap_or}
 use Rattle.std.specs.Borrow.{Bor}
 use Rattle.clap.specs.Words.{Row, Text, matched_of, raw_values, rows_of}
 use Rattle.clap.specs.declared.parser.matches.Found.{Found}

@@ -1,7 +1,6 @@
 -- What is left of an input.
 use Rattle.std.specs.Prelude.{Option, Some, ℕ, List}
-use Rattle.command_line.specs.declared.ports.input.InputOf.{InputOf}
-use Rattle.command_line.specs.declared.ports.input.InputOf.TheVariants.{File, Standard, Text}
+use Rattle.command_line.specs.declared.ports.input.InputOf.{InputOf, TheVariants.File, TheVariants.Standard, TheVariants.Text}
 
 -- what its reader tells; a text tells all its bytes
 abbrev pub left_of : {F S : Type 0} → (F → Option (List ℕ)) → (S → Option (List ℕ)) → InputOf F S → Option (List ℕ)

@@ -1,14 +1,10 @@
 -- What a command line asks for: its numbers are within the limits, and each of its arguments is the one that its name says.
 use Rattle.std.specs.Prelude.{◌≡◌, ◌≢◌, ◌≤◌, ◌+◌, ℕ, List, [], ◌∷◌, Option, Some, None, Bool, true, false, All, IfSome, codes, map, option_map, unwrap_or}
-use Rattle.std.specs.Borrow.{Bor}
-use Rattle.std.specs.Global.{Vec}
-use Rattle.std.specs.Str.Parse.{digits_value}
+use Rattle.std.specs.{Borrow.Bor, Global.Vec, Str.Parse.digits_value}
 use Rattle.clap.specs.Words.{App, Row, Text, all_of, first_of, found_of, is_simple, matches_of, rows_of, subcommand_of}
 use Rattle.clap.specs.declared.parser.matches.ArgMatches.{ArgMatches}
-use Rattle.command_line.specs.declared.request.Request.{Request}
+use Rattle.command_line.specs.declared.request.{Request.Request, Orders.Orders, Steps.Steps}
 use Rattle.command_line.specs.declared.request.Request.TheVariants as request
-use Rattle.command_line.specs.declared.request.Orders.{Orders}
-use Rattle.command_line.specs.declared.request.Steps.{Steps}
 use Rattle.command_line.specs.declared.request.Steps.TheVariants as steps
 
 -- the seeds are in order, 100,000 at most, and each order has 1,000,000 choices at most

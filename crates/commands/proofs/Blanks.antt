@@ -1,7 +1,7 @@
 -- A blank behind a schedule.
 use Rattle.std.proofs.Common.{◌≡◌, ◌∙◌, ◌+◌, ◌<◌, ℕ, Bool, true, false, List, [], ◌∷◌, ◌++◌, length, refl, ap, arith}
-use Rattle.std.specs.List.{slice_split, onto_first}
 use Rattle.std.proofs.lemmas.List.Splits.{slice_split-cons_no, slice_split-cons_yes, length-slice_split}
+use Rattle.std.specs.List.{slice_split, onto_first}
 use Rattle.schedule_reader.specs.Schedule.{finished_schedule, is_blank, schedule_in, schedule_with_piece}
 
 -- the pieces of a text that gets a blank

@@ -1,14 +1,8 @@
 -- What one run more makes of the outcomes.
-use Rattle.std.proofs.Common.{◌≡◌, ◌+◌, ◌≤◌, ◌<◌, ℕ, List, [], ◌∷◌, ◌++◌, Option, Some, None, length, refl, ap, arith}
-use Rattle.std.specs.Prelude.{IfSome, IsSome, bytes_eq, cond, filter, is_some, option_map}
-use Rattle.std.specs.List.{IsDistinct}
-use Rattle.std.specs.Cmp.{IsStrictWeakOrder}
-use Rattle.std.proofs.lemmas.Bool.{le-ltb, ltb-false, ltb-true}
-use Rattle.std.proofs.lemmas.List.{length-append}
-use Rattle.std.proofs.lemmas.List.Elements.{filter-append}
-use Rattle.std.proofs.lemmas.Slice.Eq.{bytes_eq-Decides}
-use Rattle.commands.specs.declared.end_state.EndState.{EndState}
-use Rattle.commands.specs.declared.outcomes.Outcome.{Outcome}
+use Rattle.std.proofs.Common.{◌≡◌, ◌+◌, ◌≤◌, ◌<◌, ℕ, List, [], ◌∷◌, ◌++◌, Option, Some, None, length, refl, ap, arith, IfSome, IsSome, bytes_eq, cond, filter, is_some, option_map, le-ltb, ltb-false, ltb-true, length-append}
+use Rattle.std.proofs.lemmas.{List.Elements.filter-append, Slice.Eq.bytes_eq-Decides}
+use Rattle.std.specs.{List.IsDistinct, Cmp.IsStrictWeakOrder}
+use Rattle.commands.specs.declared.{end_state.EndState.EndState, outcomes.Outcome.Outcome}
 use Rattle.commands.specs.Outcomes.{AreOutcomes, Ended, Told, ends_in, is_more_frequent, is_state, told, told_in, told_of}
 
 -- what is told with one run more

@@ -3,10 +3,8 @@ use Rattle.std.proofs.Common.{◌≡◌, ◌≤◌, ℕ, List, length, arith}
 use Rattle.assembler.specs.Symbols.{SymbolTable}
 use Rattle.commands.specs.Drawing.{IsDrawingIn}
 use Rattle.row_code.specs.declared.image.Image.{Image}
-use Rattle.pictures.specs.Picture.{picture}
-use Rattle.pictures.specs.Choices.{AreChoicesOf, most_choices}
-use Rattle.thread_machine.specs.declared.choice.Choice.{Choice}
-use Rattle.thread_machine.specs.World.{World}
+use Rattle.pictures.specs.{Picture.picture, Choices.AreChoicesOf, Choices.most_choices}
+use Rattle.thread_machine.specs.{declared.choice.Choice.Choice, World.World}
 use Rattle.trace_text.specs.Start.{Begins}
 
 pub drawing_in : (width : ℕ) (schedule text : List ℕ) (image : Image) (symbols : SymbolTable) (world : World)

@@ -1,10 +1,7 @@
 -- The part of a schedule that shows why there is no picture, in what a source gave.
-use Rattle.std.proofs.Common.{◌≡◌, ◌∙◌, ◌≤◌, ◌++◌, ℕ, List, length, take, drop, ap, sym, subst, false, Option, Result, Err, IfErr, append_assoc}
-use Rattle.std.proofs.lemmas.List.{take-append-drop}
+use Rattle.std.proofs.Common.{◌≡◌, ◌∙◌, ◌≤◌, ◌++◌, ℕ, List, length, take, drop, ap, sym, subst, false, Option, Result, Err, IfErr, append_assoc, take-append-drop}
 use Rattle.std.specs.Io.KnownBytes.{Consumes}
-use Rattle.workbench.specs.declared.fault.Fault.{Fault}
-use Rattle.workbench.specs.declared.fault.PictureKind.{PictureKind}
-use Rattle.workbench.specs.Fault.{status_of}
+use Rattle.workbench.specs.{declared.fault.Fault.Fault, declared.fault.PictureKind.PictureKind, Fault.status_of}
 use Rattle.workbench.specs.Input.{GivesFront, most_bytes}
 use Rattle.commands.specs.Picture.{ShowsNone}
 

@@ -1,23 +1,14 @@
 -- Rows, and the lines that say them.
-use Rattle.std.proofs.Common.{◌≡◌, ◌∙◌, inl, inr, true, false, ℕ, zero, suc, ◌+◌, List, [], ◌∷◌, ◌++◌, drop, Option, Some, Result, Ok, Err, slice_index_or, refl, sym, ap, subst, arith}
-use Rattle.std.specs.Prelude.{IfOk}
-use Rattle.std.specs.Global.{Vec}
-use Rattle.std.specs.List.{flat_map, slice_split}
-use Rattle.row_code.specs.Answers.{◌>>=◌}
-use Rattle.row_code.specs.declared.image.Image.{Image}
-use Rattle.line_reader.specs.declared.asm_fault.AsmFault.{AsmFault}
-use Rattle.line_reader.specs.declared.statement.Line.{Line}
-use Rattle.line_reader.specs.declared.statement.Statement.{Statement}
-use Rattle.line_reader.specs.Spelling.{Says}
-use Rattle.line_reader.specs.Symbols.{Name}
-use Rattle.line_reader.specs.Words.{is_line_end, lines_of, without_empty_last}
+use Rattle.std.proofs.Common.{◌≡◌, ◌∙◌, inl, inr, true, false, ℕ, zero, suc, ◌+◌, List, [], ◌∷◌, ◌++◌, drop, Option, Some, Result, Ok, Err, slice_index_or, refl, sym, ap, subst, arith, IfOk}
+use Rattle.std.specs.{Global.Vec, List.flat_map, List.slice_split}
+use Rattle.row_code.specs.{Answers.◌>>=◌, declared.image.Image.Image}
+use Rattle.line_reader.specs.declared.{asm_fault.AsmFault.AsmFault, statement.Line.Line, statement.Statement.Statement}
+use Rattle.line_reader.specs.{Spelling.Says, Symbols.Name, Words.is_line_end, Words.lines_of, Words.without_empty_last}
 use Rattle.line_reader.specs.Listing.{line_text, numbered}
-use Rattle.assembler.specs.Meaning.{image_of, rows_in, SayInOrder, StandsFor}
-use Rattle.assembler.specs.Statements.{Follows}
+use Rattle.assembler.specs.{Meaning.image_of, Meaning.rows_in, Meaning.SayInOrder, Meaning.StandsFor, Statements.Follows}
 use Rattle.assembler.specs.Passes.{assembled, first_unknown, lines_read, looked_up}
 use Rattle.assembler.specs.Symbols.{SymbolTable, symbols_in, symbols_of}
-use Rattle.assembler.proofs.FirstPass.{one_less}
-use Rattle.assembler.proofs.ReadLines.{lines_take, stands_for-assembled}
+use Rattle.assembler.proofs.{FirstPass.one_less, ReadLines.lines_take, ReadLines.stands_for-assembled}
 use Rattle.assembler.proofs.SpelledLines.{LineSays, line_again}
 use Rattle.commands.specs.Rows.{AreSaid, IsRowListing, IsTextListing, image_listing, line_at, row_lines, text_row_words}
 use Rattle.workbench.specs.ProgramFile.{IsNamedProgram, is_image_file}

@@ -1,8 +1,7 @@
 -- Names by the numbers of their threads.
-use Rattle.std.proofs.Common.{◌≡◌, ℕ, List, map}
-use Rattle.std.specs.Prelude.{option_map, slice_get}
-use Rattle.std.specs.Borrow.{Bor}
+use Rattle.std.proofs.Common.{◌≡◌, ℕ, List, map, option_map, slice_get}
 use Rattle.std.proofs.lemmas.Option.{slice_get-map}
+use Rattle.std.specs.Borrow.{Bor}
 use Rattle.line_reader.specs.Seen.{name_seen}
 
 -- the name of a thread, by the bytes that it borrows

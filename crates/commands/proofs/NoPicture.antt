@@ -1,20 +1,14 @@
 -- Why there is no picture, by the fault that was found in the program or the schedule.
 use Rattle.std.proofs.Common.{◌≡◌, ◌⊎◌, ℕ, List, Some, Result, Err, arith}
 use Rattle.loader.specs.declared.load_fault.LoadFault.{LoadFault}
-use Rattle.workbench.specs.declared.fault.Fault.{Fault}
-use Rattle.workbench.specs.declared.fault.PictureKind.{PictureKind}
+use Rattle.workbench.specs.{declared.fault.Fault.Fault, declared.fault.PictureKind.PictureKind, Fault.status_of}
 use Rattle.workbench.specs.declared.fault.PictureKind.TheVariants as picture
-use Rattle.workbench.specs.Fault.{status_of}
-use Rattle.commands.specs.PictureFault.{fault_of}
-use Rattle.commands.specs.Picture.{HaveNoPicture, most_of}
+use Rattle.commands.specs.{PictureFault.fault_of, Picture.HaveNoPicture, Picture.most_of}
 use Rattle.row_code.specs.declared.image.Image.{Image}
-use Rattle.pictures.specs.Choices.{HasMoreChoices}
-use Rattle.pictures.specs.Page.{HasLongTrace}
-use Rattle.pictures.specs.declared.page.PageFault.{PageFault}
+use Rattle.pictures.specs.{Choices.HasMoreChoices, Page.HasLongTrace, declared.page.PageFault.PageFault}
 use Rattle.pictures.specs.declared.page.PageFault.TheVariants as none
-use Rattle.schedule_reader.specs.declared.fault.ScheduleFault.{ScheduleFault}
+use Rattle.schedule_reader.specs.{declared.fault.ScheduleFault.ScheduleFault, Schedule.finished_schedule}
 use Rattle.schedule_reader.specs.declared.fault.ScheduleFault.TheVariants as wrong
-use Rattle.schedule_reader.specs.Schedule.{finished_schedule}
 use Rattle.trace_text.specs.Start.{IsRefused}
 
 pub no_picture : {A : Type 0} (result : Result A PageFault) (fault : PageFault) (told : Fault) (kind : PictureKind) (schedule : List ℕ)

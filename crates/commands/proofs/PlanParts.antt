@@ -1,32 +1,19 @@
 -- The schedule of a plan, by the parts that it is made of.
-use Rattle.std.proofs.Common.{◌≡◌, ◌∙◌, ◌+◌, ◌≤◌, ◌++◌, ℕ, Bool, List, [], ◌∷◌, length, map, refl, sym, subst, ap, arith}
-use Rattle.std.specs.Prelude.{Err, IfOk, Ok, Option, Result, Some}
-use Rattle.std.specs.Io.KnownBytes.{Appends}
-use Rattle.std.specs.Borrow.{Bor}
-use Rattle.std.proofs.lemmas.List.{length-map, map-append}
-use Rattle.std.proofs.lemmas.List.FromFn.{length-map-range_with_len, map-range_with_len_more}
+use Rattle.std.proofs.Common.{◌≡◌, ◌∙◌, ◌+◌, ◌≤◌, ◌++◌, ℕ, Bool, List, [], ◌∷◌, length, map, refl, sym, subst, ap, arith, Err, IfOk, Ok, Option, Result, Some}
+use Rattle.std.proofs.lemmas.List.{length-map, map-append, FromFn.length-map-range_with_len, FromFn.map-range_with_len_more}
+use Rattle.std.specs.{Io.KnownBytes.Appends, Borrow.Bor}
 use Rattle.assembler.specs.Symbols.{SymbolTable}
-use Rattle.commands.specs.Choices.{schedule_line}
-use Rattle.commands.specs.Named.{line_by}
+use Rattle.commands.specs.{Choices.schedule_line, Named.line_by, Seeds.HaveNoReport, Seeds.IsSeedOf, Seeds.plan_by}
 use Rattle.commands.specs.Planning.{ComesOfPlan, HasNamedPlanned, HasPlanned, HasThreads, Plays, thread_name, thread_names}
-use Rattle.commands.specs.Seeds.{HaveNoReport, IsSeedOf, plan_by}
-use Rattle.commands.specs.Unplanned.{unplanned_status}
-use Rattle.commands.specs.declared.seeds.Seeds.{Seeds}
-use Rattle.commands.specs.declared.unplanned.Unplanned.{Unplanned}
+use Rattle.commands.specs.{Unplanned.unplanned_status, declared.seeds.Seeds.Seeds, declared.unplanned.Unplanned.Unplanned}
 use Rattle.commands.specs.declared.unplanned.Unplanned.TheVariants as why
 use Rattle.loader.specs.Program.{IsProgramOf, Program as Loaded}
 use Rattle.row_code.specs.declared.image.Image.{Image}
-use Rattle.workbench.specs.declared.fault.Fault.{Fault}
+use Rattle.workbench.specs.declared.{fault.Fault.Fault, program.Program.Program}
 use Rattle.workbench.specs.declared.fault.Fault.TheVariants as fault
-use Rattle.workbench.specs.declared.program.Program.{Program}
 use Rattle.line_reader.specs.Seen.{name_seen}
-use Rattle.plans.specs.Plan.{words_in_plan}
-use Rattle.plans.specs.Tree.{IsPlan}
-use Rattle.plans.specs.declared.word.Word.{Word}
-use Rattle.plans.specs.declared.fault.PlanFault.{PlanFault}
-use Rattle.plans.specs.Planned.{AreRuns, IsPlanOf, Shows}
-use Rattle.plans.specs.Progress.{Progress}
-use Rattle.plans.specs.declared.planned.Planned.{Planned}
+use Rattle.plans.specs.{Plan.words_in_plan, Tree.IsPlan, declared.word.Word.Word, declared.fault.PlanFault.PlanFault}
+use Rattle.plans.specs.{Planned.AreRuns, Planned.IsPlanOf, Planned.Shows, Progress.Progress, declared.planned.Planned.Planned}
 
 -- the name of one thread more
 pub one_more : (symbols : SymbolTable) (names after : List (Bor (List ℕ))) (name : Bor (List ℕ)) (thread : ℕ)

@@ -1,19 +1,13 @@
 -- What was written of the runs of an image's program.
-use Rattle.std.proofs.Common.{◌≡◌, ◌⊎◌, ℕ, Bool, IsTrue, List, arith}
-use Rattle.std.specs.Prelude.{Option, None, Result, Ok, Err, IfErr, IfOk, OnOk}
+use Rattle.std.proofs.Common.{◌≡◌, ◌⊎◌, ℕ, Bool, IsTrue, List, arith, Option, None, Result, Ok, Err, IfErr, IfOk, OnOk}
 use Rattle.std.specs.Io.KnownBytes.{Appends}
 use Rattle.row_code.specs.declared.image.Image.{Image}
-use Rattle.loader.specs.Fault.{first_fault}
-use Rattle.loader.specs.Program.{Program, IsProgramOf}
+use Rattle.loader.specs.{Fault.first_fault, Program.Program, Program.IsProgramOf}
 use Rattle.thread_machine.specs.World.{first_world}
 use Rattle.thread_machine.proofs.Firsts.{is_first}
-use Rattle.commands.specs.declared.many_runs.Asked.{Asked}
-use Rattle.commands.specs.declared.end_state.EndState.{EndState}
-use Rattle.commands.specs.declared.outcomes.Outcome.{Outcome}
-use Rattle.workbench.specs.declared.done.Done.{Done}
-use Rattle.commands.specs.Outcomes.{IsMostFrequentFirst, report, done_by}
-use Rattle.commands.specs.Runs.{AreOutcomesFrom, Reports}
-use Rattle.workbench.specs.declared.fault.Fault.{Fault}
+use Rattle.commands.specs.declared.{many_runs.Asked.Asked, end_state.EndState.EndState, outcomes.Outcome.Outcome}
+use Rattle.commands.specs.{Outcomes.IsMostFrequentFirst, Outcomes.report, Outcomes.done_by, Runs.AreOutcomesFrom, Runs.Reports}
+use Rattle.workbench.specs.declared.{done.Done.Done, fault.Fault.Fault}
 use Rattle.workbench.specs.declared.fault.Fault.TheVariants as fault
 
 -- the report was written of a program, or why not

@@ -1,9 +1,7 @@
 -- Outcomes one behind the other.
-use Rattle.std.proofs.Common.{◌≡◌, ◌∙◌, ◌+◌, ◌<◌, ◌&&◌, ℕ, Bool, List, ◌∷◌, ◌++◌, Some, length, get_or, drop, ap, append_assoc, append-nil, arith, rules}
-use Rattle.std.specs.Prelude.{slice_get}
+use Rattle.std.proofs.Common.{◌≡◌, ◌∙◌, ◌+◌, ◌<◌, ◌&&◌, ℕ, Bool, List, ◌∷◌, ◌++◌, Some, length, get_or, drop, ap, append_assoc, append-nil, arith, rules, slice_get}
+use Rattle.std.proofs.lemmas.{List.drop_more, Option.get_or_from_slice_get, Option.slice_get_within}
 use Rattle.std.specs.List.{flat_map, list_all}
-use Rattle.std.proofs.lemmas.List.{drop_more}
-use Rattle.std.proofs.lemmas.Option.{get_or_from_slice_get, slice_get_within}
 
 pub ruleset text_steps = (append_assoc, append-nil)
 

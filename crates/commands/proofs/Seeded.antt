@@ -1,26 +1,15 @@
 -- Orders of seeds, one more at a time.
-use Rattle.std.proofs.Common.{◌≡◌, ◌∙◌, ◌+◌, ◌<◌, ℕ, List, [], ◌∷◌, ◌++◌, Some, None, ap, length, subst, sym, arith}
-use Rattle.std.specs.Global.{Vec}
-use Rattle.std.specs.List.{find}
-use Rattle.std.specs.Option.{option_or}
-use Rattle.std.specs.Prelude.{Err, IfOk, Option, Result, cond, not}
+use Rattle.std.proofs.Common.{◌≡◌, ◌∙◌, ◌+◌, ◌<◌, ℕ, List, [], ◌∷◌, ◌++◌, Some, None, ap, length, subst, sym, arith, Err, IfOk, Option, Result, cond, not}
 use Rattle.std.proofs.lemmas.List.Folds.{find-append}
+use Rattle.std.specs.{Global.Vec, List.find, Option.option_or}
 use Rattle.loader.specs.Program.{Program as Loaded}
-use Rattle.plans.specs.Plan.{words_in_plan}
-use Rattle.plans.specs.declared.fault.PlanFault.{PlanFault}
-use Rattle.plans.specs.declared.planned.Planned.{Planned}
-use Rattle.plans.specs.Planned.{AreRuns, Shows}
-use Rattle.plans.specs.Progress.{Progress}
-use Rattle.thread_machine.specs.Standing.{standing_of}
-use Rattle.thread_machine.specs.World.{World}
+use Rattle.plans.specs.{Plan.words_in_plan, declared.fault.PlanFault.PlanFault, declared.planned.Planned.Planned}
+use Rattle.plans.specs.{Planned.AreRuns, Planned.Shows, Progress.Progress}
+use Rattle.thread_machine.specs.{Standing.standing_of, World.World}
 use Rattle.trace_text.specs.Expectation.{are_met}
-use Rattle.commands.specs.Ends.{end_text}
-use Rattle.commands.specs.Outcomes.{Ended}
-use Rattle.commands.specs.Planning.{Plays}
+use Rattle.commands.specs.{Ends.end_text, Outcomes.Ended, Planning.Plays, declared.seeds.Seeds.Seeds}
 use Rattle.commands.specs.Seeds.{AreEndsBy, IsEndBy, IsEndOf, IsFirstUnlike, IsSeedOf, IsUnlike, is_unlike, plan_by}
-use Rattle.commands.specs.declared.seeds.Seeds.{Seeds}
-use Rattle.commands.specs.declared.seeds.Unlike.{Unlike}
-use Rattle.commands.specs.declared.unplanned.Unplanned.{Unplanned}
+use Rattle.commands.specs.declared.{seeds.Unlike.Unlike, unplanned.Unplanned.Unplanned}
 
 pub one_more : (program : Loaded) (names : List (List ℕ)) (plan : List ℕ) (limit : Option ℕ) (first : ℕ) (runs : List Ended) (run : Ended)
     → AreEndsBy program names plan limit first runs → IsEndBy program names plan limit (first + length runs) run

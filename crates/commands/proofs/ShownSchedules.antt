@@ -1,6 +1,5 @@
 -- A schedule that is shown with a token for choices that repeat.
-use Rattle.std.proofs.Common.{◌≡◌, ℕ, List, arith}
-use Rattle.std.specs.Prelude.{None}
+use Rattle.std.proofs.Common.{◌≡◌, ℕ, List, arith, None}
 use Rattle.schedule_reader.specs.Schedule.{choices_of, finished_schedule}
 use Rattle.thread_machine.specs.World.{World}
 use Rattle.thread_runner.specs.Replay.{IsReplayOfText}

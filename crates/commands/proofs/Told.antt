@@ -1,11 +1,9 @@
 -- What is told of a trace's choices.
-use Rattle.std.proofs.Common.{◌≡◌, ℕ, true, false, List, ◌++◌, Some, None, refl, subst, rules}
-use Rattle.std.specs.Prelude.{Option, is_none}
-use Rattle.std.specs.Io.KnownBytes.{Appends}
+use Rattle.std.proofs.Common.{◌≡◌, ℕ, true, false, List, ◌++◌, Some, None, refl, subst, rules, Option, is_none}
 use Rattle.std.proofs.KnownBytes.{Appends-trans}
+use Rattle.std.specs.Io.KnownBytes.{Appends}
 use Rattle.thread_machine.specs.declared.choice.Choice.{Choice}
-use Rattle.trace_compare.specs.Naming.{HasRead, Naming}
-use Rattle.trace_compare.specs.Writing.{HasWrittenUpTo, line_by}
+use Rattle.trace_compare.specs.{Naming.HasRead, Naming.Naming, Writing.HasWrittenUpTo, Writing.line_by}
 use Rattle.commands.specs.Choices.{HasToldChoices, told_line}
 
 -- the choices were written, with this answer

@@ -1,12 +1,9 @@
 -- What `choices` reads and writes.
 use Rattle.std.specs.Prelude.{◌≡◌, ℕ, is_none, All, List, [], ◌∷◌, ◌++◌, Option, Some, None, codes}
 use Rattle.std.specs.Io.KnownBytes.{Appends}
-use Rattle.schedule_reader.specs.declared.run.Run.{Run}
-use Rattle.schedule_reader.specs.Joined.{AreJoined}
-use Rattle.schedule_reader.specs.Schedule.{IsRun, choices_of}
+use Rattle.schedule_reader.specs.{declared.run.Run.Run, Joined.AreJoined, Schedule.IsRun, Schedule.choices_of}
 use Rattle.schedule_reader.specs.Text.{schedule_text}
-use Rattle.trace_compare.specs.Naming.{HasRead, Naming}
-use Rattle.trace_compare.specs.Writing.{line_by}
+use Rattle.trace_compare.specs.{Naming.HasRead, Naming.Naming, Writing.line_by}
 use Rattle.workbench.specs.Fault.{counted_line}
 
 -- a line with a token for each run

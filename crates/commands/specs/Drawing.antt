@@ -2,8 +2,7 @@
 use Rattle.std.specs.Prelude.{◌≤◌, ℕ, List, length}
 use Rattle.assembler.specs.Symbols.{SymbolTable}
 use Rattle.row_code.specs.declared.image.Image.{Image}
-use Rattle.pictures.specs.Picture.{IsPictureOf}
-use Rattle.pictures.specs.Choices.{AreChoicesOf, most_choices}
+use Rattle.pictures.specs.{Picture.IsPictureOf, Choices.AreChoicesOf, Choices.most_choices}
 use Rattle.thread_machine.specs.declared.choice.Choice.{Choice}
 
 -- the drawing, at most so wide, of no more choices than a picture shows

@@ -1,10 +1,8 @@
 -- The state in which a run ended.
 use Rattle.std.specs.Prelude.{ℕ, ◌+◌, ◌==◌, List, ◌∷◌, ◌++◌, codes, drop}
 use Rattle.std.specs.List.{position_or_len}
-use Rattle.thread_machine.specs.World.{World}
-use Rattle.thread_machine.specs.Standing.{name_of}
-use Rattle.thread_runner.specs.declared.ending.Ending.{Ending}
-use Rattle.thread_runner.specs.Endings.{standing_at}
+use Rattle.thread_machine.specs.{World.World, Standing.name_of}
+use Rattle.thread_runner.specs.{declared.ending.Ending.Ending, Endings.standing_at}
 use Rattle.trace_text.specs.State.{state_text}
 
 -- the word of the state

@@ -1,17 +1,12 @@
 -- A schedule with the names of the threads, written as words of a plan. A plan reads each word as its choice.
 use Rattle.std.specs.Prelude.{ℕ, ◌==◌, ◌&&◌, if◌then◌else◌, Bool, false, not, List, [], ◌∷◌, ◌++◌, Option, Some, None, Result, Ok, map, option_map, slice_get, unwrap_or}
-use Rattle.std.specs.Borrow.{Bor}
-use Rattle.std.specs.Fmt.{decimal}
+use Rattle.std.specs.{Borrow.Bor, Fmt.decimal}
 use Rattle.line_reader.specs.Seen.{name_seen}
-use Rattle.plans.specs.Plan.{words_in_plan}
-use Rattle.plans.specs.declared.fault.PlanFault.{PlanFault}
+use Rattle.plans.specs.{Plan.words_in_plan, declared.fault.PlanFault.PlanFault, declared.word.Word.Word}
 use Rattle.plans.specs.declared.word.Step.TheVariants as step
-use Rattle.plans.specs.declared.word.Word.{Word}
 use Rattle.plans.specs.declared.word.Word.TheVariants as word
-use Rattle.schedule_reader.specs.Schedule.{finished_schedule}
-use Rattle.schedule_reader.specs.Text.{letter_of, schedule_text, times_text}
-use Rattle.schedule_reader.specs.declared.fault.ScheduleFault.{ScheduleFault}
-use Rattle.schedule_reader.specs.declared.run.Run.{Run}
+use Rattle.schedule_reader.specs.{Schedule.finished_schedule, Text.letter_of, Text.schedule_text, Text.times_text}
+use Rattle.schedule_reader.specs.declared.{fault.ScheduleFault.ScheduleFault, run.Run.Run}
 use Rattle.thread_machine.specs.declared.choice.Choice.{Choice}
 
 -- a choice by the thread's name: 120 is the `x` of an expiry

@@ -1,19 +1,11 @@
 -- How the results of several runs are counted and written.
 use Rattle.std.specs.Prelude.{◌≡◌, ℕ, Bool, if◌then◌else◌, List, [], ◌∷◌, ◌++◌, Option, Some, None, bytes_eq, codes, decimal, filter, flat_map, length, nat_lt, option_map, IsSortedBy}
-use Rattle.std.specs.List.{IsDistinct, list_all}
-use Rattle.std.specs.Global.{Vec}
-use Rattle.std.specs.String.{string_bytes}
-use Rattle.std.specs.Map.{keys_of, lookup}
-use Rattle.trace_text.specs.Expectation.{are_met}
-use Rattle.trace_text.specs.ExpectedLine.{has_died}
+use Rattle.std.specs.{List.IsDistinct, List.list_all, Global.Vec, String.string_bytes, Map.keys_of, Map.lookup}
+use Rattle.trace_text.specs.{Expectation.are_met, ExpectedLine.has_died}
 use Rattle.thread_machine.specs.World.{World}
-use Rattle.thread_runner.specs.declared.ending.Ending.{Ending}
-use Rattle.thread_runner.specs.Endings.{ending_of}
-use Rattle.thread_runner.specs.Replay.{IsReplayOfText}
-use Rattle.commands.specs.declared.end_state.EndState.{EndState}
-use Rattle.commands.specs.declared.outcomes.Outcome.{Outcome}
+use Rattle.thread_runner.specs.{declared.ending.Ending.Ending, Endings.ending_of, Replay.IsReplayOfText}
+use Rattle.commands.specs.{declared.end_state.EndState.EndState, declared.outcomes.Outcome.Outcome, Named.told_by}
 use Rattle.commands.specs.Ends.{end_text, ending_word}
-use Rattle.commands.specs.Named.{told_by}
 use Rattle.workbench.specs.declared.done.Done.{Done}
 use Rattle.workbench.specs.declared.done.Done.TheVariants as done
 

@@ -1,7 +1,6 @@
 -- How long a worker pauses before a turn.
 use Rattle.std.specs.Prelude.{ℕ, ◌+◌, ◌*◌, ◌/◌, ◌%◌, ◌==◌, if◌then◌else◌}
-use Rattle.rand_pcg.specs.Lcg.{advance, increment_of, started}
-use Rattle.rand_pcg.specs.Pcg.{multiplier_64, pcg32}
+use Rattle.rand_pcg.specs.{Lcg.advance, Lcg.increment_of, Lcg.started, Pcg.multiplier_64, Pcg.pcg32}
 use Rattle.commands.specs.declared.pauses.pause.Pause.{Pause}
 use Rattle.commands.specs.declared.pauses.pause.Pause.TheVariants as pause
 

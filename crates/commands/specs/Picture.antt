@@ -2,13 +2,11 @@
 use Rattle.std.specs.Prelude.{◌≡◌, ◌<◌, ℕ, List, None, Some, length}
 use Rattle.loader.specs.declared.load_fault.LoadFault.{LoadFault}
 use Rattle.row_code.specs.declared.image.Image.{Image}
-use Rattle.pictures.specs.Choices.{HasMoreChoices, most_choices, most_page_choices}
-use Rattle.pictures.specs.Page.{HasLongTrace}
+use Rattle.pictures.specs.{Choices.HasMoreChoices, Choices.most_choices, Choices.most_page_choices, Page.HasLongTrace}
 use Rattle.schedule_reader.specs.Schedule.{choices_of, finished_schedule, open_schedule}
 use Rattle.trace_text.specs.Start.{IsRefused}
-use Rattle.workbench.specs.declared.fault.Fault.{Fault}
+use Rattle.workbench.specs.declared.fault.{Fault.Fault, PictureKind.PictureKind}
 use Rattle.workbench.specs.declared.fault.Fault.TheVariants as fault
-use Rattle.workbench.specs.declared.fault.PictureKind.{PictureKind}
 use Rattle.workbench.specs.declared.fault.PictureKind.TheVariants as picture
 
 -- an image's program is loaded

@@ -3,9 +3,8 @@ use Rattle.pictures.specs.declared.page.PageFault.{PageFault}
 use Rattle.pictures.specs.declared.page.PageFault.TheVariants as page
 use Rattle.trace_text.specs.declared.start.StartFault.{StartFault}
 use Rattle.trace_text.specs.declared.start.StartFault.TheVariants as start
-use Rattle.workbench.specs.declared.fault.Fault.{Fault}
+use Rattle.workbench.specs.declared.fault.{Fault.Fault, PictureKind.PictureKind}
 use Rattle.workbench.specs.declared.fault.Fault.TheVariants as fault
-use Rattle.workbench.specs.declared.fault.PictureKind.{PictureKind}
 
 -- if a schedule has no picture of this kind, and if a program can't be loaded
 abbrev pub fault_of : PageFault → PictureKind → Fault

@@ -5,11 +5,8 @@ use Rattle.pictures.specs.Missing.{IsMissingIn}
 use Rattle.row_code.specs.declared.image.Image.{Image}
 use Rattle.thread_machine.specs.declared.choice.Choice.{Choice}
 use Rattle.commands.specs.Picture.{HaveNoPicture, HaveNoPictureSoFar}
-use Rattle.workbench.specs.declared.fault.Fault.{Fault}
-use Rattle.workbench.specs.declared.fault.PictureKind.{PictureKind}
-use Rattle.workbench.specs.Input.{GivesAll, GivesFront}
-use Rattle.workbench.specs.ProgramFile.{is_image_file}
-use Rattle.workbench.specs.RunLine.{program_part, schedule_part}
+use Rattle.workbench.specs.{declared.fault.Fault.Fault, declared.fault.PictureKind.PictureKind, ProgramFile.is_image_file}
+use Rattle.workbench.specs.{Input.GivesAll, Input.GivesFront, RunLine.program_part, RunLine.schedule_part}
 
 -- a file that has a program and its schedule: an image has none, and a text has it after its line `.run`
 abbrev pub program_of : List ℕ → List ℕ

@@ -1,26 +1,17 @@
 -- What `plan` writes for a program and a plan.
 use Rattle.std.specs.Prelude.{◌≡◌, ℕ, Bool, List, [], length, map, unwrap_or, Option, None, Some, Ok, Err}
-use Rattle.std.specs.Io.KnownBytes.{Appends}
-use Rattle.std.specs.List.{range_with_len}
+use Rattle.std.specs.{Io.KnownBytes.Appends, List.range_with_len}
 use Rattle.assembler.specs.Symbols.{SymbolTable, name_of}
 use Rattle.instruction_table.specs.declared.shape.OperandKind.TheVariants.{Thread}
-use Rattle.loader.specs.Fault.{first_fault}
-use Rattle.loader.specs.Program.{IsProgramOf, Program as Loaded}
+use Rattle.loader.specs.{Fault.first_fault, Program.IsProgramOf, Program.Program as Loaded}
 use Rattle.row_code.specs.declared.image.Image.{Image}
-use Rattle.plans.specs.Plan.{words_in_plan}
-use Rattle.plans.specs.Tree.{Plan, words_of_plan}
-use Rattle.plans.specs.Planned.{AreRuns}
-use Rattle.plans.specs.Play.{plays}
+use Rattle.plans.specs.{Plan.words_in_plan, Tree.Plan, Tree.words_of_plan, Planned.AreRuns, Play.plays}
 use Rattle.plans.specs.Progress.{Progress, begun}
-use Rattle.schedule_reader.specs.Schedule.{choices_of}
-use Rattle.schedule_reader.specs.declared.run.Run.{Run}
+use Rattle.schedule_reader.specs.{Schedule.choices_of, declared.run.Run.Run}
 use Rattle.trace_text.specs.Start.{IsRefused}
-use Rattle.workbench.specs.declared.fault.Fault.{Fault}
+use Rattle.workbench.specs.declared.{fault.Fault.Fault, program.Program.Program}
 use Rattle.workbench.specs.declared.fault.Fault.TheVariants as fault
-use Rattle.workbench.specs.declared.program.Program.{Program}
-use Rattle.commands.specs.Choices.{schedule_line}
-use Rattle.commands.specs.Named.{line_by}
-use Rattle.commands.specs.declared.unplanned.Unplanned.{Unplanned}
+use Rattle.commands.specs.{Choices.schedule_line, Named.line_by, declared.unplanned.Unplanned.Unplanned}
 use Rattle.commands.specs.declared.unplanned.Unplanned.TheVariants as why
 
 -- the threads' names, in order of number; a thread without a name, as in an image, has an empty one, which no word of a plan

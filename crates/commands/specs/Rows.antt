@@ -1,23 +1,13 @@
 -- The listing of a program's rows.
 use Rattle.std.specs.Prelude.{◌≡◌, ◌⊎◌, ℕ, ◌-◌, true, false, List, [], ◌∷◌, length, take, drop, decimal, slice_index_or, Bool, Option, Result, Ok, Err}
-use Rattle.std.specs.Char.{is_ascii_whitespace}
-use Rattle.std.specs.Io.KnownBytes.{Appends}
-use Rattle.std.specs.List.{flat_map, prefix_len, suffix_len}
+use Rattle.std.specs.{Char.is_ascii_whitespace, Io.KnownBytes.Appends, List.flat_map, List.prefix_len, List.suffix_len}
 use Rattle.instruction_table.specs.declared.row.Row.{Row}
-use Rattle.row_code.specs.Reading.{image_of as image_in}
-use Rattle.row_code.specs.declared.image.Image.{Image}
-use Rattle.line_reader.specs.declared.statement.Line.{Line}
+use Rattle.row_code.specs.{Reading.image_of as image_in, declared.image.Image.Image}
+use Rattle.line_reader.specs.{declared.statement.Line.Line, declared.symbolic_row.SymbolicRow.SymbolicRow, Spelling.Says}
+use Rattle.line_reader.specs.{Symbols.Name, Words.lines_of, Listing.line_text, Listing.numbered, Listing.row_words}
 use Rattle.line_reader.specs.declared.statement.Statement.TheVariants as statement
-use Rattle.line_reader.specs.declared.symbolic_row.SymbolicRow.{SymbolicRow}
-use Rattle.line_reader.specs.Spelling.{Says}
-use Rattle.line_reader.specs.Symbols.{Name}
-use Rattle.line_reader.specs.Words.{lines_of}
-use Rattle.line_reader.specs.Listing.{line_text, numbered, row_words}
-use Rattle.assembler.specs.Meaning.{image_of, row_of, SayInOrder, StandsFor}
-use Rattle.assembler.specs.Symbols.{row_line}
-use Rattle.workbench.specs.declared.fault.Fault.{Fault}
-use Rattle.workbench.specs.List.{StopsListing}
-use Rattle.workbench.specs.ProgramFile.{is_image_file}
+use Rattle.assembler.specs.{Meaning.image_of, Meaning.row_of, Meaning.SayInOrder, Meaning.StandsFor, Symbols.row_line}
+use Rattle.workbench.specs.{declared.fault.Fault.Fault, List.StopsListing, ProgramFile.is_image_file}
 
 -- a line without the blanks at its start and its end
 abbrev pub trimmed : List ℕ → List ℕ

@@ -5,12 +5,9 @@ use Rattle.row_code.specs.declared.image.Image.{Image}
 use Rattle.loader.specs.Fault.{first_fault}
 use Rattle.thread_machine.specs.World.{World, IsFirstOf}
 use Rattle.trace_text.specs.Start.{IsRefused}
-use Rattle.workbench.specs.declared.fault.Fault.{Fault}
+use Rattle.workbench.specs.declared.{fault.Fault.Fault, done.Done.Done}
 use Rattle.workbench.specs.declared.fault.Fault.TheVariants as fault
-use Rattle.workbench.specs.declared.done.Done.{Done}
-use Rattle.commands.specs.declared.many_runs.Asked.{Asked}
-use Rattle.commands.specs.declared.end_state.EndState.{EndState}
-use Rattle.commands.specs.declared.outcomes.Outcome.{Outcome}
+use Rattle.commands.specs.declared.{many_runs.Asked.Asked, end_state.EndState.EndState, outcomes.Outcome.Outcome}
 use Rattle.commands.specs.Outcomes.{AreOutcomes, Ended, IsEndedFrom, IsMostFrequentFirst, report, done_by}
 
 -- so many runs from this world had these outcomes

@@ -1,29 +1,17 @@
 -- The results of several runs, whose orders are given by seeds.
 use Rattle.std.specs.Prelude.{◌≡◌, ℕ, ◌+◌, ◌<◌, ◌≤◌, Bool, Err, if◌then◌else◌, not, List, [], ◌∷◌, ◌++◌, codes, decimal, length, Option, Some, None}
-use Rattle.std.specs.Global.{Vec}
-use Rattle.std.specs.Io.KnownBytes.{Appends}
-use Rattle.std.specs.List.{find}
-use Rattle.plans.specs.Plan.{words_in_plan}
-use Rattle.plans.specs.Planned.{AreRuns}
-use Rattle.plans.specs.Progress.{Progress}
-use Rattle.plans.specs.declared.planned.Planned.{Planned}
-use Rattle.schedule_reader.specs.Schedule.{choices_of}
-use Rattle.schedule_reader.specs.Text.{schedule_text}
-use Rattle.schedule_reader.specs.declared.run.Run.{Run}
-use Rattle.thread_machine.specs.Standing.{standing_of}
-use Rattle.thread_machine.specs.World.{world_of}
+use Rattle.std.specs.{Global.Vec, Io.KnownBytes.Appends, List.find}
+use Rattle.plans.specs.{Plan.words_in_plan, Planned.AreRuns, Progress.Progress, declared.planned.Planned.Planned}
+use Rattle.schedule_reader.specs.{Schedule.choices_of, Text.schedule_text, declared.run.Run.Run}
+use Rattle.thread_machine.specs.{Standing.standing_of, World.world_of}
 use Rattle.thread_runner.specs.Endings.{standing_at}
 use Rattle.trace_text.specs.Expectation.{are_met}
-use Rattle.commands.specs.Ends.{end_text}
-use Rattle.commands.specs.Outcomes.{AreOutcomes, Ended, IsMostFrequentFirst, report}
-use Rattle.commands.specs.Planning.{HasThreads, IsUnloadedFor, Plays}
+use Rattle.commands.specs.{Ends.end_text, Outcomes.AreOutcomes, Outcomes.Ended, Outcomes.IsMostFrequentFirst, Outcomes.report}
+use Rattle.commands.specs.{Planning.HasThreads, Planning.IsUnloadedFor, Planning.Plays, declared.end_state.EndState.EndState}
+use Rattle.commands.specs.declared.{outcomes.Outcome.Outcome, seeds.Seeds.Seeds, seeds.Unlike.Unlike}
+use Rattle.commands.specs.declared.unplanned.Unplanned.{Unplanned}
 use Rattle.workbench.specs.declared.program.Program.{Program}
 use Rattle.loader.specs.Program.{IsProgramOf, Program as Loaded}
-use Rattle.commands.specs.declared.end_state.EndState.{EndState}
-use Rattle.commands.specs.declared.outcomes.Outcome.{Outcome}
-use Rattle.commands.specs.declared.seeds.Seeds.{Seeds}
-use Rattle.commands.specs.declared.seeds.Unlike.{Unlike}
-use Rattle.commands.specs.declared.unplanned.Unplanned.{Unplanned}
 use Rattle.commands.specs.declared.unplanned.Unplanned.TheVariants as why
 
 -- the most choices of an order, as a plan has it, if that is given

@@ -5,8 +5,7 @@ use Rattle.row_code.specs.declared.image.Image.{Image}
 use Rattle.trace_compare.specs.Compare.{HasShown, IsReadNoFurther, Judgement}
 use Rattle.trace_compare.specs.declared.comparison.Verdict.{Verdict}
 use Rattle.trace_compare.specs.declared.comparison.Verdict.TheVariants as verdict
-use Rattle.workbench.specs.declared.fault.Fault.{Fault}
-use Rattle.workbench.specs.Compare.{StopsComparing, verdict_line}
+use Rattle.workbench.specs.{declared.fault.Fault.Fault, Compare.StopsComparing, Compare.verdict_line}
 
 -- a word and a line, or only the word
 abbrev pub line_behind : List ℕ → Option (List ℕ) → List ℕ

@@ -1,6 +1,5 @@
 ghost use Rattle.std.specs.Prelude.{◌≡◌, ◌⊎◌, Err, IsTrue, IfErr, IfOk, is_none};
-ghost use Rattle.trace_compare.specs.Naming.{Naming};
-ghost use Rattle.trace_compare.specs.Writing.{HasWrittenPart};
+ghost use Rattle.trace_compare.specs.{Naming.Naming, Writing.HasWrittenPart};
 ghost use Rattle.trace_text.specs.RunText.{GivesOnAndOn};
 ghost use Rattle.workbench.specs.declared.fault.Fault.{Fault};
 ghost use Rattle.commands.specs.Choices.{HasToldChoices};

@@ -1,8 +1,7 @@
 //! Writes the verdict of a trace, and the lines that differ after it.
 ghost use Rattle.std.specs.Prelude.{◌≡◌, ◌⊎◌, ◌++◌, ℕ, Err, IsTrue, IfErr, List, OnOk};
 ghost use Rattle.std.specs.Io.KnownBytes.{Appends};
-ghost use Rattle.workbench.specs.declared.fault.Fault.{Fault};
-ghost use Rattle.workbench.specs.Compare.{verdict_line};
+ghost use Rattle.workbench.specs.{declared.fault.Fault.Fault, Compare.verdict_line};
 ghost use Rattle.commands.specs.Showing.{ShowsComparison, StandsBehind};
 
 use crate::verdict_lines::shown;

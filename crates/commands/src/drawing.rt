@@ -1,14 +1,10 @@
 //! A picture as text.
 ghost use Rattle.std.specs.Prelude.{◌≡◌, ◌≢◌, ◌≤◌, Err, IfErr, IfOk, length};
-ghost use Rattle.commands.specs.Drawing.{IsDrawingIn};
-ghost use Rattle.commands.specs.Picture.{HaveNoPicture};
+ghost use Rattle.commands.specs.{Drawing.IsDrawingIn, Picture.HaveNoPicture};
 ghost use Rattle.workbench.specs.declared.fault.PictureKind.TheVariants as picture;
-ghost use Rattle.workbench.specs.declared.fault.Fault.{Fault};
-ghost use Rattle.pictures.specs.Missing.{IsMissingIn, missing_in};
-ghost use Rattle.pictures.specs.Picture.{picture as text_of};
+ghost use Rattle.workbench.specs.{declared.fault.Fault.Fault, Fault.status_of, Input.most_bytes};
+ghost use Rattle.pictures.specs.{Missing.IsMissingIn, Missing.missing_in, Picture.picture as text_of};
 ghost use Rattle.thread_machine.specs.World.{world_of};
-ghost use Rattle.workbench.specs.Fault.{status_of};
-ghost use Rattle.workbench.specs.Input.{most_bytes};
 
 use crate::picture::{Picture, fault_of, start_fault};
 use assembler::Symbols;

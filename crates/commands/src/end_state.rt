@@ -1,6 +1,5 @@
 //! The state that a run ended in.
-ghost use Rattle.std.specs.Prelude.{◌≡◌, ◌≤◌, ◌++◌, ◌∷◌, [], IfOk, OnOk, bytes_eq, codes, drop, length};
-ghost use Rattle.std.proofs.Common.{rules};
+ghost use Rattle.std.proofs.Common.{◌≡◌, ◌≤◌, ◌++◌, ◌∷◌, [], IfOk, OnOk, bytes_eq, codes, drop, length, rules};
 ghost use Rattle.std.specs.Cmp.Rules.{comparing, hashing};
 ghost use Rattle.thread_machine.specs.World.{world_of};
 ghost use Rattle.commands.specs.Ends.{behind_first_line, end_text, ending_word};

@@ -2,8 +2,7 @@
 ghost use Rattle.std.specs.Prelude.{◌≡◌, ◌≢◌, ◌⊎◌, ◌≤◌, ◌<◌, ◌+◌, ◌++◌, ℕ, List, [], ◌∷◌, Err, IsTrue, false, IfErr, IfOk, length, take};
 ghost use Rattle.commands.specs.Picture.{ShowsNone, most_of};
 ghost use Rattle.schedule_reader.specs.Schedule.{choices_of};
-ghost use Rattle.workbench.specs.Fault.{status_of};
-ghost use Rattle.workbench.specs.Input.{GivesAll, GivesFront, GivesTooMuch, most_bytes};
+ghost use Rattle.workbench.specs.{Fault.status_of, Input.GivesAll, Input.GivesFront, Input.GivesTooMuch, Input.most_bytes};
 
 use byte_ports::Source;
 use schedule_reader::{Reader, Run, ScheduleFault};
@@ -24,8 +23,7 @@ struct Front {
 
 impl Model for Front {
     ghost use Rattle.std.specs.Prelude.{◌≤◌, ℕ, List, length};
-    ghost use Rattle.schedule_reader.specs.Places.{HasRead};
-    ghost use Rattle.schedule_reader.specs.Schedule.{choices_of, open_schedule};
+    ghost use Rattle.schedule_reader.specs.{Places.HasRead, Schedule.choices_of, Schedule.open_schedule};
     ghost use Rattle.workbench.specs.Input.{most_bytes};
 
     ghost Value = { List ℕ };

@@ -1,8 +1,6 @@
 ghost use Rattle.std.specs.Prelude.{◌≡◌, ◌++◌, ◌∷◌, [], List, ℕ};
 ghost use Rattle.assembler.specs.Meaning.{SayInOrder, image_of};
-ghost use Rattle.line_reader.specs.declared.statement.Line.{Line};
-ghost use Rattle.line_reader.specs.Symbols.{Name};
-ghost use Rattle.line_reader.specs.Words.{lines_of};
+ghost use Rattle.line_reader.specs.{declared.statement.Line.Line, Symbols.Name, Words.lines_of};
 ghost use Rattle.schedule_reader.specs.Schedule.{finished_schedule};
 ghost use Rattle.commands.specs.Rows.{AreSaid, IsRowListing, row_lines};
 

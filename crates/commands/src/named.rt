@@ -4,8 +4,7 @@ ghost use Rattle.std.specs.Fmt.{decimal};
 ghost use Rattle.commands.specs.Named.{choice_word, is_once, is_only, name_word, named_text, named_token, names_seen, number_word, spaced_words, text_by};
 ghost use Rattle.line_reader.specs.Seen.{name_seen};
 ghost use Rattle.plans.specs.Plan.{words_in_plan};
-ghost use Rattle.schedule_reader.specs.Text.{letter_of, times_text};
-ghost use Rattle.schedule_reader.specs.Schedule.{IsRun};
+ghost use Rattle.schedule_reader.specs.{Text.letter_of, Text.times_text, Schedule.IsRun};
 
 use itoa::Buffer;
 use plans::fault::{PlanFault, PlanFaultKind};

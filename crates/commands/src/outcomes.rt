@@ -1,7 +1,6 @@
 //! The states that runs ended in, each with how often.
 ghost use Rattle.std.specs.Prelude.{◌≡◌, ◌<◌, ◌++◌, ◌∷◌, [], List, IfOk, IfSome, OnOk, nat_lt};
-ghost use Rattle.std.specs.Ordering.{is_lt};
-ghost use Rattle.std.specs.String.{string_bytes};
+ghost use Rattle.std.specs.{Ordering.is_lt, String.string_bytes};
 ghost use Rattle.indexmap.specs.IndexMap.{get};
 ghost use Rattle.commands.specs.Outcomes.{AreOutcomes, Ended, IsMostFrequentFirst, is_state};
 

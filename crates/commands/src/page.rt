@@ -1,12 +1,9 @@
 //! A picture as a page.
 ghost use Rattle.std.specs.Prelude.{◌≡◌, ◌≢◌, ◌≤◌, Err, IfErr, IfOk, length};
-ghost use Rattle.commands.specs.Page.{IsPageIn, source_of};
-ghost use Rattle.commands.specs.Picture.{HaveNoPicture};
-ghost use Rattle.pictures.specs.Missing.{IsMissingIn};
-ghost use Rattle.pictures.specs.Page.{parts_of};
+ghost use Rattle.commands.specs.{Page.IsPageIn, Page.source_of, Picture.HaveNoPicture};
+ghost use Rattle.pictures.specs.{Missing.IsMissingIn, Page.parts_of};
 ghost use Rattle.workbench.specs.declared.fault.PictureKind.TheVariants as picture;
-ghost use Rattle.workbench.specs.Fault.{status_of};
-ghost use Rattle.workbench.specs.Input.{most_bytes};
+ghost use Rattle.workbench.specs.{Fault.status_of, Input.most_bytes};
 
 use crate::picture::{Picture, fault_of};
 use pictures::frame::Frame;

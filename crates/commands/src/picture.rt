@@ -1,11 +1,8 @@
 //! What a picture of a run can be made as, and why there is none.
 ghost use Rattle.std.specs.Prelude.{◌≡◌, ◌≢◌, ◌≤◌, ℕ, List, Err, IfErr, IfOk, length};
-ghost use Rattle.commands.specs.Picture.{HaveNoPicture, most_of};
+ghost use Rattle.commands.specs.{Picture.HaveNoPicture, Picture.most_of, PictureFault.fault_of, PictureFault.start_fault};
 ghost use Rattle.pictures.specs.Missing.{IsMissingIn};
-ghost use Rattle.commands.specs.PictureFault.{fault_of, start_fault};
-ghost use Rattle.workbench.specs.declared.fault.PictureKind.{PictureKind};
-ghost use Rattle.workbench.specs.declared.program.Program.{Program};
-ghost use Rattle.workbench.specs.Fault.{status_of};
+ghost use Rattle.workbench.specs.{declared.fault.PictureKind.PictureKind, declared.program.Program.Program, Fault.status_of};
 ghost use Rattle.workbench.specs.Input.{most_bytes};
 
 use pictures::choices::{MOST_CHOICES, MOST_PAGE_CHOICES};

@@ -1,19 +1,14 @@
 //! The schedule of a plan.
 ghost use Rattle.std.specs.Prelude.{◌≡◌, ◌≢◌, ◌⊎◌, ◌≤◌, Err, IfErr, IfOk, IfSome, IsTrue, Ok, length, map};
 ghost use Rattle.std.specs.Io.KnownBytes.{Appends};
-ghost use Rattle.commands.specs.Named.{line_by, names_seen};
+ghost use Rattle.commands.specs.{Named.line_by, Named.names_seen, Unplanned.unplanned_status};
 ghost use Rattle.commands.specs.Planning.{ComesOfPlan, HasNamedPlanned, HasNoSchedule, HasPlanned, HasThreads, IsUnloadedFor, Plays, thread_name, thread_names};
-ghost use Rattle.commands.specs.Unplanned.{unplanned_status};
 ghost use Rattle.commands.specs.declared.unplanned.Unplanned.TheVariants as why;
 ghost use Rattle.line_reader.specs.Seen.{name_seen};
 ghost use Rattle.loader.specs.Program.{IsProgramOf};
-ghost use Rattle.plans.specs.Plan.{is_memory, words_in_plan};
-ghost use Rattle.plans.specs.Tree.{IsPlan};
-ghost use Rattle.plans.specs.declared.fault.PlanFault.{PlanFault};
-ghost use Rattle.plans.specs.Planned.{AreRuns, Shows};
-ghost use Rattle.plans.specs.Progress.{Progress};
-ghost use Rattle.workbench.specs.Fault.{status_of};
-ghost use Rattle.workbench.specs.declared.fault.Fault.{Fault};
+ghost use Rattle.plans.specs.{Plan.is_memory, Plan.words_in_plan, Tree.IsPlan, declared.fault.PlanFault.PlanFault};
+ghost use Rattle.plans.specs.{Planned.AreRuns, Planned.Shows, Progress.Progress};
+ghost use Rattle.workbench.specs.{Fault.status_of, declared.fault.Fault.Fault};
 
 use crate::named::text_by;
 use crate::unplanned::Unplanned;

@@ -2,9 +2,9 @@
 ghost use Rattle.std.specs.Prelude.{◌≡◌, ◌⊎◌, ◌≤◌, ◌++◌, Err, IsTrue, IfErr, IfOk, IfSome, OnOk, length};
 ghost use Rattle.std.specs.Io.KnownBytes.{Appends};
 ghost use Rattle.commands.specs.Named.{names_seen, told_by};
+ghost use Rattle.commands.specs.Outcomes.{are_as_expected, died_mark, order_text, outcome_line, report, done_by, seed_mark};
 ghost use Rattle.trace_text.specs.Expectation.{are_met};
 ghost use Rattle.workbench.specs.declared.fault.Fault.{Fault};
-ghost use Rattle.commands.specs.Outcomes.{are_as_expected, died_mark, order_text, outcome_line, report, done_by, seed_mark};
 
 use crate::end_state::{EndState, word_of};
 use crate::named::named_text;

@@ -1,12 +1,10 @@
 //! Several runs of one program.
 ghost use Rattle.std.specs.Prelude.{◌≡◌, ◌⊎◌, ◌<◌, ◌≤◌, ◌++◌, ◌∷◌, [], All, List, None, Some, IfErr, IfOk, IfSome, OnOk, length};
 ghost use Rattle.std.specs.String.{string_bytes};
-ghost use Rattle.schedule_reader.specs.Joined.{AreJoined};
-ghost use Rattle.schedule_reader.specs.Schedule.{choices_of, finished_schedule};
+ghost use Rattle.schedule_reader.specs.{Joined.AreJoined, Schedule.choices_of, Schedule.finished_schedule};
 ghost use Rattle.indexmap.specs.IndexMap.{get};
 ghost use Rattle.thread_machine.specs.World.{World, first_world, world_of};
-ghost use Rattle.thread_runner.specs.Endings.{ending_of};
-ghost use Rattle.thread_runner.specs.Replay.{IsRecordOf, IsReplayOfText};
+ghost use Rattle.thread_runner.specs.{Endings.ending_of, Replay.IsRecordOf, Replay.IsReplayOfText};
 ghost use Rattle.workbench.specs.declared.fault.Fault.{Fault};
 ghost use Rattle.commands.specs.Outcomes.{AreOutcomes, Ended, IsEndedFrom, is_state};
 

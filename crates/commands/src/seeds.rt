@@ -1,21 +1,17 @@
 //! What the orders of several seeds lead to.
 ghost use Rattle.std.specs.Prelude.{◌≡◌, ◌≢◌, ◌<◌, ◌≤◌, ◌+◌, ◌++◌, ◌∷◌, [], List, Some, ℕ, Err, IfErr, IfOk, IfSome, OnOk, IsTrue, length, map};
-ghost use Rattle.line_reader.specs.Seen.{name_seen};
 ghost use Rattle.std.specs.Io.KnownBytes.{Appends};
+ghost use Rattle.line_reader.specs.Seen.{name_seen};
 ghost use Rattle.indexmap.specs.IndexMap.{get};
-ghost use Rattle.thread_machine.specs.Standing.{standing_of};
-ghost use Rattle.thread_machine.specs.World.{world_of};
+ghost use Rattle.thread_machine.specs.{Standing.standing_of, World.world_of};
 ghost use Rattle.thread_runner.specs.Endings.{standing_at};
 ghost use Rattle.workbench.specs.declared.fault.Fault.{Fault};
 ghost use Rattle.commands.specs.Outcomes.{AreOutcomes, Ended, IsMostFrequentFirst, is_state};
-ghost use Rattle.commands.specs.Unplanned.{unplanned_status};
-ghost use Rattle.commands.specs.Planning.{HasThreads, Plays};
-ghost use Rattle.loader.specs.Program.{IsProgramOf, Program as Loaded};
-ghost use Rattle.plans.specs.Plan.{words_in_plan};
-ghost use Rattle.plans.specs.Planned.{AreRuns, Shows};
-ghost use Rattle.plans.specs.Progress.{Progress};
-ghost use Rattle.plans.specs.declared.fault.PlanFault.{PlanFault};
+ghost use Rattle.commands.specs.{Unplanned.unplanned_status, Planning.HasThreads, Planning.Plays};
 ghost use Rattle.commands.specs.Seeds.{AreOutcomesBy, HasReportedSeeds, HaveNoReport, IsEndBy, IsEndOf, IsFirstUnlike, IsSeedOf, limit_mark, plan_by};
+ghost use Rattle.loader.specs.Program.{IsProgramOf, Program as Loaded};
+ghost use Rattle.plans.specs.{Plan.words_in_plan, Planned.AreRuns, Planned.Shows, Progress.Progress};
+ghost use Rattle.plans.specs.declared.fault.PlanFault.{PlanFault};
 ghost use Rattle.commands.specs.declared.unplanned.Unplanned.TheVariants as why;
 
 use crate::end_state::EndState;

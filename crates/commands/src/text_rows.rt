@@ -1,9 +1,7 @@
 //! The rows of a text, each with its line.
 ghost use Rattle.std.specs.Prelude.{◌≡◌, ◌++◌, ◌∷◌, [], IfOk, OnOk, decimal, map};
 ghost use Rattle.std.specs.List.{flat_map, slice_split};
-ghost use Rattle.line_reader.specs.Seen.{name_seen};
-ghost use Rattle.line_reader.specs.Words.{is_line_end, lines_of};
-ghost use Rattle.line_reader.specs.Listing.{line_text, numbered};
+ghost use Rattle.line_reader.specs.{Seen.name_seen, Words.is_line_end, Words.lines_of, Listing.line_text, Listing.numbered};
 ghost use Rattle.commands.specs.Rows.{line_at, text_row_words, trimmed};
 
 use itoa::Buffer;

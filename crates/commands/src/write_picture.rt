@@ -3,8 +3,7 @@ ghost use Rattle.std.specs.Prelude.{◌≡◌, ◌≢◌, ◌⊎◌, ◌≤◌, 
 ghost use Rattle.commands.specs.Picture.{HaveNoPicture, HaveNoPictureSoFar, ShowsNone};
 ghost use Rattle.commands.specs.Pictures.{HasMade, HasMissing, HasWritten, HaveNone, program_of, schedule_behind};
 ghost use Rattle.pictures.specs.Missing.{IsMissingIn};
-ghost use Rattle.workbench.specs.declared.fault.PictureKind.{PictureKind};
-ghost use Rattle.workbench.specs.Fault.{status_of};
+ghost use Rattle.workbench.specs.{declared.fault.PictureKind.PictureKind, Fault.status_of};
 ghost use Rattle.workbench.specs.Input.{GivesTooMuch, most_bytes};
 
 use crate::enough::read_enough;

@@ -2,11 +2,10 @@
 -- threads are listed.
 use Rattle.std.proofs.Common.{◌≡◌, ℕ, ◌+◌, ◌<◌, Bool, true, false, not, cond, ◌||◌, ◌&&◌, ◌==◌, refl, ◌∙◌, ap, length, Option, Some, None, is_some, length-set, arith, rules}
 use Rattle.std.proofs.lemmas.List.{length-map}
-use Rattle.cyclic_barrier.specs.declared.answer.WaitState.{WaitState}
-use Rattle.cyclic_barrier.specs.declared.answer.WaitState.TheVariants as state
-use Rattle.cyclic_barrier.specs.Waits.{wait_at, released, release}
+use Rattle.cyclic_barrier.specs.{declared.answer.WaitState.WaitState, Waits.wait_at, Waits.released, Waits.release}
 use Rattle.cyclic_barrier.specs.Barrier.{BarrierState, IsBarrier, Entry, number_waiting, has_wait, is_wait, runner_after, arrive, enter_timed, end_action, leave, interrupt, reset}
 use Rattle.cyclic_barrier.specs.WhoWaits.{TellsWhoWaits}
+use Rattle.cyclic_barrier.specs.declared.answer.WaitState.TheVariants as state
 use Rattle.cyclic_barrier.proofs.WaitsLemmas.{wait_at-release, wait_at-set, or_false}
 
 either : {A : Type 0} (P : A → Type 0) (test : Bool) {a b : A} → P a → P b → P (cond test a b)

@@ -1,17 +1,14 @@
-use Rattle.std.proofs.Common.{◌≡◌, ℕ, zero, suc, ◌+◌, ◌<◌, Bool, true, false, not, cond, ◌==◌, refl, sym, ◌∙◌, ap, arith, List, [], ◌∷◌, length, Option, Some, None, option_map, All, inl, inr, slice_set, count_by, zero-add, slice_get, replicate, rules}
-use Rattle.std.specs.Prelude.{◌≢◌}
-use Rattle.std.proofs.lemmas.Bool.{cases_eq, eq-eqb, ne_eqb, le-leb}
-use Rattle.std.proofs.lemmas.List.{length-map}
-use Rattle.std.proofs.lemmas.List.Elements.{All-cons, All-filter}
+use Rattle.std.proofs.Common.{◌≡◌, ℕ, zero, suc, ◌+◌, ◌<◌, Bool, true, false, not, cond, ◌==◌, refl, sym, ◌∙◌, ap, arith, List, [], ◌∷◌, length, Option, Some, None, option_map, All, inl, inr, slice_set, count_by, zero-add, slice_get, replicate, rules, ◌≢◌, eq-eqb, ne_eqb, le-leb}
+use Rattle.std.proofs.lemmas.{Bool.cases_eq, List.length-map, List.Elements.All-cons, List.Elements.All-filter}
 use Rattle.std.proofs.lemmas.List.Sums.{sum_by-cons, sum_by-set}
 use Rattle.cyclic_barrier.specs.declared.answer.WaitState.{WaitState}
-use Rattle.cyclic_barrier.specs.declared.answer.WaitState.TheVariants as state
 use Rattle.cyclic_barrier.specs.Waits.{wait_at, is_waiting, released, release}
-use Rattle.cyclic_barrier.specs.PlainBarrier as plain
 use Rattle.cyclic_barrier.specs.PlainBarrier.{PlainBarrier, Wait, End, state_after, state_of_wait, wait_of, state_of, is_unreleased, end_generation}
-use Rattle.cyclic_barrier.specs.Barrier as now
 use Rattle.cyclic_barrier.specs.Barrier.{BarrierState, number_waiting, IsBarrier}
 use Rattle.cyclic_barrier.specs.Past.{IsStateAfter, HasPast, HasBegun, OneWaitEach, Agrees, FollowsPast}
+use Rattle.cyclic_barrier.specs.declared.answer.WaitState.TheVariants as state
+use Rattle.cyclic_barrier.specs.PlainBarrier as plain
+use Rattle.cyclic_barrier.specs.Barrier as now
 use Rattle.cyclic_barrier.proofs.PlainBarrierLemmas.{ended_by, state_of-end, none_waiting, begun_still, waiting_now, wait_of-others, waiting-others, one_each-others}
 use Rattle.cyclic_barrier.proofs.WaitsLemmas.{wait_at-release, wait_at-set}
 

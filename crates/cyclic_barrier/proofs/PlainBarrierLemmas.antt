@@ -1,14 +1,10 @@
-use Rattle.std.proofs.Common.{◌≡◌, ℕ, ◌+◌, ◌≤◌, zero, suc, Bool, true, false, not, cond, ◌==◌, refl, sym, ◌∙◌, ap, arith, inl, inr, List, [], ◌∷◌, ◌++◌, length, Option, Some, None, slice_get, option_map, filter, count_by, All, nat_le, length-append, zero-add}
-use Rattle.std.proofs.lemmas.Bool.{le-leb, lt-leb, cases_eq, eq-eqb, ne_eqb}
-use Rattle.std.proofs.lemmas.Bool.Decides.{nat_tests}
+use Rattle.std.proofs.Common.{◌≡◌, ℕ, ◌+◌, ◌≤◌, zero, suc, Bool, true, false, not, cond, ◌==◌, refl, sym, ◌∙◌, ap, arith, inl, inr, List, [], ◌∷◌, ◌++◌, length, Option, Some, None, slice_get, option_map, filter, count_by, All, nat_le, length-append, zero-add, le-leb, eq-eqb, ne_eqb}
+use Rattle.std.proofs.lemmas.{Bool.lt-leb, Bool.cases_eq, Bool.Decides.nat_tests, List.Sums.sum_by-cons}
 use Rattle.std.proofs.lemmas.List.Elements.{All-head, All-tail, All-weaker}
-use Rattle.std.proofs.lemmas.List.Sums.{sum_by-cons}
-use Rattle.cyclic_barrier.specs.declared.answer.WaitState.{WaitState}
+use Rattle.cyclic_barrier.specs.{declared.answer.WaitState.WaitState, Waits.is_at, Past.OneWaitEach, Past.HasBegun}
+use Rattle.cyclic_barrier.specs.PlainBarrier.{Wait, End, state_after, state_of_wait, wait_of, is_unreleased}
 use Rattle.cyclic_barrier.specs.declared.answer.WaitState.TheVariants as state
 use Rattle.cyclic_barrier.specs.PlainBarrier as plain
-use Rattle.cyclic_barrier.specs.PlainBarrier.{Wait, End, state_after, state_of_wait, wait_of, is_unreleased}
-use Rattle.cyclic_barrier.specs.Waits.{is_at}
-use Rattle.cyclic_barrier.specs.Past.{OneWaitEach, HasBegun}
 
 -- what a wait's state becomes when the generation under way ends
 abbrev pub ended_by : End → WaitState → WaitState

@@ -1,15 +1,11 @@
-use Rattle.std.proofs.Common.{◌≡◌, ℕ, ◌^◌, ◌<◌, ◌≤◌, Bool, true, false, not, cond, ◌||◌, ◌&&◌, ◌==◌, refl, sym, ◌∙◌, ap, arith, inl, inr, List, [], ◌∷◌, length, slice_set, length-set, replicate, count_by, count_ones, Option, Some, None}
-use Rattle.std.proofs.lemmas.Bool.{cases_eq, eq-eqb, ne_eqb}
-use Rattle.std.proofs.lemmas.List.{length-map, length-replicate, get_or-set_same, get_or-set_other, get_or-replicate}
-use Rattle.std.proofs.Math.ListN.{get_or-map}
-use Rattle.std.proofs.lemmas.List.Sums.{sum_by-set}
-use Rattle.std.proofs.lemmas.Nat.Bits.{bit_at-zero}
-use Rattle.std.proofs.lemmas.Simd.{ones-mask_l}
+use Rattle.std.proofs.Common.{◌≡◌, ℕ, ◌^◌, ◌<◌, ◌≤◌, Bool, true, false, not, cond, ◌||◌, ◌&&◌, ◌==◌, refl, sym, ◌∙◌, ap, arith, inl, inr, List, [], ◌∷◌, length, slice_set, length-set, replicate, count_by, count_ones, Option, Some, None, eq-eqb, ne_eqb, get_or-set_same, get_or-set_other}
+use Rattle.std.proofs.lemmas.{Bool.cases_eq, List.length-map, List.length-replicate, List.get_or-replicate, Simd.ones-mask_l}
+use Rattle.std.proofs.{Math.ListN.get_or-map, lemmas.List.Sums.sum_by-set, lemmas.Nat.Bits.bit_at-zero}
 use Rattle.cyclic_barrier.specs.declared.answer.WaitState.{WaitState}
-use Rattle.cyclic_barrier.specs.declared.answer.WaitState.TheVariants as state
 use Rattle.cyclic_barrier.specs.ThreadSet.{has, IsUnion, IsWith, IsWithout}
 use Rattle.cyclic_barrier.specs.Waits.{wait_at, is_at, is_waiting, released, release}
 use Rattle.cyclic_barrier.specs.ShownWaits.{wait_by, shown, threads_at, is_twice, AreDisjoint, wait_at-shown, length-shown, shows, waiting_again}
+use Rattle.cyclic_barrier.specs.declared.answer.WaitState.TheVariants as state
 
 -- nobody is in the empty set
 pub has-none : (t : ℕ) → has 0 t ≡ false

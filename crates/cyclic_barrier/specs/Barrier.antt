@@ -1,10 +1,9 @@
 -- A barrier as a plain value, and what each call does to it.
 use Rattle.std.specs.Prelude.{◌≡◌, ℕ, ◌+◌, ◌-◌, ◌<◌, ◌==◌, Bool, true, false, if◌then◌else◌, List, length, count_by, replicate, slice_set, IsSome, Option, Some, None, is_some}
-use Rattle.cyclic_barrier.specs.declared.answer.Entered.{Entered}
-use Rattle.cyclic_barrier.specs.declared.answer.Entered.TheVariants as entered
-use Rattle.cyclic_barrier.specs.declared.answer.WaitState.{WaitState}
-use Rattle.cyclic_barrier.specs.declared.answer.WaitState.TheVariants as state
+use Rattle.cyclic_barrier.specs.declared.answer.{Entered.Entered, WaitState.WaitState}
 use Rattle.cyclic_barrier.specs.Waits.{wait_at, is_waiting, release}
+use Rattle.cyclic_barrier.specs.declared.answer.Entered.TheVariants as entered
+use Rattle.cyclic_barrier.specs.declared.answer.WaitState.TheVariants as state
 
 -- a barrier as it is now: the thread that runs the action, if one does, and for each of 64 threads the state of its wait here,
 -- if it has one

@@ -1,5 +1,4 @@
-use Rattle.cyclic_barrier.specs.declared.barrier.Barrier.TheInside.{Inside}
-use Rattle.cyclic_barrier.specs.Barrier.{BarrierState}
+use Rattle.cyclic_barrier.specs.{declared.barrier.Barrier.TheInside.Inside, Barrier.BarrierState}
 
 -- the barrier that the fields are
 abbrev pub state_of_fields : Inside → BarrierState

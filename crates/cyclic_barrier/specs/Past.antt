@@ -2,9 +2,9 @@
 use Rattle.std.specs.Prelude.{◌≡◌, ◌≢◌, ℕ, ◌<◌, ◌≤◌, Bool, Some, None, All, List, [], ◌∷◌, length}
 use Rattle.cyclic_barrier.specs.declared.answer.WaitState.TheVariants as state
 use Rattle.cyclic_barrier.specs.Waits.{wait_at}
-use Rattle.cyclic_barrier.specs.PlainBarrier as plain
 use Rattle.cyclic_barrier.specs.PlainBarrier.{PlainBarrier, Wait, End, wait_of, state_of, number_waiting as number_waiting_of}
 use Rattle.cyclic_barrier.specs.Barrier.{BarrierState, Entry, number_waiting, enter_timed, end_action, leave, interrupt, expire, reset}
+use Rattle.cyclic_barrier.specs.PlainBarrier as plain
 
 -- no thread has two waits
 abbrev pub OneWaitEach : List Wait → Type 0

@@ -1,8 +1,7 @@
 -- A barrier with its past, and what each call does to both.
 use Rattle.std.specs.Prelude.{ℕ, ◌+◌, ◌-◌, Bool, true, false, not, ◌==◌, nat_le, List, [], ◌∷◌, ◌++◌, length, find, filter, count_by, Option, Some, None, slice_get, option_map, if◌then◌else◌}
-use Rattle.cyclic_barrier.specs.declared.answer.Entered.{Entered}
+use Rattle.cyclic_barrier.specs.declared.answer.{Entered.Entered, WaitState.WaitState}
 use Rattle.cyclic_barrier.specs.declared.answer.Entered.TheVariants as entered
-use Rattle.cyclic_barrier.specs.declared.answer.WaitState.{WaitState}
 use Rattle.cyclic_barrier.specs.declared.answer.WaitState.TheVariants as state
 
 -- how a generation ended

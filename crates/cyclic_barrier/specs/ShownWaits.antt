@@ -1,18 +1,11 @@
 -- How three sets of threads show the states of all waits. Only the model of `Waits` uses this.
-use Rattle.std.proofs.Common.{◌≡◌, ℕ, ◌^◌, ◌<◌, Bool, true, false, cond, ◌||◌, ◌&&◌, ◌==◌, refl, sym, ◌∙◌, ap, arith, List, map, length, Option, Some, None, zero-add}
-use Rattle.std.specs.Prelude.{if◌then◌else◌}
-use Rattle.std.specs.Int.{bit_at}
-use Rattle.std.specs.List.{range_with_len}
-use Rattle.std.specs.Simd.Lanes.{mask_l}
-use Rattle.std.proofs.lemmas.Bool.Decides.{nat_tests}
-use Rattle.std.proofs.lemmas.List.{ext_get_or, length-map, get_or-map}
+use Rattle.std.proofs.Common.{◌≡◌, ℕ, ◌^◌, ◌<◌, Bool, true, false, cond, ◌||◌, ◌&&◌, ◌==◌, refl, sym, ◌∙◌, ap, arith, List, map, length, Option, Some, None, zero-add, if◌then◌else◌, ext_get_or}
+use Rattle.std.proofs.lemmas.{Bool.Decides.nat_tests, List.length-map, List.get_or-map, Simd.mask_l-lt, Simd.bit_mask_l}
 use Rattle.std.proofs.lemmas.List.FromFn.{get_or-map-range_with_len, length-map-range_with_len}
 use Rattle.std.proofs.lemmas.Nat.Bits.{bit_at-lt, same_from_bits_below}
-use Rattle.std.proofs.lemmas.Simd.{mask_l-lt, bit_mask_l}
-use Rattle.cyclic_barrier.specs.declared.answer.WaitState.{WaitState}
+use Rattle.std.specs.{Int.bit_at, List.range_with_len, Simd.Lanes.mask_l}
+use Rattle.cyclic_barrier.specs.{declared.answer.WaitState.WaitState, ThreadSet.has, Waits.wait_at, Waits.is_at}
 use Rattle.cyclic_barrier.specs.declared.answer.WaitState.TheVariants as state
-use Rattle.cyclic_barrier.specs.ThreadSet.{has}
-use Rattle.cyclic_barrier.specs.Waits.{wait_at, is_at}
 
 -- a wait, by whether it is in each of three sets
 abbrev pub wait_by : Bool → Bool → Bool → Option WaitState

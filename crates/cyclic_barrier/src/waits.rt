@@ -18,9 +18,8 @@ pub struct Waits {
 impl Model for Waits {
     ghost use Rattle.std.specs.Prelude.{List, Option};
     ghost use Rattle.cyclic_barrier.specs.declared.answer.WaitState.{WaitState};
+    ghost use Rattle.cyclic_barrier.specs.ShownWaits.{shown, threads_at, AreDisjoint, waiting_again, tripped_again, broken_again};
     ghost use Rattle.cyclic_barrier.specs.declared.answer.WaitState.TheVariants as state;
-    ghost use Rattle.cyclic_barrier.specs.ShownWaits.{shown, threads_at, AreDisjoint};
-    ghost use Rattle.cyclic_barrier.specs.ShownWaits.{waiting_again, tripped_again, broken_again};
 
     ghost Value = { List (Option WaitState) };
 

@@ -1,13 +1,10 @@
 -- Choices that are played again from a first world, by a debugger that has no breakpoints.
 use Rattle.std.proofs.Common.{◌≡◌, ◌∙◌, Bool, List, [], ◌∷◌, ◌++◌, Option, Some, None, refl, ap, sym, subst, arith}
-use Rattle.thread_machine.specs.World.{World, StoredWorld, world_of}
-use Rattle.thread_machine.specs.declared.choice.Choice.{Choice}
-use Rattle.thread_machine.specs.declared.fault.StepFault.{StepFault}
-use Rattle.thread_machine.specs.declared.fault.StepFault.TheVariants as fault
-use Rattle.thread_machine.specs.Step.{played, refusal_of}
+use Rattle.thread_machine.specs.{World.World, World.StoredWorld, World.world_of, declared.choice.Choice.Choice}
+use Rattle.thread_machine.specs.{declared.fault.StepFault.StepFault, Step.played, Step.refusal_of}
 use Rattle.thread_machine.specs.Execution.{Execution, execution, execution_by}
-use Rattle.debugger.specs.Session.{Session, world_after, IsHistory}
-use Rattle.debugger.specs.Moves.{AreSteps}
+use Rattle.thread_machine.specs.declared.fault.StepFault.TheVariants as fault
+use Rattle.debugger.specs.{Session.Session, Session.world_after, Session.IsHistory, Moves.AreSteps}
 use Rattle.debugger.specs.Go.{Breaks, Ends, Faults, Refuses}
 use Rattle.debugger.proofs.Goes.{history_of_steps}
 

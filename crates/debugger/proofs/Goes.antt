@@ -1,23 +1,16 @@
 -- Choices that are played one list after another, up to a break or a refusal.
-use Rattle.std.proofs.Common.{◌≡◌, ◌∙◌, ◌↔◌, ◌+◌, ◌-◌, ◌≤◌, ℕ, Bool, true, false, List, [], ◌∷◌, ◌++◌, Option, Some, None, Result, Err, length, refl, ap, sym, subst, arith, append_assoc, append-nil, rules}
-use Rattle.std.specs.Prelude.{◌≢◌, ◌&&◌, is_some}
-use Rattle.std.proofs.lemmas.List.{length-append}
+use Rattle.std.proofs.Common.{◌≡◌, ◌∙◌, ◌↔◌, ◌+◌, ◌-◌, ◌≤◌, ℕ, Bool, true, false, List, [], ◌∷◌, ◌++◌, Option, Some, None, Result, Err, length, refl, ap, sym, subst, arith, append_assoc, append-nil, rules, ◌≢◌, ◌&&◌, is_some, length-append}
 use Rattle.machine_scene.specs.Scene.{Outcome, scene_of, thread_at}
-use Rattle.thread_machine.specs.World.{World, world_of}
-use Rattle.thread_state.specs.declared.event.Event.{Event}
-use Rattle.thread_machine.specs.declared.choice.Choice.{Choice}
-use Rattle.thread_machine.specs.declared.fault.StepFault.{StepFault}
+use Rattle.thread_machine.specs.{World.World, World.world_of, declared.choice.Choice.Choice, declared.fault.StepFault.StepFault}
 use Rattle.thread_machine.specs.declared.fault.StepFault.TheVariants.{NoSuchThread, StepLimit, Memory}
 use Rattle.thread_machine.specs.Ready.{outcome_of_choice, is_choice_ready}
 use Rattle.thread_machine.specs.Step.{Played, played, played_by, refusal_of, puts_out}
-use Rattle.debugger.specs.declared.stop.Stop.{Stop}
-use Rattle.debugger.specs.declared.stop.Stop.TheVariants as stop
-use Rattle.debugger.specs.declared.session.go.Went.{Went}
-use Rattle.debugger.specs.Session.{Session, went_on, world_after, IsHistory}
-use Rattle.debugger.specs.Moves.{IsSessionStep, AreSteps}
+use Rattle.thread_state.specs.declared.event.Event.{Event}
+use Rattle.debugger.specs.{declared.stop.Stop.Stop, declared.session.go.Went.Went, Moves.IsSessionStep, Moves.AreSteps}
+use Rattle.debugger.specs.{Session.Session, Session.went_on, Session.world_after, Session.IsHistory, Goes.Goes}
 use Rattle.debugger.specs.Go.{is_at_break, is_break, Refuses, PlaysOn, Ends, Breaks, Faults, Stops}
-use Rattle.debugger.specs.Goes.{Goes}
 use Rattle.debugger.specs.Reply.{IsStepUnless}
+use Rattle.debugger.specs.declared.stop.Stop.TheVariants as stop
 use Rattle.debugger.proofs.Histories.{history_on}
 
 -- what a step's answer says

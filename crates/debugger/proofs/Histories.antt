@@ -1,9 +1,7 @@
 -- The session of a list of choices.
 use Rattle.std.proofs.Common.{◌≡◌, ◌∙◌, ◌-◌, ℕ, zero, suc, List, [], ◌∷◌, ◌++◌, Option, Some, None, length, map, take, drop, refl, ap, sym, subst, arith, append_assoc}
-use Rattle.thread_machine.specs.World.{World, StoredWorld, world_of}
-use Rattle.thread_machine.specs.declared.choice.Choice.{Choice}
-use Rattle.thread_machine.specs.declared.fault.StepFault.{StepFault}
-use Rattle.thread_machine.specs.Step.{played, refusal_of}
+use Rattle.thread_machine.specs.{World.World, World.StoredWorld, World.world_of, declared.choice.Choice.Choice}
+use Rattle.thread_machine.specs.{declared.fault.StepFault.StepFault, Step.played, Step.refusal_of}
 use Rattle.thread_machine.specs.Execution.{Execution, execution, execution_by, extended_by}
 use Rattle.thread_machine.proofs.Executions.{execution-snoc}
 use Rattle.debugger.specs.Session.{Session, went_back, back_to, world_after, worlds_before, IsHistory}

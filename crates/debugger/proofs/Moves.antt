@@ -1,10 +1,7 @@
 -- Steps and steps back in any order.
-use Rattle.std.proofs.Common.{◌≡◌, ◌∙◌, ◌-◌, ◌<◌, ◌≤◌, ℕ, zero, suc, List, [], ◌∷◌, ◌++◌, length, take, refl, ap, sym, subst, arith}
-use Rattle.std.specs.Prelude.{◌≢◌}
+use Rattle.std.proofs.Common.{◌≡◌, ◌∙◌, ◌-◌, ◌<◌, ◌≤◌, ℕ, zero, suc, List, [], ◌∷◌, ◌++◌, length, take, refl, ap, sym, subst, arith, ◌≢◌, length-take, length-take-le, take-take, take_all}
 use Rattle.std.proofs.Math.Seq.{take-length}
-use Rattle.std.proofs.lemmas.List.{length-take, length-take-le, take-take, take_all}
-use Rattle.thread_machine.specs.World.{World, StoredWorld}
-use Rattle.thread_machine.specs.declared.choice.Choice.{Choice}
+use Rattle.thread_machine.specs.{World.World, World.StoredWorld, declared.choice.Choice.Choice}
 use Rattle.debugger.specs.Session.{Session, went_on, went_back, back_to, IsHistory}
 use Rattle.debugger.specs.Moves.{Move, Step, Back, AreSteps, AreMoves, backs, choices_left}
 use Rattle.debugger.proofs.Histories.{history_on, history_back_cons}

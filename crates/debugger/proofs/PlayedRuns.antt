@@ -1,16 +1,11 @@
 -- Choices that are played, and taken back one by one.
-use Rattle.std.proofs.Common.{◌≡◌, ◌∙◌, ◌+◌, ◌-◌, ◌≤◌, ℕ, zero, suc, List, [], ◌∷◌, ◌++◌, length, take, drop, ◌<◌, refl, ap, sym, subst, arith, append-nil, append_assoc, length-append}
-use Rattle.std.specs.Prelude.{All, min, replicate, slice_index_or}
-use native.Mathlib.Numerals.{unary_clauses}
-use Rattle.std.proofs.Math.Seq.{take-append_seam}
+use Rattle.std.proofs.Common.{◌≡◌, ◌∙◌, ◌+◌, ◌-◌, ◌≤◌, ℕ, zero, suc, List, [], ◌∷◌, ◌++◌, length, take, drop, ◌<◌, refl, ap, sym, subst, arith, append-nil, append_assoc, length-append, All, min, replicate, slice_index_or}
+use Rattle.std.proofs.{Math.Seq.take-append_seam, lemmas.Grind.flat_map-append, lemmas.List.replicate-append-replicate}
 use Rattle.std.proofs.lemmas.List.Elements.{All-append, All-cons, All-nil, All-take}
-use Rattle.std.proofs.lemmas.Grind.{flat_map-append}
-use Rattle.std.proofs.lemmas.List.{replicate-append-replicate}
+use native.Mathlib.Numerals.{unary_clauses}
 use Rattle.thread_machine.specs.declared.choice.Choice.{Choice}
-use Rattle.schedule_reader.specs.declared.run.Run.{Run}
-use Rattle.schedule_reader.specs.Joined.{AreJoined}
+use Rattle.schedule_reader.specs.{declared.run.Run.Run, Joined.AreJoined, Schedule.choices_of}
 use Rattle.trace_text.proofs.Plays.{choices_of-drop}
-use Rattle.schedule_reader.specs.Schedule.{choices_of}
 
 -- a run more
 pub choices-push : (runs : List Run) (run : Run) → choices_of (runs ++ run ∷ []) ≡ choices_of runs ++ replicate run.times run.choice

@@ -1,19 +1,14 @@
 -- Commands that are carried out.
-use Rattle.std.proofs.Common.{◌≡◌, ◌+◌, ℕ, Bool, List, [], ◌∷◌, Option, None, Result, Ok, Err, append-nil, arith, subst, sym}
-use Rattle.std.specs.Prelude.{IfErr, IsTrue, OnOk}
+use Rattle.std.proofs.Common.{◌≡◌, ◌+◌, ℕ, Bool, List, [], ◌∷◌, Option, None, Result, Ok, Err, append-nil, arith, subst, sym, IfErr, IsTrue, OnOk}
 use Rattle.std.specs.Io.KnownBytes.{Appends}
 use Rattle.machine_scene.specs.Scene.{thread_at}
 use Rattle.thread_state.specs.declared.event.Event.{Event}
-use Rattle.thread_machine.specs.declared.choice.Choice.{Choice}
-use Rattle.thread_machine.specs.World.{World, world_of}
+use Rattle.thread_machine.specs.{declared.choice.Choice.Choice, World.World, World.world_of}
 use Rattle.thread_machine.specs.Step.{Played, played, refusal_of}
-use Rattle.trace_text.specs.Lines.{event_text}
-use Rattle.trace_text.specs.Trace.{lines_of}
-use Rattle.debugger.specs.declared.session.reply.CommandFault.{CommandFault}
-use Rattle.debugger.specs.declared.session.reply.CommandFault.TheVariants as fault
-use Rattle.debugger.specs.Command.{Step}
+use Rattle.trace_text.specs.{Lines.event_text, Trace.lines_of}
+use Rattle.debugger.specs.{declared.session.reply.CommandFault.CommandFault, Command.Step, Session.Session}
 use Rattle.debugger.specs.Reply.{IsCarriedOut, IsStepUnless}
-use Rattle.debugger.specs.Session.{Session}
+use Rattle.debugger.specs.declared.session.reply.CommandFault.TheVariants as fault
 
 -- the line of a choice that was played
 pub event_line : (world after : World) (choice : Choice) (event : Event) (step pc : ℕ) → refusal_of world choice ≡ None

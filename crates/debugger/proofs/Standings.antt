@@ -1,21 +1,15 @@
 -- What a command makes of the choices that stand.
 use Rattle.std.proofs.Common.{◌≡◌, ◌∙◌, ℕ, List, [], ◌∷◌, ◌++◌, Option, Some, None, length, take, refl, ap, sym, subst, arith, append-nil, append_assoc}
 use Rattle.std.proofs.Math.Seq.{take-append_seam}
-use Rattle.thread_machine.specs.declared.choice.Choice.{Choice}
-use Rattle.thread_machine.specs.declared.fault.StepFault.{StepFault}
+use Rattle.thread_machine.specs.{declared.choice.Choice.Choice, declared.fault.StepFault.StepFault, Step.refusal_of}
 use Rattle.thread_machine.specs.World.{World, StoredWorld, world_of}
-use Rattle.thread_machine.specs.Step.{refusal_of}
 use Rattle.schedule_reader.specs.Schedule.{choices_of}
-use Rattle.debugger.specs.declared.stop.Stop.{Stop}
-use Rattle.debugger.specs.declared.stop.Stop.TheVariants as stop
-use Rattle.debugger.specs.Session.{Session, IsHistory, back_to}
-use Rattle.debugger.specs.Moves.{AreSteps}
-use Rattle.debugger.specs.Go.{Stops}
+use Rattle.debugger.specs.{declared.stop.Stop.Stop, Session.Session, Session.IsHistory, Session.back_to, Moves.AreSteps}
+use Rattle.debugger.specs.{Go.Stops, Reply.Replies, Reply.IsStepUnless}
 use Rattle.debugger.specs.Command.{Order, Step, Go, Back, Break, Clear, Print, Quit, Unknown}
-use Rattle.debugger.specs.Reply.{Replies, IsStepUnless}
 use Rattle.debugger.specs.Standing.{Stands, with_step, without_last}
-use Rattle.debugger.proofs.Histories.{history_on, history_back_cons}
-use Rattle.debugger.proofs.Goes.{history_of_steps}
+use Rattle.debugger.specs.declared.stop.Stop.TheVariants as stop
+use Rattle.debugger.proofs.{Histories.history_on, Histories.history_back_cons, Goes.history_of_steps}
 
 -- the choices that stand now
 abbrev pub GoesOnWith : World → Session → List Choice → Order → Session → Type 0

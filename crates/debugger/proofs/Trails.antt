@@ -1,9 +1,7 @@
 -- What the kept records give back.
-use Rattle.std.proofs.Common.{◌≡◌, ◌∙◌, ℕ, zero, suc, Bool, List, [], ◌∷◌, length, take, drop, refl, ap, sym, subst, arith}
-use Rattle.std.specs.Prelude.{Option, Some, None, slice_get}
+use Rattle.std.proofs.Common.{◌≡◌, ◌∙◌, ℕ, zero, suc, Bool, List, [], ◌∷◌, length, take, drop, refl, ap, sym, subst, arith, Option, Some, None, slice_get}
 use Rattle.machine_scene.specs.Undo.{Note}
-use Rattle.thread_machine.specs.World.{StoredWorld}
-use Rattle.thread_machine.specs.Undo.{undone, CanUndo}
+use Rattle.thread_machine.specs.{World.StoredWorld, Undo.undone, Undo.CanUndo}
 use Rattle.debugger.specs.Undos.{Kept, with_note, without_newest}
 use Rattle.debugger.specs.Session.{Session, went_on, went_back, past_of, IsTrail}
 

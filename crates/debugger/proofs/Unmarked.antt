@@ -1,6 +1,5 @@
 -- Rows of which none has a breakpoint.
-use Rattle.std.proofs.Common.{◌≡◌, ◌∷◌, ℕ, zero, suc, Bool, false, List, length, refl, ap, arith}
-use Rattle.std.specs.Prelude.{replicate, slice_index_or, slice_set}
+use Rattle.std.proofs.Common.{◌≡◌, ◌∷◌, ℕ, zero, suc, Bool, false, List, length, refl, ap, arith, replicate, slice_index_or, slice_set}
 use Rattle.thread_state.specs.Thread.{ThreadState}
 use Rattle.debugger.specs.Go.{is_at_break}
 

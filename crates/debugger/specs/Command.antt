@@ -1,11 +1,8 @@
 -- Which command a line of the debugger is.
 use Rattle.std.specs.Prelude.{ℕ, ◌==◌, ◌&&◌, not, nat_le, if◌then◌else◌, Bool, true, false, List, [], ◌∷◌, length, take, drop, Option, Some, None}
-use Rattle.std.specs.List.{position_or_len, list_all, list_any}
-use Rattle.std.specs.Char.{is_ascii_digit}
-use Rattle.std.specs.Str.Parse.{digits_value}
+use Rattle.std.specs.{List.position_or_len, List.list_all, List.list_any, Char.is_ascii_digit, Str.Parse.digits_value}
 use Rattle.thread_machine.specs.declared.choice.Choice.{Choice}
-use Rattle.schedule_reader.specs.declared.run.Run.{Run}
-use Rattle.schedule_reader.specs.Schedule.{Schedule, is_blank, finished_schedule}
+use Rattle.schedule_reader.specs.{declared.run.Run.Run, Schedule.Schedule, Schedule.is_blank, Schedule.finished_schedule}
 use Rattle.debugger.specs.declared.command.Command.{Command}
 use Rattle.debugger.specs.declared.command.Command.TheVariants as command
 

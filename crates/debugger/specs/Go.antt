@@ -1,18 +1,12 @@
 -- How a session plays choices up to a breakpoint.
 use Rattle.std.specs.Prelude.{◌≡◌, ◌+◌, ◌&&◌, Bool, true, false, List, [], ◌∷◌, ◌++◌, length, slice_index_or, Some, None}
 use Rattle.thread_state.specs.Thread.{ThreadState}
-use Rattle.machine_scene.specs.DataRows.{runs}
-use Rattle.machine_scene.specs.Scene.{thread_at}
-use Rattle.thread_machine.specs.declared.choice.Choice.{Choice}
-use Rattle.thread_machine.specs.declared.fault.StepFault.{StepFault}
+use Rattle.machine_scene.specs.{DataRows.runs, Scene.thread_at}
+use Rattle.thread_machine.specs.{declared.choice.Choice.Choice, declared.fault.StepFault.StepFault, World.World, World.world_of}
+use Rattle.thread_machine.specs.{Ready.is_choice_ready, Step.played, Step.refusal_of, Step.puts_out}
 use Rattle.thread_machine.specs.declared.fault.StepFault.TheVariants as fault
-use Rattle.thread_machine.specs.World.{World, world_of}
-use Rattle.thread_machine.specs.Ready.{is_choice_ready}
-use Rattle.thread_machine.specs.Step.{played, refusal_of, puts_out}
-use Rattle.debugger.specs.declared.stop.Stop.{Stop}
+use Rattle.debugger.specs.{declared.stop.Stop.Stop, Session.Session, Session.world_after, Moves.AreSteps}
 use Rattle.debugger.specs.declared.stop.Stop.TheVariants as stop
-use Rattle.debugger.specs.Session.{Session, world_after}
-use Rattle.debugger.specs.Moves.{AreSteps}
 
 -- a running thread is at a breakpoint
 abbrev pub is_at_break : List Bool → ThreadState → Bool

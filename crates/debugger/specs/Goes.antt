@@ -2,10 +2,8 @@
 -- same with the number.
 use Rattle.std.specs.Prelude.{List}
 use Rattle.thread_machine.specs.declared.choice.Choice.{Choice}
-use Rattle.debugger.specs.declared.session.go.Went.{Went}
+use Rattle.debugger.specs.{declared.session.go.Went.Went, Session.Session, Go.Ends, Go.Breaks, Go.Faults}
 use Rattle.debugger.specs.declared.session.go.Went.TheVariants as went
-use Rattle.debugger.specs.Session.{Session}
-use Rattle.debugger.specs.Go.{Ends, Breaks, Faults}
 
 abbrev pub Goes : Session → List Choice → Went → Session → Type 0
 Goes session choices went.On after = Ends session choices after

@@ -1,8 +1,6 @@
 -- Steps and steps back in any order.
 use Rattle.std.specs.Prelude.{◌≡◌, ◌≢◌, ℕ, zero, suc, ◌-◌, List, [], ◌∷◌, ◌++◌, length, take, None}
-use Rattle.thread_machine.specs.declared.choice.Choice.{Choice}
-use Rattle.thread_machine.specs.World.{world_of}
-use Rattle.thread_machine.specs.Step.{played, refusal_of}
+use Rattle.thread_machine.specs.{declared.choice.Choice.Choice, World.world_of, Step.played, Step.refusal_of}
 use Rattle.debugger.specs.Session.{Session, went_on, went_back}
 
 -- a choice is played, or the last one is taken back

@@ -1,23 +1,16 @@
 -- What the debugger does and writes in reply to a command.
 use Rattle.std.specs.Prelude.{◌≡◌, ◌⊎◌, ℕ, nat_lt, if◌then◌else◌, Bool, IsTrue, true, false, List, [], ◌∷◌, ◌++◌, length, slice_set, codes, Option, Some, None, Result, Ok, Err}
-use Rattle.std.specs.Fmt.{decimal}
-use Rattle.std.specs.Io.KnownBytes.{Appends}
+use Rattle.std.specs.{Fmt.decimal, Io.KnownBytes.Appends}
 use Rattle.schedule_reader.specs.Schedule.{choices_of}
-use Rattle.thread_machine.specs.declared.choice.Choice.{Choice}
-use Rattle.thread_machine.specs.declared.fault.StepFault.{StepFault}
+use Rattle.thread_machine.specs.declared.{choice.Choice.Choice, fault.StepFault.StepFault}
+use Rattle.thread_machine.specs.{World.StoredWorld, World.world_of, Step.puts_out, Step.refusal_of}
 use Rattle.thread_machine.specs.declared.fault.StepFault.TheVariants as step
-use Rattle.debugger.specs.declared.session.reply.CommandFault.{CommandFault}
-use Rattle.debugger.specs.declared.session.reply.CommandFault.TheVariants as fault
-use Rattle.thread_machine.specs.World.{StoredWorld, world_of}
-use Rattle.thread_machine.specs.Step.{puts_out, refusal_of}
-use Rattle.trace_text.specs.State.{state_text}
-use Rattle.trace_text.specs.Trace.{lines_of}
-use Rattle.debugger.specs.declared.stop.Stop.{Stop}
-use Rattle.debugger.specs.declared.stop.Stop.TheVariants as stop
-use Rattle.debugger.specs.Session.{Session, went_back}
-use Rattle.debugger.specs.Moves.{IsSessionStep}
-use Rattle.debugger.specs.Go.{Stops}
+use Rattle.debugger.specs.{declared.session.reply.CommandFault.CommandFault, declared.stop.Stop.Stop, Moves.IsSessionStep}
+use Rattle.debugger.specs.{Session.Session, Session.went_back, Go.Stops}
 use Rattle.debugger.specs.Command.{Order, Step, Go, Back, Break, Clear, Print, Quit, Unknown, has_list, line_order}
+use Rattle.debugger.specs.declared.session.reply.CommandFault.TheVariants as fault
+use Rattle.trace_text.specs.{State.state_text, Trace.lines_of}
+use Rattle.debugger.specs.declared.stop.Stop.TheVariants as stop
 
 -- a word, a number and the end of the line
 abbrev pub number_line : List ℕ → ℕ → List ℕ

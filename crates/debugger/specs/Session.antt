@@ -1,11 +1,8 @@
 -- A debugged machine: its world, the worlds to which it can go back, and its breakpoints.
 use Rattle.std.specs.Prelude.{◌≡◌, ℕ, Bool, List, [], ◌∷◌, ◌++◌, map, take, Option, None}
 use Rattle.machine_scene.specs.Undo.{Note}
-use Rattle.thread_machine.specs.World.{World, StoredWorld, world_of}
-use Rattle.thread_machine.specs.declared.choice.Choice.{Choice}
-use Rattle.thread_machine.specs.Step.{played}
-use Rattle.thread_machine.specs.Execution.{execution}
-use Rattle.thread_machine.specs.Undo.{undone, CanUndo}
+use Rattle.thread_machine.specs.{World.World, World.StoredWorld, World.world_of, declared.choice.Choice.Choice, Step.played}
+use Rattle.thread_machine.specs.{Execution.execution, Undo.undone, Undo.CanUndo}
 
 -- the present world; the worlds before the last choices, word for word and the newest first; how many of them are kept at most;
 -- and for each row whether there is a breakpoint

@@ -1,12 +1,9 @@
 -- The choices of a session that were played and not taken back.
 use Rattle.std.specs.Prelude.{◌≡◌, ℕ, ◌-◌, List, [], ◌∷◌, ◌++◌, length, take, Option, Some, None}
-use Rattle.thread_machine.specs.declared.choice.Choice.{Choice}
-use Rattle.thread_machine.specs.declared.fault.StepFault.{StepFault}
+use Rattle.thread_machine.specs.{declared.choice.Choice.Choice, declared.fault.StepFault.StepFault, Step.refusal_of}
 use Rattle.thread_machine.specs.World.{StoredWorld, world_of}
-use Rattle.thread_machine.specs.Step.{refusal_of}
 use Rattle.schedule_reader.specs.Schedule.{choices_of}
-use Rattle.debugger.specs.Session.{Session}
-use Rattle.debugger.specs.Command.{Order, Step, Go, Back}
+use Rattle.debugger.specs.{Session.Session, Command.Order, Command.Step, Command.Go, Command.Back}
 
 -- behind a choice, by whether it is refused
 abbrev pub with_step : Option StepFault → List Choice → Choice → List Choice

@@ -1,9 +1,7 @@
 // Reads a line of a session: its first word, which is one letter, and what follows it.
 ghost use Rattle.std.specs.Prelude.{◌≡◌, List, Option, OnErr, true, false, ◌==◌, ◌+◌, ◌≤◌, ◌<◌, ◌∷◌, [], IfOk, IfSome, length};
-ghost use Rattle.std.specs.List.{list_all, list_any, position, position_or_len};
-ghost use Rattle.std.specs.Option.{option_map};
-ghost use Rattle.schedule_reader.specs.Few.{few_of};
-ghost use Rattle.schedule_reader.specs.Schedule.{choice_of, is_blank, run_of};
+ghost use Rattle.std.specs.{List.list_all, List.list_any, List.position, List.position_or_len, Option.option_map};
+ghost use Rattle.schedule_reader.specs.{Few.few_of, Schedule.choice_of, Schedule.is_blank, Schedule.run_of};
 ghost use Rattle.schedule_reader.specs.declared.run.Run.{Run};
 ghost use Rattle.debugger.specs.Command.{Break, Clear, Go, alone, by_row, go_by, goes_on, is_go, is_letter, is_row, letter_of, line_order, order_of, rest_of, row_in, runs_in, step_by, word_of};
 

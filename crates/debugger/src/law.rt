@@ -1,11 +1,7 @@
 ghost use Rattle.std.specs.Prelude.{◌≡◌, ◌≤◌, ◌-◌, ◌++◌, ℕ, List, length, take};
-ghost use Rattle.thread_machine.specs.declared.choice.Choice.{Choice};
-ghost use Rattle.thread_machine.specs.World.{World};
-ghost use Rattle.debugger.specs.Session.{Session, IsHistory};
+ghost use Rattle.thread_machine.specs.{declared.choice.Choice.Choice, World.World};
+ghost use Rattle.debugger.specs.{Session.Session, Session.IsHistory, Command.Order, Reply.Replies, Standing.Stands};
 ghost use Rattle.debugger.specs.Moves.{Move, AreSteps, AreMoves, backs, choices_left};
-ghost use Rattle.debugger.specs.Command.{Order};
-ghost use Rattle.debugger.specs.Reply.{Replies};
-ghost use Rattle.debugger.specs.Standing.{Stands};
 
 /// After any steps and steps back, the session is the result of the choices that were not taken back.
 pub fn what_is_not_taken_back_was_played()

@@ -1,8 +1,7 @@
 // The choices that a session has played and not taken back.
 ghost use Rattle.std.specs.Prelude.{◌≡◌, ◌↔◌, ◌≤◌, ◌<◌, ◌-◌, ◌++◌, ◌∷◌, [], true, All, IfOk, OnOk, length, min, replicate, take};
 ghost use Rattle.std.specs.Vec.{vec_len, vec_capacity};
-ghost use Rattle.schedule_reader.specs.Joined.{AreJoined};
-ghost use Rattle.schedule_reader.specs.Schedule.{IsRun, choices_of, run_of};
+ghost use Rattle.schedule_reader.specs.{Joined.AreJoined, Schedule.IsRun, Schedule.choices_of, Schedule.run_of};
 
 use schedule_reader::Run;
 use std::alloc::{AllocError, Global};
@@ -20,8 +19,7 @@ pub struct Played {
 
 impl Model for Played {
     ghost use Rattle.std.specs.Prelude.{◌<◌, ◌≤◌, All, List};
-    ghost use Rattle.schedule_reader.specs.Joined.{AreJoined};
-    ghost use Rattle.schedule_reader.specs.declared.run.Run.{Run};
+    ghost use Rattle.schedule_reader.specs.{Joined.AreJoined, declared.run.Run.Run};
 
     ghost Value = { List Run };
 

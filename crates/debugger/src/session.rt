@@ -1,7 +1,6 @@
 // A session: a machine, what takes back its last choices, and its breakpoints.
 ghost use Rattle.std.specs.Prelude.{◌≡◌, ◌↔◌, ◌+◌, ◌-◌, ◌<◌, ◌≤◌, ◌++◌, ◌∷◌, [], List, length, take, replicate, slice_set, nat_lt, IfOk, OnOk, OnErr, IsErr, true, false, Some, None};
-ghost use Rattle.thread_machine.specs.World.{World, world_of};
-ghost use Rattle.thread_machine.specs.Step.{played, refusal_of, puts_out};
+ghost use Rattle.thread_machine.specs.{World.World, World.world_of, Step.played, Step.refusal_of, Step.puts_out};
 ghost use Rattle.debugger.specs.Session.{IsHistory, went_on, went_back};
 
 use crate::marks::Marks;

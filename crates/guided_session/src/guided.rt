@@ -5,8 +5,7 @@
 //! words are answered here and aren't passed on: `help`, and `w`, which writes the choices that were played as a plan.
 
 ghost use Rattle.std.specs.Prelude.{◌≡◌, ◌≤◌, ◌⊎◌, IfErr, IfOk, None, length};
-ghost use Rattle.workbench.specs.declared.fault.Fault.{Fault};
-ghost use Rattle.workbench.specs.Debug.{HasNoEnd};
+ghost use Rattle.workbench.specs.{declared.fault.Fault.Fault, Debug.HasNoEnd};
 
 use crate::may_go::push_may_go;
 use crate::names::push_names;

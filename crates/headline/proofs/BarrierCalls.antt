@@ -1,14 +1,10 @@
 -- Each call at a barrier takes a past that leads to it one call on.
-use Rattle.std.proofs.Common.{◌≡◌, ◌∙◌, ◌⊎◌, ℕ, ◌<◌, Bool, refl, sym, subst, length, Option, Some, None, inl, inr}
-use Rattle.std.specs.Prelude.{◌≢◌}
-use Rattle.cyclic_barrier.specs.declared.answer.WaitState.{WaitState}
-use Rattle.cyclic_barrier.specs.declared.answer.WaitState.TheVariants as state
-use Rattle.cyclic_barrier.specs.Waits.{wait_at}
-use Rattle.cyclic_barrier.specs.PlainBarrier as plain
+use Rattle.std.proofs.Common.{◌≡◌, ◌∙◌, ◌⊎◌, ℕ, ◌<◌, Bool, refl, sym, subst, length, Option, Some, None, inl, inr, ◌≢◌}
+use Rattle.cyclic_barrier.specs.{declared.answer.WaitState.WaitState, Waits.wait_at, Barrier.BarrierState, Past.IsStateAfter}
 use Rattle.cyclic_barrier.specs.PlainBarrier.{PlainBarrier, state_of}
+use Rattle.cyclic_barrier.specs.declared.answer.WaitState.TheVariants as state
+use Rattle.cyclic_barrier.specs.PlainBarrier as plain
 use Rattle.cyclic_barrier.specs.Barrier as now
-use Rattle.cyclic_barrier.specs.Barrier.{BarrierState}
-use Rattle.cyclic_barrier.specs.Past.{IsStateAfter}
 use Rattle.cyclic_barrier.proofs.PastLemmas.{stands-beside, stands-end_action, stands-interrupt, stands-leave, stands-reset}
 use Rattle.thread_state.specs.declared.event.What.{What}
 use Rattle.headline.specs.Pasts.{BarrierCall, GoesOn, MakesNone, Enter, EndAction, Leave, Interrupt, Expire, Reset}

@@ -1,25 +1,17 @@
 -- What an accepted choice makes of the barriers and of the trees.
-use Rattle.std.proofs.Common.{◌≡◌, ℕ, ◌<◌, Bool, true, false, [], ◌∷◌, length, subst, arith, if◌then◌else◌}
-use Rattle.std.specs.Prelude.{Option, Some, None}
+use Rattle.std.proofs.Common.{◌≡◌, ℕ, ◌<◌, Bool, true, false, [], ◌∷◌, length, subst, arith, if◌then◌else◌, Option, Some, None}
 use Rattle.instruction_table.specs.declared.row.Row.{Row}
 use Rattle.tier_tree.specs.Origin.{Origin}
 use Rattle.loader.specs.Program.{row_at}
-use Rattle.machine_scene.proofs.Outcomes.{stands_at}
-use Rattle.machine_scene.proofs.Plain.{StandsAt}
+use Rattle.machine_scene.proofs.{Outcomes.stands_at, Plain.StandsAt}
 use Rattle.machine_scene.specs.Scene.{Outcome, Scene, barrier_at, thread_at}
-use Rattle.thread_machine.specs.declared.choice.Choice.{Choice}
-use Rattle.thread_machine.specs.World.{World}
-use Rattle.thread_machine.specs.Ready.{outcome_of_choice}
-use Rattle.thread_machine.specs.Step.{played, played_by, refusal_of}
-use Rattle.thread_machine.specs.Execution.{execution, execution_by}
+use Rattle.thread_machine.specs.{declared.choice.Choice.Choice, World.World, Ready.outcome_of_choice}
+use Rattle.thread_machine.specs.{Step.played, Step.played_by, Step.refusal_of, Execution.execution, Execution.execution_by}
 use Rattle.thread_machine.specs.DirectCounts.{counts_after, counts_by}
 use Rattle.thread_machine.proofs.SafeEnds.{Goes, goes_through}
 use Rattle.thread_state.specs.declared.event.What.{What}
-use Rattle.headline.specs.Pasts.{MakesBarrierCall}
-use Rattle.headline.specs.PhaseEnds.{row_of}
-use Rattle.headline.proofs.BarrierCalls.{GoesTo}
-use Rattle.headline.proofs.Turns.{GoIf, turn_goes, expiry_goes}
-use Rattle.headline.proofs.TreeCalls.{TreesGo}
+use Rattle.headline.specs.{Pasts.MakesBarrierCall, PhaseEnds.row_of}
+use Rattle.headline.proofs.{BarrierCalls.GoesTo, Turns.GoIf, Turns.turn_goes, Turns.expiry_goes, TreeCalls.TreesGo}
 
 -- an accepted choice is one of a thread that is there
 is_there : (world : World) (choice : Choice) → refusal_of world choice ≡ None → choice.thread < length world.scene.threads

@@ -1,28 +1,21 @@
 -- Before its first choice no program is over that may take a step: nobody has to wait yet.
-use Rattle.std.proofs.Common.{◌≡◌, ◌∙◌, ◌<◌, ℕ, zero, suc, false, List, [], ◌∷◌, length, map, None, refl, ap, arith}
-use Rattle.std.specs.Prelude.{◌≢◌, slice_index_or}
-use Rattle.std.specs.List.{list_all, list_any}
+use Rattle.std.proofs.Common.{◌≡◌, ◌∙◌, ◌<◌, ℕ, zero, suc, false, List, [], ◌∷◌, length, map, None, refl, ap, arith, ◌≢◌, slice_index_or}
 use Rattle.std.proofs.lemmas.List.{length-map}
+use Rattle.std.specs.List.{list_all, list_any}
 use Rattle.instruction_table.specs.declared.row.Row.{Row}
 use Rattle.packed_phaser.specs.Flat.{Flat}
-use Rattle.tier_tree.specs.Declaration.{AreAllFresh}
-use Rattle.tier_tree.specs.Forest.{PhaserState, flat_at}
+use Rattle.tier_tree.specs.{Declaration.AreAllFresh, Forest.PhaserState, Forest.flat_at}
 use Rattle.tier_tree.specs.Registration.{Join, is_turned}
 use Rattle.cyclic_barrier.specs.Barrier.{fresh}
-use Rattle.row_code.specs.declared.image.Image.{Image}
-use Rattle.row_code.specs.declared.barriers.DeclaredBarrier.{DeclaredBarrier}
+use Rattle.row_code.specs.declared.{image.Image.Image, barriers.DeclaredBarrier.DeclaredBarrier}
 use Rattle.row_code.specs.declared.threads.DeclaredThread.{DeclaredThread}
 use Rattle.loader.specs.Declarations.{new_barrier}
-use Rattle.loader.proofs.Images.{all_made}
-use Rattle.loader.proofs.Search.{none_left}
+use Rattle.loader.proofs.{Images.all_made, Search.none_left}
 use Rattle.thread_state.specs.declared.status.Status.TheVariants as status
 use Rattle.thread_state.specs.Thread.{ThreadState, is_finished}
-use Rattle.machine_scene.specs.Ready.{is_blocked}
-use Rattle.machine_scene.specs.Scene.{Scene, barrier_at, no_thread, starting}
+use Rattle.machine_scene.specs.{Ready.is_blocked, Scene.Scene, Scene.barrier_at, Scene.no_thread, Scene.starting}
 use Rattle.machine_scene.proofs.ReadyThreads.{ready_as_listed}
-use Rattle.thread_machine.specs.declared.choice.Choice.{Choice}
-use Rattle.thread_machine.specs.Ready.{all_finished}
-use Rattle.thread_machine.specs.World.{World}
+use Rattle.thread_machine.specs.{declared.choice.Choice.Choice, Ready.all_finished, World.World}
 use Rattle.thread_machine.proofs.Readiness.{one_ready}
 use Rattle.thread_runner.specs.Endings.{ending_of}
 use Rattle.workbench.specs.Live.{IsRecorded}

@@ -1,52 +1,35 @@
 -- With the last arrival at a tree its phase ends, or its routine is entered.
-use Rattle.std.proofs.Common.{inl, inr, ◌≡◌, ◌∙◌, ℕ, ℤ, suc, ◌-◌, ◌<◌, Bool, true, false, List, [], ◌∷◌, length, ap, refl, sym, subst, arith, if◌then◌else◌, rules}
-use Rattle.std.specs.Prelude.{◌⊎◌, ◌||◌, ◌++◌, slice_get, Option, Some, None}
+use Rattle.std.proofs.Common.{inl, inr, ◌≡◌, ◌∙◌, ℕ, ℤ, suc, ◌-◌, ◌<◌, Bool, true, false, List, [], ◌∷◌, length, ap, refl, sym, subst, arith, if◌then◌else◌, rules, ◌⊎◌, ◌||◌, ◌++◌, slice_get, Option, Some, None, get_or-set_same}
 use Rattle.std.proofs.lemmas.Bool.{cases_eq}
-use Rattle.std.proofs.lemmas.List.{get_or-set_same}
 use Rattle.instruction_table.specs.declared.row.Row.{Row}
 use Rattle.instruction_table.specs.declared.row.Row.TheVariants.{Ret, Preg, Parr, Pdereg, Paaa}
 use Rattle.packed_phaser.specs.Flat.{Arrival, arrive, unarrived_of}
-use Rattle.tier_tree.specs.declared.climb.Climb.{Climb}
-use Rattle.tier_tree.specs.declared.climb.Climb.TheVariants as climb
-use Rattle.tier_tree.specs.declared.arrived.Arrived.{Arrived}
-use Rattle.tier_tree.specs.declared.arrived.Arrived.TheVariants as arrived
-use Rattle.tier_tree.specs.declared.id.PhaserId.{PhaserId}
-use Rattle.tier_tree.specs.Answer.{KeepsEnds}
-use Rattle.tier_tree.specs.Forest.{PhaserState, phaser_at, flat_at, root_at}
+use Rattle.tier_tree.specs.declared.{climb.Climb.Climb, arrived.Arrived.Arrived, id.PhaserId.PhaserId}
+use Rattle.tier_tree.specs.{Answer.KeepsEnds, Forest.PhaserState, Forest.phaser_at, Forest.flat_at, Forest.root_at}
 use Rattle.tier_tree.specs.Arrival.{Arrives, Climbed, is_top, climbed_by, climbed, arrival_by, arrival}
-use Rattle.tier_tree.specs.Sound.{IsForest}
-use Rattle.tier_tree.specs.Origin.{Origin, AreTallied, arrived_at, origin_after_arrival}
-use Rattle.tier_tree.proofs.Balance.{next-parent, flat-put}
-use Rattle.tier_tree.proofs.Safe.{line_own, last_of, last-more}
-use Rattle.tier_tree.proofs.Stands.{other-is, stands_after_arrival}
-use Rattle.tier_tree.proofs.Trees.{trees_arrived, policy_same}
+use Rattle.tier_tree.specs.{Sound.IsForest, Origin.Origin, Origin.AreTallied, Origin.arrived_at, Origin.origin_after_arrival}
+use Rattle.tier_tree.specs.declared.climb.Climb.TheVariants as climb
+use Rattle.tier_tree.specs.declared.arrived.Arrived.TheVariants as arrived
+use Rattle.tier_tree.proofs.{Balance.next-parent, Balance.flat-put, Safe.line_own, Safe.last_of, Safe.last-more}
+use Rattle.tier_tree.proofs.{Stands.other-is, Stands.stands_after_arrival, Trees.trees_arrived, Trees.policy_same}
 use Rattle.tier_tree.proofs.Kept.{arrival-ends}
 use Rattle.loader.specs.Program.{Program, row_at}
-use Rattle.thread_state.specs.declared.frame.Frame.{Frame}
-use Rattle.thread_state.specs.declared.frame.Frame.TheVariants as frame
-use Rattle.thread_state.specs.declared.status.Status.{Status}
-use Rattle.thread_state.specs.declared.status.Status.TheVariants as status
+use Rattle.thread_state.specs.declared.{frame.Frame.Frame, status.Status.Status}
 use Rattle.thread_state.specs.Thread.{ThreadState, Turn, top_of, turn_of_advance}
-use Rattle.machine_scene.specs.declared.manner.Manner.{Manner}
-use Rattle.machine_scene.specs.Manner.{manner_of}
+use Rattle.thread_state.specs.declared.frame.Frame.TheVariants as frame
+use Rattle.thread_state.specs.declared.status.Status.TheVariants as status
+use Rattle.machine_scene.specs.{declared.manner.Manner.Manner, Manner.manner_of, Outcomes.outcome_in}
 use Rattle.machine_scene.specs.Scene.{Scene, Outcome, no_thread, thread_at, routine_at, with_phasers, with_thread}
 use Rattle.machine_scene.specs.CallRows.{outcome_of_ret, outcome_of_routine_end}
 use Rattle.machine_scene.specs.PhaserRows.{is_routine_policy, answer_of_policy, unless_own, outcome_of_pending_end, outcome_of_arrived, outcome_of_arrival}
-use Rattle.machine_scene.specs.Outcomes.{outcome_in}
-use Rattle.machine_scene.proofs.CallRows.{can_turn_on_top}
-use Rattle.machine_scene.proofs.Plain.{StandsAt}
-use Rattle.machine_scene.proofs.Routines.{turning_root}
+use Rattle.machine_scene.proofs.{CallRows.can_turn_on_top, Plain.StandsAt, Routines.turning_root}
 use Rattle.machine_scene.proofs.Standings.{Standing, arrival-standings}
-use Rattle.thread_machine.specs.declared.choice.Choice.{Choice}
-use Rattle.thread_machine.specs.World.{World}
-use Rattle.thread_machine.specs.Ready.{outcome_of_choice}
+use Rattle.thread_machine.specs.{declared.choice.Choice.Choice, World.World, Ready.outcome_of_choice}
 use Rattle.thread_machine.specs.Step.{played, played_by}
 use Rattle.thread_machine.specs.DirectCounts.{has_ended_phase, with_registration, with_arrival, with_row, with_turn, counts_at_end}
 use Rattle.headline.specs.PhaseEnds.{AreCounted, EndsInTime, HasLastArrived, HaveAllLeft, IsInRoutine, RoutineEnds, TerminateAsSaid, row_in, row_of}
 use Rattle.headline.proofs.Prompt.{ArePrompt, Lands, all_come, arrival_prompt, arrive_lands}
-use Rattle.headline.proofs.TreeCalls.{no_answer, root_ended}
-use Rattle.headline.proofs.Left.{ended_left}
-use Rattle.headline.proofs.Turns.{scene_after}
+use Rattle.headline.proofs.{TreeCalls.no_answer, TreeCalls.root_ended, Left.ended_left, Turns.scene_after}
 
 -- a phaser of this root's tree, below a number, at which somebody is still to arrive
 abbrev IsLeft : ℕ → ℕ → (before after : List PhaserState) → Type 0

@@ -1,22 +1,15 @@
 -- A root has no party where all who registered with its tree have left, and only there.
-use Rattle.std.proofs.Common.{inl, inr, ◌≡◌, ◌∙◌, ℕ, zero, suc, ◌+◌, ◌<◌, ◌≤◌, ◌==◌, Bool, true, false, List, [], ◌∷◌, length, ap, refl, sym, arith, if◌then◌else◌}
-use Rattle.std.specs.Prelude.{not}
-use Rattle.std.proofs.lemmas.Bool.{cases_eq}
-use Rattle.std.proofs.lemmas.Bool.Decides.{nat_tests}
+use Rattle.std.proofs.Common.{inl, inr, ◌≡◌, ◌∙◌, ℕ, zero, suc, ◌+◌, ◌<◌, ◌≤◌, ◌==◌, Bool, true, false, List, [], ◌∷◌, length, ap, refl, sym, arith, if◌then◌else◌, not}
+use Rattle.std.proofs.lemmas.Bool.{cases_eq, Decides.nat_tests}
 use Rattle.packed_phaser.specs.Flat.{Flat}
-use Rattle.tier_tree.specs.Answer.{KeepsEnds}
-use Rattle.tier_tree.specs.Forest.{PhaserState, phaser_at, flat_at, root_at}
-use Rattle.tier_tree.specs.PhaseEnd.{after_phase_end}
-use Rattle.tier_tree.specs.Sound.{IsForest}
+use Rattle.tier_tree.specs.{Answer.KeepsEnds, Forest.PhaserState, Forest.phaser_at, Forest.flat_at, Forest.root_at}
+use Rattle.tier_tree.specs.{PhaseEnd.after_phase_end, Sound.IsForest}
 use Rattle.tier_tree.specs.Origin.{Origin, is_under, children, has_joined, AreTallied}
-use Rattle.tier_tree.proofs.Safe.{linked, line_own, root-parent}
-use Rattle.tier_tree.proofs.Stands.{same-is}
-use Rattle.tier_tree.proofs.Trees.{CanEnd}
+use Rattle.tier_tree.proofs.{Safe.linked, Safe.line_own, Safe.root-parent, Stands.same-is, Trees.CanEnd}
 use Rattle.tier_tree.proofs.Turned.{child-tree, root-root, turn_change}
 use Rattle.thread_machine.specs.DirectCounts.{has_ended_phase}
 use Rattle.headline.specs.PhaseEnds.{HaveAllLeft}
-use Rattle.headline.proofs.Prompt.{no_children}
-use Rattle.headline.proofs.TreeCalls.{follow_keeps, others_ended}
+use Rattle.headline.proofs.{Prompt.no_children, TreeCalls.follow_keeps, TreeCalls.others_ended}
 
 pub none_passes : (test : Flat → Bool) (parent : ℕ) (phasers : List PhaserState) (id : ℕ) → children test parent phasers ≡ 0
     → id < length phasers → is_under parent (phaser_at phasers id).line ≡ true → test (flat_at phasers id) ≡ false

@@ -1,24 +1,16 @@
 -- The past of each barrier of an accepted program, choice by choice.
-use Rattle.std.proofs.Common.{◌≡◌, ℕ, suc, false, List, [], ◌∷◌, map, refl, sym, subst, arith}
-use Rattle.std.specs.Prelude.{Option, None, slice_index_or}
+use Rattle.std.proofs.Common.{◌≡◌, ℕ, suc, false, List, [], ◌∷◌, map, refl, sym, subst, arith, Option, None, slice_index_or}
 use Rattle.tier_tree.specs.Origin.{Origin}
-use Rattle.row_code.specs.declared.image.Image.{Image}
-use Rattle.row_code.specs.declared.barriers.DeclaredBarrier.{DeclaredBarrier}
+use Rattle.row_code.specs.declared.{image.Image.Image, barriers.DeclaredBarrier.DeclaredBarrier}
 use Rattle.loader.specs.Declarations.{declared_origin, new_barrier}
-use Rattle.cyclic_barrier.specs.Barrier.{BarrierState, fresh}
+use Rattle.cyclic_barrier.specs.{Barrier.BarrierState, Barrier.fresh, PlainBarrier.PlainBarrier, Past.IsStateAfter}
 use Rattle.cyclic_barrier.specs.PlainBarrier as plain
-use Rattle.cyclic_barrier.specs.PlainBarrier.{PlainBarrier}
-use Rattle.cyclic_barrier.specs.Past.{IsStateAfter}
 use Rattle.cyclic_barrier.proofs.PastLemmas.{stands-fresh}
 use Rattle.machine_scene.specs.Scene.{barrier_at}
-use Rattle.thread_machine.specs.declared.choice.Choice.{Choice}
-use Rattle.thread_machine.specs.declared.fault.StepFault.{StepFault}
-use Rattle.thread_machine.specs.World.{World}
-use Rattle.thread_machine.specs.Step.{played, refusal_of}
-use Rattle.thread_machine.specs.DirectCounts.{counts_after}
+use Rattle.thread_machine.specs.{declared.choice.Choice.Choice, declared.fault.StepFault.StepFault, World.World}
+use Rattle.thread_machine.specs.{Step.played, Step.refusal_of, DirectCounts.counts_after}
 use Rattle.thread_machine.proofs.SafeEnds.{Goes, goes_first}
-use Rattle.headline.specs.Pasts.{IfAccepted, RecordsOnePast}
-use Rattle.headline.specs.Headline.{BarriersHavePasts, start}
+use Rattle.headline.specs.{Pasts.IfAccepted, Pasts.RecordsOnePast, Headline.BarriersHavePasts, Headline.start}
 use Rattle.headline.proofs.Choices.{choice_goes, goes_next}
 
 if_accepted : (why : Option StepFault) (later : Type 0) → (why ≡ None → later) → IfAccepted why later

@@ -1,27 +1,19 @@
 -- When a phase of an accepted program ends, and when a phaser is terminated.
-use Rattle.std.proofs.Common.{◌≡◌, zero, suc, List, [], ◌∷◌, ap, refl, arith}
-use Rattle.std.specs.Prelude.{Option, None}
+use Rattle.std.proofs.Common.{◌≡◌, zero, suc, List, [], ◌∷◌, ap, refl, arith, Option, None}
 use Rattle.packed_phaser.specs.Flat.{Flat}
-use Rattle.tier_tree.specs.Declaration.{AreAllFresh}
-use Rattle.tier_tree.specs.Forest.{PhaserState}
-use Rattle.tier_tree.specs.Origin.{Origin}
+use Rattle.tier_tree.specs.{Declaration.AreAllFresh, Forest.PhaserState, Origin.Origin}
 use Rattle.row_code.specs.declared.image.Image.{Image}
 use Rattle.loader.specs.Declarations.{declared_origin}
 use Rattle.loader.proofs.Images.{all_made}
 use Rattle.thread_state.specs.declared.frame.Frame.TheVariants as frame
 use Rattle.machine_scene.proofs.Facts.{top_named}
-use Rattle.thread_machine.specs.declared.choice.Choice.{Choice}
-use Rattle.thread_machine.specs.declared.fault.StepFault.{StepFault}
-use Rattle.thread_machine.specs.World.{World}
-use Rattle.thread_machine.specs.Step.{played, refusal_of}
-use Rattle.thread_machine.specs.Execution.{execution, execution_by}
+use Rattle.thread_machine.specs.{declared.choice.Choice.Choice, declared.fault.StepFault.StepFault, World.World}
+use Rattle.thread_machine.specs.{Step.played, Step.refusal_of, Execution.execution, Execution.execution_by}
 use Rattle.thread_machine.specs.DirectCounts.{counts_after, counts_through}
 use Rattle.thread_machine.proofs.SafeEnds.{Goes, goes_first, goes_keeps, goes_through, no_early_end_of}
 use Rattle.headline.specs.Headline.{Accepted, ArrivalsAreTaken, EndsFewPhases, EndsNoPhaseEarly, NumbersChangeAtEnds, PhasesEndInTime, TerminationsAreSaid, start}
-use Rattle.headline.proofs.Choices.{choice_goes, goes_next, stands_now}
+use Rattle.headline.proofs.{Choices.choice_goes, Choices.goes_next, Choices.stands_now, Taken.takes, Prompt.ArePrompt}
 use Rattle.headline.proofs.LastArrivals.{are_counted, last_ends, routine_ends}
-use Rattle.headline.proofs.Taken.{takes}
-use Rattle.headline.proofs.Prompt.{ArePrompt}
 
 pub no_early_end : EndsNoPhaseEarly
 no_early_end image (within, loads) = no_early_end_of image 1000000000 within loads (omega arith)

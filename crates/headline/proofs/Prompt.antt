@@ -1,18 +1,13 @@
 -- Trees of phasers in which no last arrival is forgotten: where all parties of a phaser have arrived its phase is about to end.
-use Rattle.std.proofs.Common.{◌≡◌, ◌∙◌, ℕ, zero, suc, ◌+◌, ◌<◌, ◌≤◌, Bool, true, false, List, [], ◌∷◌, length, ap, refl, arith, if◌then◌else◌}
-use Rattle.std.specs.Prelude.{◌&&◌, not, slice_set}
-use Rattle.std.proofs.lemmas.Bool.{cases_eq, cases_lt}
-use Rattle.std.proofs.lemmas.Bool.Decides.{nat_tests}
-use Rattle.std.proofs.lemmas.List.{get_or_past}
+use Rattle.std.proofs.Common.{◌≡◌, ◌∙◌, ℕ, zero, suc, ◌+◌, ◌<◌, ◌≤◌, Bool, true, false, List, [], ◌∷◌, length, ap, refl, arith, if◌then◌else◌, ◌&&◌, not, slice_set}
+use Rattle.std.proofs.lemmas.{Bool.cases_eq, Bool.cases_lt, Bool.Decides.nat_tests, List.get_or_past}
 use Rattle.packed_phaser.specs.Flat.{Flat, Arrival, Counts, Turns, ComesLate, IsUnregistered, arrive, is_empty, unarrived_of}
-use Rattle.tier_tree.specs.declared.registered.Registered.{Registered}
+use Rattle.tier_tree.specs.{declared.registered.Registered.Registered, Sound.IsForest}
 use Rattle.tier_tree.specs.Forest.{PhaserState, phaser_at, flat_at, root_at}
 use Rattle.tier_tree.specs.Registration.{Join, joined, registered_by}
 use Rattle.tier_tree.specs.Arrival.{Climbed, is_top, climbed_by, climbed, arrival}
-use Rattle.tier_tree.specs.Sound.{IsForest}
 use Rattle.tier_tree.specs.Origin.{Origin, is_under, children, is_awaited, AreTallied, HaveAllArrived}
-use Rattle.tier_tree.proofs.Lines.{length-places}
-use Rattle.tier_tree.proofs.Turned.{TreeChange, child-tree}
+use Rattle.tier_tree.proofs.{Lines.length-places, Turned.TreeChange, Turned.child-tree}
 
 -- no more parties have arrived than there are; and where all have, the phase is about to end
 abbrev pub IsPrompt : Flat → Type 0

@@ -1,19 +1,13 @@
 -- A trace is found the same exactly if it is the trace of the choices that its lines name: these are choices of threads from 0 to 63.
-use Rattle.std.proofs.Common.{◌≡◌, ◌∙◌, ◌+◌, ◌-◌, ◌*◌, ◌≤◌, ◌==◌, ℕ, Bool, true, false, List, [], ◌∷◌, All, Some, None, refl, ap, sym, arith, if◌then◌else◌}
-use Rattle.std.specs.Prelude.{◌&&◌, ◌↔◌, nat_le, Option, IfSome}
-use Rattle.std.specs.Char.{is_ascii_digit}
-use Rattle.std.specs.List.{after_first, before_first, slice_split}
-use Rattle.std.proofs.lemmas.Bool.Decides.{nat_tests}
-use Rattle.std.proofs.lemmas.List.Elements.{All-cons, All-nil}
+use Rattle.std.proofs.Common.{◌≡◌, ◌∙◌, ◌+◌, ◌-◌, ◌*◌, ◌≤◌, ◌==◌, ℕ, Bool, true, false, List, [], ◌∷◌, All, Some, None, refl, ap, sym, arith, if◌then◌else◌, ◌&&◌, ◌↔◌, nat_le, Option, IfSome}
+use Rattle.std.proofs.lemmas.{Bool.Decides.nat_tests, List.Elements.All-cons, List.Elements.All-nil}
+use Rattle.std.specs.{Char.is_ascii_digit, List.after_first, List.before_first, List.slice_split}
 use Rattle.line_reader.specs.Words.{is_line_end}
 use Rattle.row_code.specs.declared.image.Image.{Image}
-use Rattle.thread_machine.specs.World.{World, IsFirstOf}
-use Rattle.thread_machine.specs.declared.choice.Choice.{Choice}
+use Rattle.thread_machine.specs.{World.World, World.IsFirstOf, declared.choice.Choice.Choice}
 use Rattle.trace_text.specs.Reading.{choice_by, choice_in, choice_named, choice_of_digits, is_space, is_state_line, is_step}
 use Rattle.trace_text.specs.Trace.{trace_of}
-use Rattle.trace_compare.proofs.OwnTrace.{IsNamed, own-trace}
-use Rattle.trace_compare.proofs.OneTrace.{trace-first}
-use Rattle.trace_compare.proofs.SameTrace.{same-trace}
+use Rattle.trace_compare.proofs.{OwnTrace.IsNamed, OwnTrace.own-trace, OneTrace.trace-first, SameTrace.same-trace}
 use Rattle.trace_compare.specs.Compare.{choices_in, choices_of_trace, verdict_of, with_choice}
 use Rattle.trace_compare.specs.declared.comparison.Verdict.TheVariants as verdict
 use Rattle.headline.specs.Headline.{start}

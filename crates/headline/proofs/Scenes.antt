@@ -1,18 +1,15 @@
 -- What choices leave of the world, one after another and however the program's phasers are stored.
-use Rattle.std.proofs.Common.{◌≡◌, ◌∙◌, ℕ, ◌+◌, ◌<◌, Bool, true, false, List, [], ◌∷◌, drop, get_or, length, ap, refl, Option, Some, None, arith}
-use Rattle.std.specs.Prelude.{is_some}
+use Rattle.std.proofs.Common.{◌≡◌, ◌∙◌, ℕ, ◌+◌, ◌<◌, Bool, true, false, List, [], ◌∷◌, drop, get_or, length, ap, refl, Option, Some, None, arith, is_some}
 use Rattle.std.proofs.lemmas.List.{drop_more}
 use Rattle.row_code.specs.declared.image.Image.{Image}
 use Rattle.tier_tree.specs.Stored.{Stored}
 use Rattle.loader.specs.Program.{without_words}
 use Rattle.thread_state.specs.declared.event.Event.{Event}
-use Rattle.thread_machine.specs.declared.choice.Choice.{Choice}
-use Rattle.thread_machine.specs.declared.fault.StepFault.{StepFault}
+use Rattle.thread_machine.specs.declared.{choice.Choice.Choice, fault.StepFault.StepFault}
 use Rattle.thread_machine.specs.World.{World, StoredWorld, IsFirstOf, first_of, world_of}
 use Rattle.thread_machine.specs.Step.{Played, played, refusal_of}
 use Rattle.thread_machine.specs.Execution.{Execution, execution, execution_by}
-use Rattle.headline.specs.Headline.{StoredAlike}
-use Rattle.headline.specs.Playing.{Leaves}
+use Rattle.headline.specs.{Headline.StoredAlike, Playing.Leaves}
 use Rattle.trace_compare.proofs.OneVerdict.{as-stored, played-event, played-world, plays-same, refusal-same, state-same, stored}
 
 -- how the phasers are stored makes no difference to an execution

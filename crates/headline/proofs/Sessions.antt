@@ -1,10 +1,8 @@
 -- What stands in a debugging session.
 use Rattle.std.proofs.Common.{◌≡◌, ℕ, List, [], ◌∷◌, Option, Some, None, refl, sym, subst}
-use Rattle.thread_machine.specs.declared.choice.Choice.{Choice}
-use Rattle.thread_machine.specs.World.{World, StoredWorld, world_of}
+use Rattle.thread_machine.specs.{declared.choice.Choice.Choice, World.World, World.StoredWorld, World.world_of}
 use Rattle.schedule_reader.specs.declared.run.Run.{Run}
-use Rattle.debugger.specs.Command.{Go, line_order}
-use Rattle.debugger.specs.Session.{Session, IsHistory}
+use Rattle.debugger.specs.{Command.Go, Command.line_order, Session.Session, Session.IsHistory}
 use Rattle.debugger.proofs.Standings.{goes_on_with}
 use Rattle.workbench.specs.Debug.{Exchange, IsBegun, IsDialogue, first_session}
 use Rattle.headline.specs.EndToEnd.{AreLeft, SessionsGiveTheRows, StandAtFirst}

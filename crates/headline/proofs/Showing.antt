@@ -1,37 +1,23 @@
 -- What the commands have written, in the words of their promise.
-use Rattle.std.proofs.Common.{◌≡◌, ℕ, Bool, List, [], None, Some, ◌∙◌, refl, ap, sym, subst, append-nil, inl, inr, arith}
-use Rattle.std.specs.Prelude.{Option, Result, Ok, Err, OnOk}
+use Rattle.std.proofs.Common.{◌≡◌, ℕ, Bool, List, [], None, Some, ◌∙◌, refl, ap, sym, subst, append-nil, inl, inr, arith, Option, Result, Ok, Err, OnOk}
 use Rattle.std.specs.Io.KnownBytes.{Appends, Consumes, IsAtEnd}
-use Rattle.row_code.specs.declared.image.Image.{Image}
-use Rattle.row_code.specs.Image.{IsImage}
+use Rattle.row_code.specs.{declared.image.Image.Image, Image.IsImage}
 use Rattle.line_reader.specs.Words.{lines_of}
 use Rattle.assembler.specs.Meaning.{StandsFor}
-use Rattle.assembler.proofs.ImageRanges.{said_image}
-use Rattle.assembler.proofs.ReadLines.{one_image}
-use Rattle.loader.specs.Fault.{first_fault}
-use Rattle.loader.specs.declared.load_fault.LoadFault.{LoadFault}
-use Rattle.schedule_reader.specs.declared.run.Run.{Run}
-use Rattle.schedule_reader.specs.Schedule.{finished_schedule, choices_of}
-use Rattle.thread_machine.specs.declared.choice.Choice.{Choice}
-use Rattle.thread_machine.specs.World.{World}
-use Rattle.trace_text.specs.declared.run.RunFault.{RunFault}
-use Rattle.trace_text.specs.declared.run_end.RunEnd.{RunEnd}
+use Rattle.assembler.proofs.{ImageRanges.said_image, ReadLines.one_image}
+use Rattle.loader.specs.{Fault.first_fault, declared.load_fault.LoadFault.LoadFault}
+use Rattle.schedule_reader.specs.{declared.run.Run.Run, Schedule.finished_schedule, Schedule.choices_of}
+use Rattle.thread_machine.specs.{declared.choice.Choice.Choice, World.World}
+use Rattle.trace_text.specs.{declared.run.RunFault.RunFault, declared.run_end.RunEnd.RunEnd, Start.Begins, Trace.trace_of}
 use Rattle.trace_text.specs.Outcome.{ComesOfChoices, ComesTo}
-use Rattle.trace_text.specs.Start.{Begins}
-use Rattle.trace_text.specs.Trace.{trace_of}
-use Rattle.trace_compare.proofs.OneTrace.{trace-first}
-use Rattle.trace_compare.proofs.SameTrace.{same-trace}
+use Rattle.trace_compare.proofs.{OneTrace.trace-first, SameTrace.same-trace}
 use Rattle.trace_compare.specs.Compare.{HasVerdict, choices_of_trace, verdict_of}
 use Rattle.trace_compare.specs.declared.comparison.Verdict.{Verdict}
 use Rattle.trace_compare.specs.declared.comparison.Verdict.TheVariants as verdict
-use Rattle.workbench.specs.Compare.{WritesVerdict}
-use Rattle.workbench.specs.declared.fault.Fault.{Fault}
-use Rattle.workbench.specs.declared.done.Done.{Done}
-use Rattle.workbench.specs.declared.done.Done.TheVariants as done
-use Rattle.workbench.specs.Debug.{Debugs, DebugsAt, IsBegun}
-use Rattle.workbench.specs.Live.{Lives}
-use Rattle.workbench.specs.ProgramFile.{IsProgramFile}
+use Rattle.workbench.specs.{Compare.WritesVerdict, declared.fault.Fault.Fault, declared.done.Done.Done, Live.Lives}
+use Rattle.workbench.specs.{Debug.Debugs, Debug.DebugsAt, Debug.IsBegun, ProgramFile.IsProgramFile}
 use Rattle.workbench.specs.RunLine.{program_part, schedule_part}
+use Rattle.workbench.specs.declared.done.Done.TheVariants as done
 use Rattle.headline.specs.Headline.{start}
 use Rattle.headline.specs.EndToEnd.{HasDebuggedFile, HasDebuggedFileAt, HasFoundTheSame, HasShownChoices, HasShownFile, HasShownLive, HasShownText, ShowsTheRows}
 

@@ -1,36 +1,21 @@
 -- What the exit status says of a text with its schedule.
-use Rattle.std.proofs.Common.{◌≡◌, ◌∙◌, ◌≤◌, ◌⊎◌, ℕ, Bool, true, false, List, [], ◌∷◌, ◌++◌, length, Some, None, inl, inr, refl, ap, sym, append-nil, arith, if◌then◌else◌}
-use Rattle.std.specs.Prelude.{Option, Result, Ok, Err, IsTrue}
-use Rattle.std.specs.Io.KnownBytes.{Consumes}
-use Rattle.std.specs.List.{slice_split, join_with_byte}
-use Rattle.std.proofs.lemmas.List.{length-append}
+use Rattle.std.proofs.Common.{◌≡◌, ◌∙◌, ◌≤◌, ◌⊎◌, ℕ, Bool, true, false, List, [], ◌∷◌, ◌++◌, length, Some, None, inl, inr, refl, ap, sym, append-nil, arith, if◌then◌else◌, Option, Result, Ok, Err, IsTrue, length-append}
 use Rattle.std.proofs.lemmas.List.Splits.{join_with_byte-slice_split}
-use Rattle.line_reader.specs.Words.{is_line_end}
-use Rattle.line_reader.specs.FaultNumber.{asm_number}
-use Rattle.row_code.specs.FaultNumber.{image_number}
-use Rattle.row_code.specs.declared.image.Image.{Image}
-use Rattle.assembler.specs.declared.placed.PlacedFault.{PlacedFault}
-use Rattle.line_reader.specs.declared.asm_fault.AsmFault.{AsmFault}
-use Rattle.assembler.specs.Meaning.{StandsFor}
+use Rattle.std.specs.{Io.KnownBytes.Consumes, List.slice_split, List.join_with_byte}
+use Rattle.line_reader.specs.{Words.is_line_end, FaultNumber.asm_number, declared.asm_fault.AsmFault.AsmFault}
+use Rattle.row_code.specs.{FaultNumber.image_number, declared.image.Image.Image}
+use Rattle.assembler.specs.{declared.placed.PlacedFault.PlacedFault, Meaning.StandsFor}
 use Rattle.assembler.proofs.ReadLines.{stands_for-assembled}
 use Rattle.loader.specs.FaultNumber.{load_number}
-use Rattle.schedule_reader.specs.FaultNumber.{schedule_number}
-use Rattle.schedule_reader.specs.declared.fault.ScheduleFault.{ScheduleFault}
-use Rattle.schedule_reader.specs.declared.run.Run.{Run}
+use Rattle.schedule_reader.specs.{FaultNumber.schedule_number, declared.fault.ScheduleFault.ScheduleFault, declared.run.Run.Run}
 use Rattle.schedule_reader.specs.Schedule.{Schedule, finished_schedule}
-use Rattle.trace_text.specs.declared.run.RunFault.{RunFault}
+use Rattle.trace_text.specs.{declared.run.RunFault.RunFault, declared.run_end.RunEnd.RunEnd, Outcome.Stops, RunText.HasFault}
 use Rattle.trace_text.specs.declared.run.RunFault.TheVariants as run_fault
-use Rattle.trace_text.specs.declared.run_end.RunEnd.{RunEnd}
-use Rattle.trace_text.specs.Outcome.{Stops}
-use Rattle.trace_text.specs.RunText.{HasFault}
-use Rattle.workbench.specs.declared.fault.Fault.{Fault}
-use Rattle.workbench.specs.declared.fault.Fault.TheVariants as fault
-use Rattle.workbench.specs.Done.{IsSettledBy, as_asked}
-use Rattle.workbench.specs.Fault.{refusal_status, status_of}
-use Rattle.workbench.specs.Input.{GivesAll, GivesTooMuch, most_bytes}
+use Rattle.workbench.specs.{declared.fault.Fault.Fault, Done.IsSettledBy, Done.as_asked, Fault.refusal_status, Fault.status_of}
+use Rattle.workbench.specs.{Input.GivesAll, Input.GivesTooMuch, Input.most_bytes, ProgramFile.IsNoTextFor}
 use Rattle.workbench.specs.Outcome.{ComesOf, PlaysText, told_as}
-use Rattle.workbench.specs.ProgramFile.{IsNoTextFor}
 use Rattle.workbench.specs.RunLine.{after_run, is_run_line, program_part, schedule_part}
+use Rattle.workbench.specs.declared.fault.Fault.TheVariants as fault
 use Rattle.headline.specs.EndToEnd.{HasShownText}
 use Rattle.headline.proofs.Showing.{never-shown, text-shown}
 

@@ -1,38 +1,24 @@
 -- The arrival of a registered party is taken.
-use Rattle.std.proofs.Common.{◌≡◌, ◌≢◌, ◌∙◌, ℕ, ℤ, ◌+◌, ◌-◌, ◌<◌, ◌==◌, Bool, true, false, List, [], ◌∷◌, length, ap, refl, sym, subst, arith, if◌then◌else◌, rules}
-use Rattle.std.specs.Prelude.{Option, Some, None}
+use Rattle.std.proofs.Common.{◌≡◌, ◌≢◌, ◌∙◌, ℕ, ℤ, ◌+◌, ◌-◌, ◌<◌, ◌==◌, Bool, true, false, List, [], ◌∷◌, length, ap, refl, sym, subst, arith, if◌then◌else◌, rules, Option, Some, None, get_or-set_same}
 use Rattle.std.proofs.lemmas.Bool.{cases_eq}
-use Rattle.std.proofs.lemmas.List.{get_or-set_same}
-use Rattle.instruction_table.specs.declared.row.Row.{Row}
-use Rattle.instruction_table.specs.declared.row.Row.TheVariants.{Parr, Pdereg, Paaa}
+use Rattle.instruction_table.specs.declared.row.Row.{Row, TheVariants.Parr, TheVariants.Pdereg, TheVariants.Paaa}
 use Rattle.packed_phaser.specs.Flat.{Flat, Arrival, Counts, Turns, ComesLate, IsUnregistered, arrive, settled, unarrived_of}
-use Rattle.tier_tree.specs.declared.climb.Climb.{Climb}
-use Rattle.tier_tree.specs.declared.climb.Climb.TheVariants as climb
-use Rattle.tier_tree.specs.declared.arrived.Arrived.{Arrived}
-use Rattle.tier_tree.specs.declared.arrived.Arrived.TheVariants as arrived
+use Rattle.tier_tree.specs.{declared.climb.Climb.Climb, declared.arrived.Arrived.Arrived, Origin.Origin, Origin.AreTallied}
 use Rattle.tier_tree.specs.Forest.{PhaserState, phaser_at, flat_at, root_at}
 use Rattle.tier_tree.specs.Arrival.{Arrives, Climbed, is_top, climbed_by, climbed, arrival_by, arrival}
-use Rattle.tier_tree.specs.Origin.{Origin, AreTallied}
-use Rattle.tier_tree.proofs.Balance.{next-parent}
-use Rattle.tier_tree.proofs.Safe.{line_own, root-parent}
-use Rattle.tier_tree.proofs.Stands.{same-is, other-is}
+use Rattle.tier_tree.specs.declared.climb.Climb.TheVariants as climb
+use Rattle.tier_tree.specs.declared.arrived.Arrived.TheVariants as arrived
+use Rattle.tier_tree.proofs.{Balance.next-parent, Safe.line_own, Safe.root-parent, Stands.same-is, Stands.other-is}
 use Rattle.loader.specs.Program.{Program, row_at}
 use Rattle.thread_state.specs.declared.status.Status.{Status}
 use Rattle.thread_state.specs.declared.status.Status.TheVariants as status
-use Rattle.machine_scene.specs.declared.manner.Manner.{Manner}
-use Rattle.machine_scene.specs.Manner.{manner_of}
-use Rattle.machine_scene.specs.Scene.{Scene, Outcome, thread_at}
+use Rattle.machine_scene.specs.{declared.manner.Manner.Manner, Manner.manner_of, Scene.Scene, Scene.Outcome, Scene.thread_at}
 use Rattle.machine_scene.specs.PhaserRows.{refusal_of_arrival, unless_own, outcome_of_arrived, outcome_of_arrival}
 use Rattle.machine_scene.specs.Outcomes.{outcome_in}
 use Rattle.machine_scene.proofs.Plain.{StandsAt}
-use Rattle.thread_machine.specs.declared.choice.Choice.{Choice}
-use Rattle.thread_machine.specs.World.{World}
-use Rattle.thread_machine.specs.Ready.{outcome_of_choice}
-use Rattle.thread_machine.specs.Step.{played}
+use Rattle.thread_machine.specs.{declared.choice.Choice.Choice, World.World, Ready.outcome_of_choice, Step.played}
 use Rattle.headline.specs.PhaseEnds.{ArrivesAt, TakesArrivals, row_in, row_of}
-use Rattle.headline.proofs.LastArrivals.{played_ends}
-use Rattle.headline.proofs.Left.{IsOpen, live_at, none_passes}
-use Rattle.headline.proofs.Turns.{scene_after}
+use Rattle.headline.proofs.{LastArrivals.played_ends, Left.IsOpen, Left.live_at, Left.none_passes, Turns.scene_after}
 
 -- it comes to the phaser
 abbrev Comes : Arrival → Type 0

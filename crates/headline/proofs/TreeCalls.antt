@@ -1,26 +1,15 @@
 -- What each call of the trees makes of them in a turn.
-use Rattle.std.proofs.Common.{inl, inr, ◌≡◌, ◌≢◌, ◌∙◌, ℕ, ℤ, zero, suc, ◌<◌, ◌==◌, Bool, true, false, List, [], ◌∷◌, length, map, ap, refl, sym, arith, if◌then◌else◌}
-use Rattle.std.specs.Prelude.{◌||◌, Option, Some, None}
-use Rattle.std.proofs.lemmas.Bool.{cases_eq}
-use Rattle.std.proofs.lemmas.List.{length-map, get_or-set_same, get_or-set_other}
-use Rattle.instruction_table.specs.declared.row.Row.{Row}
-use Rattle.instruction_table.specs.declared.row.Row.TheVariants.{Pforce}
+use Rattle.std.proofs.Common.{inl, inr, ◌≡◌, ◌≢◌, ◌∙◌, ℕ, ℤ, zero, suc, ◌<◌, ◌==◌, Bool, true, false, List, [], ◌∷◌, length, map, ap, refl, sym, arith, if◌then◌else◌, ◌||◌, Option, Some, None, get_or-set_same, get_or-set_other}
+use Rattle.std.proofs.lemmas.{Bool.cases_eq, List.length-map}
+use Rattle.instruction_table.specs.declared.row.Row.{Row, TheVariants.Pforce}
 use Rattle.phase_number.specs.Phase.{next_phase}
-use Rattle.packed_phaser.specs.declared.policy.Policy.{Policy}
-use Rattle.packed_phaser.specs.Flat.{Flat}
-use Rattle.packed_phaser.specs.Policy.{ends}
-use Rattle.tier_tree.specs.declared.id.PhaserId.{PhaserId}
-use Rattle.tier_tree.specs.declared.arrived.Arrived.TheVariants as arrived
-use Rattle.tier_tree.specs.Answer.{KeepsEnds}
+use Rattle.packed_phaser.specs.{declared.policy.Policy.Policy, Flat.Flat, Policy.ends}
+use Rattle.tier_tree.specs.{declared.id.PhaserId.PhaserId, Answer.KeepsEnds, Registration.after_registration, Arrival.arrival}
 use Rattle.tier_tree.specs.Forest.{PhaserState, phaser_at, flat_at, root_of, root_at}
-use Rattle.tier_tree.specs.Registration.{after_registration}
-use Rattle.tier_tree.specs.Arrival.{arrival}
-use Rattle.tier_tree.specs.PhaseEnd.{follow, in_step, after_phase_end, after_force}
-use Rattle.tier_tree.specs.Sound.{IsForest}
-use Rattle.tier_tree.specs.Origin.{IsSteady}
-use Rattle.tier_tree.specs.Trees.{AreTrees}
-use Rattle.tier_tree.proofs.Kept.{registration-ends, arrival-ends, force-ends}
-use Rattle.tier_tree.proofs.Stands.{same-is, other-is}
+use Rattle.tier_tree.specs.{PhaseEnd.follow, PhaseEnd.in_step, PhaseEnd.after_phase_end, PhaseEnd.after_force, Sound.IsForest}
+use Rattle.tier_tree.specs.{Origin.IsSteady, Trees.AreTrees}
+use Rattle.tier_tree.specs.declared.arrived.Arrived.TheVariants as arrived
+use Rattle.tier_tree.proofs.{Kept.registration-ends, Kept.arrival-ends, Kept.force-ends, Stands.same-is, Stands.other-is}
 use Rattle.tier_tree.proofs.Trees.{CanEnd, trees_arrived, policy_same}
 use Rattle.tier_tree.proofs.Turned.{turn_change, force_change, root-root}
 use Rattle.thread_state.specs.Thread.{ThreadState}

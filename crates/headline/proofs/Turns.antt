@@ -1,56 +1,37 @@
 -- What a turn makes of the past of each barrier, and of the trees of phasers.
-use Rattle.std.proofs.Common.{◌≡◌, ◌≢◌, ◌∙◌, ◌⊎◌, sym, inl, inr, ℕ, ℤ, pos, zero, suc, ◌<◌, ◌&&◌, not, Bool, true, false, List, [], ◌∷◌, ap, refl, if◌then◌else◌, arith, rules}
+use Rattle.std.proofs.Common.{◌≡◌, ◌≢◌, ◌∙◌, ◌⊎◌, sym, inl, inr, ℕ, ℤ, pos, zero, suc, ◌<◌, ◌&&◌, not, Bool, true, false, List, [], ◌∷◌, ap, refl, if◌then◌else◌, arith, rules, nat_abs, int_lt, is_some, length, Option, Some, None, slice_set, slice_index_or, eqb-true}
+use Rattle.std.proofs.lemmas.Bool.{and_parts}
 use Rattle.std.specs.Ordering.{int_eq}
-use Rattle.std.specs.Prelude.{nat_abs, int_lt, is_some, length, Option, Some, None, slice_set, slice_index_or}
-use Rattle.instruction_table.specs.declared.row.Row.{Row}
+use Rattle.instruction_table.specs.declared.{row.Row.Row, register.Reg.Reg, register.Reg.TheVariants.R0, group.Group.Group}
 use Rattle.instruction_table.specs.declared.row.Row.TheVariants.{Halt, Ret, Out, Preg, Pbulk, Parr, Pdereg, Paaa, Pawait, Pawaiti, Pforce, Pphase, Cawait, Creset, Cbroken, Cwaiting, Cparties, Pawaitt, Cawaitt}
-use Rattle.instruction_table.specs.declared.register.Reg.{Reg}
-use Rattle.instruction_table.specs.declared.register.Reg.TheVariants.{R0}
-use Rattle.instruction_table.specs.Registers.{value_in}
-use Rattle.tier_tree.specs.declared.registered.Registered.{Registered}
+use Rattle.instruction_table.specs.{Registers.value_in, Group.group_of}
+use Rattle.instruction_table.specs.declared.group.Group.TheVariants.{Own, Calls, Data, Phasers, Getters, Barriers}
+use Rattle.tier_tree.specs.declared.{registered.Registered.Registered, arrived.Arrived.Arrived, id.PhaserId.PhaserId}
+use Rattle.tier_tree.specs.{Forest.PhaserState, Forest.flat_at, Arrival.arrival}
 use Rattle.tier_tree.specs.declared.registered.Registered.TheVariants as registered
-use Rattle.tier_tree.specs.declared.arrived.Arrived.{Arrived}
 use Rattle.tier_tree.specs.declared.arrived.Arrived.TheVariants as arrived
-use Rattle.tier_tree.specs.declared.id.PhaserId.{PhaserId}
-use Rattle.tier_tree.specs.Forest.{PhaserState, flat_at}
-use Rattle.tier_tree.specs.Arrival.{arrival}
-use Rattle.cyclic_barrier.specs.declared.answer.Entered.{Entered}
-use Rattle.cyclic_barrier.specs.declared.answer.Entered.TheVariants as entered
-use Rattle.cyclic_barrier.specs.declared.answer.WaitState.{WaitState}
-use Rattle.cyclic_barrier.specs.declared.answer.WaitState.TheVariants as state
-use Rattle.cyclic_barrier.specs.Waits.{wait_at}
+use Rattle.cyclic_barrier.specs.{declared.answer.Entered.Entered, declared.answer.WaitState.WaitState, Waits.wait_at}
 use Rattle.cyclic_barrier.specs.Barrier.{BarrierState, Entry, fresh, enter_timed, has_wait}
-use Rattle.cyclic_barrier.specs.PlainBarrier.{PlainBarrier, state_of}
-use Rattle.cyclic_barrier.specs.Past.{IsStateAfter}
-use Rattle.std.proofs.lemmas.Bool.{and_parts, eqb-true}
+use Rattle.cyclic_barrier.specs.{PlainBarrier.PlainBarrier, PlainBarrier.state_of, Past.IsStateAfter}
+use Rattle.cyclic_barrier.specs.declared.answer.Entered.TheVariants as entered
+use Rattle.cyclic_barrier.specs.declared.answer.WaitState.TheVariants as state
 use Rattle.tier_tree.proofs.Stands.{same-is}
 use Rattle.loader.specs.Program.{Program, IsNamed, row_at}
-use Rattle.thread_state.specs.declared.event.What.{What}
-use Rattle.thread_state.specs.declared.event.What.TheVariants as what
-use Rattle.thread_state.specs.declared.frame.Frame.{Frame}
-use Rattle.thread_state.specs.declared.frame.Frame.TheVariants as frame
-use Rattle.thread_state.specs.declared.status.Status.{Status}
-use Rattle.thread_state.specs.declared.status.Status.TheVariants as status
+use Rattle.thread_state.specs.declared.{event.What.What, frame.Frame.Frame, status.Status.Status}
 use Rattle.thread_state.specs.Thread.{ThreadState, top_of, is_full}
-use Rattle.instruction_table.specs.declared.group.Group.{Group}
-use Rattle.instruction_table.specs.declared.group.Group.TheVariants.{Own, Calls, Data, Phasers, Getters, Barriers}
-use Rattle.machine_scene.specs.declared.manner.Manner.{Manner}
+use Rattle.thread_state.specs.declared.event.What.TheVariants as what
+use Rattle.thread_state.specs.declared.frame.Frame.TheVariants as frame
+use Rattle.thread_state.specs.declared.status.Status.TheVariants as status
+use Rattle.machine_scene.specs.{declared.manner.Manner.Manner, OwnRows.outcome_of_own_row, DataRows.outcome_of_data_row}
 use Rattle.machine_scene.specs.Scene.{Scene, Outcome, counts_of, thread_at, barrier_at, with_phasers, with_barrier, with_thread}
-use Rattle.instruction_table.specs.Group.{group_of}
-use Rattle.machine_scene.specs.OwnRows.{outcome_of_own_row}
 use Rattle.machine_scene.specs.CallRows.{outcome_of_routine_end, outcome_of_ret, outcome_of_call_row}
-use Rattle.machine_scene.specs.DataRows.{outcome_of_data_row}
-use Rattle.machine_scene.specs.GetterRows.{outcome_of_getter_row}
+use Rattle.machine_scene.specs.{GetterRows.outcome_of_getter_row, Unwinding.outcome_of_popped}
 use Rattle.machine_scene.specs.PhaserRows.{is_own_tree, is_past, has_routine, answer_of_policy, unless_own, outcome_of_pending_end, outcome_of_arrived, outcome_of_arrival, outcome_of_registered, outcome_of_registration, outcome_of_bulk, outcome_of_phaser_row}
 use Rattle.machine_scene.specs.BarrierRows.{is_run_by, is_run_by_another, unless_busy, unless_runner, outcome_of_entered, outcome_of_await_at, outcome_of_barrier_row}
-use Rattle.machine_scene.specs.Unwinding.{outcome_of_popped}
 use Rattle.machine_scene.specs.Waits.{outcome_of_awaited, outcome_of_phase_wait, outcome_of_release, outcome_of_barrier_wait, outcome_of_phase_timeout, outcome_of_barrier_timeout}
 use Rattle.machine_scene.specs.Outcomes.{outcome_in_group, outcome_in, outcome_of, outcome_of_expiry, is_ready, timeout_in}
 use Rattle.machine_scene.specs.Sound.{IsSound, awaits, is_wait_row}
-use Rattle.machine_scene.proofs.Plain.{either, StandsAt}
-use Rattle.machine_scene.proofs.BarrierRows.{seat}
-use Rattle.machine_scene.proofs.CallRows.{can_turn_on_top}
-use Rattle.machine_scene.proofs.Facts.{top_named}
+use Rattle.machine_scene.proofs.{Plain.either, Plain.StandsAt, BarrierRows.seat, CallRows.can_turn_on_top, Facts.top_named}
 use Rattle.machine_scene.proofs.Outcomes.{stands_at}
 use Rattle.headline.specs.Pasts.{BarrierCall, Enter, EndAction, Leave, Interrupt, Expire, Reset, IsInAction, MakesBarrierCall, MakesNone}
 use Rattle.headline.specs.PhaseEnds.{answer_of_ret, row_in}

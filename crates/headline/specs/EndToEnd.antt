@@ -43,22 +43,15 @@ use Rattle.std.specs.Prelude.{◌≡◌, ℕ, List, [], ◌∷◌, Option, Some,
 use Rattle.std.specs.Io.KnownBytes.{Appends, Consumes, IsAtEnd}
 use Rattle.row_code.specs.declared.image.Image.{Image}
 use Rattle.assembler.specs.Meaning.{StandsFor}
-use Rattle.thread_machine.specs.declared.choice.Choice.{Choice}
-use Rattle.thread_machine.specs.World.{StoredWorld, IsFirstOf, world_of}
-use Rattle.schedule_reader.specs.declared.run.Run.{Run}
-use Rattle.schedule_reader.specs.Schedule.{finished_schedule, choices_of}
+use Rattle.thread_machine.specs.{declared.choice.Choice.Choice, World.StoredWorld, World.IsFirstOf, World.world_of}
+use Rattle.thread_machine.specs.Execution.{execution}
+use Rattle.schedule_reader.specs.{declared.run.Run.Run, Schedule.finished_schedule, Schedule.choices_of}
 use Rattle.trace_text.specs.Trace.{trace_of}
 use Rattle.trace_compare.specs.Compare.{choices_of_trace}
 use Rattle.headline.specs.Headline.{Accepted, GivesTheRows, start}
-use Rattle.debugger.specs.Command.{Go, line_order}
-use Rattle.debugger.specs.Reply.{Replies}
-use Rattle.debugger.specs.Session.{Session}
-use Rattle.debugger.specs.Standing.{Stands}
-use Rattle.thread_machine.specs.Execution.{execution}
+use Rattle.debugger.specs.{Command.Go, Command.line_order, Reply.Replies, Session.Session, Standing.Stands}
 use Rattle.workbench.specs.Debug.{Exchange, Finished, HasConversed, IsBegun, IsBehindTrace, IsDialogue, first_session}
-use Rattle.workbench.specs.Live.{IsRecorded}
-use Rattle.workbench.specs.ProgramFile.{IsProgramFile}
-use Rattle.workbench.specs.RunLine.{program_part, schedule_part}
+use Rattle.workbench.specs.{Live.IsRecorded, ProgramFile.IsProgramFile, RunLine.program_part, RunLine.schedule_part}
 
 -- the text spells this accepted program
 abbrev pub AcceptedText : List ℕ → Image → Type 0

@@ -42,30 +42,19 @@
 --
 -- You trust Rattle's checker and its two compilers, LLVM, the C library and the system below them.
 use Rattle.std.specs.Prelude.{◌≡◌, ◌≤◌, ℕ, List, Option, None, ◌++◌}
-use Rattle.row_code.specs.declared.image.Image.{Image}
-use Rattle.row_code.specs.Image.{IsImage}
-use Rattle.loader.specs.Declarations.{declared_origin}
-use Rattle.loader.specs.Fault.{first_fault}
-use Rattle.loader.specs.Program.{without_words}
+use Rattle.row_code.specs.{declared.image.Image.Image, Image.IsImage}
+use Rattle.loader.specs.{Declarations.declared_origin, Fault.first_fault, Program.without_words}
 use Rattle.tier_tree.specs.Forest.{phaser_at}
-use Rattle.cyclic_barrier.specs.Barrier.{BarrierState}
-use Rattle.cyclic_barrier.specs.PlainBarrier.{fresh}
-use Rattle.machine_scene.specs.Scene.{barrier_at, thread_at}
-use Rattle.machine_scene.specs.Undo.{Note}
+use Rattle.cyclic_barrier.specs.{Barrier.BarrierState, PlainBarrier.fresh}
+use Rattle.machine_scene.specs.{Scene.barrier_at, Scene.thread_at, Undo.Note}
 use Rattle.thread_state.specs.declared.event.Event.{Event}
-use Rattle.thread_machine.specs.declared.choice.Choice.{Choice}
+use Rattle.thread_machine.specs.{declared.choice.Choice.Choice, Step.played, Step.refusal_of, Undo.undone}
 use Rattle.thread_machine.specs.World.{World, StoredWorld, IsFirstOf, first_of, world_of}
-use Rattle.thread_machine.specs.Step.{played, refusal_of}
-use Rattle.thread_machine.specs.Undo.{undone}
 use Rattle.thread_machine.specs.Execution.{Execution, execution}
 use Rattle.thread_machine.specs.DirectCounts.{NoPhaseEndsEarlyFrom, NumbersStay, counts_through}
 use Rattle.trace_text.specs.State.{state_text}
-use Rattle.shared_phaser.specs.declared.history.Call.{Call}
-use Rattle.shared_phaser.specs.declared.history.Answer.{Answer}
-use Rattle.shared_phaser.specs.declared.history.Entry.{Entry}
-use Rattle.shared_phaser.specs.declared.history.Known.{Known}
-use Rattle.shared_phaser.specs.History.{IsLegal}
-use Rattle.shared_phaser.specs.Known.{Owns, making}
+use Rattle.shared_phaser.specs.declared.history.{Call.Call, Answer.Answer, Entry.Entry, Known.Known}
+use Rattle.shared_phaser.specs.{History.IsLegal, Known.Owns, Known.making}
 use Rattle.headline.specs.Pasts.{RecordsOnePast}
 use Rattle.headline.specs.PhaseEnds.{AreCounted, EndsInTime, NumbersGoOn, RoutineEnds, TakesArrivals, TerminateAsSaid, row_of}
 

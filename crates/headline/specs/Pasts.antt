@@ -1,20 +1,16 @@
 -- The past of a barrier during a whole run: how each of its generations ended, and for which generation each thread waits.
 use Rattle.std.specs.Prelude.{◌≡◌, ◌⊎◌, ℕ, ℤ, pos, not, int_lt, Bool, true, false, List, [], ◌∷◌, Option, Some, None}
-use Rattle.instruction_table.specs.declared.row.Row.{Row}
+use Rattle.instruction_table.specs.{declared.row.Row.Row, Registers.value_in}
 use Rattle.instruction_table.specs.declared.row.Row.TheVariants.{Ret, Cawait, Cawaitt, Creset}
-use Rattle.instruction_table.specs.Registers.{value_in}
 use Rattle.cyclic_barrier.specs.declared.answer.WaitState.TheVariants as state
 use Rattle.cyclic_barrier.specs.PlainBarrier.{PlainBarrier, state_of, enter_timed, end_action, leave, interrupt, expire, reset}
 use Rattle.cyclic_barrier.specs.Past.{IsStateAfter}
 use Rattle.thread_state.specs.declared.frame.Frame.TheVariants as frame
 use Rattle.thread_state.specs.declared.status.Status.TheVariants as status
-use Rattle.thread_state.specs.declared.event.What.{What}
+use Rattle.thread_state.specs.{declared.event.What.What, Thread.ThreadState, Thread.top_of}
 use Rattle.thread_state.specs.declared.event.What.TheVariants as what
-use Rattle.thread_state.specs.Thread.{ThreadState, top_of}
 use Rattle.machine_scene.specs.Scene.{barrier_at, thread_at}
-use Rattle.thread_machine.specs.declared.choice.Choice.{Choice}
-use Rattle.thread_machine.specs.declared.fault.StepFault.{StepFault}
-use Rattle.thread_machine.specs.World.{World}
+use Rattle.thread_machine.specs.{declared.choice.Choice.Choice, declared.fault.StepFault.StepFault, World.World}
 use Rattle.thread_machine.specs.Step.{played, refusal_of}
 use Rattle.headline.specs.PhaseEnds.{row_of}
 

@@ -1,24 +1,18 @@
 -- Where a phase ends, and why a phaser is terminated.
 use Rattle.std.specs.Prelude.{◌≡◌, ◌≢◌, ◌<◌, ◌==◌, ◌||◌, ◌⊎◌, ◌↔◌, if◌then◌else◌, ℕ, ℤ, pos, not, Bool, true, false, List, length, Option, Some, None}
 use Rattle.std.specs.Ordering.{int_eq}
-use Rattle.instruction_table.specs.declared.row.Row.{Row}
+use Rattle.instruction_table.specs.{declared.row.Row.Row, declared.register.Reg.TheVariants.R0, Registers.value_in}
 use Rattle.instruction_table.specs.declared.row.Row.TheVariants.{Ret, Parr, Pdereg, Paaa, Pforce}
-use Rattle.instruction_table.specs.declared.register.Reg.TheVariants.{R0}
-use Rattle.instruction_table.specs.Registers.{value_in}
 use Rattle.phase_number.specs.Phase.{next_phase}
 use Rattle.packed_phaser.specs.Policy.{ends}
 use Rattle.tier_tree.specs.Forest.{PhaserState, phaser_at, flat_at, root_at}
 use Rattle.tier_tree.specs.Origin.{Origin, HaveAllArrived}
-use Rattle.thread_state.specs.declared.status.Status.{Status}
+use Rattle.thread_state.specs.{declared.status.Status.Status, declared.frame.Frame.Frame, Thread.ThreadState, Thread.top_of}
 use Rattle.thread_state.specs.declared.status.Status.TheVariants as status
-use Rattle.thread_state.specs.declared.frame.Frame.{Frame}
 use Rattle.thread_state.specs.declared.frame.Frame.TheVariants as frame
-use Rattle.thread_state.specs.Thread.{ThreadState, top_of}
 use Rattle.loader.specs.Program.{row_at}
-use Rattle.machine_scene.specs.PhaserRows.{is_routine_policy, refusal_of_arrival}
-use Rattle.machine_scene.specs.Scene.{thread_at}
-use Rattle.thread_machine.specs.declared.choice.Choice.{Choice}
-use Rattle.thread_machine.specs.DirectCounts.{counts_at_end, has_ended_phase}
+use Rattle.machine_scene.specs.{PhaserRows.is_routine_policy, PhaserRows.refusal_of_arrival, Scene.thread_at}
+use Rattle.thread_machine.specs.{declared.choice.Choice.Choice, DirectCounts.counts_at_end, DirectCounts.has_ended_phase}
 use Rattle.thread_machine.specs.World.{World}
 
 -- the row that a thread plays: that of one that runs

@@ -1,10 +1,7 @@
 -- What one of the played choices does, and what several of them do.
 use Rattle.std.specs.Prelude.{◌≡◌, Bool, true, false, List, ◌++◌, is_some, None}
-use Rattle.thread_machine.specs.declared.choice.Choice.{Choice}
-use Rattle.thread_machine.specs.World.{World}
-use Rattle.thread_machine.specs.Step.{played, refusal_of}
-use Rattle.debugger.specs.Session.{Session}
-use Rattle.debugger.specs.Moves.{AreSteps}
+use Rattle.thread_machine.specs.{declared.choice.Choice.Choice, World.World, Step.played, Step.refusal_of}
+use Rattle.debugger.specs.{Session.Session, Moves.AreSteps}
 
 -- it was accepted and leaves this world, or it was refused and the world is as before
 abbrev pub Leaves : World → Choice → Bool → World → Type 0

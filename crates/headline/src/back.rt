@@ -1,13 +1,10 @@
 //! Choices that are played and taken back.
 ghost use Rattle.std.specs.Prelude.{◌≡◌, ◌↔◌, ◌≤◌, ◌∷◌, [], length, true, None, Some, Err, IfOk, OnErr};
-ghost use Rattle.thread_machine.specs.World.{world_of};
-ghost use Rattle.thread_machine.specs.Execution.{execution};
-ghost use Rattle.thread_machine.specs.Step.{puts_out, refusal_of};
-ghost use Rattle.thread_machine.specs.declared.fault.StepFault.TheVariants as fault;
+ghost use Rattle.thread_machine.specs.{World.world_of, Execution.execution, Step.puts_out, Step.refusal_of};
 ghost use Rattle.thread_machine.specs.Undo.{CanUndo, undone};
+ghost use Rattle.thread_machine.specs.declared.fault.StepFault.TheVariants as fault;
 ghost use Rattle.debugger.specs.Moves.{AreSteps, backs};
-ghost use Rattle.headline.specs.Headline.{BackRestores, StepsAndReturns};
-ghost use Rattle.headline.specs.Playing.{LeavesSteps};
+ghost use Rattle.headline.specs.{Headline.BackRestores, Headline.StepsAndReturns, Playing.LeavesSteps};
 
 use debugger::Debugger;
 use std::alloc::Global;

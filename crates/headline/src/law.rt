@@ -1,8 +1,6 @@
 // What holds of every accepted program. Each law is the contract of a function that does nothing.
 ghost use Rattle.std.specs.Prelude.{◌≡◌, ◌≤◌, ℕ, List, None};
-ghost use Rattle.thread_machine.specs.declared.choice.Choice.{Choice};
-ghost use Rattle.thread_machine.specs.Execution.{execution};
-ghost use Rattle.thread_machine.specs.Limit.{under_limit, with_limit};
+ghost use Rattle.thread_machine.specs.{declared.choice.Choice.Choice, Execution.execution, Limit.under_limit, Limit.with_limit};
 ghost use Rattle.thread_machine.specs.World.{World};
 ghost use Rattle.headline.specs.Headline.{
   ArrivalsAreTaken,

@@ -1,10 +1,8 @@
 //! The machine of an accepted program after its choices.
 ghost use Rattle.std.specs.Prelude.{◌≡◌, ◌≢◌, None, Some, Err, IfOk, OnOk};
 ghost use Rattle.loader.specs.Fault.{first_fault};
-ghost use Rattle.thread_machine.specs.World.{world_of};
-ghost use Rattle.thread_machine.specs.Execution.{execution};
-ghost use Rattle.headline.specs.Headline.{GivesTheRows};
-ghost use Rattle.headline.specs.Playing.{Leaves};
+ghost use Rattle.thread_machine.specs.{World.world_of, Execution.execution};
+ghost use Rattle.headline.specs.{Headline.GivesTheRows, Playing.Leaves};
 
 use loader::LoadFault;
 use row_code::Image;

@@ -1,12 +1,9 @@
 //! What is promised of a live run, and of the record of choices that its lock protects beside the machine.
 ghost use Rattle.std.specs.Prelude.{◌≡◌, ◌≢◌, ◌↔◌, ◌<◌, ◌≤◌, ℕ, length, Err, IfErr, IfOk, None, OnErr, OnOk, Some, false, true};
 ghost use Rattle.loader.specs.Fault.{first_fault};
-ghost use Rattle.schedule_reader.specs.Record.{record_text};
-ghost use Rattle.schedule_reader.specs.Schedule.{choices_of, finished_schedule};
-ghost use Rattle.thread_machine.specs.Step.{played};
-ghost use Rattle.thread_machine.specs.World.{IsFirstOf, first_world, world_of};
-ghost use Rattle.thread_runner.specs.Endings.{ending_of};
-ghost use Rattle.thread_runner.specs.Recording.{begun, recorded_world, with_choice};
+ghost use Rattle.schedule_reader.specs.{Record.record_text, Schedule.choices_of, Schedule.finished_schedule};
+ghost use Rattle.thread_machine.specs.{Step.played, World.IsFirstOf, World.first_world, World.world_of};
+ghost use Rattle.thread_runner.specs.{Endings.ending_of, Recording.begun, Recording.recorded_world, Recording.with_choice};
 ghost use Rattle.thread_runner.specs.Replay.{HasLeft, IsRecordOf, IsReplay};
 ghost use Rattle.thread_runner.specs.Turns.{expiry_of, is_due, is_ready_in, turn_of};
 

@@ -1,12 +1,9 @@
 //! What is promised of a session of the debugger, call by call.
 ghost use Rattle.std.specs.Prelude.{◌≡◌, ◌↔◌, ◌<◌, ◌≤◌, [], length, nat_lt, replicate, slice_set, false, true, None, Some, Err, IfOk, IsErr, OnErr, OnOk};
 ghost use Rattle.schedule_reader.specs.Schedule.{choices_of};
-ghost use Rattle.thread_machine.specs.Step.{puts_out, refusal_of};
-ghost use Rattle.thread_machine.specs.World.{world_of};
+ghost use Rattle.thread_machine.specs.{Step.puts_out, Step.refusal_of, World.world_of};
 ghost use Rattle.thread_machine.specs.declared.fault.StepFault.TheVariants as fault;
-ghost use Rattle.debugger.specs.Command.{goes_on, line_order};
-ghost use Rattle.debugger.specs.Go.{Stops};
-ghost use Rattle.debugger.specs.Reply.{IsCarriedOut, NeedsMemory};
+ghost use Rattle.debugger.specs.{Command.goes_on, Command.line_order, Go.Stops, Reply.IsCarriedOut, Reply.NeedsMemory};
 ghost use Rattle.debugger.specs.Session.{went_back, went_on};
 ghost use Rattle.headline.specs.Headline.{StepGivesTheRow};
 

@@ -2,26 +2,19 @@
 //! result. It also says, in terms of one page, what is shown if everything went well, for each file whose program it is.
 ghost use Rattle.std.specs.Prelude.{◌≡◌, ◌≢◌, ◌↔◌, ◌⊎◌, ◌<◌, ◌≤◌, ℕ, IsTrue, List, [], Ok, OnOk, Option, Some, None};
 ghost use Rattle.assembler.specs.Meaning.{StandsFor};
-ghost use Rattle.loader.specs.Fault.{first_fault};
-ghost use Rattle.loader.specs.declared.load_fault.LoadFault.{LoadFault};
+ghost use Rattle.loader.specs.{Fault.first_fault, declared.load_fault.LoadFault.LoadFault};
 ghost use Rattle.row_code.specs.declared.image.Image.{Image};
-ghost use Rattle.thread_machine.specs.World.{IsFirstOf, World};
-ghost use Rattle.thread_machine.specs.declared.choice.Choice.{Choice};
+ghost use Rattle.thread_machine.specs.{World.IsFirstOf, World.World, declared.choice.Choice.Choice};
 ghost use Rattle.trace_compare.specs.Compare.{choices_of_trace, verdict_of};
 ghost use Rattle.trace_compare.specs.declared.comparison.Verdict.TheVariants as verdict;
 ghost use Rattle.schedule_reader.specs.Schedule.{choices_of};
-ghost use Rattle.trace_text.specs.Outcome.{ComesOfChoices, ComesTo};
-ghost use Rattle.trace_text.specs.Trace.{trace_of};
+ghost use Rattle.trace_text.specs.{Outcome.ComesOfChoices, Outcome.ComesTo, Trace.trace_of};
 ghost use Rattle.headline.specs.EndToEnd.{HasDebuggedFile, HasDebuggedFileAt, HasFoundTheSame, HasShownChoices, HasShownFile, HasShownLive, HasShownText, SessionsGiveTheRows};
 ghost use Rattle.headline.specs.Headline.{Accepted, start};
-ghost use Rattle.workbench.specs.Compare.{WritesVerdict};
-ghost use Rattle.workbench.specs.Debug.{Debugs, DebugsAt, GivesFew};
-ghost use Rattle.workbench.specs.declared.done.Done.TheVariants as done;
-ghost use Rattle.workbench.specs.Input.{GivesAll, GivesTooMuch};
-ghost use Rattle.workbench.specs.List.{Lists};
-ghost use Rattle.workbench.specs.Live.{IsRecorded, Lives};
-ghost use Rattle.workbench.specs.ProgramFile.{IsProgramFile};
+ghost use Rattle.workbench.specs.{Compare.WritesVerdict, Debug.Debugs, Debug.DebugsAt, Debug.GivesFew, List.Lists};
+ghost use Rattle.workbench.specs.{Input.GivesAll, Input.GivesTooMuch, Live.IsRecorded, Live.Lives, ProgramFile.IsProgramFile};
 ghost use Rattle.workbench.specs.RunLine.{program_part, schedule_part};
+ghost use Rattle.workbench.specs.declared.done.Done.TheVariants as done;
 
 use byte_ports::{Sink, Source};
 use row_code::Image;

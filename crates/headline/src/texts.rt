@@ -1,13 +1,10 @@
 //! What is promised of texts: those of programs, and those of which a trace consists.
 ghost use Rattle.std.specs.Prelude.{◌≡◌, ◌++◌, ℕ, List, IfOk, Ok, OnErr, OnOk};
-ghost use Rattle.row_code.specs.Image.{IsImage};
-ghost use Rattle.row_code.specs.declared.image.Image.{Image};
+ghost use Rattle.row_code.specs.{Image.IsImage, declared.image.Image.Image};
 ghost use Rattle.line_reader.specs.Listing.{canonical};
-ghost use Rattle.assembler.specs.Answers.{AnswersAt};
-ghost use Rattle.assembler.specs.Meaning.{StandsFor};
+ghost use Rattle.assembler.specs.{Answers.AnswersAt, Meaning.StandsFor};
 ghost use Rattle.thread_machine.specs.World.{world_of};
-ghost use Rattle.trace_text.specs.Lines.{event_text, refusal_text};
-ghost use Rattle.trace_text.specs.State.{state_text};
+ghost use Rattle.trace_text.specs.{Lines.event_text, Lines.refusal_text, State.state_text};
 ghost use Rattle.workbench.specs.ProgramFile.{IsProgramFile};
 
 use assembler::AsmFault;

@@ -1,15 +1,11 @@
 //! What is promised of a tree of phasers whose words may lag behind its state: a step of the machine, and each call at the tree.
 ghost use Rattle.std.specs.Prelude.{◌≡◌, ◌↔◌, ◌+◌, ◌<◌, [], Err, IfErr, IfOk, IfSome, OnErr, OnOk, None, Some, false, length, nat_abs, true};
-ghost use Rattle.tier_tree.specs.Arrival.{arrival};
-ghost use Rattle.tier_tree.specs.Call.{IsCall};
+ghost use Rattle.tier_tree.specs.{Arrival.arrival, Call.IsCall, Forest.flat_at, Forest.phaser_at, Forest.root_at};
 ghost use Rattle.tier_tree.specs.Declaration.{IsFreshAbove, after_declaration, fault_of, is_root};
-ghost use Rattle.tier_tree.specs.Forest.{flat_at, phaser_at, root_at};
 ghost use Rattle.tier_tree.specs.Origin.{AreTallied, Carries, HaveAllArrived, Origin, declared_at, origin_after_arrival, origin_after_phase_end, origin_after_registration};
 ghost use Rattle.tier_tree.specs.PhaseEnd.{after_force, after_phase_end, most_ends};
-ghost use Rattle.tier_tree.specs.Registration.{after_registration, registration};
-ghost use Rattle.tier_tree.specs.Stored.{IsNear, phasers_of};
-ghost use Rattle.thread_machine.specs.Step.{puts_out, refusal_of};
-ghost use Rattle.thread_machine.specs.World.{world_of};
+ghost use Rattle.tier_tree.specs.{Registration.after_registration, Registration.registration, Stored.IsNear, Stored.phasers_of};
+ghost use Rattle.thread_machine.specs.{Step.puts_out, Step.refusal_of, World.world_of};
 ghost use Rattle.thread_machine.specs.declared.fault.StepFault.TheVariants as fault;
 ghost use Rattle.headline.specs.Headline.{StepGivesTheRow};
 

@@ -2,10 +2,9 @@
 ghost use Rattle.std.specs.Prelude.{◌≡◌, ◌≢◌, ◌↔◌, ◌<◌, ◌≤ℤ◌, ◌<ℤ◌, pos, ℤ, Err, IfErr, IfOk, false, true};
 ghost use Rattle.packed_phaser.specs.declared.policy.Policy.TheVariants.{Routine};
 ghost use Rattle.shared_phaser.specs.Known.{ArrivesAndAwaits, EndsAs, JoinsCaller, given, giving, newcomer, phaser_of};
-ghost use Rattle.shared_phaser.specs.Race.{LosesRaces};
+ghost use Rattle.shared_phaser.specs.{Race.LosesRaces, declared.history.Reply.TheVariants.NotThere as Refused};
 ghost use Rattle.shared_phaser.specs.declared.history.Call.TheVariants.{Arrive, Await, Look};
 ghost use Rattle.shared_phaser.specs.declared.history.Answer.TheVariants.{Passed, Replied, Saw};
-ghost use Rattle.shared_phaser.specs.declared.history.Reply.TheVariants.{NotThere as Refused};
 ghost use Rattle.headline.specs.Headline.{MakesLegalCall};
 
 use packed_phaser::{Policy, Word};

@@ -1,6 +1,6 @@
 use Rattle.std.proofs.Common.{◌≡◌, ℤ, ◌+ℤ◌, ◌-ℤ◌, FitsSigned, arith}
-use Rattle.std.specs.Int.{w32, int_wrapping_add, int_wrapping_sub}
 use Rattle.std.proofs.lemmas.Int.{wrapping_add_is, wrapping_sub_is}
+use Rattle.std.specs.Int.{w32, int_wrapping_add, int_wrapping_sub}
 use Rattle.instruction_table.specs.LocalRows.{wrapped}
 
 -- what is left of a number at a signed type of 32 bits

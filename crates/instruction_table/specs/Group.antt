@@ -1,8 +1,6 @@
 -- The group of each row: the rows of a group act on the same kind of thing. Only this file has ranges of opcodes.
 use Rattle.std.specs.Prelude.{ℕ, ◌==◌, ◌||◌, nat_lt, if◌then◌else◌}
-use Rattle.instruction_table.specs.declared.row.Row.{Row}
-use Rattle.instruction_table.specs.Row.{opcode_of}
-use Rattle.instruction_table.specs.declared.group.Group.{Group}
+use Rattle.instruction_table.specs.{declared.row.Row.Row, Row.opcode_of, declared.group.Group.Group}
 use Rattle.instruction_table.specs.declared.group.Group.TheVariants.{Own, Calls, Data, Phasers, Getters, Barriers}
 
 -- the instruction table has the rows group by group; its last two, 40 and 41, wait with a timeout, at a phaser and at a barrier

@@ -1,11 +1,8 @@
 -- The rows that use only registers of their own thread, and what they do.
 use Rattle.std.specs.Prelude.{ℕ, ◌+◌, ℤ, pos, ◌+ℤ◌, ◌-ℤ◌, Bool, true, false, not, int_lt, List, Option, Some, None, if◌then◌else◌}
-use Rattle.std.specs.Int.{int_rem_euclid}
-use Rattle.std.specs.Ordering.{int_eq}
-use Rattle.instruction_table.specs.declared.register.Reg.{Reg}
-use Rattle.instruction_table.specs.declared.row.Row.{Row}
+use Rattle.std.specs.{Int.int_rem_euclid, Ordering.int_eq}
+use Rattle.instruction_table.specs.{declared.register.Reg.Reg, declared.row.Row.Row, Registers.value_in, Registers.with_value}
 use Rattle.instruction_table.specs.declared.row.Row.TheVariants.{Ldi, Mov, Add, Sub, Jmp, Beq, Bne, Blt}
-use Rattle.instruction_table.specs.Registers.{value_in, with_value}
 
 -- the number from -2 ^ 31 to 2 ^ 31 - 1 that differs from z by a multiple of 2 ^ 32: what Java's `int` keeps of z
 abbrev pub wrapped : ℤ → ℤ

@@ -1,7 +1,6 @@
 -- The values of a thread's registers.
 use Rattle.std.specs.Prelude.{ℤ, pos, List, replicate, slice_index_or, slice_set}
-use Rattle.instruction_table.specs.declared.register.Reg.{Reg}
-use Rattle.instruction_table.specs.Register.{number_of}
+use Rattle.instruction_table.specs.{declared.register.Reg.Reg, Register.number_of}
 
 -- the registers at a thread's start: eight zeros
 abbrev pub all_zero : List ℤ

@@ -1,10 +1,8 @@
 -- The instruction table: for each kind of row its opcode, its word, and the kinds of its operands.
 use Rattle.std.specs.Prelude.{ℕ, List, [], ◌∷◌, codes, bytes_eq, find, Option, Some, None, if◌then◌else◌, slice_index_or}
 use Rattle.std.specs.Borrow.{Bor}
-use Rattle.instruction_table.specs.declared.row.Row.{Row}
-use Rattle.instruction_table.specs.declared.shape.OperandKind.{OperandKind}
+use Rattle.instruction_table.specs.declared.{row.Row.Row, shape.OperandKind.OperandKind, shape.Shape.Shape}
 use Rattle.instruction_table.specs.declared.shape.OperandKind.TheVariants.{Register, Number, Target, Phaser, Barrier, Thread, Cell}
-use Rattle.instruction_table.specs.declared.shape.Shape.{Shape}
 use Rattle.instruction_table.specs.Row.{opcode_of}
 
 -- how a kind of row is spelled: its opcode, its word and the kinds of its operands in text order

@@ -1,6 +1,5 @@
 ghost use Rattle.std.specs.Prelude.{◌≡◌, ◌<◌, length};
-ghost use Rattle.instruction_table.specs.Row.{opcode_of, is_timed_row};
-ghost use Rattle.instruction_table.specs.Table.{table};
+ghost use Rattle.instruction_table.specs.{Row.opcode_of, Row.is_timed_row, Table.table};
 
 use crate::register::Reg;
 

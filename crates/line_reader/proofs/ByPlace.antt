@@ -1,19 +1,15 @@
 -- The operands of a row by their places, and one after the other: the same.
-use Rattle.std.proofs.Common.{◌≡◌, ℕ, ◌+◌, ◌≤◌, List, [], ◌∷◌, length, map, Result, Ok, Err, refl, arith}
-use Rattle.std.specs.Prelude.{option_map}
-use Rattle.std.specs.List.{slice_get}
+use Rattle.std.proofs.Common.{◌≡◌, ℕ, ◌+◌, ◌≤◌, List, [], ◌∷◌, length, map, Result, Ok, Err, refl, arith, option_map}
 use Rattle.std.proofs.lemmas.Option.{slice_get-map}
+use Rattle.std.specs.List.{slice_get}
 use Rattle.instruction_table.specs.declared.shape.OperandKind.{OperandKind}
-use Rattle.line_reader.specs.declared.asm_fault.WordFault.{WordFault}
-use Rattle.line_reader.specs.declared.asm_fault.AsmFaultKind.TheVariants as fault
-use Rattle.line_reader.specs.declared.symbolic_row.Operand.{Operand}
-use Rattle.line_reader.specs.declared.symbolic_row.Operand.TheVariants as operand
-use Rattle.line_reader.specs.declared.symbolic_row.SymbolicRow.{SymbolicRow}
-use Rattle.line_reader.specs.Symbols.{Name}
-use Rattle.line_reader.specs.Spelling.{with_operands}
-use Rattle.row_code.specs.Answers.{◌>>=◌}
+use Rattle.line_reader.specs.{declared.asm_fault.WordFault.WordFault, declared.symbolic_row.Operand.Operand, Symbols.Name}
+use Rattle.line_reader.specs.{declared.symbolic_row.SymbolicRow.SymbolicRow, Spelling.with_operands}
 use Rattle.line_reader.specs.Reading.{fault_at, operand_at, read_at, row_of_kinds}
 use Rattle.line_reader.specs.Seen.{Borrowed, name_seen}
+use Rattle.line_reader.specs.declared.asm_fault.AsmFaultKind.TheVariants as fault
+use Rattle.line_reader.specs.declared.symbolic_row.Operand.TheVariants as operand
+use Rattle.row_code.specs.Answers.{◌>>=◌}
 
 abbrev Read : Type 0
 Read = Result (Operand Name) WordFault

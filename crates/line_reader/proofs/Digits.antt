@@ -1,13 +1,8 @@
 -- Decimal digits and the number that they spell.
-use Rattle.std.proofs.lemmas.List.{get_or_default}
+use Rattle.std.proofs.lemmas.{List.get_or_default, Bool.Decides.nat_tests, Str.Parse.digits_value-take-le}
 use Rattle.std.proofs.Common.{suc, ◌≡◌, ◌+◌, ◌-◌, ◌*◌, ◌^◌, ◌<◌, ◌≤◌, ℕ, true, List, [], ◌∷◌, length, take, get_or, arith}
-use Rattle.std.specs.List.{AllPass}
-use Rattle.std.specs.Char.{is_ascii_digit, digit_value}
-use Rattle.std.specs.Str.Parse.{AllDigits, digits_value}
-use Rattle.std.proofs.lemmas.Bool.Decides.{nat_tests}
-use Rattle.std.proofs.lemmas.Int.Digits.{digits_value-lt, digits_value_more}
-use Rattle.std.proofs.lemmas.Str.Parse.{digits_value-take-le}
-use Rattle.std.proofs.Math.Nat.{pow-le-pow_right}
+use Rattle.std.proofs.{lemmas.Int.Digits.digits_value-lt, lemmas.Int.Digits.digits_value_more, Math.Nat.pow-le-pow_right}
+use Rattle.std.specs.{List.AllPass, Char.is_ascii_digit, Char.digit_value, Str.Parse.AllDigits, Str.Parse.digits_value}
 
 -- a digit's value is below 10
 pub digit_value-lt : (c : ℕ) → is_ascii_digit c ≡ true → digit_value c < 10

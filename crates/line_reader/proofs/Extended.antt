@@ -1,10 +1,7 @@
 -- A list that was extended by what an iterator yields.
-use Rattle.std.proofs.Common.{◌≡◌, List, Option, map, Result}
+use Rattle.std.proofs.Common.{◌≡◌, List, Option, map, Result, OnOk, MatchResult}
+use Rattle.std.proofs.lemmas.Iterator.{YieldsList, Adapters.fact_from_extend, Consumers.YieldsList-at}
 use Rattle.std.specs.Iterator.{Drains, Yields}
-use Rattle.std.specs.Prelude.{OnOk, MatchResult}
-use Rattle.std.proofs.lemmas.Iterator.{YieldsList}
-use Rattle.std.proofs.lemmas.Iterator.Adapters.{fact_from_extend}
-use Rattle.std.proofs.lemmas.Iterator.Consumers.{YieldsList-at}
 
 -- where `extend` is passed a chain s whose items are read by v: at `Ok` the clause holds of items that are read as all
 pub read_from_extend : {T A B E Q : Type 0} {steps : T → Option A → T → Type 0} {v : A → B} {all : List B} {P : List A → Type 0}

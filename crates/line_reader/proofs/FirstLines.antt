@@ -1,13 +1,10 @@
 -- The first line of a text, read up to a rest.
-use Rattle.std.proofs.Common.{◌≡◌, ◌∙◌, ℕ, suc, ◌+◌, ◌-◌, ◌<◌, ◌==◌, Bool, true, false, cond, not, ◌&&◌, List, [], ◌∷◌, ◌++◌, length, take, drop, get_or, refl, sym, ap, subst, arith, take-append-drop, rules}
-use Rattle.std.specs.List.{filter, position_or_len, slice_split, before_first, after_first, list_all}
-use Rattle.std.proofs.Math.Seq.{drop-append-add, take-append-add}
-use Rattle.std.proofs.lemmas.Bool.Decides.{nat_tests}
-use Rattle.std.proofs.lemmas.Bool.{eqb-true}
-use Rattle.std.proofs.lemmas.List.{append_assoc, drop_all, length-append, length-drop, length-take-le, take_all}
+use Rattle.std.proofs.Common.{◌≡◌, ◌∙◌, ℕ, suc, ◌+◌, ◌-◌, ◌<◌, ◌==◌, Bool, true, false, cond, not, ◌&&◌, List, [], ◌∷◌, ◌++◌, length, take, drop, get_or, refl, sym, ap, subst, arith, take-append-drop, rules, eqb-true, append_assoc, length-append, length-drop, length-take-le, take_all}
+use Rattle.std.proofs.{Math.Seq.drop-append-add, Math.Seq.take-append-add, lemmas.Bool.Decides.nat_tests, lemmas.List.drop_all}
 use Rattle.std.proofs.lemmas.List.Folds.{list_all-append}
 use Rattle.std.proofs.lemmas.List.Splits.{length-slice_split, slice_split_at, slice_split_first, slice_split_none}
 use Rattle.std.proofs.lemmas.List.Sums.{fails_before_first, list_all-from_AllPass, AllPass-from_list_all, position_or_len_is, prefix_len-le-length}
+use Rattle.std.specs.List.{filter, position_or_len, slice_split, before_first, after_first, list_all}
 use Rattle.line_reader.specs.Words.{begins_comment, is_allowed, is_blank, is_line_end, lines_of, words_in, words_of}
 use Rattle.line_reader.specs.FirstLine.{IsLeft, after_line, first_line, is_letter, word_alone}
 use Rattle.line_reader.proofs.Steps.{both_true, not_false, or_right}

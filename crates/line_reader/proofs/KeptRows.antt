@@ -1,14 +1,9 @@
 -- Rows as they are kept: at most one of a row's operands is no register.
-use Rattle.std.proofs.Common.{◌≡◌, ◌∙◌, ℕ, Bool, true, false, not, ◌&&◌, ◌||◌, List, [], ◌∷◌, Some, cond, Ok, refl, sym, ap, arith}
-use Rattle.std.specs.Prelude.{bytes_eq}
+use Rattle.std.proofs.Common.{◌≡◌, ◌∙◌, ℕ, Bool, true, false, not, ◌&&◌, ◌||◌, List, [], ◌∷◌, Some, cond, Ok, refl, sym, ap, arith, bytes_eq}
 use Rattle.std.specs.List.{list_all}
-use Rattle.instruction_table.specs.declared.shape.OperandKind.{OperandKind}
-use Rattle.instruction_table.specs.Table.{Entry, entry_named, table}
-use Rattle.line_reader.specs.declared.symbolic_row.Operand.{Operand}
-use Rattle.line_reader.specs.Reading.{operand_there, row_of_kinds}
-use Rattle.line_reader.specs.Symbols.{Name}
-use Rattle.line_reader.specs.declared.kept_row.Held.{Held}
-use Rattle.line_reader.specs.declared.kept_row.KeptOperand.{KeptOperand}
+use Rattle.instruction_table.specs.{declared.shape.OperandKind.OperandKind, Table.Entry, Table.entry_named, Table.table}
+use Rattle.line_reader.specs.{declared.symbolic_row.Operand.Operand, Reading.operand_there, Reading.row_of_kinds, Symbols.Name}
+use Rattle.line_reader.specs.declared.kept_row.{Held.Held, KeptOperand.KeptOperand}
 use Rattle.line_reader.specs.KeptRow.{is_other_there, is_register, one_other, operand_kept, row_kept}
 
 -- each entry of the table has one such operand at most

@@ -1,7 +1,6 @@
 -- A label ends in a colon.
-use Rattle.std.proofs.Common.{◌≡◌, ℕ, suc, ◌-◌, List, ◌∷◌, length, false, ◌==◌, ◌&&◌, not, arith}
+use Rattle.std.proofs.Common.{◌≡◌, ℕ, suc, ◌-◌, List, ◌∷◌, length, false, ◌==◌, ◌&&◌, not, arith, slice_index}
 use Rattle.std.proofs.lemmas.Bool.Decides.{nat_tests}
-use Rattle.std.specs.Prelude.{slice_index}
 use Rattle.line_reader.specs.Reading.{is_label}
 
 -- the last place but one more

@@ -1,9 +1,7 @@
 -- Texts of lists, element by element, and words of options, one behind the other.
-use Rattle.std.proofs.Common.{◌≡◌, ◌≢◌, ◌∙◌, ◌+◌, ◌<◌, ℕ, zero, suc, ℤ, pos, negsuc, List, [], ◌∷◌, ◌++◌, length, get_or, drop, map, ap, sym, refl, subst, Bool, true, false, nat_lt, arith, codes, append_assoc, append-nil, rules}
-use Rattle.std.proofs.lemmas.Bool.{ltb-true, ltb-false}
+use Rattle.std.proofs.Common.{◌≡◌, ◌≢◌, ◌∙◌, ◌+◌, ◌<◌, ℕ, zero, suc, ℤ, pos, negsuc, List, [], ◌∷◌, ◌++◌, length, get_or, drop, map, ap, sym, refl, subst, Bool, true, false, nat_lt, arith, codes, append_assoc, append-nil, rules, ltb-true, ltb-false}
 use Rattle.std.proofs.lemmas.List.{drop_more, get_or_default}
-use Rattle.std.specs.Fmt.{signed_decimal}
-use Rattle.std.specs.List.{flat_map}
+use Rattle.std.specs.{Fmt.signed_decimal, List.flat_map}
 use Rattle.line_reader.specs.Listing.{line_text, numbered, phase_words, spaced}
 
 -- from one element on: its line, and the lines from the next on

@@ -1,7 +1,6 @@
 -- Numbers of one digit.
 use Rattle.std.proofs.Common.{◌≡◌, ◌+◌, ℤ, pos, negsuc, ◌≤ℤ◌, ◌<ℤ◌, [], ◌∷◌, arith, append_assoc, unsigned_abs, rules}
-use Rattle.std.proofs.lemmas.Fmt.{decimal_digit}
-use Rattle.std.proofs.lemmas.Int.{ints}
+use Rattle.std.proofs.lemmas.{Fmt.decimal_digit, Int.ints}
 use Rattle.std.specs.Fmt.{signed_decimal}
 
 pub one_digit : (z : ℤ) → pos 0 ≤ℤ z → z <ℤ pos 10 → signed_decimal z ≡ (48 + unsigned_abs z) ∷ []

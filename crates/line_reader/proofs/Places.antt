@@ -1,8 +1,7 @@
 -- Where a byte first stands.
 use Rattle.std.proofs.Common.{◌≡◌, ℕ, Bool, List, length, Some, None, arith, ◌<◌}
+use Rattle.std.proofs.lemmas.{Bool.Decides.nat_tests, List.Sums.prefix_len-le-length}
 use Rattle.std.specs.List.{position, position_or_len}
-use Rattle.std.proofs.lemmas.Bool.Decides.{nat_tests}
-use Rattle.std.proofs.lemmas.List.Sums.{prefix_len-le-length}
 
 -- a found place is the first one
 pub position_some : (p : ℕ → Bool) (bs : List ℕ) (k : ℕ) → Some k ≡ position p bs → k ≡ position_or_len p bs

@@ -1,21 +1,15 @@
 -- Directives and their options: what is read is spelled so, and what is spelled so is read.
-use Rattle.std.proofs.Common.{◌≡◌, inl, inr, ℕ, ◌+◌, ℤ, length, pos, true, List, [], ◌∷◌, ◌++◌, codes, bytes_eq, Option, Some, None, Result, Ok, refl, sym, ap, subst, ◌∙◌, arith}
-use Rattle.std.proofs.lemmas.List.{append-nil}
-use Rattle.line_reader.specs.declared.asm_fault.AsmFaultKind.{AsmFaultKind}
-use Rattle.line_reader.specs.declared.asm_fault.WordFault.{WordFault}
-use Rattle.line_reader.specs.declared.reference.Reference.{Reference}
-use Rattle.line_reader.specs.declared.symbolic_phaser.SymbolicPolicy.{SymbolicPolicy}
-use Rattle.line_reader.specs.declared.symbolic_phaser.SymbolicPolicy.TheVariants as policy
-use Rattle.line_reader.specs.declared.symbolic_phaser.SymbolicPhaser.{SymbolicPhaser}
-use Rattle.line_reader.specs.declared.symbolic_barrier.SymbolicBarrier.{SymbolicBarrier}
+use Rattle.std.proofs.Common.{◌≡◌, inl, inr, ℕ, ◌+◌, ℤ, length, pos, true, List, [], ◌∷◌, ◌++◌, codes, bytes_eq, Option, Some, None, Result, Ok, refl, sym, ap, subst, ◌∙◌, arith, append-nil}
+use Rattle.line_reader.specs.declared.asm_fault.{AsmFaultKind.AsmFaultKind, WordFault.WordFault}
+use Rattle.line_reader.specs.declared.{reference.Reference.Reference, symbolic_phaser.SymbolicPolicy.SymbolicPolicy}
+use Rattle.line_reader.specs.declared.{symbolic_phaser.SymbolicPhaser.SymbolicPhaser, statement.Statement.Statement}
+use Rattle.line_reader.specs.{declared.symbolic_barrier.SymbolicBarrier.SymbolicBarrier, Names.is_name, Symbols.Name}
 use Rattle.line_reader.specs.declared.symbolic_thread.SymbolicThread.{SymbolicThread}
-use Rattle.line_reader.specs.declared.statement.Statement.{Statement}
-use Rattle.line_reader.specs.declared.statement.Statement.TheVariants as statement
-use Rattle.line_reader.specs.Names.{is_name}
-use Rattle.line_reader.specs.Symbols.{Name}
 use Rattle.line_reader.specs.Spelling.{greatest_int, greatest_number, SpellsReference, SpellsParties, SpellReference, SpellFirstPhase, SpellPolicy, Spell}
-use Rattle.row_code.specs.Answers.{◌>>=◌}
 use Rattle.line_reader.specs.Reading.{name_at, number_at, count_at, reference_at, argument_at, reference_option_at, first_phase_at, policy_at, end_at, phaser_at, barrier_at, thread_at, cell_at, is_directive, directive_at}
+use Rattle.line_reader.specs.declared.symbolic_phaser.SymbolicPolicy.TheVariants as policy
+use Rattle.line_reader.specs.declared.statement.Statement.TheVariants as statement
+use Rattle.row_code.specs.Answers.{◌>>=◌}
 use Rattle.line_reader.proofs.Steps.{bind_ok, bound, bound_at, done, ok_is, by_test, is_bytes, read_ok}
 use Rattle.line_reader.proofs.SpelledNumbers.{name_takes, name_again, number_takes, number_again, count_takes, count_again, reference_takes, reference_again}
 

@@ -1,10 +1,7 @@
 -- Names, numbers and references: what is read is spelled so, and what is spelled so is read.
-use Rattle.std.proofs.Common.{◌≡◌, ℕ, ℤ, pos, ◌≤ℤ◌, true, false, ◌||◌, eqb, int_lt, List, [], ◌∷◌, Ok, refl, ap, subst, arith}
-use Rattle.std.proofs.lemmas.Bool.{eqb-true, ltb-false, le-ltb}
+use Rattle.std.proofs.Common.{◌≡◌, ℕ, ℤ, pos, ◌≤ℤ◌, true, false, ◌||◌, eqb, int_lt, List, [], ◌∷◌, Ok, refl, ap, subst, arith, eqb-true, ltb-false, le-ltb}
 use Rattle.std.proofs.lemmas.Int.{ints}
-use Rattle.line_reader.specs.declared.reference.Reference.{Reference}
-use Rattle.line_reader.specs.Names.{is_name}
-use Rattle.line_reader.specs.Symbols.{Name}
+use Rattle.line_reader.specs.{declared.reference.Reference.Reference, Names.is_name, Symbols.Name}
 use Rattle.line_reader.specs.Spelling.{SpellsNumber, SpellsReference}
 use Rattle.line_reader.specs.Reading.{name_at, number_at, count_at, reference_at}
 use Rattle.line_reader.proofs.Steps.{bind_ok, ok_is, by_test, passed, guard_ok, not_false}

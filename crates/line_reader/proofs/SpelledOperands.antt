@@ -1,19 +1,16 @@
 -- Registers, operands and rows: what is read is spelled so, and what is spelled so is read.
-use Rattle.std.proofs.Common.{◌≡◌, ℕ, ◌+◌, Bool, true, ◌==◌, List, [], ◌∷◌, length, bytes_eq, find, Option, Some, Ok, refl, sym, ap, subst, ◌∙◌, arith, nat_lt, ltb-true, ◌≤◌}
+use Rattle.std.proofs.Common.{◌≡◌, ℕ, ◌+◌, Bool, true, ◌==◌, List, [], ◌∷◌, length, bytes_eq, find, Option, Some, Ok, refl, sym, ap, subst, ◌∙◌, arith, nat_lt, ltb-true, ◌≤◌, eqb-true}
+use Rattle.std.proofs.lemmas.Bool.{and_parts, Decides.Decides-eqb}
 use Rattle.std.specs.List.{list_all}
-use Rattle.std.proofs.lemmas.Bool.{and_parts, eqb-true}
-use Rattle.std.proofs.lemmas.Bool.Decides.{Decides-eqb}
-use Rattle.instruction_table.specs.declared.register.Reg.{Reg}
-use Rattle.instruction_table.specs.declared.shape.OperandKind.{OperandKind}
-use Rattle.instruction_table.specs.declared.shape.OperandKind.TheVariants as kind
+use Rattle.instruction_table.specs.declared.{register.Reg.Reg, shape.OperandKind.OperandKind}
 use Rattle.instruction_table.specs.Table.{Entry, table, entry_named}
+use Rattle.instruction_table.specs.declared.shape.OperandKind.TheVariants as kind
 use Rattle.line_reader.specs.declared.asm_fault.AsmFaultKind.TheVariants as fault
-use Rattle.line_reader.specs.declared.symbolic_row.Operand.{Operand}
-use Rattle.line_reader.specs.declared.symbolic_row.Operand.TheVariants as operand
-use Rattle.line_reader.specs.declared.symbolic_row.SymbolicRow.{SymbolicRow}
+use Rattle.line_reader.specs.declared.symbolic_row.{Operand.Operand, SymbolicRow.SymbolicRow}
 use Rattle.line_reader.specs.Symbols.{Name}
 use Rattle.line_reader.specs.Spelling.{least_int, greatest_int, register_word, SpellsOperand, SpellOperands, SpellRow}
 use Rattle.line_reader.specs.Reading.{fault_at, found_or, number_at, register_at, operand_at, read_at, row_at}
+use Rattle.line_reader.specs.declared.symbolic_row.Operand.TheVariants as operand
 use Rattle.line_reader.proofs.ByPlace.{operands_at, rowed, by_place}
 use Rattle.line_reader.proofs.Steps.{bind_ok, bound, ok_is, check_ok, by_test, is_bytes, read_ok}
 use Rattle.line_reader.proofs.SpelledNumbers.{number_takes, number_again, reference_takes, reference_again}

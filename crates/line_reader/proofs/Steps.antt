@@ -2,8 +2,7 @@
 use Rattle.std.proofs.Common.{◌≡◌, ℕ, Bool, true, false, cond, not, ◌&&◌, ◌||◌, List, bytes_eq, Result, Ok, Err, refl, ap, arith}
 use Rattle.std.proofs.lemmas.Slice.Eq.{bytes_eq-Decides}
 use Rattle.row_code.specs.Answers.{◌>>=◌}
-use Rattle.line_reader.specs.declared.asm_fault.AsmFaultKind.{AsmFaultKind}
-use Rattle.line_reader.specs.declared.asm_fault.WordFault.{WordFault}
+use Rattle.line_reader.specs.declared.asm_fault.{AsmFaultKind.AsmFaultKind, WordFault.WordFault}
 use Rattle.line_reader.specs.Reading.{check, read_at}
 
 -- the value of a step that did not fail

@@ -4,15 +4,12 @@ use Rattle.std.specs.Prelude.{ℕ, ◌&&◌, ◌||◌, not, Bool, true, false, L
 use Rattle.std.specs.List.{slice_get}
 use Rattle.instruction_table.specs.declared.shape.OperandKind.{OperandKind}
 use Rattle.instruction_table.specs.declared.shape.OperandKind.TheVariants as kind
-use Rattle.line_reader.specs.declared.kept_row.Held.{Held}
-use Rattle.line_reader.specs.declared.kept_row.KeptOperand.{KeptOperand}
-use Rattle.line_reader.specs.declared.kept_row.KeptOperand.TheVariants as kept
-use Rattle.line_reader.specs.declared.kept_row.KeptRow.{KeptRow}
+use Rattle.line_reader.specs.declared.kept_row.{Held.Held, KeptOperand.KeptOperand, KeptRow.KeptRow}
 use Rattle.line_reader.specs.declared.reference.Reference.TheVariants.{Named, Numbered}
-use Rattle.line_reader.specs.declared.symbolic_row.Operand.{Operand}
-use Rattle.line_reader.specs.declared.symbolic_row.Operand.TheVariants as operand
-use Rattle.line_reader.specs.declared.symbolic_row.SymbolicRow.{SymbolicRow}
+use Rattle.line_reader.specs.declared.symbolic_row.{Operand.Operand, SymbolicRow.SymbolicRow}
 use Rattle.line_reader.specs.Symbols.{Name}
+use Rattle.line_reader.specs.declared.kept_row.KeptOperand.TheVariants as kept
+use Rattle.line_reader.specs.declared.symbolic_row.Operand.TheVariants as operand
 
 -- the operand at a place, with what is held
 abbrev pub operand_kept : Held → KeptOperand → Operand Name

@@ -1,18 +1,12 @@
 -- The canonical text of an image.
 use Rattle.std.specs.Prelude.{ℕ, zero, suc, ◌+◌, ℤ, pos, negsuc, List, [], ◌∷◌, ◌++◌, codes, decimal, map, Option, Some, None}
-use Rattle.std.specs.Fmt.{signed_decimal}
-use Rattle.std.specs.List.{flat_map}
-use Rattle.instruction_table.specs.declared.row.Row.{Row}
-use Rattle.instruction_table.specs.declared.shape.OperandKind.{OperandKind}
+use Rattle.std.specs.{Fmt.signed_decimal, List.flat_map}
+use Rattle.instruction_table.specs.{declared.row.Row.Row, declared.shape.OperandKind.OperandKind, Table.entry_for}
 use Rattle.instruction_table.specs.declared.shape.OperandKind.TheVariants as kind
-use Rattle.instruction_table.specs.Table.{entry_for}
-use Rattle.row_code.specs.declared.barriers.DeclaredBarrier.{DeclaredBarrier}
-use Rattle.row_code.specs.declared.image.Image.{Image}
-use Rattle.row_code.specs.declared.phasers.DeclaredPhaser.{DeclaredPhaser}
-use Rattle.row_code.specs.declared.phasers.DeclaredPolicy.{DeclaredPolicy}
+use Rattle.row_code.specs.{declared.barriers.DeclaredBarrier.DeclaredBarrier, declared.image.Image.Image, RowFields.fields_of}
+use Rattle.row_code.specs.declared.phasers.{DeclaredPhaser.DeclaredPhaser, DeclaredPolicy.DeclaredPolicy}
 use Rattle.row_code.specs.declared.phasers.DeclaredPolicy.TheVariants.{Default, Never, Until, Routine}
 use Rattle.row_code.specs.declared.threads.DeclaredThread.{DeclaredThread}
-use Rattle.row_code.specs.RowFields.{fields_of}
 
 -- words, each with a space before it
 abbrev pub spaced : List (List ℕ) → List ℕ

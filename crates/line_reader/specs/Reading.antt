@@ -3,32 +3,23 @@
 -- words that are left in the line from this one on.
 use Rattle.std.specs.Prelude.{ℕ, ◌+◌, ◌-◌, min, ◌==◌, ◌||◌, not, nat_lt, int_lt, if◌then◌else◌, Bool, true, false, ℤ, pos, negsuc, List, [], ◌∷◌, length, take, codes, bytes_eq, find, Option, Some, None, Result, Ok, Err}
 use Rattle.std.specs.List.{list_all, slice_get}
-use Rattle.instruction_table.specs.declared.register.Reg.{Reg}
+use Rattle.instruction_table.specs.declared.{register.Reg.Reg, shape.OperandKind.OperandKind}
 use Rattle.instruction_table.specs.declared.register.Reg.TheVariants.{R0, R1, R2, R3, R4, R5, R6, R7}
-use Rattle.instruction_table.specs.declared.shape.OperandKind.{OperandKind}
-use Rattle.instruction_table.specs.declared.shape.OperandKind.TheVariants as kind
 use Rattle.instruction_table.specs.Table.{table, entry_named}
+use Rattle.instruction_table.specs.declared.shape.OperandKind.TheVariants as kind
 use Rattle.row_code.specs.Answers.{◌>>=◌}
-use Rattle.line_reader.specs.declared.asm_fault.AsmFaultKind.{AsmFaultKind}
-use Rattle.line_reader.specs.declared.asm_fault.AsmFaultKind.TheVariants as fault
-use Rattle.line_reader.specs.declared.asm_fault.WordFault.{WordFault}
-use Rattle.line_reader.specs.declared.reference.Reference.{Reference}
-use Rattle.line_reader.specs.declared.reference.Reference.TheVariants.{Named, Numbered}
-use Rattle.line_reader.specs.declared.symbolic_row.Operand.{Operand}
-use Rattle.line_reader.specs.declared.symbolic_row.Operand.TheVariants as operand
-use Rattle.line_reader.specs.declared.symbolic_row.SymbolicRow.{SymbolicRow}
-use Rattle.line_reader.specs.declared.symbolic_phaser.SymbolicPolicy.{SymbolicPolicy}
-use Rattle.line_reader.specs.declared.symbolic_phaser.SymbolicPolicy.TheVariants as policy
-use Rattle.line_reader.specs.declared.symbolic_phaser.SymbolicPhaser.{SymbolicPhaser}
-use Rattle.line_reader.specs.declared.symbolic_barrier.SymbolicBarrier.{SymbolicBarrier}
-use Rattle.line_reader.specs.declared.symbolic_thread.SymbolicThread.{SymbolicThread}
-use Rattle.line_reader.specs.declared.statement.Statement.{Statement}
-use Rattle.line_reader.specs.declared.statement.Statement.TheVariants as statement
-use Rattle.line_reader.specs.Names.{is_name}
-use Rattle.line_reader.specs.Words.{is_allowed, words_of}
-use Rattle.line_reader.specs.Numbers.{is_number, digits_in, value_in}
-use Rattle.line_reader.specs.Symbols.{Name}
+use Rattle.line_reader.specs.declared.asm_fault.{AsmFaultKind.AsmFaultKind, WordFault.WordFault}
+use Rattle.line_reader.specs.declared.reference.Reference.{Reference, TheVariants.Named, TheVariants.Numbered}
+use Rattle.line_reader.specs.declared.symbolic_row.{Operand.Operand, SymbolicRow.SymbolicRow}
+use Rattle.line_reader.specs.declared.symbolic_phaser.{SymbolicPolicy.SymbolicPolicy, SymbolicPhaser.SymbolicPhaser}
+use Rattle.line_reader.specs.declared.{symbolic_barrier.SymbolicBarrier.SymbolicBarrier, statement.Statement.Statement}
+use Rattle.line_reader.specs.{declared.symbolic_thread.SymbolicThread.SymbolicThread, Names.is_name, Symbols.Name}
+use Rattle.line_reader.specs.{Words.is_allowed, Words.words_of, Numbers.is_number, Numbers.digits_in, Numbers.value_in}
 use Rattle.line_reader.specs.Spelling.{least_int, greatest_int, greatest_number, register_word}
+use Rattle.line_reader.specs.declared.asm_fault.AsmFaultKind.TheVariants as fault
+use Rattle.line_reader.specs.declared.symbolic_row.Operand.TheVariants as operand
+use Rattle.line_reader.specs.declared.symbolic_phaser.SymbolicPolicy.TheVariants as policy
+use Rattle.line_reader.specs.declared.statement.Statement.TheVariants as statement
 
 -- nothing if a check succeeds, and otherwise its fault
 abbrev pub check : {E : Type 0} → Bool → E → Result (Unit {0}) E

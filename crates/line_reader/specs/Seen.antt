@@ -2,19 +2,14 @@
 -- are.
 use Rattle.std.specs.Prelude.{ℕ, List, Result, Ok, Err, option_map}
 use Rattle.std.specs.Borrow.{Bor}
-use Rattle.line_reader.specs.declared.reference.Reference.{Reference}
-use Rattle.line_reader.specs.declared.reference.Reference.TheVariants.{Named, Numbered}
-use Rattle.line_reader.specs.declared.symbolic_row.Operand.{Operand}
+use Rattle.line_reader.specs.declared.reference.Reference.{Reference, TheVariants.Named, TheVariants.Numbered}
+use Rattle.line_reader.specs.declared.symbolic_row.{Operand.Operand, SymbolicRow.SymbolicRow}
+use Rattle.line_reader.specs.declared.symbolic_phaser.{SymbolicPolicy.SymbolicPolicy, SymbolicPhaser.SymbolicPhaser}
+use Rattle.line_reader.specs.declared.{symbolic_barrier.SymbolicBarrier.SymbolicBarrier, statement.Statement.Statement}
+use Rattle.line_reader.specs.{declared.symbolic_thread.SymbolicThread.SymbolicThread, Symbols.Name}
 use Rattle.line_reader.specs.declared.symbolic_row.Operand.TheVariants as operand
-use Rattle.line_reader.specs.declared.symbolic_row.SymbolicRow.{SymbolicRow}
-use Rattle.line_reader.specs.declared.symbolic_phaser.SymbolicPolicy.{SymbolicPolicy}
 use Rattle.line_reader.specs.declared.symbolic_phaser.SymbolicPolicy.TheVariants as policy
-use Rattle.line_reader.specs.declared.symbolic_phaser.SymbolicPhaser.{SymbolicPhaser}
-use Rattle.line_reader.specs.declared.symbolic_barrier.SymbolicBarrier.{SymbolicBarrier}
-use Rattle.line_reader.specs.declared.symbolic_thread.SymbolicThread.{SymbolicThread}
-use Rattle.line_reader.specs.declared.statement.Statement.{Statement}
 use Rattle.line_reader.specs.declared.statement.Statement.TheVariants as statement
-use Rattle.line_reader.specs.Symbols.{Name}
 
 abbrev pub Borrowed : Type 0
 Borrowed = Bor (List ℕ)

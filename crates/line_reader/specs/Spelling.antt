@@ -1,24 +1,17 @@
 -- What the words of a line mean: nothing, a directive, a label, a row, or a label and a row.
 use Rattle.std.specs.Prelude.{◌≡◌, ◌⊎◌, ℕ, ◌+◌, ◌≤◌, true, ℤ, pos, negsuc, ◌≤ℤ◌, List, [], ◌∷◌, ◌++◌, length, codes, slice_index_or, Option, Some, None}
 use Rattle.std.specs.List.{list_all}
-use Rattle.instruction_table.specs.declared.register.Reg.{Reg}
-use Rattle.instruction_table.specs.declared.shape.OperandKind.{OperandKind}
-use Rattle.instruction_table.specs.declared.shape.OperandKind.TheVariants as kind
-use Rattle.instruction_table.specs.Register.{number_of}
+use Rattle.instruction_table.specs.{declared.register.Reg.Reg, declared.shape.OperandKind.OperandKind, Register.number_of}
 use Rattle.instruction_table.specs.Table.{Entry, table, entry_named}
-use Rattle.line_reader.specs.declared.reference.Reference.{Reference}
-use Rattle.line_reader.specs.declared.reference.Reference.TheVariants.{Named, Numbered}
-use Rattle.line_reader.specs.declared.symbolic_row.Operand.{Operand}
-use Rattle.line_reader.specs.declared.symbolic_row.Operand.TheVariants as operand
-use Rattle.line_reader.specs.declared.symbolic_row.SymbolicRow.{SymbolicRow}
-use Rattle.line_reader.specs.declared.symbolic_phaser.SymbolicPolicy.{SymbolicPolicy}
-use Rattle.line_reader.specs.declared.symbolic_phaser.SymbolicPolicy.TheVariants as policy
-use Rattle.line_reader.specs.declared.statement.Statement.{Statement}
-use Rattle.line_reader.specs.declared.statement.Statement.TheVariants as statement
-use Rattle.line_reader.specs.Words.{is_allowed, words_of}
-use Rattle.line_reader.specs.Names.{is_name}
+use Rattle.instruction_table.specs.declared.shape.OperandKind.TheVariants as kind
+use Rattle.line_reader.specs.declared.reference.Reference.{Reference, TheVariants.Named, TheVariants.Numbered}
+use Rattle.line_reader.specs.declared.symbolic_row.{Operand.Operand, SymbolicRow.SymbolicRow}
+use Rattle.line_reader.specs.declared.{symbolic_phaser.SymbolicPolicy.SymbolicPolicy, statement.Statement.Statement}
+use Rattle.line_reader.specs.{Words.is_allowed, Words.words_of, Names.is_name, Symbols.Name}
 use Rattle.line_reader.specs.Numbers.{is_number, digits_in, value_in}
-use Rattle.line_reader.specs.Symbols.{Name}
+use Rattle.line_reader.specs.declared.symbolic_row.Operand.TheVariants as operand
+use Rattle.line_reader.specs.declared.symbolic_phaser.SymbolicPolicy.TheVariants as policy
+use Rattle.line_reader.specs.declared.statement.Statement.TheVariants as statement
 
 -- the least and the greatest `int`, and the greatest number of a target or an object
 abbrev pub least_int : ℤ

@@ -1,7 +1,6 @@
 -- Names, and the operands of a row, which may be names.
 use Rattle.std.specs.Prelude.{ℕ, List, [], ◌∷◌}
-use Rattle.line_reader.specs.declared.symbolic_row.Operand.{Operand}
-use Rattle.line_reader.specs.declared.symbolic_row.SymbolicRow.{SymbolicRow}
+use Rattle.line_reader.specs.declared.symbolic_row.{Operand.Operand, SymbolicRow.SymbolicRow}
 
 -- a name, as the bytes that it is spelled with
 abbrev pub Name : Type 0

@@ -1,8 +1,7 @@
 //! The options of a directive. Each function takes the words of the line that are left, and returns those left after it.
 ghost use Rattle.std.specs.Prelude.{◌≡◌, map, option_map, pos};
-ghost use Rattle.line_reader.specs.Seen.{seen, name_seen, reference_seen};
+ghost use Rattle.line_reader.specs.{Seen.seen, Seen.name_seen, Seen.reference_seen, Spelling.greatest_int};
 ghost use Rattle.line_reader.specs.Reading.{argument_at, end_at, number_at, reference_at, reference_option_at};
-ghost use Rattle.line_reader.specs.Spelling.{greatest_int};
 
 use crate::asm_fault::{AsmFaultKind, WordFault, read_at};
 use crate::number::number_at;

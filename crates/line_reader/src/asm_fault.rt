@@ -1,6 +1,5 @@
 ghost use Rattle.std.specs.Prelude.{◌≡◌};
-ghost use Rattle.line_reader.specs.FaultNumber.{asm_number};
-ghost use Rattle.line_reader.specs.Reading.{fault_at, read_at};
+ghost use Rattle.line_reader.specs.{FaultNumber.asm_number, Reading.fault_at, Reading.read_at};
 ghost use Rattle.line_reader.specs.declared.asm_fault.AsmFaultKind.TheVariants.{Memory};
 
 use std::alloc::{AllocError, AllocFailed};

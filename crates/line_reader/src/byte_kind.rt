@@ -1,8 +1,6 @@
 //! Where in a line a byte may be.
 ghost use Rattle.std.specs.Prelude.{◌≡◌};
-ghost use Rattle.line_reader.specs.FirstLine.{is_letter};
-ghost use Rattle.line_reader.specs.Names.{goes_on_name};
-ghost use Rattle.line_reader.specs.Words.{is_allowed};
+ghost use Rattle.line_reader.specs.{FirstLine.is_letter, Names.goes_on_name, Words.is_allowed};
 
 /// For each byte where it may be: 3 in a name, 2 in another word, 1 between words or in a comment, 0 in no line. It is asked
 /// for each byte of a text, mostly more than once, so the results are a table.

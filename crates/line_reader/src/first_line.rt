@@ -3,8 +3,7 @@ ghost use Rattle.std.specs.Prelude.{◌≡◌, ◌+◌, ◌<◌, ◌≤◌, ◌�
 ghost use Rattle.std.specs.List.{list_all, position, position_or_len};
 ghost use Rattle.line_reader.specs.declared.asm_fault.AsmFaultKind.TheVariants as fault;
 ghost use Rattle.line_reader.specs.FirstLine.{IsLeft, first_line, is_letter, word_alone};
-ghost use Rattle.line_reader.specs.Reading.{line_words};
-ghost use Rattle.line_reader.specs.Seen.{name_seen};
+ghost use Rattle.line_reader.specs.{Reading.line_words, Seen.name_seen};
 ghost use Rattle.line_reader.specs.Words.{is_allowed, is_blank, is_line_end, lines_of, words_of};
 
 use crate::asm_fault::AsmFaultKind;

@@ -4,8 +4,7 @@
 //! other.
 
 ghost use Rattle.std.specs.Prelude.{◌≡◌, IfOk, OnOk};
-ghost use Rattle.row_code.specs.declared.image.Image.{Image};
-ghost use Rattle.row_code.specs.Image.{IsImage};
+ghost use Rattle.row_code.specs.{declared.image.Image.Image, Image.IsImage};
 ghost use Rattle.line_reader.specs.Listing.{canonical};
 
 mod barriers;

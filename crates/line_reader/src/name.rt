@@ -1,8 +1,6 @@
 //! Names, and how they are spelled.
-ghost use Rattle.std.specs.Prelude.{◌≡◌};
-ghost use Rattle.std.specs.List.{list_all};
-ghost use Rattle.line_reader.specs.Seen.{seen, name_seen};
-ghost use Rattle.line_reader.specs.Names.{begins_name, goes_on_name, is_name};
+ghost use Rattle.std.specs.{Prelude.◌≡◌, List.list_all};
+ghost use Rattle.line_reader.specs.{Seen.seen, Seen.name_seen, Names.begins_name, Names.goes_on_name, Names.is_name};
 ghost use Rattle.line_reader.specs.Reading.{name_at};
 
 use crate::asm_fault::AsmFaultKind;

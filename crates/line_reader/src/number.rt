@@ -1,8 +1,6 @@
 //! Decimal numbers and their ranges.
 ghost use Rattle.std.specs.Prelude.{◌≡◌, ◌<◌, ◌≤◌, ◌≤ℤ◌, IfOk, length, true};
-ghost use Rattle.std.specs.Char.{is_ascii_digit};
-ghost use Rattle.std.specs.List.{AllPass, list_all};
-ghost use Rattle.std.specs.Str.Parse.{digits_value};
+ghost use Rattle.std.specs.{Char.is_ascii_digit, List.AllPass, List.list_all, Str.Parse.digits_value};
 ghost use Rattle.line_reader.specs.Numbers.{digits_in, is_negative, is_number, value_in};
 ghost use Rattle.line_reader.specs.Reading.{count_at, number_at};
 

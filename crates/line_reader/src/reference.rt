@@ -1,6 +1,5 @@
 ghost use Rattle.std.specs.Prelude.{◌≡◌};
-ghost use Rattle.line_reader.specs.Seen.{seen, reference_seen};
-ghost use Rattle.line_reader.specs.Reading.{reference_at};
+ghost use Rattle.line_reader.specs.{Seen.seen, Seen.reference_seen, Reading.reference_at};
 
 use crate::asm_fault::AsmFaultKind;
 use crate::name::name_at;

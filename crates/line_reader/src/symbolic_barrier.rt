@@ -1,6 +1,5 @@
 ghost use Rattle.std.specs.Prelude.{◌≡◌, map};
-ghost use Rattle.line_reader.specs.Seen.{seen, barrier_seen, name_seen};
-ghost use Rattle.line_reader.specs.Reading.{barrier_at};
+ghost use Rattle.line_reader.specs.{Seen.seen, Seen.barrier_seen, Seen.name_seen, Reading.barrier_at};
 
 use crate::argument::{end_at, reference_option_at};
 use crate::asm_fault::{AsmFaultKind, WordFault, read_at};

@@ -1,6 +1,5 @@
 ghost use Rattle.std.specs.Prelude.{◌≡◌, [], ◌∷◌, map};
-ghost use Rattle.line_reader.specs.Seen.{seen, name_seen, thread_seen};
-ghost use Rattle.line_reader.specs.Reading.{thread_at};
+ghost use Rattle.line_reader.specs.{Seen.seen, Seen.name_seen, Seen.thread_seen, Reading.thread_at};
 
 use crate::asm_fault::{AsmFaultKind, WordFault, read_at};
 use crate::name::name_at;

@@ -1,11 +1,8 @@
 -- One more phaser is declared.
 use Rattle.std.proofs.Common.{◌≡◌, ℕ, ◌+◌, ◌<◌, Bool, List, length, get_or, arith}
 use Rattle.std.proofs.lemmas.List.Sums.{fold_more}
-use Rattle.tier_tree.specs.Forest.{PhaserState}
-use Rattle.tier_tree.specs.Answer.{KeepsEnds}
-use Rattle.tier_tree.specs.Declaration.{AreAllFresh, is_root}
-use Rattle.tier_tree.specs.Origin.{AreTallied, Carries, declared_at}
-use Rattle.tier_tree.specs.Stored.{Stored, phasers_of}
+use Rattle.tier_tree.specs.{Forest.PhaserState, Answer.KeepsEnds, Declaration.AreAllFresh, Declaration.is_root}
+use Rattle.tier_tree.specs.{Origin.AreTallied, Origin.Carries, Origin.declared_at, Stored.Stored, Stored.phasers_of}
 use Rattle.row_code.specs.declared.phasers.DeclaredPhaser.{DeclaredPhaser}
 use Rattle.loader.specs.Declarations.{parent_of, with_phaser, no_phaser, declared_origin, AreDeclared}
 

@@ -1,34 +1,21 @@
 -- What is true of an image without a fault: its phasers make a forest, and its other parts a program.
-use Rattle.std.proofs.Common.{◌≡◌, ℕ, zero, suc, ◌+◌, ◌<◌, ◌≤◌, Bool, true, false, not, if◌then◌else◌, List, [], ◌∷◌, ◌++◌, length, get_or, take, Option, Some, None, refl, sym, ap, subst, ◌∙◌, arith, pos, nat_abs}
-use Rattle.std.specs.Prelude.{nat_le, nat_lt}
-use Rattle.std.specs.Option.{option_map}
-use Rattle.std.specs.List.{list_any}
-use Rattle.std.proofs.lemmas.Bool.Decides.{nat_tests}
-use Rattle.std.proofs.lemmas.List.{take_all}
-use Rattle.std.proofs.lemmas.List.Sums.{fold_more}
-use Rattle.std.proofs.lemmas.List.Elements.{All-nil}
+use Rattle.std.proofs.Common.{◌≡◌, ℕ, zero, suc, ◌+◌, ◌<◌, ◌≤◌, Bool, true, false, not, if◌then◌else◌, List, [], ◌∷◌, ◌++◌, length, get_or, take, Option, Some, None, refl, sym, ap, subst, ◌∙◌, arith, pos, nat_abs, nat_le, nat_lt, take_all}
+use Rattle.std.proofs.lemmas.{Bool.Decides.nat_tests, List.Sums.fold_more, List.Elements.All-nil}
+use Rattle.std.specs.{Option.option_map, List.list_any}
 use Rattle.packed_phaser.specs.declared.policy.Policy.{Policy}
-use Rattle.tier_tree.specs.declared.id.PhaserId.{PhaserId}
-use Rattle.tier_tree.specs.declared.fault.DeclareFault.{DeclareFault}
-use Rattle.tier_tree.specs.declared.fault.DeclareFault.TheVariants as declare
-use Rattle.tier_tree.specs.Forest.{PhaserState, phaser_at}
-use Rattle.tier_tree.specs.Sound.{IsForest, IsForestOf}
+use Rattle.tier_tree.specs.{declared.id.PhaserId.PhaserId, declared.fault.DeclareFault.DeclareFault, Registration.is_overfull}
+use Rattle.tier_tree.specs.{Forest.PhaserState, Forest.phaser_at, Sound.IsForest, Sound.IsForestOf}
 use Rattle.tier_tree.specs.Declaration.{AreAllFresh, IsFreshAbove, has_parent, is_count, is_first_phase, is_root, line_above, fault_of, joins_above, declared, after_declaration}
 use Rattle.tier_tree.specs.Origin.{AreTallied, declared_at}
-use Rattle.tier_tree.specs.Registration.{is_overfull}
-use Rattle.tier_tree.proofs.Added.{stands_declared}
-use Rattle.tier_tree.proofs.Lines.{length-places, forest_declared, joined-places}
-use Rattle.tier_tree.proofs.Fresh.{fresh_declared}
-use Rattle.tier_tree.proofs.Calls.{declared_ends, stands_empty}
-use Rattle.row_code.specs.declared.phasers.DeclaredPhaser.{DeclaredPhaser}
-use Rattle.row_code.specs.declared.image.Image.{Image}
-use Rattle.row_code.specs.Image.{IsImage}
+use Rattle.tier_tree.specs.declared.fault.DeclareFault.TheVariants as declare
+use Rattle.tier_tree.proofs.{Added.stands_declared, Lines.length-places, Lines.forest_declared, Lines.joined-places}
+use Rattle.tier_tree.proofs.{Fresh.fresh_declared, Calls.declared_ends, Calls.stands_empty}
+use Rattle.row_code.specs.{declared.phasers.DeclaredPhaser.DeclaredPhaser, declared.image.Image.Image, Image.IsImage}
 use Rattle.loader.specs.declared.load_fault.LoadFault.TheVariants as fault
 use Rattle.loader.specs.Declarations.{parent_of, policy_of, declare_fault, with_phaser, forest_of, no_phaser, declared_origin}
 use Rattle.loader.specs.Program.{Program, IsProgramOf}
 use Rattle.loader.specs.Fault.{unless, earliest_in, first_fault, routine_fault, listed_phaser_fault}
-use Rattle.loader.proofs.Search.{none_left, none_in}
-use Rattle.loader.proofs.Whole.{HasParts, declared_by, has_parts}
+use Rattle.loader.proofs.{Search.none_left, Search.none_in, Whole.HasParts, Whole.declared_by, Whole.has_parts}
 use Rattle.loader.proofs.Declaring.{origin_stays}
 
 -- the first so many of all phasers in a forest in which nothing has happened yet

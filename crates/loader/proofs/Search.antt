@@ -1,9 +1,8 @@
 -- The first fault of a list, as a loop finds it.
 use Rattle.std.proofs.Common.{◌≡◌, ℕ, zero, suc, ◌+◌, ◌<◌, List, [], ◌∷◌, length, get_or, drop, Option, None, ap, ◌∙◌, arith}
-use Rattle.std.specs.Option.{option_or}
 use Rattle.std.proofs.lemmas.List.{at_drop_more}
-use Rattle.loader.specs.declared.load_fault.LoadFault.{LoadFault}
-use Rattle.loader.specs.Fault.{earliest_in}
+use Rattle.std.specs.Option.{option_or}
+use Rattle.loader.specs.{declared.load_fault.LoadFault.LoadFault, Fault.earliest_in}
 
 -- an entry without fault: the search goes on behind it
 pub goes_on : {E : Type 0} (check : ℕ → E → Option LoadFault) (xs : List E) (i : ℕ) (d : E) → i < length xs

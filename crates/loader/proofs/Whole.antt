@@ -1,22 +1,16 @@
 -- Where an image has no fault, the program that it declares has what is true of each.
-use Rattle.std.proofs.Common.{◌≡◌, ℕ, ◌+◌, ◌-◌, ◌<◌, ◌≤◌, ltb, Bool, true, false, List, length, get_or, map, All, Option, None, unwrap_or, refl, sym, ap, subst, ◌∙◌, arith}
-use Rattle.std.proofs.lemmas.Bool.{ltb-true}
-use Rattle.std.proofs.lemmas.List.{length-map}
-use Rattle.std.proofs.lemmas.List.Elements.{All-map}
+use Rattle.std.proofs.Common.{◌≡◌, ℕ, ◌+◌, ◌-◌, ◌<◌, ◌≤◌, ltb, Bool, true, false, List, length, get_or, map, All, Option, None, unwrap_or, refl, sym, ap, subst, ◌∙◌, arith, ltb-true}
+use Rattle.std.proofs.lemmas.List.{length-map, Elements.All-map}
 use Rattle.instruction_table.specs.declared.row.Row.{Row}
-use Rattle.row_code.specs.declared.phasers.DeclaredPolicy.{DeclaredPolicy}
-use Rattle.row_code.specs.declared.phasers.DeclaredPhaser.{DeclaredPhaser}
-use Rattle.row_code.specs.declared.barriers.DeclaredBarrier.{DeclaredBarrier}
-use Rattle.row_code.specs.declared.threads.DeclaredThread.{DeclaredThread}
+use Rattle.row_code.specs.declared.phasers.{DeclaredPolicy.DeclaredPolicy, DeclaredPhaser.DeclaredPhaser}
+use Rattle.row_code.specs.declared.{barriers.DeclaredBarrier.DeclaredBarrier, threads.DeclaredThread.DeclaredThread}
 use Rattle.row_code.specs.declared.image.Image.{Image}
-use Rattle.loader.specs.declared.counts.Counts.{Counts}
-use Rattle.loader.specs.declared.load_fault.LoadFault.{LoadFault}
-use Rattle.loader.specs.declared.load_fault.LoadFault.TheVariants as fault
-use Rattle.loader.specs.Named.{stops}
-use Rattle.tier_tree.specs.Stored.{Stored}
+use Rattle.loader.specs.{declared.counts.Counts.Counts, declared.load_fault.LoadFault.LoadFault, Named.stops}
 use Rattle.loader.specs.Declarations.{row_in, routine_row, new_barrier, action_row, AreDeclared}
 use Rattle.loader.specs.Program.{Program, AreNewBarriers, CanStart, IsCode, IsNamed, IsNewBarrier, IsProgram, program_of, row_at}
 use Rattle.loader.specs.Fault.{unless, earliest_in, first_fault, routine_fault, listed_phaser_fault, action_fault, barrier_fault, thread_fault, row_fault, last_fault, counts_in}
+use Rattle.loader.specs.declared.load_fault.LoadFault.TheVariants as fault
+use Rattle.tier_tree.specs.Stored.{Stored}
 use Rattle.loader.proofs.Search.{none_left, none_in}
 
 -- a check that found no fault has passed its test

@@ -3,17 +3,14 @@ use Rattle.std.specs.Prelude.{◌≡◌, ℕ, pos, nat_abs, false, List, [], len
 use Rattle.std.specs.Option.{option_map}
 use Rattle.packed_phaser.specs.declared.policy.Policy.{Policy}
 use Rattle.packed_phaser.specs.declared.policy.Policy.TheVariants as policy
-use Rattle.tier_tree.specs.declared.id.PhaserId.{PhaserId}
-use Rattle.tier_tree.specs.declared.fault.DeclareFault.{DeclareFault}
-use Rattle.tier_tree.specs.Forest.{PhaserState, phaser_at}
+use Rattle.tier_tree.specs.declared.{id.PhaserId.PhaserId, fault.DeclareFault.DeclareFault}
+use Rattle.tier_tree.specs.{Forest.PhaserState, Forest.phaser_at, Origin.Origin, Origin.AreTallied}
 use Rattle.tier_tree.specs.Declaration.{AreAllFresh, fault_of, after_declaration}
-use Rattle.tier_tree.specs.Origin.{Origin, AreTallied}
 use Rattle.tier_tree.specs.Stored.{Stored, phasers_of}
 use Rattle.cyclic_barrier.specs.Barrier.{BarrierState, fresh}
-use Rattle.row_code.specs.declared.phasers.DeclaredPolicy.{DeclaredPolicy}
-use Rattle.row_code.specs.declared.phasers.DeclaredPolicy.TheVariants as declared
-use Rattle.row_code.specs.declared.phasers.DeclaredPhaser.{DeclaredPhaser}
+use Rattle.row_code.specs.declared.phasers.{DeclaredPolicy.DeclaredPolicy, DeclaredPhaser.DeclaredPhaser}
 use Rattle.row_code.specs.declared.barriers.DeclaredBarrier.{DeclaredBarrier}
+use Rattle.row_code.specs.declared.phasers.DeclaredPolicy.TheVariants as declared
 
 -- the policy of a phaser; the first row of its routine is stored beside it
 abbrev pub policy_of : DeclaredPolicy → Policy

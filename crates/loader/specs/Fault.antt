@@ -3,22 +3,16 @@ use Rattle.std.specs.Prelude.{ℕ, ◌+◌, ◌-◌, ◌==◌, nat_lt, not, Bool
 use Rattle.std.specs.Option.{option_or, option_map}
 use Rattle.instruction_table.specs.declared.row.Row.{Row}
 use Rattle.tier_tree.specs.Forest.{PhaserState}
-use Rattle.row_code.specs.declared.phasers.DeclaredPolicy.{DeclaredPolicy}
-use Rattle.row_code.specs.declared.phasers.DeclaredPolicy.TheVariants as declared
-use Rattle.row_code.specs.declared.phasers.DeclaredPhaser.{DeclaredPhaser}
-use Rattle.row_code.specs.declared.barriers.DeclaredBarrier.{DeclaredBarrier}
-use Rattle.row_code.specs.declared.threads.DeclaredThread.{DeclaredThread}
+use Rattle.row_code.specs.declared.phasers.{DeclaredPolicy.DeclaredPolicy, DeclaredPhaser.DeclaredPhaser}
+use Rattle.row_code.specs.declared.{barriers.DeclaredBarrier.DeclaredBarrier, threads.DeclaredThread.DeclaredThread}
 use Rattle.row_code.specs.declared.image.Image.{Image}
-use Rattle.loader.specs.declared.counts.Counts.{Counts}
-use Rattle.loader.specs.declared.load_fault.LoadFault.{LoadFault}
-use Rattle.loader.specs.declared.load_fault.LoadFault.TheVariants as fault
-use Rattle.loader.specs.declared.load_fault.Place.{Place}
-use Rattle.loader.specs.declared.load_fault.Place.TheVariants as place
-use Rattle.loader.specs.declared.named.Named.{Named}
-use Rattle.loader.specs.declared.named.Named.TheVariants as named
-use Rattle.loader.specs.Named.{named_by, stops}
+use Rattle.row_code.specs.declared.phasers.DeclaredPolicy.TheVariants as declared
+use Rattle.loader.specs.declared.{counts.Counts.Counts, load_fault.LoadFault.LoadFault, load_fault.Place.Place}
+use Rattle.loader.specs.{declared.named.Named.Named, Named.named_by, Named.stops, Program.row_at}
 use Rattle.loader.specs.Declarations.{declare_fault, forest_of}
-use Rattle.loader.specs.Program.{row_at}
+use Rattle.loader.specs.declared.load_fault.LoadFault.TheVariants as fault
+use Rattle.loader.specs.declared.load_fault.Place.TheVariants as place
+use Rattle.loader.specs.declared.named.Named.TheVariants as named
 
 -- this fault, if the test fails
 abbrev pub unless : Bool → LoadFault → Option LoadFault

@@ -1,6 +1,5 @@
 -- The program that a `Loaded` holds in its fields.
-use Rattle.loader.specs.Program.{Program, IsProgram}
-use Rattle.loader.specs.declared.loaded.Loaded.TheInside.{Inside}
+use Rattle.loader.specs.{Program.Program, Program.IsProgram, declared.loaded.Loaded.TheInside.Inside}
 
 abbrev pub program_of : Inside → Program
 program_of loaded = record {

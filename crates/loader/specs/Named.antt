@@ -1,10 +1,8 @@
 -- Which object a row names, and after which rows a thread never continues with the next row.
 use Rattle.std.specs.Prelude.{ℕ, nat_abs, Bool, true, false, List, [], ◌∷◌}
-use Rattle.instruction_table.specs.declared.row.Row.{Row}
-use Rattle.instruction_table.specs.declared.row.Row.TheVariants.{Halt, Jmp, Ret, Throw}
-use Rattle.instruction_table.specs.declared.shape.OperandKind.{OperandKind}
+use Rattle.instruction_table.specs.declared.row.Row.{Row, TheVariants.Halt, TheVariants.Jmp, TheVariants.Ret, TheVariants.Throw}
+use Rattle.instruction_table.specs.{declared.shape.OperandKind.OperandKind, Table.entry_for}
 use Rattle.instruction_table.specs.declared.shape.OperandKind.TheVariants.{Register, Target, Phaser, Barrier, Thread, Cell}
-use Rattle.instruction_table.specs.Table.{entry_for}
 use Rattle.row_code.specs.RowFields.{fields_of}
 use Rattle.loader.specs.declared.named.Named.{Named}
 use Rattle.loader.specs.declared.named.Named.TheVariants as named

@@ -1,19 +1,13 @@
 -- A loaded program, and what is true of every loaded program: for example, each object that its rows use exists.
 use Rattle.std.specs.Prelude.{◌≡◌, ℕ, ◌-◌, ◌<◌, ◌≤◌, true, false, List, [], length, map, slice_index_or, All}
-use Rattle.instruction_table.specs.declared.row.Row.{Row}
-use Rattle.instruction_table.specs.declared.row.Row.TheVariants.{Halt}
-use Rattle.tier_tree.specs.Declaration.{AreAllFresh}
-use Rattle.tier_tree.specs.Forest.{PhaserState, phaser_at}
-use Rattle.tier_tree.specs.Origin.{Origin, AreTallied}
+use Rattle.instruction_table.specs.declared.row.Row.{Row, TheVariants.Halt}
+use Rattle.tier_tree.specs.{Declaration.AreAllFresh, Forest.PhaserState, Forest.phaser_at, Origin.Origin, Origin.AreTallied}
 use Rattle.tier_tree.specs.Stored.{Stored, phasers_of}
 use Rattle.cyclic_barrier.specs.Barrier.{BarrierState, fresh}
-use Rattle.row_code.specs.declared.image.Image.{Image}
-use Rattle.row_code.specs.declared.threads.DeclaredThread.{DeclaredThread}
-use Rattle.loader.specs.declared.counts.Counts.{Counts}
-use Rattle.loader.specs.declared.named.Named.{Named}
-use Rattle.loader.specs.declared.named.Named.TheVariants as named
-use Rattle.loader.specs.Named.{named_by, stops}
+use Rattle.row_code.specs.declared.{image.Image.Image, threads.DeclaredThread.DeclaredThread}
+use Rattle.loader.specs.{declared.counts.Counts.Counts, declared.named.Named.Named, Named.named_by, Named.stops}
 use Rattle.loader.specs.Declarations.{forest_of, declared_origin, routine_row, new_barrier, action_row}
+use Rattle.loader.specs.declared.named.Named.TheVariants as named
 
 -- the rows; the threads; the phasers in their trees, as they are stored, and the row of each one's
 -- routine; the barriers, and the row of each one's action

@@ -1,7 +1,6 @@
 //! Why an image isn't loaded, and the number of each fault.
 ghost use Rattle.std.specs.Prelude.{◌≡◌};
-ghost use Rattle.loader.specs.FaultNumber.{load_number};
-ghost use Rattle.loader.specs.declared.load_fault.LoadFault.TheVariants.{Memory};
+ghost use Rattle.loader.specs.{FaultNumber.load_number, declared.load_fault.LoadFault.TheVariants.Memory};
 
 use std::alloc::{AllocError, AllocFailed};
 use tier_tree::DeclareFault;

@@ -1,9 +1,7 @@
 //! Declares the phasers of an image in a forest.
 ghost use Rattle.std.specs.Prelude.{◌≡◌, ◌≢◌, ◌+◌, ◌<◌, length, map, None, Some, IfOk, IfErr, OnOk};
-ghost use Rattle.tier_tree.specs.Answer.{KeepsEnds};
-ghost use Rattle.tier_tree.specs.Declaration.{AreAllFresh, is_root};
+ghost use Rattle.tier_tree.specs.{Answer.KeepsEnds, Declaration.AreAllFresh, Declaration.is_root, Stored.phasers_of};
 ghost use Rattle.tier_tree.specs.Origin.{Carries, declared_at};
-ghost use Rattle.tier_tree.specs.Stored.{phasers_of};
 ghost use Rattle.row_code.specs.Phasers.{IsPhaser, ArePhasers};
 ghost use Rattle.loader.specs.Declarations.{policy_of, routine_row, parent_of, with_phaser, declare_fault, AreDeclared};
 ghost use Rattle.loader.specs.Fault.{routine_fault, phaser_fault, listed_phaser_fault, earliest_in};

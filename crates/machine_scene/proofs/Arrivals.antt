@@ -1,10 +1,8 @@
 -- Arrivals: the exception that they meet before they come to a phaser.
-use Rattle.std.proofs.Common.{◌≡◌, ℕ, ℤ, ◌&&◌, false, [], arith}
-use Rattle.std.specs.Prelude.{Some, None}
+use Rattle.std.proofs.Common.{◌≡◌, ℕ, ℤ, ◌&&◌, false, [], arith, Some, None}
 use Rattle.loader.specs.Program.{Program}
 use Rattle.thread_state.specs.Thread.{ThreadState, is_full, turn_of_throw}
-use Rattle.machine_scene.specs.declared.manner.Manner.{Manner}
-use Rattle.machine_scene.specs.Scene.{Scene, thread_at, outcome_of_turn}
+use Rattle.machine_scene.specs.{declared.manner.Manner.Manner, Scene.Scene, Scene.thread_at, Scene.outcome_of_turn}
 use Rattle.machine_scene.specs.PhaserRows.{has_routine, unless_own, outcome_with_room, outcome_of_arrival, refusal_of_arrival}
 
 -- a thread with an empty stack comes to it

@@ -1,26 +1,21 @@
 -- Rows at barriers.
-use Rattle.std.proofs.Common.{◌≡◌, ◌∙◌, ℕ, pos, ◌+◌, ◌<◌, ◌==◌, ◌&&◌, ◌||◌, Bool, false, length, refl, arith, rules}
-use Rattle.std.specs.Prelude.{Option, Some, None}
+use Rattle.std.proofs.Common.{◌≡◌, ◌∙◌, ℕ, pos, ◌+◌, ◌<◌, ◌==◌, ◌&&◌, ◌||◌, Bool, false, length, refl, arith, rules, Option, Some, None}
 use Rattle.std.proofs.lemmas.List.{length-map}
-use Rattle.instruction_table.specs.declared.row.Row.{Row}
-use Rattle.instruction_table.specs.declared.row.Row.TheVariants.{Cawait, Creset}
+use Rattle.instruction_table.specs.declared.row.Row.{Row, TheVariants.Cawait, TheVariants.Creset}
 use Rattle.instruction_table.specs.declared.register.Reg.{Reg}
-use Rattle.cyclic_barrier.specs.declared.answer.Entered.{Entered}
+use Rattle.cyclic_barrier.specs.{declared.answer.Entered.Entered, Waits.released}
+use Rattle.cyclic_barrier.specs.Barrier.{BarrierState, Entry, has_wait, is_wait, runner_after, enter_beside, enter_timed, reset}
 use Rattle.cyclic_barrier.specs.declared.answer.Entered.TheVariants as entered
 use Rattle.cyclic_barrier.specs.declared.answer.WaitState.TheVariants as state
-use Rattle.cyclic_barrier.specs.Waits.{released}
-use Rattle.cyclic_barrier.specs.Barrier.{BarrierState, Entry, has_wait, is_wait, runner_after, enter_beside, enter_timed, reset}
 use Rattle.cyclic_barrier.proofs.CallLemmas.{has_wait-enter, runner-enter, length-enter, has_wait-reset}
-use Rattle.loader.specs.Named.{stops}
-use Rattle.loader.specs.Program.{Program}
+use Rattle.loader.specs.{Named.stops, Program.Program}
 use Rattle.thread_state.specs.declared.status.Status.TheVariants as status
 use Rattle.thread_state.specs.Thread.{Turn, is_full, turn_of_throw, turn_of_interruption, turn_of_answer, turn_of_done, turn_of_action}
 use Rattle.machine_scene.specs.Scene.{Scene, Outcome, thread_at, barrier_at, action_at, with_barrier, outcome_of_turn}
 use Rattle.machine_scene.specs.BarrierRows.{is_run_by, unless_busy, unless_runner, outcome_of_entered, outcome_of_entry, outcome_of_await_at, outcome_of_reset, outcome_of_barrier_row}
 use Rattle.machine_scene.specs.Sound.{IsSound, is_wait_row}
-use Rattle.machine_scene.proofs.Facts.{RunsOn, action_within}
+use Rattle.machine_scene.proofs.{Facts.RunsOn, Facts.action_within, Barriers.sound_run}
 use Rattle.machine_scene.proofs.Plain.{KeepsSound, StandsAt, either, free_in}
-use Rattle.machine_scene.proofs.Barriers.{sound_run}
 use Rattle.machine_scene.proofs.Turns.{KeepsStack, throw_keeps, interruption_keeps, answer_keeps, done_keeps, or_no, sound_with_barrier, sound_begin, sound_throw, sound_answer}
 
 -- an entry that runs the action found nobody who runs it

@@ -1,25 +1,16 @@
 -- Turns at barriers.
-use Rattle.std.proofs.Common.{inl, inr, ◌≡◌, ◌≢◌, ◌∙◌, ℕ, ℤ, ◌+◌, ◌-◌, ◌<◌, ◌≤◌, Bool, List, [], ◌∷◌, ◌++◌, take, length, ap, refl, sym, subst, arith}
-use Rattle.std.specs.Prelude.{is_some, Option, Some, None, slice_set, count_by, All}
-use Rattle.std.proofs.lemmas.Bool.{cases_eq}
-use Rattle.std.proofs.lemmas.List.{length-set, get_or-set_same, get_or-set_other}
-use Rattle.std.proofs.lemmas.List.Elements.{All-take, All-push}
-use Rattle.tier_tree.proofs.Trees.{more_ends}
-use Rattle.tier_tree.proofs.Stands.{same-is}
+use Rattle.std.proofs.Common.{inl, inr, ◌≡◌, ◌≢◌, ◌∙◌, ℕ, ℤ, ◌+◌, ◌-◌, ◌<◌, ◌≤◌, Bool, List, [], ◌∷◌, ◌++◌, take, length, ap, refl, sym, subst, arith, is_some, Option, Some, None, slice_set, count_by, All, length-set, get_or-set_same, get_or-set_other}
+use Rattle.std.proofs.lemmas.{Bool.cases_eq, List.Elements.All-take, List.Elements.All-push}
+use Rattle.tier_tree.proofs.{Trees.more_ends, Stands.same-is}
 use Rattle.cyclic_barrier.specs.Barrier.{BarrierState, has_wait, end_action}
 use Rattle.cyclic_barrier.proofs.CallLemmas.{has_wait-end_action, length-end_action}
 use Rattle.loader.specs.Program.{Program}
-use Rattle.thread_state.specs.declared.frame.Frame.{Frame}
+use Rattle.thread_state.specs.{declared.frame.Frame.Frame, Frame.is_advance, Frame.is_action, Thread.ThreadState, Thread.top_of}
 use Rattle.thread_state.specs.declared.frame.Frame.TheVariants as frame
-use Rattle.thread_state.specs.Frame.{is_advance, is_action}
-use Rattle.thread_state.specs.Thread.{ThreadState, top_of}
 use Rattle.machine_scene.specs.Scene.{Scene, no_thread, thread_at, barrier_at}
 use Rattle.machine_scene.specs.Sound.{IsFrame, IsPlaced, IsSound, bit, thread_awaits}
-use Rattle.machine_scene.proofs.Entries.{entries-pop, entries-push}
-use Rattle.machine_scene.proofs.Facts.{IsFree, placed_at}
-use Rattle.machine_scene.proofs.Soundness.{sound_by}
-use Rattle.machine_scene.proofs.Plain.{both_free}
-use Rattle.machine_scene.proofs.Routines.{least, other-no}
+use Rattle.machine_scene.proofs.{Entries.entries-pop, Entries.entries-push, Facts.IsFree, Facts.placed_at, Soundness.sound_by}
+use Rattle.machine_scene.proofs.{Plain.both_free, Routines.least, Routines.other-no}
 
 -- what a call at barrier b means for who has a wait there, for its runner, and for the entries of thread t
 pub record GateStep (program : Program) (t b : ℕ) (before thread : ThreadState) (gate gate_after : BarrierState) : Type 0 where

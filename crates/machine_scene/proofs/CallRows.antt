@@ -1,34 +1,24 @@
 -- Calls, handlers, `ret` and thrown exceptions.
-use Rattle.std.proofs.Common.{◌≡◌, ℕ, ℤ, pos, suc, ◌+◌, ◌<◌, Bool, true, false, List, ◌∷◌, length, ap, refl, subst, arith, if◌then◌else◌, rules}
-use Rattle.std.specs.Prelude.{◌||◌, not, Option, Some, None, slice_set, slice_index_or}
+use Rattle.std.proofs.Common.{◌≡◌, ℕ, ℤ, pos, suc, ◌+◌, ◌<◌, Bool, true, false, List, ◌∷◌, length, ap, refl, subst, arith, if◌then◌else◌, rules, ◌||◌, not, Option, Some, None, slice_set, slice_index_or, get_or-set_same}
 use Rattle.std.specs.Ordering.{int_eq}
-use Rattle.std.proofs.lemmas.List.{get_or-set_same}
-use Rattle.instruction_table.specs.declared.row.Row.{Row}
+use Rattle.instruction_table.specs.{declared.row.Row.Row, declared.register.Reg.TheVariants.R0, Registers.value_in}
 use Rattle.instruction_table.specs.declared.row.Row.TheVariants.{Call, Ret, Try, Endtry}
-use Rattle.instruction_table.specs.declared.register.Reg.TheVariants.{R0}
-use Rattle.instruction_table.specs.Registers.{value_in}
 use Rattle.packed_phaser.specs.Flat.{view_of}
-use Rattle.tier_tree.specs.Forest.{flat_at}
-use Rattle.tier_tree.specs.PhaseEnd.{after_phase_end}
+use Rattle.tier_tree.specs.{Forest.flat_at, PhaseEnd.after_phase_end}
 use Rattle.tier_tree.proofs.Trees.{CanEnd}
 use Rattle.cyclic_barrier.specs.Barrier.{end_action}
 use Rattle.loader.specs.Program.{Program, row_at}
 use Rattle.thread_state.specs.declared.event.What.TheVariants as what
 use Rattle.thread_state.specs.declared.frame.Frame.{Frame}
+use Rattle.thread_state.specs.Thread.{ThreadState, Turn, top_of, is_full, with_entry, left_routine, turn_of_throw, turn_of_answer, turn_of_call, turn_of_try, turn_of_endtry}
 use Rattle.thread_state.specs.declared.frame.Frame.TheVariants as frame
 use Rattle.thread_state.specs.declared.status.Status.TheVariants as status
-use Rattle.thread_state.specs.Thread.{ThreadState, Turn, top_of, is_full, with_entry, left_routine, turn_of_throw, turn_of_answer, turn_of_call, turn_of_try, turn_of_endtry}
-use Rattle.machine_scene.specs.declared.manner.Manner.{Manner}
+use Rattle.machine_scene.specs.{declared.manner.Manner.Manner, Manner.manner_of, Unwinding.outcome_of_popped, Sound.IsSound}
 use Rattle.machine_scene.specs.Scene.{Scene, no_thread, thread_at, barrier_at, with_thread, outcome_of_turn}
-use Rattle.machine_scene.specs.Manner.{manner_of}
 use Rattle.machine_scene.specs.CallRows.{outcome_of_routine_end, outcome_of_ret, outcome_of_call_row}
-use Rattle.machine_scene.specs.Unwinding.{outcome_of_popped}
-use Rattle.machine_scene.specs.Sound.{IsSound}
 use Rattle.machine_scene.proofs.Facts.{RunsOn, ThrowsOn, DiesOn, top_named, advance_pending}
 use Rattle.machine_scene.proofs.Plain.{KeepsSound, StandsAt, either, free_in, gains_call, gains_handler, sound_push, sound_pop}
-use Rattle.machine_scene.proofs.Routines.{sound_turn_end}
-use Rattle.machine_scene.proofs.Barriers.{sound_action_end}
-use Rattle.machine_scene.proofs.Turns.{sound_alone, sound_throw}
+use Rattle.machine_scene.proofs.{Routines.sound_turn_end, Barriers.sound_action_end, Turns.sound_alone, Turns.sound_throw}
 
 sound_call : (program : Program) (steps t target : ℕ) (scene : Scene) → StandsAt program steps t scene status.Runs (Call target)
     → IsSound program (steps + 1) (outcome_of_turn (turn_of_call target (thread_at scene t)) t scene).scene

@@ -1,20 +1,15 @@
 -- Turns of the common kinds: what they leave of the sets of ready threads.
-use Rattle.std.proofs.Common.{◌≡◌, ◌≢◌, ◌∙◌, ℕ, ◌<◌, ◌||◌, true, false, ap, arith}
-use Rattle.std.specs.Prelude.{length, Option, Some, None}
-use Rattle.std.proofs.lemmas.List.{get_or-set_same}
-use Rattle.instruction_table.specs.declared.row.Row.{Row}
-use Rattle.instruction_table.specs.LocalRows.{is_local_row}
+use Rattle.std.proofs.Common.{◌≡◌, ◌≢◌, ◌∙◌, ℕ, ◌<◌, ◌||◌, true, false, ap, arith, length, Option, Some, None, get_or-set_same}
+use Rattle.instruction_table.specs.{declared.row.Row.Row, LocalRows.is_local_row}
 use Rattle.tier_tree.specs.declared.arrived.Arrived.TheVariants as arrived
 use Rattle.cyclic_barrier.specs.ThreadSet.{has}
 use Rattle.loader.specs.Program.{Program, row_at}
 use Rattle.thread_state.specs.declared.event.Event.{Event}
-use Rattle.machine_scene.specs.declared.ready_set.ReadySet.{ReadySet}
+use Rattle.machine_scene.specs.{declared.ready_set.ReadySet.ReadySet, Ready.may_be_blocked}
 use Rattle.machine_scene.specs.Scene.{Scene, StoredScene, Outcome, scene_of, thread_at}
 use Rattle.machine_scene.specs.Outcomes.{outcome_of_row, outcome_in, is_ready}
-use Rattle.machine_scene.specs.Ready.{may_be_blocked}
 use Rattle.machine_scene.specs.ReadySet.{KnowsReady, AreReadyBeside, is_registering, interrupts, is_loud, changes_all, is_arrival, is_common, is_wait}
-use Rattle.machine_scene.proofs.ReadySets.{seldom_registers, somebody_registers}
-use Rattle.machine_scene.proofs.Standings.{arrival-standings}
+use Rattle.machine_scene.proofs.{ReadySets.seldom_registers, ReadySets.somebody_registers, Standings.arrival-standings}
 use Rattle.machine_scene.proofs.Steady.{other_ready}
 
 -- a row at which nobody has to wait, and by which no other thread's turn changes where the event shows no more than a turn

@@ -1,11 +1,7 @@
 -- Rows on outputs, cells, thread numbers and interrupted statuses.
-use Rattle.std.proofs.Common.{◌≡◌, ◌∙◌, ℕ, pos, ◌+◌, ◌<◌, ◌==◌, true, [], ◌∷◌, ◌++◌, length, refl, sym, subst}
-use Rattle.std.specs.Prelude.{slice_set, All}
-use Rattle.std.proofs.lemmas.List.{length-set}
-use Rattle.instruction_table.specs.declared.row.Row.{Row}
+use Rattle.std.proofs.Common.{◌≡◌, ◌∙◌, ℕ, pos, ◌+◌, ◌<◌, ◌==◌, true, [], ◌∷◌, ◌++◌, length, refl, sym, subst, slice_set, All, length-set}
+use Rattle.instruction_table.specs.{declared.row.Row.Row, declared.register.Reg.Reg, Registers.value_in}
 use Rattle.instruction_table.specs.declared.row.Row.TheVariants.{Out, Lds, Sts, SelfNumber, Intr, Intrd}
-use Rattle.instruction_table.specs.declared.register.Reg.{Reg}
-use Rattle.instruction_table.specs.Registers.{value_in}
 use Rattle.tier_tree.proofs.Trees.{trees_same}
 use Rattle.loader.specs.Program.{Program}
 use Rattle.thread_state.specs.declared.event.What.TheVariants as what

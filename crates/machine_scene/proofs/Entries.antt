@@ -1,13 +1,9 @@
 -- How many stack entries of a kind there are.
-use Rattle.std.proofs.Common.{◌≡◌, ◌∙◌, ℕ, zero, suc, ◌+◌, ◌-◌, ◌<◌, ◌≤◌, Bool, true, false, List, [], ◌∷◌, ◌++◌, take, get_or, length, ap, sym, arith}
-use Rattle.std.specs.Prelude.{Some, slice_set, slice_index_or, count_by}
+use Rattle.std.proofs.Common.{◌≡◌, ◌∙◌, ℕ, zero, suc, ◌+◌, ◌-◌, ◌<◌, ◌≤◌, Bool, true, false, List, [], ◌∷◌, ◌++◌, take, get_or, length, ap, sym, arith, Some, slice_set, slice_index_or, count_by, take_all}
 use Rattle.std.proofs.lemmas.Option.{slice_get_cases}
-use Rattle.std.proofs.lemmas.List.{take_all}
 use Rattle.std.proofs.lemmas.List.Sums.{count_by_more_yes, count_by_more_no, sum_by-append}
-use Rattle.thread_state.specs.declared.frame.Frame.{Frame}
-use Rattle.thread_state.specs.Thread.{ThreadState, top_of}
-use Rattle.machine_scene.specs.Scene.{no_thread}
-use Rattle.machine_scene.specs.Sound.{entries, bit}
+use Rattle.thread_state.specs.{declared.frame.Frame.Frame, Thread.ThreadState, Thread.top_of}
+use Rattle.machine_scene.specs.{Scene.no_thread, Sound.entries, Sound.bit}
 
 -- another state of one thread
 pub entries-set : (test : Frame → Bool) (threads : List ThreadState) (t : ℕ) (thread : ThreadState) → t < length threads

@@ -1,22 +1,16 @@
 -- What a sound scene tells of one thread: where it stands, what its top entry names, and at which barrier it waits.
-use Rattle.std.proofs.Common.{◌≡◌, ◌≢◌, ℕ, ℤ, ◌+◌, ◌<◌, ◌≤◌, Bool, true, false, List, length, ap, refl, arith}
-use Rattle.std.specs.Prelude.{is_some, Some, None, All}
+use Rattle.std.proofs.Common.{◌≡◌, ◌≢◌, ℕ, ℤ, ◌+◌, ◌<◌, ◌≤◌, Bool, true, false, List, length, ap, refl, arith, is_some, Some, None, All}
 use Rattle.std.proofs.lemmas.Option.{slice_get_cases}
-use Rattle.instruction_table.specs.declared.row.Row.{Row}
-use Rattle.instruction_table.specs.declared.row.Row.TheVariants.{Halt, Cawait}
+use Rattle.instruction_table.specs.declared.row.Row.{Row, TheVariants.Halt, TheVariants.Cawait}
 use Rattle.instruction_table.specs.declared.register.Reg.{Reg}
-use Rattle.tier_tree.specs.Forest.{flat_at}
-use Rattle.tier_tree.specs.Trees.{is_pending}
+use Rattle.tier_tree.specs.{Forest.flat_at, Trees.is_pending}
 use Rattle.tier_tree.proofs.Stands.{same-is}
 use Rattle.cyclic_barrier.specs.Waits.{wait_at}
-use Rattle.loader.specs.declared.counts.Counts.{Counts}
-use Rattle.loader.specs.Named.{stops}
+use Rattle.loader.specs.{declared.counts.Counts.Counts, Named.stops}
 use Rattle.loader.specs.Program.{Program, IsCode, IsNamed, row_at}
-use Rattle.thread_state.specs.declared.frame.Frame.{Frame}
+use Rattle.thread_state.specs.{declared.frame.Frame.Frame, declared.status.Status.Status, Thread.top_of}
 use Rattle.thread_state.specs.declared.frame.Frame.TheVariants as frame
-use Rattle.thread_state.specs.declared.status.Status.{Status}
 use Rattle.thread_state.specs.declared.status.Status.TheVariants as status
-use Rattle.thread_state.specs.Thread.{top_of}
 use Rattle.machine_scene.specs.Scene.{Scene, counts_of, no_thread, thread_at, barrier_at, routine_at, action_at}
 use Rattle.machine_scene.specs.Sound.{IsFrame, IsPlaced, IsSound, entries, bit, awaits}
 use Rattle.machine_scene.proofs.Entries.{entries-at, entries-pop}

@@ -1,16 +1,11 @@
 -- Turns of running threads at rows on registers alone.
-use Rattle.std.proofs.Common.{◌≡◌, ℕ, true, arith}
-use Rattle.std.specs.Prelude.{Some}
-use Rattle.instruction_table.specs.declared.row.Row.{Row}
-use Rattle.instruction_table.specs.LocalRows.{is_local_row}
+use Rattle.std.proofs.Common.{◌≡◌, ℕ, true, arith, Some}
+use Rattle.instruction_table.specs.{declared.row.Row.Row, LocalRows.is_local_row}
 use Rattle.loader.specs.Program.{Program}
-use Rattle.thread_state.specs.declared.status.Status.{Status}
+use Rattle.thread_state.specs.{declared.status.Status.Status, Thread.turn_of_local}
 use Rattle.thread_state.specs.declared.status.Status.TheVariants as status
-use Rattle.thread_state.specs.Thread.{turn_of_local}
-use Rattle.machine_scene.specs.Scene.{Scene, Outcome, thread_at, outcome_of_turn}
-use Rattle.machine_scene.specs.OwnRows.{outcome_of_own_row}
-use Rattle.machine_scene.specs.Outcomes.{outcome_in}
-use Rattle.machine_scene.specs.ReadySet.{is_local_turn}
+use Rattle.machine_scene.specs.{Scene.Scene, Scene.Outcome, Scene.thread_at, Scene.outcome_of_turn, OwnRows.outcome_of_own_row}
+use Rattle.machine_scene.specs.{Outcomes.outcome_in, ReadySet.is_local_turn}
 
 -- what a row on registers alone comes to
 abbrev local_outcome : Row → ℕ → Scene → Outcome

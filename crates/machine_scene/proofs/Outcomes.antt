@@ -1,22 +1,15 @@
 -- Each turn of a thread, and each expiry of a timed wait, leaves a sound scene sound.
-use Rattle.std.proofs.Common.{◌≡◌, ℕ, ◌+◌, ◌<◌, length, refl, subst, arith, rules}
-use Rattle.std.specs.Prelude.{Some, None}
-use Rattle.instruction_table.specs.declared.row.Row.{Row}
+use Rattle.std.proofs.Common.{◌≡◌, ℕ, ◌+◌, ◌<◌, length, refl, subst, arith, rules, Some, None}
+use Rattle.instruction_table.specs.declared.{row.Row.Row, group.Group.Group, group.Group.TheVariants.Own}
+use Rattle.instruction_table.specs.Group.{group_of}
 use Rattle.loader.specs.Program.{Program, row_at}
 use Rattle.thread_state.specs.declared.status.Status.{Status}
 use Rattle.thread_state.specs.declared.status.Status.TheVariants as status
-use Rattle.instruction_table.specs.declared.group.Group.{Group}
-use Rattle.instruction_table.specs.declared.group.Group.TheVariants.{Own}
-use Rattle.machine_scene.specs.Scene.{Scene, Outcome, thread_at}
-use Rattle.instruction_table.specs.Group.{group_of}
+use Rattle.machine_scene.specs.{Scene.Scene, Scene.Outcome, Scene.thread_at, Sound.IsSound}
 use Rattle.machine_scene.specs.Outcomes.{outcome_in_group, outcome_in, outcome_of, is_ready, timeout_in, outcome_of_expiry}
-use Rattle.machine_scene.specs.Sound.{IsSound}
-use Rattle.machine_scene.proofs.Facts.{next_within, named_at, placed_at}
-use Rattle.machine_scene.proofs.Plain.{KeepsSound, StandsAt, either}
-use Rattle.machine_scene.proofs.OwnRows.{sound_own_row, sound_getter_row}
-use Rattle.machine_scene.proofs.DataRows.{sound_data_row}
-use Rattle.machine_scene.proofs.CallRows.{sound_call_row, sound_popped}
-use Rattle.machine_scene.proofs.PhaserRows.{sound_phaser_row}
+use Rattle.machine_scene.proofs.{Facts.next_within, Facts.named_at, Facts.placed_at, DataRows.sound_data_row}
+use Rattle.machine_scene.proofs.{Plain.KeepsSound, Plain.StandsAt, Plain.either, CallRows.sound_call_row, CallRows.sound_popped}
+use Rattle.machine_scene.proofs.{OwnRows.sound_own_row, OwnRows.sound_getter_row, PhaserRows.sound_phaser_row}
 use Rattle.machine_scene.proofs.BarrierRows.{sound_barrier_row}
 use Rattle.machine_scene.proofs.Waits.{sound_phase_wait, sound_barrier_wait, sound_phase_timeout, sound_barrier_timeout}
 

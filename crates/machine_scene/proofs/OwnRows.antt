@@ -6,14 +6,10 @@ use Rattle.instruction_table.specs.declared.row.Row.TheVariants.{Halt, Ldi, Mov,
 use Rattle.loader.specs.Program.{Program}
 use Rattle.thread_state.specs.declared.event.What.TheVariants as what
 use Rattle.thread_state.specs.declared.status.Status.TheVariants as status
-use Rattle.thread_state.specs.Frame.{is_routine}
-use Rattle.thread_state.specs.Thread.{Turn, turn_of_throw, turn_of_halt, turn_of_local}
-use Rattle.machine_scene.specs.Scene.{Scene, thread_at, outcome_of_turn}
-use Rattle.machine_scene.specs.OwnRows.{outcome_of_own_row}
+use Rattle.thread_state.specs.{Frame.is_routine, Thread.Turn, Thread.turn_of_throw, Thread.turn_of_halt, Thread.turn_of_local}
+use Rattle.machine_scene.specs.{Scene.Scene, Scene.thread_at, Scene.outcome_of_turn, OwnRows.outcome_of_own_row, Sound.IsSound}
 use Rattle.machine_scene.specs.GetterRows.{outcome_of_getter_row}
-use Rattle.machine_scene.specs.Sound.{IsSound}
-use Rattle.machine_scene.proofs.Facts.{RunsOn, EndsOn}
-use Rattle.machine_scene.proofs.Plain.{KeepsSound, StandsAt, either, free_in}
+use Rattle.machine_scene.proofs.{Facts.RunsOn, Facts.EndsOn, Plain.KeepsSound, Plain.StandsAt, Plain.either, Plain.free_in}
 use Rattle.machine_scene.proofs.Turns.{KeepsStack, throw_keeps, sound_alone, sound_answer}
 
 -- a row on registers alone

@@ -1,33 +1,23 @@
 -- Rows that register at a phaser, arrive, wait or terminate.
-use Rattle.std.proofs.Common.{◌≡◌, ℕ, ℤ, pos, ◌+◌, ◌<◌, Bool, false, List, length, refl, arith, if◌then◌else◌, rules}
-use Rattle.std.specs.Prelude.{◌&&◌, not, nat_abs, int_lt, Option, Some, None}
+use Rattle.std.proofs.Common.{◌≡◌, ℕ, ℤ, pos, ◌+◌, ◌<◌, Bool, false, List, length, refl, arith, if◌then◌else◌, rules, ◌&&◌, not, nat_abs, int_lt, Option, Some, None}
 use Rattle.std.specs.Ordering.{int_eq}
-use Rattle.instruction_table.specs.declared.row.Row.{Row}
-use Rattle.instruction_table.specs.declared.row.Row.TheVariants.{Preg, Pforce}
+use Rattle.instruction_table.specs.declared.row.Row.{Row, TheVariants.Preg, TheVariants.Pforce}
 use Rattle.instruction_table.specs.declared.register.Reg.{Reg}
 use Rattle.packed_phaser.specs.Flat.{view_of}
-use Rattle.tier_tree.specs.declared.registered.Registered.{Registered}
+use Rattle.tier_tree.specs.declared.{registered.Registered.Registered, arrived.Arrived.Arrived, id.PhaserId.PhaserId}
+use Rattle.tier_tree.specs.{Forest.PhaserState, Forest.flat_at, Arrival.arrival, PhaseEnd.after_phase_end, PhaseEnd.after_force}
 use Rattle.tier_tree.specs.declared.registered.Registered.TheVariants as registered
-use Rattle.tier_tree.specs.declared.arrived.Arrived.{Arrived}
 use Rattle.tier_tree.specs.declared.arrived.Arrived.TheVariants as arrived
-use Rattle.tier_tree.specs.declared.id.PhaserId.{PhaserId}
-use Rattle.tier_tree.specs.Forest.{PhaserState, flat_at}
-use Rattle.tier_tree.specs.Arrival.{arrival}
-use Rattle.tier_tree.specs.PhaseEnd.{after_phase_end, after_force}
 use Rattle.tier_tree.proofs.Trees.{KeepsTrees, trees_registered, trees_arrived, trees_forced, trees_turned_at_once, more_trees}
-use Rattle.loader.specs.Named.{stops}
-use Rattle.loader.specs.Program.{Program}
+use Rattle.loader.specs.{Named.stops, Program.Program}
 use Rattle.thread_state.specs.declared.status.Status.TheVariants as status
 use Rattle.thread_state.specs.Thread.{ThreadState, Turn, is_full, turn_of_throw, turn_of_interruption, turn_of_answer, turn_of_done, turn_of_wait}
-use Rattle.machine_scene.specs.declared.manner.Manner.{Manner}
-use Rattle.machine_scene.specs.declared.patience.Patience.{Patience}
-use Rattle.machine_scene.specs.declared.patience.Patience.TheVariants as patience
+use Rattle.machine_scene.specs.{declared.manner.Manner.Manner, declared.patience.Patience.Patience, Sound.IsSound}
 use Rattle.machine_scene.specs.Scene.{Scene, Outcome, thread_at, routine_at, with_phasers, outcome_of_turn}
 use Rattle.machine_scene.specs.PhaserRows.{is_own_tree, has_routine, answer_of_policy, turn_of_arrival, turn_of_patience, turn_of_await, unless_own, outcome_of_pending_end, outcome_of_arrived, outcome_with_room, outcome_of_arrival, outcome_of_registered, outcome_of_registration, outcome_of_bulk, outcome_of_await, outcome_of_force, outcome_of_phaser_row}
-use Rattle.machine_scene.specs.Sound.{IsSound}
-use Rattle.machine_scene.proofs.Facts.{RunsOn, routine_within}
+use Rattle.machine_scene.specs.declared.patience.Patience.TheVariants as patience
+use Rattle.machine_scene.proofs.{Facts.RunsOn, Facts.routine_within, Routines.turning_root, Routines.sound_enter}
 use Rattle.machine_scene.proofs.Plain.{KeepsSound, StandsAt, either, free_in}
-use Rattle.machine_scene.proofs.Routines.{turning_root, sound_enter}
 use Rattle.machine_scene.proofs.Turns.{KeepsStack, throw_keeps, interruption_keeps, answer_keeps, done_keeps, wait_keeps, sound_alone, sound_with_trees, sound_throw}
 
 -- a registration, by its answer

@@ -1,14 +1,11 @@
 -- What a turn may count on in a sound scene, said of the scene as it is stored.
-use Rattle.std.proofs.Common.{◌≡◌, ◌∙◌, ℕ, ◌<◌, length, sym, subst, arith}
-use Rattle.std.specs.Prelude.{Option, Some}
+use Rattle.std.proofs.Common.{◌≡◌, ◌∙◌, ℕ, ◌<◌, length, sym, subst, arith, Option, Some}
 use Rattle.instruction_table.specs.declared.row.Row.{Row}
 use Rattle.tier_tree.proofs.Shown.{length-shown}
 use Rattle.cyclic_barrier.specs.Barrier.{has_wait}
 use Rattle.loader.specs.Program.{Program, IsNamed, row_at}
-use Rattle.thread_state.specs.declared.frame.Frame.{Frame}
+use Rattle.thread_state.specs.{declared.frame.Frame.Frame, declared.status.Status.Status, Thread.top_of}
 use Rattle.thread_state.specs.declared.frame.Frame.TheVariants as frame
-use Rattle.thread_state.specs.declared.status.Status.{Status}
-use Rattle.thread_state.specs.Thread.{top_of}
 use Rattle.machine_scene.specs.Scene.{Scene, StoredScene, scene_of, counts_in, thread_at, barrier_at}
 use Rattle.machine_scene.specs.Sound.{IsSound, HasItsWait, SeesWait, StandsAt, IsTop, awaits}
 use Rattle.machine_scene.proofs.Facts.{named_at, placed_at, top_named, advance_pending, action_runs}

@@ -1,22 +1,16 @@
 -- Turns that gain no entry of a routine or an action.
-use Rattle.std.proofs.Common.{◌≡◌, ℕ, ℤ, ◌+◌, ◌-◌, ◌<◌, ◌≤◌, Bool, true, false, cond, List, [], ◌∷◌, ◌++◌, take, length, refl, sym, subst, arith}
-use Rattle.std.specs.Prelude.{Option, Some, None, slice_set, count_by, All}
+use Rattle.std.proofs.Common.{◌≡◌, ℕ, ℤ, ◌+◌, ◌-◌, ◌<◌, ◌≤◌, Bool, true, false, cond, List, [], ◌∷◌, ◌++◌, take, length, refl, sym, subst, arith, Option, Some, None, slice_set, count_by, All}
 use Rattle.std.proofs.lemmas.List.Elements.{All-take, All-push}
 use Rattle.instruction_table.specs.declared.row.Row.{Row}
-use Rattle.tier_tree.specs.Forest.{PhaserState}
-use Rattle.tier_tree.specs.Trees.{AreTrees}
+use Rattle.tier_tree.specs.{Forest.PhaserState, Trees.AreTrees}
 use Rattle.tier_tree.proofs.Trees.{KeepsTrees, trees_same, more_trees}
-use Rattle.loader.specs.Named.{stops}
-use Rattle.loader.specs.Program.{Program, IsNamed, row_at}
-use Rattle.thread_state.specs.declared.frame.Frame.{Frame}
-use Rattle.thread_state.specs.declared.frame.Frame.TheVariants as frame
-use Rattle.thread_state.specs.declared.status.Status.{Status}
-use Rattle.thread_state.specs.Frame.{is_advance, is_action}
+use Rattle.loader.specs.{Named.stops, Program.Program, Program.IsNamed, Program.row_at}
+use Rattle.thread_state.specs.{declared.frame.Frame.Frame, declared.status.Status.Status, Frame.is_advance, Frame.is_action}
 use Rattle.thread_state.specs.Thread.{ThreadState, top_of}
+use Rattle.thread_state.specs.declared.frame.Frame.TheVariants as frame
 use Rattle.machine_scene.specs.Scene.{Scene, Outcome, counts_of, thread_at}
 use Rattle.machine_scene.specs.Sound.{IsFrame, IsPlaced, IsSound, bit, thread_awaits}
-use Rattle.machine_scene.proofs.Entries.{entries-pop, entries-push}
-use Rattle.machine_scene.proofs.Facts.{IsFree, placed_at}
+use Rattle.machine_scene.proofs.{Entries.entries-pop, Entries.entries-push, Facts.IsFree, Facts.placed_at}
 use Rattle.machine_scene.proofs.Soundness.{sound_by, waits_same}
 
 -- where there is an outcome, its scene is sound

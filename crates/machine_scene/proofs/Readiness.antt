@@ -1,16 +1,11 @@
 -- Which turns have an outcome.
-use Rattle.std.proofs.Common.{◌≡◌, ◌≢◌, ℕ, ℤ, Bool, true, false, refl, if◌then◌else◌, arith, rules}
-use Rattle.std.specs.Prelude.{Option, Some, None, is_some, not}
-use Rattle.instruction_table.specs.declared.row.Row.{Row}
-use Rattle.instruction_table.specs.declared.register.Reg.{Reg}
+use Rattle.std.proofs.Common.{◌≡◌, ◌≢◌, ℕ, ℤ, Bool, true, false, refl, if◌then◌else◌, arith, rules, Option, Some, None, is_some, not}
+use Rattle.instruction_table.specs.declared.{row.Row.Row, register.Reg.Reg}
 use Rattle.cyclic_barrier.specs.declared.answer.WaitState.{WaitState}
 use Rattle.cyclic_barrier.specs.declared.answer.WaitState.TheVariants as state
 use Rattle.loader.specs.Program.{Program, row_at}
-use Rattle.machine_scene.specs.Scene.{Scene, Outcome, thread_at}
-use Rattle.machine_scene.specs.PhaserRows.{unless_own}
-use Rattle.machine_scene.specs.Waits.{outcome_of_release}
-use Rattle.machine_scene.specs.Outcomes.{outcome_of_row, outcome_of_expiry, timeout_in}
-use Rattle.machine_scene.specs.Ready.{is_blocked}
+use Rattle.machine_scene.specs.{Scene.Scene, Scene.Outcome, Scene.thread_at, PhaserRows.unless_own, Waits.outcome_of_release}
+use Rattle.machine_scene.specs.{Outcomes.outcome_of_row, Outcomes.outcome_of_expiry, Outcomes.timeout_in, Ready.is_blocked}
 
 -- a row that throws or does what it does has an outcome
 own_is_ready : (p t : ℕ) (scene : Scene) (outcome : Outcome) → is_some (unless_own p t scene (Some outcome)) ≡ true

@@ -1,16 +1,12 @@
 -- The sets that are kept of a scene: threads that aren't there, and what a step leaves of the sets.
-use Rattle.std.proofs.Common.{◌≡◌, ◌≢◌, ◌∙◌, ℕ, arith, ◌≤◌, ◌==◌, ◌&&◌, not, Bool, true, false, ap, refl, sym, rules}
-use Rattle.std.specs.Prelude.{length}
-use Rattle.std.proofs.Math.ListN.{get_or-eq_default}
-use Rattle.std.proofs.lemmas.Bool.{cases_eq}
+use Rattle.std.proofs.Common.{◌≡◌, ◌≢◌, ◌∙◌, ℕ, arith, ◌≤◌, ◌==◌, ◌&&◌, not, Bool, true, false, ap, refl, sym, rules, length}
+use Rattle.std.proofs.{Math.ListN.get_or-eq_default, lemmas.Bool.cases_eq}
 use Rattle.instruction_table.specs.declared.row.Row.{Row}
 use Rattle.cyclic_barrier.specs.ThreadSet.{has}
 use Rattle.loader.specs.Program.{Program, row_at}
 use Rattle.thread_state.specs.declared.status.Status.{Status}
-use Rattle.machine_scene.specs.declared.ready_set.ReadySet.{ReadySet}
-use Rattle.machine_scene.specs.Scene.{Scene, no_thread, thread_at}
-use Rattle.machine_scene.specs.Outcomes.{is_ready}
-use Rattle.machine_scene.specs.Ready.{may_be_blocked}
+use Rattle.machine_scene.specs.{declared.ready_set.ReadySet.ReadySet, Scene.Scene, Scene.no_thread, Scene.thread_at}
+use Rattle.machine_scene.specs.{Outcomes.is_ready, Ready.may_be_blocked}
 use Rattle.machine_scene.specs.ReadySet.{is_registering_in, is_registering, AreReady, IsSetAt, AreLooked, IsLooked, AreOthersReady, AreReadyBeside, interrupts, changes_tree, runs_on}
 use Rattle.machine_scene.proofs.ReadyThreads.{ready_as_listed}
 use Rattle.machine_scene.proofs.ThreadSets.{tested_at, all_right, apart_from, nobody, IsFilledTo, filled_all}

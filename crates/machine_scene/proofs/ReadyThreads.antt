@@ -2,8 +2,7 @@
 use Rattle.std.proofs.Common.{◌≡◌, ℕ, ℤ, not, ◌&&◌, is_some, arith}
 use Rattle.instruction_table.specs.declared.row.Row.{Row}
 use Rattle.loader.specs.Program.{Program, row_at}
-use Rattle.machine_scene.specs.Scene.{Scene, thread_at}
-use Rattle.machine_scene.specs.Waits.{outcome_of_phase_wait, outcome_of_barrier_wait}
+use Rattle.machine_scene.specs.{Scene.Scene, Scene.thread_at, Waits.outcome_of_phase_wait, Waits.outcome_of_barrier_wait}
 use Rattle.machine_scene.specs.Outcomes.{is_ready, outcome_of_expiry}
 use Rattle.machine_scene.specs.Ready.{is_awaited, is_over, is_listed, can_run_out}
 use Rattle.machine_scene.proofs.Readiness.{row_is_ready}

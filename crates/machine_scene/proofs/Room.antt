@@ -1,10 +1,7 @@
 -- Where a tree has a routine, an arrival that begins it found room on its thread's stack.
-use Rattle.std.proofs.Common.{◌≡◌, ℕ, Bool, false, arith}
-use Rattle.std.specs.Prelude.{None, ◌&&◌}
-use Rattle.packed_phaser.specs.declared.policy.Policy.{Policy}
-use Rattle.packed_phaser.specs.Policy.{ends}
-use Rattle.tier_tree.specs.Forest.{root_at}
-use Rattle.tier_tree.specs.Answer.{KeepsPlaces}
+use Rattle.std.proofs.Common.{◌≡◌, ℕ, Bool, false, arith, None, ◌&&◌}
+use Rattle.packed_phaser.specs.{declared.policy.Policy.Policy, Policy.ends}
+use Rattle.tier_tree.specs.{Forest.root_at, Answer.KeepsPlaces}
 use Rattle.tier_tree.proofs.Trees.{policy_same}
 use Rattle.thread_state.specs.Thread.{is_full}
 use Rattle.machine_scene.specs.Scene.{Scene, thread_at}

@@ -1,27 +1,19 @@
 -- Into an advance routine, and out of it.
-use Rattle.std.proofs.Common.{inl, inr, ◌≡◌, ◌≢◌, ◌∙◌, ℕ, ℤ, ◌+◌, ◌-◌, ◌<◌, ◌≤◌, ◌==◌, Bool, true, false, List, [], ◌∷◌, ◌++◌, take, length, ap, refl, sym, subst, arith}
-use Rattle.std.specs.Prelude.{Some, slice_set, count_by, All}
-use Rattle.std.proofs.lemmas.Bool.{cases_eq}
-use Rattle.std.proofs.lemmas.List.Elements.{All-take, All-push}
+use Rattle.std.proofs.Common.{inl, inr, ◌≡◌, ◌≢◌, ◌∙◌, ℕ, ℤ, ◌+◌, ◌-◌, ◌<◌, ◌≤◌, ◌==◌, Bool, true, false, List, [], ◌∷◌, ◌++◌, take, length, ap, refl, sym, subst, arith, Some, slice_set, count_by, All}
+use Rattle.std.proofs.lemmas.{Bool.cases_eq, List.Elements.All-take, List.Elements.All-push}
 use Rattle.tier_tree.specs.declared.arrived.Arrived.TheVariants as arrived
-use Rattle.tier_tree.specs.declared.id.PhaserId.{PhaserId}
-use Rattle.tier_tree.specs.Forest.{PhaserState, flat_at, root_at}
-use Rattle.tier_tree.specs.Arrival.{Arrives, arrival}
-use Rattle.tier_tree.specs.PhaseEnd.{after_phase_end}
-use Rattle.tier_tree.specs.Trees.{AreTrees, is_pending}
+use Rattle.tier_tree.specs.{declared.id.PhaserId.PhaserId, Forest.PhaserState, Forest.flat_at, Forest.root_at}
+use Rattle.tier_tree.specs.{Arrival.Arrives, Arrival.arrival, PhaseEnd.after_phase_end, Trees.AreTrees, Trees.is_pending}
 use Rattle.tier_tree.proofs.Trees.{CanEnd, trees_arrived, trees_turned, arrived_can_turn, if_turning, more_trees}
 use Rattle.tier_tree.proofs.Stands.{same-is, other-is}
 use Rattle.loader.specs.Program.{Program}
-use Rattle.thread_state.specs.declared.frame.Frame.{Frame}
-use Rattle.thread_state.specs.declared.frame.Frame.TheVariants as frame
-use Rattle.thread_state.specs.Frame.{is_advance, is_action}
+use Rattle.thread_state.specs.{declared.frame.Frame.Frame, Frame.is_advance, Frame.is_action}
 use Rattle.thread_state.specs.Thread.{ThreadState, Turn, top_of, turn_of_advance}
+use Rattle.thread_state.specs.declared.frame.Frame.TheVariants as frame
 use Rattle.machine_scene.specs.Scene.{Scene, thread_at, with_phasers, outcome_of_turn}
 use Rattle.machine_scene.specs.Sound.{IsFrame, IsSound, bit}
-use Rattle.machine_scene.proofs.Entries.{entries-pop, entries-push}
-use Rattle.machine_scene.proofs.Facts.{IsFree, placed_at}
-use Rattle.machine_scene.proofs.Soundness.{sound_by, waits_same}
-use Rattle.machine_scene.proofs.Plain.{both_free, pending_more}
+use Rattle.machine_scene.proofs.{Entries.entries-pop, Entries.entries-push, Facts.IsFree, Facts.placed_at}
+use Rattle.machine_scene.proofs.{Soundness.sound_by, Soundness.waits_same, Plain.both_free, Plain.pending_more}
 
 pub least : (b : Bool) → bit b ≤ 1
 least true = omega arith

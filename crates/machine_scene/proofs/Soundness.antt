@@ -1,15 +1,10 @@
 -- What a turn has to keep, so that the scene after it is sound.
-use Rattle.std.proofs.Common.{◌≡◌, ℕ, ◌+◌, ◌<◌, ◌≤◌, length, arith, rules}
-use Rattle.std.specs.Prelude.{is_some, slice_set, count_by}
-use Rattle.std.proofs.lemmas.Bool.{cases_eq}
-use Rattle.std.proofs.lemmas.List.{length-set, get_or-set_same, get_or-set_other}
-use Rattle.std.proofs.lemmas.List.Elements.{All-set, All-weaker}
-use Rattle.tier_tree.specs.Forest.{flat_at, root_at}
-use Rattle.tier_tree.specs.Trees.{AreTrees, is_pending}
+use Rattle.std.proofs.Common.{◌≡◌, ℕ, ◌+◌, ◌<◌, ◌≤◌, length, arith, rules, is_some, slice_set, count_by, length-set, get_or-set_same, get_or-set_other}
+use Rattle.std.proofs.lemmas.{Bool.cases_eq, List.Elements.All-set, List.Elements.All-weaker}
+use Rattle.tier_tree.specs.{Forest.flat_at, Forest.root_at, Trees.AreTrees, Trees.is_pending}
 use Rattle.cyclic_barrier.specs.Barrier.{has_wait}
 use Rattle.loader.specs.Program.{Program}
-use Rattle.thread_state.specs.Frame.{is_advance, is_action}
-use Rattle.thread_state.specs.Thread.{ThreadState}
+use Rattle.thread_state.specs.{Frame.is_advance, Frame.is_action, Thread.ThreadState}
 use Rattle.machine_scene.specs.Scene.{Scene, thread_at, barrier_at}
 use Rattle.machine_scene.specs.Sound.{IsPlaced, IsSound, bit, thread_awaits}
 use Rattle.machine_scene.proofs.Entries.{entries-set}

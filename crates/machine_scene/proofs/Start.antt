@@ -1,20 +1,14 @@
 -- The first scene of a loaded program is sound.
-use Rattle.std.proofs.Common.{◌≡◌, ◌≤◌, ◌∙◌, ℕ, zero, suc, Bool, false, List, [], ◌∷◌, length, map, replicate, get_or, ap, refl, sym, arith}
-use Rattle.std.specs.Prelude.{is_some, Option, None, All}
-use Rattle.std.proofs.lemmas.Bool.{cases_lt}
-use Rattle.std.proofs.lemmas.List.{length-map, length-replicate, get_or-replicate, get_or_past}
+use Rattle.std.proofs.Common.{◌≡◌, ◌≤◌, ◌∙◌, ℕ, zero, suc, Bool, false, List, [], ◌∷◌, length, map, replicate, get_or, ap, refl, sym, arith, is_some, Option, None, All}
+use Rattle.std.proofs.lemmas.{Bool.cases_lt, List.length-map, List.length-replicate, List.get_or-replicate, List.get_or_past}
 use Rattle.std.proofs.lemmas.List.Elements.{All-map}
-use Rattle.tier_tree.specs.Forest.{PhaserState}
-use Rattle.tier_tree.specs.Sound.{IsForest}
-use Rattle.tier_tree.specs.Stored.{phasers_of, IsStored}
+use Rattle.tier_tree.specs.{Forest.PhaserState, Sound.IsForest, Stored.phasers_of, Stored.IsStored}
 use Rattle.tier_tree.proofs.Shown.{length-shown}
-use Rattle.cyclic_barrier.specs.declared.answer.WaitState.{WaitState}
-use Rattle.cyclic_barrier.specs.Waits.{wait_at}
+use Rattle.cyclic_barrier.specs.{declared.answer.WaitState.WaitState, Waits.wait_at}
 use Rattle.cyclic_barrier.specs.Barrier.{BarrierState, has_wait, fresh}
 use Rattle.row_code.specs.declared.threads.DeclaredThread.{DeclaredThread}
 use Rattle.loader.specs.Program.{Program, AreNewBarriers, AreNewTrees, CanStart, IsCode, IsProgram, IsNewBarrier, row_at}
-use Rattle.thread_state.specs.declared.frame.Frame.{Frame}
-use Rattle.thread_state.specs.Frame.{is_advance, is_action}
+use Rattle.thread_state.specs.{declared.frame.Frame.Frame, Frame.is_advance, Frame.is_action}
 use Rattle.machine_scene.specs.Scene.{Scene, counts_of, no_thread, thread_at, starting, first_scene}
 use Rattle.machine_scene.specs.Sound.{IsPlaced, IsSound, entries}
 use Rattle.machine_scene.proofs.Facts.{IsFree, RunsOn, EndsOn, free_awaits}

@@ -1,37 +1,25 @@
 -- A step leaves every other thread as ready as it was, unless its event shows more than a turn of its own thread, its row
 -- interrupts that thread, or the thread is about to register and the step changes a tree.
-use Rattle.std.proofs.Common.{◌≡◌, ◌≢◌, ◌∙◌, ℕ, ℤ, pos, zero, suc, ◌&&◌, Bool, true, false, List, [], ◌∷◌, ap, refl, sym, arith, rules}
-use Rattle.std.specs.Prelude.{nat_abs, int_lt, Option, Some, None, slice_set, slice_index_or}
-use Rattle.std.proofs.lemmas.List.{get_or-set_other}
-use Rattle.instruction_table.specs.declared.row.Row.{Row}
+use Rattle.std.proofs.Common.{◌≡◌, ◌≢◌, ◌∙◌, ℕ, ℤ, pos, zero, suc, ◌&&◌, Bool, true, false, List, [], ◌∷◌, ap, refl, sym, arith, rules, nat_abs, int_lt, Option, Some, None, slice_set, slice_index_or, get_or-set_other}
+use Rattle.instruction_table.specs.declared.{row.Row.Row, register.Reg.Reg, group.Group.Group}
 use Rattle.instruction_table.specs.declared.row.Row.TheVariants.{Preg, Parr, Pdereg, Paaa, Cawait}
-use Rattle.instruction_table.specs.declared.register.Reg.{Reg}
-use Rattle.tier_tree.specs.Stored.{Stored, phasers_of}
-use Rattle.tier_tree.specs.Registration.{registration, after_registration}
-use Rattle.cyclic_barrier.specs.declared.answer.Entered.{Entered}
-use Rattle.cyclic_barrier.specs.declared.answer.Entered.TheVariants as entered
-use Rattle.cyclic_barrier.specs.declared.answer.WaitState.{WaitState}
-use Rattle.cyclic_barrier.specs.declared.answer.WaitState.TheVariants as state
-use Rattle.cyclic_barrier.specs.ThreadSet.{has}
+use Rattle.tier_tree.specs.{Stored.Stored, Stored.phasers_of, Registration.registration, Registration.after_registration}
+use Rattle.cyclic_barrier.specs.{declared.answer.Entered.Entered, declared.answer.WaitState.WaitState, ThreadSet.has}
 use Rattle.cyclic_barrier.specs.Waits.{wait_at}
 use Rattle.cyclic_barrier.specs.Barrier.{BarrierState, Entry, fresh, enter_beside, enter_timed, leave}
+use Rattle.cyclic_barrier.specs.declared.answer.Entered.TheVariants as entered
+use Rattle.cyclic_barrier.specs.declared.answer.WaitState.TheVariants as state
 use Rattle.loader.specs.Program.{Program}
-use Rattle.thread_state.specs.declared.event.Event.{Event}
-use Rattle.thread_state.specs.declared.frame.Frame.{Frame}
-use Rattle.thread_state.specs.declared.status.Status.{Status}
+use Rattle.thread_state.specs.declared.{event.Event.Event, frame.Frame.Frame, status.Status.Status}
 use Rattle.thread_state.specs.Thread.{ThreadState, top_of, is_full, interrupted}
-use Rattle.instruction_table.specs.declared.group.Group.{Group}
-use Rattle.machine_scene.specs.declared.manner.Manner.{Manner}
-use Rattle.machine_scene.specs.Manner.{manner_of}
+use Rattle.machine_scene.specs.{declared.manner.Manner.Manner, Manner.manner_of, Undo.PhasersWithin, Undo.reach_in}
 use Rattle.machine_scene.specs.Scene.{Scene, StoredScene, Outcome, scene_of, thread_at, barrier_at, with_thread, with_phasers, with_barrier}
 use Rattle.machine_scene.specs.PhaserRows.{is_own_tree, is_past, unless_own, outcome_of_registered, outcome_of_bulk, outcome_of_phaser_row, outcome_of_arrival}
 use Rattle.machine_scene.specs.BarrierRows.{is_run_by, unless_busy, unless_runner, outcome_of_entered, outcome_of_await_at, outcome_of_barrier_row}
 use Rattle.machine_scene.specs.Waits.{outcome_of_awaited, outcome_of_phase_wait, outcome_of_release, outcome_of_barrier_wait}
 use Rattle.machine_scene.specs.Outcomes.{outcome_in_group, outcome_in, is_ready, timeout_in}
 use Rattle.machine_scene.specs.ReadySet.{is_registering, KnowsReady, AreOthersReady, interrupts, changes_tree, is_loud, changes_all}
-use Rattle.machine_scene.specs.Undo.{PhasersWithin, reach_in}
-use Rattle.machine_scene.proofs.Plain.{either}
-use Rattle.machine_scene.proofs.ReadyThreads.{ready_as_listed}
+use Rattle.machine_scene.proofs.{Plain.either, ReadyThreads.ready_as_listed}
 use Rattle.machine_scene.proofs.Standings.{KeepsStandings, registration-standings, arrival-standings}
 
 -- what the turn of thread u is ready by is the same, but for what a registration looks at

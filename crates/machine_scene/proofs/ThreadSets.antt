@@ -1,13 +1,11 @@
 -- Sets of threads of which one is looked at.
 use Rattle.std.proofs.Common.{sym, arith, w64, ◌≤◌, ◌≢◌, ◌≡◌, ◌∙◌, ℕ, ◌-◌, ◌*◌, ◌%◌, ◌^◌, ◌<◌, ◌==◌, Bool, true, false, refl, ap, bit_and, bit_or, if◌then◌else◌}
+use Rattle.std.proofs.lemmas.{Bool.cases_eq, Bool.cases_lt, Nat.Bits.bit_at-trailing_zeros}
 use Rattle.cyclic_barrier.specs.ThreadSet.{has}
 use Rattle.machine_scene.specs.ReadySet.{IsSetAt}
-use Rattle.cyclic_barrier.proofs.ThreadSetLemmas.{has-with, has-without}
-use Rattle.cyclic_barrier.proofs.WaitsLemmas.{has-none}
+use Rattle.cyclic_barrier.proofs.{ThreadSetLemmas.has-with, ThreadSetLemmas.has-without, WaitsLemmas.has-none}
 use Rattle.tier_tree.proofs.Stands.{same-is, other-is}
 use Rattle.std.specs.Int.{trailing_zeros}
-use Rattle.std.proofs.lemmas.Bool.{cases_eq, cases_lt}
-use Rattle.std.proofs.lemmas.Nat.Bits.{bit_at-trailing_zeros}
 
 pub set_with : (a k : ℕ) → k < 64 → (t : ℕ)
     → has (bit_or a (1 * 2 ^ k % 18446744073709551616)) t ≡ (if k == t then true else has a t)

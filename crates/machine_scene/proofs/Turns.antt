@@ -1,24 +1,18 @@
 -- Turns that leave a thread's stack as it is, whatever they do beside it.
-use Rattle.std.proofs.Common.{◌≡◌, ◌∙◌, ℕ, ℤ, pos, ◌+◌, ◌<◌, ◌==◌, ◌&&◌, ◌||◌, not, Bool, true, false, List, length, ap, refl, sym, subst, arith}
-use Rattle.std.specs.Prelude.{is_some, Option, All}
+use Rattle.std.proofs.Common.{◌≡◌, ◌∙◌, ℕ, ℤ, pos, ◌+◌, ◌<◌, ◌==◌, ◌&&◌, ◌||◌, not, Bool, true, false, List, length, ap, refl, sym, subst, arith, is_some, Option, All, get_or-set_same, get_or-set_other}
 use Rattle.std.proofs.lemmas.Bool.{cases_eq}
-use Rattle.std.proofs.lemmas.List.{get_or-set_same, get_or-set_other}
-use Rattle.instruction_table.specs.declared.row.Row.{Row}
-use Rattle.instruction_table.specs.declared.register.Reg.{Reg}
+use Rattle.instruction_table.specs.declared.{row.Row.Row, register.Reg.Reg}
 use Rattle.tier_tree.specs.Forest.{PhaserState}
-use Rattle.tier_tree.proofs.Trees.{KeepsTrees}
-use Rattle.tier_tree.proofs.Stands.{same-is}
+use Rattle.tier_tree.proofs.{Trees.KeepsTrees, Stands.same-is}
 use Rattle.cyclic_barrier.specs.Barrier.{BarrierState, has_wait}
-use Rattle.loader.specs.Named.{stops}
-use Rattle.loader.specs.Program.{Program, row_at}
+use Rattle.loader.specs.{Named.stops, Program.Program, Program.row_at}
 use Rattle.thread_state.specs.declared.status.Status.{Status}
-use Rattle.thread_state.specs.declared.status.Status.TheVariants as status
 use Rattle.thread_state.specs.Thread.{ThreadState, Turn, turn_of_throw, turn_of_interruption, turn_of_answer, turn_of_done, turn_of_wait, turn_of_barrier_wait}
+use Rattle.thread_state.specs.declared.status.Status.TheVariants as status
 use Rattle.machine_scene.specs.Scene.{Scene, thread_at, barrier_at, with_thread, with_phasers, with_barrier, outcome_of_turn}
 use Rattle.machine_scene.specs.Sound.{IsFrame, IsSound, bit, awaits, is_wait_row, thread_awaits}
 use Rattle.machine_scene.proofs.Facts.{IsFree, RunsOn, ThrowsOn, AwaitsOn, free_awaits, placed_at}
-use Rattle.machine_scene.proofs.Plain.{StandsAt, free_in, sound_stay, sound_own}
-use Rattle.machine_scene.proofs.Routines.{other-no}
+use Rattle.machine_scene.proofs.{Plain.StandsAt, Plain.free_in, Plain.sound_stay, Plain.sound_own, Routines.other-no}
 use Rattle.machine_scene.proofs.Barriers.{sound_gate, sound_aside}
 
 -- after the turn the thread stands at a row, with the stack of before, and awaits no barrier

@@ -1,26 +1,18 @@
 -- A turn, or an expiry: a sound scene stays sound, and it is undone to the word.
-use Rattle.std.proofs.Common.{◌≡◌, ◌∙◌, ℕ, ◌<◌, length, ap, refl, sym, subst, arith}
-use Rattle.std.specs.Prelude.{Option, Some, None}
-use Rattle.std.proofs.lemmas.List.{length-set}
+use Rattle.std.proofs.Common.{◌≡◌, ◌∙◌, ℕ, ◌<◌, length, ap, refl, sym, subst, arith, Option, Some, None, length-set}
 use Rattle.instruction_table.specs.declared.row.Row.{Row}
 use Rattle.tier_tree.specs.Stored.{IsStored}
 use Rattle.tier_tree.proofs.Changed.{restored_line}
 use Rattle.loader.specs.Program.{Program, IsNamed, row_at}
-use Rattle.thread_state.specs.declared.event.Event.{Event}
-use Rattle.thread_state.specs.Thread.{top_of}
+use Rattle.thread_state.specs.{declared.event.Event.Event, Thread.top_of}
 use Rattle.thread_state.specs.Undo as own
-use Rattle.machine_scene.specs.declared.ready_set.ReadySet.{ReadySet}
-use Rattle.machine_scene.specs.declared.reach.Reach.{Reach}
+use Rattle.machine_scene.specs.{declared.ready_set.ReadySet.ReadySet, declared.reach.Reach.Reach, Sound.IsSound}
 use Rattle.machine_scene.specs.Scene.{StoredScene, Outcome, scene_of, counts_in, thread_at}
-use Rattle.machine_scene.specs.Sound.{IsSound}
 use Rattle.machine_scene.specs.Outcomes.{outcome_in, outcome_of, is_ready, outcome_of_expiry}
 use Rattle.machine_scene.specs.Undo.{Note, IsThere, PhasersWithin, CanUndo, reach_in, reach_of, touched_by, undone}
 use Rattle.machine_scene.specs.Played.{IsPlayed}
-use Rattle.machine_scene.proofs.Outcomes.{sound_outcome, sound_timeout}
-use Rattle.machine_scene.proofs.Plain.{either}
-use Rattle.machine_scene.proofs.Placed.{turn_placed, top_placed}
-use Rattle.machine_scene.proofs.Reaches.{reach_there}
-use Rattle.machine_scene.proofs.Undone.{GivesBack, BackIf}
+use Rattle.machine_scene.proofs.{Outcomes.sound_outcome, Outcomes.sound_timeout, Plain.either, Reaches.reach_there}
+use Rattle.machine_scene.proofs.{Placed.turn_placed, Placed.top_placed, Undone.GivesBack, Undone.BackIf}
 use Rattle.machine_scene.proofs.UndoneRows.{NamesThread, back_in, back_timeout}
 
 -- the note gives the scene back, and may be used

@@ -1,16 +1,13 @@
 -- A turn that is undone: its own thread, and the one thing beside it that the turn could change.
-use Rattle.std.proofs.Common.{inl, inr, ◌≡◌, ◌∙◌, ℕ, ℤ, pos, ◌-◌, ◌<◌, false, List, [], ◌∷◌, ◌++◌, length, take, refl, sym, subst, arith}
-use Rattle.std.specs.Prelude.{Option, Some, None, option_to_list, slice_set, slice_index_or}
-use Rattle.std.proofs.lemmas.Bool.{cases_eq}
-use Rattle.std.proofs.lemmas.List.{set-set, set-get_or, get_or-set_same, get_or-set_other, ext_get_or, length-set, take-append-le, take-take, take_all}
+use Rattle.std.proofs.Common.{inl, inr, ◌≡◌, ◌∙◌, ℕ, ℤ, pos, ◌-◌, ◌<◌, false, List, [], ◌∷◌, ◌++◌, length, take, refl, sym, subst, arith, Option, Some, None, option_to_list, slice_set, slice_index_or, set-set, get_or-set_same, get_or-set_other, ext_get_or, length-set, take-take, take_all}
+use Rattle.std.proofs.lemmas.{Bool.cases_eq, List.set-get_or, List.take-append-le}
 use Rattle.tier_tree.specs.Forest.{PhaserState}
 use Rattle.cyclic_barrier.specs.Barrier.{BarrierState, fresh}
-use Rattle.thread_state.specs.declared.frame.Frame.{Frame}
-use Rattle.thread_state.specs.Thread.{ThreadState, top_of}
+use Rattle.thread_state.specs.{declared.frame.Frame.Frame, Thread.ThreadState, Thread.top_of}
 use Rattle.thread_state.specs.Undo as own
 use Rattle.machine_scene.specs.declared.reach.Reach.{Reach}
-use Rattle.machine_scene.specs.declared.reach.Reach.TheVariants as reach
 use Rattle.machine_scene.specs.Scene.{Scene, Outcome, no_thread, thread_at, with_thread, with_phasers, with_barrier}
+use Rattle.machine_scene.specs.declared.reach.Reach.TheVariants as reach
 
 -- the note of a thread gives it back
 pub record IsBack (before after : ThreadState) : Type 0 where

@@ -1,41 +1,29 @@
 -- What every outcome leaves to be undone, row by row.
-use Rattle.std.proofs.Common.{◌≡◌, ◌∙◌, ℕ, ℤ, pos, ◌+◌, ◌<◌, ◌&&◌, Bool, true, false, List, length, ap, refl, arith, rules}
-use Rattle.std.specs.Prelude.{is_some, Option, Some, None, slice_set, slice_index_or}
-use Rattle.std.proofs.lemmas.List.{set-set, set-get_or, get_or-set_same}
-use Rattle.instruction_table.specs.declared.row.Row.{Row}
+use Rattle.std.proofs.Common.{◌≡◌, ◌∙◌, ℕ, ℤ, pos, ◌+◌, ◌<◌, ◌&&◌, Bool, true, false, List, length, ap, refl, arith, rules, is_some, Option, Some, None, slice_set, slice_index_or, set-set, get_or-set_same}
+use Rattle.std.proofs.lemmas.List.{set-get_or}
+use Rattle.instruction_table.specs.declared.{row.Row.Row, register.Reg.Reg, group.Group.Group, group.Group.TheVariants.Own}
 use Rattle.instruction_table.specs.declared.row.Row.TheVariants.{Call, Intr, Pphase, Cawait, Creset, Cbroken, Cwaiting, Cparties, Pawaitt, Cawaitt}
-use Rattle.instruction_table.specs.declared.register.Reg.{Reg}
-use Rattle.tier_tree.specs.declared.registered.Registered.{Registered}
+use Rattle.tier_tree.specs.declared.{registered.Registered.Registered, arrived.Arrived.Arrived}
+use Rattle.tier_tree.specs.{Forest.PhaserState, Forest.flat_at, Arrival.Arrives, Arrival.arrival, PhaseEnd.after_phase_end}
 use Rattle.tier_tree.specs.declared.registered.Registered.TheVariants as registered
-use Rattle.tier_tree.specs.declared.arrived.Arrived.{Arrived}
 use Rattle.tier_tree.specs.declared.arrived.Arrived.TheVariants as arrived
-use Rattle.tier_tree.specs.Forest.{PhaserState, flat_at}
-use Rattle.tier_tree.specs.Arrival.{Arrives, arrival}
-use Rattle.tier_tree.specs.PhaseEnd.{after_phase_end}
 use Rattle.cyclic_barrier.specs.Barrier.{BarrierState, reset, expire, end_action}
 use Rattle.loader.specs.Program.{Program}
 use Rattle.thread_state.specs.declared.event.What.TheVariants as what
-use Rattle.thread_state.specs.declared.frame.Frame.{Frame}
-use Rattle.thread_state.specs.declared.frame.Frame.TheVariants as frame
-use Rattle.thread_state.specs.declared.status.Status.{Status}
+use Rattle.thread_state.specs.declared.{frame.Frame.Frame, status.Status.Status}
 use Rattle.thread_state.specs.Thread.{ThreadState, Turn, turn_of_throw, turn_of_interruption, turn_of_answer, turn_of_done, turn_of_halt, turn_of_call, turn_of_try, turn_of_endtry, turn_of_return, turn_of_advance, top_of, with_entry, popped, left_routine, is_full}
-use Rattle.instruction_table.specs.declared.group.Group.{Group}
-use Rattle.instruction_table.specs.declared.group.Group.TheVariants.{Own}
-use Rattle.machine_scene.specs.declared.manner.Manner.{Manner}
-use Rattle.machine_scene.specs.declared.reach.Reach.{Reach}
-use Rattle.machine_scene.specs.declared.reach.Reach.TheVariants as reach
+use Rattle.thread_state.specs.declared.frame.Frame.TheVariants as frame
+use Rattle.machine_scene.specs.{declared.manner.Manner.Manner, declared.reach.Reach.Reach, OwnRows.outcome_of_own_row}
 use Rattle.machine_scene.specs.Scene.{Scene, Outcome, no_thread, thread_at, barrier_at, routine_at, with_thread, with_phasers, with_barrier}
-use Rattle.machine_scene.specs.OwnRows.{outcome_of_own_row}
 use Rattle.machine_scene.specs.CallRows.{outcome_of_routine_end, outcome_of_ret, outcome_of_call_row}
-use Rattle.machine_scene.specs.DataRows.{outcome_of_data_row}
-use Rattle.machine_scene.specs.GetterRows.{outcome_of_getter_row}
+use Rattle.machine_scene.specs.{DataRows.outcome_of_data_row, GetterRows.outcome_of_getter_row}
 use Rattle.machine_scene.specs.PhaserRows.{is_own_tree, has_routine, turn_of_arrival, unless_own, outcome_of_pending_end, outcome_of_arrived, outcome_of_arrival, outcome_of_registered, outcome_of_phaser_row}
 use Rattle.machine_scene.specs.BarrierRows.{is_run_by, unless_busy, unless_runner, outcome_of_await_at, outcome_of_barrier_row}
 use Rattle.machine_scene.specs.Waits.{outcome_of_phase_timeout, outcome_of_barrier_timeout}
 use Rattle.machine_scene.specs.Outcomes.{outcome_in_group, outcome_in, timeout_in}
 use Rattle.machine_scene.specs.Undo.{reach_of_ret, reach_of_row, reach_of_wait, reach_in}
-use Rattle.machine_scene.proofs.Plain.{either}
-use Rattle.machine_scene.proofs.Turns.{read_same}
+use Rattle.machine_scene.specs.declared.reach.Reach.TheVariants as reach
+use Rattle.machine_scene.proofs.{Plain.either, Turns.read_same}
 use Rattle.machine_scene.proofs.Undone.{IsBack, GivesBack, BackIf, IsOwn, cells_back, barriers_back, back_same, back_push, back_pop, back_out, back_from, back_alone, back_tree, back_barrier, gate_back, threads_set}
 
 -- turns of one thread

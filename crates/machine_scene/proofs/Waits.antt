@@ -1,29 +1,21 @@
 -- Finished waits, and waits whose time runs out.
-use Rattle.std.proofs.Common.{◌≡◌, ℕ, ℤ, pos, ◌+◌, ◌<◌, ◌==◌, ◌&&◌, not, Bool, false, length, refl, if◌then◌else◌, rules}
-use Rattle.std.specs.Prelude.{is_some, Option, Some, None}
-use Rattle.std.proofs.lemmas.List.{length-map, length-set}
-use Rattle.instruction_table.specs.declared.row.Row.{Row}
+use Rattle.std.proofs.Common.{◌≡◌, ℕ, ℤ, pos, ◌+◌, ◌<◌, ◌==◌, ◌&&◌, not, Bool, false, length, refl, if◌then◌else◌, rules, is_some, Option, Some, None, length-set}
+use Rattle.std.proofs.lemmas.List.{length-map}
+use Rattle.instruction_table.specs.declared.{row.Row.Row, register.Reg.Reg}
 use Rattle.instruction_table.specs.declared.row.Row.TheVariants.{Paaa, Pawaitt, Cawait, Cawaitt}
-use Rattle.instruction_table.specs.declared.register.Reg.{Reg}
 use Rattle.packed_phaser.specs.Flat.{view_of}
 use Rattle.tier_tree.specs.Forest.{flat_at}
-use Rattle.cyclic_barrier.specs.declared.answer.WaitState.{WaitState}
+use Rattle.cyclic_barrier.specs.{declared.answer.WaitState.WaitState, Waits.wait_at, Barrier.leave, Barrier.interrupt}
 use Rattle.cyclic_barrier.specs.declared.answer.WaitState.TheVariants as state
-use Rattle.cyclic_barrier.specs.Waits.{wait_at}
-use Rattle.cyclic_barrier.specs.Barrier.{leave, interrupt}
 use Rattle.cyclic_barrier.proofs.CallLemmas.{has_wait-leave, has_wait-interrupt}
-use Rattle.loader.specs.Named.{stops}
-use Rattle.loader.specs.Program.{Program}
+use Rattle.loader.specs.{Named.stops, Program.Program}
 use Rattle.thread_state.specs.declared.status.Status.TheVariants as status
 use Rattle.thread_state.specs.Thread.{Turn, turn_of_throw, turn_of_interruption, turn_of_answer}
 use Rattle.machine_scene.specs.Scene.{Scene, Outcome, thread_at, barrier_at, with_barrier, outcome_of_turn}
-use Rattle.machine_scene.specs.PhaserRows.{is_past}
+use Rattle.machine_scene.specs.{PhaserRows.is_past, Sound.IsSound, Sound.is_wait_row}
 use Rattle.machine_scene.specs.Waits.{outcome_of_view, outcome_of_awaited, outcome_of_phase_wait, outcome_of_release, outcome_of_barrier_wait, outcome_of_phase_timeout, outcome_of_barrier_timeout}
-use Rattle.machine_scene.specs.Sound.{IsSound, is_wait_row}
-use Rattle.machine_scene.proofs.Facts.{AwaitsOn}
-use Rattle.machine_scene.proofs.Plain.{KeepsSound, StandsAt, either}
+use Rattle.machine_scene.proofs.{Facts.AwaitsOn, Plain.KeepsSound, Plain.StandsAt, Plain.either, BarrierRows.seat}
 use Rattle.machine_scene.proofs.Turns.{KeepsStack, throw_keeps, interruption_keeps, answer_keeps, sound_alone, sound_end}
-use Rattle.machine_scene.proofs.BarrierRows.{seat}
 
 -- a wait for the end of a phase
 sound_awaited : (looks : Bool) (program : Program) (steps t p : ℕ) (scene : Scene) (row : Row) (into : Reg) (phase : ℤ)

@@ -1,12 +1,10 @@
 -- Rows that use a barrier.
 use Rattle.std.specs.Prelude.{ℕ, pos, ◌==◌, ◌&&◌, not, nat_lt, int_lt, Bool, false, if◌then◌else◌, Option, Some, None}
-use Rattle.instruction_table.specs.declared.row.Row.{Row}
+use Rattle.instruction_table.specs.{declared.row.Row.Row, declared.register.Reg.Reg, Registers.value_in}
 use Rattle.instruction_table.specs.declared.row.Row.TheVariants.{Cawait, Cawaitt, Creset, Cbroken, Cwaiting, Cparties}
-use Rattle.instruction_table.specs.declared.register.Reg.{Reg}
-use Rattle.instruction_table.specs.Registers.{value_in}
 use Rattle.cyclic_barrier.specs.declared.answer.Entered.{Entered}
-use Rattle.cyclic_barrier.specs.declared.answer.Entered.TheVariants as entered
 use Rattle.cyclic_barrier.specs.Barrier.{Entry, enter_timed, reset, number_waiting}
+use Rattle.cyclic_barrier.specs.declared.answer.Entered.TheVariants as entered
 use Rattle.loader.specs.Program.{Program}
 use Rattle.thread_state.specs.declared.event.Mark.TheVariants as mark
 use Rattle.thread_state.specs.Thread.{turn_of_throw, turn_of_interruption, turn_of_answer, turn_of_done, turn_of_barrier_wait, turn_of_action, is_full}

@@ -1,22 +1,18 @@
 -- Calls, handlers, thrown exceptions, and the way back out of a call, an advance routine or an action.
 use Rattle.std.specs.Prelude.{ℕ, pos, not, Bool, false, true, if◌then◌else◌, Option, Some, None}
 use Rattle.std.specs.Ordering.{int_eq}
-use Rattle.instruction_table.specs.declared.row.Row.{Row}
+use Rattle.instruction_table.specs.{declared.row.Row.Row, declared.register.Reg.TheVariants.R0, Registers.value_in}
 use Rattle.instruction_table.specs.declared.row.Row.TheVariants.{Call, Ret, Try, Endtry, Throw}
-use Rattle.instruction_table.specs.declared.register.Reg.TheVariants.{R0}
-use Rattle.instruction_table.specs.Registers.{value_in}
 use Rattle.packed_phaser.specs.Flat.{Flat, view_of}
 use Rattle.tier_tree.specs.Forest.{flat_at}
 use Rattle.cyclic_barrier.specs.Barrier.{end_action}
 use Rattle.loader.specs.Program.{Program, row_at}
 use Rattle.thread_state.specs.declared.event.Mark.TheVariants as mark
 use Rattle.thread_state.specs.declared.frame.Frame.{Frame}
-use Rattle.thread_state.specs.declared.frame.Frame.TheVariants as frame
 use Rattle.thread_state.specs.Thread.{ThreadState, turn_of_throw, turn_of_answer, turn_of_call, turn_of_try, turn_of_endtry, turn_of_return, top_of, left_routine}
-use Rattle.machine_scene.specs.declared.manner.Manner.{Manner}
-use Rattle.machine_scene.specs.Manner.{manner_of}
+use Rattle.thread_state.specs.declared.frame.Frame.TheVariants as frame
+use Rattle.machine_scene.specs.{declared.manner.Manner.Manner, Manner.manner_of, PhaserRows.outcome_of_phase_end}
 use Rattle.machine_scene.specs.Scene.{Scene, Outcome, thread_at, barrier_at, with_thread, with_barrier, outcome_of_turn, outcome_marked, alone}
-use Rattle.machine_scene.specs.PhaserRows.{outcome_of_phase_end}
 
 -- a routine has returned, and its thread is back at the arrival: the phase ends, or no phase ends since the tree was terminated
 -- meanwhile

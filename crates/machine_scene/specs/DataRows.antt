@@ -1,12 +1,10 @@
 -- Rows that use outputs, cells, thread numbers and interrupted statuses.
 use Rattle.std.specs.Prelude.{ℕ, pos, Bool, true, false, ◌&&◌, nat_lt, length, Option, Some, None}
-use Rattle.instruction_table.specs.declared.row.Row.{Row}
+use Rattle.instruction_table.specs.{declared.row.Row.Row, declared.register.Reg.Reg, Registers.value_in}
 use Rattle.instruction_table.specs.declared.row.Row.TheVariants.{Out, Lds, Sts, SelfNumber, Intr, Intrd}
-use Rattle.instruction_table.specs.declared.register.Reg.{Reg}
-use Rattle.instruction_table.specs.Registers.{value_in}
 use Rattle.thread_state.specs.declared.status.Status.{Status}
-use Rattle.thread_state.specs.declared.status.Status.TheVariants as status
 use Rattle.thread_state.specs.Thread.{ThreadState, turn_of_out, turn_of_answer, turn_of_done, turn_of_intrd, interrupted}
+use Rattle.thread_state.specs.declared.status.Status.TheVariants as status
 use Rattle.machine_scene.specs.Scene.{Scene, Outcome, thread_at, cell_at, with_thread, with_cell, outcome_of_turn, alone}
 
 -- `sts`: thread t stores a register into a cell

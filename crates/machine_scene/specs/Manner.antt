@@ -1,8 +1,7 @@
 -- How each row arrives: whether the party leaves, and whether the thread waits.
 use Rattle.std.specs.Prelude.{false, true}
-use Rattle.instruction_table.specs.declared.row.Row.{Row}
+use Rattle.instruction_table.specs.declared.{row.Row.Row, register.Reg.TheVariants.R0}
 use Rattle.instruction_table.specs.declared.row.Row.TheVariants.{Parr, Pdereg, Paaa, Cawait, Cawaitt}
-use Rattle.instruction_table.specs.declared.register.Reg.TheVariants.{R0}
 use Rattle.machine_scene.specs.declared.manner.Manner.{Manner}
 
 -- how the arrival at this row is made; nobody arrives at another row, and no routine and no action begins there

@@ -1,20 +1,13 @@
 -- The outcome of a thread's turn, and of the expiry of its timed wait. There is none if it isn't ready.
 use Rattle.std.specs.Prelude.{ℕ, Bool, is_some, Option, Some, None, if◌then◌else◌}
-use Rattle.instruction_table.specs.declared.row.Row.{Row}
+use Rattle.instruction_table.specs.{declared.row.Row.Row, declared.group.Group.Group, Group.group_of}
+use Rattle.instruction_table.specs.declared.group.Group.TheVariants.{Own, Calls, Data, Phasers, Getters, Barriers}
 use Rattle.loader.specs.Program.{Program, row_at}
 use Rattle.thread_state.specs.declared.status.Status.{Status}
 use Rattle.thread_state.specs.declared.status.Status.TheVariants as status
-use Rattle.instruction_table.specs.declared.group.Group.{Group}
-use Rattle.instruction_table.specs.declared.group.Group.TheVariants.{Own, Calls, Data, Phasers, Getters, Barriers}
-use Rattle.machine_scene.specs.Scene.{Scene, Outcome, thread_at}
-use Rattle.instruction_table.specs.Group.{group_of}
-use Rattle.machine_scene.specs.OwnRows.{outcome_of_own_row}
-use Rattle.machine_scene.specs.CallRows.{outcome_of_call_row}
-use Rattle.machine_scene.specs.DataRows.{outcome_of_data_row}
-use Rattle.machine_scene.specs.PhaserRows.{outcome_of_phaser_row}
-use Rattle.machine_scene.specs.GetterRows.{outcome_of_getter_row}
-use Rattle.machine_scene.specs.BarrierRows.{outcome_of_barrier_row}
-use Rattle.machine_scene.specs.Unwinding.{outcome_of_pop}
+use Rattle.machine_scene.specs.{Scene.Scene, Scene.Outcome, Scene.thread_at, OwnRows.outcome_of_own_row}
+use Rattle.machine_scene.specs.{CallRows.outcome_of_call_row, DataRows.outcome_of_data_row, PhaserRows.outcome_of_phaser_row}
+use Rattle.machine_scene.specs.{GetterRows.outcome_of_getter_row, BarrierRows.outcome_of_barrier_row, Unwinding.outcome_of_pop}
 use Rattle.machine_scene.specs.Waits.{outcome_of_phase_wait, outcome_of_barrier_wait, outcome_of_phase_timeout, outcome_of_barrier_timeout}
 
 -- the row of a running thread, by its group

@@ -1,8 +1,6 @@
 -- Rows that change only the registers and the place of their own thread, and the row `halt`.
 use Rattle.std.specs.Prelude.{ℕ, Option, Some, None, if◌then◌else◌}
-use Rattle.instruction_table.specs.declared.row.Row.{Row}
-use Rattle.instruction_table.specs.declared.row.Row.TheVariants.{Halt}
-use Rattle.instruction_table.specs.LocalRows.{is_local_row}
+use Rattle.instruction_table.specs.{declared.row.Row.Row, declared.row.Row.TheVariants.Halt, LocalRows.is_local_row}
 use Rattle.thread_state.specs.Thread.{turn_of_halt, turn_of_local}
 use Rattle.machine_scene.specs.Scene.{Scene, Outcome, thread_at, outcome_of_turn, alone}
 

@@ -1,32 +1,23 @@
 -- Rows that register at a phaser, arrive, wait or terminate.
 use Rattle.std.specs.Prelude.{ℕ, ℤ, pos, ◌&&◌, not, nat_abs, int_lt, Bool, true, false, if◌then◌else◌, Option, Some, None}
-use Rattle.std.specs.Ordering.{int_eq}
-use Rattle.std.specs.List.{list_any}
-use Rattle.instruction_table.specs.declared.row.Row.{Row}
+use Rattle.std.specs.{Ordering.int_eq, List.list_any}
+use Rattle.instruction_table.specs.{declared.row.Row.Row, declared.register.Reg.Reg, Registers.value_in}
 use Rattle.instruction_table.specs.declared.row.Row.TheVariants.{Preg, Pbulk, Parr, Pdereg, Paaa, Pawait, Pawaiti, Pawaitt, Pforce}
-use Rattle.instruction_table.specs.declared.register.Reg.{Reg}
-use Rattle.instruction_table.specs.Registers.{value_in}
-use Rattle.packed_phaser.specs.declared.policy.Policy.{Policy}
+use Rattle.packed_phaser.specs.{declared.policy.Policy.Policy, Flat.Flat, Flat.view_of, Policy.ends}
 use Rattle.packed_phaser.specs.declared.policy.Policy.TheVariants as policy
-use Rattle.packed_phaser.specs.Flat.{Flat, view_of}
-use Rattle.packed_phaser.specs.Policy.{ends}
-use Rattle.tier_tree.specs.declared.registered.Registered.{Registered}
-use Rattle.tier_tree.specs.declared.registered.Registered.TheVariants as registered
-use Rattle.tier_tree.specs.declared.arrived.Arrived.{Arrived}
-use Rattle.tier_tree.specs.declared.arrived.Arrived.TheVariants as arrived
-use Rattle.tier_tree.specs.Forest.{phaser_at, flat_at, root_at}
+use Rattle.tier_tree.specs.declared.{registered.Registered.Registered, arrived.Arrived.Arrived}
+use Rattle.tier_tree.specs.{Forest.phaser_at, Forest.flat_at, Forest.root_at, Arrival.Arrives, Arrival.arrival}
 use Rattle.tier_tree.specs.Registration.{registration, after_registration}
-use Rattle.tier_tree.specs.Arrival.{Arrives, arrival}
 use Rattle.tier_tree.specs.PhaseEnd.{after_phase_end, after_force}
+use Rattle.tier_tree.specs.declared.registered.Registered.TheVariants as registered
+use Rattle.tier_tree.specs.declared.arrived.Arrived.TheVariants as arrived
 use Rattle.loader.specs.Program.{Program}
 use Rattle.thread_state.specs.declared.event.Mark.TheVariants as mark
 use Rattle.thread_state.specs.Frame.{is_advance}
 use Rattle.thread_state.specs.Thread.{ThreadState, Turn, turn_of_throw, turn_of_interruption, turn_of_answer, turn_of_done, turn_of_wait, turn_of_advance, is_full}
-use Rattle.machine_scene.specs.declared.manner.Manner.{Manner}
-use Rattle.machine_scene.specs.declared.patience.Patience.{Patience}
-use Rattle.machine_scene.specs.declared.patience.Patience.TheVariants as patience
-use Rattle.machine_scene.specs.Manner.{manner_of}
+use Rattle.machine_scene.specs.{declared.manner.Manner.Manner, declared.patience.Patience.Patience, Manner.manner_of}
 use Rattle.machine_scene.specs.Scene.{Scene, Outcome, thread_at, routine_at, with_phasers, outcome_of_turn, outcome_marked, alone}
+use Rattle.machine_scene.specs.declared.patience.Patience.TheVariants as patience
 
 -- the thread runs the advance routine of this phaser's tree
 abbrev pub is_own_tree : ℕ → ThreadState → Scene → Bool

@@ -2,8 +2,7 @@
 use Rattle.std.specs.Prelude.{◌≡◌, ℕ, ◌+◌, ◌<◌, length, Option, Some}
 use Rattle.loader.specs.Program.{Program}
 use Rattle.thread_state.specs.declared.event.Event.{Event}
-use Rattle.machine_scene.specs.Scene.{StoredScene, Outcome, scene_of}
-use Rattle.machine_scene.specs.Sound.{IsSound, most_after}
+use Rattle.machine_scene.specs.{Scene.StoredScene, Scene.Outcome, Scene.scene_of, Sound.IsSound, Sound.most_after}
 use Rattle.machine_scene.specs.Undo.{CanUndo, note_of, undone}
 
 -- the scene and the event are those of this outcome; a sound scene stays sound, one step later; what was saved of thread t

@@ -1,19 +1,15 @@
 -- Which turns are ready, and which timed waits can expire, listed by status and row. `who_is_ready` says that exactly these
 -- have an outcome.
 use Rattle.std.specs.Prelude.{ℕ, ℤ, pos, nat_abs, int_lt, Bool, true, false, not, ◌&&◌, ◌||◌, is_some, Option, Some, None}
-use Rattle.instruction_table.specs.declared.row.Row.{Row}
+use Rattle.instruction_table.specs.{declared.row.Row.Row, Registers.value_in}
 use Rattle.instruction_table.specs.declared.row.Row.TheVariants.{Preg, Pbulk, Paaa, Pawait, Pawaiti, Pawaitt, Cawait, Cawaitt, Creset, Cbroken, Cwaiting}
-use Rattle.instruction_table.specs.Registers.{value_in}
-use Rattle.tier_tree.specs.declared.registered.Registered.{Registered}
+use Rattle.tier_tree.specs.{declared.registered.Registered.Registered, Registration.registration}
 use Rattle.tier_tree.specs.declared.registered.Registered.TheVariants as registered
-use Rattle.tier_tree.specs.Registration.{registration}
-use Rattle.cyclic_barrier.specs.declared.answer.WaitState.{WaitState}
+use Rattle.cyclic_barrier.specs.{declared.answer.WaitState.WaitState, Waits.wait_at, Waits.is_waiting}
 use Rattle.cyclic_barrier.specs.declared.answer.WaitState.TheVariants as state
-use Rattle.cyclic_barrier.specs.Waits.{wait_at, is_waiting}
 use Rattle.thread_state.specs.declared.status.Status.{Status}
 use Rattle.thread_state.specs.declared.status.Status.TheVariants as status
-use Rattle.machine_scene.specs.Scene.{Scene, thread_at, barrier_at}
-use Rattle.machine_scene.specs.PhaserRows.{is_own_tree, is_past}
+use Rattle.machine_scene.specs.{Scene.Scene, Scene.thread_at, Scene.barrier_at, PhaserRows.is_own_tree, PhaserRows.is_past}
 use Rattle.machine_scene.specs.BarrierRows.{is_run_by_another}
 
 -- a registration that waits for a phase's end

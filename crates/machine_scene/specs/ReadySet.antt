@@ -1,22 +1,16 @@
 -- The threads whose turn is ready, stored as a set, so that a caller who asks for one looks at a bit. A step computes again the
 -- bits that it may have changed. Only proofs use this: no promise depends on it.
 use Rattle.std.specs.Prelude.{◌≡◌, ◌≢◌, ℕ, ◌==◌, ◌&&◌, ◌||◌, not, Bool, true, false, if◌then◌else◌}
-use Rattle.instruction_table.specs.declared.row.Row.{Row}
+use Rattle.instruction_table.specs.{declared.row.Row.Row, LocalRows.is_local_row}
 use Rattle.instruction_table.specs.declared.row.Row.TheVariants.{Ret, Intr, Preg, Pbulk, Parr, Pdereg, Paaa, Pforce, Creset}
-use Rattle.instruction_table.specs.LocalRows.{is_local_row}
 use Rattle.cyclic_barrier.specs.ThreadSet.{has}
 use Rattle.loader.specs.Program.{Program, row_at}
-use Rattle.thread_state.specs.declared.event.Event.{Event}
-use Rattle.thread_state.specs.declared.event.What.{What}
+use Rattle.thread_state.specs.declared.{event.Event.Event, event.What.What, event.Mark.Mark, status.Status.Status}
 use Rattle.thread_state.specs.declared.event.What.TheVariants as what
-use Rattle.thread_state.specs.declared.event.Mark.{Mark}
 use Rattle.thread_state.specs.declared.event.Mark.TheVariants as mark
-use Rattle.thread_state.specs.declared.status.Status.{Status}
 use Rattle.thread_state.specs.declared.status.Status.TheVariants as status
-use Rattle.machine_scene.specs.declared.ready_set.ReadySet.{ReadySet}
+use Rattle.machine_scene.specs.{declared.ready_set.ReadySet.ReadySet, Outcomes.is_ready, Ready.may_be_blocked}
 use Rattle.machine_scene.specs.Scene.{Scene, StoredScene, scene_of, thread_at}
-use Rattle.machine_scene.specs.Outcomes.{is_ready}
-use Rattle.machine_scene.specs.Ready.{may_be_blocked}
 
 -- a registration: whether it is held, an arrival or a departure by any other thread may change
 abbrev pub is_registration : Row → Bool

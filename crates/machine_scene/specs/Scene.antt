@@ -1,16 +1,13 @@
 -- What the rows of a program act on, and how a turn changes it.
 use Rattle.std.specs.Prelude.{ℕ, ℤ, pos, false, List, [], length, map, replicate, slice_index_or, slice_set}
-use Rattle.tier_tree.specs.Forest.{PhaserState}
-use Rattle.tier_tree.specs.Stored.{Stored, phasers_of}
+use Rattle.tier_tree.specs.{Forest.PhaserState, Stored.Stored, Stored.phasers_of}
 use Rattle.cyclic_barrier.specs.Barrier.{BarrierState, fresh}
 use Rattle.row_code.specs.declared.threads.DeclaredThread.{DeclaredThread}
-use Rattle.loader.specs.declared.counts.Counts.{Counts}
-use Rattle.loader.specs.Program.{Program}
-use Rattle.thread_state.specs.declared.event.Event.{Event}
-use Rattle.thread_state.specs.declared.event.Mark.{Mark}
+use Rattle.loader.specs.{declared.counts.Counts.Counts, Program.Program}
+use Rattle.thread_state.specs.declared.event.{Event.Event, Mark.Mark}
+use Rattle.thread_state.specs.Thread.{ThreadState, Turn, new_thread}
 use Rattle.thread_state.specs.declared.event.Mark.TheVariants as mark
 use Rattle.thread_state.specs.declared.status.Status.TheVariants as status
-use Rattle.thread_state.specs.Thread.{ThreadState, Turn, new_thread}
 use Rattle.machine_scene.specs.declared.ready_set.ReadySet.{ReadySet}
 
 -- the shared cells, the threads, the phasers in their trees, and the barriers

@@ -1,21 +1,15 @@
 -- What stays true of a machine. For example, each object that a row uses exists. Only proofs use this: no promise depends
 -- on it.
 use Rattle.std.specs.Prelude.{◌≡◌, ◌≢◌, ℕ, ◌+◌, ◌<◌, ◌≤◌, ◌==◌, is_some, Option, Some, None, List, [], ◌∷◌, length, All, count_by, Bool, true, false}
-use Rattle.instruction_table.specs.declared.row.Row.{Row}
-use Rattle.instruction_table.specs.declared.row.Row.TheVariants.{Cawait, Cawaitt}
-use Rattle.tier_tree.specs.Forest.{phaser_at, flat_at, root_at}
-use Rattle.tier_tree.specs.PhaseEnd.{most_ends}
-use Rattle.tier_tree.specs.Stored.{phasers_of}
+use Rattle.instruction_table.specs.declared.row.Row.{Row, TheVariants.Cawait, TheVariants.Cawaitt}
+use Rattle.tier_tree.specs.{Forest.phaser_at, Forest.flat_at, Forest.root_at, PhaseEnd.most_ends, Stored.phasers_of}
 use Rattle.tier_tree.specs.Trees.{AreTrees, is_pending}
-use Rattle.cyclic_barrier.specs.Waits.{wait_at}
-use Rattle.cyclic_barrier.specs.Barrier.{has_wait}
+use Rattle.cyclic_barrier.specs.{Waits.wait_at, Barrier.has_wait}
 use Rattle.loader.specs.Program.{Program, IsCode, IsNamed, row_at}
-use Rattle.thread_state.specs.declared.frame.Frame.{Frame}
-use Rattle.thread_state.specs.declared.frame.Frame.TheVariants as frame
-use Rattle.thread_state.specs.declared.status.Status.{Status}
-use Rattle.thread_state.specs.declared.status.Status.TheVariants as status
-use Rattle.thread_state.specs.Frame.{is_advance, is_action}
+use Rattle.thread_state.specs.{declared.frame.Frame.Frame, declared.status.Status.Status, Frame.is_advance, Frame.is_action}
 use Rattle.thread_state.specs.Thread.{ThreadState}
+use Rattle.thread_state.specs.declared.frame.Frame.TheVariants as frame
+use Rattle.thread_state.specs.declared.status.Status.TheVariants as status
 use Rattle.machine_scene.specs.Scene.{Scene, StoredScene, scene_of, counts_of, counts_in, thread_at, barrier_at}
 
 -- a stack entry leads to a row, and names a root or a barrier that exists; a row follows the one at which a routine or an

@@ -2,21 +2,16 @@
 use Rattle.std.specs.Prelude.{◌≡◌, ℕ, ◌<◌, List, length, slice_set, Option, Some}
 use Rattle.instruction_table.specs.declared.row.Row.{Row}
 use Rattle.instruction_table.specs.declared.row.Row.TheVariants.{Ret, Sts, Intr, Preg, Pbulk, Parr, Pdereg, Paaa, Pforce, Cawait, Cawaitt, Creset}
-use Rattle.tier_tree.specs.Stored.{Stored, ChangedAt}
-use Rattle.tier_tree.specs.Undo.{saved_of, IsSavedOf, restored}
+use Rattle.tier_tree.specs.{Stored.Stored, Stored.ChangedAt, Undo.saved_of, Undo.IsSavedOf, Undo.restored}
 use Rattle.loader.specs.Program.{Program, row_at}
-use Rattle.thread_state.specs.declared.frame.Frame.{Frame}
+use Rattle.thread_state.specs.{declared.frame.Frame.Frame, declared.status.Status.Status, Thread.ThreadState, Thread.top_of}
 use Rattle.thread_state.specs.declared.frame.Frame.TheVariants as frame
-use Rattle.thread_state.specs.declared.status.Status.{Status}
 use Rattle.thread_state.specs.declared.status.Status.TheVariants as status
-use Rattle.thread_state.specs.Thread.{ThreadState, top_of}
 use Rattle.thread_state.specs.Undo as own
-use Rattle.machine_scene.specs.declared.ready_set.ReadySet.{ReadySet}
-use Rattle.machine_scene.specs.declared.reach.Reach.{Reach}
-use Rattle.machine_scene.specs.declared.reach.Reach.TheVariants as reach
-use Rattle.machine_scene.specs.declared.note.Touched.{Touched}
-use Rattle.machine_scene.specs.declared.note.Touched.TheVariants as touched
+use Rattle.machine_scene.specs.declared.{ready_set.ReadySet.ReadySet, reach.Reach.Reach, note.Touched.Touched}
 use Rattle.machine_scene.specs.Scene.{Scene, StoredScene, scene_of, thread_at, cell_at, barrier_at}
+use Rattle.machine_scene.specs.declared.reach.Reach.TheVariants as reach
+use Rattle.machine_scene.specs.declared.note.Touched.TheVariants as touched
 
 -- a pop, by the entry that it pops
 abbrev pub reach_of_entry : Option Frame → Reach

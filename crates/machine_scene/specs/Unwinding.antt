@@ -2,9 +2,8 @@
 use Rattle.std.specs.Prelude.{ℕ, ℤ, false, Option, Some}
 use Rattle.cyclic_barrier.specs.Barrier.{end_action}
 use Rattle.thread_state.specs.declared.event.Mark.TheVariants as mark
-use Rattle.thread_state.specs.declared.frame.Frame.{Frame}
+use Rattle.thread_state.specs.{declared.frame.Frame.Frame, Thread.turn_of_pop, Thread.top_of}
 use Rattle.thread_state.specs.declared.frame.Frame.TheVariants as frame
-use Rattle.thread_state.specs.Thread.{turn_of_pop, top_of}
 use Rattle.machine_scene.specs.Scene.{Scene, Outcome, thread_at, barrier_at, with_barrier, outcome_marked, alone}
 
 -- one stack entry is popped, by the top entry: that of an action breaks its barrier; that of an advance routine ends no

@@ -1,12 +1,10 @@
 -- Threads that wait, and how their waits end.
 use Rattle.std.specs.Prelude.{ℕ, ℤ, pos, ◌&&◌, not, is_some, Bool, true, false, if◌then◌else◌, Option, Some, None}
-use Rattle.instruction_table.specs.declared.row.Row.{Row}
+use Rattle.instruction_table.specs.declared.{row.Row.Row, register.Reg.Reg}
 use Rattle.instruction_table.specs.declared.row.Row.TheVariants.{Paaa, Pawait, Pawaiti, Pawaitt, Cawait, Cawaitt}
-use Rattle.instruction_table.specs.declared.register.Reg.{Reg}
-use Rattle.cyclic_barrier.specs.declared.answer.WaitState.{WaitState}
-use Rattle.cyclic_barrier.specs.declared.answer.WaitState.TheVariants as state
-use Rattle.cyclic_barrier.specs.Waits.{wait_at}
+use Rattle.cyclic_barrier.specs.{declared.answer.WaitState.WaitState, Waits.wait_at}
 use Rattle.cyclic_barrier.specs.Barrier.{leave, interrupt, expire}
+use Rattle.cyclic_barrier.specs.declared.answer.WaitState.TheVariants as state
 use Rattle.packed_phaser.specs.Flat.{view_of}
 use Rattle.tier_tree.specs.Forest.{flat_at}
 use Rattle.thread_state.specs.declared.event.Mark.TheVariants as mark

@@ -2,10 +2,8 @@
 //! does nothing.
 ghost use Rattle.std.specs.Prelude.{◌≡◌, ℕ, ◌&&◌, not, is_some};
 ghost use Rattle.loader.specs.Program.{Program, row_at};
-ghost use Rattle.machine_scene.specs.Scene.{Scene, thread_at, first_scene};
-ghost use Rattle.machine_scene.specs.Outcomes.{is_ready, outcome_of_expiry};
-ghost use Rattle.machine_scene.specs.Ready.{is_listed, can_run_out};
-ghost use Rattle.machine_scene.specs.Sound.{IsSound};
+ghost use Rattle.machine_scene.specs.{Scene.Scene, Scene.thread_at, Scene.first_scene, Ready.is_listed, Ready.can_run_out};
+ghost use Rattle.machine_scene.specs.{Outcomes.is_ready, Outcomes.outcome_of_expiry, Sound.IsSound};
 
 use loader::Loaded;
 

@@ -1,18 +1,14 @@
 ghost use Rattle.std.specs.Prelude.{◌≡◌, ◌<◌, ◌≤◌, length, replicate, pos, true, false, Ok, Some, None, is_some, IfSome, IsErr, IfOk, OnErr, OnOk};
-ghost use Rattle.std.specs.Option.{OnSome};
-ghost use Rattle.std.specs.List.{list_all};
-ghost use Rattle.instruction_table.specs.Group.{group_of};
-ghost use Rattle.instruction_table.specs.LocalRows.{is_local_row};
+ghost use Rattle.std.specs.{Option.OnSome, List.list_all};
+ghost use Rattle.instruction_table.specs.{Group.group_of, LocalRows.is_local_row};
 ghost use Rattle.tier_tree.specs.Stored.{phasers_of};
 ghost use Rattle.loader.specs.Program.{row_at};
 ghost use Rattle.thread_state.specs.Thread.{ThreadState, is_finished, top_of};
-ghost use Rattle.machine_scene.specs.Scene.{scene_of, thread_at, cell_at, barrier_at};
-ghost use Rattle.machine_scene.specs.DataRows.{runs, may_grow};
+ghost use Rattle.machine_scene.specs.{Scene.scene_of, Scene.thread_at, Scene.cell_at, Scene.barrier_at, Played.IsPlayed};
+ghost use Rattle.machine_scene.specs.{DataRows.runs, DataRows.may_grow, Undo.PhasersWithin, Undo.reach_of_row, Undo.reach_in};
 ghost use Rattle.machine_scene.specs.Outcomes.{outcome_in, outcome_of, outcome_of_row, outcome_of_expiry, is_ready, timeout_in};
 ghost use Rattle.machine_scene.specs.Sound.{IsSound, StandsAt, most_before, most_after};
 ghost use Rattle.machine_scene.specs.ReadySet.{KnowsReady, AreOthersReady, changes_all};
-ghost use Rattle.machine_scene.specs.Played.{IsPlayed};
-ghost use Rattle.machine_scene.specs.Undo.{PhasersWithin, reach_of_row, reach_in};
 
 use crate::ready_set::ReadySet;
 use cyclic_barrier::Barrier;

@@ -1,9 +1,7 @@
 -- The fields of a word by themselves.
-use Rattle.std.proofs.Common.{◌≡◌, ℕ, ◌+◌, ◌-◌, ◌*◌, ◌<◌, ◌≤◌, Bool, true, false, arith}
-use Rattle.std.specs.Prelude.{max, if◌then◌else◌}
+use Rattle.std.proofs.Common.{◌≡◌, ℕ, ◌+◌, ◌-◌, ◌*◌, ◌<◌, ◌≤◌, Bool, true, false, arith, max, if◌then◌else◌}
 use Rattle.std.proofs.lemmas.Bool.Decides.{nat_tests}
-use Rattle.packed_phaser.specs.declared.word.Fields.{Fields}
-use Rattle.packed_phaser.specs.Flat.{Flat, IsFlat}
+use Rattle.packed_phaser.specs.{declared.word.Fields.Fields, Flat.Flat, Flat.IsFlat}
 use Rattle.packed_phaser.specs.Word.{IsWord, fields_of, record_of_fields}
 
 -- the number of a test

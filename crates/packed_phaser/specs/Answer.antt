@@ -1,10 +1,8 @@
 -- The results of `register` and `arrive` on a word, translated to the results in `Flat.antt`.
-use Rattle.packed_phaser.specs.declared.word.Registered.{Registered}
-use Rattle.packed_phaser.specs.declared.word.Registered.TheVariants as registered
-use Rattle.packed_phaser.specs.declared.word.Arrived.{Arrived}
-use Rattle.packed_phaser.specs.declared.word.Arrived.TheVariants as arrived
+use Rattle.packed_phaser.specs.{declared.word.Registered.Registered, declared.word.Arrived.Arrived, Word.record_of}
 use Rattle.packed_phaser.specs.Flat.{Registration, Joins, JoinsLate, MustWait, Overfull, Arrival, Counts, Turns, ComesLate, IsUnregistered}
-use Rattle.packed_phaser.specs.Word.{record_of}
+use Rattle.packed_phaser.specs.declared.word.Registered.TheVariants as registered
+use Rattle.packed_phaser.specs.declared.word.Arrived.TheVariants as arrived
 
 -- what the result of a registration says
 abbrev pub registration_of : Registered → Registration

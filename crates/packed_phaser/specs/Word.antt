@@ -1,7 +1,6 @@
 -- Which 64-bit numbers are words, and which state of a phaser each word represents.
 use Rattle.std.specs.Prelude.{ℕ, ◌-◌, ◌/◌, ◌%◌, ◌^◌, ◌<◌, ◌≤◌, ◌==◌, ◌&&◌, not, max, if◌then◌else◌}
-use Rattle.packed_phaser.specs.declared.word.Fields.{Fields}
-use Rattle.packed_phaser.specs.Flat.{Flat}
+use Rattle.packed_phaser.specs.{declared.word.Fields.Fields, Flat.Flat}
 
 -- the fields of a word, from its lowest bit: 16 bits of parties that haven't arrived, 16 of
 -- parties, 31 of the phase, and the bit of termination

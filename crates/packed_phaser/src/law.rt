@@ -1,7 +1,6 @@
 //! Laws about words and the states that they represent. Each law is the contract of a function that does nothing.
 ghost use Rattle.std.specs.Prelude.{◌≡◌, ℕ, false};
-ghost use Rattle.packed_phaser.specs.Flat.{Flat, IsFlat};
-ghost use Rattle.packed_phaser.specs.Word.{IsWord, record_of};
+ghost use Rattle.packed_phaser.specs.{Flat.Flat, Flat.IsFlat, Word.IsWord, Word.record_of};
 
 /// Each word represents a state that a phaser can have.
 pub fn each_word_has_a_record()

@@ -1,8 +1,7 @@
 ghost use Rattle.std.specs.Prelude.{◌≡◌, ℕ, ℤ, pos, ◌-◌, ◌<◌, ◌≤◌, ◌^◌, max, true, false, if◌then◌else◌, IsTrue, ◌↔◌};
 ghost use Rattle.std.specs.Option.{SomeIff};
 ghost use Rattle.packed_phaser.specs.Flat.{Flat, fresh, view_of, unarrived_of, is_empty, register, arrive, advance, vacate, renew, force};
-ghost use Rattle.packed_phaser.specs.Word.{IsWord, fields_of, record_of};
-ghost use Rattle.packed_phaser.specs.Answer.{registration_of, arrival_of};
+ghost use Rattle.packed_phaser.specs.{Word.IsWord, Word.fields_of, Word.record_of, Answer.registration_of, Answer.arrival_of};
 
 use phase_number::Phase;
 use std::marker::Model;

@@ -1,7 +1,6 @@
 -- What one element more of a list appends to another.
-use Rattle.std.proofs.Common.{◌≡◌, ◌∙◌, ℕ, ◌+◌, ◌<◌, ◌≤◌, List, ◌++◌, length, get_or, drop, ap, sym, append_assoc}
-use Rattle.std.proofs.lemmas.List.{append-nil, drop_all}
-use Rattle.std.specs.Prelude.{flat_map}
+use Rattle.std.proofs.Common.{◌≡◌, ◌∙◌, ℕ, ◌+◌, ◌<◌, ◌≤◌, List, ◌++◌, length, get_or, drop, ap, sym, append_assoc, append-nil, flat_map}
+use Rattle.std.proofs.lemmas.List.{drop_all}
 use Rattle.trace_text.proofs.Traces.{flat_map-drop}
 
 pub one_more : {A B : Type 0} (made : A → List B) (xs : List A) (i : ℕ) (d : A) (now next start : List B) → i < length xs

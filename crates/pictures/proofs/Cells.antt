@@ -1,10 +1,8 @@
 -- What is made of one number after another.
-use Rattle.std.proofs.Common.{◌≡◌, ◌∙◌, ◌≤◌, ap, sym, ℕ, ◌+◌, ◌-◌, ◌*◌, ◌<◌, List, [], ◌∷◌, ◌++◌, arith, append_assoc}
-use Rattle.std.proofs.lemmas.List.{append-nil}
+use Rattle.std.proofs.Common.{◌≡◌, ◌∙◌, ◌≤◌, ap, sym, ℕ, ◌+◌, ◌-◌, ◌*◌, ◌<◌, List, [], ◌∷◌, ◌++◌, arith, append_assoc, append-nil}
 use Rattle.std.proofs.lemmas.Grind.{flat_map-append}
 use Rattle.trace_text.proofs.Traces.{one_text_more}
-use Rattle.pictures.specs.Picture.{each_from, lines_text, with_cells, written_line}
-use Rattle.pictures.specs.Sheet.{put_at}
+use Rattle.pictures.specs.{Picture.each_from, Picture.lines_text, Picture.with_cells, Picture.written_line, Sheet.put_at}
 
 -- one cell more
 pub with_cells-next : (cell : ℕ → List ℕ) (width n count : ℕ) (line : List ℕ) → n < count

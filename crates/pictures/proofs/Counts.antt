@@ -1,8 +1,7 @@
 -- How many choices are left of runs.
-use Rattle.std.proofs.Common.{◌≡◌, ◌∙◌, ℕ, ◌+◌, ◌<◌, ◌≤◌, List, ◌++◌, length, get_or, drop, replicate, ap, arith}
-use Rattle.std.proofs.lemmas.List.{length-append, length-replicate}
-use Rattle.schedule_reader.specs.declared.run.Run.{Run}
-use Rattle.schedule_reader.specs.Schedule.{choices_of}
+use Rattle.std.proofs.Common.{◌≡◌, ◌∙◌, ℕ, ◌+◌, ◌<◌, ◌≤◌, List, ◌++◌, length, get_or, drop, replicate, ap, arith, length-append}
+use Rattle.std.proofs.lemmas.List.{length-replicate}
+use Rattle.schedule_reader.specs.{declared.run.Run.Run, Schedule.choices_of}
 use Rattle.thread_machine.specs.declared.choice.Choice.{Choice}
 use Rattle.trace_text.proofs.Traces.{flat_map-drop}
 

@@ -1,23 +1,16 @@
 -- One choice more is drawn.
 use Rattle.std.proofs.Common.{◌≡◌, ◌∙◌, ℕ, ◌+◌, ◌<◌, Bool, true, false, List, [], ◌∷◌, ◌++◌, Option, Some, None, ap, sym, append_assoc, length, get_or, drop, is_none, arith, rules}
-use Rattle.std.proofs.lemmas.List.{drop_more}
-use Rattle.std.proofs.lemmas.Grind.{flat_map-append}
+use Rattle.std.proofs.lemmas.{List.drop_more, Grind.flat_map-append}
 use Rattle.assembler.specs.Symbols.{SymbolTable}
-use Rattle.thread_machine.specs.declared.choice.Choice.{Choice}
-use Rattle.thread_machine.specs.declared.fault.StepFault.{StepFault}
-use Rattle.thread_machine.specs.Execution.{execution, execution_by}
-use Rattle.thread_machine.specs.Step.{Played, played, refusal_of}
-use Rattle.thread_machine.specs.World.{World}
-use Rattle.pictures.specs.declared.sheet.Sheet.{Sheet}
-use Rattle.pictures.specs.Drawing.{Draws, DrawsOne, IsDrawing}
+use Rattle.thread_machine.specs.{declared.choice.Choice.Choice, declared.fault.StepFault.StepFault, World.World}
+use Rattle.thread_machine.specs.{Execution.execution, Execution.execution_by, Step.Played, Step.played, Step.refusal_of}
+use Rattle.pictures.specs.{declared.sheet.Sheet.Sheet, Drawing.Draws, Drawing.DrawsOne, Drawing.IsDrawing, Caption.row_caption}
+use Rattle.pictures.specs.Picture.{choice_line, choice_lines, lines_by, lines_text, refused_line, written_line}
+use Rattle.pictures.specs.{Sheet.column_room, Sheet.kept_behind, Sheet.mark_room, Turn.mark_words, Turn.marked, Turn.turn_text}
 use Rattle.instruction_table.specs.declared.row.Row.{Row}
 use Rattle.loader.specs.Program.{row_at}
 use Rattle.machine_scene.specs.Scene.{thread_at}
 use Rattle.thread_state.specs.declared.event.Event.{Event}
-use Rattle.pictures.specs.Caption.{row_caption}
-use Rattle.pictures.specs.Picture.{choice_line, choice_lines, lines_by, lines_text, refused_line, written_line}
-use Rattle.pictures.specs.Sheet.{column_room, kept_behind, mark_room}
-use Rattle.pictures.specs.Turn.{mark_words, marked, turn_text}
 
 -- lines that were written, and then more
 pub both_lines : (width : ℕ) (old mid new : List ℕ) (lines more : List (List ℕ)) → mid ≡ old ++ lines_text width lines

@@ -1,10 +1,7 @@
 -- How a wait ends, by what its row and status say.
-use Rattle.std.proofs.Common.{◌≡◌, ◌∙◌, ◌<◌, ◌≤◌, ℕ, ℤ, List, [], Bool, true, false, length, if◌then◌else◌, ◌&&◌, not, ap, sym, subst, refl, arith}
-use Rattle.std.specs.Prelude.{IfSome, is_some, Option, Some, None, Result, is_ok, OnOk, ◌++◌, codes}
-use Rattle.std.proofs.lemmas.Bool.{false≢true}
-use Rattle.std.proofs.lemmas.List.{get_or_past, get_or-replicate}
-use Rattle.cyclic_barrier.specs.Barrier.{BarrierState, fresh}
-use Rattle.cyclic_barrier.specs.Waits.{wait_at}
+use Rattle.std.proofs.Common.{◌≡◌, ◌∙◌, ◌<◌, ◌≤◌, ℕ, ℤ, List, [], Bool, true, false, length, if◌then◌else◌, ◌&&◌, not, ap, sym, subst, refl, arith, IfSome, is_some, Option, Some, None, Result, is_ok, OnOk, ◌++◌, codes}
+use Rattle.std.proofs.lemmas.{Bool.false≢true, List.get_or_past, List.get_or-replicate}
+use Rattle.cyclic_barrier.specs.{Barrier.BarrierState, Barrier.fresh, Waits.wait_at}
 use Rattle.instruction_table.specs.declared.row.Row.{Row}
 use Rattle.loader.specs.Program.{Program, row_at}
 use Rattle.machine_scene.specs.Outcomes.{is_ready, outcome_in, outcome_of}
@@ -12,8 +9,7 @@ use Rattle.machine_scene.specs.Scene.{Outcome, Scene, thread_at, barrier_at}
 use Rattle.machine_scene.specs.Waits.{outcome_of_barrier_wait, outcome_of_phase_wait}
 use Rattle.thread_state.specs.declared.status.Status.{Status}
 use Rattle.thread_state.specs.declared.status.Status.TheVariants as status
-use Rattle.thread_machine.specs.Ready.{can_expire, is_stuck}
-use Rattle.thread_machine.specs.World.{World}
+use Rattle.thread_machine.specs.{Ready.can_expire, Ready.is_stuck, World.World}
 use Rattle.pictures.specs.Picture.{end_text, hope_text, thrown_in, waits}
 
 -- the turn of a thread that has one ends its wait like this

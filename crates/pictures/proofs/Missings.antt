@@ -1,15 +1,9 @@
 -- The refusal that ended a run tells the choice of a thread that isn't there.
-use Rattle.std.proofs.Common.{◌≡◌, ◌∙◌, ◌+◌, true, false, List, [], ◌∷◌, ◌++◌, length, Option, Some, None, refl, ap, sym, append_assoc, arith}
-use Rattle.std.proofs.lemmas.List.{length-append}
-use Rattle.std.specs.Prelude.{nat_lt, option_map, slice_get}
-use Rattle.thread_machine.specs.declared.choice.Choice.{Choice}
-use Rattle.thread_machine.specs.declared.fault.StepFault.{StepFault}
+use Rattle.std.proofs.Common.{◌≡◌, ◌∙◌, ◌+◌, true, false, List, [], ◌∷◌, ◌++◌, length, Option, Some, None, refl, ap, sym, append_assoc, arith, length-append, nat_lt, option_map, slice_get}
+use Rattle.thread_machine.specs.{declared.choice.Choice.Choice, declared.fault.StepFault.StepFault, World.World}
+use Rattle.thread_machine.specs.{Execution.execution, Execution.execution_by, Step.played, Step.refusal_of}
 use Rattle.thread_machine.specs.declared.fault.StepFault.TheVariants as fault
-use Rattle.thread_machine.specs.Execution.{execution, execution_by}
-use Rattle.thread_machine.specs.Step.{played, refusal_of}
-use Rattle.thread_machine.specs.World.{World}
-use Rattle.trace_text.specs.RunText.{refusal_in}
-use Rattle.trace_text.specs.Trace.{refused_by, refused_of}
+use Rattle.trace_text.specs.{RunText.refusal_in, Trace.refused_by, Trace.refused_of}
 use Rattle.pictures.specs.Missing.{missing_by, missing_told}
 
 one_more : (world : World) (choice : Choice) → (played world choice).world.choices ≡ world.choices + 1

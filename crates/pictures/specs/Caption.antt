@@ -2,12 +2,9 @@
 use Rattle.std.specs.Prelude.{ℕ, ℤ, List, [], ◌∷◌, ◌++◌, codes, decimal, Option, Some, None, unsigned_abs}
 use Rattle.std.specs.Fmt.{signed_decimal}
 use Rattle.assembler.specs.Symbols.{SymbolTable, name_of}
-use Rattle.instruction_table.specs.declared.row.Row.{Row}
-use Rattle.instruction_table.specs.declared.shape.OperandKind.{OperandKind}
+use Rattle.instruction_table.specs.{declared.row.Row.Row, declared.shape.OperandKind.OperandKind, Table.entry_for}
 use Rattle.instruction_table.specs.declared.shape.OperandKind.TheVariants as kind
-use Rattle.instruction_table.specs.Table.{entry_for}
-use Rattle.line_reader.specs.Symbols.{Name}
-use Rattle.line_reader.specs.Listing.{joined}
+use Rattle.line_reader.specs.{Symbols.Name, Listing.joined}
 use Rattle.row_code.specs.RowFields.{fields_of}
 
 -- what stands before a number if there is no name: `t0`, `p0`, `b0`, `c0`, and `#0` for a row

@@ -1,7 +1,6 @@
 -- The choices of a schedule, and how many a picture has room for.
 use Rattle.std.specs.Prelude.{◌≡◌, ◌<◌, ℕ, List, None, length}
-use Rattle.schedule_reader.specs.declared.run.Run.{Run}
-use Rattle.schedule_reader.specs.Schedule.{choices_of, finished_schedule}
+use Rattle.schedule_reader.specs.{declared.run.Run.Run, Schedule.choices_of, Schedule.finished_schedule}
 use Rattle.thread_machine.specs.declared.choice.Choice.{Choice}
 
 -- the most choices that a drawing shows

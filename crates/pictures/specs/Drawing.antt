@@ -1,11 +1,8 @@
 -- How a block is drawn choice by choice. Only proofs use this: no promise depends on it.
 use Rattle.std.specs.Prelude.{◌≡◌, Bool, List, ℕ, [], ◌∷◌, ◌++◌, is_none}
 use Rattle.assembler.specs.Symbols.{SymbolTable}
-use Rattle.thread_machine.specs.declared.choice.Choice.{Choice}
-use Rattle.thread_machine.specs.Execution.{execution}
-use Rattle.thread_machine.specs.World.{World}
-use Rattle.pictures.specs.declared.sheet.Sheet.{Sheet}
-use Rattle.pictures.specs.Picture.{choice_lines, lines_text}
+use Rattle.thread_machine.specs.{declared.choice.Choice.Choice, Execution.execution, World.World}
+use Rattle.pictures.specs.{declared.sheet.Sheet.Sheet, Picture.choice_lines, Picture.lines_text}
 
 -- the choices are drawn up to the first that is refused, and the world is the one after them
 pub record Draws (sheet : Sheet) (symbols : SymbolTable) (first : ℕ) (before after : World) (choices : List Choice)

@@ -2,13 +2,10 @@
 use Rattle.std.specs.Prelude.{◌≡◌, ℕ, ◌+◌, nat_lt, if◌then◌else◌, List, length, Option, Some, None, slice_get}
 use Rattle.pictures.specs.Choices.{AreChoicesOf}
 use Rattle.row_code.specs.declared.image.Image.{Image}
-use Rattle.thread_machine.specs.declared.choice.Choice.{Choice}
-use Rattle.thread_machine.specs.Execution.{execution}
-use Rattle.thread_machine.specs.World.{World}
-use Rattle.trace_text.specs.Start.{Begins}
+use Rattle.thread_machine.specs.{declared.choice.Choice.Choice, Execution.execution, World.World}
 use Rattle.thread_machine.specs.declared.fault.StepFault.{StepFault}
+use Rattle.trace_text.specs.{Start.Begins, declared.run_end.Refusal.Refusal}
 use Rattle.thread_machine.specs.declared.fault.StepFault.TheVariants as fault
-use Rattle.trace_text.specs.declared.run_end.Refusal.{Refusal}
 
 -- this is the next choice in a world
 abbrev pub missing_by : World → Option Choice → Option (ℕ × Choice)

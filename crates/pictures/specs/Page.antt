@@ -3,14 +3,10 @@ use Rattle.std.specs.Prelude.{◌≡◌, ◌≤◌, ◌<◌, ℕ, ◌==◌, ◌|
 use Rattle.std.specs.Borrow.{Bor}
 use Rattle.line_reader.specs.Listing.{canonical}
 use Rattle.row_code.specs.declared.image.Image.{Image}
-use Rattle.pictures.specs.Choices.{AreRunsOf, most_page_choices}
-use Rattle.pictures.specs.declared.frame.Frame.{Frame}
-use Rattle.schedule_reader.specs.declared.run.Run.{Run}
-use Rattle.schedule_reader.specs.Schedule.{choices_of}
-use Rattle.schedule_reader.specs.Text.{schedule_text}
+use Rattle.pictures.specs.{Choices.AreRunsOf, Choices.most_page_choices, declared.frame.Frame.Frame}
+use Rattle.schedule_reader.specs.{declared.run.Run.Run, Schedule.choices_of, Text.schedule_text}
 use Rattle.thread_machine.specs.World.{World}
-use Rattle.trace_text.specs.Start.{Begins}
-use Rattle.trace_text.specs.Trace.{trace_of}
+use Rattle.trace_text.specs.{Start.Begins, Trace.trace_of}
 
 -- a byte as a page has it: `&`, `<`, `>` and CR as entities, and each other byte as it is
 abbrev pub escaped_byte : ℕ → List ℕ

@@ -3,36 +3,26 @@
 use Rattle.std.specs.Prelude.{◌≡◌, ℕ, ℤ, zero, suc, ◌+◌, ◌-◌, ◌*◌, ◌/◌, ◌==◌, ◌&&◌, not, nat_lt, min, Bool, true, false, if◌then◌else◌, List, [], ◌∷◌, ◌++◌, length, take, flat_map, codes, decimal, Option, Some, None, slice_get}
 use Rattle.std.specs.Fmt.{signed_decimal}
 use Rattle.assembler.specs.Symbols.{SymbolTable}
-use Rattle.cyclic_barrier.specs.Barrier.{BarrierState, number_waiting}
-use Rattle.cyclic_barrier.specs.Waits.{wait_at}
+use Rattle.cyclic_barrier.specs.{Barrier.BarrierState, Barrier.number_waiting, Waits.wait_at}
 use Rattle.cyclic_barrier.specs.declared.answer.WaitState.{WaitState}
 use Rattle.cyclic_barrier.specs.declared.answer.WaitState.TheVariants as state
-use Rattle.instruction_table.specs.declared.row.Row.{Row}
+use Rattle.instruction_table.specs.declared.{row.Row.Row, shape.OperandKind.OperandKind}
 use Rattle.instruction_table.specs.declared.row.Row.TheVariants.{Paaa, Pawait, Pawaiti, Pawaitt, Cawait, Cawaitt}
-use Rattle.instruction_table.specs.declared.shape.OperandKind.{OperandKind}
 use Rattle.instruction_table.specs.declared.shape.OperandKind.TheVariants as kind
 use Rattle.loader.specs.Program.{row_at}
-use Rattle.machine_scene.specs.Outcomes.{is_ready, outcome_of}
-use Rattle.machine_scene.specs.PhaserRows.{is_past}
+use Rattle.machine_scene.specs.{Outcomes.is_ready, Outcomes.outcome_of, PhaserRows.is_past}
 use Rattle.machine_scene.specs.Scene.{Outcome, Scene, thread_at}
-use Rattle.thread_machine.specs.declared.choice.Choice.{Choice}
-use Rattle.thread_machine.specs.declared.fault.StepFault.{StepFault}
+use Rattle.thread_machine.specs.{declared.choice.Choice.Choice, declared.fault.StepFault.StepFault, Execution.execution}
+use Rattle.thread_machine.specs.{Ready.can_expire, Ready.is_stuck, Step.Played, Step.played, Step.refusal_of, World.World}
 use Rattle.thread_machine.specs.declared.fault.StepFault.TheVariants as fault
-use Rattle.thread_machine.specs.Execution.{execution}
-use Rattle.thread_machine.specs.Ready.{can_expire, is_stuck}
-use Rattle.thread_machine.specs.Step.{Played, played, refusal_of}
-use Rattle.thread_machine.specs.World.{World}
-use Rattle.thread_state.specs.declared.event.Event.{Event}
-use Rattle.thread_state.specs.declared.event.What.{What}
+use Rattle.thread_state.specs.declared.{event.Event.Event, event.What.What, status.Status.Status}
 use Rattle.thread_state.specs.declared.event.What.TheVariants as what
-use Rattle.thread_state.specs.declared.status.Status.{Status}
 use Rattle.thread_state.specs.declared.status.Status.TheVariants as status
 use Rattle.row_code.specs.declared.image.Image.{Image}
 use Rattle.trace_text.specs.Start.{Begins}
 use Rattle.packed_phaser.specs.Flat.{Flat}
 use Rattle.tier_tree.specs.Forest.{PhaserState, flat_at, phaser_at}
-use Rattle.pictures.specs.declared.sheet.Sheet.{Sheet}
-use Rattle.pictures.specs.Caption.{called, row_caption}
+use Rattle.pictures.specs.{declared.sheet.Sheet.Sheet, Caption.called, Caption.row_caption}
 use Rattle.pictures.specs.Sheet.{column_room, kept_behind, mark_column, mark_room, number_text, other_blocks, put_at, sheet_of, shortened}
 use Rattle.pictures.specs.Turn.{mark_words, marked, standing, turn_text}
 

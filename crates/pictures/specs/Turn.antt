@@ -2,15 +2,12 @@
 use Rattle.std.specs.Prelude.{ℕ, ℤ, pos, negsuc, Bool, true, false, if◌then◌else◌, List, [], ◌++◌, codes, decimal}
 use Rattle.assembler.specs.Symbols.{SymbolTable}
 use Rattle.instruction_table.specs.declared.shape.OperandKind.TheVariants as kind
-use Rattle.thread_state.specs.declared.event.Mark.{Mark}
+use Rattle.thread_state.specs.declared.{event.Mark.Mark, event.What.What, status.Status.Status}
 use Rattle.thread_state.specs.declared.event.Mark.TheVariants as mark
-use Rattle.thread_state.specs.declared.event.What.{What}
 use Rattle.thread_state.specs.declared.event.What.TheVariants as what
-use Rattle.thread_state.specs.declared.status.Status.{Status}
 use Rattle.thread_state.specs.declared.status.Status.TheVariants as status
 use Rattle.trace_text.specs.Lines.{what_text}
-use Rattle.pictures.specs.Caption.{called}
-use Rattle.pictures.specs.Sheet.{kept_behind, shortened}
+use Rattle.pictures.specs.{Caption.called, Sheet.kept_behind, Sheet.shortened}
 
 -- a row is shown if it was done, threw an exception, or began to wait or to run a routine; its result follows. Everything else
 -- that a choice can do isn't done by the row.

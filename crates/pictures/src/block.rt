@@ -1,9 +1,7 @@
 // Draws a block: some threads side by side, over the whole run.
 ghost use Rattle.std.specs.Prelude.{◌≡◌, ◌++◌, ◌<◌, length, IfOk, OnOk};
-ghost use Rattle.thread_machine.specs.Execution.{execution};
-ghost use Rattle.thread_machine.specs.World.{world_of};
-ghost use Rattle.pictures.specs.Caption.{row_caption};
-ghost use Rattle.pictures.specs.Drawing.{Draws, DrawsOne};
+ghost use Rattle.thread_machine.specs.{Execution.execution, World.world_of};
+ghost use Rattle.pictures.specs.{Caption.row_caption, Drawing.Draws, Drawing.DrawsOne};
 ghost use Rattle.pictures.specs.Picture.{block_lines, choice_line, lines_text, refused_line, refused_words};
 ghost use Rattle.pictures.specs.Sheet.{column_room, kept_behind, mark_room};
 ghost use Rattle.pictures.specs.Turn.{mark_words, marked, turn_text};

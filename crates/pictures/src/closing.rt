@@ -7,10 +7,8 @@ ghost use Rattle.machine_scene.specs.Waits.{outcome_of_barrier_wait, outcome_of_
 ghost use Rattle.packed_phaser.specs.Flat.{view_of};
 ghost use Rattle.thread_machine.specs.World.{world_of};
 ghost use Rattle.pictures.specs.Picture.{above_text, arrived_above, arrived_at, arrived_text, at_phaser, awaited_text, barrier_wait, behind_phaser, behind_text, closing_lines, closing_of, dead_line, has_ended, have_all_arrived, hope_text, lines_text, missing_for, name_room, thrown_in, waiting_line, waits};
-ghost use Rattle.pictures.specs.Caption.{called};
-ghost use Rattle.pictures.specs.Sheet.{shortened};
-ghost use Rattle.tier_tree.specs.Forest.{flat_at};
-ghost use Rattle.tier_tree.specs.Stored.{phasers_of};
+ghost use Rattle.pictures.specs.{Caption.called, Sheet.shortened};
+ghost use Rattle.tier_tree.specs.{Forest.flat_at, Stored.phasers_of};
 
 use crate::caption::push_called;
 use crate::fitting::{kept_behind, push_count, push_value, shortened};

@@ -1,7 +1,6 @@
 ghost use Rattle.std.specs.Prelude.{◌≡◌, List, ℕ, true, ◌≤◌, ◌++◌, length, map, take, codes};
 ghost use Rattle.std.specs.List.{list_all};
-ghost use Rattle.pictures.specs.Page.{escaped, is_in_no_tag};
-ghost use Rattle.pictures.specs.Picture.{lines_text, written_line};
+ghost use Rattle.pictures.specs.{Page.escaped, Page.is_in_no_tag, Picture.lines_text, Picture.written_line};
 
 /// A law: no byte of an escaped text begins or ends a tag, so the text stays inside its element.
 pub fn an_escaped_text_ends_no_element()

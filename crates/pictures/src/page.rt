@@ -1,18 +1,13 @@
 // Puts a page together: its fixed parts, and between them the listing, the source, the schedule and the trace.
 ghost use Rattle.std.specs.Prelude.{◌≡◌, ◌≢◌, ◌<◌, ◌≤◌, ◌⊎◌, ◌++◌, ℕ, List, All, length, flat_map, IfErr, IfOk, OnOk, Err, Some, None, false};
 ghost use Rattle.std.specs.Borrow.{Bor};
-ghost use Rattle.loader.specs.declared.load_fault.LoadFault.{LoadFault};
-ghost use Rattle.loader.specs.Fault.{first_fault};
-ghost use Rattle.loader.specs.Program.{IsProgramOf};
-ghost use Rattle.pictures.specs.Choices.{HasMoreChoices, most_page_choices};
-ghost use Rattle.pictures.specs.Missing.{IsMissingIn, missing_in};
+ghost use Rattle.loader.specs.{declared.load_fault.LoadFault.LoadFault, Fault.first_fault, Program.IsProgramOf};
+ghost use Rattle.pictures.specs.{Choices.HasMoreChoices, Choices.most_page_choices, Missing.IsMissingIn, Missing.missing_in};
 ghost use Rattle.pictures.specs.Page.{HasLongTrace, IsPageIn, escaped, most_trace, page_text, parts_of};
-ghost use Rattle.schedule_reader.specs.declared.fault.ScheduleFault.{ScheduleFault};
+ghost use Rattle.schedule_reader.specs.{declared.fault.ScheduleFault.ScheduleFault, Text.schedule_text};
 ghost use Rattle.schedule_reader.specs.Schedule.{IsRun, choices_of, finished_schedule};
-ghost use Rattle.schedule_reader.specs.Text.{schedule_text};
 ghost use Rattle.thread_machine.specs.World.{first_world};
-ghost use Rattle.trace_text.specs.Start.{IsRefused, is_want_of_memory};
-ghost use Rattle.trace_text.specs.Trace.{trace_of};
+ghost use Rattle.trace_text.specs.{Start.IsRefused, Start.is_want_of_memory, Trace.trace_of};
 
 use crate::choices::{MOST_PAGE_CHOICES, runs_in};
 use crate::escape::add_escaped;

@@ -1,8 +1,7 @@
 // Puts a picture together: its blocks one below the other, and its last lines.
 ghost use Rattle.std.specs.Prelude.{◌≡◌, ◌++◌, ◌<◌, IfOk, OnOk};
 ghost use Rattle.pictures.specs.Picture.{each_from, lines_on, lines_text, other_block, picture};
-ghost use Rattle.thread_machine.specs.Execution.{execution};
-ghost use Rattle.thread_machine.specs.World.{world_of};
+ghost use Rattle.thread_machine.specs.{Execution.execution, World.world_of};
 
 use crate::block::draw_block;
 use crate::closing::push_closings;

@@ -1,18 +1,12 @@
 -- A fold over the words of a line and over the lines of a text, one more at a time.
-use Rattle.std.proofs.Common.{◌≡◌, ◌≢◌, ◌∙◌, ◌+◌, ◌<◌, ◌≤◌, ℕ, Bool, List, [], ◌∷◌, ◌++◌, length, take, drop, ap, arith}
-use Rattle.std.specs.Prelude.{Result, Ok}
-use Rattle.std.specs.List.{position_or_len, slice_split}
-use Rattle.std.proofs.lemmas.Bool.Decides.{nat_tests}
-use Rattle.std.proofs.lemmas.List.{take_all}
-use Rattle.std.proofs.lemmas.List.Splits.{slice_split_first, slice_split_none}
+use Rattle.std.proofs.Common.{◌≡◌, ◌≢◌, ◌∙◌, ◌+◌, ◌<◌, ◌≤◌, ℕ, Bool, List, [], ◌∷◌, ◌++◌, length, take, drop, ap, arith, Result, Ok, take_all}
+use Rattle.std.proofs.lemmas.{Bool.Decides.nat_tests, List.Splits.slice_split_first, List.Splits.slice_split_none}
 use Rattle.std.proofs.lemmas.List.Sums.{fails_before_first, prefix_len-le-length}
+use Rattle.std.specs.List.{position_or_len, slice_split}
 use Rattle.row_code.specs.Answers.{FailsUnless}
 use Rattle.line_reader.specs.Words.{is_line_end, words_in}
-use Rattle.plans.specs.Cutting.{word_alone}
-use Rattle.plans.specs.declared.fault.PlanFault.{PlanFault}
+use Rattle.plans.specs.{Cutting.word_alone, declared.fault.PlanFault.PlanFault, Reading.Name, Words.spread, Words.words_of}
 use Rattle.plans.specs.Plan.{Draft, word_behind, words_behind, lines_behind}
-use Rattle.plans.specs.Reading.{Name}
-use Rattle.plans.specs.Words.{spread, words_of}
 
 pub next_word : (names : List Name) (line : ℕ) (text : List ℕ) (n : ℕ) (before after : Draft) (all : Result Draft PlanFault)
     → n ≢ 0 → n ≤ length text → words_in (spread text) ≡ word_alone (take n text) ++ words_in (spread (drop n text))

@@ -1,12 +1,8 @@
 -- One choice, as it is refused or made.
-use Rattle.std.proofs.Common.{◌≡◌, ◌≤◌, Bool, true, length, arith}
-use Rattle.std.specs.Prelude.{Some, nat_le}
-use Rattle.thread_machine.specs.declared.choice.Choice.{Choice}
+use Rattle.std.proofs.Common.{◌≡◌, ◌≤◌, Bool, true, length, arith, Some, nat_le}
+use Rattle.thread_machine.specs.{declared.choice.Choice.Choice, World.World, Step.refusal_of}
 use Rattle.thread_machine.specs.declared.fault.StepFault.TheVariants as fault
-use Rattle.thread_machine.specs.World.{World}
-use Rattle.thread_machine.specs.Step.{refusal_of}
-use Rattle.plans.specs.Progress.{Progress, chosen_by}
-use Rattle.plans.specs.Rules.{thread_count}
+use Rattle.plans.specs.{Progress.Progress, Progress.chosen_by, Rules.thread_count}
 
 refused : (none : Bool) (world : World) (choice : Choice) → nat_le (length world.scene.threads) choice.thread ≡ none → none ≡ true
     → refusal_of world choice ≡ Some fault.NoSuchThread

@@ -1,11 +1,7 @@
 -- Up to twenty digits and the number that they spell.
 use Rattle.std.proofs.Common.{◌+◌, ◌-◌, ◌*◌, ◌<◌, ◌≤◌, ℕ, List, length, take, get_or, arith}
-use Rattle.std.specs.List.{AllPass}
-use Rattle.std.specs.Char.{is_ascii_digit}
-use Rattle.std.specs.Str.Parse.{digits_value}
-use Rattle.std.proofs.lemmas.Int.Digits.{digits_value-lt}
-use Rattle.std.proofs.lemmas.Str.Parse.{digits_value-take-le}
-use Rattle.std.proofs.Math.Nat.{pow-le-pow_right}
+use Rattle.std.proofs.{lemmas.Int.Digits.digits_value-lt, lemmas.Str.Parse.digits_value-take-le, Math.Nat.pow-le-pow_right}
+use Rattle.std.specs.{List.AllPass, Char.is_ascii_digit, Str.Parse.digits_value}
 use Rattle.line_reader.proofs.Digits.{AllDigits-from_AllPass, digits_value-next}
 
 -- twenty digits spell a number below 10 ^ 20

@@ -1,15 +1,10 @@
 -- What is left of a plan behind some of its words.
-use Rattle.std.proofs.Common.{◌≡◌, ◌∙◌, ◌++◌, ℕ, List, [], ◌∷◌, sym, append_assoc, arith}
-use Rattle.std.specs.Prelude.{Option, Some, None}
-use Rattle.std.proofs.lemmas.List.{append-nil}
-use Rattle.plans.specs.declared.word.Step.{Step}
-use Rattle.plans.specs.declared.word.Word.{Word}
-use Rattle.plans.specs.declared.word.Word.TheVariants as word
-use Rattle.plans.specs.Tree.{Plan, Done, words_of_plan}
-use Rattle.plans.specs.Progress.{Progress}
-use Rattle.plans.specs.Play.{plays, step_played}
-use Rattle.plans.proofs.Progresses.{repeated_same, settles}
+use Rattle.std.proofs.Common.{◌≡◌, ◌∙◌, ◌++◌, ℕ, List, [], ◌∷◌, sym, append_assoc, arith, Option, Some, None, append-nil}
+use Rattle.plans.specs.{declared.word.Step.Step, declared.word.Word.Word, Tree.Plan, Tree.Done, Tree.words_of_plan}
+use Rattle.plans.specs.{Progress.Progress, Play.plays, Play.step_played}
 use Rattle.plans.specs.Groups.{IsEnd, Played, HasPlayed, HasPlayedGroup, HasPlayedAgain}
+use Rattle.plans.specs.declared.word.Word.TheVariants as word
+use Rattle.plans.proofs.Progresses.{repeated_same, settles}
 
 -- this plan is left, and playing it makes of one progress what the whole makes of the first
 pub record Left (here : List Word) (plan : Plan) (tail : List Word) (first now : Progress) : Type 0 where

@@ -2,8 +2,7 @@
 use Rattle.std.proofs.Common.{◌≡◌, ◌∙◌, ◌+◌, ◌<◌, ◌≤◌, ℕ, List, length, get_or, drop, ap, sym}
 use Rattle.std.proofs.lemmas.List.{drop_all, drop_more}
 use Rattle.thread_machine.specs.declared.choice.Choice.{Choice}
-use Rattle.plans.specs.Progress.{Progress}
-use Rattle.plans.specs.Others.{all_kept, kept}
+use Rattle.plans.specs.{Progress.Progress, Others.all_kept, Others.kept}
 
 -- those that are left lead to where all lead
 pub next_kept : (choices : List Choice) (i : ℕ) (d : Choice) (before after all : Progress) → i < length choices

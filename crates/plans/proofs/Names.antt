@@ -1,6 +1,5 @@
 -- The place of a name.
-use Rattle.std.proofs.Common.{◌≡◌, ◌+◌, ℕ, List, [], ◌∷◌, length, map, ap, refl, bytes_eq, arith}
-use Rattle.std.specs.Prelude.{not, cond, position}
+use Rattle.std.proofs.Common.{◌≡◌, ◌+◌, ℕ, List, [], ◌∷◌, length, map, ap, refl, bytes_eq, arith, not, cond, position}
 use Rattle.std.specs.List.{position_or_len}
 use Rattle.line_reader.specs.Seen.{Borrowed, name_seen}
 

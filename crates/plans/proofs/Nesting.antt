@@ -1,17 +1,12 @@
 -- The words that are read are those of a plan.
-use Rattle.std.proofs.Common.{◌≡◌, ◌∙◌, ◌+◌, ◌==◌, ℕ, zero, suc, Bool, true, false, List, [], ◌∷◌, ◌++◌, ap, sym, refl, subst, arith, append_assoc, add-one}
-use Rattle.std.specs.Prelude.{IfOk, Result, Ok, Err, if◌then◌else◌}
-use Rattle.std.proofs.lemmas.List.{append-nil}
+use Rattle.std.proofs.Common.{◌≡◌, ◌∙◌, ◌+◌, ◌==◌, ℕ, zero, suc, Bool, true, false, List, [], ◌∷◌, ◌++◌, ap, sym, refl, subst, arith, append_assoc, add-one, IfOk, Result, Ok, Err, if◌then◌else◌, append-nil}
 use Rattle.row_code.specs.Answers.{◌>>=◌}
-use Rattle.plans.specs.declared.fault.PlanFault.{PlanFault}
-use Rattle.plans.specs.declared.fault.PlanFaultKind.TheVariants as fault
-use Rattle.plans.specs.declared.word.Step.{Step}
-use Rattle.plans.specs.declared.word.Word.{Word}
-use Rattle.plans.specs.declared.word.Word.TheVariants as word
+use Rattle.plans.specs.{declared.fault.PlanFault.PlanFault, declared.word.Step.Step, declared.word.Word.Word, Words.words_of}
 use Rattle.plans.specs.Plan.{AnswersPlan, Draft, no_words, draft_open, with_word, placed, word_behind, words_behind, lines_behind, words_in_lines}
 use Rattle.plans.specs.Reading.{Name, Said, word_of}
 use Rattle.plans.specs.Tree.{Plan, Done, Then, Group, words_of_plan, IsPlan}
-use Rattle.plans.specs.Words.{words_of}
+use Rattle.plans.specs.declared.fault.PlanFaultKind.TheVariants as fault
+use Rattle.plans.specs.declared.word.Word.TheVariants as word
 
 -- words behind which so many parentheses that were opened before are closed
 record Closes (rest : List Word) (Inner : List Word → Type 0) : Type 0 where

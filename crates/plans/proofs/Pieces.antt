@@ -1,8 +1,7 @@
 -- The words of a line, one piece after the other.
-use Rattle.std.proofs.Common.{◌≡◌, ◌∙◌, ◌+◌, ◌<◌, ◌==◌, ℕ, suc, Bool, true, false, cond, not, List, [], ◌∷◌, ◌++◌, length, take, drop, refl, sym, ap, arith}
-use Rattle.std.specs.Prelude.{◌||◌, if◌then◌else◌, slice_index_or}
-use Rattle.std.specs.List.{filter, onto_first, position_or_len, slice_split}
+use Rattle.std.proofs.Common.{◌≡◌, ◌∙◌, ◌+◌, ◌<◌, ◌==◌, ℕ, suc, Bool, true, false, cond, not, List, [], ◌∷◌, ◌++◌, length, take, drop, refl, sym, ap, arith, ◌||◌, if◌then◌else◌, slice_index_or}
 use Rattle.std.proofs.lemmas.Bool.Decides.{nat_tests}
+use Rattle.std.specs.List.{filter, onto_first, position_or_len, slice_split}
 use Rattle.line_reader.specs.Words.{is_blank, words_in}
 use Rattle.plans.specs.Cutting.{parts_words, word_alone}
 use Rattle.plans.specs.Words.{begins_count, blank_behind, is_parenthesis, spread}

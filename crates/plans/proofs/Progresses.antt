@@ -1,14 +1,8 @@
 -- What a play makes of a progress: nothing, fewer choices left, or a stop; and that a stop is for good.
-use Rattle.std.proofs.Common.{◌≡◌, ◌∙◌, ◌+◌, ◌-◌, ◌<◌, ◌==◌, ℕ, zero, suc, Bool, true, false, refl, ap, arith}
-use Rattle.std.specs.Prelude.{Option, Some, None, if◌then◌else◌}
-use Rattle.thread_machine.specs.declared.choice.Choice.{Choice}
-use Rattle.thread_machine.specs.declared.fault.StepFault.{StepFault}
-use Rattle.thread_machine.specs.Step.{refusal_of}
-use Rattle.plans.specs.declared.word.Rule.{Rule}
-use Rattle.plans.specs.declared.word.Step.{Step}
-use Rattle.plans.specs.Tree.{Plan, Done, Then, Group}
-use Rattle.plans.specs.Progress.{Progress, chosen, chosen_by}
-use Rattle.plans.specs.Rules.{next_choice}
+use Rattle.std.proofs.Common.{◌≡◌, ◌∙◌, ◌+◌, ◌-◌, ◌<◌, ◌==◌, ℕ, zero, suc, Bool, true, false, refl, ap, arith, Option, Some, None, if◌then◌else◌}
+use Rattle.thread_machine.specs.{declared.choice.Choice.Choice, declared.fault.StepFault.StepFault, Step.refusal_of}
+use Rattle.plans.specs.{declared.word.Rule.Rule, declared.word.Step.Step, Tree.Plan, Tree.Done, Tree.Then, Tree.Group}
+use Rattle.plans.specs.{Progress.Progress, Progress.chosen, Progress.chosen_by, Rules.next_choice}
 use Rattle.plans.specs.Play.{repeated, followed, followed_by, step_played, plays}
 
 -- a choice was wanted for which none was left

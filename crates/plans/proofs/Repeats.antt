@@ -1,10 +1,7 @@
 -- Repetitions and rules, one choice more at a time.
-use Rattle.std.proofs.Common.{◌≡◌, ◌∙◌, ◌+◌, ◌-◌, ◌<◌, ◌≤◌, ◌==◌, ℕ, true, sym, arith}
-use Rattle.std.specs.Prelude.{◌&&◌, Some, None}
+use Rattle.std.proofs.Common.{◌≡◌, ◌∙◌, ◌+◌, ◌-◌, ◌<◌, ◌≤◌, ◌==◌, ℕ, true, sym, arith, ◌&&◌, Some, None}
 use Rattle.thread_machine.specs.declared.choice.Choice.{Choice}
-use Rattle.plans.specs.declared.word.Rule.{Rule}
-use Rattle.plans.specs.Progress.{Progress, chosen}
-use Rattle.plans.specs.Rules.{next_choice}
+use Rattle.plans.specs.{declared.word.Rule.Rule, Progress.Progress, Progress.chosen, Rules.next_choice}
 use Rattle.plans.specs.Play.{repeated, followed, followed_by}
 use Rattle.plans.proofs.Progresses.{IsOver, choice_over, repeated_same, followed_over}
 

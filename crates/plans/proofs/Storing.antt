@@ -1,10 +1,8 @@
 -- One word more is stored behind those before it.
 use Rattle.std.proofs.Common.{◌≡◌, ◌∙◌, ◌+◌, ℕ, Bool, true, cond, List, [], ◌∷◌, ◌++◌, length, refl, ap, arith}
-use Rattle.std.specs.List.{count_by}
 use Rattle.std.proofs.lemmas.List.Sums.{sum_by-cons}
-use Rattle.plans.specs.declared.part.Part.{Part}
-use Rattle.plans.specs.declared.part.Stored.{Stored}
-use Rattle.plans.specs.declared.word.Word.{Word}
+use Rattle.std.specs.List.{count_by}
+use Rattle.plans.specs.declared.{part.Part.Part, part.Stored.Stored, word.Word.Word}
 use Rattle.plans.specs.Parts.{Holds, left_of, put_of, taken_of, takes_number, takes_seed, word_with, words_of_parts}
 
 -- the numbers that some parts take are as many as those parts

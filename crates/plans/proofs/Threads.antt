@@ -1,8 +1,6 @@
 -- Lists of thread numbers, one at a time.
-use Rattle.std.proofs.Common.{◌≡◌, ◌+◌, ◌-◌, ◌<◌, ◌≤◌, ◌++◌, ℕ, Bool, true, false, List, [], ◌∷◌, ap, arith, append_assoc}
-use Rattle.std.specs.Prelude.{Option, Some, None}
+use Rattle.std.proofs.Common.{◌≡◌, ◌+◌, ◌-◌, ◌<◌, ◌≤◌, ◌++◌, ℕ, Bool, true, false, List, [], ◌∷◌, ap, arith, append_assoc, Option, Some, None, append-nil}
 use Rattle.std.specs.List.{cons_option, filter_map, find, range_with_len}
-use Rattle.std.proofs.lemmas.List.{append-nil}
 use Rattle.thread_machine.specs.declared.choice.Choice.{Choice}
 
 -- the numbers from t up to below n begin with t

@@ -1,6 +1,5 @@
 -- A draft as the code has it.
-use Rattle.plans.specs.declared.draft.Reading.{Reading}
-use Rattle.plans.specs.Plan.{Draft}
+use Rattle.plans.specs.{declared.draft.Reading.Reading, Plan.Draft}
 
 abbrev pub draft_of : Reading → Draft
 draft_of reading = record { words = reading.words; depth = reading.depth; opened = reading.opened }

@@ -1,10 +1,7 @@
 -- What words have played, whichever plan they are written for.
 use Rattle.std.specs.Prelude.{◌≡◌, ◌-◌, ℕ, Option, Some, None, List, [], ◌∷◌, ◌++◌}
-use Rattle.plans.specs.declared.word.Word.{Word}
+use Rattle.plans.specs.{declared.word.Word.Word, Tree.Plan, Tree.words_of_plan, Progress.Progress, Play.plays, Play.repeated}
 use Rattle.plans.specs.declared.word.Word.TheVariants as word
-use Rattle.plans.specs.Tree.{Plan, words_of_plan}
-use Rattle.plans.specs.Progress.{Progress}
-use Rattle.plans.specs.Play.{plays, repeated}
 
 -- what may follow a plan: the parenthesis that closes its group, or nothing
 abbrev pub IsEnd : List Word → Type 0

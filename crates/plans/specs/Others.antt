@@ -2,13 +2,9 @@
 -- until it waits or ends. Then the run's own choices follow, without those that would do nothing. Then the threads take
 -- turns.
 use Rattle.std.specs.Prelude.{ℕ, ◌&&◌, nat_lt, if◌then◌else◌, Bool, List, [], ◌∷◌}
-use Rattle.thread_machine.specs.declared.choice.Choice.{Choice}
-use Rattle.thread_machine.specs.Ready.{is_choice_ready}
-use Rattle.thread_machine.specs.World.{World}
+use Rattle.thread_machine.specs.{declared.choice.Choice.Choice, Ready.is_choice_ready, World.World}
 use Rattle.plans.specs.declared.word.Rule.TheVariants as rule
-use Rattle.plans.specs.Play.{followed}
-use Rattle.plans.specs.Progress.{Progress, begun_at, chosen}
-use Rattle.plans.specs.Rules.{thread_count}
+use Rattle.plans.specs.{Play.followed, Progress.Progress, Progress.begun_at, Progress.chosen, Rules.thread_count}
 
 -- the chosen thread, for at most 100 turns
 unfoldable pub gone_ahead : Choice → Progress → Progress

@@ -1,11 +1,9 @@
 -- How words are stored. It carries the proof alone: no public contract names it, and nobody has to believe it.
 use Rattle.std.specs.Prelude.{◌≡◌, ℕ, if◌then◌else◌, Bool, true, false, List, [], ◌∷◌, drop, Some, None}
-use Rattle.plans.specs.declared.part.Part.{Part}
+use Rattle.plans.specs.declared.{part.Part.Part, part.Stored.Stored, word.Word.Word}
 use Rattle.plans.specs.declared.part.Part.TheVariants as part
-use Rattle.plans.specs.declared.part.Stored.{Stored}
 use Rattle.plans.specs.declared.word.Rule.TheVariants as rule
 use Rattle.plans.specs.declared.word.Step.TheVariants as step
-use Rattle.plans.specs.declared.word.Word.{Word}
 use Rattle.plans.specs.declared.word.Word.TheVariants as word
 
 abbrev pub takes_number : Part → Bool

@@ -3,13 +3,10 @@ use Rattle.std.specs.Prelude.{ℕ, ◌+◌, ◌-◌, ◌==◌, nat_le, if◌then
 use Rattle.std.specs.List.{slice_split}
 use Rattle.row_code.specs.Answers.{Answers, ◌>>=◌}
 use Rattle.line_reader.specs.Words.{is_line_end}
-use Rattle.plans.specs.declared.fault.PlanFault.{PlanFault}
-use Rattle.plans.specs.declared.fault.PlanFaultKind.{PlanFaultKind}
+use Rattle.plans.specs.declared.{fault.PlanFault.PlanFault, fault.PlanFaultKind.PlanFaultKind, word.Word.Word}
+use Rattle.plans.specs.{Words.words_of, Reading.Name, Reading.Said, Reading.word_of}
 use Rattle.plans.specs.declared.fault.PlanFaultKind.TheVariants as fault
-use Rattle.plans.specs.declared.word.Word.{Word}
 use Rattle.plans.specs.declared.word.Word.TheVariants as word
-use Rattle.plans.specs.Words.{words_of}
-use Rattle.plans.specs.Reading.{Name, Said, word_of}
 
 -- the words so far, how many parentheses are open, and the line of the outermost of them
 pub record Draft : Type 0 where

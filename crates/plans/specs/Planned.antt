@@ -2,14 +2,9 @@
 use Rattle.std.specs.Prelude.{◌≡◌, ℕ, All, List}
 use Rattle.loader.specs.Program.{Program}
 use Rattle.thread_machine.specs.World.{World, world_of}
-use Rattle.schedule_reader.specs.Joined.{AreJoined}
-use Rattle.schedule_reader.specs.Schedule.{IsRun, choices_of}
-use Rattle.schedule_reader.specs.declared.run.Run.{Run}
-use Rattle.plans.specs.Tree.{Plan, words_of_plan}
-use Rattle.plans.specs.declared.word.Word.{Word}
-use Rattle.plans.specs.declared.planned.Planned.{Planned}
+use Rattle.schedule_reader.specs.{Joined.AreJoined, Schedule.IsRun, Schedule.choices_of, declared.run.Run.Run}
+use Rattle.plans.specs.{Tree.Plan, Tree.words_of_plan, declared.word.Word.Word, declared.planned.Planned.Planned, Play.plays}
 use Rattle.plans.specs.Progress.{Progress, begun, begun_at}
-use Rattle.plans.specs.Play.{plays}
 
 -- runs that tokens can spell, joined where they can be
 pub record AreRuns (runs : List Run) : Type 0 where

@@ -1,13 +1,9 @@
 -- Which choices a plan plays.
 use Rattle.std.specs.Prelude.{ℕ, zero, suc, ◌+◌, ◌-◌, Option, Some, None}
 use Rattle.thread_machine.specs.declared.choice.Choice.{Choice}
-use Rattle.plans.specs.declared.word.Chosen.{Chosen}
-use Rattle.plans.specs.declared.word.Rule.{Rule}
-use Rattle.plans.specs.declared.word.Step.{Step}
+use Rattle.plans.specs.{declared.word.Chosen.Chosen, declared.word.Rule.Rule, declared.word.Step.Step, Rules.next_choice}
+use Rattle.plans.specs.{Tree.Plan, Tree.Done, Tree.Then, Tree.Group, Progress.Progress, Progress.chosen}
 use Rattle.plans.specs.declared.word.Step.TheVariants as step
-use Rattle.plans.specs.Tree.{Plan, Done, Then, Group}
-use Rattle.plans.specs.Progress.{Progress, chosen}
-use Rattle.plans.specs.Rules.{next_choice}
 
 -- a progress that is played so many more times
 unfoldable pub repeated : ℕ → (Progress → Progress) → Progress → Progress

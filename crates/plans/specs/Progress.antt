@@ -1,10 +1,8 @@
 -- How far a plan has been played, and how one choice changes that.
 use Rattle.std.specs.Prelude.{ℕ, ◌+◌, ◌-◌, ◌==◌, if◌then◌else◌, Bool, true, false, List, [], ◌∷◌, ◌++◌, Option, Some, None}
 use Rattle.loader.specs.Program.{Program}
-use Rattle.thread_machine.specs.declared.choice.Choice.{Choice}
-use Rattle.thread_machine.specs.declared.fault.StepFault.{StepFault}
-use Rattle.thread_machine.specs.World.{World, first_world}
-use Rattle.thread_machine.specs.Step.{played, refusal_of}
+use Rattle.thread_machine.specs.declared.{choice.Choice.Choice, fault.StepFault.StepFault}
+use Rattle.thread_machine.specs.{World.World, World.first_world, Step.played, Step.refusal_of}
 
 -- the world, the choices that led to it, the number behind the thread that was chosen last, how many choices there may be
 -- yet, and whether one was wanted for which none was left

@@ -3,14 +3,12 @@ use Rattle.std.specs.Prelude.{ℕ, ◌-◌, ◌==◌, ◌||◌, ◌&&◌, not, n
 use Rattle.std.specs.List.{after_first, before_first, position_or_len}
 use Rattle.row_code.specs.Answers.{◌>>=◌}
 use Rattle.line_reader.specs.Names.{is_name}
-use Rattle.plans.specs.declared.fault.PlanFaultKind.{PlanFaultKind}
+use Rattle.plans.specs.declared.{fault.PlanFaultKind.PlanFaultKind, word.Chosen.Chosen, word.Word.Word}
+use Rattle.plans.specs.Numbers.{are_digits, count_in, number_in, seed_in}
 use Rattle.plans.specs.declared.fault.PlanFaultKind.TheVariants as fault
-use Rattle.plans.specs.declared.word.Chosen.{Chosen}
 use Rattle.plans.specs.declared.word.Rule.TheVariants as rule
 use Rattle.plans.specs.declared.word.Step.TheVariants as step
-use Rattle.plans.specs.declared.word.Word.{Word}
 use Rattle.plans.specs.declared.word.Word.TheVariants as word
-use Rattle.plans.specs.Numbers.{are_digits, count_in, number_in, seed_in}
 
 -- a name, or why there is no such thread
 abbrev pub Name : Type 0

@@ -1,15 +1,11 @@
 -- Which choice is next if a plan doesn't name it. None of these choices is idle.
 use Rattle.std.specs.Prelude.{ℕ, ◌-◌, ◌%◌, nat_lt, ◌&&◌, if◌then◌else◌, Bool, true, false, List, length, slice_get, Option, Some, None}
 use Rattle.std.specs.List.{filter_map, find, range_with_len}
-use Rattle.rand_pcg.specs.Lcg.{advance, increment_of, started}
-use Rattle.rand_pcg.specs.Pcg.{multiplier_64, pcg32}
+use Rattle.rand_pcg.specs.{Lcg.advance, Lcg.increment_of, Lcg.started, Pcg.multiplier_64, Pcg.pcg32}
 use Rattle.machine_scene.specs.Outcomes.{is_ready}
-use Rattle.thread_machine.specs.declared.choice.Choice.{Choice}
-use Rattle.thread_machine.specs.World.{World}
-use Rattle.thread_machine.specs.Ready.{can_expire}
-use Rattle.plans.specs.declared.word.Rule.{Rule}
+use Rattle.thread_machine.specs.{declared.choice.Choice.Choice, World.World, Ready.can_expire}
+use Rattle.plans.specs.{declared.word.Rule.Rule, Progress.Progress}
 use Rattle.plans.specs.declared.word.Rule.TheVariants as rule
-use Rattle.plans.specs.Progress.{Progress}
 
 -- the turn of thread t, and the expiry of its wait
 abbrev pub turn_of : ℕ → Choice

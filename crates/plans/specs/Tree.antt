@@ -1,8 +1,7 @@
 -- How the words of a plan belong together: a plan consists of steps and groups. A group is itself a plan, with the number
 -- of times that it is played.
 use Rattle.std.specs.Prelude.{◌≡◌, ℕ, List, [], ◌∷◌, ◌++◌}
-use Rattle.plans.specs.declared.word.Step.{Step}
-use Rattle.plans.specs.declared.word.Word.{Word}
+use Rattle.plans.specs.declared.word.{Step.Step, Word.Word}
 use Rattle.plans.specs.declared.word.Word.TheVariants as word
 
 pub data Plan : Type 0 where

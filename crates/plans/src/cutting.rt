@@ -2,8 +2,7 @@
 ghost use Rattle.std.specs.Prelude.{◌≡◌, ◌≤◌, ◌<◌, ◌++◌, drop, length, take};
 ghost use Rattle.std.specs.List.{position, position_or_len};
 ghost use Rattle.line_reader.specs.Words.{words_in};
-ghost use Rattle.plans.specs.Cutting.{parts_words, word_alone};
-ghost use Rattle.plans.specs.Words.{begins_count, is_parenthesis, spread};
+ghost use Rattle.plans.specs.{Cutting.parts_words, Cutting.word_alone, Words.begins_count, Words.is_parenthesis, Words.spread};
 
 use line_reader::words::is_blank;
 

@@ -1,12 +1,9 @@
 // Reads the text of a plan word by word, and counts its open parentheses.
 ghost use Rattle.std.specs.Prelude.{◌≡◌, ◌≢◌, ◌≤◌, Err, IfErr, IfOk, length, map};
 ghost use Rattle.std.specs.List.{slice_split};
-ghost use Rattle.line_reader.specs.Seen.{name_seen};
-ghost use Rattle.line_reader.specs.Words.{is_line_end};
+ghost use Rattle.line_reader.specs.{Seen.name_seen, Words.is_line_end};
 ghost use Rattle.plans.specs.Plan.{AnswersPlan, AnswersSaid, draft_closed, draft_open, draft_opened, finished, lines_behind, no_words, said_behind, word_behind, words_behind, words_in_lines, words_in_plan};
-ghost use Rattle.plans.specs.Drafts.{draft_of};
-ghost use Rattle.plans.specs.Tree.{IsPlan};
-ghost use Rattle.plans.specs.Words.{words_of};
+ghost use Rattle.plans.specs.{Drafts.draft_of, Tree.IsPlan, Words.words_of};
 
 use crate::cutting::{before, from, word_length};
 use crate::fault::{PlanFault, PlanFaultKind};

@@ -1,8 +1,6 @@
 // The counts and seeds in the words of a plan.
 ghost use Rattle.std.specs.Prelude.{◌≡◌, ◌≤◌, ◌<◌, length, IfSome};
-ghost use Rattle.std.specs.Char.{is_ascii_digit};
-ghost use Rattle.std.specs.List.{AllPass, list_all};
-ghost use Rattle.std.specs.Str.Parse.{digits_value};
+ghost use Rattle.std.specs.{Char.is_ascii_digit, List.AllPass, List.list_all, Str.Parse.digits_value};
 ghost use Rattle.plans.specs.Numbers.{are_digits, count_in, number_in, seed_in};
 
 /// The largest count that a word may ask for.

@@ -1,11 +1,8 @@
 // Makes the choices of a plan on a machine, and keeps them as runs.
 ghost use Rattle.std.specs.Prelude.{◌≡◌, ◌<◌, ◌≤◌, ◌==◌, ◌&&◌, IfOk, OnOk, true};
-ghost use Rattle.thread_machine.specs.Ready.{is_choice_ready};
-ghost use Rattle.thread_machine.specs.World.{world_of};
-ghost use Rattle.thread_machine.specs.Step.{refusal_of};
+ghost use Rattle.thread_machine.specs.{Ready.is_choice_ready, World.world_of, Step.refusal_of};
 ghost use Rattle.schedule_reader.specs.Schedule.{choices_of};
-ghost use Rattle.plans.specs.Planned.{AreRuns};
-ghost use Rattle.plans.specs.Progress.{begun, begun_at, chosen, chosen_by};
+ghost use Rattle.plans.specs.{Planned.AreRuns, Progress.begun, Progress.begun_at, Progress.chosen, Progress.chosen_by};
 ghost use Rattle.plans.specs.Rules.{can_expire_in, is_ready_in, thread_count};
 
 use crate::planned::Planned;
@@ -33,8 +30,7 @@ pub struct Player {
 impl Model for Player {
     ghost use Rattle.thread_machine.specs.World.{world_of};
     ghost use Rattle.schedule_reader.specs.Schedule.{choices_of};
-    ghost use Rattle.plans.specs.Planned.{AreRuns};
-    ghost use Rattle.plans.specs.Progress.{Progress};
+    ghost use Rattle.plans.specs.{Planned.AreRuns, Progress.Progress};
     ghost use Rattle.std.specs.Prelude.{◌≤◌};
 
     ghost Value = { Progress };

@@ -1,8 +1,7 @@
 // What a word of a plan means: its stem, which is what precedes its star, and its count.
 ghost use Rattle.std.specs.Prelude.{◌≡◌, ◌≤◌, ◌<◌, ◌==◌, IfOk, IfSome, bytes_eq, drop, false, length, map, true, Some};
 ghost use Rattle.std.specs.List.{after_first, before_first, position_or_len};
-ghost use Rattle.line_reader.specs.Names.{is_name};
-ghost use Rattle.line_reader.specs.Seen.{name_seen};
+ghost use Rattle.line_reader.specs.{Names.is_name, Seen.name_seen};
 ghost use Rattle.plans.specs.Numbers.{are_digits, count_in, number_in, seed_in};
 ghost use Rattle.plans.specs.Reading.{alone, before_dot, begins_expiry, chosen_by, expiry_by, expiry_named, has_dot, has_star, is_alone, is_closing, is_numbered, or_numbered, is_opening, is_seeded, is_spelled, is_star, is_turn_about, make, may_repeat, meaning, named_by, numbered_by, or_once, seeded_by, stem_of, thread_named, times_by, times_in, word_of};
 

@@ -1,7 +1,6 @@
 // Plays one step of a plan: a choice several times, or choices by a rule.
 ghost use Rattle.std.specs.Prelude.{◌≡◌, OnOk};
-ghost use Rattle.plans.specs.Play.{choice_of, followed, most_of, repeated, step_played};
-ghost use Rattle.plans.specs.Progress.{chosen};
+ghost use Rattle.plans.specs.{Play.choice_of, Play.followed, Play.most_of, Play.repeated, Play.step_played, Progress.chosen};
 
 use crate::player::Player;
 use crate::word::{Chosen, Rule, Step};

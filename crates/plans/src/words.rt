@@ -19,8 +19,7 @@ pub struct Words {
 impl Model for Words {
     ghost use Rattle.std.specs.Prelude.{◌≡◌, List, length};
     ghost use Rattle.std.specs.List.{count_by};
-    ghost use Rattle.plans.specs.Parts.{takes_number, takes_seed, words_of_parts};
-    ghost use Rattle.plans.specs.declared.word.Word.{Word};
+    ghost use Rattle.plans.specs.{Parts.takes_number, Parts.takes_seed, Parts.words_of_parts, declared.word.Word.Word};
 
     ghost Value = { List Word };
 
@@ -40,8 +39,7 @@ pub struct WordsFrom<'a> {
 
 impl<'a> Model for WordsFrom<'a> {
     ghost use Rattle.std.specs.Prelude.{List};
-    ghost use Rattle.plans.specs.Parts.{words_of_parts};
-    ghost use Rattle.plans.specs.declared.word.Word.{Word};
+    ghost use Rattle.plans.specs.{Parts.words_of_parts, declared.word.Word.Word};
 
     ghost Value = { List Word };
 

@@ -1,12 +1,7 @@
 -- The entries of words, beside the instruction table.
-use Rattle.std.proofs.Common.{◌≡◌, ◌≤◌, ◌<◌, ◌-◌, ◌∙◌, ◌++◌, ℕ, zero, suc, List, [], ◌∷◌, length, take, drop, Option, Some, None, IfSome, slice_index_or, ap, sym, subst, arith, zero-add, inl, inr}
-use Rattle.std.specs.Prelude.{MatchOption, ◌≢◌, true, false, nat_lt, slice_get}
-use Rattle.std.specs.Borrow.{Bor}
-use Rattle.std.specs.List.{flat_map}
-use Rattle.std.proofs.lemmas.Grind.{common_steps}
-use Rattle.std.proofs.lemmas.Bool.Decides.{nat_tests}
-use Rattle.std.proofs.lemmas.List.{take_all}
-use Rattle.std.proofs.lemmas.Option.{slice_get-get_or}
+use Rattle.std.proofs.Common.{◌≡◌, ◌≤◌, ◌<◌, ◌-◌, ◌∙◌, ◌++◌, ℕ, zero, suc, List, [], ◌∷◌, length, take, drop, Option, Some, None, IfSome, slice_index_or, ap, sym, subst, arith, zero-add, inl, inr, MatchOption, ◌≢◌, true, false, nat_lt, slice_get, take_all}
+use Rattle.std.proofs.lemmas.{Grind.common_steps, Bool.Decides.nat_tests, Option.slice_get-get_or}
+use Rattle.std.specs.{Borrow.Bor, List.flat_map}
 use Rattle.instruction_table.specs.declared.shape.Shape.{Shape}
 use Rattle.instruction_table.specs.Table.{Entry, entry_named, entry_of, no_entry, table}
 use Rattle.instruction_table.proofs.TableLemmas.{named_is_within}

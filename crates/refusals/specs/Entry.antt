@@ -1,8 +1,7 @@
 -- How an entry of the table is written: its texts, word for word and in this order.
 use Rattle.std.specs.Prelude.{ℕ, List, ◌++◌, Option, Some, None, codes}
 use Rattle.std.specs.Fmt.{decimal}
-use Rattle.refusals.specs.declared.entry.Entry.{Entry}
-use Rattle.refusals.specs.declared.entry.Place.{Place}
+use Rattle.refusals.specs.declared.entry.{Entry.Entry, Place.Place}
 
 abbrev pub line : List ℕ → List ℕ → List ℕ
 line label text = label ++ (text ++ codes "\n")

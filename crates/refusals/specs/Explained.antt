@@ -1,13 +1,8 @@
 -- What `explain` writes.
 use Rattle.std.specs.Prelude.{◌≡◌, ◌⊎◌, ℕ, List, [], Option}
-use Rattle.std.specs.Borrow.{Bor}
-use Rattle.std.specs.Io.KnownBytes.{Appends}
-use Rattle.refusals.specs.declared.entry.Entry.{Entry}
-use Rattle.refusals.specs.declared.question.Question.{Question}
-use Rattle.refusals.specs.Entry.{text_of}
-use Rattle.refusals.specs.Question.{AsksFor}
-use Rattle.refusals.specs.declared.word.WordEntry.{WordEntry}
-use Rattle.refusals.specs.Word.{AreItsWord, word_text}
+use Rattle.std.specs.{Borrow.Bor, Io.KnownBytes.Appends}
+use Rattle.refusals.specs.{declared.entry.Entry.Entry, declared.question.Question.Question, Entry.text_of, Question.AsksFor}
+use Rattle.refusals.specs.{declared.word.WordEntry.WordEntry, Word.AreItsWord, Word.word_text}
 
 -- the entry of the one word of the language that the words are was written whole
 abbrev pub HasForm : List (List ℕ) → Option (List ℕ) → Option (List ℕ) → Type 0

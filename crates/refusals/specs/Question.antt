@@ -1,11 +1,7 @@
 -- Which words request which entry: words request an entry if they fit one of its patterns.
 use Rattle.std.specs.Prelude.{◌≡◌, ◌⊎◌, ◌<◌, ◌^◌, ◌==◌, ℕ, Bool, ◌||◌, true, false, if◌then◌else◌, List, [], ◌∷◌, Option, Some, None, codes, bytes_eq, map}
-use Rattle.std.specs.Bool.{MatchBool}
-use Rattle.std.specs.Borrow.{Bor}
-use Rattle.std.specs.Str.Parse.{IsNumeral, digits_value}
-use Rattle.refusals.specs.declared.entry.Entry.{Entry}
-use Rattle.refusals.specs.declared.entry.Place.{Place}
-use Rattle.refusals.specs.declared.question.Question.{Question}
+use Rattle.std.specs.{Bool.MatchBool, Borrow.Bor, Str.Parse.IsNumeral, Str.Parse.digits_value}
+use Rattle.refusals.specs.declared.{entry.Entry.Entry, entry.Place.Place, question.Question.Question}
 
 -- digits, and nothing else, spell this number, which fits 64 bits
 abbrev pub Spells : List ℕ → ℕ → Type 0

@@ -5,8 +5,7 @@ use Rattle.instruction_table.specs.declared.shape.OperandKind.{OperandKind}
 use Rattle.instruction_table.specs.declared.shape.OperandKind.TheVariants.{Register, Number, Target, Phaser, Barrier, Thread, Cell}
 use Rattle.instruction_table.specs.Table.{Entry, entry_named, no_entry, table}
 use Rattle.line_reader.specs.Reading.{is_directive}
-use Rattle.refusals.specs.declared.word.WordEntry.{WordEntry}
-use Rattle.refusals.specs.Entry.{line}
+use Rattle.refusals.specs.{declared.word.WordEntry.WordEntry, Entry.line}
 
 -- what stands for an operand that isn't a register
 abbrev pub letter : OperandKind → List ℕ

@@ -1,7 +1,6 @@
 //! An entry, which says what a line on standard error or another word means, and how it is written.
 ghost use Rattle.std.specs.Prelude.{IsTrue, OnErr, OnOk};
-ghost use Rattle.std.specs.List.{flat_map};
-ghost use Rattle.std.specs.Io.KnownBytes.{Appends};
+ghost use Rattle.std.specs.{List.flat_map, Io.KnownBytes.Appends};
 ghost use Rattle.refusals.specs.Entry.{line, place_line, text_of, words_of};
 
 use byte_ports::{Failed, Sink};

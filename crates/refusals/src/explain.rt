@@ -1,9 +1,7 @@
 //! The command `explain`: it writes the entry that words ask for, or else what can be asked.
 ghost use Rattle.std.specs.Prelude.{◌≡◌, ◌++◌, Ok, IsTrue, MatchOption, OnErr, OnOk, true, false};
 ghost use Rattle.std.specs.Io.KnownBytes.{Appends};
-ghost use Rattle.refusals.specs.declared.question.Question.{Question};
-ghost use Rattle.refusals.specs.Explained.{HasExplained};
-ghost use Rattle.refusals.specs.Question.{AsksFor, texts};
+ghost use Rattle.refusals.specs.{declared.question.Question.Question, Explained.HasExplained, Question.AsksFor, Question.texts};
 ghost use Rattle.refusals.specs.Word.{AreItsWord, AreNoWord};
 
 use crate::entry::Entry;

@@ -1,7 +1,6 @@
 //! Which words ask for which entry: those that fit one of its patterns.
 ghost use Rattle.std.specs.Prelude.{◌≡◌, ℕ, Option, MatchOption, Some};
-ghost use Rattle.refusals.specs.declared.entry.Place.{Place};
-ghost use Rattle.refusals.specs.declared.question.Question.{Question};
+ghost use Rattle.refusals.specs.declared.{entry.Place.Place, question.Question.Question};
 ghost use Rattle.refusals.specs.Question.{AsksAmong, AsksFor, AsksIn, FitOne, Fits, IsPlace, Spells, is_place, texts, without_refused};
 
 use crate::entries::tables;

@@ -1,8 +1,6 @@
 -- Numbers in bytes, and lists of so many bytes.
-use Rattle.std.proofs.Common.{◌≡◌, ℕ, ◌+◌, ◌<◌, List, [], ◌∷◌, length, All, get_or, take, drop, refl, arith}
-use Rattle.std.proofs.lemmas.Nat.{from_le_bytes-to_le_bytes_2}
-use Rattle.std.proofs.lemmas.List.{get_or-drop, get_or-take, get_or_past, length-take}
-use Rattle.std.proofs.lemmas.Bool.{cases_lt}
+use Rattle.std.proofs.Common.{◌≡◌, ℕ, ◌+◌, ◌<◌, List, [], ◌∷◌, length, All, get_or, take, drop, refl, arith, get_or-drop, get_or-take, length-take}
+use Rattle.std.proofs.lemmas.{Nat.from_le_bytes-to_le_bytes_2, List.get_or_past, Bool.cases_lt}
 use Rattle.row_code.specs.Number.{u16_bytes, u16_of, i32_bytes, i32_of}
 
 abbrev pub IsBytes : List ℕ → Type 0

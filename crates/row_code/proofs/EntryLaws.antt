@@ -1,26 +1,17 @@
 -- An entry that is read is spelled by its bytes, and what an entry's bytes say is that entry.
-use Rattle.std.proofs.Common.{◌≡◌, ℕ, zero, suc, ◌<◌, ℤ, pos, FitsSigned, Bool, true, false, not, ◌||◌, cond, List, length, get_or, bytes_eq, Option, Some, None, IfSome, Result, Ok, Err, refl, sym, ap, subst, ◌∙◌, arith}
+use Rattle.std.proofs.Common.{◌≡◌, ℕ, zero, suc, ◌<◌, ℤ, pos, FitsSigned, Bool, true, false, not, ◌||◌, cond, List, length, get_or, bytes_eq, Option, Some, None, IfSome, Result, Ok, Err, refl, sym, ap, subst, ◌∙◌, arith, ltb-true}
+use Rattle.std.proofs.lemmas.{Int.ints, Slice.Eq.bytes_eq-Decides, Bool.Decides.nat_tests}
 use Rattle.std.specs.Int.{w32}
-use Rattle.std.proofs.lemmas.Int.{ints}
-use Rattle.std.proofs.lemmas.Bool.{ltb-true}
-use Rattle.std.proofs.lemmas.Slice.Eq.{bytes_eq-Decides}
-use Rattle.std.proofs.lemmas.Bool.Decides.{nat_tests}
-use Rattle.instruction_table.specs.declared.row.Row.{Row}
-use Rattle.instruction_table.specs.Row.{is_timed_row}
-use Rattle.row_code.specs.declared.image_fault.ImageFault.{ImageFault}
-use Rattle.row_code.specs.declared.image_fault.ImageFault.TheVariants as fault
-use Rattle.row_code.specs.declared.phasers.DeclaredPolicy.{DeclaredPolicy}
-use Rattle.row_code.specs.declared.phasers.DeclaredPhaser.{DeclaredPhaser}
-use Rattle.row_code.specs.declared.barriers.DeclaredBarrier.{DeclaredBarrier}
-use Rattle.row_code.specs.declared.threads.DeclaredThread.{DeclaredThread}
-use Rattle.row_code.specs.RowFields.{IsRow}
-use Rattle.row_code.specs.RowBytes.{bytes_of, fields_at}
+use Rattle.instruction_table.specs.{declared.row.Row.Row, Row.is_timed_row}
+use Rattle.row_code.specs.declared.{image_fault.ImageFault.ImageFault, phasers.DeclaredPolicy.DeclaredPolicy}
+use Rattle.row_code.specs.declared.{phasers.DeclaredPhaser.DeclaredPhaser, barriers.DeclaredBarrier.DeclaredBarrier}
+use Rattle.row_code.specs.{declared.threads.DeclaredThread.DeclaredThread, RowFields.IsRow, Answers.◌>>=◌}
+use Rattle.row_code.specs.{RowBytes.bytes_of, RowBytes.fields_at, Threads.IsThread, Threads.thread_bytes}
 use Rattle.row_code.specs.RowOperands.{row_in, row_with, operands_at}
 use Rattle.row_code.specs.Phasers.{IsCount, IsPolicy, IsPhaser, kind_byte, argument, phaser_bytes}
 use Rattle.row_code.specs.Barriers.{IsBarrier, action_flag, action_row, barrier_bytes}
-use Rattle.row_code.specs.Threads.{IsThread, thread_bytes}
-use Rattle.row_code.specs.Answers.{◌>>=◌}
 use Rattle.row_code.specs.Reading.{u16_at, i32_at, policy_at, phaser_at, action_at, barrier_at, thread_at, row_at, row_or}
+use Rattle.row_code.specs.declared.image_fault.ImageFault.TheVariants as fault
 use Rattle.row_code.proofs.RowLaws.{i32_back, row_in_its_bytes}
 use Rattle.row_code.proofs.Cells.{IsBytes, u16_back, i32_cells, of_four, of_eight, of_twelve}
 

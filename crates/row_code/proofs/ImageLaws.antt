@@ -1,23 +1,14 @@
 -- An image that is read is spelled by its file, and what an image's file says is that image.
-use Rattle.std.proofs.Common.{◌≡◌, ℕ, ◌+◌, ◌*◌, ◌<◌, ◌≤◌, Bool, true, false, cond, not, ◌&&◌, All, List, [], ◌∷◌, ◌++◌, length, get_or, take, drop, Result, Ok, Err, IfOk, refl, sym, ap, subst, ◌∙◌, arith}
+use Rattle.std.proofs.Common.{◌≡◌, ℕ, ◌+◌, ◌*◌, ◌<◌, ◌≤◌, Bool, true, false, cond, not, ◌&&◌, All, List, [], ◌∷◌, ◌++◌, length, get_or, take, drop, Result, Ok, Err, IfOk, refl, sym, ap, subst, ◌∙◌, arith, append-nil, drop_at, drop-drop, take-append-drop, length-drop, length-append}
+use Rattle.std.proofs.lemmas.List.{Folds.list_any_at, drop_all}
 use Rattle.std.specs.List.{flat_map, AllByRecursion}
-use Rattle.std.proofs.lemmas.List.Folds.{list_any_at}
-use Rattle.instruction_table.specs.declared.row.Row.{Row}
-use Rattle.instruction_table.specs.Row.{is_timed_row}
-use Rattle.std.proofs.lemmas.List.{append-nil, drop_at, drop_all, drop-drop, take-append-drop, length-drop, length-append}
-use Rattle.row_code.specs.declared.image.Counts.{Counts}
-use Rattle.row_code.specs.declared.image.Image.{Image}
-use Rattle.row_code.specs.declared.image_fault.ImageFault.{ImageFault}
-use Rattle.row_code.specs.declared.image_fault.ImageFault.TheVariants as fault
-use Rattle.row_code.specs.RowFields.{IsRow}
-use Rattle.row_code.specs.RowBytes.{bytes_of}
-use Rattle.row_code.specs.Phasers.{IsPhaser, phaser_bytes}
-use Rattle.row_code.specs.Barriers.{IsBarrier, barrier_bytes}
-use Rattle.row_code.specs.Threads.{IsThread, thread_bytes}
-use Rattle.row_code.specs.Rows.{has_timed_row}
-use Rattle.row_code.specs.Answers.{Answers}
+use Rattle.instruction_table.specs.{declared.row.Row.Row, Row.is_timed_row}
+use Rattle.row_code.specs.declared.{image.Counts.Counts, image.Image.Image, image_fault.ImageFault.ImageFault}
+use Rattle.row_code.specs.{RowFields.IsRow, RowBytes.bytes_of, Phasers.IsPhaser, Phasers.phaser_bytes, Rows.has_timed_row}
+use Rattle.row_code.specs.{Barriers.IsBarrier, Barriers.barrier_bytes, Threads.IsThread, Threads.thread_bytes, Answers.Answers}
 use Rattle.row_code.specs.Image.{IsImage, magic, counts_of, count_bytes, image_bytes}
 use Rattle.row_code.specs.Reading.{is_memory, is_magic, says_timed, row_at, version_at, rows_at, phaser_entry, barrier_entry, thread_entry, entries, counts_in, is_too_many, counts_at, barriers_start, threads_start, rows_start, file_end, lists_at, image_of}
+use Rattle.row_code.specs.declared.image_fault.ImageFault.TheVariants as fault
 use Rattle.row_code.proofs.Cells.{IsBytes, IsBytes-drop, u16_back}
 use Rattle.row_code.proofs.EntryLaws.{bind_ok, ok_is, phaser_again, phaser_takes, barrier_again, barrier_takes, thread_again, thread_takes, MayStand, row_again, row_takes, row_may_stand}
 use Rattle.row_code.proofs.ListLaws.{IsFormat, entries_take, entries_have, entries_again, length-entries}

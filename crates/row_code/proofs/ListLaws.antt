@@ -1,13 +1,9 @@
 -- Lists of entries: what is read is spelled so, and what is spelled so is read.
-use Rattle.std.proofs.Common.{◌≡◌, ℕ, zero, suc, ◌+◌, ◌*◌, ◌≤◌, List, [], ◌∷◌, ◌++◌, length, take, drop, All, Result, Ok, refl, sym, ap, subst, ◌∙◌, append_assoc, arith}
-use Rattle.std.specs.List.{flat_map, AllByRecursion}
-use Rattle.std.proofs.lemmas.List.{take_at, drop_at, take-append-drop, drop-drop, length-take, length-drop, length-append}
+use Rattle.std.proofs.Common.{◌≡◌, ℕ, zero, suc, ◌+◌, ◌*◌, ◌≤◌, List, [], ◌∷◌, ◌++◌, length, take, drop, All, Result, Ok, refl, sym, ap, subst, ◌∙◌, append_assoc, arith, take_at, drop_at, take-append-drop, drop-drop, length-take, length-drop, length-append}
 use Rattle.std.proofs.lemmas.List.Elements.{recursion_from_All}
-use Rattle.row_code.specs.declared.image_fault.ImageFault.{ImageFault}
-use Rattle.row_code.specs.Answers.{◌>>=◌}
-use Rattle.row_code.specs.Reading.{entries}
-use Rattle.row_code.proofs.Cells.{IsBytes, IsBytes-drop, IsBytes-take}
-use Rattle.row_code.proofs.EntryLaws.{bind_ok, ok_is}
+use Rattle.std.specs.List.{flat_map, AllByRecursion}
+use Rattle.row_code.specs.{declared.image_fault.ImageFault.ImageFault, Answers.◌>>=◌, Reading.entries}
+use Rattle.row_code.proofs.{Cells.IsBytes, Cells.IsBytes-drop, Cells.IsBytes-take, EntryLaws.bind_ok, EntryLaws.ok_is}
 
 -- entries of one size, each spelled in one way
 pub record IsFormat {E : Type 0} (size : ℕ) (spell : E → List ℕ) (Fits : E → Type 0) (read : ℕ → List ℕ → Result E ImageFault) : Type 0 where

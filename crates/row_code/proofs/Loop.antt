@@ -1,9 +1,6 @@
 -- Reading entries one after the other, as a loop does.
-use Rattle.std.proofs.Common.{◌≡◌, Bool, ℕ, suc, ◌-◌, ◌+◌, ◌*◌, ◌≤◌, ◌<◌, List, [], ◌∷◌, ◌++◌, take, drop, Result, Ok, Err, append_assoc, arith}
-use Rattle.std.proofs.lemmas.List.{append-nil}
-use Rattle.row_code.specs.declared.image_fault.ImageFault.{ImageFault}
-use Rattle.row_code.specs.Answers.{◌>>=◌, FailsAs}
-use Rattle.row_code.specs.Reading.{entries}
+use Rattle.std.proofs.Common.{◌≡◌, Bool, ℕ, suc, ◌-◌, ◌+◌, ◌*◌, ◌≤◌, ◌<◌, List, [], ◌∷◌, ◌++◌, take, drop, Result, Ok, Err, append_assoc, arith, append-nil}
+use Rattle.row_code.specs.{declared.image_fault.ImageFault.ImageFault, Answers.◌>>=◌, Answers.FailsAs, Reading.entries}
 
 -- what was read before, and what is still read
 abbrev pub with_front : {E : Type 0} → List E → Result (List E) ImageFault → Result (List E) ImageFault

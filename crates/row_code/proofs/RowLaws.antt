@@ -1,17 +1,11 @@
 -- What a row's bytes lead back to.
 use Rattle.std.proofs.Common.{◌≡◌, ℕ, zero, suc, ◌<◌, ℤ, pos, ◌<ℤ◌, FitsSigned, true, false, cond, List, [], ◌∷◌, get_or, bytes_eq, Some, None, refl, sym, subst, arith, rules}
-use Rattle.std.specs.List.{AllByRecursion}
-use Rattle.std.specs.Int.{w32}
-use Rattle.std.proofs.lemmas.Int.{ints}
-use Rattle.std.proofs.lemmas.Bool.Decides.{nat_tests}
-use Rattle.instruction_table.specs.declared.row.Row.{Row}
-use Rattle.instruction_table.specs.declared.row.Row.TheVariants.{Halt}
-use Rattle.instruction_table.specs.Row.{opcode_of}
-use Rattle.row_code.specs.Number.{i32_bytes, i32_of}
-use Rattle.row_code.specs.RowFields.{fields_of, IsRow}
-use Rattle.row_code.specs.declared.operands.Operands.{Operands}
+use Rattle.std.proofs.lemmas.{Int.ints, Bool.Decides.nat_tests}
+use Rattle.std.specs.{List.AllByRecursion, Int.w32}
+use Rattle.instruction_table.specs.{declared.row.Row.Row, declared.row.Row.TheVariants.Halt, Row.opcode_of}
+use Rattle.row_code.specs.{Number.i32_bytes, Number.i32_of, RowFields.fields_of, RowFields.IsRow}
+use Rattle.row_code.specs.{declared.operands.Operands.Operands, RowBytes.bytes_of, RowBytes.fields_at}
 use Rattle.row_code.specs.RowOperands.{operands_at, rows_with, row_with, row_in}
-use Rattle.row_code.specs.RowBytes.{bytes_of, fields_at}
 
 -- a row's own fields lead back to it
 likely_back : (row : Row) → IsRow row → row_with (opcode_of row) (operands_at (fields_of row)) ≡ row

@@ -1,8 +1,7 @@
 -- Entries that are written one after the other.
 use Rattle.std.proofs.Common.{ℕ, List, ◌++◌, Option, Result, Ok, Err}
-use Rattle.std.specs.Result.{OnOk}
-use Rattle.std.specs.Io.KnownBytes.{Appends}
 use Rattle.std.proofs.KnownBytes.{Appends-trans}
+use Rattle.std.specs.{Result.OnOk, Io.KnownBytes.Appends}
 
 -- what is written behind something that was
 pub appends_behind : {X E : Type 0} (r : Result X E) (a b c : Option (List ℕ)) (front back : List ℕ) →

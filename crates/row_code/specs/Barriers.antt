@@ -1,7 +1,6 @@
 -- The barriers of an image, and the bytes of each.
 use Rattle.std.specs.Prelude.{ℕ, ◌<◌, ◌≤◌, ℤ, pos, List, ◌++◌, length, All, Option, None, Some, IfSome}
-use Rattle.row_code.specs.declared.barriers.DeclaredBarrier.{DeclaredBarrier}
-use Rattle.row_code.specs.Number.{u16_bytes, i32_bytes}
+use Rattle.row_code.specs.{declared.barriers.DeclaredBarrier.DeclaredBarrier, Number.u16_bytes, Number.i32_bytes}
 
 -- the ranges of a barrier's fields
 pub record IsBarrier (b : DeclaredBarrier) : Type 0 where

@@ -1,14 +1,9 @@
 -- An image as the bytes of its file.
 use Rattle.std.specs.Prelude.{ℕ, Bool, true, false, List, ◌++◌, length, codes}
 use Rattle.std.specs.List.{flat_map}
-use Rattle.row_code.specs.declared.image.Counts.{Counts}
-use Rattle.row_code.specs.declared.image.Image.{Image}
-use Rattle.row_code.specs.Number.{u16_bytes}
-use Rattle.row_code.specs.RowBytes.{bytes_of}
-use Rattle.row_code.specs.Phasers.{ArePhasers, phaser_bytes}
-use Rattle.row_code.specs.Barriers.{AreBarriers, barrier_bytes}
-use Rattle.row_code.specs.Threads.{AreThreads, thread_bytes}
-use Rattle.row_code.specs.Rows.{AreRows, has_timed_row}
+use Rattle.row_code.specs.{declared.image.Counts.Counts, declared.image.Image.Image, Number.u16_bytes, RowBytes.bytes_of}
+use Rattle.row_code.specs.{Phasers.ArePhasers, Phasers.phaser_bytes, Barriers.AreBarriers, Barriers.barrier_bytes}
+use Rattle.row_code.specs.{Threads.AreThreads, Threads.thread_bytes, Rows.AreRows, Rows.has_timed_row}
 
 -- each list of an image is within its limits
 pub record IsImage (i : Image) : Type 0 where

@@ -1,8 +1,7 @@
 -- The phasers of an image, and the bytes of each.
 use Rattle.std.specs.Prelude.{ℕ, ◌<◌, ◌≤◌, ℤ, pos, ◌≤ℤ◌, ◌<ℤ◌, List, ◌∷◌, ◌++◌, length, All, Option, None, Some, IfSome}
-use Rattle.row_code.specs.declared.phasers.DeclaredPolicy.{DeclaredPolicy}
+use Rattle.row_code.specs.declared.phasers.{DeclaredPolicy.DeclaredPolicy, DeclaredPhaser.DeclaredPhaser}
 use Rattle.row_code.specs.declared.phasers.DeclaredPolicy.TheVariants.{Default, Never, Until, Routine}
-use Rattle.row_code.specs.declared.phasers.DeclaredPhaser.{DeclaredPhaser}
 use Rattle.row_code.specs.Number.{u16_bytes, i32_bytes}
 
 -- an `int` that is not negative

@@ -1,21 +1,12 @@
 -- The image that bytes encode, or the first fault in the order of the checks.
 use Rattle.std.specs.Prelude.{ℕ, zero, suc, ◌+◌, ◌*◌, ◌==◌, ◌||◌, ◌&&◌, not, nat_lt, ℤ, pos, negsuc, Bool, true, false, List, [], ◌∷◌, length, take, drop, slice_index, bytes_eq, Option, Some, None, Result, Ok, Err, if◌then◌else◌}
-use Rattle.instruction_table.specs.declared.row.Row.{Row}
-use Rattle.instruction_table.specs.Row.{is_timed_row}
-use Rattle.row_code.specs.declared.barriers.DeclaredBarrier.{DeclaredBarrier}
-use Rattle.row_code.specs.declared.image.Counts.{Counts}
-use Rattle.row_code.specs.declared.image.Image.{Image}
-use Rattle.row_code.specs.declared.image_fault.ImageFault.{ImageFault}
-use Rattle.row_code.specs.declared.image_fault.ImageFault.TheVariants as fault
-use Rattle.row_code.specs.declared.phasers.DeclaredPhaser.{DeclaredPhaser}
-use Rattle.row_code.specs.declared.phasers.DeclaredPolicy.{DeclaredPolicy}
+use Rattle.instruction_table.specs.{declared.row.Row.Row, Row.is_timed_row}
+use Rattle.row_code.specs.declared.{barriers.DeclaredBarrier.DeclaredBarrier, image.Counts.Counts, image.Image.Image}
+use Rattle.row_code.specs.declared.{image_fault.ImageFault.ImageFault, phasers.DeclaredPhaser.DeclaredPhaser}
+use Rattle.row_code.specs.declared.{phasers.DeclaredPolicy.DeclaredPolicy, threads.DeclaredThread.DeclaredThread}
 use Rattle.row_code.specs.declared.phasers.DeclaredPolicy.TheVariants.{Default, Never, Until, Routine}
-use Rattle.row_code.specs.declared.threads.DeclaredThread.{DeclaredThread}
-use Rattle.row_code.specs.Number.{u16_of, i32_of}
-use Rattle.row_code.specs.RowOperands.{row_in}
-use Rattle.row_code.specs.Image.{magic}
-use Rattle.row_code.specs.Rows.{has_timed_row}
-use Rattle.row_code.specs.Answers.{◌>>=◌}
+use Rattle.row_code.specs.{Number.u16_of, Number.i32_of, RowOperands.row_in, Image.magic, Rows.has_timed_row, Answers.◌>>=◌}
+use Rattle.row_code.specs.declared.image_fault.ImageFault.TheVariants as fault
 
 -- whether a fault is out of memory, which any call may return instead of its result
 abbrev pub is_memory : ImageFault → Bool

@@ -1,9 +1,7 @@
 -- A row as eight bytes.
 use Rattle.std.specs.Prelude.{ℕ, List, ◌∷◌, drop, slice_index}
-use Rattle.instruction_table.specs.declared.row.Row.{Row}
-use Rattle.instruction_table.specs.Row.{opcode_of}
-use Rattle.row_code.specs.declared.fields.Fields.{Fields}
-use Rattle.row_code.specs.RowFields.{filled, fields_of}
+use Rattle.instruction_table.specs.{declared.row.Row.Row, Row.opcode_of}
+use Rattle.row_code.specs.{declared.fields.Fields.Fields, RowFields.filled, RowFields.fields_of}
 use Rattle.row_code.specs.Number.{i32_bytes, i32_of}
 
 -- the one spelling of a row: its opcode, a, b, c, and imm

@@ -1,9 +1,8 @@
 -- Which operand each field of a row's bytes has, and which rows are valid.
 use Rattle.std.specs.Prelude.{ℕ, ℤ, pos, ◌<ℤ◌, FitsSigned}
 use Rattle.std.specs.Int.{w32}
-use Rattle.instruction_table.specs.declared.row.Row.{Row}
+use Rattle.instruction_table.specs.{declared.row.Row.Row, Register.number_of}
 use Rattle.instruction_table.specs.declared.row.Row.TheVariants.{Halt, Ldi, Mov, Add, Sub, Jmp, Beq, Bne, Blt, Call, Ret, Try, Endtry, Throw, Out, Lds, Sts, SelfNumber, Intr, Intrd, Preg, Pbulk, Parr, Pdereg, Paaa, Pawait, Pawaiti, Pforce, Pphase, Pparties, Parrived, Punarr, Pterm, Pparent, Proot, Cawait, Creset, Cbroken, Cwaiting, Cparties, Pawaitt, Cawaitt}
-use Rattle.instruction_table.specs.Register.{number_of}
 use Rattle.row_code.specs.declared.fields.Fields.{Fields}
 
 -- fields with these contents

@@ -2,12 +2,10 @@
 -- eight bytes is found: the only row that they could encode is made, and then compared. The meaning of a row's bytes
 -- doesn't depend on it: `decode` returns exactly the row with these bytes.
 use Rattle.std.specs.Prelude.{ℕ, nat_lt, ℤ, pos, negsuc, List, [], ◌∷◌, slice_index, slice_index_or, bytes_eq, Option, Some, None, if◌then◌else◌}
-use Rattle.instruction_table.specs.declared.register.Reg.{Reg}
+use Rattle.instruction_table.specs.declared.{register.Reg.Reg, row.Row.Row}
 use Rattle.instruction_table.specs.declared.register.Reg.TheVariants.{R0, R1, R2, R3, R4, R5, R6, R7}
-use Rattle.instruction_table.specs.declared.row.Row.{Row}
 use Rattle.instruction_table.specs.declared.row.Row.TheVariants.{Halt, Ldi, Mov, Add, Sub, Jmp, Beq, Bne, Blt, Call, Ret, Try, Endtry, Throw, Out, Lds, Sts, SelfNumber, Intr, Intrd, Preg, Pbulk, Parr, Pdereg, Paaa, Pawait, Pawaiti, Pforce, Pphase, Pparties, Parrived, Punarr, Pterm, Pparent, Proot, Cawait, Creset, Cbroken, Cwaiting, Cparties, Pawaitt, Cawaitt}
-use Rattle.row_code.specs.RowBytes.{bytes_of, fields_at}
-use Rattle.row_code.specs.declared.fields.Fields.{Fields}
+use Rattle.row_code.specs.{RowBytes.bytes_of, RowBytes.fields_at, declared.fields.Fields.Fields}
 use Rattle.row_code.specs.declared.operands.Operands.{Operands}
 
 -- the register with a number, or r0 if there is none

@@ -1,8 +1,7 @@
 -- The rows of an image.
 use Rattle.std.specs.Prelude.{◌≤◌, Bool, List, length, All}
 use Rattle.std.specs.List.{list_any}
-use Rattle.instruction_table.specs.declared.row.Row.{Row}
-use Rattle.instruction_table.specs.Row.{is_timed_row}
+use Rattle.instruction_table.specs.{declared.row.Row.Row, Row.is_timed_row}
 use Rattle.row_code.specs.RowFields.{IsRow}
 
 -- at most as many rows as a count of two bytes can say

@@ -1,7 +1,6 @@
 -- The threads of an image, and the bytes of each.
 use Rattle.std.specs.Prelude.{ℕ, ◌<◌, ◌≤◌, pos, List, length, All}
-use Rattle.row_code.specs.declared.threads.DeclaredThread.{DeclaredThread}
-use Rattle.row_code.specs.Number.{i32_bytes}
+use Rattle.row_code.specs.{declared.threads.DeclaredThread.DeclaredThread, Number.i32_bytes}
 
 -- a thread begins at one of 65536 rows
 pub record IsThread (t : DeclaredThread) : Type 0 where

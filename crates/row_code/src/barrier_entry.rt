@@ -1,8 +1,7 @@
 //! The 8 bytes of a barrier: parties (2), 1 if it has an action (2), the action's first row or 0 (4). `read` reads entry `n`
 //! of a list that begins at the place `start` of the file. `push` writes an entry.
 ghost use Rattle.std.specs.Prelude.{◌≡◌, ◌+◌, ◌^◌, ◌<◌, length, IfOk, IfSome};
-ghost use Rattle.row_code.specs.Barriers.{IsBarrier, barrier_bytes};
-ghost use Rattle.row_code.specs.Reading.{action_at, barrier_at};
+ghost use Rattle.row_code.specs.{Barriers.IsBarrier, Barriers.barrier_bytes, Reading.action_at, Reading.barrier_at};
 
 use crate::barriers::DeclaredBarrier;
 use crate::entry::Entry;
@@ -56,8 +55,7 @@ fn barrier_bytes(barrier: DeclaredBarrier) -> [u8; 8]
 }
 
 impl Entry for DeclaredBarrier {
-    ghost use Rattle.row_code.specs.Barriers.{IsBarrier, barrier_bytes};
-    ghost use Rattle.row_code.specs.Reading.{barrier_entry};
+    ghost use Rattle.row_code.specs.{Barriers.IsBarrier, Barriers.barrier_bytes, Reading.barrier_entry};
 
     ghost SIZE = { 8 };
 

@@ -1,8 +1,6 @@
 ghost use Rattle.std.specs.Prelude.{◌≡◌, ◌↔◌, ◌+◌, ◌*◌, ◌^◌, ◌<◌, ◌≤◌, ℕ, Bool, false, List, Result, length, All, IfOk, IsErr, IsTrue, OnOk};
-ghost use Rattle.std.specs.List.{flat_map};
-ghost use Rattle.std.specs.Io.KnownBytes.{Appends};
-ghost use Rattle.row_code.specs.declared.image_fault.ImageFault.{ImageFault};
-ghost use Rattle.row_code.specs.Answers.{Answers};
+ghost use Rattle.std.specs.{List.flat_map, Io.KnownBytes.Appends};
+ghost use Rattle.row_code.specs.{declared.image_fault.ImageFault.ImageFault, Answers.Answers};
 ghost use Rattle.row_code.specs.Reading.{is_memory, entries};
 
 use crate::image_fault::ImageFault;

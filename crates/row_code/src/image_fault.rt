@@ -1,6 +1,5 @@
 ghost use Rattle.std.specs.Prelude.{◌≡◌};
-ghost use Rattle.row_code.specs.FaultNumber.{image_number};
-ghost use Rattle.row_code.specs.declared.image_fault.ImageFault.TheVariants.{Memory};
+ghost use Rattle.row_code.specs.{FaultNumber.image_number, declared.image_fault.ImageFault.TheVariants.Memory};
 
 use std::alloc::{AllocError, AllocFailed};
 

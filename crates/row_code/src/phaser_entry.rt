@@ -110,8 +110,7 @@ fn phaser_bytes(phaser: DeclaredPhaser) -> [u8; 12]
 }
 
 impl Entry for DeclaredPhaser {
-    ghost use Rattle.row_code.specs.Phasers.{IsPhaser, phaser_bytes};
-    ghost use Rattle.row_code.specs.Reading.{phaser_entry};
+    ghost use Rattle.row_code.specs.{Phasers.IsPhaser, Phasers.phaser_bytes, Reading.phaser_entry};
 
     ghost SIZE = { 12 };
 

@@ -1,9 +1,6 @@
 //! From bytes to an image: 4 bytes of magic, four counts of 2 bytes, then the phasers, barriers, threads and rows.
 ghost use Rattle.std.specs.Prelude.{◌≡◌, ◌≤◌, ◌*◌, length, drop, Ok, IfOk, take};
-ghost use Rattle.row_code.specs.declared.image.Image.{Image};
-ghost use Rattle.row_code.specs.Image.{IsImage, image_bytes};
-ghost use Rattle.row_code.specs.Rows.{AreRows};
-ghost use Rattle.row_code.specs.Answers.{Answers};
+ghost use Rattle.row_code.specs.{declared.image.Image.Image, Image.IsImage, Image.image_bytes, Rows.AreRows, Answers.Answers};
 ghost use Rattle.row_code.specs.Reading.{is_memory, is_magic, says_timed, counts_in, counts_at, is_too_many, barriers_start, threads_start, rows_start, file_end, lists_at, image_of, rows_at};
 
 use crate::barriers::Barriers;

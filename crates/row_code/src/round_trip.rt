@@ -1,12 +1,8 @@
 // What is written is read again. Each law is the contract of a function that does nothing.
 ghost use Rattle.std.specs.Prelude.{◌≡◌, ◌<◌, ℕ, List, All, Some, Ok};
 ghost use Rattle.instruction_table.specs.declared.row.Row.{Row};
-ghost use Rattle.row_code.specs.declared.image.Image.{Image};
-ghost use Rattle.row_code.specs.RowFields.{IsRow};
-ghost use Rattle.row_code.specs.RowBytes.{bytes_of};
-ghost use Rattle.row_code.specs.RowOperands.{row_in};
-ghost use Rattle.row_code.specs.Image.{IsImage, image_bytes};
-ghost use Rattle.row_code.specs.Reading.{image_of};
+ghost use Rattle.row_code.specs.{declared.image.Image.Image, RowFields.IsRow, RowBytes.bytes_of, RowOperands.row_in};
+ghost use Rattle.row_code.specs.{Image.IsImage, Image.image_bytes, Reading.image_of};
 
 /// If a row is encoded as bytes, the bytes are read as the same row.
 pub fn row_again()

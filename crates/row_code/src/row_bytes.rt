@@ -1,8 +1,6 @@
 ghost use Rattle.std.specs.Prelude.{◌≡◌, IfSome, Some};
 ghost use Rattle.instruction_table.specs.declared.row.Row.{Row};
-ghost use Rattle.row_code.specs.RowBytes.{bytes_of, fields_at};
-ghost use Rattle.row_code.specs.RowFields.{IsRow};
-ghost use Rattle.row_code.specs.RowOperands.{row_in};
+ghost use Rattle.row_code.specs.{RowBytes.bytes_of, RowBytes.fields_at, RowFields.IsRow, RowOperands.row_in};
 
 use crate::fields::{Fields, fields_of};
 use crate::operands::{operands_at, row_with};

@@ -1,7 +1,6 @@
 //! The 8 bytes of a row. `read` reads row `n` of an image, and `push` writes a row.
 ghost use Rattle.std.specs.Prelude.{◌≡◌, length, IfOk, IfSome};
-ghost use Rattle.row_code.specs.RowFields.{IsRow};
-ghost use Rattle.row_code.specs.Reading.{row_or, row_at};
+ghost use Rattle.row_code.specs.{RowFields.IsRow, Reading.row_or, Reading.row_at};
 
 use crate::entry::Entry;
 use crate::image_fault::ImageFault;
@@ -35,9 +34,7 @@ fn row_at(timed: bool, n: u16, bytes: &[u8]) -> Result<Row, ImageFault>
 }
 
 impl Entry for Row {
-    ghost use Rattle.row_code.specs.RowFields.{IsRow};
-    ghost use Rattle.row_code.specs.RowBytes.{bytes_of};
-    ghost use Rattle.row_code.specs.Reading.{row_at};
+    ghost use Rattle.row_code.specs.{RowFields.IsRow, RowBytes.bytes_of, Reading.row_at};
 
     ghost SIZE = { 8 };
 

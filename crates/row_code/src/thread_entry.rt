@@ -1,8 +1,7 @@
 //! The 4 bytes of a thread: its first row. `read` reads entry `n` of a list that begins at the place `start` of the file, and
 //! `push` writes an entry.
 ghost use Rattle.std.specs.Prelude.{◌≡◌, length, IfOk};
-ghost use Rattle.row_code.specs.Threads.{IsThread, thread_bytes};
-ghost use Rattle.row_code.specs.Reading.{thread_at};
+ghost use Rattle.row_code.specs.{Threads.IsThread, Threads.thread_bytes, Reading.thread_at};
 
 use crate::entry::Entry;
 use crate::image_fault::ImageFault;
@@ -30,8 +29,7 @@ fn thread_bytes(thread: DeclaredThread) -> [u8; 4]
 }
 
 impl Entry for DeclaredThread {
-    ghost use Rattle.row_code.specs.Threads.{IsThread, thread_bytes};
-    ghost use Rattle.row_code.specs.Reading.{thread_entry};
+    ghost use Rattle.row_code.specs.{Threads.IsThread, Threads.thread_bytes, Reading.thread_entry};
 
     ghost SIZE = { 4 };
 

@@ -1,9 +1,7 @@
 //! Trees of phasers: what each call returns, and what is seen afterwards.
 
 ghost use Rattle.std.specs.Prelude.{◌≡◌, ◌<◌, length, true, false, IfSome};
-ghost use Rattle.tier_tree.specs.Declaration.{AreAllFresh};
-ghost use Rattle.tier_tree.specs.PhaseEnd.{after_phase_end};
-ghost use Rattle.tier_tree.specs.Stored.{phasers_of};
+ghost use Rattle.tier_tree.specs.{Declaration.AreAllFresh, PhaseEnd.after_phase_end, Stored.phasers_of};
 
 use Plan::{Child, Root, RootWith};
 use packed_phaser::Policy;

@@ -1,11 +1,7 @@
 -- A schedule that is read without a list.
-use Rattle.std.proofs.Common.{◌≡◌, ◌∙◌, ◌≤◌, ℕ, true, List, [], ◌∷◌, drop, length, refl, ap, arith, append-nil}
+use Rattle.std.proofs.Common.{◌≡◌, ◌∙◌, ◌≤◌, ℕ, true, List, [], ◌∷◌, drop, length, refl, ap, arith, append-nil, Option, Some, None, Ok}
 use Rattle.std.proofs.lemmas.List.{drop_all}
-use Rattle.std.specs.Prelude.{Option, Some, None, Ok}
-use Rattle.schedule_reader.specs.declared.few.Few.{Few}
-use Rattle.schedule_reader.specs.declared.run.Run.{Run}
-use Rattle.schedule_reader.specs.declared.fault.ScheduleFault.{ScheduleFault}
-use Rattle.schedule_reader.specs.declared.place.Place.{Place}
+use Rattle.schedule_reader.specs.declared.{few.Few.Few, run.Run.Run, fault.ScheduleFault.ScheduleFault, place.Place.Place}
 use Rattle.schedule_reader.specs.Few.{few_of, with_ended}
 use Rattle.schedule_reader.specs.Places.{ended_with, piece_with, schedule_from, with_runs}
 use Rattle.schedule_reader.specs.Schedule.{Schedule, faulty, finished_schedule, no_runs}

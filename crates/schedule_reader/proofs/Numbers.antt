@@ -1,10 +1,7 @@
 -- Numbers whose digits come one by one.
-use Rattle.std.proofs.Common.{◌≡◌, ◌∙◌, ◌⊎◌, ◌+◌, ◌-◌, ◌*◌, ◌<◌, ◌≤◌, cond, ℕ, Bool, true, List, [], ◌∷◌, ap, arith}
-use Rattle.std.specs.Prelude.{Some}
-use Rattle.std.specs.Char.{is_ascii_digit, digit_value}
-use Rattle.std.specs.Str.Parse.{digits_value_after}
-use Rattle.std.proofs.lemmas.List.Sums.{take_while-cons}
-use Rattle.std.proofs.lemmas.Bool.Decides.{nat_tests}
+use Rattle.std.proofs.Common.{◌≡◌, ◌∙◌, ◌⊎◌, ◌+◌, ◌-◌, ◌*◌, ◌<◌, ◌≤◌, cond, ℕ, Bool, true, List, [], ◌∷◌, ap, arith, Some}
+use Rattle.std.proofs.lemmas.{List.Sums.take_while-cons, Bool.Decides.nat_tests}
+use Rattle.std.specs.{Char.is_ascii_digit, Char.digit_value, Str.Parse.digits_value_after}
 use Rattle.thread_machine.specs.declared.choice.Choice.{Choice}
 use Rattle.schedule_reader.specs.declared.fault.ScheduleFault.TheVariants as fault
 use Rattle.schedule_reader.specs.Schedule.{Faulty, choice_of, digits_of, reading_by_thread, reading_by_times}

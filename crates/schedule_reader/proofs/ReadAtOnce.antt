@@ -1,10 +1,8 @@
 -- The runs that a reader makes of a whole schedule.
 use Rattle.std.proofs.Common.{◌≡◌, List, [], Some, None, Result, Ok, Err, ℕ, Bool, true, false, ◌↔◌, arith, rules, ◌⊎◌, inl, inr}
-use Rattle.schedule_reader.specs.declared.run.Run.{Run}
-use Rattle.schedule_reader.specs.declared.fault.ScheduleFault.{ScheduleFault}
+use Rattle.schedule_reader.specs.declared.{run.Run.Run, fault.ScheduleFault.ScheduleFault}
+use Rattle.schedule_reader.specs.{Schedule.open_schedule, Schedule.finished_schedule, Reading.Adds, Reading.answer_of}
 use Rattle.schedule_reader.specs.declared.fault.ScheduleFault.TheVariants as fault
-use Rattle.schedule_reader.specs.Schedule.{open_schedule, finished_schedule}
-use Rattle.schedule_reader.specs.Reading.{Adds, answer_of}
 
 -- want of memory, or what holds without it
 pub answered : {A : Type 0} (result : Result (Unit {0}) ScheduleFault) → (result ≡ Err fault.Memory → ⊥)

@@ -1,16 +1,12 @@
 -- A record gets one choice more, and is read as its choices.
-use Rattle.std.proofs.Common.{suc, ◌≡◌, ◌+◌, ◌*◌, ◌/◌, ◌%◌, ◌<◌, ◌≤◌, ℕ, List, [], ◌∷◌, ◌++◌, length, refl, ap, arith, append_assoc, length-append, rules}
-use Rattle.std.specs.Prelude.{All, None}
+use Rattle.std.proofs.Common.{suc, ◌≡◌, ◌+◌, ◌*◌, ◌/◌, ◌%◌, ◌<◌, ◌≤◌, ℕ, List, [], ◌∷◌, ◌++◌, length, refl, ap, arith, append_assoc, length-append, rules, All, None, append-nil}
 use Rattle.std.proofs.lemmas.Fmt.{decimal_digit, decimal_step, length-decimal-le}
-use Rattle.std.proofs.lemmas.List.{append-nil}
 use Rattle.std.proofs.lemmas.List.Elements.{All-cons, All-nil}
 use Rattle.thread_machine.specs.declared.choice.Choice.{Choice}
-use Rattle.schedule_reader.specs.declared.run.Run.{Run}
+use Rattle.schedule_reader.specs.{declared.run.Run.Run, Text.letter_of, Text.token_of, Text.spaced_tokens}
 use Rattle.schedule_reader.specs.Schedule.{IsRun, choices_of, finished_schedule, run_of}
-use Rattle.schedule_reader.specs.Text.{letter_of, token_of, spaced_tokens}
 use Rattle.schedule_reader.specs.Record.{IsNamed, once_each, record_text}
-use Rattle.schedule_reader.proofs.Runs.{spelled}
-use Rattle.schedule_reader.proofs.Tokens.{text-read}
+use Rattle.schedule_reader.proofs.{Runs.spelled, Tokens.text-read}
 
 -- a choice by itself as a token
 pub token-long : (choice : Choice) (old : List ℕ) → 10 ≤ choice.thread → choice.thread ≤ 63

@@ -1,12 +1,8 @@
 -- Runs that get one choice more.
-use Rattle.std.proofs.Common.{◌≡◌, ◌∙◌, ◌+◌, ◌<◌, ◌≤◌, ℕ, zero, suc, List, [], ◌∷◌, ◌++◌, length, arith, sym, subst, append_assoc}
-use Rattle.std.proofs.lemmas.List.Elements.{All-append, All-cons, All-nil}
-use Rattle.std.specs.Prelude.{All, replicate, slice_index_or, slice_set}
-use Rattle.std.proofs.lemmas.List.{append-nil, replicate-append-replicate}
+use Rattle.std.proofs.Common.{◌≡◌, ◌∙◌, ◌+◌, ◌<◌, ◌≤◌, ℕ, zero, suc, List, [], ◌∷◌, ◌++◌, length, arith, sym, subst, append_assoc, All, replicate, slice_index_or, slice_set, append-nil}
+use Rattle.std.proofs.lemmas.List.{Elements.All-append, Elements.All-cons, Elements.All-nil, replicate-append-replicate}
 use Rattle.thread_machine.specs.declared.choice.Choice.{Choice}
-use Rattle.schedule_reader.specs.declared.run.Run.{Run}
-use Rattle.schedule_reader.specs.Schedule.{IsRun, choices_of, run_of}
-use Rattle.schedule_reader.specs.Joined.{AreJoined}
+use Rattle.schedule_reader.specs.{declared.run.Run.Run, Schedule.IsRun, Schedule.choices_of, Schedule.run_of, Joined.AreJoined}
 
 once_more : (times : ℕ) (choice : Choice) → replicate (times + 1) choice ≡ replicate times choice ++ choice ∷ []
 once_more times choice = sym (replicate-append-replicate times 1 choice)

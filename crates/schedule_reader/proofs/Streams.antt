@@ -1,17 +1,13 @@
 -- A stream's bytes one by one, and the runs that they add.
-use Rattle.std.proofs.Common.{◌≡◌, ◌∙◌, ◌⊎◌, inl, inr, ◌+◌, ◌<◌, ◌≤◌, if◌then◌else◌, ℕ, Bool, true, false, List, [], ◌∷◌, ◌++◌, length, drop, refl, ap, sym, subst, arith, append_assoc, length-append, rules}
-use Rattle.std.specs.Prelude.{Some, None, Result, Ok, Err, IfOk}
+use Rattle.std.proofs.Common.{◌≡◌, ◌∙◌, ◌⊎◌, inl, inr, ◌+◌, ◌<◌, ◌≤◌, if◌then◌else◌, ℕ, Bool, true, false, List, [], ◌∷◌, ◌++◌, length, drop, refl, ap, sym, subst, arith, append_assoc, length-append, rules, Some, None, Result, Ok, Err, IfOk, append-nil}
+use Rattle.std.proofs.lemmas.List.{drop_all, Splits.slice_split-cons_yes, Splits.slice_split-cons_no, Splits.length-slice_split}
 use Rattle.std.specs.List.{slice_split, onto_first}
-use Rattle.std.proofs.lemmas.List.{append-nil, drop_all}
-use Rattle.std.proofs.lemmas.List.Splits.{slice_split-cons_yes, slice_split-cons_no, length-slice_split}
-use Rattle.schedule_reader.specs.declared.run.Run.{Run}
-use Rattle.schedule_reader.specs.declared.fault.ScheduleFault.{ScheduleFault}
-use Rattle.schedule_reader.specs.declared.fault.ScheduleFault.TheVariants as fault
-use Rattle.schedule_reader.specs.declared.place.Place.{Place}
-use Rattle.schedule_reader.specs.declared.place.Place.TheVariants as place
+use Rattle.schedule_reader.specs.declared.{run.Run.Run, fault.ScheduleFault.ScheduleFault, place.Place.Place}
 use Rattle.schedule_reader.specs.Schedule.{Reading, Token, Unfinished, Schedule, is_blank, whole, faulty, no_runs, schedule_with, open_schedule_of, schedule_in, schedule_of, open_schedule, finished_schedule}
 use Rattle.schedule_reader.specs.Places.{piece_from, piece_with, last_from, pieces_from, schedule_from, with_runs, reading_left, IsInside, IsPlace, IsLeft, Takes, Progress, rest_by_fault, rest_schedule, HasRead}
 use Rattle.schedule_reader.specs.Reading.{Adds, answer_of}
+use Rattle.schedule_reader.specs.declared.fault.ScheduleFault.TheVariants as fault
+use Rattle.schedule_reader.specs.declared.place.Place.TheVariants as place
 use Rattle.schedule_reader.proofs.Numbers.{thread-end, times-end}
 
 -- the last piece, by its reading

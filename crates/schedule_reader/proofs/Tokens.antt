@@ -1,19 +1,12 @@
 -- A written schedule is read as its runs.
-use Rattle.std.proofs.Common.{suc, ◌≡◌, ◌∙◌, ◌+◌, ◌^◌, ◌<◌, ◌≤◌, ◌==◌, if◌then◌else◌, ℕ, Bool, true, false, List, [], ◌∷◌, ◌++◌, length, drop, refl, ap, sym, arith, lit≤}
-use Rattle.std.specs.Prelude.{None, All, Ok}
-use Rattle.std.specs.List.{slice_split}
-use Rattle.std.specs.Char.{is_ascii_digit, digit_value}
-use Rattle.std.specs.Fmt.{decimal}
-use Rattle.std.specs.Str.Parse.{AllDigits, digits_value_after}
-use Rattle.std.proofs.lemmas.Fmt.{decimal_is_IsNumeral, length-decimal-le}
-use Rattle.std.proofs.lemmas.List.{append-nil}
-use Rattle.std.proofs.lemmas.List.Elements.{All-cons}
+use Rattle.std.proofs.Common.{suc, ◌≡◌, ◌∙◌, ◌+◌, ◌^◌, ◌<◌, ◌≤◌, ◌==◌, if◌then◌else◌, ℕ, Bool, true, false, List, [], ◌∷◌, ◌++◌, length, drop, refl, ap, sym, arith, lit≤, None, All, Ok, append-nil}
+use Rattle.std.proofs.lemmas.{Fmt.decimal_is_IsNumeral, Fmt.length-decimal-le, List.Elements.All-cons, Bool.Decides.nat_tests}
 use Rattle.std.proofs.lemmas.List.Splits.{slice_split_at, slice_split_none, length-slice_split}
-use Rattle.std.proofs.lemmas.Bool.Decides.{nat_tests}
+use Rattle.std.specs.{List.slice_split, Char.is_ascii_digit, Char.digit_value, Fmt.decimal}
+use Rattle.std.specs.Str.Parse.{AllDigits, digits_value_after}
 use Rattle.thread_machine.specs.declared.choice.Choice.{Choice}
-use Rattle.schedule_reader.specs.declared.run.Run.{Run}
+use Rattle.schedule_reader.specs.{declared.run.Run.Run, Places.times_by}
 use Rattle.schedule_reader.specs.Schedule.{Token, IsRun, is_blank, whole, schedule_with, schedule_with_piece, schedule_in, no_runs, finished_schedule, choice_of, digits_of, reading_of, reading_after_letter, reading_after_star, reading_of_count, reading_by_thread, reading_by_times}
-use Rattle.schedule_reader.specs.Places.{times_by}
 use Rattle.schedule_reader.specs.Text.{letter_of, times_text, token_of, spaced_tokens, schedule_text}
 use Rattle.schedule_reader.proofs.Numbers.{digits_of-digit, number_by-some}
 

@@ -1,19 +1,13 @@
 -- A turn that is named once, read whole.
-use Rattle.std.proofs.Common.{◌≡◌, ◌∙◌, ◌+◌, ◌-◌, ◌*◌, ◌<◌, ◌≤◌, ℕ, Bool, true, false, List, [], ◌∷◌, ◌++◌, length, drop, refl, ap, sym, subst, arith, lit≤, append_assoc, drop-drop}
-use Rattle.std.specs.Prelude.{All, Ok, Err, get_or}
-use Rattle.std.specs.List.{slice_split}
-use Rattle.std.specs.Char.{is_ascii_digit, digit_value}
+use Rattle.std.proofs.Common.{◌≡◌, ◌∙◌, ◌+◌, ◌-◌, ◌*◌, ◌<◌, ◌≤◌, ℕ, Bool, true, false, List, [], ◌∷◌, ◌++◌, length, drop, refl, ap, sym, subst, arith, lit≤, append_assoc, drop-drop, All, Ok, Err, get_or, append-nil}
+use Rattle.std.proofs.lemmas.List.{drop_all, Elements.All-append, Elements.All-cons, Elements.All-nil}
+use Rattle.std.proofs.lemmas.{List.Splits.slice_split_at, List.Splits.length-slice_split, Bool.Decides.nat_tests}
+use Rattle.std.specs.{List.slice_split, Char.is_ascii_digit, Char.digit_value}
 use Rattle.std.specs.Str.Parse.{AllDigits, digits_value_after}
-use Rattle.std.proofs.lemmas.List.{append-nil, drop_all}
-use Rattle.std.proofs.lemmas.List.Elements.{All-append, All-cons, All-nil}
-use Rattle.std.proofs.lemmas.List.Splits.{slice_split_at, length-slice_split}
-use Rattle.std.proofs.lemmas.Bool.Decides.{nat_tests}
-use Rattle.schedule_reader.specs.declared.run.Run.{Run}
-use Rattle.schedule_reader.specs.declared.fault.ScheduleFault.{ScheduleFault}
-use Rattle.schedule_reader.specs.declared.place.Place.{Place}
-use Rattle.schedule_reader.specs.declared.place.Place.TheVariants as place
+use Rattle.schedule_reader.specs.declared.{run.Run.Run, fault.ScheduleFault.ScheduleFault, place.Place.Place}
 use Rattle.schedule_reader.specs.Schedule.{Token, IsRun, is_blank, choice_of, run_of, digits_of, reading_of}
 use Rattle.schedule_reader.specs.Places.{BeginsWithTurn, Takes, schedule_from, with_runs}
+use Rattle.schedule_reader.specs.declared.place.Place.TheVariants as place
 use Rattle.schedule_reader.proofs.Numbers.{digit_value-digit, number_by-some}
 use Rattle.schedule_reader.proofs.Streams.{takes-plain, with_runs-append}
 use Rattle.schedule_reader.proofs.Tokens.{above-blanks, above-digits, digits-then, not_zero}

@@ -1,7 +1,6 @@
 -- How few runs a schedule has: what can be said of it without a list.
 use Rattle.std.specs.Prelude.{List, [], ◌∷◌, ◌++◌, Option, Some, None}
-use Rattle.schedule_reader.specs.declared.run.Run.{Run}
-use Rattle.schedule_reader.specs.declared.few.Few.{Few}
+use Rattle.schedule_reader.specs.declared.{run.Run.Run, few.Few.Few}
 use Rattle.schedule_reader.specs.declared.few.Few.TheVariants as few
 
 -- none, this one, or two or more

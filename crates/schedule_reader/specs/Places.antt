@@ -1,15 +1,12 @@
 -- Where a reader is in a stream, and what the remaining bytes lead to. Only proofs use this: a reader's contracts pass it on
 -- from call to call, and no promise depends on it.
 use Rattle.std.specs.Prelude.{◌≡◌, ◌≤◌, ℕ, ◌+◌, ◌-◌, ◌==◌, ◌||◌, ◌⊎◌, nat_lt, if◌then◌else◌, Bool, true, false, List, [], ◌∷◌, ◌++◌, length, drop, Option, Some, None, Result, Ok, Err}
-use Rattle.std.specs.List.{slice_split}
-use Rattle.std.specs.Str.Parse.{AllDigits, digits_value_after}
+use Rattle.std.specs.{List.slice_split, Str.Parse.AllDigits, Str.Parse.digits_value_after}
 use Rattle.thread_machine.specs.declared.choice.Choice.{Choice}
-use Rattle.schedule_reader.specs.declared.run.Run.{Run}
-use Rattle.schedule_reader.specs.declared.fault.ScheduleFault.{ScheduleFault}
-use Rattle.schedule_reader.specs.declared.fault.ScheduleFault.TheVariants as fault
-use Rattle.schedule_reader.specs.declared.place.Place.{Place}
-use Rattle.schedule_reader.specs.declared.place.Place.TheVariants as place
+use Rattle.schedule_reader.specs.declared.{run.Run.Run, fault.ScheduleFault.ScheduleFault, place.Place.Place}
 use Rattle.schedule_reader.specs.Schedule.{Reading, Faulty, Schedule, is_blank, digits_of, whole, reading_of, reading_of_thread, reading_of_count, faulty, no_runs, schedule_with, schedule_with_piece, open_schedule_of, last_schedule, schedule_in, schedule_of, open_schedule}
+use Rattle.schedule_reader.specs.declared.fault.ScheduleFault.TheVariants as fault
+use Rattle.schedule_reader.specs.declared.place.Place.TheVariants as place
 
 -- a number with so many digits, or nothing if there are more digits or the number is too large
 abbrev pub number_by : ℕ → ℕ → ℕ → ℕ → Option ℕ

@@ -1,9 +1,7 @@
 -- What a call of a reader appends to a list of runs, and what it returns.
 use Rattle.std.specs.Prelude.{◌≡◌, ◌⊎◌, List, [], ◌++◌, Option, Some, None, Result, Ok, Err}
-use Rattle.schedule_reader.specs.declared.run.Run.{Run}
-use Rattle.schedule_reader.specs.declared.fault.ScheduleFault.{ScheduleFault}
+use Rattle.schedule_reader.specs.{declared.run.Run.Run, declared.fault.ScheduleFault.ScheduleFault, Schedule.Schedule}
 use Rattle.schedule_reader.specs.declared.fault.ScheduleFault.TheVariants as fault
-use Rattle.schedule_reader.specs.Schedule.{Schedule}
 
 -- a schedule's fault, or that it has none
 abbrev pub answer_by : Option ScheduleFault → Result (Unit {0}) ScheduleFault

@@ -1,9 +1,7 @@
 -- The text of recorded choices: a token for each choice.
 use Rattle.std.specs.Prelude.{◌≤◌, ℕ, List, map}
 use Rattle.thread_machine.specs.declared.choice.Choice.{Choice}
-use Rattle.schedule_reader.specs.declared.run.Run.{Run}
-use Rattle.schedule_reader.specs.Schedule.{run_of}
-use Rattle.schedule_reader.specs.Text.{schedule_text}
+use Rattle.schedule_reader.specs.{declared.run.Run.Run, Schedule.run_of, Text.schedule_text}
 
 -- a choice that a token can name
 abbrev pub IsNamed : Choice → Type 0

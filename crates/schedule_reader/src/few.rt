@@ -1,7 +1,6 @@
 //! What a whole schedule names, as far as no list is needed to say it.
 ghost use Rattle.std.specs.Prelude.{◌≡◌, ◌≢◌, ◌+◌, ◌<◌, ◌≤◌, ◌∷◌, ◌++◌, List, ℕ, IfOk, IfErr, OnOk, Ok, Err, true, Some, None, length};
-ghost use Rattle.schedule_reader.specs.declared.fault.ScheduleFault.TheVariants.{Memory};
-ghost use Rattle.schedule_reader.specs.Few.{few_of, with_ended};
+ghost use Rattle.schedule_reader.specs.{declared.fault.ScheduleFault.TheVariants.Memory, Few.few_of, Few.with_ended};
 ghost use Rattle.schedule_reader.specs.Places.{IsLeft, IsPlace, ended_with, schedule_from};
 ghost use Rattle.schedule_reader.specs.Schedule.{finished_schedule};
 

@@ -3,8 +3,8 @@ ghost use Rattle.std.specs.Prelude.{◌≡◌, ◌+◌, ◌<◌, ◌≤◌, ◌^
 ghost use Rattle.std.specs.Char.{is_ascii_digit};
 ghost use Rattle.schedule_reader.specs.Schedule.{Schedule, IsRun, is_blank, choice_of, reading_of};
 ghost use Rattle.schedule_reader.specs.declared.fault.ScheduleFault.TheVariants.{Memory};
-ghost use Rattle.schedule_reader.specs.declared.place.Place.TheVariants as place;
 ghost use Rattle.schedule_reader.specs.Places.{IsPlace, IsInside, reading_left, ended_with, spent, thread_from, times_from, piece_from, piece_with};
+ghost use Rattle.schedule_reader.specs.declared.place.Place.TheVariants as place;
 
 use crate::fault::ScheduleFault;
 use crate::run::Run;

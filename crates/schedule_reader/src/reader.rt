@@ -1,8 +1,7 @@
 //! The reader of a stream that comes in pieces. The grammar of a token is in `place`.
 ghost use Rattle.std.specs.Prelude.{◌≡◌, ◌≢◌, ◌⊎◌, ◌+◌, ◌*◌, ◌/◌, ◌<◌, ◌≤◌, List, ◌∷◌, [], ◌++◌, ℕ, Bool, false, length, drop, IfOk, IfSome, IfErr, OnOk, IsErr, All, Err, Ok, Some, None};
 ghost use Rattle.std.specs.Vec.{vec_len, vec_capacity};
-ghost use Rattle.schedule_reader.specs.declared.fault.ScheduleFault.TheVariants.{Memory};
-ghost use Rattle.schedule_reader.specs.declared.place.Place.TheVariants.{Between};
+ghost use Rattle.schedule_reader.specs.declared.{fault.ScheduleFault.TheVariants.Memory, place.Place.TheVariants.Between};
 ghost use Rattle.schedule_reader.specs.Schedule.{Schedule, IsRun, choice_of, run_of, open_schedule, finished_schedule};
 ghost use Rattle.schedule_reader.specs.Reading.{Adds, answer_of};
 ghost use Rattle.schedule_reader.specs.Places.{IsPlace, HasRead, Takes, BeginsWithTurn, spent, piece_with, schedule_from};

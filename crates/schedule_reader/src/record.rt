@@ -2,9 +2,8 @@
 ghost use Rattle.std.specs.Prelude.{◌≡◌, ◌+◌, ◌≤◌, ◌++◌, ◌∷◌, [], All, List, None};
 ghost use Rattle.std.specs.Vec.{vec_len, vec_capacity};
 ghost use Rattle.thread_machine.specs.declared.choice.Choice.{Choice};
-ghost use Rattle.schedule_reader.specs.Schedule.{finished_schedule, run_of};
+ghost use Rattle.schedule_reader.specs.{Schedule.finished_schedule, Schedule.run_of, Text.token_of};
 ghost use Rattle.schedule_reader.specs.Record.{IsNamed, once_each, record_text};
-ghost use Rattle.schedule_reader.specs.Text.{token_of};
 
 use thread_machine::Choice;
 

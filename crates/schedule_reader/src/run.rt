@@ -1,8 +1,7 @@
 //! Runs, each of a choice that is made once or more, and lists of them.
 ghost use Rattle.std.specs.Prelude.{◌≡◌, ◌≤◌, ◌<◌, ◌+◌, ◌++◌, ◌∷◌, [], All, IfOk, MatchOption, OnOk, replicate};
 ghost use Rattle.std.specs.Vec.{vec_len, vec_capacity};
-ghost use Rattle.schedule_reader.specs.Joined.{AreJoined};
-ghost use Rattle.schedule_reader.specs.Schedule.{IsRun, choices_of, run_of};
+ghost use Rattle.schedule_reader.specs.{Joined.AreJoined, Schedule.IsRun, Schedule.choices_of, Schedule.run_of};
 
 use std::alloc::{AllocError, Global};
 use thread_machine::Choice;

@@ -1,7 +1,6 @@
 //! Schedules as text: a reader reads exactly the runs that were written.
 ghost use Rattle.std.specs.Prelude.{◌≡◌, ◌++◌, OnOk, IfOk, All, None};
-ghost use Rattle.std.specs.String.{string_bytes};
-ghost use Rattle.std.specs.Fmt.{decimal};
+ghost use Rattle.std.specs.{String.string_bytes, Fmt.decimal};
 ghost use Rattle.schedule_reader.specs.Schedule.{IsRun, finished_schedule};
 ghost use Rattle.schedule_reader.specs.Text.{schedule_text, token_of, spaced_tokens, times_text};
 

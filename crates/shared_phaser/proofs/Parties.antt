@@ -1,22 +1,16 @@
 -- Callers are split off and joined again, and the phaser is closed.
 use Rattle.std.proofs.Common.{◌≡◌, ◌≢◌, ◌⊎◌, ℕ, zero, suc, ◌+◌, ◌<◌, ◌≤◌, true, List, [], ◌∷◌, ◌++◌, length, set, All, refl, sym, ap, ◌∙◌, subst, inl, inr, ⊎_elim, arith, length-set, length-append}
+use Rattle.std.proofs.lemmas.List.Elements.{All-append, All-cons}
 use mathlib.Core.Option.{some, some-injective, some-ne-none}
 use native.Mathlib.Decide.{dec_le}
 use lib.ListN.{get_elem?}
-use Rattle.std.proofs.lemmas.List.Elements.{All-append, All-cons}
 use Rattle.atomic_table.specs.Table.{Splits, Joins, Final, Seen, opening}
 use Rattle.atomic_table.proofs.Lists.{at_set, set_here, set_else, at_longer}
-use Rattle.packed_phaser.specs.Flat.{fresh}
-use Rattle.packed_phaser.specs.Word.{IsWord, record_of}
-use Rattle.shared_phaser.specs.declared.history.Entry.{Entry}
-use Rattle.shared_phaser.specs.declared.history.Kept.{Kept}
-use Rattle.shared_phaser.specs.declared.history.Setup.{Setup}
-use Rattle.shared_phaser.specs.declared.history.View.{View}
-use Rattle.shared_phaser.specs.History.{calls_by, at_end, IsLegal}
-use Rattle.shared_phaser.specs.Known.{IsWhole, IsApart, EndsAs}
+use Rattle.packed_phaser.specs.{Flat.fresh, Word.IsWord, Word.record_of}
+use Rattle.shared_phaser.specs.declared.history.{Entry.Entry, Kept.Kept, Setup.Setup, View.View}
+use Rattle.shared_phaser.specs.{History.calls_by, History.at_end, History.IsLegal, Known.IsWhole, Known.IsApart, Known.EndsAs}
 use Rattle.shared_phaser.specs.Rule.{first_view, IsSpent, Stands, Keeps, IsKept, giving_view, given_view, receiving_view, spent_view}
-use Rattle.shared_phaser.proofs.Stories.{prefix_nil, in_range}
-use Rattle.shared_phaser.proofs.Steps.{spent_apart, spent_stays}
+use Rattle.shared_phaser.proofs.{Stories.prefix_nil, Stories.in_range, Steps.spent_apart, Steps.spent_stays}
 
 -- what stands in a list with one more at its end
 at_end_of : {A : Type 0} (l : List A) (a b : A) (j : ℕ) → get_elem? (l ++ a ∷ []) j ≡ some b → (get_elem? l j ≡ some b) ⊎ ((j ≡ length l) × (a ≡ b))

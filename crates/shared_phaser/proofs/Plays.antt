@@ -1,24 +1,18 @@
 -- Each load and each exchange keeps the rule, and tells what it says.
-use Rattle.std.proofs.Common.{◌≡◌, ℕ, ◌==◌, Bool, true, false, List, [], ◌∷◌, ◌++◌, set, refl, sym, ap, ◌∙◌, subst, eqb-true, arith, eq-eqb}
-use Rattle.std.specs.Prelude.{slice_index, slice_set}
+use Rattle.std.proofs.Common.{◌≡◌, ℕ, ◌==◌, Bool, true, false, List, [], ◌∷◌, ◌++◌, set, refl, sym, ap, ◌∙◌, subst, eqb-true, arith, eq-eqb, slice_index, slice_set}
+use Rattle.std.proofs.lemmas.List.Elements.{filter-append}
 use mathlib.Core.Option.{none, some}
 use lib.ListN.{get_elem?}
 use prog.Atomic.{either}
 use Rattle.atomic_table.specs.Table.{Me, step, Act, keeps, homes_after, carried_after, Valid, Allows}
 use Rattle.packed_phaser.specs.Word.{IsWord, record_of}
-use Rattle.shared_phaser.specs.declared.history.Call.{Call}
-use Rattle.shared_phaser.specs.declared.history.Answer.{Answer}
-use Rattle.shared_phaser.specs.declared.history.Answer.TheVariants.{Saw}
-use Rattle.shared_phaser.specs.declared.history.Entry.{Entry}
-use Rattle.shared_phaser.specs.declared.history.Setup.{Setup}
-use Rattle.shared_phaser.specs.declared.history.Known.{Known}
-use Rattle.shared_phaser.specs.declared.history.View.{View}
+use Rattle.shared_phaser.specs.declared.history.{Call.Call, Answer.Answer, Answer.TheVariants.Saw, Entry.Entry, Setup.Setup}
+use Rattle.shared_phaser.specs.declared.history.{Known.Known, View.View}
 use Rattle.shared_phaser.specs.History.{Effect, Shows, Tells, Makes, Waits, effect, Answers, after, opened, IsLegal, at_end}
 use Rattle.shared_phaser.specs.Known.{Owns, entry, making, seeing}
 use Rattle.shared_phaser.specs.Rule.{knowing, Knows, Keeps, IsKept, Finds, loaded, won, exchanged, effect_at, Loads, Exchanges, Watches}
 use Rattle.shared_phaser.proofs.Stories.{prefix_self, prefix_nil, prefix_more, after_all-push, legal_push, calls_by-other}
 use Rattle.shared_phaser.proofs.Steps.{step_keeps}
-use Rattle.std.proofs.lemmas.List.Elements.{filter-append}
 
 -- the caller goes on with a view that keeps the rule
 pub record Goes (o : Setup) (id : ℕ) (views : List View) (f : ℕ → ℕ) (word : ℕ) (tell : View → Type 0) : Type 0 where

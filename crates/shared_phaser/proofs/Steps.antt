@@ -7,10 +7,7 @@ use native.Mathlib.Decide.{ℕ_discrete}
 use lib.ListN.{get_elem?}
 use Rattle.atomic_table.proofs.Lists.{at_set, set_here, set_else}
 use Rattle.packed_phaser.specs.Word.{IsWord, record_of}
-use Rattle.shared_phaser.specs.declared.history.Entry.{Entry}
-use Rattle.shared_phaser.specs.declared.history.Kept.{Kept}
-use Rattle.shared_phaser.specs.declared.history.Setup.{Setup}
-use Rattle.shared_phaser.specs.declared.history.View.{View}
+use Rattle.shared_phaser.specs.declared.history.{Entry.Entry, Kept.Kept, Setup.Setup, View.View}
 use Rattle.shared_phaser.specs.History.{IsLegal, at_end, calls_by}
 use Rattle.shared_phaser.specs.Rule.{Knows, IsSpent, Stands, Keeps}
 use Rattle.shared_phaser.proofs.Stories.{prefix_trans, in_range}

@@ -4,11 +4,8 @@ use Rattle.std.proofs.lemmas.List.Elements.{filter-append}
 use mathlib.Core.List.{IsPrefix}
 use mathlib.Core.Option.{some, some-ne-none}
 use lib.ListN.{get_elem?}
-use Rattle.packed_phaser.specs.Flat.{Flat}
-use Rattle.packed_phaser.specs.declared.policy.Policy.{Policy}
-use Rattle.shared_phaser.specs.declared.history.Call.{Call}
-use Rattle.shared_phaser.specs.declared.history.Answer.{Answer}
-use Rattle.shared_phaser.specs.declared.history.Entry.{Entry}
+use Rattle.packed_phaser.specs.{Flat.Flat, declared.policy.Policy.Policy}
+use Rattle.shared_phaser.specs.declared.history.{Call.Call, Answer.Answer, Entry.Entry}
 use Rattle.shared_phaser.specs.History.{Effect, effect, Answers, after, change, IsLegalFrom, after_all, changes, calls_by}
 use Rattle.shared_phaser.specs.Known.{entry}
 

@@ -1,18 +1,11 @@
 -- What the tries of a call come to.
 use Rattle.std.proofs.Common.{◌≡◌, ◌≢◌, ◌⊎◌, ℕ, ◌+◌, ◌≤◌, ◌==◌, if◌then◌else◌, Bool, true, false, List, refl, sym, ap, ◌∙◌, subst, inl, inr, ⊎_elim, arith, append_assoc, eq-zero-or-pos}
 use Rattle.atomic_table.specs.Table.{Me, Step}
-use Rattle.packed_phaser.specs.Flat.{Flat}
-use Rattle.packed_phaser.specs.Word.{IsWord, record_of}
-use Rattle.packed_phaser.specs.declared.policy.Policy.{Policy}
-use Rattle.shared_phaser.specs.declared.history.Call.{Call}
-use Rattle.shared_phaser.specs.declared.history.Answer.{Answer}
+use Rattle.packed_phaser.specs.{Flat.Flat, Word.IsWord, Word.record_of, declared.policy.Policy.Policy}
+use Rattle.shared_phaser.specs.declared.history.{Call.Call, Answer.Answer, Entry.Entry, Known.Known, View.View}
 use Rattle.shared_phaser.specs.declared.history.Answer.TheVariants.{Saw, Replied, Passed}
-use Rattle.shared_phaser.specs.declared.history.Entry.{Entry}
-use Rattle.shared_phaser.specs.declared.history.Known.{Known}
-use Rattle.shared_phaser.specs.declared.history.View.{View}
 use Rattle.shared_phaser.specs.History.{Effect, Shows, Tells, Makes, Waits, effect, Answers, at_end, after_all, changes, opened}
-use Rattle.shared_phaser.specs.Known.{making, seeing, MakesCall, SeesMore}
-use Rattle.shared_phaser.specs.Outcome.{IsPrompt, Suits}
+use Rattle.shared_phaser.specs.{Known.making, Known.seeing, Known.MakesCall, Known.SeesMore, Outcome.IsPrompt, Outcome.Suits}
 use Rattle.shared_phaser.specs.Rule.{Finds, loaded, exchanged, effect_at, Loads, Exchanges}
 use Rattle.shared_phaser.proofs.Stories.{after_all-append, changes-append, unchanged}
 use Rattle.shared_phaser.proofs.Plays.{made_legal, made_owns}

@@ -1,17 +1,11 @@
 -- Which lists of calls are histories of one phaser.
-use Rattle.std.specs.Prelude.{◌≡◌, ℕ, ℤ, pos, ◌+◌, ◌==◌, false, if◌then◌else◌, unwrap_or, List, [], ◌∷◌, filter}
-use Rattle.std.proofs.Common.{int_eq}
+use Rattle.std.proofs.Common.{◌≡◌, ℕ, ℤ, pos, ◌+◌, ◌==◌, false, if◌then◌else◌, unwrap_or, List, [], ◌∷◌, filter, int_eq}
 use Rattle.packed_phaser.specs.Flat.{Flat, Registration, Joins, JoinsLate, MustWait, Overfull, Arrival, Counts, Turns, ComesLate, IsUnregistered, fresh, view_of, register, arrive, advance, force}
-use Rattle.packed_phaser.specs.Policy.{ends}
-use Rattle.packed_phaser.specs.Word.{record_of}
-use Rattle.packed_phaser.specs.declared.policy.Policy.{Policy}
-use Rattle.shared_phaser.specs.declared.history.Call.{Call}
+use Rattle.packed_phaser.specs.{Policy.ends, Word.record_of, declared.policy.Policy.Policy}
+use Rattle.shared_phaser.specs.declared.history.{Call.Call, Answer.Answer, Entry.Entry, Setup.Setup}
 use Rattle.shared_phaser.specs.declared.history.Call.TheVariants.{Look, Register, Arrive, Force, Await}
 use Rattle.shared_phaser.specs.declared.history.Reply.TheVariants.{Counted, Dead, TooMany, NotThere}
-use Rattle.shared_phaser.specs.declared.history.Answer.{Answer}
 use Rattle.shared_phaser.specs.declared.history.Answer.TheVariants.{Saw, Replied, Passed}
-use Rattle.shared_phaser.specs.declared.history.Entry.{Entry}
-use Rattle.shared_phaser.specs.declared.history.Setup.{Setup}
 
 -- the effect of a call: it returns a word of the phaser; or it returns this and changes nothing; or it changes the phaser to
 -- this one and returns that; or it can't be made yet

@@ -3,14 +3,9 @@ use Rattle.std.specs.Prelude.{◌≡◌, ◌≢◌, ◌⊎◌, ℕ, ℤ, ◌+◌
 use mathlib.Core.List.{IsPrefix}
 use Rattle.atomic_table.specs.Seated.{TableId}
 use Rattle.packed_phaser.specs.Word.{record_of}
-use Rattle.shared_phaser.specs.declared.history.Call.{Call}
-use Rattle.shared_phaser.specs.declared.history.Call.TheVariants.{Arrive, Await}
-use Rattle.shared_phaser.specs.declared.history.Reply.TheVariants.{Counted, Dead}
-use Rattle.shared_phaser.specs.declared.history.Answer.{Answer}
-use Rattle.shared_phaser.specs.declared.history.Answer.TheVariants.{Replied, Passed}
-use Rattle.shared_phaser.specs.declared.history.Entry.{Entry}
-use Rattle.shared_phaser.specs.declared.history.Kept.{Kept}
-use Rattle.shared_phaser.specs.declared.history.Setup.{Setup}
+use Rattle.shared_phaser.specs.declared.history.{Call.Call, Call.TheVariants.Arrive, Call.TheVariants.Await, Answer.Answer}
+use Rattle.shared_phaser.specs.declared.history.{Reply.TheVariants.Counted, Reply.TheVariants.Dead, Entry.Entry, Kept.Kept}
+use Rattle.shared_phaser.specs.declared.history.{Answer.TheVariants.Replied, Answer.TheVariants.Passed, Setup.Setup}
 use Rattle.shared_phaser.specs.declared.history.Known.{Known}
 use Rattle.shared_phaser.specs.History.{IsLegal, at_end, changes, calls_by}
 

@@ -1,16 +1,11 @@
 -- What the code's own results mean. Only proofs use this, between the calls and the history: no promise depends on it.
 use Rattle.std.specs.Prelude.{◌≡◌}
 use Rattle.packed_phaser.specs.Word.{record_of}
-use Rattle.shared_phaser.specs.declared.history.Call.{Call}
+use Rattle.shared_phaser.specs.declared.history.{Call.Call, Reply.TheVariants.TooMany, Answer.Answer, Known.Known}
 use Rattle.shared_phaser.specs.declared.history.Call.TheVariants.{Look, Register, Arrive, Force, Await}
-use Rattle.shared_phaser.specs.declared.history.Reply.TheVariants.{TooMany}
-use Rattle.shared_phaser.specs.declared.history.Answer.{Answer}
 use Rattle.shared_phaser.specs.declared.history.Answer.TheVariants.{Replied, Passed}
-use Rattle.shared_phaser.specs.declared.effect.Outcome.{Outcome}
-use Rattle.shared_phaser.specs.declared.effect.Outcome.TheVariants.{Told, Change, Wait}
-use Rattle.shared_phaser.specs.declared.attempt.Attempt.{Attempt}
-use Rattle.shared_phaser.specs.declared.attempt.Attempt.TheVariants.{Made, Lost, Waiting}
-use Rattle.shared_phaser.specs.declared.history.Known.{Known}
+use Rattle.shared_phaser.specs.declared.effect.Outcome.{Outcome, TheVariants.Told, TheVariants.Change, TheVariants.Wait}
+use Rattle.shared_phaser.specs.declared.attempt.Attempt.{Attempt, TheVariants.Made, TheVariants.Lost, TheVariants.Waiting}
 use Rattle.shared_phaser.specs.History.{Effect, Tells, Makes, Waits, at_end}
 use Rattle.shared_phaser.specs.Known.{MakesCall, SeesMore}
 

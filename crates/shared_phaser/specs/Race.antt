@@ -1,10 +1,7 @@
 -- What a caller has seen after a call that lost each of its tries.
 use Rattle.std.specs.Prelude.{◌≡◌, ℕ}
 use Rattle.packed_phaser.specs.Word.{record_of}
-use Rattle.shared_phaser.specs.declared.calls.Raced.{Raced}
-use Rattle.shared_phaser.specs.declared.history.Known.{Known}
-use Rattle.shared_phaser.specs.History.{at_end}
-use Rattle.shared_phaser.specs.Known.{SeesMore}
+use Rattle.shared_phaser.specs.{declared.calls.Raced.Raced, declared.history.Known.Known, History.at_end, Known.SeesMore}
 
 -- No call was made, and since the caller's last look there were as many changes as tries. The caller has now seen all of them,
 -- and the word is that of the phaser after them

@@ -5,15 +5,9 @@ use mathlib.Core.List.{IsPrefix}
 use mathlib.Core.Option.{some}
 use lib.ListN.{get_elem?}
 use Rattle.atomic_table.specs.Table.{State, Me, Step}
-use Rattle.packed_phaser.specs.Word.{IsWord, record_of}
-use Rattle.packed_phaser.specs.declared.policy.Policy.TheVariants.{Never}
-use Rattle.shared_phaser.specs.declared.history.Call.{Call}
-use Rattle.shared_phaser.specs.declared.history.Answer.TheVariants.{Saw}
-use Rattle.shared_phaser.specs.declared.history.Entry.{Entry}
-use Rattle.shared_phaser.specs.declared.history.Kept.{Kept}
-use Rattle.shared_phaser.specs.declared.history.Setup.{Setup}
-use Rattle.shared_phaser.specs.declared.history.Known.{Known}
-use Rattle.shared_phaser.specs.declared.history.View.{View}
+use Rattle.packed_phaser.specs.{Word.IsWord, Word.record_of, declared.policy.Policy.TheVariants.Never}
+use Rattle.shared_phaser.specs.declared.history.{Call.Call, Answer.TheVariants.Saw, Entry.Entry, Kept.Kept, Setup.Setup}
+use Rattle.shared_phaser.specs.declared.history.{Known.Known, View.View}
 use Rattle.shared_phaser.specs.History.{Effect, Shows, Tells, Makes, Waits, effect, IsLegal, at_end, calls_by}
 use Rattle.shared_phaser.specs.Known.{Owns, newcomer, making, seeing, giving, given, receiving}
 

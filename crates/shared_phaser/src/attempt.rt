@@ -1,7 +1,6 @@
 //! One try of a call.
 ghost use Rattle.std.specs.Prelude.{◌≡◌};
-ghost use Rattle.shared_phaser.specs.Known.{phaser_of};
-ghost use Rattle.shared_phaser.specs.Outcome.{IsTried, Tried};
+ghost use Rattle.shared_phaser.specs.{Known.phaser_of, Outcome.IsTried, Outcome.Tried};
 
 use crate::effect::{Outcome, outcome_at};
 use crate::history::{Answer, Call};

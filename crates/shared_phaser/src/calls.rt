@@ -2,9 +2,7 @@
 ghost use Rattle.std.specs.Prelude.{◌≡◌, ◌<◌, IfOk, IfErr};
 ghost use Rattle.shared_phaser.specs.declared.history.Call.TheVariants.{Look, Register, Arrive, Force};
 ghost use Rattle.shared_phaser.specs.declared.history.Answer.TheVariants.{Saw, Replied};
-ghost use Rattle.shared_phaser.specs.Known.{phaser_of, MakesCall};
-ghost use Rattle.shared_phaser.specs.Outcome.{IsPrompt, Suits};
-ghost use Rattle.shared_phaser.specs.Race.{LosesRaces};
+ghost use Rattle.shared_phaser.specs.{Known.phaser_of, Known.MakesCall, Outcome.IsPrompt, Outcome.Suits, Race.LosesRaces};
 
 use crate::attempt::Attempt;
 use crate::history::{Answer, Call, Reply};

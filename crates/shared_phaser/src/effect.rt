@@ -1,8 +1,6 @@
 //! What a call does to a word.
 ghost use Rattle.std.specs.Prelude.{◌≡◌, true, false, unwrap_or};
-ghost use Rattle.packed_phaser.specs.Flat.{advance, register};
-ghost use Rattle.packed_phaser.specs.Word.{record_of};
-ghost use Rattle.packed_phaser.specs.Policy.{ends};
+ghost use Rattle.packed_phaser.specs.{Flat.advance, Flat.register, Word.record_of, Policy.ends};
 ghost use Rattle.shared_phaser.specs.History.{effect, registering, forcing, awaiting};
 ghost use Rattle.shared_phaser.specs.Outcome.{effect_of, IsTried, SuitsOutcome};
 ghost use Rattle.shared_phaser.specs.declared.history.Call.TheVariants.{Register, Arrive, Force, Await};

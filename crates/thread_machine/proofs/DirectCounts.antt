@@ -1,49 +1,29 @@
 -- What each turn makes of the direct counts, and that no phase ends early with it.
-use Rattle.std.proofs.Common.{◌≡◌, ◌≢◌, ℕ, ℤ, pos, ◌<◌, Bool, true, false, List, length, refl, sym, subst, if◌then◌else◌, arith, rules}
-use Rattle.std.specs.Prelude.{◌||◌, not, Option, Some, None}
+use Rattle.std.proofs.Common.{◌≡◌, ◌≢◌, ℕ, ℤ, pos, ◌<◌, Bool, true, false, List, length, refl, sym, subst, if◌then◌else◌, arith, rules, ◌||◌, not, Option, Some, None}
 use Rattle.std.specs.Ordering.{int_eq}
-use Rattle.instruction_table.specs.declared.row.Row.{Row}
-use Rattle.instruction_table.specs.declared.row.Row.TheVariants.{Ret, Preg}
-use Rattle.instruction_table.specs.declared.register.Reg.{Reg}
-use Rattle.instruction_table.specs.declared.register.Reg.TheVariants.{R0}
-use Rattle.instruction_table.specs.Registers.{value_in}
-use Rattle.tier_tree.specs.declared.registered.Registered.{Registered}
-use Rattle.tier_tree.specs.declared.arrived.Arrived.{Arrived}
-use Rattle.tier_tree.specs.declared.arrived.Arrived.TheVariants as arrived
-use Rattle.tier_tree.specs.declared.id.PhaserId.{PhaserId}
-use Rattle.tier_tree.specs.Forest.{PhaserState, flat_at}
-use Rattle.tier_tree.specs.Arrival.{Arrives, arrival}
-use Rattle.tier_tree.specs.PhaseEnd.{after_phase_end}
-use Rattle.tier_tree.specs.Origin.{Origin, AreTallied, origin_after_registration}
-use Rattle.tier_tree.specs.Trees.{AreTrees}
-use Rattle.tier_tree.proofs.Kept.{registration-ends, arrival-ends, force-ends}
-use Rattle.tier_tree.proofs.Joined.{stands_registered}
-use Rattle.tier_tree.proofs.Stands.{stands_after_arrival}
-use Rattle.tier_tree.proofs.Turned.{stands_after_force}
-use Rattle.tier_tree.proofs.Trees.{trees_same, trees_arrived}
-use Rattle.loader.specs.Program.{Program, row_at}
-use Rattle.thread_state.specs.declared.frame.Frame.{Frame}
-use Rattle.thread_state.specs.declared.frame.Frame.TheVariants as frame
-use Rattle.thread_state.specs.declared.status.Status.{Status}
-use Rattle.thread_state.specs.declared.status.Status.TheVariants as status
-use Rattle.thread_state.specs.Thread.{top_of, left_routine}
-use Rattle.instruction_table.specs.declared.group.Group.{Group}
+use Rattle.instruction_table.specs.declared.{row.Row.Row, row.Row.TheVariants.Ret, row.Row.TheVariants.Preg, register.Reg.Reg}
+use Rattle.instruction_table.specs.{declared.register.Reg.TheVariants.R0, Registers.value_in, declared.group.Group.Group}
 use Rattle.instruction_table.specs.declared.group.Group.TheVariants.{Own, Calls, Data, Phasers, Getters, Barriers}
-use Rattle.machine_scene.specs.declared.manner.Manner.{Manner}
-use Rattle.machine_scene.specs.Scene.{Scene, Outcome, thread_at, barrier_at, with_thread, with_phasers}
 use Rattle.instruction_table.specs.Group.{group_of}
-use Rattle.machine_scene.specs.OwnRows.{outcome_of_own_row}
-use Rattle.machine_scene.specs.Manner.{manner_of}
+use Rattle.tier_tree.specs.declared.{registered.Registered.Registered, arrived.Arrived.Arrived, id.PhaserId.PhaserId}
+use Rattle.tier_tree.specs.{Forest.PhaserState, Forest.flat_at, Arrival.Arrives, Arrival.arrival, PhaseEnd.after_phase_end}
+use Rattle.tier_tree.specs.{Origin.Origin, Origin.AreTallied, Origin.origin_after_registration, Trees.AreTrees}
+use Rattle.tier_tree.specs.declared.arrived.Arrived.TheVariants as arrived
+use Rattle.tier_tree.proofs.{Kept.registration-ends, Kept.arrival-ends, Kept.force-ends, Joined.stands_registered}
+use Rattle.tier_tree.proofs.{Stands.stands_after_arrival, Turned.stands_after_force, Trees.trees_same, Trees.trees_arrived}
+use Rattle.loader.specs.Program.{Program, row_at}
+use Rattle.thread_state.specs.{declared.frame.Frame.Frame, declared.status.Status.Status, Thread.top_of, Thread.left_routine}
+use Rattle.thread_state.specs.declared.frame.Frame.TheVariants as frame
+use Rattle.thread_state.specs.declared.status.Status.TheVariants as status
+use Rattle.machine_scene.specs.{declared.manner.Manner.Manner, OwnRows.outcome_of_own_row, Manner.manner_of}
+use Rattle.machine_scene.specs.Scene.{Scene, Outcome, thread_at, barrier_at, with_thread, with_phasers}
 use Rattle.machine_scene.specs.CallRows.{outcome_of_routine_end, outcome_of_ret, outcome_of_call_row}
-use Rattle.machine_scene.specs.DataRows.{outcome_of_data_row}
-use Rattle.machine_scene.specs.GetterRows.{outcome_of_getter_row}
+use Rattle.machine_scene.specs.{DataRows.outcome_of_data_row, GetterRows.outcome_of_getter_row}
 use Rattle.machine_scene.specs.BarrierRows.{is_run_by, unless_runner, outcome_of_await_at, outcome_of_barrier_row}
 use Rattle.machine_scene.specs.PhaserRows.{outcome_of_pending_end, outcome_of_arrived, outcome_of_arrival, outcome_of_registered, outcome_of_bulk, unless_own, outcome_of_phaser_row}
 use Rattle.machine_scene.specs.Waits.{outcome_of_awaited, outcome_of_phase_wait, outcome_of_barrier_wait, outcome_of_barrier_timeout}
 use Rattle.machine_scene.specs.Outcomes.{outcome_in_group, outcome_in, timeout_in}
-use Rattle.machine_scene.proofs.Plain.{StandsAt, either}
-use Rattle.machine_scene.proofs.Routines.{turning_root}
-use Rattle.machine_scene.proofs.CallRows.{can_turn_on_top}
+use Rattle.machine_scene.proofs.{Plain.StandsAt, Plain.either, Routines.turning_root, CallRows.can_turn_on_top}
 use Rattle.thread_machine.specs.DirectCounts.{with_registration, with_arrival, with_row, with_turn}
 use Rattle.thread_machine.proofs.PhaseNumbers.{registration-numbers, arrival-numbers, force-numbers}
 use Rattle.thread_machine.proofs.PhaseEnds.{Fares, fares_on, fares_same, fares_ended}

@@ -1,13 +1,10 @@
 -- The choices that are steps, as sets of threads.
-use Rattle.std.proofs.Common.{◌≡◌, ℕ, arith, ◌≤◌, false}
-use Rattle.std.specs.Prelude.{length}
+use Rattle.std.proofs.Common.{◌≡◌, ℕ, arith, ◌≤◌, false, length}
 use Rattle.std.proofs.Math.ListN.{get_or-eq_default}
 use Rattle.cyclic_barrier.specs.ThreadSet.{has}
 use Rattle.loader.specs.Program.{Program}
-use Rattle.machine_scene.specs.Scene.{Scene, no_thread, thread_at}
-use Rattle.machine_scene.specs.Outcomes.{is_ready}
-use Rattle.machine_scene.proofs.ReadySets.{none_ready}
-use Rattle.machine_scene.proofs.ThreadSets.{IsFilledTo, filled_all}
+use Rattle.machine_scene.specs.{Scene.Scene, Scene.no_thread, Scene.thread_at, Outcomes.is_ready}
+use Rattle.machine_scene.proofs.{ReadySets.none_ready, ThreadSets.IsFilledTo, ThreadSets.filled_all}
 use Rattle.thread_machine.specs.Ready.{can_expire}
 
 -- a thread that isn't there

@@ -2,8 +2,7 @@
 use Rattle.std.proofs.Common.{ℕ, arith}
 use Rattle.row_code.specs.declared.image.Image.{Image}
 use Rattle.loader.specs.Program.{Program, IsProgramOf}
-use Rattle.loader.proofs.Images.{is_declared}
-use Rattle.loader.proofs.Whole.{declared_by}
+use Rattle.loader.proofs.{Images.is_declared, Whole.declared_by}
 use Rattle.thread_machine.specs.World.{IsFirstOf, first_world}
 
 -- the first world of this program, with these phasers

@@ -1,13 +1,9 @@
 -- Idle choices in a row.
-use Rattle.std.proofs.Common.{◌≡◌, ◌∙◌, ◌+◌, ◌<◌, ◌≤◌, ℕ, zero, suc, false, ◌∷◌, length, replicate, ap, arith}
-use Rattle.std.specs.Prelude.{None}
+use Rattle.std.proofs.Common.{◌≡◌, ◌∙◌, ◌+◌, ◌<◌, ◌≤◌, ℕ, zero, suc, false, ◌∷◌, length, replicate, ap, arith, None}
 use Rattle.std.proofs.lemmas.Bool.Decides.{nat_tests}
-use Rattle.thread_machine.specs.declared.choice.Choice.{Choice}
-use Rattle.thread_machine.specs.World.{World}
-use Rattle.thread_machine.specs.Ready.{is_choice_ready}
+use Rattle.thread_machine.specs.{declared.choice.Choice.Choice, World.World, Ready.is_choice_ready, Idle.idle_event}
 use Rattle.thread_machine.specs.Step.{Played, idled, refusal_of}
 use Rattle.thread_machine.specs.Execution.{Execution, execution, execution_by}
-use Rattle.thread_machine.specs.Idle.{idle_event}
 use Rattle.thread_machine.proofs.Readiness.{idle_choice}
 
 -- an idle choice is accepted as long as choices are left

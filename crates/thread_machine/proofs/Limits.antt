@@ -1,15 +1,10 @@
 -- A higher limit makes no difference to choices that were accepted.
-use Rattle.std.proofs.Common.{◌≡◌, ◌≤◌, ℕ, List, [], ◌∷◌, refl, arith}
-use Rattle.std.specs.Prelude.{Option, None}
+use Rattle.std.proofs.Common.{◌≡◌, ◌≤◌, ℕ, List, [], ◌∷◌, refl, arith, Option, None}
 use Rattle.std.proofs.lemmas.Bool.Decides.{nat_tests}
 use Rattle.machine_scene.specs.Scene.{Outcome}
-use Rattle.thread_machine.specs.declared.choice.Choice.{Choice}
-use Rattle.thread_machine.specs.declared.fault.StepFault.{StepFault}
-use Rattle.thread_machine.specs.World.{World}
-use Rattle.thread_machine.specs.Ready.{outcome_of_choice}
-use Rattle.thread_machine.specs.Step.{played, played_by, refusal_of}
-use Rattle.thread_machine.specs.Execution.{execution, execution_by}
-use Rattle.thread_machine.specs.Limit.{with_limit, under_limit}
+use Rattle.thread_machine.specs.{declared.choice.Choice.Choice, declared.fault.StepFault.StepFault, World.World}
+use Rattle.thread_machine.specs.{Ready.outcome_of_choice, Step.played, Step.played_by, Step.refusal_of}
+use Rattle.thread_machine.specs.{Execution.execution, Execution.execution_by, Limit.with_limit, Limit.under_limit}
 
 -- a choice played in a world with another limit
 accepted_too : (limit : ℕ) (world : World) (choice : Choice) → world.limit ≤ limit → refusal_of world choice ≡ None

@@ -1,17 +1,11 @@
 -- The direct counts beside a call of the trees, and as a phase ends.
-use Rattle.std.proofs.Common.{◌≡◌, ◌∙◌, ℕ, zero, suc, ◌<◌, ◌==◌, Bool, true, false, List, [], ◌∷◌, length, map, ap, refl, sym, arith, if◌then◌else◌}
-use Rattle.std.proofs.lemmas.Bool.{cases_eq}
-use Rattle.std.proofs.lemmas.List.{length-map, get_or-set_same, get_or-set_other}
+use Rattle.std.proofs.Common.{◌≡◌, ◌∙◌, ℕ, zero, suc, ◌<◌, ◌==◌, Bool, true, false, List, [], ◌∷◌, length, map, ap, refl, sym, arith, if◌then◌else◌, get_or-set_same, get_or-set_other}
+use Rattle.std.proofs.lemmas.{Bool.cases_eq, List.length-map}
 use Rattle.packed_phaser.specs.Flat.{Flat}
-use Rattle.tier_tree.specs.Forest.{PhaserState, phaser_at, root_of, root_at}
-use Rattle.tier_tree.specs.PhaseEnd.{follow, in_step, after_phase_end}
-use Rattle.tier_tree.specs.Sound.{IsForest}
-use Rattle.tier_tree.specs.Answer.{KeepsPlaces, KeepsEnds}
-use Rattle.tier_tree.proofs.Trees.{CanEnd}
+use Rattle.tier_tree.specs.{Forest.PhaserState, Forest.phaser_at, Forest.root_of, Forest.root_at, Sound.IsForest}
+use Rattle.tier_tree.specs.{PhaseEnd.follow, PhaseEnd.in_step, PhaseEnd.after_phase_end, Answer.KeepsPlaces, Answer.KeepsEnds}
 use Rattle.tier_tree.specs.Origin.{Origin, AreTallied, HaveAllArrived, origin_after_phase_end}
-use Rattle.tier_tree.proofs.Stands.{same-is, other-is}
-use Rattle.tier_tree.proofs.Safe.{all_arrived}
-use Rattle.tier_tree.proofs.Turned.{stands_after_phase_end}
+use Rattle.tier_tree.proofs.{Trees.CanEnd, Stands.same-is, Stands.other-is, Safe.all_arrived, Turned.stands_after_phase_end}
 use Rattle.thread_machine.specs.DirectCounts.{has_ended_phase, NumbersStay, set_back}
 use Rattle.thread_machine.proofs.PhaseNumbers.{KeepsNumbers, turn-number}
 

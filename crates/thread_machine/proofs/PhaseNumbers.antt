@@ -1,9 +1,7 @@
 -- The number of a phase changes only as the phase ends.
-use Rattle.std.proofs.Common.{◌≡◌, ℕ, suc, ◌==◌, Bool, false, List, ◌∷◌, map, ap, arith}
-use Rattle.std.proofs.lemmas.List.{get_or-set_other}
-use Rattle.tier_tree.specs.Forest.{PhaserState, phaser_at, flat_at, root_at}
+use Rattle.std.proofs.Common.{◌≡◌, ℕ, suc, ◌==◌, Bool, false, List, ◌∷◌, map, ap, arith, get_or-set_other}
+use Rattle.tier_tree.specs.{Forest.PhaserState, Forest.phaser_at, Forest.flat_at, Forest.root_at, Arrival.arrival}
 use Rattle.tier_tree.specs.Registration.{after_registration}
-use Rattle.tier_tree.specs.Arrival.{arrival}
 use Rattle.tier_tree.specs.PhaseEnd.{in_step, after_phase_end, terminated, after_force}
 use Rattle.tier_tree.proofs.Stands.{same-is}
 use Rattle.machine_scene.proofs.Standings.{Standing, registration-standings, arrival-standings}

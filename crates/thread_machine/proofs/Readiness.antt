@@ -1,16 +1,12 @@
 -- Which choices are idle, and whether some choice may take a step.
-use Rattle.std.proofs.Common.{◌≡◌, ◌∙◌, ◌+◌, ◌<◌, ℕ, Bool, true, false, get_or, arith, refl, sym, ap, subst}
-use Rattle.std.specs.Prelude.{◌||◌, length, Option, Some, None, is_some, IfSome}
-use Rattle.std.specs.List.{range_with_len}
+use Rattle.std.proofs.Common.{◌≡◌, ◌∙◌, ◌+◌, ◌<◌, ℕ, Bool, true, false, get_or, arith, refl, sym, ap, subst, ◌||◌, length, Option, Some, None, is_some, IfSome}
 use Rattle.std.proofs.lemmas.List.FromFn.{length-range_with_len, get_or-range_with_len}
 use Rattle.std.proofs.lemmas.List.Folds.{list_any_at, list_any_none}
+use Rattle.std.specs.List.{range_with_len}
 use Rattle.loader.specs.Program.{Program}
-use Rattle.machine_scene.specs.Scene.{Scene}
-use Rattle.machine_scene.specs.Outcomes.{is_ready}
-use Rattle.thread_machine.specs.declared.choice.Choice.{Choice}
-use Rattle.thread_machine.specs.World.{World}
+use Rattle.machine_scene.specs.{Scene.Scene, Outcomes.is_ready}
+use Rattle.thread_machine.specs.{declared.choice.Choice.Choice, World.World, Step.played, Step.idled}
 use Rattle.thread_machine.specs.Ready.{is_choice_ready, can_expire, can_go_on, some_ready}
-use Rattle.thread_machine.specs.Step.{played, idled}
 
 -- a choice without an outcome is idle
 pub idle_choice : (world : World) (choice : Choice) → is_choice_ready world.program choice world.scene ≡ false

@@ -1,33 +1,22 @@
 -- No choice ends a phase early, nor does any in an execution.
-use Rattle.std.proofs.Common.{◌≡◌, ℕ, ◌+◌, ◌<◌, ◌≤◌, Bool, true, false, List, [], ◌∷◌, length, map, ap, refl, sym, subst, ◌∙◌, arith, if◌then◌else◌}
-use Rattle.std.specs.Prelude.{nat_le, is_some, Option, Some, None, Result, Ok, Err, IfOk, OnOk}
-use Rattle.std.proofs.lemmas.Bool.Decides.{nat_tests}
-use Rattle.std.proofs.lemmas.List.{length-map}
-use Rattle.tier_tree.specs.Forest.{PhaserState}
-use Rattle.tier_tree.specs.Origin.{Origin, AreTallied}
-use Rattle.tier_tree.specs.Sound.{IsForest}
-use Rattle.tier_tree.specs.Stored.{phasers_of}
-use Rattle.row_code.specs.declared.image.Image.{Image}
-use Rattle.row_code.specs.Image.{IsImage}
-use Rattle.loader.specs.declared.counts.Counts.{Counts}
+use Rattle.std.proofs.Common.{◌≡◌, ℕ, ◌+◌, ◌<◌, ◌≤◌, Bool, true, false, List, [], ◌∷◌, length, map, ap, refl, sym, subst, ◌∙◌, arith, if◌then◌else◌, nat_le, is_some, Option, Some, None, Result, Ok, Err, IfOk, OnOk}
+use Rattle.std.proofs.lemmas.{Bool.Decides.nat_tests, List.length-map}
+use Rattle.tier_tree.specs.{Forest.PhaserState, Origin.Origin, Origin.AreTallied, Sound.IsForest, Stored.phasers_of}
+use Rattle.row_code.specs.{declared.image.Image.Image, Image.IsImage}
+use Rattle.loader.specs.{declared.counts.Counts.Counts, Fault.first_fault}
 use Rattle.loader.specs.Declarations.{forest_of, declared_origin, new_barrier}
-use Rattle.loader.specs.Fault.{first_fault}
 use Rattle.loader.specs.Program.{Program, IsCode, IsProgram, program_of, row_at}
 use Rattle.loader.proofs.Images.{all_made, parts_of}
 use Rattle.thread_state.specs.declared.event.Event.{Event}
-use Rattle.machine_scene.specs.Scene.{Scene, Outcome, starting, thread_at}
+use Rattle.machine_scene.specs.{Scene.Scene, Scene.Outcome, Scene.starting, Scene.thread_at, Sound.IsSound}
 use Rattle.machine_scene.specs.Outcomes.{outcome_of, outcome_of_expiry}
-use Rattle.machine_scene.specs.Sound.{IsSound}
 use Rattle.machine_scene.proofs.Outcomes.{stands_at, sound_outcome, sound_timeout}
 use Rattle.machine_scene.proofs.Start.{sound_start, sound_with}
-use Rattle.thread_machine.specs.declared.choice.Choice.{Choice}
-use Rattle.thread_machine.specs.declared.fault.StepFault.{StepFault}
+use Rattle.thread_machine.specs.{declared.choice.Choice.Choice, declared.fault.StepFault.StepFault, Sound.IsMachine}
 use Rattle.thread_machine.specs.World.{World, StoredWorld, world_of, first_of}
-use Rattle.thread_machine.specs.Ready.{outcome_of_choice, is_choice_ready}
+use Rattle.thread_machine.specs.{Ready.outcome_of_choice, Ready.is_choice_ready, Execution.execution, Execution.execution_by}
 use Rattle.thread_machine.specs.Step.{Played, played, played_by, refusal_of}
-use Rattle.thread_machine.specs.Execution.{execution, execution_by}
 use Rattle.thread_machine.specs.DirectCounts.{with_turn, counts_at_end, counts_after, ChoiceEndsNoPhaseEarly, NoPhaseEndsEarly, NoPhaseEndsEarlyFrom, NumbersStay, counts_by, counts_through}
-use Rattle.thread_machine.specs.Sound.{IsMachine}
 use Rattle.thread_machine.proofs.PhaseEnds.{Fares}
 use Rattle.thread_machine.proofs.DirectCounts.{phasers_after, FaresTo, IsAside, aside_fares, timeout_aside, turn_fares}
 

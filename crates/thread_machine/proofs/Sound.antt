@@ -1,17 +1,13 @@
 -- A machine stays one.
-use Rattle.std.proofs.Common.{◌≡◌, List, map, replicate, pos, ◌+◌, ◌<◌, ◌≤◌, ℕ, arith}
+use Rattle.std.proofs.Common.{◌≡◌, List, map, replicate, pos, ◌+◌, ◌<◌, ◌≤◌, ℕ, arith, None}
 use Rattle.tier_tree.specs.Stored.{Stored, phasers_of, IsStored}
 use Rattle.cyclic_barrier.specs.Barrier.{BarrierState}
 use Rattle.thread_state.specs.Thread.{ThreadState}
 use Rattle.loader.specs.Program.{Program, IsProgram}
 use Rattle.machine_scene.specs.Scene.{Scene, StoredScene, scene_of, starting, first_scene}
-use Rattle.machine_scene.specs.Sound.{IsSound}
-use Rattle.machine_scene.specs.ReadySet.{KnowsReady}
+use Rattle.machine_scene.specs.{Sound.IsSound, ReadySet.KnowsReady}
 use Rattle.machine_scene.proofs.Start.{sound_start}
-use Rattle.thread_machine.specs.World.{StoredWorld}
-use Rattle.std.specs.Prelude.{None}
-use Rattle.thread_machine.specs.Sound.{IsMachine}
-use Rattle.thread_machine.specs.Undo.{CanUndo}
+use Rattle.thread_machine.specs.{World.StoredWorld, Sound.IsMachine, Undo.CanUndo}
 
 -- the world of these parts
 abbrev pub world_with : Program → ℕ → StoredScene → ℕ → ℕ → StoredWorld

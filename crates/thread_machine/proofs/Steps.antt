@@ -1,18 +1,12 @@
 -- What follows of a choice that was played: what undoes it, and how the direct counts go on.
-use Rattle.std.proofs.Common.{◌≡◌, ◌≢◌, ◌+◌, ◌<◌, Bool, true, false, length, refl, sym, subst, arith, if◌then◌else◌}
-use Rattle.std.specs.Prelude.{Option, Some, None, Result, Ok, Err}
+use Rattle.std.proofs.Common.{◌≡◌, ◌≢◌, ◌+◌, ◌<◌, Bool, true, false, length, refl, sym, subst, arith, if◌then◌else◌, Option, Some, None, Result, Ok, Err}
 use Rattle.thread_state.specs.declared.event.Event.{Event}
 use Rattle.machine_scene.specs.Scene.{scene_of}
 use Rattle.machine_scene.specs.Undo as scene
-use Rattle.thread_machine.specs.declared.choice.Choice.{Choice}
-use Rattle.thread_machine.specs.declared.fault.StepFault.{StepFault}
-use Rattle.thread_machine.specs.World.{StoredWorld}
-use Rattle.thread_machine.specs.Ready.{is_choice_ready}
-use Rattle.thread_machine.specs.Sound.{IsMachine}
-use Rattle.thread_machine.specs.Undo.{undone, CanUndo}
+use Rattle.thread_machine.specs.{declared.choice.Choice.Choice, declared.fault.StepFault.StepFault, World.StoredWorld}
+use Rattle.thread_machine.specs.{Ready.is_choice_ready, Sound.IsMachine, Undo.undone, Undo.CanUndo}
 use Rattle.thread_machine.specs.Stepped.{IsStep, HasPlayed, kept_of}
-use Rattle.thread_machine.proofs.Sound.{idle_undone}
-use Rattle.thread_machine.proofs.SafeEnds.{step_keeps, result_numbers}
+use Rattle.thread_machine.proofs.{Sound.idle_undone, SafeEnds.step_keeps, SafeEnds.result_numbers}
 
 -- a choice takes a step just where it is ready
 steps_after : (old new : StoredWorld) (choice : Choice) (event : Event) (ready : Bool) → is_choice_ready old.program choice (scene_of old.scene) ≡ ready

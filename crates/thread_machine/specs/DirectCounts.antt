@@ -1,24 +1,17 @@
 -- Counts that no row returns: how many parties, after each choice, are registered directly with each phaser, and how many
 -- of these are still to arrive. They say which end of a phase is early.
 use Rattle.std.specs.Prelude.{◌≡◌, ◌≤◌, ℕ, ℤ, pos, nat_abs, int_lt, ◌==◌, ◌&&◌, ◌||◌, not, Bool, true, false, if◌then◌else◌, List, [], ◌∷◌, Option, Some, None}
-use Rattle.instruction_table.specs.declared.row.Row.{Row}
+use Rattle.instruction_table.specs.{declared.row.Row.Row, Registers.value_in}
 use Rattle.instruction_table.specs.declared.row.Row.TheVariants.{Preg, Pbulk, Parr, Pdereg, Paaa}
-use Rattle.instruction_table.specs.Registers.{value_in}
-use Rattle.tier_tree.specs.Forest.{PhaserState, phaser_at, flat_at, root_at}
-use Rattle.tier_tree.specs.Registration.{registration}
+use Rattle.tier_tree.specs.{Forest.PhaserState, Forest.phaser_at, Forest.flat_at, Forest.root_at, Registration.registration}
 use Rattle.tier_tree.specs.Arrival.{arrival}
 use Rattle.tier_tree.specs.Origin.{Origin, HaveAllArrived, origin_after_arrival, origin_after_registration}
 use Rattle.loader.specs.Program.{Program, row_at}
-use Rattle.thread_state.specs.declared.status.Status.{Status}
+use Rattle.thread_state.specs.{declared.status.Status.Status, Thread.is_full}
 use Rattle.thread_state.specs.declared.status.Status.TheVariants as status
-use Rattle.thread_state.specs.Thread.{is_full}
-use Rattle.machine_scene.specs.Scene.{Scene, thread_at}
-use Rattle.machine_scene.specs.PhaserRows.{is_own_tree, has_routine}
-use Rattle.thread_machine.specs.declared.choice.Choice.{Choice}
-use Rattle.thread_machine.specs.declared.fault.StepFault.{StepFault}
-use Rattle.thread_machine.specs.World.{World, first_world}
-use Rattle.thread_machine.specs.Step.{played, refusal_of}
-use Rattle.thread_machine.specs.Execution.{execution}
+use Rattle.machine_scene.specs.{Scene.Scene, Scene.thread_at, PhaserRows.is_own_tree, PhaserRows.has_routine}
+use Rattle.thread_machine.specs.{declared.choice.Choice.Choice, declared.fault.StepFault.StepFault, Execution.execution}
+use Rattle.thread_machine.specs.{World.World, World.first_world, Step.played, Step.refusal_of}
 
 -- thread t registers this many parties with phaser p; the row is refused inside the tree's own routine, and for a count
 -- below 0

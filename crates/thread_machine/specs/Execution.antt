@@ -1,10 +1,8 @@
 -- What a list of choices does to the world.
 use Rattle.std.specs.Prelude.{List, [], ◌∷◌, ◌++◌, Option, Some, None}
-use Rattle.thread_machine.specs.declared.choice.Choice.{Choice}
-use Rattle.thread_state.specs.declared.event.Event.{Event}
-use Rattle.thread_machine.specs.declared.fault.StepFault.{StepFault}
-use Rattle.thread_machine.specs.World.{World}
+use Rattle.thread_machine.specs.{declared.choice.Choice.Choice, declared.fault.StepFault.StepFault, World.World}
 use Rattle.thread_machine.specs.Step.{Played, played, refusal_of}
+use Rattle.thread_state.specs.declared.event.Event.{Event}
 
 -- the world after the last accepted choice, the events so far, and why the choice after them was refused, if it was
 pub record Execution : Type 0 where

@@ -1,7 +1,6 @@
 -- The same world or execution with another limit of steps.
 use Rattle.std.specs.Prelude.{ℕ}
-use Rattle.thread_machine.specs.World.{World}
-use Rattle.thread_machine.specs.Execution.{Execution}
+use Rattle.thread_machine.specs.{World.World, Execution.Execution}
 
 -- a world with another limit
 abbrev pub with_limit : ℕ → World → World

@@ -3,10 +3,8 @@ use Rattle.std.specs.Prelude.{ℕ, Bool, not, ◌&&◌, ◌||◌, length, is_som
 use Rattle.std.specs.List.{list_any, list_all, range_with_len}
 use Rattle.loader.specs.Program.{Program}
 use Rattle.thread_state.specs.Thread.{ThreadState, is_finished}
-use Rattle.machine_scene.specs.Scene.{Scene, Outcome}
-use Rattle.machine_scene.specs.Outcomes.{outcome_of, outcome_of_expiry, is_ready}
-use Rattle.thread_machine.specs.declared.choice.Choice.{Choice}
-use Rattle.thread_machine.specs.World.{World}
+use Rattle.machine_scene.specs.{Scene.Scene, Scene.Outcome, Outcomes.outcome_of, Outcomes.outcome_of_expiry, Outcomes.is_ready}
+use Rattle.thread_machine.specs.{declared.choice.Choice.Choice, World.World}
 
 -- a choice: a thread's turn, or the expiry of its timed wait
 abbrev pub outcome_of_choice : Program → Choice → Scene → Option Outcome

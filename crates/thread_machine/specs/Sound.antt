@@ -1,8 +1,6 @@
 -- What a machine keeps true. Only proofs use this: no promise depends on it.
 use Rattle.std.specs.Prelude.{◌≤◌}
-use Rattle.machine_scene.specs.Scene.{scene_of}
-use Rattle.machine_scene.specs.Sound.{IsSound}
-use Rattle.machine_scene.specs.ReadySet.{KnowsReady}
+use Rattle.machine_scene.specs.{Scene.scene_of, Sound.IsSound, ReadySet.KnowsReady}
 use Rattle.thread_machine.specs.World.{StoredWorld}
 
 -- no row uses something that doesn't exist, the stored set of ready threads is right, and the counts are within their limits

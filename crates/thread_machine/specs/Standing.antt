@@ -1,9 +1,7 @@
 -- Whether a program has ended, is stuck, or can go on.
 use Rattle.std.specs.Prelude.{ℕ, if◌then◌else◌, List, [], ◌∷◌, codes}
-use Rattle.thread_machine.specs.declared.standing.Standing.{Standing}
+use Rattle.thread_machine.specs.{declared.standing.Standing.Standing, World.World, Ready.has_ended, Ready.is_stuck}
 use Rattle.thread_machine.specs.declared.standing.Standing.TheVariants as standing
-use Rattle.thread_machine.specs.World.{World}
-use Rattle.thread_machine.specs.Ready.{has_ended, is_stuck}
 
 -- every thread has ended or died; or no choice of any other can take a step; or some choice can
 abbrev pub standing_of : World → Standing

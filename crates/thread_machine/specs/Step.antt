@@ -1,17 +1,13 @@
 -- What one choice does to the world.
 use Rattle.std.specs.Prelude.{◌+◌, ◌==◌, ◌&&◌, ◌||◌, not, nat_le, if◌then◌else◌, Bool, length, Option, Some, None}
 use Rattle.loader.specs.Program.{row_at}
-use Rattle.thread_state.specs.declared.event.Event.{Event}
+use Rattle.thread_state.specs.{declared.event.Event.Event, Thread.ThreadState}
 use Rattle.thread_state.specs.declared.event.What.TheVariants as what
 use Rattle.thread_state.specs.declared.event.Mark.TheVariants as mark
-use Rattle.thread_state.specs.Thread.{ThreadState}
-use Rattle.machine_scene.specs.Scene.{Outcome, thread_at}
-use Rattle.machine_scene.specs.DataRows.{may_grow}
-use Rattle.thread_machine.specs.declared.choice.Choice.{Choice}
-use Rattle.thread_machine.specs.declared.fault.StepFault.{StepFault}
-use Rattle.thread_machine.specs.declared.fault.StepFault.TheVariants as fault
-use Rattle.thread_machine.specs.World.{World}
+use Rattle.machine_scene.specs.{Scene.Outcome, Scene.thread_at, DataRows.may_grow}
+use Rattle.thread_machine.specs.{declared.choice.Choice.Choice, declared.fault.StepFault.StepFault, World.World}
 use Rattle.thread_machine.specs.Ready.{outcome_of_choice, is_choice_ready}
+use Rattle.thread_machine.specs.declared.fault.StepFault.TheVariants as fault
 
 -- the world after a choice, and the choice's event
 pub record Played : Type 0 where

@@ -1,18 +1,14 @@
 -- What `step`, `step_into` and `step_noting` promise of the machine.
 use Rattle.std.specs.Prelude.{◌≡◌, ◌≢◌, ◌↔◌, ◌+◌, ◌<◌, length, true, Option, Some, None, Result, Err, IfOk, OnOk, OnErr, if◌then◌else◌}
-use Rattle.tier_tree.specs.Origin.{Origin, AreTallied}
-use Rattle.tier_tree.specs.Stored.{phasers_of}
+use Rattle.tier_tree.specs.{Origin.Origin, Origin.AreTallied, Stored.phasers_of}
 use Rattle.thread_state.specs.declared.event.Event.{Event}
 use Rattle.machine_scene.specs.Scene.{scene_of}
 use Rattle.machine_scene.specs.Undo as scene
-use Rattle.thread_machine.specs.declared.choice.Choice.{Choice}
-use Rattle.thread_machine.specs.declared.fault.StepFault.{StepFault}
-use Rattle.thread_machine.specs.declared.fault.StepFault.TheVariants as fault
-use Rattle.thread_machine.specs.World.{StoredWorld, world_of}
-use Rattle.thread_machine.specs.Ready.{is_choice_ready}
-use Rattle.thread_machine.specs.Step.{played, refusal_of, puts_out}
+use Rattle.thread_machine.specs.{declared.choice.Choice.Choice, declared.fault.StepFault.StepFault, Ready.is_choice_ready}
+use Rattle.thread_machine.specs.{World.StoredWorld, World.world_of, Step.played, Step.refusal_of, Step.puts_out}
 use Rattle.thread_machine.specs.DirectCounts.{counts_after, ChoiceEndsNoPhaseEarly, NumbersStay}
 use Rattle.thread_machine.specs.Undo.{undone, CanUndo}
+use Rattle.thread_machine.specs.declared.fault.StepFault.TheVariants as fault
 
 -- the choice is played, and what is saved of the world before undoes it; or it is refused for its reason, and nothing has
 -- changed. It is out of memory only if it puts out a value. The direct counts go on, no phase ends early by them, and the

@@ -1,8 +1,7 @@
 -- What is saved of a world before a choice, and the world that it restores.
 use Rattle.std.specs.Prelude.{◌-◌, ◌<◌, Option, Some, None}
 use Rattle.machine_scene.specs.Undo as scene
-use Rattle.thread_machine.specs.World.{StoredWorld}
-use Rattle.thread_machine.specs.Sound.{IsMachine}
+use Rattle.thread_machine.specs.{World.StoredWorld, Sound.IsMachine}
 
 -- the world before an idle choice, for which nothing is saved, or before the turn or expiry for which this was saved
 abbrev pub undone : Option scene.Note → StoredWorld → StoredWorld

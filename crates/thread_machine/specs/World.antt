@@ -1,8 +1,7 @@
 -- The whole state of a machine.
 use Rattle.std.specs.Prelude.{◌≡◌, ℕ}
 use Rattle.row_code.specs.declared.image.Image.{Image}
-use Rattle.loader.specs.Declarations.{forest_of}
-use Rattle.loader.specs.Program.{Program, program_of, without_words}
+use Rattle.loader.specs.{Declarations.forest_of, Program.Program, Program.program_of, Program.without_words}
 use Rattle.machine_scene.specs.Scene.{Scene, StoredScene, scene_of, first_scene}
 
 -- the program, how many effective steps it may take, what its rows act on, and the counts of choices and of effective steps

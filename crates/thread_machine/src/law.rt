@@ -1,17 +1,11 @@
 //! What is true of every execution. Each law is the contract of a function that does nothing.
 ghost use Rattle.std.specs.Prelude.{◌≡◌, ◌≤◌, ℕ, List, [], ◌∷◌, ◌++◌, None};
-ghost use Rattle.tier_tree.specs.Origin.{Origin, AreTallied};
-ghost use Rattle.tier_tree.specs.Stored.{phasers_of};
-ghost use Rattle.row_code.specs.Image.{IsImage};
-ghost use Rattle.row_code.specs.declared.image.Image.{Image};
-ghost use Rattle.loader.specs.Declarations.{declared_origin};
-ghost use Rattle.loader.specs.Fault.{first_fault};
-ghost use Rattle.loader.specs.Program.{IsProgramOf};
-ghost use Rattle.thread_machine.specs.declared.choice.Choice.{Choice};
-ghost use Rattle.thread_machine.specs.World.{World, first_of};
-ghost use Rattle.thread_machine.specs.Execution.{execution, extended};
+ghost use Rattle.tier_tree.specs.{Origin.Origin, Origin.AreTallied, Stored.phasers_of};
+ghost use Rattle.row_code.specs.{Image.IsImage, declared.image.Image.Image};
+ghost use Rattle.loader.specs.{Declarations.declared_origin, Fault.first_fault, Program.IsProgramOf};
+ghost use Rattle.thread_machine.specs.{declared.choice.Choice.Choice, World.World, World.first_of};
+ghost use Rattle.thread_machine.specs.{Execution.execution, Execution.extended, Limit.under_limit, Limit.with_limit};
 ghost use Rattle.thread_machine.specs.DirectCounts.{NoPhaseEndsEarly, NoPhaseEndsEarlyFrom};
-ghost use Rattle.thread_machine.specs.Limit.{under_limit, with_limit};
 
 use loader::Loaded;
 

@@ -1,16 +1,11 @@
 //! The machine: it plays choices, counts them, and takes them back. A `Stage` plays the rows.
 ghost use Rattle.std.specs.Prelude.{◌≡◌, ℕ, ◌+◌, ◌<◌, ◌≤◌, length, map, IfOk, IfErr, Ok, Err, true, false, Some, None};
 ghost use Rattle.cyclic_barrier.specs.ThreadSet.{has};
-ghost use Rattle.machine_scene.specs.Scene.{scene_of, first_scene, starting};
-ghost use Rattle.machine_scene.specs.Outcomes.{is_ready};
+ghost use Rattle.machine_scene.specs.{Scene.scene_of, Scene.first_scene, Scene.starting, Outcomes.is_ready};
 ghost use Rattle.machine_scene.specs.ReadySet.{KnowsReady};
-ghost use Rattle.thread_machine.specs.World.{world_of, first_world};
-ghost use Rattle.thread_machine.specs.Idle.{idle_event};
+ghost use Rattle.thread_machine.specs.{World.world_of, World.first_world, Idle.idle_event, Standing.standing_of, Step.played};
 ghost use Rattle.thread_machine.specs.Ready.{can_expire, is_choice_ready, has_ended, is_stuck, some_ready};
-ghost use Rattle.thread_machine.specs.Standing.{standing_of};
-ghost use Rattle.thread_machine.specs.Sound.{IsMachine};
-ghost use Rattle.thread_machine.specs.Step.{played};
-ghost use Rattle.thread_machine.specs.Undo.{undone, CanUndo};
+ghost use Rattle.thread_machine.specs.{Sound.IsMachine, Undo.undone, Undo.CanUndo};
 ghost use Rattle.thread_machine.specs.Stepped.{HasPlayed, IsStep, kept_of};
 
 mod getters;
@@ -47,8 +42,7 @@ pub struct Machine {
 }
 
 impl Model for Machine {
-    ghost use Rattle.thread_machine.specs.World.{StoredWorld};
-    ghost use Rattle.thread_machine.specs.Sound.{IsMachine};
+    ghost use Rattle.thread_machine.specs.{World.StoredWorld, Sound.IsMachine};
 
     ghost Value = { StoredWorld };
 

@@ -1,14 +1,9 @@
 -- Where a run isn't over, some thread has a choice to make.
-use Rattle.std.proofs.Common.{◌≡◌, ◌⊎◌, ◌<◌, ℕ, Bool, true, false, refl, sym, ap, arith, length}
-use Rattle.std.specs.Prelude.{Option, None, ◌&&◌, ◌||◌, not}
+use Rattle.std.proofs.Common.{◌≡◌, ◌⊎◌, ◌<◌, ℕ, Bool, true, false, refl, sym, ap, arith, length, Option, None, ◌&&◌, ◌||◌, not}
 use Rattle.std.proofs.lemmas.Bool.Decides.{nat_tests}
-use Rattle.thread_machine.specs.declared.choice.Choice.{Choice}
-use Rattle.thread_machine.specs.World.{World}
-use Rattle.thread_machine.specs.Ready.{some_ready}
-use Rattle.thread_runner.specs.declared.live.Break.{Break}
+use Rattle.thread_machine.specs.{declared.choice.Choice.Choice, World.World, Ready.some_ready}
+use Rattle.thread_runner.specs.{declared.live.Break.Break, Endings.ending_of, Waiting.waits}
 use Rattle.thread_runner.specs.Turns.{expiry_of, is_ready_in, can_expire_in, some_turn, some_lower, is_due, may_choose, IsDue}
-use Rattle.thread_runner.specs.Endings.{ending_of}
-use Rattle.thread_runner.specs.Waiting.{waits}
 use Rattle.thread_runner.proofs.Threads.{Lowest, lowest, none_passes, one_passes}
 
 -- and there is a step left

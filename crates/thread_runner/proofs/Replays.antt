@@ -1,23 +1,16 @@
 -- A replay of one choice more.
-use Rattle.std.proofs.Common.{◌≡◌, ◌+◌, ◌*◌, ◌<◌, ◌≤◌, ℕ, true, List, [], ◌∷◌, ◌++◌, length, ◌∙◌, ap, append_assoc, sym, subst, arith, length-append}
-use Rattle.std.specs.Prelude.{All, Option, Some, None}
+use Rattle.std.proofs.Common.{◌≡◌, ◌+◌, ◌*◌, ◌<◌, ◌≤◌, ℕ, true, List, [], ◌∷◌, ◌++◌, length, ◌∙◌, ap, append_assoc, sym, subst, arith, length-append, All, Option, Some, None}
 use Rattle.std.proofs.lemmas.List.Elements.{All-push}
 use Rattle.loader.specs.Program.{Program}
-use Rattle.thread_machine.specs.declared.choice.Choice.{Choice}
-use Rattle.thread_machine.specs.declared.fault.StepFault.{StepFault}
-use Rattle.thread_machine.specs.Execution.{Execution, execution, execution_by}
+use Rattle.thread_machine.specs.{declared.choice.Choice.Choice, declared.fault.StepFault.StepFault, Ready.is_choice_ready}
+use Rattle.thread_machine.specs.{Execution.Execution, Execution.execution, Execution.execution_by, Step.played, Step.refusal_of}
 use Rattle.thread_machine.specs.World.{World, first_world}
-use Rattle.thread_machine.specs.Ready.{is_choice_ready}
-use Rattle.thread_machine.specs.Step.{played, refusal_of}
 use Rattle.thread_machine.proofs.Executions.{execution-snoc}
-use Rattle.schedule_reader.specs.Schedule.{choices_of, finished_schedule}
-use Rattle.schedule_reader.specs.Record.{IsNamed, record_text}
+use Rattle.schedule_reader.specs.{Schedule.choices_of, Schedule.finished_schedule, Record.IsNamed, Record.record_text}
 use Rattle.schedule_reader.proofs.Records.{choices-once, record-few, record-read}
-use Rattle.thread_runner.specs.Recording.{Recording, recording_of, with_choice}
-use Rattle.thread_runner.specs.Replay.{HasKept, IsReplay, IsRecordOf}
-use Rattle.thread_runner.specs.declared.fault.LiveFault.{LiveFault}
+use Rattle.thread_runner.specs.{Recording.Recording, Recording.recording_of, Recording.with_choice, Turns.IsDue, Turns.AreDue}
+use Rattle.thread_runner.specs.{Replay.HasKept, Replay.IsReplay, Replay.IsRecordOf, declared.fault.LiveFault.LiveFault}
 use Rattle.thread_runner.specs.declared.fault.LiveFault.TheVariants as fault
-use Rattle.thread_runner.specs.Turns.{IsDue, AreDue}
 
 -- what a choice leaves as it was, and what it counts
 abbrev pub Counts : World → World → Type 0

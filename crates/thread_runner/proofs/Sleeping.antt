@@ -1,14 +1,12 @@
 -- Workers that sleep and have to.
-use Rattle.std.proofs.Common.{◌≡◌, ◌∙◌, ◌<◌, ◌==◌, ℕ, Bool, true, false, if◌then◌else◌, refl, ap, arith, length}
-use Rattle.std.specs.Prelude.{Option, not, ◌&&◌}
-use Rattle.std.specs.List.{list_any, range_with_len}
+use Rattle.std.proofs.Common.{◌≡◌, ◌∙◌, ◌<◌, ◌==◌, ℕ, Bool, true, false, if◌then◌else◌, refl, ap, arith, length, Option, not, ◌&&◌}
 use Rattle.std.proofs.lemmas.Bool.Decides.{nat_tests}
+use Rattle.std.specs.List.{list_any, range_with_len}
 use Rattle.cyclic_barrier.specs.ThreadSet.{has}
 use Rattle.cyclic_barrier.proofs.WaitsLemmas.{has-none}
 use Rattle.machine_scene.specs.ReadySet.{IsSetAt}
 use Rattle.thread_machine.specs.World.{World}
-use Rattle.thread_runner.specs.declared.live.Break.{Break}
-use Rattle.thread_runner.specs.Waiting.{some_wakes, waits, wakes}
+use Rattle.thread_runner.specs.{declared.live.Break.Break, Waiting.some_wakes, Waiting.waits, Waiting.wakes}
 use Rattle.thread_runner.proofs.Threads.{none_passes, one_passes}
 
 -- nobody sleeps

@@ -1,11 +1,8 @@
 -- How a run ends.
 use Rattle.std.specs.Prelude.{Bool, nat_le, if◌then◌else◌, Option, Some, None, is_some}
-use Rattle.thread_machine.specs.World.{World}
-use Rattle.thread_machine.specs.declared.standing.Standing.{Standing}
+use Rattle.thread_machine.specs.{World.World, declared.standing.Standing.Standing, Ready.has_ended, Ready.is_stuck}
 use Rattle.thread_machine.specs.declared.standing.Standing.TheVariants as standing
-use Rattle.thread_machine.specs.Ready.{has_ended, is_stuck}
-use Rattle.thread_runner.specs.declared.ending.Ending.{Ending}
-use Rattle.thread_runner.specs.declared.ending.Ending.TheVariants.{AllEnded, Stuck, Limit}
+use Rattle.thread_runner.specs.declared.ending.Ending.{Ending, TheVariants.AllEnded, TheVariants.Stuck, TheVariants.Limit}
 
 -- the ending of a run that is in this world, or nothing if some choice can still take a step
 abbrev pub ending_of : World → Option Ending

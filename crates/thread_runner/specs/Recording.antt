@@ -1,9 +1,7 @@
 -- A machine, given by the world in which it began and the choices since then.
 use Rattle.std.specs.Prelude.{ℕ, List, [], ◌∷◌, ◌++◌}
 use Rattle.schedule_reader.specs.Schedule.{choices_of, finished_schedule}
-use Rattle.thread_machine.specs.declared.choice.Choice.{Choice}
-use Rattle.thread_machine.specs.World.{World, first_world}
-use Rattle.thread_machine.specs.Execution.{execution}
+use Rattle.thread_machine.specs.{declared.choice.Choice.Choice, World.World, World.first_world, Execution.execution}
 
 -- the world before the first choice, and the choices in order
 pub record Recording : Type 0 where

@@ -1,14 +1,10 @@
 -- What is true of every record, and of its text.
 use Rattle.std.specs.Prelude.{◌≡◌, ◌≤◌, ◌++◌, ℕ, All, List, length, None}
-use Rattle.thread_machine.specs.declared.choice.Choice.{Choice}
-use Rattle.thread_machine.specs.World.{World}
-use Rattle.thread_machine.specs.Execution.{execution}
-use Rattle.schedule_reader.specs.Record.{IsNamed, record_text}
-use Rattle.schedule_reader.specs.Schedule.{choices_of, finished_schedule}
-use Rattle.thread_runner.specs.declared.fault.LiveFault.{LiveFault}
-use Rattle.thread_runner.specs.declared.fault.LiveFault.TheVariants as fault
+use Rattle.thread_machine.specs.{declared.choice.Choice.Choice, World.World, Execution.execution}
+use Rattle.schedule_reader.specs.{Record.IsNamed, Record.record_text, Schedule.choices_of, Schedule.finished_schedule}
+use Rattle.thread_runner.specs.{declared.fault.LiveFault.LiveFault, Turns.AreDue}
 use Rattle.thread_runner.specs.Recording.{Recording, recording_of, recorded_world}
-use Rattle.thread_runner.specs.Turns.{AreDue}
+use Rattle.thread_runner.specs.declared.fault.LiveFault.TheVariants as fault
 
 -- the choices, played from the first world, lead to this one; each was accepted and took a step, so that none was idle and
 -- they are at most as many as the limit; and each was one that its thread had to make

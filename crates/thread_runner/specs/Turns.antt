@@ -3,10 +3,7 @@
 use Rattle.std.specs.Prelude.{◌≡◌, ◌<◌, ℕ, Bool, true, false, not, ◌&&◌, ◌||◌, List, [], ◌∷◌, length}
 use Rattle.std.specs.List.{list_any, range_with_len}
 use Rattle.machine_scene.specs.Outcomes.{is_ready}
-use Rattle.thread_machine.specs.declared.choice.Choice.{Choice}
-use Rattle.thread_machine.specs.World.{World}
-use Rattle.thread_machine.specs.Ready.{can_expire}
-use Rattle.thread_machine.specs.Step.{played}
+use Rattle.thread_machine.specs.{declared.choice.Choice.Choice, World.World, Ready.can_expire, Step.played}
 
 -- the turn of thread t, and the expiry of its wait
 abbrev pub turn_of : ℕ → Choice

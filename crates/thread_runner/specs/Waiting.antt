@@ -5,9 +5,7 @@ use Rattle.cyclic_barrier.specs.ThreadSet.{has}
 use Rattle.thread_state.specs.Thread.{is_finished}
 use Rattle.machine_scene.specs.Scene.{thread_at}
 use Rattle.thread_machine.specs.World.{World}
-use Rattle.thread_runner.specs.declared.live.Break.{Break}
-use Rattle.thread_runner.specs.Turns.{may_choose}
-use Rattle.thread_runner.specs.Endings.{is_over}
+use Rattle.thread_runner.specs.{declared.live.Break.Break, Turns.may_choose, Endings.is_over}
 
 -- thread t has ended or died
 abbrev pub has_finished : World → ℕ → Bool

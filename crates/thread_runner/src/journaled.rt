@@ -1,14 +1,9 @@
 ghost use Rattle.std.specs.Prelude.{◌≡◌, ◌≢◌, ◌↔◌, ℕ, ◌+◌, ◌*◌, ◌<◌, ◌≤◌, ◌++◌, ◌∷◌, [], length, IfOk, IfErr, OnOk, OnErr, Err, true, false, Some, None};
-ghost use Rattle.thread_machine.specs.World.{world_of, first_world};
-ghost use Rattle.thread_machine.specs.Ready.{is_choice_ready};
-ghost use Rattle.thread_machine.specs.Step.{played};
-ghost use Rattle.schedule_reader.specs.Schedule.{choices_of, finished_schedule};
-ghost use Rattle.schedule_reader.specs.Record.{record_text};
+ghost use Rattle.thread_machine.specs.{World.world_of, World.first_world, Ready.is_choice_ready, Step.played};
+ghost use Rattle.schedule_reader.specs.{Schedule.choices_of, Schedule.finished_schedule, Record.record_text};
 ghost use Rattle.thread_runner.specs.Recording.{recorded_world, begun, recording_of, with_choice};
 ghost use Rattle.thread_runner.specs.Turns.{turn_of, expiry_of, choice_in, is_ready_in, can_expire_in, is_due, may_choose, some_turn, some_lower, IsDue, IsNext};
-ghost use Rattle.thread_runner.specs.Replay.{IsRecordOf, IsReplay};
-ghost use Rattle.thread_runner.specs.Endings.{ending_of};
-ghost use Rattle.thread_runner.specs.Waiting.{has_finished};
+ghost use Rattle.thread_runner.specs.{Replay.IsRecordOf, Replay.IsReplay, Endings.ending_of, Waiting.has_finished};
 
 use crate::ending::Ending;
 use crate::fault::TakeFault;
@@ -27,8 +22,7 @@ pub struct Journaled {
 
 impl Model for Journaled {
     ghost use Rattle.thread_machine.specs.World.{world_of, first_world};
-    ghost use Rattle.thread_runner.specs.Recording.{Recording, recording_of};
-    ghost use Rattle.thread_runner.specs.Replay.{IsRecordOf};
+    ghost use Rattle.thread_runner.specs.{Recording.Recording, Recording.recording_of, Replay.IsRecordOf};
 
     ghost Value = { Recording };
 

@@ -1,13 +1,8 @@
 //! What is true of every live run. Each law is the contract of a function that does nothing.
 ghost use Rattle.std.specs.Prelude.{◌≡◌, ◌<◌, ◌++◌, ◌∷◌, ℕ, List, true, false, Option, None, length};
-ghost use Rattle.thread_machine.specs.World.{World};
-ghost use Rattle.thread_machine.specs.Execution.{execution};
-ghost use Rattle.thread_machine.specs.declared.choice.Choice.{Choice};
-ghost use Rattle.thread_runner.specs.declared.live.Break.{Break};
-ghost use Rattle.thread_runner.specs.Endings.{ending_of};
-ghost use Rattle.thread_runner.specs.Replay.{IsReplay};
+ghost use Rattle.thread_machine.specs.{World.World, Execution.execution, declared.choice.Choice.Choice};
+ghost use Rattle.thread_runner.specs.{declared.live.Break.Break, Endings.ending_of, Replay.IsReplay, Waiting.waits};
 ghost use Rattle.thread_runner.specs.Turns.{expiry_of, is_ready_in, may_choose};
-ghost use Rattle.thread_runner.specs.Waiting.{waits};
 
 /// If a run isn't over, some thread has a choice to make.
 pub fn a_run_goes_on_or_is_over()

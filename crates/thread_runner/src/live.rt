@@ -1,10 +1,9 @@
 //! What the workers of a run share under its lock, and what each of them does with it.
 ghost use Rattle.std.specs.Prelude.{◌≡◌, ◌⊎◌, ◌<◌, length, true, false, is_some, Some, None};
 ghost use Rattle.thread_machine.specs.World.{World};
-ghost use Rattle.thread_runner.specs.Recording.{recorded_world, with_choice, no_world};
-ghost use Rattle.thread_runner.specs.Turns.{choice_in};
-ghost use Rattle.machine_scene.specs.ReadySet.{IsSetAt};
+ghost use Rattle.thread_runner.specs.{Recording.recorded_world, Recording.with_choice, Recording.no_world, Turns.choice_in};
 ghost use Rattle.thread_runner.specs.Waiting.{leaves, some_wakes, waits, wakes};
+ghost use Rattle.machine_scene.specs.ReadySet.{IsSetAt};
 
 use crate::fault::TakeFault;
 use crate::journaled::Journaled;

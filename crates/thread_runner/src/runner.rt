@@ -3,11 +3,8 @@ ghost use Rattle.std.specs.Prelude.{◌≡◌, ◌≢◌, ◌↔◌, ◌*◌, �
 ghost use Rattle.std.specs.Thread.{IsSend, IsSync};
 ghost use Rattle.cyclic_barrier.specs.ThreadSet.{has};
 ghost use Rattle.thread_machine.specs.World.{world_of, first_world};
-ghost use Rattle.thread_runner.specs.declared.live.Break.{Break};
-ghost use Rattle.thread_runner.specs.Recording.{recorded_world};
+ghost use Rattle.thread_runner.specs.{declared.live.Break.Break, Recording.recorded_world, Endings.ending_of, Waiting.waits};
 ghost use Rattle.thread_runner.specs.Replay.{HasKept, HasLeft, IsRecordOf};
-ghost use Rattle.thread_runner.specs.Endings.{ending_of};
-ghost use Rattle.thread_runner.specs.Waiting.{waits};
 
 use crate::ending::Ending;
 use crate::fault::LiveFault;

@@ -1,8 +1,7 @@
 -- The entries of a thread's stack.
 use Rattle.std.specs.Prelude.{ℕ, ◌==◌, Bool, true, false}
-use Rattle.thread_state.specs.declared.frame.Frame.{Frame}
+use Rattle.thread_state.specs.declared.frame.{Frame.Frame, Entry.Entry}
 use Rattle.thread_state.specs.declared.frame.Frame.TheVariants as frame
-use Rattle.thread_state.specs.declared.frame.Entry.{Entry}
 use Rattle.thread_state.specs.declared.frame.Entry.TheVariants as entry
 
 -- what the machine shows of an entry: all but what it saved

@@ -1,18 +1,14 @@
 -- A thread, and what a turn does to it.
 use Rattle.std.specs.Prelude.{ℕ, ℤ, pos, Bool, true, false, ◌+◌, ◌-◌, ◌==◌, if◌then◌else◌, List, [], ◌∷◌, ◌++◌, length, take, Option, Some, None, slice_get}
 use Rattle.std.specs.List.{list_any}
-use Rattle.instruction_table.specs.declared.row.Row.{Row}
-use Rattle.instruction_table.specs.declared.register.Reg.{Reg}
+use Rattle.instruction_table.specs.{declared.row.Row.Row, declared.register.Reg.Reg, LocalRows.Local, LocalRows.local_of}
 use Rattle.instruction_table.specs.declared.register.Reg.TheVariants.{R0, R1, R7}
 use Rattle.instruction_table.specs.Registers.{all_zero, value_in, with_value}
-use Rattle.instruction_table.specs.LocalRows.{Local, local_of}
-use Rattle.thread_state.specs.declared.event.What.{What}
-use Rattle.thread_state.specs.declared.event.What.TheVariants as what
-use Rattle.thread_state.specs.declared.frame.Frame.{Frame}
-use Rattle.thread_state.specs.declared.frame.Frame.TheVariants as frame
-use Rattle.thread_state.specs.declared.status.Status.{Status}
-use Rattle.thread_state.specs.declared.status.Status.TheVariants as status
+use Rattle.thread_state.specs.declared.{event.What.What, frame.Frame.Frame, status.Status.Status}
 use Rattle.thread_state.specs.Frame.{is_routine}
+use Rattle.thread_state.specs.declared.event.What.TheVariants as what
+use Rattle.thread_state.specs.declared.frame.Frame.TheVariants as frame
+use Rattle.thread_state.specs.declared.status.Status.TheVariants as status
 
 -- a thread: the row that it is at, its eight registers, its stack from the bottom, its status, whether it is interrupted, and
 -- the values that it put out

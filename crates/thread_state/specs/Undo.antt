@@ -1,8 +1,6 @@
 -- What is saved of a thread before a turn, and how this restores the thread.
 use Rattle.std.specs.Prelude.{ℕ, ℤ, ◌-◌, Bool, List, ◌++◌, length, take, option_to_list, Option}
-use Rattle.thread_state.specs.declared.frame.Frame.{Frame}
-use Rattle.thread_state.specs.declared.status.Status.{Status}
-use Rattle.thread_state.specs.Thread.{ThreadState, top_of}
+use Rattle.thread_state.specs.{declared.frame.Frame.Frame, declared.status.Status.Status, Thread.ThreadState, Thread.top_of}
 
 -- all that a turn can overwrite; of the stack its length and its top entry, of the output its length
 pub record Note : Type 0 where

@@ -1,10 +1,9 @@
 //! One thread and its turns. It throws 3 (InterruptedException), 6 (stack full), 7 (bad return) and 8 (output full).
 ghost use Rattle.std.specs.Prelude.{◌≡◌, ◌<◌, ◌≤◌, length, pos, false, IsTrue, IsErr, OnErr, IfOk};
-ghost use Rattle.instruction_table.specs.LocalRows.{is_local_row};
-ghost use Rattle.instruction_table.specs.Registers.{value_in};
+ghost use Rattle.std.specs.List.{list_any};
+ghost use Rattle.instruction_table.specs.{LocalRows.is_local_row, Registers.value_in};
 ghost use Rattle.thread_state.specs.Thread.{turn_of_throw, turn_of_answer, turn_of_done, turn_of_wait, turn_of_halt, turn_of_local, turn_of_out, turn_of_interruption, turn_of_barrier_wait, turn_of_call, turn_of_try, turn_of_endtry, turn_of_return, turn_of_advance, turn_of_action, turn_of_pop, turn_of_intrd, new_thread, is_finished, is_full, top_of, with_entry, left_routine, interrupted};
 ghost use Rattle.thread_state.specs.Frame.{is_routine, is_advance};
-ghost use Rattle.std.specs.List.{list_any};
 
 use crate::event::What;
 use crate::frame::Frame;

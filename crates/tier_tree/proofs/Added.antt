@@ -1,25 +1,18 @@
 -- A declaration keeps the counts of who registered and arrived where.
-use Rattle.std.proofs.Common.{inl, inr, ◌≡◌, ◌∙◌, ℕ, suc, ◌+◌, ◌<◌, ◌==◌, Bool, true, false, List, [], ◌∷◌, ◌++◌, length, ap, refl, sym, subst, arith, if◌then◌else◌}
-use Rattle.std.specs.Prelude.{◌&&◌, ◌||◌, not, All, Option, Some, None}
+use Rattle.std.proofs.Common.{inl, inr, ◌≡◌, ◌∙◌, ℕ, suc, ◌+◌, ◌<◌, ◌==◌, Bool, true, false, List, [], ◌∷◌, ◌++◌, length, ap, refl, sym, subst, arith, if◌then◌else◌, ◌&&◌, ◌||◌, not, All, Option, Some, None}
+use Rattle.std.proofs.lemmas.Bool.{cases_eq, cases_lt, Decides.nat_tests}
+use Rattle.std.proofs.lemmas.List.{get_or_append_left, get_or_push, length_push, Elements.All-head, Elements.All-tail}
 use Rattle.std.specs.List.{list_any}
-use Rattle.std.proofs.lemmas.Bool.{cases_eq, cases_lt}
-use Rattle.std.proofs.lemmas.Bool.Decides.{nat_tests}
-use Rattle.std.proofs.lemmas.List.{get_or_append_left, get_or_push, length_push}
-use Rattle.std.proofs.lemmas.List.Elements.{All-head, All-tail}
-use Rattle.packed_phaser.specs.declared.policy.Policy.{Policy}
-use Rattle.packed_phaser.specs.Flat.{Flat, fresh, unarrived_of, is_empty}
-use Rattle.tier_tree.specs.declared.id.PhaserId.{PhaserId}
+use Rattle.packed_phaser.specs.{declared.policy.Policy.Policy, Flat.Flat, Flat.fresh, Flat.unarrived_of, Flat.is_empty}
+use Rattle.tier_tree.specs.{declared.id.PhaserId.PhaserId, Sound.places_of, Sound.IsForest}
 use Rattle.tier_tree.specs.Forest.{PhaserState, no_phaser, phaser_at, flat_at, root_at, root_of}
 use Rattle.tier_tree.specs.Registration.{Join, joins_along, joined, is_overfull, is_turned}
 use Rattle.tier_tree.specs.Declaration.{declared, joins_above, has_parent, is_root, IsFreshAbove, IsFreshTree, IsFresh}
-use Rattle.tier_tree.specs.Sound.{places_of, IsForest}
 use Rattle.tier_tree.specs.Origin.{Origin, is_under, children, has_joined, is_awaited, IsTallied, IsSteady, AreTallied, declared_at}
 use Rattle.tier_tree.proofs.Lines.{length-places, line_within, forest_declared, joined-places, root_within}
-use Rattle.tier_tree.proofs.Safe.{line_own, root-parent}
+use Rattle.tier_tree.proofs.{Safe.line_own, Safe.root-parent, Stands.root-same, Stands.same-is, Stands.other-is}
 use Rattle.tier_tree.proofs.Balance.{bit, IsOff, IsGood, Changes, AllGood, next-parent}
-use Rattle.tier_tree.proofs.Stands.{root-same, same-is, other-is}
-use Rattle.tier_tree.proofs.Turned.{child-tree, root-root}
-use Rattle.tier_tree.proofs.Joined.{join-changes}
+use Rattle.tier_tree.proofs.{Turned.child-tree, Turned.root-root, Joined.join-changes}
 
 add-bit : (b : Bool) → (if b then 1 else 0) ≡ bit b
 add-bit true = refl

@@ -1,22 +1,17 @@
 -- A climb along a line.
-use Rattle.std.proofs.Common.{inl, inr, ◌≡◌, ◌≢◌, ◌∙◌, ℕ, zero, suc, ◌+◌, ◌<◌, ◌≤◌, drop, ◌==◌, Bool, false, List, [], ◌∷◌, length, get_or, ap, refl, sym, subst, arith, rules}
-use Rattle.std.specs.Prelude.{All, take, slice_set}
-use Rattle.std.proofs.lemmas.List.{get_or_read, get_or-set_same, drop_all}
+use Rattle.std.proofs.Common.{inl, inr, ◌≡◌, ◌≢◌, ◌∙◌, ℕ, zero, suc, ◌+◌, ◌<◌, ◌≤◌, drop, ◌==◌, Bool, false, List, [], ◌∷◌, length, get_or, ap, refl, sym, subst, arith, rules, All, take, slice_set, get_or-set_same}
+use Rattle.std.proofs.{lemmas.List.get_or_read, lemmas.List.drop_all, Math.Seq.drop-cons}
 use Rattle.std.proofs.lemmas.List.Elements.{All-cons, All-nil, All-take, All-set}
-use Rattle.std.proofs.Math.Seq.{drop-cons}
 use Rattle.packed_phaser.specs.Flat.{Flat, Arrival, Counts, Turns, ComesLate, IsUnregistered, arrive, view_of}
 use Rattle.packed_phaser.specs.Word.{record_of}
-use Rattle.tier_tree.specs.declared.climb.Climb.{Climb}
-use Rattle.tier_tree.specs.declared.climb.Climb.TheVariants as climb
-use Rattle.tier_tree.specs.declared.arrived.Arrived.TheVariants as arrived
+use Rattle.tier_tree.specs.{declared.climb.Climb.Climb, Sound.IsForest, Ascent.IsOfPhase, Ascent.written}
 use Rattle.tier_tree.specs.Forest.{PhaserState, phaser_at, flat_at, root_at, with_flat}
-use Rattle.tier_tree.specs.Sound.{IsForest}
 use Rattle.tier_tree.specs.Stored.{Stored, no_stored, stored_at, IsStored, ChangedOnly, phasers_of}
 use Rattle.tier_tree.specs.Arrival.{Climbed, is_top, passed_on, climbed_by, climbed, arrival_by, arrival}
-use Rattle.tier_tree.specs.Ascent.{IsOfPhase, written}
-use Rattle.tier_tree.proofs.Changed.{there_shown}
+use Rattle.tier_tree.specs.declared.climb.Climb.TheVariants as climb
+use Rattle.tier_tree.specs.declared.arrived.Arrived.TheVariants as arrived
+use Rattle.tier_tree.proofs.{Changed.there_shown, Safe.linked, Safe.line_own, Safe.rest_of, Safe.root-parent}
 use Rattle.tier_tree.proofs.Shown.{top_at, shown_at, flat_shown, root_shown, present-phase, present-ended}
-use Rattle.tier_tree.proofs.Safe.{linked, line_own, rest_of, root-parent}
 use Rattle.tier_tree.proofs.Times.{IsAsLate, found, with_flat-late, passed_on-late}
 
 -- all phasers of a line are in one tree

@@ -1,19 +1,15 @@
 -- While a root without strays is turned, nobody registers or arrives in its tree.
-use Rattle.std.proofs.Common.{inl, inr, ◌≡◌, ◌∙◌, ℕ, ℤ, ◌-◌, ◌<◌, ◌≤◌, ◌==◌, Bool, true, false, List, [], ◌∷◌, length, ap, refl, sym, arith, if◌then◌else◌}
-use Rattle.std.specs.Prelude.{◌⊎◌, ◌||◌}
-use Rattle.std.specs.List.{list_any}
+use Rattle.std.proofs.Common.{inl, inr, ◌≡◌, ◌∙◌, ℕ, ℤ, ◌-◌, ◌<◌, ◌≤◌, ◌==◌, Bool, true, false, List, [], ◌∷◌, length, ap, refl, sym, arith, if◌then◌else◌, ◌⊎◌, ◌||◌}
 use Rattle.std.proofs.lemmas.Bool.Decides.{nat_tests}
+use Rattle.std.specs.List.{list_any}
 use Rattle.packed_phaser.specs.Flat.{is_empty}
-use Rattle.tier_tree.specs.declared.climb.Climb.{Climb}
-use Rattle.tier_tree.specs.declared.climb.Climb.TheVariants as climb
-use Rattle.tier_tree.specs.declared.registered.Registered.{Registered}
-use Rattle.tier_tree.specs.declared.registered.Registered.TheVariants as registered
-use Rattle.tier_tree.specs.declared.arrived.Arrived.TheVariants as arrived
-use Rattle.tier_tree.specs.Forest.{PhaserState, phaser_at, flat_at, root_at}
+use Rattle.tier_tree.specs.{declared.climb.Climb.Climb, declared.registered.Registered.Registered, Sound.IsForest}
+use Rattle.tier_tree.specs.{Forest.PhaserState, Forest.phaser_at, Forest.flat_at, Forest.root_at, Law.NobodyComesBetween}
 use Rattle.tier_tree.specs.Registration.{Join, joins, joins_along, is_overfull, is_turned, registration}
 use Rattle.tier_tree.specs.Arrival.{climbed, Arrives, arrival_by}
-use Rattle.tier_tree.specs.Sound.{IsForest}
-use Rattle.tier_tree.specs.Law.{NobodyComesBetween}
+use Rattle.tier_tree.specs.declared.climb.Climb.TheVariants as climb
+use Rattle.tier_tree.specs.declared.registered.Registered.TheVariants as registered
+use Rattle.tier_tree.specs.declared.arrived.Arrived.TheVariants as arrived
 use Rattle.tier_tree.proofs.Safe.{HasAll, all_there, all_turned, line_own, last_of, root-parent}
 use Rattle.tier_tree.proofs.Balance.{next-parent}
 

@@ -1,30 +1,20 @@
 -- What a call promises of the whole forest, from what it makes of the slice of phasers.
-use Rattle.std.proofs.Common.{◌≡◌, ◌∙◌, ℕ, suc, ◌<◌, Bool, false, List, [], ◌∷◌, ◌++◌, length, map, take, drop, ap, refl, sym, subst, arith}
-use Rattle.std.specs.Prelude.{slice_set, Option}
-use Rattle.std.proofs.lemmas.List.{take_at, get_or_append_left, length-set}
-use Rattle.tier_tree.specs.declared.registered.Registered.{Registered}
-use Rattle.tier_tree.specs.declared.arrived.Arrived.{Arrived}
-use Rattle.tier_tree.specs.Forest.{PhaserState, phaser_at, flat_at, root_at}
-use Rattle.tier_tree.specs.Registration.{registration, after_registration}
-use Rattle.tier_tree.specs.Arrival.{Arrives, arrival}
-use Rattle.tier_tree.specs.PhaseEnd.{after_phase_end, after_force}
-use Rattle.tier_tree.specs.Sound.{places_of, Place, place_of}
-use Rattle.tier_tree.specs.Call.{IsCall}
+use Rattle.std.proofs.Common.{◌≡◌, ◌∙◌, ℕ, suc, ◌<◌, Bool, false, List, [], ◌∷◌, ◌++◌, length, map, take, drop, ap, refl, sym, subst, arith, slice_set, Option, take_at, length-set}
+use Rattle.std.proofs.lemmas.List.{get_or_append_left}
+use Rattle.tier_tree.specs.{declared.registered.Registered.Registered, declared.arrived.Arrived.Arrived, Call.IsCall}
+use Rattle.tier_tree.specs.{Forest.PhaserState, Forest.phaser_at, Forest.flat_at, Forest.root_at, declared.id.PhaserId.PhaserId}
+use Rattle.tier_tree.specs.{Registration.registration, Registration.after_registration, Arrival.Arrives, Arrival.arrival}
+use Rattle.tier_tree.specs.{PhaseEnd.after_phase_end, PhaseEnd.after_force, Sound.places_of, Sound.Place, Sound.place_of}
 use Rattle.tier_tree.specs.Stored.{Stored, stored_at, shown, phasers_of, place_in, IsStored, ChangedAt, ChangedOnly}
 use Rattle.tier_tree.specs.Answer.{IfTurning, MakesPending, KeepsPlaces, KeepsEnds, HaveOnePhase, AddsPlace}
 use Rattle.tier_tree.specs.Origin.{Origin, AreTallied, Carries, origin_after_registration, origin_after_arrival, origin_after_phase_end}
-use Rattle.tier_tree.specs.declared.id.PhaserId.{PhaserId}
+use Rattle.tier_tree.specs.{Declaration.after_declaration, Undo.Kept, Undo.with_kept, Undo.restored}
 use Rattle.packed_phaser.specs.declared.policy.Policy.{Policy}
-use Rattle.tier_tree.specs.Declaration.{after_declaration}
-use Rattle.tier_tree.specs.Undo.{Kept, with_kept, restored}
 use Rattle.tier_tree.proofs.Kept.{joined-ends, push-ends, keeps_places, registration-ends, arrival-ends, force-ends}
 use Rattle.tier_tree.proofs.Lines.{joined-places, place_at-places, registration-places, arrival-places, turn-places, force-places}
-use Rattle.tier_tree.proofs.Stands.{stands_after_arrival}
-use Rattle.tier_tree.proofs.Joined.{stands_registered}
-use Rattle.tier_tree.proofs.Turned.{stands_after_phase_end, stands_after_force}
+use Rattle.tier_tree.proofs.{Stands.stands_after_arrival, Joined.stands_registered, Changed.only_root, Changed.there_shown}
+use Rattle.tier_tree.proofs.{Turned.stands_after_phase_end, Turned.stands_after_force, Turning.IsFull, Turning.turning}
 use Rattle.tier_tree.proofs.Shown.{top_at, length-shown, flat_shown, root_shown, top_there, top-top, present-phase, present-ended}
-use Rattle.tier_tree.proofs.Changed.{only_root, there_shown}
-use Rattle.tier_tree.proofs.Turning.{IsFull, turning}
 
 -- a slice of all phasers, written back
 pub written_back : (P : List Stored → List Stored → Type 0) (items given now written : List Stored) (n : ℕ) → given ≡ items → items ≡ now

@@ -1,21 +1,16 @@
 -- Which words a call changes, and that putting them back undoes it.
-use Rattle.std.proofs.Common.{inl, inr, ◌≡◌, ◌≢◌, ◌∙◌, ℕ, ◌+◌, ◌-◌, ◌<◌, ◌≤◌, true, false, List, [], ◌∷◌, ◌++◌, length, map, get_or, ap, refl, sym, subst, arith}
-use Rattle.std.specs.Prelude.{slice_set, All, Option}
-use Rattle.std.proofs.lemmas.Bool.{cases_eq, cases_lt}
-use Rattle.std.proofs.lemmas.List.{get_or_read, get_or_past, set_past, ext_get_or, length_push, get_or_append_left, get_or_push}
-use Rattle.std.proofs.lemmas.List.Elements.{All-cons, All-nil}
+use Rattle.std.proofs.Common.{inl, inr, ◌≡◌, ◌≢◌, ◌∙◌, ℕ, ◌+◌, ◌-◌, ◌<◌, ◌≤◌, true, false, List, [], ◌∷◌, ◌++◌, length, map, get_or, ap, refl, sym, subst, arith, slice_set, All, Option, ext_get_or}
+use Rattle.std.proofs.lemmas.{Bool.cases_eq, Bool.cases_lt, List.Elements.All-cons, List.Elements.All-nil}
+use Rattle.std.proofs.lemmas.List.{get_or_read, get_or_past, set_past, length_push, get_or_append_left, get_or_push}
 use Rattle.std.proofs.lemmas.Bool.Decides.{nat_tests}
-use Rattle.packed_phaser.specs.declared.policy.Policy.{Policy}
-use Rattle.packed_phaser.specs.Flat.{Flat}
-use Rattle.tier_tree.specs.declared.id.PhaserId.{PhaserId}
+use Rattle.packed_phaser.specs.{declared.policy.Policy.Policy, Flat.Flat}
+use Rattle.tier_tree.specs.{declared.id.PhaserId.PhaserId, Sound.Place, Sound.place_of, Sound.IsForest}
 use Rattle.tier_tree.specs.Declaration.{declared, has_parent, IsFreshAbove}
 use Rattle.tier_tree.specs.Forest.{PhaserState, no_phaser, phaser_at, root_at}
-use Rattle.tier_tree.specs.Sound.{Place, place_of, IsForest}
 use Rattle.tier_tree.specs.Stored.{Stored, no_stored, stored_at, kept_flat, top_of, present, shown, phasers_of, behind, IsNear, IsLive, IsStored, place_in, ChangedOnly, ChangedAt}
 use Rattle.tier_tree.specs.Undo.{Kept, kept_at, saved_of, with_kept, restored}
-use Rattle.tier_tree.proofs.Lines.{line_within, forest_declared}
+use Rattle.tier_tree.proofs.{Lines.line_within, Lines.forest_declared, Turned.root-root}
 use Rattle.tier_tree.proofs.Safe.{linked, line_own, root-parent, last_of, last-more}
-use Rattle.tier_tree.proofs.Turned.{root-root}
 use Rattle.tier_tree.proofs.Shown.{top_at, shown_at, length-shown, flat_shown, root_shown, top_there, top-top, present_live, present-phase, present-now, is_put, behind-self}
 
 pub there_shown : (forest : List Stored) (id : ℕ) → id < length forest → id < length (phasers_of forest)

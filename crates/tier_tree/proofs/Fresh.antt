@@ -1,12 +1,9 @@
 -- Declarations leave all phasers as they began.
 use Rattle.std.proofs.Common.{◌≡◌, ℕ, List, [], ◌∷◌, ◌++◌, sym, subst, arith}
-use Rattle.std.proofs.lemmas.Bool.{cases_lt}
-use Rattle.std.proofs.lemmas.List.{get_or_past}
-use Rattle.std.proofs.lemmas.List.Elements.{All-set, All-push}
+use Rattle.std.proofs.lemmas.{Bool.cases_lt, List.get_or_past, List.Elements.All-set, List.Elements.All-push}
 use Rattle.packed_phaser.specs.Flat.{Flat, fresh, register}
-use Rattle.tier_tree.specs.Forest.{PhaserState, phaser_at, flat_at}
+use Rattle.tier_tree.specs.{Forest.PhaserState, Forest.phaser_at, Forest.flat_at, Declaration.IsFresh, Declaration.AreAllFresh}
 use Rattle.tier_tree.specs.Registration.{Join, joined, flat_by}
-use Rattle.tier_tree.specs.Declaration.{IsFresh, AreAllFresh}
 
 fresh_joined : (count : ℕ) (f : Flat) → f ≡ fresh f.phase f.parties
     → flat_by (register count f) f ≡ fresh (flat_by (register count f) f).phase (flat_by (register count f) f).parties

@@ -1,18 +1,15 @@
 -- A registration keeps the counts of who registered and arrived where.
-use Rattle.std.proofs.Common.{inl, inr, ◌≡◌, ◌≢◌, ◌∙◌, ℕ, ℤ, ◌+◌, ◌<◌, ◌==◌, Bool, true, false, List, [], ◌∷◌, length, ap, refl, sym, subst, arith, if◌then◌else◌}
-use Rattle.std.specs.Prelude.{◌&&◌, ◌||◌, not, nat_lt, slice_index_or}
+use Rattle.std.proofs.Common.{inl, inr, ◌≡◌, ◌≢◌, ◌∙◌, ℕ, ℤ, ◌+◌, ◌<◌, ◌==◌, Bool, true, false, List, [], ◌∷◌, length, ap, refl, sym, subst, arith, if◌then◌else◌, ◌&&◌, ◌||◌, not, nat_lt, slice_index_or}
+use Rattle.std.proofs.lemmas.Bool.{cases_eq, Decides.nat_tests}
 use Rattle.std.specs.List.{list_any}
-use Rattle.std.proofs.lemmas.Bool.{cases_eq}
-use Rattle.std.proofs.lemmas.Bool.Decides.{nat_tests}
 use Rattle.packed_phaser.specs.Flat.{Flat, is_empty, unarrived_of, register}
 use Rattle.tier_tree.specs.declared.registered.Registered.{Registered}
-use Rattle.tier_tree.specs.declared.registered.Registered.TheVariants as registered
 use Rattle.tier_tree.specs.Forest.{PhaserState, no_phaser, phaser_at, flat_at, root_at, with_flat}
 use Rattle.tier_tree.specs.Registration.{Join, joins, joins_along, joined, flat_by, is_overfull, is_turned, registration, registered_by}
 use Rattle.tier_tree.specs.Sound.{Place, place_of, places_of, IsForest}
 use Rattle.tier_tree.specs.Origin.{Origin, is_under, children, has_joined, is_awaited, IsTallied, AreTallied, registered_at, origin_after_registration}
-use Rattle.tier_tree.proofs.Lines.{place_at-places, length-places, joined-places}
-use Rattle.tier_tree.proofs.Safe.{line_own, root-parent}
+use Rattle.tier_tree.specs.declared.registered.Registered.TheVariants as registered
+use Rattle.tier_tree.proofs.{Lines.place_at-places, Lines.length-places, Lines.joined-places, Safe.line_own, Safe.root-parent}
 use Rattle.tier_tree.proofs.Balance.{bit, IsOff, IsGood, Changes, AllGood, next-parent, put_same, put_apart, put_under, flat-put, flat-other, waiting, apart}
 use Rattle.tier_tree.proofs.Stands.{root-same, good_of, steady_after, same-is, other-is}
 

@@ -2,11 +2,9 @@
 use Rattle.std.proofs.Common.{◌≡◌, ℕ, zero, suc, Bool, List, [], ◌∷◌, ◌++◌, map, refl, arith}
 use Rattle.packed_phaser.specs.Flat.{Flat, Arrival, arrive}
 use Rattle.tier_tree.specs.Forest.{PhaserState, phaser_at, flat_at, root_at, with_flat}
-use Rattle.tier_tree.specs.Registration.{Join, joined, after_registration}
+use Rattle.tier_tree.specs.{Registration.Join, Registration.joined, Registration.after_registration, Sound.places_of}
 use Rattle.tier_tree.specs.Arrival.{arrival, Climbed, is_top, climbed_by, climbed}
-use Rattle.tier_tree.specs.PhaseEnd.{terminated, after_force}
-use Rattle.tier_tree.specs.Sound.{places_of}
-use Rattle.tier_tree.specs.Answer.{KeepsPlaces, KeepsEnds}
+use Rattle.tier_tree.specs.{PhaseEnd.terminated, PhaseEnd.after_force, Answer.KeepsPlaces, Answer.KeepsEnds}
 use Rattle.tier_tree.proofs.Stands.{root-same}
 
 pub keeps_places : (before after : List PhaserState) → places_of after ≡ places_of before → KeepsPlaces before after

@@ -1,17 +1,12 @@
 -- The calls change no line.
-use Rattle.std.proofs.Common.{inl, inr, ◌≡◌, ℕ, suc, ◌+◌, ◌<◌, Bool, true, List, [], ◌∷◌, ◌++◌, map, get_or, length, ap, refl, sym, subst, arith}
+use Rattle.std.proofs.Common.{inl, inr, ◌≡◌, ℕ, suc, ◌+◌, ◌<◌, Bool, true, List, [], ◌∷◌, ◌++◌, map, get_or, length, ap, refl, sym, subst, arith, Option, ◌⊎◌, slice_set, All}
 use Rattle.std.proofs.lemmas.List.{length-map, length_push, get_or_append_left, get_or_push, map-append}
-use Rattle.std.proofs.lemmas.List.Elements.{All-weaker, All-cons, All-nil}
-use Rattle.std.proofs.lemmas.Bool.Decides.{nat_tests}
+use Rattle.std.proofs.lemmas.{List.Elements.All-weaker, List.Elements.All-cons, List.Elements.All-nil, Bool.Decides.nat_tests}
 use Rattle.std.proofs.lemmas.Bool.{cases_lt}
-use Rattle.std.specs.Prelude.{Option, ◌⊎◌, slice_set, All}
-use Rattle.packed_phaser.specs.declared.policy.Policy.{Policy}
-use Rattle.tier_tree.specs.declared.id.PhaserId.{PhaserId}
-use Rattle.tier_tree.specs.Declaration.{has_parent, declared}
-use Rattle.packed_phaser.specs.Flat.{Flat, Arrival, arrive}
-use Rattle.tier_tree.specs.declared.climb.Climb.{Climb}
+use Rattle.packed_phaser.specs.{declared.policy.Policy.Policy, Flat.Flat, Flat.Arrival, Flat.arrive}
+use Rattle.tier_tree.specs.{declared.id.PhaserId.PhaserId, Declaration.has_parent, Declaration.declared}
+use Rattle.tier_tree.specs.{declared.climb.Climb.Climb, Registration.Join, Registration.joined, Registration.after_registration}
 use Rattle.tier_tree.specs.Forest.{PhaserState, no_phaser, phaser_at, flat_at, root_at, with_flat}
-use Rattle.tier_tree.specs.Registration.{Join, joined, after_registration}
 use Rattle.tier_tree.specs.Arrival.{Climbed, is_top, climbed_by, climbed, arrival}
 use Rattle.tier_tree.specs.PhaseEnd.{in_step, terminated, after_phase_end, after_force}
 use Rattle.tier_tree.specs.Sound.{Place, place_of, places_of, IsForest, IsForestOf, IsLine, line_at}

@@ -1,10 +1,8 @@
 -- When a root without strays is turned, everybody in its tree has arrived.
-use Rattle.std.proofs.Common.{inl, inr, ◌≡◌, ◌∙◌, ℕ, suc, ◌-◌, ◌<◌, Bool, true, false, List, [], ◌∷◌, length, ap, sym, subst, arith}
-use Rattle.std.specs.Prelude.{◌⊎◌, slice_index_or}
+use Rattle.std.proofs.Common.{inl, inr, ◌≡◌, ◌∙◌, ℕ, suc, ◌-◌, ◌<◌, Bool, true, false, List, [], ◌∷◌, length, ap, sym, subst, arith, ◌⊎◌, slice_index_or}
 use Rattle.std.proofs.lemmas.Bool.Decides.{nat_tests}
 use Rattle.packed_phaser.specs.Flat.{Flat, is_empty, unarrived_of}
-use Rattle.tier_tree.specs.Forest.{PhaserState, phaser_at, flat_at, root_at}
-use Rattle.tier_tree.specs.Sound.{IsForest}
+use Rattle.tier_tree.specs.{Forest.PhaserState, Forest.phaser_at, Forest.flat_at, Forest.root_at, Sound.IsForest}
 use Rattle.tier_tree.specs.Origin.{Origin, is_under, children, is_awaited, IsSteady, AreTallied, HaveAllArrived}
 use Rattle.tier_tree.proofs.Lines.{place_at-places, length-places}
 

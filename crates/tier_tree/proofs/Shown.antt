@@ -1,9 +1,7 @@
 -- What a stored forest shows, after each change of one word.
-use Rattle.std.proofs.Common.{inl, inr, ◌≡◌, ◌≢◌, ◌∙◌, ℕ, ◌+◌, ◌-◌, ◌<◌, ◌≤◌, ◌==◌, Bool, true, false, List, [], ◌∷◌, length, map, get_or, ap, refl, sym, subst, arith, if◌then◌else◌, rules}
-use Rattle.std.specs.Prelude.{slice_set}
-use Rattle.std.proofs.lemmas.Bool.{cases_eq}
-use Rattle.std.proofs.lemmas.Bool.Decides.{nat_tests}
-use Rattle.std.proofs.lemmas.List.{length-map, length-set, get_or-map, get_or_read, get_or_default, get_or-set_same, get_or-set_other, ext_get_or}
+use Rattle.std.proofs.Common.{inl, inr, ◌≡◌, ◌≢◌, ◌∙◌, ℕ, ◌+◌, ◌-◌, ◌<◌, ◌≤◌, ◌==◌, Bool, true, false, List, [], ◌∷◌, length, map, get_or, ap, refl, sym, subst, arith, if◌then◌else◌, rules, slice_set, length-set, get_or-set_same, get_or-set_other, ext_get_or}
+use Rattle.std.proofs.lemmas.Bool.{cases_eq, Decides.nat_tests}
+use Rattle.std.proofs.lemmas.List.{length-map, get_or-map, get_or_read, get_or_default}
 use Rattle.std.proofs.lemmas.List.Elements.{All-head, All-tail, All-cons, All-nil}
 use Rattle.packed_phaser.specs.Flat.{Flat, ComesLate, arrive, advance, renew, force, fresh, view_of}
 use Rattle.packed_phaser.specs.Word.{record_of}
@@ -13,8 +11,7 @@ use Rattle.tier_tree.specs.PhaseEnd.{follow, in_step, terminated, after_phase_en
 use Rattle.tier_tree.specs.Sound.{Place, places_of}
 use Rattle.tier_tree.specs.Stored.{Stored, no_stored, stored_at, kept_flat, top_of, present, shown, phasers_of, behind, IsNear, IsLive, IsStored, place_in, ChangedOnly}
 use Rattle.tier_tree.proofs.Lines.{root_within, forest_kept, with_flat-places, turn-places, terminated-places}
-use Rattle.tier_tree.proofs.Turned.{root-root}
-use Rattle.tier_tree.proofs.Stands.{same-is, other-is}
+use Rattle.tier_tree.proofs.{Turned.root-root, Stands.same-is, Stands.other-is}
 
 -- 1. words beside that of their root
 

@@ -1,16 +1,12 @@
 -- The calls keep the counts of who registered and arrived where.
-use Rattle.std.proofs.Common.{inl, inr, ◌≡◌, ◌≢◌, ◌∙◌, ℕ, ℤ, ◌-◌, ◌<◌, ◌==◌, Bool, true, false, List, ◌∷◌, length, ap, refl, sym, subst, arith, if◌then◌else◌}
-use Rattle.std.specs.Prelude.{◌&&◌}
-use Rattle.std.proofs.lemmas.Bool.{cases_eq}
-use Rattle.std.proofs.lemmas.Bool.Decides.{nat_tests}
-use Rattle.tier_tree.specs.declared.climb.Climb.{Climb}
-use Rattle.tier_tree.specs.declared.arrived.Arrived.TheVariants as arrived
-use Rattle.tier_tree.specs.Forest.{PhaserState, phaser_at, flat_at, root_at}
+use Rattle.std.proofs.Common.{inl, inr, ◌≡◌, ◌≢◌, ◌∙◌, ℕ, ℤ, ◌-◌, ◌<◌, ◌==◌, Bool, true, false, List, ◌∷◌, length, ap, refl, sym, subst, arith, if◌then◌else◌, ◌&&◌}
+use Rattle.std.proofs.lemmas.Bool.{cases_eq, Decides.nat_tests}
+use Rattle.tier_tree.specs.{declared.climb.Climb.Climb, Forest.PhaserState, Forest.phaser_at, Forest.flat_at, Forest.root_at}
 use Rattle.tier_tree.specs.Arrival.{climbed, Arrives, arrival_by, arrival}
 use Rattle.tier_tree.specs.Sound.{places_of, IsForest}
 use Rattle.tier_tree.specs.Origin.{Origin, IsTallied, IsSteady, AreTallied, arrived_at, origin_after_arrival}
-use Rattle.tier_tree.proofs.Lines.{place_at-places, length-places, climbed-places}
-use Rattle.tier_tree.proofs.Safe.{line_own, last_of}
+use Rattle.tier_tree.specs.declared.arrived.Arrived.TheVariants as arrived
+use Rattle.tier_tree.proofs.{Lines.place_at-places, Lines.length-places, Lines.climbed-places, Safe.line_own, Safe.last_of}
 use Rattle.tier_tree.proofs.Balance.{bit, IsOff, IsGood, Changes, AllGood, Succeeds, climb-changes}
 
 -- roots depend on the places alone

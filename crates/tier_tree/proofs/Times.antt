@@ -1,8 +1,7 @@
 -- A climb changes no phase and terminates nobody.
 use Rattle.std.proofs.Common.{◌≡◌, ℕ, zero, suc, Bool, true, false, List, ◌∷◌, refl, arith}
 use Rattle.packed_phaser.specs.Flat.{Flat, Arrival, Counts, Turns, ComesLate, IsUnregistered, arrive, view_of}
-use Rattle.tier_tree.specs.Forest.{PhaserState, flat_at, with_flat}
-use Rattle.tier_tree.specs.Arrival.{passed_on}
+use Rattle.tier_tree.specs.{Forest.PhaserState, Forest.flat_at, Forest.with_flat, Arrival.passed_on}
 
 -- the phase, and whether it is terminated
 abbrev pub IsAsLate : Flat → Flat → Type 0

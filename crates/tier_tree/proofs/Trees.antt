@@ -1,24 +1,17 @@
 -- What the calls keep of the trees that a caller carries.
-use Rattle.std.proofs.Common.{inl, inr, ◌≡◌, ◌≢◌, ◌∙◌, ℕ, zero, suc, ◌+◌, ◌<◌, ◌≤◌, ◌==◌, Bool, true, false, List, [], ◌∷◌, length, map, ap, refl, sym, arith, if◌then◌else◌}
-use Rattle.std.specs.Prelude.{◌||◌, slice_set}
-use Rattle.std.proofs.lemmas.Bool.{cases_eq, cases_lt}
-use Rattle.std.proofs.lemmas.List.{get_or_past}
+use Rattle.std.proofs.Common.{inl, inr, ◌≡◌, ◌≢◌, ◌∙◌, ℕ, zero, suc, ◌+◌, ◌<◌, ◌≤◌, ◌==◌, Bool, true, false, List, [], ◌∷◌, length, map, ap, refl, sym, arith, if◌then◌else◌, ◌||◌, slice_set}
+use Rattle.std.proofs.lemmas.{Bool.cases_eq, Bool.cases_lt, List.get_or_past}
 use Rattle.packed_phaser.specs.Flat.{Flat, Joins, JoinsLate, MustWait, Overfull, Arrival, arrive, register, advance}
-use Rattle.tier_tree.specs.declared.arrived.Arrived.{Arrived}
-use Rattle.tier_tree.specs.declared.arrived.Arrived.TheVariants as arrived
-use Rattle.tier_tree.specs.declared.id.PhaserId.{PhaserId}
+use Rattle.tier_tree.specs.{declared.arrived.Arrived.Arrived, declared.id.PhaserId.PhaserId, Sound.places_of}
 use Rattle.tier_tree.specs.Forest.{PhaserState, no_phaser, phaser_at, flat_at, root_at}
 use Rattle.tier_tree.specs.Registration.{Join, joined, flat_by, registration, after_registration}
 use Rattle.tier_tree.specs.Arrival.{Arrives, Climbed, is_top, climbed_by, climbed, arrival}
 use Rattle.tier_tree.specs.PhaseEnd.{most_ends, after_phase_end, after_force, in_step}
-use Rattle.tier_tree.specs.Sound.{places_of}
-use Rattle.tier_tree.specs.Answer.{IfTurning, KeepsPlaces, MakesPending}
+use Rattle.tier_tree.specs.{Answer.IfTurning, Answer.KeepsPlaces, Answer.MakesPending, Trees.is_pending, Trees.AreTrees}
 use Rattle.tier_tree.specs.Origin.{Origin, AreTallied, origin_after_registration, origin_after_arrival, origin_after_phase_end}
-use Rattle.tier_tree.specs.Trees.{is_pending, AreTrees}
+use Rattle.tier_tree.specs.declared.arrived.Arrived.TheVariants as arrived
 use Rattle.tier_tree.proofs.Lines.{root_within, registration-places, arrival-places, turn-places, force-places, forest_kept, length-places, place_at-places}
-use Rattle.tier_tree.proofs.Balance.{flat-other}
-use Rattle.tier_tree.proofs.Stands.{same-is, stands_after_arrival}
-use Rattle.tier_tree.proofs.Joined.{stands_registered}
+use Rattle.tier_tree.proofs.{Balance.flat-other, Stands.same-is, Stands.stands_after_arrival, Joined.stands_registered}
 use Rattle.tier_tree.proofs.Turned.{turn_change, force_change, stands_after_phase_end, stands_after_force}
 use Rattle.tier_tree.proofs.Kept.{keeps_places, registration-ends, arrival-ends, force-ends}
 use Rattle.tier_tree.proofs.Turning.{IsFull, turning}

@@ -1,17 +1,13 @@
 -- A phase end and a termination keep the counts of who registered and arrived where.
-use Rattle.std.proofs.Common.{inl, inr, ◌≡◌, ◌≢◌, ◌∙◌, ℕ, suc, ◌+◌, ◌<◌, ◌≤◌, ◌==◌, Bool, true, false, List, [], ◌∷◌, length, map, ap, refl, sym, subst, arith, if◌then◌else◌}
-use Rattle.std.specs.Prelude.{◌&&◌, not}
-use Rattle.std.proofs.lemmas.Bool.{cases_eq}
-use Rattle.std.proofs.lemmas.Bool.Decides.{nat_tests}
-use Rattle.std.proofs.lemmas.List.{length-map, get_or-set_same, get_or-set_other}
+use Rattle.std.proofs.Common.{inl, inr, ◌≡◌, ◌≢◌, ◌∙◌, ℕ, suc, ◌+◌, ◌<◌, ◌≤◌, ◌==◌, Bool, true, false, List, [], ◌∷◌, length, map, ap, refl, sym, subst, arith, if◌then◌else◌, ◌&&◌, not, get_or-set_same, get_or-set_other}
+use Rattle.std.proofs.lemmas.{Bool.cases_eq, Bool.Decides.nat_tests, List.length-map}
 use Rattle.packed_phaser.specs.Flat.{Flat, unarrived_of, advance, force}
 use Rattle.tier_tree.specs.Forest.{PhaserState, no_phaser, phaser_at, flat_at, root_at}
 use Rattle.tier_tree.specs.PhaseEnd.{follow, in_step, terminated, after_phase_end, after_force}
 use Rattle.tier_tree.specs.Sound.{Place, place_of, places_of, IsForest}
 use Rattle.tier_tree.specs.Origin.{Origin, is_under, children, has_joined, is_awaited, IsTallied, IsSteady, AreTallied, origin_after_phase_end}
-use Rattle.tier_tree.proofs.Lines.{length-places, turn-places, force-places}
+use Rattle.tier_tree.proofs.{Lines.length-places, Lines.turn-places, Lines.force-places, Balance.IsGood, Balance.next-parent}
 use Rattle.tier_tree.proofs.Safe.{linked, line_own, last_of, rest_of, root-parent}
-use Rattle.tier_tree.proofs.Balance.{IsGood, next-parent}
 use Rattle.tier_tree.proofs.Stands.{root-same, same-is, other-is}
 
 abbrev first_of : List Place → Place

@@ -1,20 +1,13 @@
 -- An arrival that is the last of its tree leaves the root turned.
-use Rattle.std.proofs.Common.{◌≡◌, ◌≢◌, ◌∙◌, ℕ, ◌<◌, ◌≤◌, ◌==◌, Bool, true, false, List, [], ◌∷◌, length, ap, refl, sym, subst, arith, if◌then◌else◌}
-use Rattle.std.proofs.lemmas.List.{get_or-set_same, get_or-set_other}
+use Rattle.std.proofs.Common.{◌≡◌, ◌≢◌, ◌∙◌, ℕ, ◌<◌, ◌≤◌, ◌==◌, Bool, true, false, List, [], ◌∷◌, length, ap, refl, sym, subst, arith, if◌then◌else◌, get_or-set_same, get_or-set_other}
 use Rattle.packed_phaser.specs.Flat.{Flat, Arrival, arrive, view_of}
-use Rattle.tier_tree.specs.declared.climb.Climb.{Climb}
-use Rattle.tier_tree.specs.declared.climb.Climb.TheVariants as climb
-use Rattle.tier_tree.specs.Forest.{PhaserState, phaser_at, flat_at, root_at}
-use Rattle.tier_tree.specs.Answer.{IfTurning, MakesPending}
-use Rattle.tier_tree.specs.declared.arrived.Arrived.{Arrived}
-use Rattle.tier_tree.specs.declared.arrived.Arrived.TheVariants as arrived
+use Rattle.tier_tree.specs.{declared.climb.Climb.Climb, Forest.PhaserState, Forest.phaser_at, Forest.flat_at, Forest.root_at}
+use Rattle.tier_tree.specs.{Answer.IfTurning, Answer.MakesPending, declared.arrived.Arrived.Arrived, Sound.IsForest}
 use Rattle.tier_tree.specs.Arrival.{Arrives, arrival, arrival_by, Climbed, climbed_by, climbed}
-use Rattle.tier_tree.specs.Sound.{IsForest}
-use Rattle.tier_tree.proofs.Lines.{climbed_same}
-use Rattle.tier_tree.proofs.Safe.{last_of, line_own, root-parent}
-use Rattle.tier_tree.proofs.Balance.{next-parent}
-use Rattle.tier_tree.proofs.Turned.{root-root}
-use Rattle.tier_tree.proofs.Stands.{root-same, same-is}
+use Rattle.tier_tree.specs.declared.climb.Climb.TheVariants as climb
+use Rattle.tier_tree.specs.declared.arrived.Arrived.TheVariants as arrived
+use Rattle.tier_tree.proofs.{Lines.climbed_same, Safe.last_of, Safe.line_own, Safe.root-parent, Balance.next-parent}
+use Rattle.tier_tree.proofs.{Turned.root-root, Stands.root-same, Stands.same-is}
 
 abbrev pub IsTurned : Flat → Type 0
 IsTurned f = (f.turned ≡ true) × (f.ended ≡ false)

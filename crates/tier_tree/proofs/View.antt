@@ -1,9 +1,7 @@
 -- The number of a phase, from its view; and a word in its root's phase.
-use Rattle.std.proofs.Common.{◌≡◌, ◌≢◌, ℕ, ◌<◌, ◌/◌, ◌%◌, ◌==◌, Bool, false, refl, arith}
-use Rattle.std.specs.Prelude.{ℤ, pos}
+use Rattle.std.proofs.Common.{◌≡◌, ◌≢◌, ℕ, ◌<◌, ◌/◌, ◌%◌, ◌==◌, Bool, false, refl, arith, ℤ, pos}
 use Rattle.std.proofs.lemmas.Bool.Decides.{nat_tests}
-use Rattle.packed_phaser.specs.Flat.{renew}
-use Rattle.packed_phaser.specs.Word.{fields_of, record_of}
+use Rattle.packed_phaser.specs.{Flat.renew, Word.fields_of, Word.record_of}
 use Rattle.phase_number.specs.Phase.{phase_view, is_ended_view}
 use Rattle.tier_tree.specs.Stored.{present}
 

@@ -1,12 +1,10 @@
 -- What a result means for the caller, and what a call leaves unchanged.
 use Rattle.std.specs.Prelude.{◌≡◌, ℕ, ◌<◌, true, false, List, length}
-use Rattle.tier_tree.specs.declared.id.PhaserId.{PhaserId}
-use Rattle.tier_tree.specs.declared.registered.Registered.{Registered}
-use Rattle.tier_tree.specs.declared.registered.Registered.TheVariants as registered
-use Rattle.tier_tree.specs.declared.arrived.Arrived.{Arrived}
-use Rattle.tier_tree.specs.declared.arrived.Arrived.TheVariants as arrived
+use Rattle.tier_tree.specs.declared.{id.PhaserId.PhaserId, registered.Registered.Registered, arrived.Arrived.Arrived}
 use Rattle.tier_tree.specs.Forest.{PhaserState, phaser_at, flat_at, root_at}
 use Rattle.tier_tree.specs.Sound.{place_of, places_of}
+use Rattle.tier_tree.specs.declared.registered.Registered.TheVariants as registered
+use Rattle.tier_tree.specs.declared.arrived.Arrived.TheVariants as arrived
 
 -- nobody was registered: the call was refused, or for nobody
 abbrev pub DoesntJoin : Registered → ℕ → Type 0

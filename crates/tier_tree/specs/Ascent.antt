@@ -1,7 +1,6 @@
 -- The words that a look along a line found. Nobody has to believe it.
 use Rattle.std.specs.Prelude.{◌≡◌, ℕ, false, List, [], ◌∷◌}
-use Rattle.packed_phaser.specs.Flat.{Flat}
-use Rattle.packed_phaser.specs.Word.{record_of}
+use Rattle.packed_phaser.specs.{Flat.Flat, Word.record_of}
 use Rattle.tier_tree.specs.Forest.{PhaserState, with_flat}
 
 -- the word is of this phaser's phase, and isn't terminated

@@ -1,7 +1,6 @@
 -- What a call at a phaser can change in its forest, whatever the call returns.
 use Rattle.std.specs.Prelude.{ℕ, List}
-use Rattle.tier_tree.specs.Answer.{KeepsPlaces}
-use Rattle.tier_tree.specs.Origin.{Origin, Carries}
+use Rattle.tier_tree.specs.{Answer.KeepsPlaces, Origin.Origin, Origin.Carries}
 use Rattle.tier_tree.specs.Stored.{Stored, ChangedAt, phasers_of}
 
 -- only words from this phaser up to its root may differ; each phaser keeps its line and its policy; and if the forest stood for

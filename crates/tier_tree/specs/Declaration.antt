@@ -1,13 +1,11 @@
 -- The declaration of a phaser.
 use Rattle.std.specs.Prelude.{◌≡◌, ℕ, ◌<◌, All, ℤ, pos, nat_abs, ◌==◌, ◌||◌, not, nat_le, int_lt, Bool, true, false, if◌then◌else◌, List, [], ◌∷◌, ◌++◌, length, Option, Some, None}
 use Rattle.std.specs.List.{list_any}
-use Rattle.packed_phaser.specs.declared.policy.Policy.{Policy}
-use Rattle.packed_phaser.specs.Flat.{fresh}
-use Rattle.tier_tree.specs.declared.id.PhaserId.{PhaserId}
-use Rattle.tier_tree.specs.declared.fault.DeclareFault.{DeclareFault}
-use Rattle.tier_tree.specs.declared.fault.DeclareFault.TheVariants as fault
+use Rattle.packed_phaser.specs.{declared.policy.Policy.Policy, Flat.fresh}
+use Rattle.tier_tree.specs.declared.{id.PhaserId.PhaserId, fault.DeclareFault.DeclareFault}
 use Rattle.tier_tree.specs.Forest.{PhaserState, phaser_at, flat_at, root_of, root_at}
 use Rattle.tier_tree.specs.Registration.{Join, joins, joined, is_overfull}
+use Rattle.tier_tree.specs.declared.fault.DeclareFault.TheVariants as fault
 
 -- the number that a fault is printed with
 abbrev pub fault_number : DeclareFault → ℕ

@@ -1,8 +1,7 @@
 -- A forest: the list of its phasers in the order of declaration.
 use Rattle.std.specs.Prelude.{ℕ, ◌-◌, List, [], length, slice_index_or, slice_set}
-use Rattle.packed_phaser.specs.declared.policy.Policy.{Policy}
+use Rattle.packed_phaser.specs.{declared.policy.Policy.Policy, Flat.Flat, Flat.fresh}
 use Rattle.packed_phaser.specs.declared.policy.Policy.TheVariants as policy
-use Rattle.packed_phaser.specs.Flat.{Flat, fresh}
 
 -- one phaser: the numbers of itself, its parent, its parent's parent and so on up to its root; what its policy is; its
 -- phase and counts as those of a phaser without tiers; and, of a root, how many phases of its tree have ended

@@ -2,9 +2,7 @@
 use Rattle.std.specs.Prelude.{◌≡◌, ◌⊎◌, ℕ, ◌<◌, Bool, true, false, List, length}
 use Rattle.tier_tree.specs.declared.registered.Registered.TheVariants as registered
 use Rattle.tier_tree.specs.declared.arrived.Arrived.TheVariants as arrived
-use Rattle.tier_tree.specs.Forest.{PhaserState, flat_at, root_at}
-use Rattle.tier_tree.specs.Registration.{registration}
-use Rattle.tier_tree.specs.Arrival.{arrival}
+use Rattle.tier_tree.specs.{Forest.PhaserState, Forest.flat_at, Forest.root_at, Registration.registration, Arrival.arrival}
 use Rattle.tier_tree.specs.Origin.{Origin, AreTallied}
 
 -- in a tree whose root is turned and that had no stray arrival, every registration of somebody is held or too many, and every

@@ -3,8 +3,8 @@ use Rattle.std.specs.Prelude.{ℕ, pos, ◌+◌, ◌==◌, nat_lt, Bool, if◌th
 use Rattle.std.specs.List.{list_any}
 use Rattle.packed_phaser.specs.Flat.{Flat, Registration, Joins, JoinsLate, MustWait, Overfull, register, is_empty, view_of}
 use Rattle.tier_tree.specs.declared.registered.Registered.{Registered}
-use Rattle.tier_tree.specs.declared.registered.Registered.TheVariants as registered
 use Rattle.tier_tree.specs.Forest.{PhaserState, phaser_at, flat_at, with_flat}
+use Rattle.tier_tree.specs.declared.registered.Registered.TheVariants as registered
 
 -- this many parties join the phaser of this number
 pub record Join : Type 0 where

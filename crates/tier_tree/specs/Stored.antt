@@ -1,11 +1,8 @@
 -- How a forest is stored: the word of a child may be that of an earlier phase.
 use Rattle.std.specs.Prelude.{◌≡◌, ◌≢◌, ℕ, ◌+◌, ◌-◌, ◌<◌, ◌≤◌, ◌==◌, nat_le, false, if◌then◌else◌, List, [], length, map, slice_index_or, All}
-use Rattle.packed_phaser.specs.declared.policy.Policy.{Policy}
+use Rattle.packed_phaser.specs.{declared.policy.Policy.Policy, Flat.Flat, Flat.renew, Flat.force, Word.record_of}
 use Rattle.packed_phaser.specs.declared.policy.Policy.TheVariants as policy
-use Rattle.packed_phaser.specs.Flat.{Flat, renew, force}
-use Rattle.packed_phaser.specs.Word.{record_of}
-use Rattle.tier_tree.specs.Forest.{PhaserState}
-use Rattle.tier_tree.specs.Sound.{Place, IsForest}
+use Rattle.tier_tree.specs.{Forest.PhaserState, Sound.Place, Sound.IsForest}
 
 -- one phaser: its line and its policy; its word, as its last change left it; and, of a root, how
 -- many phases of its tree have ended

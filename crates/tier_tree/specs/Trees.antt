@@ -1,9 +1,7 @@
 -- What a caller may carry of the phasers that a forest shows, from call to call. No promise depends on it.
 use Rattle.std.specs.Prelude.{ℕ, ◌≤◌, ◌||◌, Bool, List}
 use Rattle.packed_phaser.specs.Flat.{Flat}
-use Rattle.tier_tree.specs.Forest.{PhaserState, phaser_at}
-use Rattle.tier_tree.specs.Origin.{Origin, AreTallied}
-use Rattle.tier_tree.specs.Sound.{IsForest}
+use Rattle.tier_tree.specs.{Forest.PhaserState, Forest.phaser_at, Origin.Origin, Origin.AreTallied, Sound.IsForest}
 
 -- a phaser whose phase is about to end, or that is terminated: no arrival is its last
 abbrev pub is_pending : Flat → Bool

@@ -1,11 +1,7 @@
 //! How an arrival climbs: a child whose parties have all arrived arrives at its parent, and so on up to the root.
 ghost use Rattle.std.specs.Prelude.{◌≡◌, ◌<◌, ◌≤◌, length, take, All, true, false};
-ghost use Rattle.packed_phaser.specs.Answer.{arrival_of};
-ghost use Rattle.packed_phaser.specs.Flat.{arrive};
-ghost use Rattle.packed_phaser.specs.Word.{record_of};
-ghost use Rattle.tier_tree.specs.Answer.{DoesntArrive};
-ghost use Rattle.tier_tree.specs.Arrival.{climbed, arrival};
-ghost use Rattle.tier_tree.specs.Ascent.{IsOfPhase, written};
+ghost use Rattle.packed_phaser.specs.{Answer.arrival_of, Flat.arrive, Word.record_of};
+ghost use Rattle.tier_tree.specs.{Answer.DoesntArrive, Arrival.climbed, Arrival.arrival, Ascent.IsOfPhase, Ascent.written};
 ghost use Rattle.tier_tree.specs.Forest.{flat_at, root_at};
 ghost use Rattle.tier_tree.specs.Stored.{IsStored, ChangedOnly, ChangedAt, stored_at, phasers_of};
 

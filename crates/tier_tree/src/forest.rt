@@ -1,11 +1,8 @@
 //! A forest and its calls. What they change is in `join`, `climb` and `phase_end`.
 ghost use Rattle.std.specs.Prelude.{◌≡◌, ℕ, ◌<◌, List, [], length, true, false, IfOk};
 ghost use Rattle.tier_tree.specs.Answer.{DoesntJoin, DoesntArrive, IfTurning, MakesPending, KeepsPlaces, KeepsEnds, HaveOnePhase};
-ghost use Rattle.tier_tree.specs.Arrival.{arrival};
-ghost use Rattle.tier_tree.specs.Call.{IsCall};
-ghost use Rattle.tier_tree.specs.Declaration.{AreAllFresh};
+ghost use Rattle.tier_tree.specs.{Arrival.arrival, Call.IsCall, Declaration.AreAllFresh, Law.NobodyComesBetween};
 ghost use Rattle.tier_tree.specs.Forest.{phaser_at, flat_at, root_at};
-ghost use Rattle.tier_tree.specs.Law.{NobodyComesBetween};
 ghost use Rattle.tier_tree.specs.Origin.{Origin, AreTallied, HaveAllArrived, origin_after_registration, origin_after_arrival, origin_after_phase_end};
 ghost use Rattle.tier_tree.specs.PhaseEnd.{most_ends, after_phase_end, after_force};
 ghost use Rattle.tier_tree.specs.Registration.{registration, after_registration};

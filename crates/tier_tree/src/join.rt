@@ -1,11 +1,9 @@
 //! How parties register with a phaser. If it was empty, it registers one party with its parent, and so on up.
 ghost use Rattle.std.specs.Prelude.{◌≡◌, ◌+◌, ◌<◌, [], ◌∷◌, length, All, nat_lt};
 ghost use Rattle.std.specs.List.{list_any};
-ghost use Rattle.packed_phaser.specs.Flat.{register};
-ghost use Rattle.packed_phaser.specs.Word.{record_of};
-ghost use Rattle.tier_tree.specs.Forest.{flat_at, with_flat};
+ghost use Rattle.packed_phaser.specs.{Flat.register, Word.record_of};
+ghost use Rattle.tier_tree.specs.{Forest.flat_at, Forest.with_flat, Answer.DoesntJoin};
 ghost use Rattle.tier_tree.specs.Registration.{joins_along, is_overfull, is_turned, joined, flat_by, registration, after_registration};
-ghost use Rattle.tier_tree.specs.Answer.{DoesntJoin};
 ghost use Rattle.tier_tree.specs.Stored.{IsStored, ChangedOnly, ChangedAt, phasers_of};
 
 use crate::node::Node;

@@ -1,6 +1,5 @@
 ghost use Rattle.std.specs.Prelude.{◌≡◌, ◌+◌, ◌<◌, ◌≤◌, ◌^◌};
-ghost use Rattle.tier_tree.specs.Stored.{top_of};
-ghost use Rattle.tier_tree.specs.Undo.{kept_by};
+ghost use Rattle.tier_tree.specs.{Stored.top_of, Undo.kept_by};
 
 use crate::line::Line;
 use crate::saved::KeptWord;

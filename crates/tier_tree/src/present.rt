@@ -1,7 +1,6 @@
 //! What the stored words say at present. A child's word lags after the phase has ended, or its root was terminated.
 ghost use Rattle.std.specs.Prelude.{◌≡◌, ◌<◌, [], ◌∷◌, length, false, All, slice_index_or};
-ghost use Rattle.packed_phaser.specs.Flat.{view_of};
-ghost use Rattle.packed_phaser.specs.Word.{record_of};
+ghost use Rattle.packed_phaser.specs.{Flat.view_of, Word.record_of};
 ghost use Rattle.tier_tree.specs.Forest.{phaser_at, flat_at, root_at, with_flat};
 ghost use Rattle.tier_tree.specs.Stored.{IsStored, ChangedOnly, present, stored_at, phasers_of};
 

@@ -1,26 +1,19 @@
 -- The choices of the trace of a schedule.
-use Rattle.std.proofs.Common.{◌≡◌, ◌∙◌, ◌+◌, ◌≤◌, ℕ, Bool, true, false, List, [], ◌∷◌, ◌++◌, length, cond, Option, None, is_none, Ok, refl, ap, sym, arith, append_assoc, All}
-use Rattle.std.specs.List.{slice_split}
-use Rattle.std.proofs.lemmas.Bool.{le-ltb}
+use Rattle.std.proofs.Common.{◌≡◌, ◌∙◌, ◌+◌, ◌≤◌, ℕ, Bool, true, false, List, [], ◌∷◌, ◌++◌, length, cond, Option, None, is_none, Ok, refl, ap, sym, arith, append_assoc, All, le-ltb}
 use Rattle.std.proofs.lemmas.List.Elements.{All-head, All-tail}
+use Rattle.std.specs.List.{slice_split}
 use Rattle.line_reader.specs.Words.{is_line_end}
-use Rattle.thread_machine.specs.declared.choice.Choice.{Choice}
-use Rattle.thread_machine.specs.declared.fault.StepFault.{StepFault}
-use Rattle.thread_machine.specs.World.{World}
-use Rattle.thread_machine.specs.Step.{refusal_of}
-use Rattle.thread_machine.specs.Execution.{execution, execution_by}
-use Rattle.trace_text.specs.Reading.{choice_in, is_too_long}
-use Rattle.trace_text.specs.State.{state_text}
+use Rattle.thread_machine.specs.{declared.choice.Choice.Choice, declared.fault.StepFault.StepFault, World.World}
+use Rattle.thread_machine.specs.{Step.refusal_of, Execution.execution, Execution.execution_by}
+use Rattle.trace_text.specs.{Reading.choice_in, Reading.is_too_long, State.state_text}
 use Rattle.trace_text.specs.Trace.{lines_by, lines_of, trace_of}
-use Rattle.trace_text.proofs.Naming.{IsOwnLine}
+use Rattle.trace_text.proofs.{Naming.IsOwnLine, StateLines.parts_text, StateLines.state-is_state, StateLines.state-line}
+use Rattle.trace_text.proofs.WholeLines.{split-line}
 use Rattle.trace_compare.proofs.OwnTrace.{IsNamed, after_by, counted, own-line}
 use Rattle.trace_compare.proofs.SameTrace.{after_choice, left_by}
-use Rattle.trace_text.proofs.StateLines.{parts_text, state-is_state, state-line}
-use Rattle.trace_text.proofs.WholeLines.{split-line}
-use Rattle.trace_compare.specs.declared.line_names.LineNames.{LineNames}
-use Rattle.trace_compare.specs.declared.line_names.LineNames.TheVariants as names
+use Rattle.trace_compare.specs.{declared.line_names.LineNames.LineNames, Shown.behind, Shown.shown}
 use Rattle.trace_compare.specs.Naming.{Naming, behind_choices, choices_named, ended, named, naming_by, naming_from}
-use Rattle.trace_compare.specs.Shown.{behind, shown}
+use Rattle.trace_compare.specs.declared.line_names.LineNames.TheVariants as names
 
 -- choices, and a state behind them
 abbrev whole : List Choice → Naming

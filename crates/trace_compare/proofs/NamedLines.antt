@@ -1,25 +1,20 @@
 -- What a trace names, line after line.
-use Rattle.std.proofs.Common.{◌≡◌, ◌∙◌, ◌⊎◌, inl, inr, ◌+◌, ◌<◌, ◌≤◌, ◌==◌, ◌≢◌, ℕ, true, false, List, [], ◌∷◌, ◌++◌, length, Some, None, Ok, refl, ap, sym, subst, arith, append_assoc, length-append}
-use Rattle.std.specs.Prelude.{Option, Result}
-use Rattle.std.specs.Io.KnownBytes.{Consumes, prepend_known}
-use Rattle.std.specs.List.{slice_split, onto_first}
+use Rattle.std.proofs.Common.{◌≡◌, ◌∙◌, ◌⊎◌, inl, inr, ◌+◌, ◌<◌, ◌≤◌, ◌==◌, ◌≢◌, ℕ, true, false, List, [], ◌∷◌, ◌++◌, length, Some, None, Ok, refl, ap, sym, subst, arith, append_assoc, length-append, Option, Result, lt-ltb}
 use Rattle.std.proofs.KnownBytes.{Consumes-trans, prepend_known-nil}
-use Rattle.std.proofs.lemmas.Bool.{lt-ltb}
 use Rattle.std.proofs.lemmas.List.Elements.{All-head, All-tail}
 use Rattle.std.proofs.lemmas.List.Splits.{slice_split_at, slice_split_none, slice_split-cons_no, length-slice_split}
+use Rattle.std.specs.{Io.KnownBytes.Consumes, Io.KnownBytes.prepend_known, List.slice_split, List.onto_first}
 use Rattle.line_reader.specs.Words.{is_line_end}
 use Rattle.byte_ports.specs.SourceLines.{Gave, HasCome, IsOneLine, Lines, taken}
 use Rattle.byte_ports.specs.declared.source_lines.LineEnded.{LineEnded}
 use Rattle.byte_ports.specs.declared.source_lines.LineEnded.TheVariants as how
 use Rattle.thread_machine.specs.declared.choice.Choice.{Choice}
-use Rattle.trace_text.specs.Reading.{is_too_long}
-use Rattle.trace_text.specs.RunText.{GivesOnAndOn}
-use Rattle.trace_compare.specs.declared.line_names.LineNames.{LineNames}
-use Rattle.trace_compare.specs.declared.line_names.LineNames.TheVariants as names
-use Rattle.trace_compare.specs.declared.naming.NextName.{NextName}
-use Rattle.trace_compare.specs.declared.naming.NextName.TheVariants as next
+use Rattle.trace_text.specs.{Reading.is_too_long, RunText.GivesOnAndOn}
+use Rattle.trace_compare.specs.declared.{line_names.LineNames.LineNames, naming.NextName.NextName}
 use Rattle.trace_compare.specs.NamedLines.{HasEnded, HasGone, HasTaken, NamesFrom, last_naming, next_by, none_read}
 use Rattle.trace_compare.specs.Naming.{HasNamed, HasRead, Naming, Names, behind_choices, choices_or_line, ended, line_names, naming_by, naming_from, naming_of}
+use Rattle.trace_compare.specs.declared.line_names.LineNames.TheVariants as names
+use Rattle.trace_compare.specs.declared.naming.NextName.TheVariants as next
 
 -- ---- one line
 

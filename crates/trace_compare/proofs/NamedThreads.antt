@@ -1,9 +1,8 @@
 -- A schedule names threads from 0 to 63.
 use Rattle.std.proofs.Common.{◌≡◌, ◌+◌, ◌≤◌, ℕ, true, List, [], ◌∷◌, length, replicate, All, Option, subst, arith}
-use Rattle.std.specs.List.{slice_split}
 use Rattle.std.proofs.lemmas.List.Elements.{All-append, All-head, All-nil, All-replicate, All-tail}
-use Rattle.schedule_reader.specs.declared.fault.ScheduleFault.{ScheduleFault}
-use Rattle.schedule_reader.specs.declared.run.Run.{Run}
+use Rattle.std.specs.List.{slice_split}
+use Rattle.schedule_reader.specs.declared.{fault.ScheduleFault.ScheduleFault, run.Run.Run}
 use Rattle.schedule_reader.specs.Schedule.{IsRun, Schedule, choices_of, finished_schedule, is_blank, schedule_in, schedule_with_piece}
 use Rattle.trace_compare.proofs.OwnTrace.{IsNamed}
 

@@ -3,23 +3,16 @@
 use Rattle.std.proofs.Common.{◌≡◌, ◌∙◌, ℕ, List, [], ◌∷◌, All, Option, None, refl, ap, append-nil, arith, sym}
 use Rattle.row_code.specs.declared.image.Image.{Image}
 use Rattle.tier_tree.specs.Stored.{Stored}
-use Rattle.schedule_reader.specs.declared.run.Run.{Run}
-use Rattle.schedule_reader.specs.Schedule.{IsRun, choices_of}
-use Rattle.thread_machine.specs.declared.choice.Choice.{Choice}
-use Rattle.thread_machine.specs.declared.fault.StepFault.{StepFault}
+use Rattle.schedule_reader.specs.{declared.run.Run.Run, Schedule.IsRun, Schedule.choices_of}
+use Rattle.thread_machine.specs.{declared.choice.Choice.Choice, declared.fault.StepFault.StepFault, Step.refusal_of}
 use Rattle.thread_machine.specs.World.{World, IsFirstOf, first_of}
-use Rattle.thread_machine.specs.Step.{refusal_of}
 use Rattle.thread_machine.specs.Execution.{Execution, execution, execution_by}
-use Rattle.trace_text.specs.Outcome.{EndsFrom}
-use Rattle.trace_text.specs.RunText.{AreTraced}
-use Rattle.trace_text.specs.Start.{Begins}
-use Rattle.trace_text.specs.Trace.{lines_by, lines_of, trace_of}
+use Rattle.trace_text.specs.{Outcome.EndsFrom, RunText.AreTraced, Start.Begins, Trace.lines_by, Trace.lines_of, Trace.trace_of}
 use Rattle.trace_text.specs.declared.run_end.RunEnd.{RunEnd}
 use Rattle.trace_compare.specs.declared.comparison.Verdict.TheVariants as verdict
 use Rattle.trace_compare.specs.Compare.{HasWrittenTheSame, IsFoundTheSame, verdict_of}
-use Rattle.trace_compare.proofs.NamedThreads.{named-runs, named-threads}
+use Rattle.trace_compare.proofs.{NamedThreads.named-runs, NamedThreads.named-threads, OwnTrace.IsNamed, OwnTrace.own-trace}
 use Rattle.trace_compare.proofs.OneVerdict.{as-stored, plays-same, played-world, refusal-same, state-same, stored}
-use Rattle.trace_compare.proofs.OwnTrace.{IsNamed, own-trace}
 
 -- the lines, and the world that is left
 lines-by : (phasers : List Stored) (refusal : Option StepFault) (world : World) (choice : Choice) (rest : World → List ℕ)

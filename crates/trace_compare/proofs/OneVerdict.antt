@@ -3,12 +3,10 @@ use Rattle.std.proofs.Common.{◌≡◌, ◌&&◌, ◌++◌, not, codes, decimal
 use Rattle.row_code.specs.declared.image.Image.{Image}
 use Rattle.tier_tree.specs.Stored.{Stored}
 use Rattle.machine_scene.specs.Scene.{Outcome}
-use Rattle.thread_machine.specs.declared.choice.Choice.{Choice}
-use Rattle.thread_machine.specs.World.{World, IsFirstOf, first_of}
-use Rattle.thread_machine.specs.Standing.{name_of}
-use Rattle.thread_machine.specs.declared.standing.Standing.TheVariants as standing
+use Rattle.thread_machine.specs.{declared.choice.Choice.Choice, World.World, World.IsFirstOf, World.first_of, Standing.name_of}
 use Rattle.thread_machine.specs.Ready.{all_finished, has_ended, outcome_of_choice}
 use Rattle.thread_machine.specs.Step.{played, played_by, refusal_of}
+use Rattle.thread_machine.specs.declared.standing.Standing.TheVariants as standing
 use Rattle.trace_text.specs.State.{state_text}
 use Rattle.trace_text.proofs.StateLines.{parts_text}
 use Rattle.trace_compare.proofs.StoredOtherwise.{outcome-same, some_ready-same, stored_in}

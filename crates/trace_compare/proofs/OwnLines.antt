@@ -1,31 +1,21 @@
 -- The run's own lines at the beginning of bytes of a trace, and another line there that names a choice.
-use Rattle.std.proofs.Common.{◌≡◌, ◌≢◌, ◌∙◌, ◌+◌, ◌<◌, ◌≤◌, ◌^◌, ◌&&◌, ◌⊎◌, ℕ, true, false, zero, suc, List, [], ◌∷◌, ◌++◌, length, drop, take, cond, Some, refl, ap, sym, subst, arith, append_assoc, append-nil, length-append, length-drop, take-append-drop, inl, inr, decimal}
-use Rattle.std.specs.List.{join_with_byte, slice_split}
-use Rattle.std.specs.Str.{bytes_eq}
-use Rattle.std.proofs.lemmas.Bool.{false_from_ne_true}
-use Rattle.std.proofs.Math.Seq.{take-add, take-append_seam}
-use Rattle.std.proofs.lemmas.List.{drop-drop, take-append-le}
-use Rattle.std.proofs.lemmas.List.Elements.{All-head, All-tail}
-use Rattle.std.proofs.lemmas.List.Splits.{join_with_byte-slice_split, length-slice_split}
-use Rattle.std.proofs.lemmas.List.Sums.{sum_by-append, sum_by-cons}
-use Rattle.std.proofs.lemmas.Slice.Eq.{bytes_eq-Decides}
+use Rattle.std.proofs.Common.{◌≡◌, ◌≢◌, ◌∙◌, ◌+◌, ◌<◌, ◌≤◌, ◌^◌, ◌&&◌, ◌⊎◌, ℕ, true, false, zero, suc, List, [], ◌∷◌, ◌++◌, length, drop, take, cond, Some, refl, ap, sym, subst, arith, append_assoc, append-nil, length-append, length-drop, take-append-drop, inl, inr, decimal, drop-drop}
+use Rattle.std.proofs.{lemmas.Bool.false_from_ne_true, Math.Seq.take-add, Math.Seq.take-append_seam, lemmas.List.take-append-le}
+use Rattle.std.proofs.lemmas.List.{Elements.All-head, Elements.All-tail, Sums.sum_by-append, Sums.sum_by-cons}
+use Rattle.std.proofs.lemmas.{List.Splits.join_with_byte-slice_split, List.Splits.length-slice_split, Slice.Eq.bytes_eq-Decides}
+use Rattle.std.specs.{List.join_with_byte, List.slice_split, Str.bytes_eq}
 use Rattle.byte_ports.specs.SourceLines.{IsOneLine}
 use Rattle.line_reader.specs.Words.{is_line_end}
-use Rattle.thread_machine.specs.declared.choice.Choice.{Choice}
-use Rattle.thread_machine.specs.Step.{played}
-use Rattle.thread_machine.specs.World.{world_of}
+use Rattle.thread_machine.specs.{declared.choice.Choice.Choice, Step.played, World.world_of}
 use Rattle.trace_compare.specs.declared.comparison.Comparison.{Comparison}
-use Rattle.trace_text.specs.Reading.{choice_in, is_state_line, NamesBehind}
 use Rattle.trace_compare.specs.Compare.{choices_in, line_at, lines_verdict, otherwise}
 use Rattle.trace_compare.specs.Comparing.{GoesOver, IsReading, bytes_left, line_ends, line_played, lines_left, told_left}
-use Rattle.trace_text.specs.Lines.{choice_text}
+use Rattle.trace_text.specs.{Reading.choice_in, Reading.is_state_line, Reading.NamesBehind, Lines.choice_text}
 use Rattle.trace_text.specs.Trace.{Plays, lines_of}
-use Rattle.trace_text.proofs.Naming.{choice-part, line-no_state, line_names}
-use Rattle.trace_compare.proofs.NamedLines.{begun-line, whole-line}
+use Rattle.trace_text.proofs.{Naming.choice-part, Naming.line-no_state, Naming.line_names, WholeLines.no_end}
+use Rattle.trace_compare.proofs.{NamedLines.begun-line, NamedLines.whole-line, OwnTrace.own-line}
 use Rattle.trace_compare.proofs.RunLines.{first-own, meets-choice, text-choice, text-missed, told-alike, told-met}
-use Rattle.trace_compare.proofs.OwnTrace.{own-line}
 use Rattle.trace_compare.proofs.Verdicts.{choice-other, choice-same, left-lines, lines-choice}
-use Rattle.trace_text.proofs.WholeLines.{no_end}
 
 -- ---- how many lines end in bytes
 

@@ -1,29 +1,20 @@
 -- The trace of any choices has the verdict `Same`.
 use Rattle.std.proofs.Common.{◌≡◌, ◌∙◌, ◌+◌, ◌<◌, ◌≤◌, ℕ, Bool, true, false, List, [], ◌∷◌, ◌++◌, length, cond, Option, Some, None, is_none, refl, ap, sym, arith, append_assoc, append-nil, All}
-use Rattle.std.proofs.lemmas.Bool.{eqb-false}
-use Rattle.std.proofs.lemmas.List.Elements.{All-head, All-tail}
-use Rattle.std.proofs.lemmas.Slice.Eq.{bytes_eq-Decides}
+use Rattle.std.proofs.lemmas.{Bool.eqb-false, List.Elements.All-head, List.Elements.All-tail, Slice.Eq.bytes_eq-Decides}
 use Rattle.std.specs.List.{slice_split}
 use Rattle.line_reader.specs.Words.{is_line_end}
 use Rattle.machine_scene.specs.Scene.{thread_at}
-use Rattle.thread_machine.specs.declared.choice.Choice.{Choice}
-use Rattle.thread_machine.specs.declared.fault.StepFault.{StepFault}
+use Rattle.thread_machine.specs.{declared.choice.Choice.Choice, declared.fault.StepFault.StepFault, World.World, Step.played}
 use Rattle.thread_machine.specs.declared.fault.StepFault.TheVariants.{NoSuchThread, StepLimit}
-use Rattle.thread_machine.specs.World.{World}
-use Rattle.thread_machine.specs.Step.{played}
 use Rattle.thread_machine.specs.Execution.{execution, execution_by}
 use Rattle.trace_compare.specs.declared.comparison.Verdict.TheVariants as verdict
-use Rattle.trace_text.specs.Brief.{IsBrief}
-use Rattle.trace_compare.specs.Compare.{lines_verdict, state_verdict}
-use Rattle.trace_text.specs.Reading.{is_state_line}
-use Rattle.trace_text.specs.State.{state_text}
+use Rattle.trace_text.specs.{Brief.IsBrief, Reading.is_state_line, State.state_text}
 use Rattle.trace_text.specs.Trace.{lines_by, lines_of, trace_of}
-use Rattle.trace_text.proofs.Plays.{played-choices}
-use Rattle.trace_text.proofs.Naming.{IsOwnLine, event-own, refusal-own}
-use Rattle.trace_compare.proofs.SameTrace.{after_choice, left_by}
+use Rattle.trace_compare.specs.Compare.{lines_verdict, state_verdict}
+use Rattle.trace_text.proofs.{Plays.played-choices, Naming.IsOwnLine, Naming.event-own, Naming.refusal-own}
 use Rattle.trace_text.proofs.StateLines.{parts_text, state-is_state, state-line, state-whole}
-use Rattle.trace_compare.proofs.Verdicts.{state-same}
 use Rattle.trace_text.proofs.WholeLines.{AllWithin, IsWhole, after_line-is, first_line-is, split-line, whole}
+use Rattle.trace_compare.proofs.{SameTrace.after_choice, SameTrace.left_by, Verdicts.state-same}
 
 -- a thread that a line may name
 abbrev pub IsNamed : Choice → Type 0

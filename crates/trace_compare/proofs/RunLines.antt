@@ -1,30 +1,21 @@
 -- The run's line beside a verdict.
-use Rattle.std.proofs.Common.{◌≡◌, ◌∙◌, ◌↔◌, ◌+◌, ◌-◌, ◌<◌, ◌≤◌, ℕ, suc, Bool, true, false, List, [], ◌∷◌, ◌++◌, length, take, drop, cond, Option, Some, None, IsTrue, is_none, refl, ap, sym, arith, append_assoc, append-nil, length-append, nat_le, take-append-drop, rules}
-use Rattle.std.specs.List.{position_or_len}
-use Rattle.std.specs.Str.{bytes_eq}
-use Rattle.std.proofs.lemmas.List.Elements.{All-head, All-tail}
+use Rattle.std.proofs.Common.{◌≡◌, ◌∙◌, ◌↔◌, ◌+◌, ◌-◌, ◌<◌, ◌≤◌, ℕ, suc, Bool, true, false, List, [], ◌∷◌, ◌++◌, length, take, drop, cond, Option, Some, None, IsTrue, is_none, refl, ap, sym, arith, append_assoc, append-nil, length-append, nat_le, take-append-drop, rules, drop-drop}
+use Rattle.std.proofs.lemmas.{List.Elements.All-head, List.Elements.All-tail, Slice.Eq.bytes_eq-Decides}
 use Rattle.std.proofs.Math.Seq.{drop-append_seam, take-append_seam}
-use Rattle.std.proofs.lemmas.List.{drop-drop}
-use Rattle.std.proofs.lemmas.Slice.Eq.{bytes_eq-Decides}
+use Rattle.std.specs.{List.position_or_len, Str.bytes_eq}
 use Rattle.byte_ports.specs.SourceLines.{IsOneLine}
 use Rattle.line_reader.specs.Words.{is_line_end}
 use Rattle.machine_scene.specs.Scene.{thread_at}
-use Rattle.thread_machine.specs.declared.choice.Choice.{Choice}
-use Rattle.thread_machine.specs.declared.fault.StepFault.{StepFault}
+use Rattle.thread_machine.specs.{declared.choice.Choice.Choice, declared.fault.StepFault.StepFault, Execution.execution}
 use Rattle.thread_machine.specs.declared.fault.StepFault.TheVariants.{NoSuchThread, StepLimit}
-use Rattle.thread_machine.specs.Execution.{execution}
-use Rattle.thread_machine.specs.Step.{is_used_up}
-use Rattle.thread_machine.specs.World.{World, world_of}
-use Rattle.trace_compare.specs.declared.comparison.Comparison.{Comparison}
-use Rattle.trace_compare.specs.declared.comparison.Verdict.{Verdict}
-use Rattle.trace_compare.specs.declared.comparison.Verdict.TheVariants as verdict
+use Rattle.thread_machine.specs.{Step.is_used_up, World.World, World.world_of}
+use Rattle.trace_compare.specs.declared.comparison.{Comparison.Comparison, Verdict.Verdict}
 use Rattle.trace_compare.specs.Compare.{choice_verdict, choices_in, line_at, line_by, lines_verdict, otherwise, state_verdict}
 use Rattle.trace_compare.specs.Comparing.{HasEndedBehind, MeetsText, lines_left, line_kept, text_left, told_by, told_left}
+use Rattle.trace_compare.specs.declared.comparison.Verdict.TheVariants as verdict
 use Rattle.trace_text.specs.Reading.{after_line, choice_in, first_line, is_state_line, is_too_long}
-use Rattle.trace_text.specs.State.{state_text}
-use Rattle.trace_text.specs.Trace.{Plays, lines_by, lines_of, trace_of}
-use Rattle.trace_text.proofs.Naming.{event-one, refusal-one}
-use Rattle.trace_text.proofs.WholeLines.{IsLine, no_end}
+use Rattle.trace_text.specs.{State.state_text, Trace.Plays, Trace.lines_by, Trace.lines_of, Trace.trace_of}
+use Rattle.trace_text.proofs.{Naming.event-one, Naming.refusal-one, WholeLines.IsLine, WholeLines.no_end}
 use Rattle.trace_compare.proofs.SameTrace.{after_choice, left_by}
 
 -- ---- a text's lines

@@ -1,21 +1,15 @@
 -- A trace with the verdict `Same` is the trace of the choices that it names.
-use Rattle.std.proofs.Common.{◌≡◌, ◌∙◌, ◌+◌, ◌<◌, ℕ, Bool, true, false, List, [], ◌∷◌, ◌++◌, length, cond, Option, is_none, refl, ap, sym, arith, append_assoc}
-use Rattle.std.proofs.lemmas.List.{take-append-drop}
-use Rattle.std.proofs.lemmas.List.Splits.{join_with_byte-slice_split}
-use Rattle.std.proofs.lemmas.Slice.Eq.{bytes_eq-Decides}
-use Rattle.std.specs.List.{slice_split, join_with_byte, position_or_len}
-use Rattle.std.specs.Str.{bytes_eq}
+use Rattle.std.proofs.Common.{◌≡◌, ◌∙◌, ◌+◌, ◌<◌, ℕ, Bool, true, false, List, [], ◌∷◌, ◌++◌, length, cond, Option, is_none, refl, ap, sym, arith, append_assoc, take-append-drop}
+use Rattle.std.proofs.lemmas.{List.Splits.join_with_byte-slice_split, Slice.Eq.bytes_eq-Decides}
+use Rattle.std.specs.{List.slice_split, List.join_with_byte, List.position_or_len, Str.bytes_eq}
 use Rattle.line_reader.specs.Words.{is_line_end}
-use Rattle.thread_machine.specs.declared.choice.Choice.{Choice}
-use Rattle.thread_machine.specs.declared.fault.StepFault.{StepFault}
-use Rattle.thread_machine.specs.World.{World}
+use Rattle.thread_machine.specs.{declared.choice.Choice.Choice, declared.fault.StepFault.StepFault, World.World}
 use Rattle.thread_machine.specs.Execution.{execution}
 use Rattle.trace_compare.specs.declared.comparison.Verdict.{Verdict}
+use Rattle.trace_compare.specs.Compare.{choice_verdict, choices_in, choices_of_trace, lines_verdict, otherwise, state_verdict, verdict_of, with_choice}
 use Rattle.trace_compare.specs.declared.comparison.Verdict.TheVariants as verdict
 use Rattle.trace_text.specs.Reading.{after_line, choice_in, first_line, is_state_line, is_too_long}
-use Rattle.trace_compare.specs.Compare.{choice_verdict, choices_in, choices_of_trace, lines_verdict, otherwise, state_verdict, verdict_of, with_choice}
-use Rattle.trace_text.specs.State.{state_text}
-use Rattle.trace_text.specs.Trace.{lines_of, trace_of}
+use Rattle.trace_text.specs.{State.state_text, Trace.lines_of, Trace.trace_of}
 use Rattle.trace_text.proofs.Plays.{goes_on, stops}
 
 abbrev joined : List (List ℕ) → List ℕ

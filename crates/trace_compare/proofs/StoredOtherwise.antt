@@ -4,10 +4,8 @@ use Rattle.instruction_table.specs.declared.row.Row.{Row}
 use Rattle.tier_tree.specs.Stored.{Stored}
 use Rattle.loader.specs.Program.{Program}
 use Rattle.thread_state.specs.declared.status.Status.{Status}
-use Rattle.machine_scene.specs.Scene.{Scene}
-use Rattle.machine_scene.specs.Outcomes.{outcome_in}
-use Rattle.thread_machine.specs.declared.choice.Choice.{Choice}
-use Rattle.thread_machine.specs.Ready.{outcome_of_choice, some_ready}
+use Rattle.machine_scene.specs.{Scene.Scene, Outcomes.outcome_in}
+use Rattle.thread_machine.specs.{declared.choice.Choice.Choice, Ready.outcome_of_choice, Ready.some_ready}
 
 -- a program whose phasers are stored otherwise
 abbrev pub stored_in : List Stored → Program → Program

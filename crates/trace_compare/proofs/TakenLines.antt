@@ -1,17 +1,14 @@
 -- A comparison behind the lines of a trace that were taken.
 use Rattle.std.proofs.Common.{◌≡◌, ◌≢◌, ◌∙◌, ◌+◌, ◌≤◌, ◌⊎◌, ℕ, List, [], ◌∷◌, ◌++◌, length, drop, take, Option, Some, None, Ok, refl, ap, sym, subst, arith, append_assoc, append-nil, length-append, take-append-drop, inl, inr}
-use Rattle.std.specs.Io.KnownBytes.{Consumes, IsAtEnd, prepend_known}
 use Rattle.std.proofs.KnownBytes.{Consumes-nil, Consumes-trans, prepend_known-nil}
+use Rattle.std.specs.Io.KnownBytes.{Consumes, IsAtEnd, prepend_known}
 use Rattle.byte_ports.specs.SourceLines.{EndsInAPiece, Gave, HasCome, IsOneLine, Lines, taken}
 use Rattle.byte_ports.specs.declared.source_lines.LineEnded.{LineEnded}
 use Rattle.byte_ports.specs.declared.source_lines.LineEnded.TheVariants as how
-use Rattle.trace_compare.specs.declared.comparison.Comparison.{Comparison}
-use Rattle.trace_compare.specs.declared.comparison.Verdict.{Verdict}
-use Rattle.trace_compare.specs.Compare.{IsReadNoFurther, IsReadUpTo}
+use Rattle.trace_compare.specs.declared.comparison.{Comparison.Comparison, Verdict.Verdict}
+use Rattle.trace_compare.specs.{Compare.IsReadNoFurther, Compare.IsReadUpTo, NamedLines.none_read}
 use Rattle.trace_compare.specs.Comparing.{GoesOver, HasComeTo, HasJudged, HasLeft, bytes_left, told_by}
-use Rattle.trace_compare.specs.NamedLines.{none_read}
-use Rattle.trace_compare.proofs.NamedLines.{unread}
-use Rattle.trace_compare.proofs.OwnLines.{ends-append, ends-behind, ends-line}
+use Rattle.trace_compare.proofs.{NamedLines.unread, OwnLines.ends-append, OwnLines.ends-behind, OwnLines.ends-line}
 
 read-more : (n m : ℕ) (a b : Option (List ℕ)) → n ≤ m → IsReadUpTo n a b → IsReadUpTo m a b
 read-more n m a b few (front, (piece, (gone, size, before))) = (front, (piece, (gone, size, omega (arith, few, before))))

@@ -1,33 +1,23 @@
 -- The verdict on lines that are the run's.
-use Rattle.std.proofs.Common.{◌≡◌, ◌∙◌, ◌+◌, ◌<◌, ◌≤◌, ◌&&◌, ◌⊎◌, ℕ, Bool, true, false, List, [], ◌∷◌, ◌++◌, length, drop, Option, Some, None, ◌==◌, zero, suc, refl, ap, sym, arith, cond, take, min, length-append, take-append-drop, subst}
-use Rattle.std.specs.Prelude.{Result, Ok, Err, IfOk}
-use Rattle.trace_compare.specs.declared.comparison.Comparison.{Comparison}
-use Rattle.trace_compare.specs.Comparing.{HasCounted, HasJudged, HasLeft, IsOpen, MeetsText, StandsFrom, bytes_left, decided, lines_left, text_left, told_by, told_left}
-use Rattle.std.proofs.Math.Seq.{drop-append_seam, take-append_seam}
-use Rattle.std.proofs.lemmas.Bool.{and_from, and_parts, cases_lt, lt-ltb, false_from_ne_true}
+use Rattle.std.proofs.Common.{◌≡◌, ◌∙◌, ◌+◌, ◌<◌, ◌≤◌, ◌&&◌, ◌⊎◌, ℕ, Bool, true, false, List, [], ◌∷◌, ◌++◌, length, drop, Option, Some, None, ◌==◌, zero, suc, refl, ap, sym, arith, cond, take, min, length-append, take-append-drop, subst, Result, Ok, Err, IfOk, lt-ltb, length-take, take_all, drop-drop}
+use Rattle.std.proofs.{Math.Seq.drop-append_seam, Math.Seq.take-append_seam, lemmas.List.drop_all}
+use Rattle.std.proofs.lemmas.{Bool.and_from, Bool.and_parts, Bool.cases_lt, Bool.false_from_ne_true, Slice.Eq.bytes_eq-Decides}
 use Rattle.std.proofs.lemmas.List.Splits.{slice_split_none, length-slice_split}
-use Rattle.std.proofs.lemmas.List.{drop_all, length-take, take_all, drop-drop}
-use Rattle.std.specs.List.{position_or_len, slice_split}
-use Rattle.std.specs.Str.{bytes_eq}
-use Rattle.std.proofs.lemmas.Slice.Eq.{bytes_eq-Decides}
-use Rattle.std.specs.Io.KnownBytes.{Consumes}
+use Rattle.trace_compare.specs.declared.comparison.{Comparison.Comparison, Verdict.Verdict}
+use Rattle.trace_compare.specs.Comparing.{HasCounted, HasJudged, HasLeft, IsOpen, MeetsText, StandsFrom, bytes_left, decided, lines_left, text_left, told_by, told_left}
+use Rattle.trace_compare.specs.Compare.{HasCompared, HasShown, HasTold, IsReadNoFurther, Told, choice_verdict, line_by, lines_verdict, otherwise, state_verdict, told_of}
+use Rattle.std.specs.{List.position_or_len, List.slice_split, Str.bytes_eq, Io.KnownBytes.Consumes}
 use Rattle.byte_ports.specs.SourceLines.{IsOneLine}
 use Rattle.byte_ports.specs.declared.source_lines.LineEnded.TheVariants as how
 use Rattle.row_code.specs.declared.image.Image.{Image}
-use Rattle.trace_text.specs.Start.{Begins}
-use Rattle.line_reader.specs.Words.{is_line_end}
-use Rattle.thread_machine.specs.declared.choice.Choice.{Choice}
-use Rattle.thread_machine.specs.World.{StoredWorld, World, world_of}
-use Rattle.trace_compare.specs.declared.comparison.Verdict.{Verdict}
-use Rattle.trace_compare.specs.declared.comparison.Verdict.TheVariants as verdict
-use Rattle.trace_compare.specs.Compare.{HasCompared, HasShown, HasTold, IsReadNoFurther, Told, choice_verdict, line_by, lines_verdict, otherwise, state_verdict, told_of}
+use Rattle.trace_text.specs.{Start.Begins, State.state_text, Trace.Plays, Trace.lines_of}
 use Rattle.trace_text.specs.Reading.{HasNoLongLine, first_line, after_line, is_state_line, choice_in}
-use Rattle.trace_text.specs.State.{state_text}
-use Rattle.trace_text.specs.Trace.{Plays, lines_of}
+use Rattle.line_reader.specs.Words.{is_line_end}
+use Rattle.thread_machine.specs.{declared.choice.Choice.Choice, World.StoredWorld, World.World, World.world_of}
+use Rattle.trace_compare.specs.declared.comparison.Verdict.TheVariants as verdict
 use Rattle.trace_compare.proofs.NamedLines.{begun-line, whole-line}
 use Rattle.trace_compare.proofs.RunLines.{none_by, one-line, told-met, told-other}
-use Rattle.trace_text.proofs.StateLines.{parts_text, state-line}
-use Rattle.trace_text.proofs.WholeLines.{first-is}
+use Rattle.trace_text.proofs.{StateLines.parts_text, StateLines.state-line, WholeLines.first-is}
 
 same_bytes : (xs ys : List ℕ) → xs ≡ ys → bytes_eq xs ys ≡ true
 same_bytes xs ys same = (bytes_eq-Decides xs ys).1 same

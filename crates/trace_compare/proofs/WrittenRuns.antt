@@ -1,16 +1,11 @@
 -- A schedule that is written as its choices come.
-use Rattle.std.proofs.Common.{◌≡◌, ◌∙◌, ◌+◌, ◌<◌, ◌≤◌, ℕ, Bool, List, [], ◌∷◌, ◌++◌, Some, None, refl, ap, sym, subst, append_assoc, append-nil, arith}
-use Rattle.std.specs.Prelude.{Option, Result, Ok, OnOk, IfOk, is_none, replicate}
-use Rattle.std.specs.List.{slice_split}
-use Rattle.line_reader.specs.Words.{is_line_end}
-use Rattle.std.specs.Io.KnownBytes.{Appends, Consumes, prepend_known}
+use Rattle.std.proofs.Common.{◌≡◌, ◌∙◌, ◌+◌, ◌<◌, ◌≤◌, ℕ, Bool, List, [], ◌∷◌, ◌++◌, Some, None, refl, ap, sym, subst, append_assoc, append-nil, arith, Option, Result, Ok, OnOk, IfOk, is_none, replicate}
 use Rattle.std.proofs.KnownBytes.{Appends-nil, Appends-trans, Consumes-trans, prepend_known-nil}
-use Rattle.std.proofs.lemmas.List.{replicate-append-replicate}
-use Rattle.std.proofs.lemmas.List.Elements.{All-append, All-cons, All-nil}
+use Rattle.std.proofs.lemmas.List.{replicate-append-replicate, Elements.All-append, Elements.All-cons, Elements.All-nil}
+use Rattle.std.specs.{List.slice_split, Io.KnownBytes.Appends, Io.KnownBytes.Consumes, Io.KnownBytes.prepend_known}
+use Rattle.line_reader.specs.Words.{is_line_end}
 use Rattle.byte_ports.specs.SourceLines.{Lines}
-use Rattle.schedule_reader.specs.declared.run.Run.{Run}
-use Rattle.schedule_reader.specs.Joined.{AreJoined}
-use Rattle.schedule_reader.specs.Schedule.{IsRun, choices_of, run_of}
+use Rattle.schedule_reader.specs.{declared.run.Run.Run, Joined.AreJoined, Schedule.IsRun, Schedule.choices_of, Schedule.run_of}
 use Rattle.schedule_reader.specs.Text.{schedule_text, token_of}
 use Rattle.schedule_reader.proofs.Runs.{spelled}
 use Rattle.thread_machine.specs.declared.choice.Choice.{Choice}

@@ -1,22 +1,16 @@
 -- The result of comparing a trace with the run that it names.
 use Rattle.std.specs.Prelude.{◌≡◌, ◌⊎◌, ℕ, ◌+◌, ◌-◌, ◌&&◌, ◌≤◌, ◌<◌, if◌then◌else◌, Bool, true, false, IsTrue, List, [], ◌∷◌, ◌++◌, length, Option, Some, None, Result, Ok, Err, is_none, zero, suc}
-use Rattle.std.specs.Io.KnownBytes.{Appends, Consumes, IsAtEnd}
+use Rattle.std.specs.{Io.KnownBytes.Appends, Io.KnownBytes.Consumes, Io.KnownBytes.IsAtEnd, Str.bytes_eq}
 use Rattle.std.specs.List.{before_first, count_by, slice_split}
-use Rattle.std.specs.Str.{bytes_eq}
 use Rattle.line_reader.specs.Words.{is_line_end}
 use Rattle.row_code.specs.declared.image.Image.{Image}
-use Rattle.thread_machine.specs.declared.choice.Choice.{Choice}
-use Rattle.thread_machine.specs.World.{World}
-use Rattle.thread_machine.specs.Execution.{execution}
+use Rattle.thread_machine.specs.{declared.choice.Choice.Choice, World.World, Execution.execution}
 use Rattle.loader.specs.Fault.{first_fault}
-use Rattle.trace_compare.specs.declared.comparison.CompareFault.{CompareFault}
+use Rattle.trace_compare.specs.declared.comparison.{CompareFault.CompareFault, Verdict.Verdict}
 use Rattle.trace_compare.specs.declared.comparison.CompareFault.TheVariants as fault
-use Rattle.trace_compare.specs.declared.comparison.Verdict.{Verdict}
 use Rattle.trace_compare.specs.declared.comparison.Verdict.TheVariants as verdict
 use Rattle.trace_text.specs.Reading.{after_line, choice_in, first_line, is_state_line, is_too_long}
-use Rattle.trace_text.specs.RunText.{GivesOnAndOn}
-use Rattle.trace_text.specs.Start.{Begins, IsRefused, is_want_of_memory}
-use Rattle.trace_text.specs.State.{state_text}
+use Rattle.trace_text.specs.{RunText.GivesOnAndOn, Start.Begins, Start.IsRefused, Start.is_want_of_memory, State.state_text}
 use Rattle.trace_text.specs.Trace.{lines_of, trace_of}
 
 -- the verdict on a line that isn't the run's own: only such a line is asked for its length

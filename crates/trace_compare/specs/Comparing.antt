@@ -1,20 +1,15 @@
 -- What the remaining lines lead to in a comparison. Only proofs use this, from line to line: no promise depends on it.
 use Rattle.std.specs.Prelude.{◌≡◌, ◌⊎◌, ◌==◌, [], ◌∷◌, ◌+◌, ◌-◌, ◌<◌, ◌≤◌, ◌++◌, ◌&&◌, ◌||◌, not, ℕ, Bool, false, true, List, decimal, drop, length, take, if◌then◌else◌, Option, Some, None}
-use Rattle.std.specs.Io.KnownBytes.{IsAtEnd}
-use Rattle.std.specs.List.{count_by, slice_split}
-use Rattle.byte_ports.specs.SourceLines.{Lines}
-use Rattle.byte_ports.specs.declared.source_lines.LineEnded.{LineEnded}
+use Rattle.std.specs.{Io.KnownBytes.IsAtEnd, List.count_by, List.slice_split}
+use Rattle.byte_ports.specs.{SourceLines.Lines, declared.source_lines.LineEnded.LineEnded}
 use Rattle.byte_ports.specs.declared.source_lines.LineEnded.TheVariants as how
 use Rattle.line_reader.specs.Words.{is_line_end}
 use Rattle.thread_machine.specs.World.{world_of}
-use Rattle.trace_compare.specs.declared.comparison.Comparison.{Comparison}
-use Rattle.trace_compare.specs.declared.comparison.Verdict.{Verdict}
-use Rattle.trace_compare.specs.declared.comparison.Verdict.TheVariants as verdict
-use Rattle.trace_text.specs.Reading.{is_state_line}
-use Rattle.trace_text.specs.State.{state_text}
-use Rattle.trace_text.specs.Trace.{trace_of}
+use Rattle.trace_compare.specs.declared.comparison.{Comparison.Comparison, Verdict.Verdict}
 use Rattle.trace_compare.specs.Compare.{IsReadUpTo, Told, choices_in, line_at, line_by, lines_verdict, state_verdict}
 use Rattle.trace_compare.specs.NamedLines.{HasGone, none_read}
+use Rattle.trace_compare.specs.declared.comparison.Verdict.TheVariants as verdict
+use Rattle.trace_text.specs.{Reading.is_state_line, State.state_text, Trace.trace_of}
 
 -- a verdict that was reached, and otherwise what the rest leads to
 abbrev pub decided : Option Verdict → Verdict → Verdict

@@ -1,10 +1,9 @@
 -- What `choices_in` finds in a trace.
 use Rattle.std.specs.Prelude.{ℕ, All, List, Result, Ok, Err}
-use Rattle.schedule_reader.specs.Schedule.{IsRun, choices_of}
+use Rattle.schedule_reader.specs.{Schedule.IsRun, Schedule.choices_of, Joined.AreJoined}
 use Rattle.thread_machine.specs.declared.choice.Choice.{Choice}
 use Rattle.trace_compare.specs.declared.naming.Named.{Named}
 use Rattle.trace_compare.specs.declared.naming.Named.TheVariants as found
-use Rattle.schedule_reader.specs.Joined.{AreJoined}
 
 -- its choices, or the number of the line
 abbrev pub named_by : Named → Result (List Choice) ℕ

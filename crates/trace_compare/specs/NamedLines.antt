@@ -1,18 +1,15 @@
 -- A trace's lines, one after another, as `next_name` reads them. Only proofs use this, from line to line: the promise about a
 -- whole trace (`HasNamed`) doesn't depend on it.
 use Rattle.std.specs.Prelude.{◌≡◌, ◌+◌, ◌≤◌, ℕ, List, [], ◌∷◌, ◌++◌, length, Option, Some, None}
-use Rattle.std.specs.Io.KnownBytes.{Consumes, prepend_known}
-use Rattle.std.specs.List.{slice_split}
+use Rattle.std.specs.{Io.KnownBytes.Consumes, Io.KnownBytes.prepend_known, List.slice_split}
 use Rattle.line_reader.specs.Words.{is_line_end}
-use Rattle.byte_ports.specs.SourceLines.{Gave, Lines}
-use Rattle.byte_ports.specs.declared.source_lines.LineEnded.{LineEnded}
+use Rattle.byte_ports.specs.{SourceLines.Gave, SourceLines.Lines, declared.source_lines.LineEnded.LineEnded}
 use Rattle.byte_ports.specs.declared.source_lines.LineEnded.TheVariants as how
 use Rattle.thread_machine.specs.declared.choice.Choice.{Choice}
-use Rattle.trace_compare.specs.declared.line_names.LineNames.{LineNames}
-use Rattle.trace_compare.specs.declared.line_names.LineNames.TheVariants as names
-use Rattle.trace_compare.specs.declared.naming.NextName.{NextName}
-use Rattle.trace_compare.specs.declared.naming.NextName.TheVariants as next
+use Rattle.trace_compare.specs.declared.{line_names.LineNames.LineNames, naming.NextName.NextName}
 use Rattle.trace_compare.specs.Naming.{Naming, Names, behind_choices, ended, naming_from}
+use Rattle.trace_compare.specs.declared.line_names.LineNames.TheVariants as names
+use Rattle.trace_compare.specs.declared.naming.NextName.TheVariants as next
 
 -- nothing was read yet
 abbrev pub none_read : Lines

@@ -1,7 +1,6 @@
 -- Which choices a trace names.
 use Rattle.std.specs.Prelude.{◌≡◌, ◌⊎◌, ℕ, ◌+◌, if◌then◌else◌, List, [], ◌∷◌, ◌++◌, Option, Some, None, Result, Ok, Err}
-use Rattle.std.specs.Io.KnownBytes.{Consumes, IsAtEnd}
-use Rattle.std.specs.List.{slice_split}
+use Rattle.std.specs.{Io.KnownBytes.Consumes, Io.KnownBytes.IsAtEnd, List.slice_split}
 use Rattle.line_reader.specs.Words.{is_line_end}
 use Rattle.thread_machine.specs.declared.choice.Choice.{Choice}
 use Rattle.trace_text.specs.Reading.{choice_in, is_state_line, is_too_long}

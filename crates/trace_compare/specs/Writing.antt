@@ -1,9 +1,7 @@
 -- A schedule that is written while its choices are read.
 use Rattle.std.specs.Prelude.{◌≡◌, Bool, true, false, ℕ, All, List, [], ◌∷◌, ◌++◌, Option, Some, None}
 use Rattle.std.specs.Io.KnownBytes.{Appends, Consumes}
-use Rattle.schedule_reader.specs.declared.run.Run.{Run}
-use Rattle.schedule_reader.specs.Joined.{AreJoined}
-use Rattle.schedule_reader.specs.Schedule.{IsRun, choices_of}
+use Rattle.schedule_reader.specs.{declared.run.Run.Run, Joined.AreJoined, Schedule.IsRun, Schedule.choices_of}
 use Rattle.schedule_reader.specs.Text.{schedule_text, token_of}
 use Rattle.thread_machine.specs.declared.choice.Choice.{Choice}
 use Rattle.trace_compare.specs.Naming.{naming_of}

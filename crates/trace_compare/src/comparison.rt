@@ -1,11 +1,9 @@
 // Compares the lines of a trace, one after another, with those of the run that they name.
 ghost use Rattle.std.specs.Prelude.{◌≡◌, ◌≢◌, ◌⊎◌, IsTrue, Err, false, true, ◌==◌, ◌&&◌, ◌<◌, ◌≤◌, ◌+◌, ◌-◌, ◌++◌, ◌∷◌, [], List, ℕ, Option, None, Ok, IfOk, OnOk, decimal, drop, length, option_map, take};
-ghost use Rattle.std.specs.Io.KnownBytes.{Consumes};
-ghost use Rattle.std.specs.Str.{bytes_eq};
+ghost use Rattle.std.specs.{Io.KnownBytes.Consumes, Str.bytes_eq};
 ghost use Rattle.byte_ports.specs.SourceLines.{HasCome, IsOneLine};
 ghost use Rattle.thread_machine.specs.World.{world_of};
-ghost use Rattle.trace_text.specs.RunText.{GivesOnAndOn};
-ghost use Rattle.trace_text.specs.Reading.{HasNoLongLine, choice_in, is_state_line};
+ghost use Rattle.trace_text.specs.{RunText.GivesOnAndOn, Reading.HasNoLongLine, Reading.choice_in, Reading.is_state_line};
 ghost use Rattle.trace_compare.specs.Compare.{IsReadNoFurther, choice_verdict, line_at, lines_verdict, state_verdict};
 ghost use Rattle.trace_compare.specs.Comparing.{GoesOver, HasCounted, HasEndedBehind, HasJudged, HasLeft, IsOpen, IsReading, MeetsText, StandsBehind, StandsFrom, decided, is_one, line_kept, line_played, lines_left, names_line, told_by, told_left};
 ghost use Rattle.trace_compare.specs.NamedLines.{none_read};

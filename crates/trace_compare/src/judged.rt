@@ -22,8 +22,7 @@ pub struct Judged {
 
 impl Model for Judged {
     ghost use Rattle.std.specs.Prelude.{◌≤◌, None, Some, if◌then◌else◌, length};
-    ghost use Rattle.trace_compare.specs.Compare.{Judgement};
-    ghost use Rattle.trace_compare.specs.Comparing.{told_by};
+    ghost use Rattle.trace_compare.specs.{Compare.Judgement, Comparing.told_by};
 
     ghost Value = { Judgement };
 

@@ -1,19 +1,11 @@
 ghost use Rattle.std.specs.Prelude.{◌≡◌, ◌≤◌, All, Bool, List, Ok, Option, ℕ, None};
 ghost use Rattle.row_code.specs.declared.image.Image.{Image};
-ghost use Rattle.schedule_reader.specs.declared.run.Run.{Run};
-ghost use Rattle.schedule_reader.specs.Schedule.{IsRun, choices_of};
-ghost use Rattle.thread_machine.specs.declared.choice.Choice.{Choice};
-ghost use Rattle.thread_machine.specs.World.{World};
-ghost use Rattle.trace_compare.specs.Compare.{choices_of_trace, verdict_of, HasWrittenTheSame};
-ghost use Rattle.trace_text.specs.Outcome.{ComesTo};
-ghost use Rattle.trace_text.specs.RunText.{AreTraced};
-ghost use Rattle.trace_text.specs.Start.{Begins};
-ghost use Rattle.trace_text.specs.Trace.{trace_of};
+ghost use Rattle.schedule_reader.specs.{declared.run.Run.Run, Schedule.IsRun, Schedule.choices_of};
+ghost use Rattle.thread_machine.specs.{declared.choice.Choice.Choice, World.World, Execution.execution};
+ghost use Rattle.trace_compare.specs.{Compare.choices_of_trace, Compare.verdict_of, Compare.HasWrittenTheSame, Shown.shown};
+ghost use Rattle.trace_compare.specs.{declared.comparison.Verdict.TheVariants.Same, Naming.choices_named};
+ghost use Rattle.trace_text.specs.{Outcome.ComesTo, RunText.AreTraced, Start.Begins, Trace.trace_of};
 ghost use Rattle.trace_text.specs.declared.run_end.RunEnd.{RunEnd};
-ghost use Rattle.trace_compare.specs.declared.comparison.Verdict.TheVariants.{Same};
-ghost use Rattle.thread_machine.specs.Execution.{execution};
-ghost use Rattle.trace_compare.specs.Naming.{choices_named};
-ghost use Rattle.trace_compare.specs.Shown.{shown};
 
 /// If a trace has the verdict `Same`, it is, byte for byte, the trace of the choices that its lines name.
 pub fn what_is_the_same_is_the_trace_of_its_choices()

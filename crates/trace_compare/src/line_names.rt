@@ -1,8 +1,7 @@
 // What a line of a trace names.
 ghost use Rattle.std.specs.Prelude.{◌≡◌, ◌≤◌};
 ghost use Rattle.thread_machine.specs.declared.choice.Choice.{Choice};
-ghost use Rattle.trace_compare.specs.declared.line_names.LineNames.TheVariants.{Made};
-ghost use Rattle.trace_compare.specs.Naming.{line_names};
+ghost use Rattle.trace_compare.specs.{declared.line_names.LineNames.TheVariants.Made, Naming.line_names};
 
 use thread_machine::Choice;
 use trace_text::trace_line::{choice_in, is_state_line};

@@ -4,8 +4,7 @@ ghost use Rattle.std.specs.Io.KnownBytes.{Consumes, prepend_known};
 ghost use Rattle.thread_machine.specs.declared.choice.Choice.{Choice};
 ghost use Rattle.trace_text.specs.RunText.{GivesOnAndOn};
 ghost use Rattle.trace_compare.specs.NamedLines.{HasEnded, HasGone, HasTaken, last_naming, next_by};
-ghost use Rattle.trace_compare.specs.Naming.{HasNamed};
-ghost use Rattle.trace_compare.specs.Named.{AreRuns, named_by};
+ghost use Rattle.trace_compare.specs.{Naming.HasNamed, Named.AreRuns, Named.named_by};
 
 use crate::line_names::{LineNames, line_names};
 use byte_ports::{Failed, LineEnded, Source, SourceLines};

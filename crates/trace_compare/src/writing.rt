@@ -4,8 +4,7 @@ ghost use Rattle.std.specs.Io.KnownBytes.{Appends};
 ghost use Rattle.schedule_reader.specs.Text.{letter_of, times_text, token_of};
 ghost use Rattle.thread_machine.specs.declared.choice.Choice.{Choice};
 ghost use Rattle.trace_text.specs.RunText.{GivesOnAndOn};
-ghost use Rattle.trace_compare.specs.Naming.{HasRead};
-ghost use Rattle.trace_compare.specs.Writing.{HasWritten, HasWrittenPart, HasWrittenUpTo};
+ghost use Rattle.trace_compare.specs.{Naming.HasRead, Writing.HasWritten, Writing.HasWrittenPart, Writing.HasWrittenUpTo};
 
 use crate::naming::{MOST_LINES, NextName, next_name};
 use byte_ports::{Failed, Sink, Source, SourceLines};

@@ -1,10 +1,8 @@
 -- The number that a line begins with, by the first byte that is no digit.
-use Rattle.std.proofs.Common.{◌≡◌, ◌∙◌, ◌+◌, ◌<◌, ◌≤◌, ℕ, true, List, length, drop, get_or, None, ap, sym, arith, length-take, length-take-le, get_or-take, rules}
-use Rattle.std.specs.Char.{is_ascii_digit}
-use Rattle.std.specs.List.{before_first, list_all, position_or_len}
-use Rattle.std.proofs.lemmas.Bool.{and_from, and_parts, cases_lt, eqb-true, le-leb, leb-true, lt-ltb, ltb-true, not-false, not_from_true}
-use Rattle.std.proofs.lemmas.List.{drop_all}
+use Rattle.std.proofs.Common.{◌≡◌, ◌∙◌, ◌+◌, ◌<◌, ◌≤◌, ℕ, true, List, length, drop, get_or, None, ap, sym, arith, length-take, length-take-le, get_or-take, rules, eqb-true, le-leb, leb-true, lt-ltb, ltb-true}
+use Rattle.std.proofs.lemmas.{Bool.and_from, Bool.and_parts, Bool.cases_lt, Bool.not-false, Bool.not_from_true, List.drop_all}
 use Rattle.std.proofs.lemmas.List.Sums.{AllPass-from_list_all, fails_before_first, list_all-from_AllPass, passes_at_first, position_or_len_is, prefix_len-le-length}
+use Rattle.std.specs.{Char.is_ascii_digit, List.before_first, List.list_all, List.position_or_len}
 use Rattle.trace_text.specs.Reading.{is_space, choice_named, choice_in, is_no_digit}
 
 space-no_digit : (b : ℕ) → is_space b ≡ true → is_no_digit b ≡ true

@@ -1,12 +1,10 @@
 -- Lines that are put together from their ends, and numbers that are counted up.
-use Rattle.std.proofs.Common.{◌≡◌, ◌∙◌, ◌+◌, ◌-◌, ◌<◌, ◌≤◌, ◌/◌, ◌%◌, ◌^◌, ℕ, List, [], ◌∷◌, ◌++◌, length, append-nil, get_or, set, drop, refl, ap, sym, arith, length-append, append_assoc, ℤ, pos, int_le, false, unsigned_abs, inl, inr, take}
-use borrow.Rule.Slice.PartMut.{put_mid}
-use Rattle.std.proofs.lemmas.Bool.{cases_lt}
-use Rattle.std.proofs.lemmas.List.{length-drop, drop_at, set_at, get_or_at, get_or-drop, drop-set-add, drop-set, drop-append-le, drop-drop, length-take-le}
+use Rattle.std.proofs.Common.{◌≡◌, ◌∙◌, ◌+◌, ◌-◌, ◌<◌, ◌≤◌, ◌/◌, ◌%◌, ◌^◌, ℕ, List, [], ◌∷◌, ◌++◌, length, append-nil, get_or, set, drop, refl, ap, sym, arith, length-append, append_assoc, ℤ, pos, int_le, false, unsigned_abs, inl, inr, take, length-drop, drop_at, get_or-drop, drop-drop, length-take-le, codes, if◌then◌else◌}
+use Rattle.std.proofs.lemmas.{Bool.cases_lt, List.set_at, List.get_or_at, List.drop-set-add, List.drop-set, List.drop-append-le}
 use Rattle.std.proofs.lemmas.Fmt.{decimal_digit, decimal_step, length-decimal-le}
+use borrow.Rule.Slice.PartMut.{put_mid}
 use Rattle.std.specs.Fmt.{decimal, signed_decimal}
 use Rattle.itoa.proofs.Decimal.{minus_first}
-use Rattle.std.specs.Prelude.{codes, if◌then◌else◌}
 use Rattle.thread_machine.specs.declared.choice.Choice.{Choice}
 use Rattle.trace_text.specs.Lines.{choice_text}
 

@@ -1,18 +1,13 @@
 -- What a choice's own line names.
-use Rattle.std.proofs.Common.{◌≡◌, ◌∙◌, ◌+◌, ◌^◌, ◌<◌, ◌≤◌, ◌==◌, ◌&&◌, not, ℕ, Bool, true, false, List, [], ◌∷◌, ◌++◌, length, take, drop, cond, if◌then◌else◌, Option, Some, None, codes, decimal, refl, ap, arith, append_assoc, ℤ, rules}
-use Rattle.std.specs.Fmt.{signed_decimal, digits}
-use Rattle.std.specs.Char.{is_ascii_digit}
-use Rattle.std.specs.List.{before_first, after_first, list_all, position_or_len}
-use Rattle.std.specs.Str.{bytes_eq}
-use Rattle.std.proofs.lemmas.Bool.{and_from, ne_eqb, lt-ltb, le-leb, le-ltb, agree_below, agree_below_at, and_parts, false_from_ne_true, true≢false}
-use Rattle.std.proofs.lemmas.Slice.Eq.{bytes_eq-Decides}
-use Rattle.std.proofs.lemmas.Fmt.{length-decimal-le, decimal_nonempty}
+use Rattle.std.proofs.Common.{◌≡◌, ◌∙◌, ◌+◌, ◌^◌, ◌<◌, ◌≤◌, ◌==◌, ◌&&◌, not, ℕ, Bool, true, false, List, [], ◌∷◌, ◌++◌, length, take, drop, cond, if◌then◌else◌, Option, Some, None, codes, decimal, refl, ap, arith, append_assoc, ℤ, rules, ne_eqb, lt-ltb, le-leb, le-ltb, true≢false}
+use Rattle.std.proofs.lemmas.Bool.{and_from, agree_below, agree_below_at, and_parts, false_from_ne_true}
+use Rattle.std.proofs.lemmas.{Slice.Eq.bytes_eq-Decides, Fmt.length-decimal-le, Fmt.decimal_nonempty}
 use Rattle.std.proofs.Math.Seq.{take-append_seam, drop-append-add}
+use Rattle.std.specs.{Fmt.signed_decimal, Fmt.digits, Char.is_ascii_digit, Str.bytes_eq}
+use Rattle.std.specs.List.{before_first, after_first, list_all, position_or_len}
 use Rattle.thread_machine.specs.declared.choice.Choice.{Choice}
-use Rattle.thread_state.specs.declared.event.Event.{Event}
-use Rattle.thread_state.specs.declared.event.What.{What}
+use Rattle.thread_state.specs.declared.event.{Event.Event, What.What, Mark.Mark}
 use Rattle.thread_state.specs.declared.event.What.TheVariants as what
-use Rattle.thread_state.specs.declared.event.Mark.{Mark}
 use Rattle.thread_state.specs.declared.event.Mark.TheVariants as mark
 use Rattle.trace_text.specs.Reading.{is_space, is_step, choice_of_digits, choice_named, choice_in, is_state_line, is_too_long}
 use Rattle.trace_text.specs.Lines.{what_text, mark_text, choice_text, event_text, refusal_text}

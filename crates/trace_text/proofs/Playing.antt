@@ -1,17 +1,11 @@
 -- One part of a schedule after another.
-use Rattle.std.proofs.Common.{◌≡◌, ℕ, Bool, true, false, IsTrue, List, Option, Some, None, Result, Ok, Err, refl, subst, sym, arith}
-use Rattle.std.specs.Prelude.{IfErr, IfOk, is_some}
-use Rattle.schedule_reader.specs.declared.fault.ScheduleFault.{ScheduleFault}
-use Rattle.schedule_reader.specs.declared.run.Run.{Run}
-use Rattle.schedule_reader.specs.Schedule.{choices_of}
-use Rattle.thread_machine.specs.declared.choice.Choice.{Choice}
-use Rattle.thread_machine.specs.World.{World}
-use Rattle.trace_text.specs.declared.play.PlayFault.{PlayFault}
-use Rattle.trace_text.specs.declared.play.PlayFault.TheVariants as play
-use Rattle.trace_text.specs.declared.play.Refused.{Refused}
-use Rattle.trace_text.specs.declared.run.RunFault.{RunFault}
+use Rattle.std.proofs.Common.{◌≡◌, ℕ, Bool, true, false, IsTrue, List, Option, Some, None, Result, Ok, Err, refl, subst, sym, arith, IfErr, IfOk, is_some}
+use Rattle.schedule_reader.specs.{declared.fault.ScheduleFault.ScheduleFault, declared.run.Run.Run, Schedule.choices_of}
+use Rattle.thread_machine.specs.{declared.choice.Choice.Choice, World.World}
+use Rattle.trace_text.specs.declared.{play.PlayFault.PlayFault, play.Refused.Refused, run.RunFault.RunFault}
 use Rattle.trace_text.specs.Playing.{IsToldOf, PlaysOn, PlaysTo, StopsAt, WritesPartOn, played_fault}
 use Rattle.trace_text.specs.Trace.{AppendsPartOf, lines_of}
+use Rattle.trace_text.specs.declared.play.PlayFault.TheVariants as play
 use Rattle.trace_text.proofs.Plays.{Plays-append, Plays-refused, Part-append, Part-whole}
 
 -- where all choices before were accepted, more are played

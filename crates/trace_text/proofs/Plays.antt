@@ -1,24 +1,17 @@
 -- Choices that are played one list after another.
-use Rattle.std.proofs.Common.{◌≡◌, ◌∙◌, ◌↔◌, ◌+◌, ◌<◌, ◌≤◌, ℕ, List, [], ◌∷◌, ◌++◌, Option, Some, None, true, refl, sym, ap, subst, append_assoc, append-nil, length, Result, Ok, Err, ◌-◌, replicate, drop, get_or, arith}
-use Rattle.std.specs.Prelude.{option_map}
-use Rattle.std.proofs.lemmas.List.{drop_all}
-use Rattle.std.proofs.KnownBytes.{Appends-nil, Appends-trans}
+use Rattle.std.proofs.Common.{◌≡◌, ◌∙◌, ◌↔◌, ◌+◌, ◌<◌, ◌≤◌, ℕ, List, [], ◌∷◌, ◌++◌, Option, Some, None, true, refl, sym, ap, subst, append_assoc, append-nil, length, Result, Ok, Err, ◌-◌, replicate, drop, get_or, arith, option_map}
+use Rattle.std.proofs.{lemmas.List.drop_all, KnownBytes.Appends-nil, KnownBytes.Appends-trans}
 use Rattle.std.specs.Io.KnownBytes.{Appends}
-use Rattle.thread_machine.specs.declared.choice.Choice.{Choice}
-use Rattle.thread_state.specs.declared.event.Event.{Event}
-use Rattle.thread_machine.specs.declared.fault.StepFault.{StepFault}
+use Rattle.thread_machine.specs.{declared.choice.Choice.Choice, declared.fault.StepFault.StepFault, World.World}
 use Rattle.thread_machine.specs.declared.fault.StepFault.TheVariants.{NoSuchThread, StepLimit}
-use Rattle.thread_machine.specs.World.{World}
-use Rattle.machine_scene.specs.Scene.{Outcome, thread_at}
 use Rattle.thread_machine.specs.Step.{Played, played, played_by, refusal_of}
 use Rattle.thread_machine.specs.Execution.{execution, execution_by}
-use Rattle.schedule_reader.specs.declared.run.Run.{Run}
-use Rattle.schedule_reader.specs.Schedule.{choices_of}
-use Rattle.trace_text.specs.declared.play.Refused.{Refused}
-use Rattle.trace_text.proofs.Traces.{flat_map-drop}
-use Rattle.trace_text.specs.Lines.{event_text}
-use Rattle.trace_text.specs.Playing.{PlaysTo}
+use Rattle.thread_state.specs.declared.event.Event.{Event}
+use Rattle.machine_scene.specs.Scene.{Outcome, thread_at}
+use Rattle.schedule_reader.specs.{declared.run.Run.Run, Schedule.choices_of}
+use Rattle.trace_text.specs.{declared.play.Refused.Refused, Lines.event_text, Playing.PlaysTo}
 use Rattle.trace_text.specs.Trace.{AppendsPartOf, Plays, lines_of, lines_by, refused_by, refused_of}
+use Rattle.trace_text.proofs.Traces.{flat_map-drop}
 
 -- why a choice was refused
 abbrev why_of : Refused → StepFault

@@ -1,22 +1,16 @@
 -- Runs that a reader adds to a list, and what is played with them.
-use Rattle.std.proofs.Common.{◌≡◌, ◌≢◌, ◌∙◌, ◌++◌, ◌⊎◌, ◌≤◌, ℕ, Bool, false, inl, inr, List, [], Ok, Err, None, Result, ap, sym, subst, refl, append-nil, append_assoc, Option, Some, length, arith, rules}
-use Rattle.std.specs.Prelude.{IfOk, IfErr, OnOk}
+use Rattle.std.proofs.Common.{◌≡◌, ◌≢◌, ◌∙◌, ◌++◌, ◌⊎◌, ◌≤◌, ℕ, Bool, false, inl, inr, List, [], Ok, Err, None, Result, ap, sym, subst, refl, append-nil, append_assoc, Option, Some, length, arith, rules, IfOk, IfErr, OnOk}
 use Rattle.std.proofs.lemmas.Grind.{flat_map-append}
 use Rattle.std.specs.Io.KnownBytes.{Appends, Consumes, IsAtEnd}
-use Rattle.schedule_reader.specs.declared.fault.ScheduleFault.{ScheduleFault}
-use Rattle.schedule_reader.specs.declared.fault.ScheduleFault.TheVariants.{Memory}
-use Rattle.schedule_reader.specs.declared.run.Run.{Run}
-use Rattle.schedule_reader.specs.Places.{Progress, HasRead}
-use Rattle.schedule_reader.specs.Reading.{Adds, answer_of}
+use Rattle.schedule_reader.specs.declared.fault.ScheduleFault.{ScheduleFault, TheVariants.Memory}
+use Rattle.schedule_reader.specs.{declared.run.Run.Run, Places.Progress, Places.HasRead, Reading.Adds, Reading.answer_of}
 use Rattle.schedule_reader.specs.Schedule.{Schedule, open_schedule, finished_schedule, choices_of}
 use Rattle.thread_machine.specs.World.{World}
-use Rattle.trace_text.specs.declared.play.Refused.{Refused}
-use Rattle.trace_text.specs.declared.run.RunFault.{RunFault}
-use Rattle.trace_text.specs.declared.run.RunFault.TheVariants as fault
-use Rattle.trace_text.specs.Outcome.{StopsFrom}
+use Rattle.trace_text.specs.{declared.play.Refused.Refused, declared.run.RunFault.RunFault, Outcome.StopsFrom}
 use Rattle.trace_text.specs.Playing.{IsUpTo, PlaysOn, PlaysTo, StopsAt, WritesOn, WritesPartOn}
 use Rattle.trace_text.specs.RunText.{HasFault, HasNoEarlierFault, faulty_after}
 use Rattle.trace_text.specs.Trace.{AppendsPartOf, lines_of}
+use Rattle.trace_text.specs.declared.run.RunFault.TheVariants as fault
 use Rattle.trace_text.proofs.Plays.{Part-longer}
 
 -- what a call added to an empty list stands between the shorter stream's runs and what was missing

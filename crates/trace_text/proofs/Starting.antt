@@ -3,9 +3,8 @@ use Rattle.std.proofs.Common.{◌≡◌, ◌∙◌, ◌+◌, ℕ, Bool, true, fa
 use Rattle.std.specs.Option.{option_or, option_map}
 use Rattle.tier_tree.specs.declared.fault.DeclareFault.TheVariants as declare
 use Rattle.row_code.specs.declared.image.Image.{Image}
-use Rattle.loader.specs.declared.load_fault.LoadFault.{LoadFault}
+use Rattle.loader.specs.{declared.load_fault.LoadFault.LoadFault, Fault.earliest_in, Fault.first_fault, Fault.unless}
 use Rattle.loader.specs.declared.load_fault.LoadFault.TheVariants as fault
-use Rattle.loader.specs.Fault.{earliest_in, first_fault, unless}
 use Rattle.trace_text.specs.Start.{is_want_of_memory}
 
 -- whether a fault is told that is want of memory

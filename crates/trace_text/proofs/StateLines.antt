@@ -1,26 +1,18 @@
 -- The state text by its lines.
 use Rattle.std.proofs.Common.{◌≡◌, ◌+◌, ◌*◌, ◌≤◌, ℕ, ℤ, pos, Bool, true, false, All, List, [], ◌∷◌, ◌++◌, length, length-append, codes, decimal, refl, arith, cond, flat_map, rules}
 use Rattle.std.proofs.lemmas.List.Elements.{All-head, All-tail}
-use Rattle.std.specs.Fmt.{signed_decimal}
-use Rattle.std.specs.List.{list_all}
-use Rattle.instruction_table.specs.declared.register.Reg.{Reg}
-use Rattle.instruction_table.specs.Registers.{value_in}
+use Rattle.std.specs.{Fmt.signed_decimal, List.list_all}
+use Rattle.instruction_table.specs.{declared.register.Reg.Reg, Registers.value_in}
 use Rattle.packed_phaser.specs.Flat.{view_of, unarrived_of}
-use Rattle.thread_state.specs.declared.frame.Frame.{Frame}
-use Rattle.thread_state.specs.declared.frame.Entry.{Entry}
+use Rattle.thread_state.specs.declared.{frame.Frame.Frame, frame.Entry.Entry, status.Status.Status}
+use Rattle.thread_state.specs.{Frame.entry_of, Thread.ThreadState}
 use Rattle.thread_state.specs.declared.frame.Entry.TheVariants as entry
-use Rattle.thread_state.specs.declared.status.Status.{Status}
 use Rattle.thread_state.specs.declared.status.Status.TheVariants as status
-use Rattle.thread_state.specs.Frame.{entry_of}
-use Rattle.thread_state.specs.Thread.{ThreadState}
 use Rattle.tier_tree.specs.Forest.{PhaserState}
 use Rattle.cyclic_barrier.specs.Barrier.{BarrierState, number_waiting}
-use Rattle.thread_machine.specs.World.{World}
-use Rattle.thread_machine.specs.Standing.{name_of, standing_of}
+use Rattle.thread_machine.specs.{World.World, Standing.name_of, Standing.standing_of, Ready.has_ended, Ready.is_stuck}
 use Rattle.thread_machine.specs.declared.standing.Standing.TheVariants as standing
-use Rattle.thread_machine.specs.Ready.{has_ended, is_stuck}
-use Rattle.trace_text.specs.Brief.{IsBrief}
-use Rattle.trace_text.specs.Reading.{HasNoLongLine, is_state_line}
+use Rattle.trace_text.specs.{Brief.IsBrief, Reading.HasNoLongLine, Reading.is_state_line}
 use Rattle.trace_text.specs.State.{all_registers, barrier_text, cell_text, entry_text, numbered_texts, phaser_text, registers_text, stack_text, state_text, status_text, thread_text, value_text}
 use Rattle.trace_text.proofs.WholeLines.{IsLine, IsPart, IsWhole, Line-after, Line-end, Part-append, Whole-append, Whole-line, Whole-nil, Whole-short, Whole-where, decimal-part, is_within, signed-part}
 

@@ -1,33 +1,20 @@
 -- Bytes that are read one piece after another.
-use Rattle.std.proofs.Common.{◌≡◌, ◌∙◌, inr, refl, ◌+◌, ◌<◌, ◌≤◌, ◌++◌, [], ◌∷◌, ℕ, Bool, true, false, IsTrue, List, Option, Some, length, take, ap, sym, subst, length-append, arith}
-use Rattle.std.proofs.lemmas.List.{length-take}
+use Rattle.std.proofs.Common.{◌≡◌, ◌∙◌, inr, refl, ◌+◌, ◌<◌, ◌≤◌, ◌++◌, [], ◌∷◌, ℕ, Bool, true, false, IsTrue, List, Option, Some, length, take, ap, sym, subst, length-append, arith, length-take, Result, Ok, Err, IfOk, OnOk, None, option_map}
 use Rattle.std.proofs.KnownBytes.{Appends-trans, Consumes-trans}
 use Rattle.std.specs.Io.KnownBytes.{Appends, Consumes, IsAtEnd}
-use Rattle.std.specs.Prelude.{Result, Ok, Err, IfOk, OnOk, None, option_map}
 use Rattle.byte_ports.specs.Port.{FailsForGood}
 use Rattle.schedule_reader.specs.Schedule.{Schedule, finished_schedule, choices_of}
-use Rattle.thread_machine.specs.Standing.{standing_of}
-use Rattle.thread_machine.specs.World.{World}
-use Rattle.thread_machine.specs.declared.choice.Choice.{Choice}
-use Rattle.thread_machine.specs.declared.fault.StepFault.{StepFault}
-use Rattle.thread_machine.specs.Execution.{execution}
-use Rattle.thread_machine.specs.Step.{refusal_of}
-use Rattle.trace_text.specs.declared.play.Refused.{Refused}
-use Rattle.trace_text.specs.Lines.{refusal_text}
-use Rattle.trace_text.specs.declared.run.RunFault.{RunFault}
-use Rattle.trace_text.specs.declared.run.RunFault.TheVariants as fault
-use Rattle.trace_text.specs.Outcome.{EndsFrom, Stops, StopsFrom}
-use Rattle.trace_text.specs.declared.play.PlayFault.{PlayFault}
-use Rattle.trace_text.specs.declared.play.PlayFault.TheVariants as play
+use Rattle.thread_machine.specs.{Standing.standing_of, World.World, declared.choice.Choice.Choice, Execution.execution}
+use Rattle.thread_machine.specs.{declared.fault.StepFault.StepFault, Step.refusal_of}
+use Rattle.trace_text.specs.{declared.play.Refused.Refused, Lines.refusal_text, declared.run.RunFault.RunFault, Start.Begins}
+use Rattle.trace_text.specs.{Outcome.EndsFrom, Outcome.Stops, Outcome.StopsFrom, declared.play.PlayFault.PlayFault}
 use Rattle.trace_text.specs.Playing.{HasPlayedAll, PlaysTo, played_fault, row_of, told_as}
-use Rattle.trace_text.specs.RunText.{AreTraced, refusal_in}
-use Rattle.trace_text.specs.Start.{Begins}
-use Rattle.row_code.specs.declared.image.Image.{Image}
-use Rattle.trace_text.specs.State.{state_text}
+use Rattle.trace_text.specs.{RunText.AreTraced, RunText.refusal_in, State.state_text, declared.run_end.RunEnd.RunEnd}
 use Rattle.trace_text.specs.Trace.{AppendsPartOf, lines_of, refused_of}
-use Rattle.trace_text.proofs.Plays.{Part-whole, refused_there}
-use Rattle.trace_text.proofs.Schedules.{schedule_by_fault}
-use Rattle.trace_text.specs.declared.run_end.RunEnd.{RunEnd}
+use Rattle.trace_text.specs.declared.run.RunFault.TheVariants as fault
+use Rattle.trace_text.specs.declared.play.PlayFault.TheVariants as play
+use Rattle.row_code.specs.declared.image.Image.{Image}
+use Rattle.trace_text.proofs.{Plays.Part-whole, Plays.refused_there, Schedules.schedule_by_fault}
 
 -- a read of nothing
 pub consumes-none : (a b c : Option (List ℕ)) (bytes buffer : List ℕ) (n : ℕ) → n ≡ 0

@@ -1,13 +1,8 @@
 -- Texts of lists, element by element.
-use Rattle.std.proofs.Common.{◌≡◌, ◌∙◌, ◌+◌, ◌*◌, ◌<◌, ◌≤◌, ℕ, ℤ, List, ◌++◌, codes, length, length-append, get_or, drop, refl, ap, sym, arith, append_assoc}
-use Rattle.std.proofs.lemmas.List.{append-nil, drop_all, drop_more}
-use Rattle.std.specs.Fmt.{signed_decimal}
-use Rattle.std.proofs.lemmas.Option.{slice_get_within, get_or_from_slice_get}
-use Rattle.std.specs.Prelude.{flat_map, slice_get, Option, Some, None}
-use Rattle.std.specs.Option.{option_map}
-use Rattle.thread_state.specs.declared.frame.Entry.{Entry}
-use Rattle.thread_state.specs.declared.frame.Frame.{Frame}
-use Rattle.thread_state.specs.Frame.{entry_of}
+use Rattle.std.proofs.Common.{◌≡◌, ◌∙◌, ◌+◌, ◌*◌, ◌<◌, ◌≤◌, ℕ, ℤ, List, ◌++◌, codes, length, length-append, get_or, drop, refl, ap, sym, arith, append_assoc, append-nil, flat_map, slice_get, Option, Some, None}
+use Rattle.std.proofs.lemmas.{List.drop_all, List.drop_more, Option.slice_get_within, Option.get_or_from_slice_get}
+use Rattle.std.specs.{Fmt.signed_decimal, Option.option_map}
+use Rattle.thread_state.specs.{declared.frame.Entry.Entry, declared.frame.Frame.Frame, Frame.entry_of}
 use Rattle.trace_text.specs.State.{entry_text, stack_text, numbered_texts, value_text}
 
 -- from one element on: its text, and the texts from the next on

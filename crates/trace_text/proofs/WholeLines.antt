@@ -1,14 +1,10 @@
 -- Texts of whole lines.
-use Rattle.std.proofs.Common.{◌≡◌, ◌∙◌, ◌+◌, ◌/◌, ◌%◌, ◌<◌, ◌≤◌, ◌==◌, not, ℕ, zero, suc, Bool, true, false, List, [], ◌∷◌, ◌++◌, length, take, drop, cond, codes, decimal, refl, ap, sym, subst, arith, append_assoc, length-append, All, flat_map, ℤ, pos, negsuc}
-use Rattle.std.specs.List.{slice_split, list_all, position_or_len}
-use Rattle.std.specs.Char.{is_ascii_digit}
-use Rattle.std.specs.Fmt.{digits, digits_onto, digit_glyph, signed_decimal}
-use Rattle.std.proofs.lemmas.List.{drop_all}
-use Rattle.std.proofs.lemmas.List.Folds.{list_all-append}
-use Rattle.std.proofs.lemmas.Bool.{and_from, ne_eqb, and_parts, le-leb, lt-ltb, not-true}
-use Rattle.std.proofs.lemmas.List.Sums.{AllPass-from_list_all}
-use Rattle.std.proofs.lemmas.List.Splits.{slice_split_at}
+use Rattle.std.proofs.Common.{◌≡◌, ◌∙◌, ◌+◌, ◌/◌, ◌%◌, ◌<◌, ◌≤◌, ◌==◌, not, ℕ, zero, suc, Bool, true, false, List, [], ◌∷◌, ◌++◌, length, take, drop, cond, codes, decimal, refl, ap, sym, subst, arith, append_assoc, length-append, All, flat_map, ℤ, pos, negsuc, ne_eqb, le-leb, lt-ltb}
+use Rattle.std.proofs.lemmas.{List.drop_all, List.Folds.list_all-append, Bool.and_from, Bool.and_parts, Bool.not-true}
+use Rattle.std.proofs.lemmas.List.{Sums.AllPass-from_list_all, Splits.slice_split_at}
 use Rattle.std.proofs.Math.Seq.{take-append_seam, drop-append_seam}
+use Rattle.std.specs.{List.slice_split, List.list_all, List.position_or_len, Char.is_ascii_digit}
+use Rattle.std.specs.Fmt.{digits, digits_onto, digit_glyph, signed_decimal}
 use Rattle.line_reader.specs.Words.{is_line_end}
 use Rattle.trace_text.specs.Reading.{HasNoLongLine, after_line, first_line}
 

@@ -1,8 +1,6 @@
 -- What a text can expect of the end of a run, and of the state at this end.
 use Rattle.std.specs.Prelude.{ℕ, ◌==◌, ◌||◌, ◌&&◌, not, nat_lt, nat_le, Bool, false, if◌then◌else◌, List, [], ◌∷◌, Option, Some, None, codes, drop, is_none, is_some, length}
-use Rattle.std.specs.Global.{Vec}
-use Rattle.std.specs.List.{before_first, list_all, position_or_len}
-use Rattle.std.specs.Str.{bytes_eq}
+use Rattle.std.specs.{Global.Vec, List.before_first, List.list_all, List.position_or_len, Str.bytes_eq}
 use Rattle.thread_machine.specs.declared.standing.Standing.{Standing}
 use Rattle.thread_machine.specs.declared.standing.Standing.TheVariants as standing
 use Rattle.trace_text.specs.declared.run_end.RunEnd.{RunEnd}

@@ -1,7 +1,6 @@
 -- The lines of a state, and the words in them.
 use Rattle.std.specs.Prelude.{ℕ, ◌==◌, ◌||◌, ◌&&◌, not, Bool, true, false, if◌then◌else◌, List, [], ◌∷◌, Option, Some, None, codes, drop, length, take}
-use Rattle.std.specs.List.{before_first}
-use Rattle.std.specs.Str.{bytes_eq}
+use Rattle.std.specs.{List.before_first, Str.bytes_eq}
 
 abbrev pub is_line_end : ℕ → Bool
 is_line_end byte = byte == 10

@@ -2,10 +2,8 @@
 use Rattle.std.specs.Prelude.{ℕ, if◌then◌else◌, List, [], ◌++◌, codes, decimal, Option, Some, None}
 use Rattle.std.specs.Fmt.{signed_decimal}
 use Rattle.thread_machine.specs.declared.choice.Choice.{Choice}
-use Rattle.thread_state.specs.declared.event.Event.{Event}
-use Rattle.thread_state.specs.declared.event.What.{What}
+use Rattle.thread_state.specs.declared.event.{Event.Event, What.What, Mark.Mark}
 use Rattle.thread_state.specs.declared.event.What.TheVariants as what
-use Rattle.thread_state.specs.declared.event.Mark.{Mark}
 use Rattle.thread_state.specs.declared.event.Mark.TheVariants as mark
 
 -- what became of the thread

@@ -10,14 +10,11 @@ use Rattle.row_code.specs.declared.image.Image.{Image}
 use Rattle.schedule_reader.specs.declared.fault.ScheduleFault.TheVariants as schedule
 use Rattle.schedule_reader.specs.declared.run.Run.{Run}
 use Rattle.schedule_reader.specs.Schedule.{Schedule, open_schedule, finished_schedule, choices_of}
-use Rattle.thread_machine.specs.World.{World}
-use Rattle.thread_machine.specs.declared.choice.Choice.{Choice}
-use Rattle.trace_text.specs.declared.run.RunFault.{RunFault}
-use Rattle.trace_text.specs.declared.run.RunFault.TheVariants as fault
-use Rattle.trace_text.specs.declared.run_end.RunEnd.{RunEnd}
+use Rattle.thread_machine.specs.{World.World, declared.choice.Choice.Choice}
+use Rattle.trace_text.specs.declared.{run.RunFault.RunFault, run_end.RunEnd.RunEnd}
 use Rattle.trace_text.specs.RunText.{AreTraced, GivesOnAndOn, HasFault, HasNoEarlierFault}
-use Rattle.trace_text.specs.Start.{Begins, IsRefused, is_want_of_memory}
-use Rattle.trace_text.specs.Trace.{AppendsPartOf, lines_of}
+use Rattle.trace_text.specs.{Start.Begins, Start.IsRefused, Start.is_want_of_memory, Trace.AppendsPartOf, Trace.lines_of}
+use Rattle.trace_text.specs.declared.run.RunFault.TheVariants as fault
 
 -- nothing was read, and nothing was written
 abbrev pub IsUntouched : (schedule_before schedule_after output_before output_after : Option (List ℕ)) → Type 0

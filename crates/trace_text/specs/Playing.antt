@@ -1,23 +1,17 @@
 -- How one part of a schedule after another is played. Only proofs use this, from call to call: no promise depends on it.
 use Rattle.std.specs.Prelude.{◌≡◌, ◌≢◌, ◌+◌, ℕ, Bool, IsTrue, List, ◌++◌, Option, Some, None, Result, Err, if◌then◌else◌, length, nat_lt}
 use Rattle.std.specs.Io.KnownBytes.{Appends, Consumes, IsAtEnd}
-use Rattle.schedule_reader.specs.declared.fault.ScheduleFault.{ScheduleFault}
-use Rattle.schedule_reader.specs.declared.fault.ScheduleFault.TheVariants as schedule
-use Rattle.schedule_reader.specs.declared.run.Run.{Run}
+use Rattle.schedule_reader.specs.declared.{fault.ScheduleFault.ScheduleFault, run.Run.Run}
 use Rattle.schedule_reader.specs.Places.{Progress, HasRead}
 use Rattle.schedule_reader.specs.Schedule.{open_schedule, finished_schedule, choices_of}
-use Rattle.thread_machine.specs.declared.choice.Choice.{Choice}
-use Rattle.thread_machine.specs.World.{World}
-use Rattle.thread_machine.specs.Execution.{execution}
+use Rattle.schedule_reader.specs.declared.fault.ScheduleFault.TheVariants as schedule
+use Rattle.thread_machine.specs.{declared.choice.Choice.Choice, World.World, Execution.execution}
 use Rattle.machine_scene.specs.Scene.{thread_at}
-use Rattle.trace_text.specs.declared.play.PlayFault.{PlayFault}
-use Rattle.trace_text.specs.declared.play.PlayFault.TheVariants as play
-use Rattle.trace_text.specs.declared.run.RunFault.{RunFault}
-use Rattle.trace_text.specs.declared.run.RunFault.TheVariants as fault
-use Rattle.trace_text.specs.declared.play.Refused.{Refused}
-use Rattle.trace_text.specs.declared.run_end.Refusal.{Refusal}
-use Rattle.trace_text.specs.Lines.{refusal_text}
+use Rattle.trace_text.specs.declared.{play.PlayFault.PlayFault, run.RunFault.RunFault, play.Refused.Refused}
+use Rattle.trace_text.specs.{declared.run_end.Refusal.Refusal, Lines.refusal_text}
 use Rattle.trace_text.specs.Trace.{AppendsPartOf, lines_of, refused_of}
+use Rattle.trace_text.specs.declared.play.PlayFault.TheVariants as play
+use Rattle.trace_text.specs.declared.run.RunFault.TheVariants as fault
 
 -- choices were played: their lines were written, the world is the one that their execution leaves, and this is the one that was
 -- refused, if one was

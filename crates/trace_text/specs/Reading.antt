@@ -1,7 +1,6 @@
 -- How a line of a trace is read.
 use Rattle.std.specs.Prelude.{◌≡◌, ℕ, ◌+◌, ◌-◌, ◌*◌, ◌==◌, ◌&&◌, ◌≤◌, nat_lt, nat_le, not, if◌then◌else◌, Bool, true, false, List, [], ◌∷◌, ◌++◌, length, take, drop, codes, decimal, Option, Some, None}
-use Rattle.std.specs.Char.{is_ascii_digit}
-use Rattle.std.specs.List.{before_first, after_first, list_all, position_or_len}
+use Rattle.std.specs.{Char.is_ascii_digit, List.before_first, List.after_first, List.list_all, List.position_or_len}
 use Rattle.std.specs.Str.{bytes_eq}
 use Rattle.line_reader.specs.Words.{is_line_end}
 use Rattle.thread_machine.specs.declared.choice.Choice.{Choice}

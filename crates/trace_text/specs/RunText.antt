@@ -1,18 +1,11 @@
 -- What a run returns and writes if its schedule comes as a stream.
 use Rattle.std.specs.Prelude.{◌≡◌, ◌⊎◌, ◌≤◌, ◌+◌, ℕ, List, [], ◌∷◌, ◌++◌, length, Option, Some, None, option_map}
 use Rattle.std.specs.Io.KnownBytes.{Appends, Consumes, IsAtEnd}
-use Rattle.schedule_reader.specs.declared.fault.ScheduleFault.{ScheduleFault}
-use Rattle.schedule_reader.specs.declared.run.Run.{Run}
+use Rattle.schedule_reader.specs.declared.{fault.ScheduleFault.ScheduleFault, run.Run.Run}
 use Rattle.schedule_reader.specs.Schedule.{Schedule, finished_schedule, open_schedule}
-use Rattle.thread_machine.specs.declared.choice.Choice.{Choice}
-use Rattle.thread_machine.specs.World.{World}
-use Rattle.thread_machine.specs.Standing.{standing_of}
-use Rattle.thread_machine.specs.Execution.{execution}
-use Rattle.trace_text.specs.declared.play.Refused.{Refused}
-use Rattle.trace_text.specs.declared.run_end.Refusal.{Refusal}
-use Rattle.trace_text.specs.declared.run_end.RunEnd.{RunEnd}
-use Rattle.trace_text.specs.State.{state_text}
-use Rattle.trace_text.specs.Trace.{lines_of, refused_of, trace_of}
+use Rattle.thread_machine.specs.{declared.choice.Choice.Choice, World.World, Standing.standing_of, Execution.execution}
+use Rattle.trace_text.specs.declared.{play.Refused.Refused, run_end.Refusal.Refusal, run_end.RunEnd.RunEnd}
+use Rattle.trace_text.specs.{State.state_text, Trace.lines_of, Trace.refused_of, Trace.trace_of}
 
 -- what is reported of a choice that is refused in this world, with its number and its line
 abbrev pub refusal_in : World → Refused → Refusal

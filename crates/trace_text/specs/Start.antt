@@ -1,10 +1,9 @@
 -- How a program begins, or why it is refused.
 use Rattle.std.specs.Prelude.{◌≡◌, Bool, true, false, Some, None}
 use Rattle.row_code.specs.declared.image.Image.{Image}
-use Rattle.loader.specs.declared.load_fault.LoadFault.{LoadFault}
+use Rattle.loader.specs.{declared.load_fault.LoadFault.LoadFault, Fault.first_fault}
 use Rattle.loader.specs.declared.load_fault.LoadFault.TheVariants as fault
 use Rattle.tier_tree.specs.declared.fault.DeclareFault.TheVariants as declare
-use Rattle.loader.specs.Fault.{first_fault}
 use Rattle.thread_machine.specs.World.{World, IsFirstOf}
 
 -- an image without a fault begins in this world, and may take at most 1,000,000,000 effective steps from there

@@ -1,22 +1,16 @@
 -- The text of a machine's state, which ends a trace.
 use Rattle.std.specs.Prelude.{ℕ, ℤ, pos, ◌+◌, if◌then◌else◌, List, [], ◌∷◌, ◌++◌, codes, decimal, flat_map}
-use Rattle.std.specs.Fmt.{signed_decimal}
-use Rattle.std.specs.Ordering.{int_eq}
-use Rattle.instruction_table.specs.declared.register.Reg.{Reg}
+use Rattle.std.specs.{Fmt.signed_decimal, Ordering.int_eq}
+use Rattle.instruction_table.specs.{declared.register.Reg.Reg, Registers.value_in}
 use Rattle.instruction_table.specs.declared.register.Reg.TheVariants.{R0, R1, R2, R3, R4, R5, R6, R7}
-use Rattle.instruction_table.specs.Registers.{value_in}
 use Rattle.packed_phaser.specs.Flat.{view_of, unarrived_of}
-use Rattle.thread_state.specs.declared.frame.Frame.{Frame}
-use Rattle.thread_state.specs.declared.frame.Entry.{Entry}
+use Rattle.thread_state.specs.declared.{frame.Frame.Frame, frame.Entry.Entry, status.Status.Status}
+use Rattle.thread_state.specs.{Frame.entry_of, Thread.ThreadState}
 use Rattle.thread_state.specs.declared.frame.Entry.TheVariants as entry
-use Rattle.thread_state.specs.declared.status.Status.{Status}
 use Rattle.thread_state.specs.declared.status.Status.TheVariants as status
-use Rattle.thread_state.specs.Frame.{entry_of}
 use Rattle.tier_tree.specs.Forest.{PhaserState}
 use Rattle.cyclic_barrier.specs.Barrier.{BarrierState, number_waiting}
-use Rattle.thread_state.specs.Thread.{ThreadState}
-use Rattle.thread_machine.specs.World.{World}
-use Rattle.thread_machine.specs.Standing.{standing_of, name_of}
+use Rattle.thread_machine.specs.{World.World, Standing.standing_of, Standing.name_of}
 
 -- a status; of a wait it isn't said for what
 abbrev pub status_text : Status → List ℕ

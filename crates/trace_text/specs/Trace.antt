@@ -1,16 +1,11 @@
 -- The text of a trace: a line for each choice, and then the state of the machine.
 use Rattle.std.specs.Prelude.{◌≡◌, ◌↔◌, IsTrue, ℕ, ◌+◌, Bool, List, [], ◌∷◌, ◌++◌, Option, Some, None}
 use Rattle.std.specs.Io.KnownBytes.{Appends}
-use Rattle.thread_machine.specs.declared.choice.Choice.{Choice}
-use Rattle.thread_machine.specs.declared.fault.StepFault.{StepFault}
+use Rattle.thread_machine.specs.{declared.choice.Choice.Choice, declared.fault.StepFault.StepFault, World.World}
+use Rattle.thread_machine.specs.{Step.Played, Step.played, Step.refusal_of, Execution.execution}
 use Rattle.thread_machine.specs.declared.fault.StepFault.TheVariants as fault
-use Rattle.thread_machine.specs.World.{World}
 use Rattle.machine_scene.specs.Scene.{thread_at}
-use Rattle.thread_machine.specs.Step.{Played, played, refusal_of}
-use Rattle.thread_machine.specs.Execution.{execution}
-use Rattle.trace_text.specs.declared.play.Refused.{Refused}
-use Rattle.trace_text.specs.Lines.{event_text, refusal_text}
-use Rattle.trace_text.specs.State.{state_text}
+use Rattle.trace_text.specs.{declared.play.Refused.Refused, Lines.event_text, Lines.refusal_text, State.state_text}
 
 -- the line of a choice, and the lines after it unless it is refused: a refused choice is the last
 abbrev pub lines_by : Option StepFault → World → Choice → (World → List ℕ) → List ℕ

@@ -2,9 +2,7 @@
 ghost use Rattle.std.specs.Prelude.{◌≡◌, IfOk, IsTrue};
 ghost use Rattle.schedule_reader.specs.Schedule.{choices_of};
 ghost use Rattle.thread_machine.specs.World.{first_world, world_of};
-ghost use Rattle.trace_text.specs.Outcome.{ComesOfChoices};
-ghost use Rattle.trace_text.specs.RunText.{AreTraced};
-ghost use Rattle.trace_text.specs.Trace.{AppendsPartOf, lines_of};
+ghost use Rattle.trace_text.specs.{Outcome.ComesOfChoices, RunText.AreTraced, Trace.AppendsPartOf, Trace.lines_of};
 
 use crate::choice_line::ChoiceLine;
 use crate::play::{PlayFault, play_runs};

@@ -3,8 +3,7 @@ ghost use Rattle.std.specs.Prelude.{◌≡◌, ◌≢◌, ◌+◌, ◌++◌, ◌
 ghost use Rattle.std.specs.Io.KnownBytes.{Appends};
 ghost use Rattle.thread_machine.specs.World.{world_of};
 ghost use Rattle.schedule_reader.specs.Schedule.{choices_of};
-ghost use Rattle.trace_text.specs.Lines.{event_text, refusal_text};
-ghost use Rattle.trace_text.specs.Playing.{PlaysTo};
+ghost use Rattle.trace_text.specs.{Lines.event_text, Lines.refusal_text, Playing.PlaysTo};
 ghost use Rattle.trace_text.specs.Trace.{AppendsPartOf, Plays, lines_of};
 
 use crate::choice_line::ChoiceLine;

@@ -3,8 +3,7 @@ ghost use Rattle.std.specs.Prelude.{◌≡◌, ◌+◌, ◌≤◌, [], Ok, Err, 
 ghost use Rattle.row_code.specs.declared.image.Image.{Image};
 ghost use Rattle.schedule_reader.specs.Schedule.{choices_of};
 ghost use Rattle.thread_machine.specs.World.{world_of};
-ghost use Rattle.trace_text.specs.declared.run_end.RunEnd.{RunEnd};
-ghost use Rattle.trace_text.specs.Outcome.{ComesTo, Stops, StopsFrom};
+ghost use Rattle.trace_text.specs.{declared.run_end.RunEnd.RunEnd, Outcome.ComesTo, Outcome.Stops, Outcome.StopsFrom};
 ghost use Rattle.trace_text.specs.Playing.{HasPlayedAll, IsToldOf, PlaysOn, StopsAt, played_fault};
 ghost use Rattle.trace_text.specs.Start.{Begins};
 

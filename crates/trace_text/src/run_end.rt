@@ -1,11 +1,8 @@
 // How a run has ended, and the choice that ended it if one was refused.
 ghost use Rattle.std.specs.Prelude.{◌≡◌, ◌+◌, IfOk, IsTrue, OnOk, Option, option_map};
 ghost use Rattle.std.specs.Io.KnownBytes.{Appends};
-ghost use Rattle.thread_machine.specs.World.{world_of};
-ghost use Rattle.thread_machine.specs.Standing.{standing_of};
-ghost use Rattle.trace_text.specs.Lines.{refusal_text};
-ghost use Rattle.trace_text.specs.Playing.{row_of, told_as};
-ghost use Rattle.trace_text.specs.State.{state_text};
+ghost use Rattle.thread_machine.specs.{World.world_of, Standing.standing_of};
+ghost use Rattle.trace_text.specs.{Lines.refusal_text, Playing.row_of, Playing.told_as, State.state_text};
 
 use crate::line::put_refusal;
 use crate::line_end::LineEnd;

@@ -3,12 +3,9 @@ ghost use Rattle.std.specs.Prelude.{◌≡◌, ◌++◌, ◌*◌, ◌<◌, ◌�
 ghost use Rattle.std.specs.Fmt.{decimal};
 ghost use Rattle.packed_phaser.specs.Flat.{unarrived_of};
 ghost use Rattle.machine_scene.specs.Scene.{scene_of, thread_at};
-ghost use Rattle.tier_tree.specs.Forest.{phaser_at, flat_at};
-ghost use Rattle.tier_tree.specs.Stored.{phasers_of};
-ghost use Rattle.thread_machine.specs.World.{world_of};
-ghost use Rattle.thread_machine.specs.Standing.{name_of, standing_of};
-ghost use Rattle.trace_text.specs.Brief.{IsBrief};
-ghost use Rattle.trace_text.specs.Reading.{HasNoLongLine};
+ghost use Rattle.tier_tree.specs.{Forest.phaser_at, Forest.flat_at, Stored.phasers_of};
+ghost use Rattle.thread_machine.specs.{World.world_of, Standing.name_of, Standing.standing_of};
+ghost use Rattle.trace_text.specs.{Brief.IsBrief, Reading.HasNoLongLine};
 ghost use Rattle.trace_text.specs.State.{status_text, entry_text, stack_text, registers_text, value_text, numbered_texts, thread_text, phaser_text, barrier_text, cell_text, state_text};
 
 use super::pieces::{add_with_count, add_with_value};

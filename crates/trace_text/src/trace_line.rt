@@ -1,6 +1,5 @@
 // What a line of a trace names.
-ghost use Rattle.std.specs.Prelude.{◌≡◌};
-ghost use Rattle.std.specs.List.{before_first, position, position_or_len};
+ghost use Rattle.std.specs.{Prelude.◌≡◌, List.before_first, List.position, List.position_or_len};
 ghost use Rattle.trace_text.specs.Reading.{choice_by, choice_in, choice_named, choice_of_digits, is_space, is_state_line, is_no_digit};
 
 use crate::next_choice::rest_of;

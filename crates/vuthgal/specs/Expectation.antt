@@ -1,9 +1,7 @@
 -- The result of a command whose run is to end as expected.
 use Rattle.std.specs.Prelude.{ℕ, Bool, true, false, List}
-use Rattle.std.specs.Global.{Vec}
-use Rattle.std.specs.List.{list_all}
-use Rattle.trace_text.specs.Expectation.{is_end_expected}
-use Rattle.trace_text.specs.declared.run_end.RunEnd.{RunEnd}
+use Rattle.std.specs.{Global.Vec, List.list_all}
+use Rattle.trace_text.specs.{Expectation.is_end_expected, declared.run_end.RunEnd.RunEnd}
 use Rattle.workbench.specs.declared.done.Done.{Done}
 use Rattle.workbench.specs.declared.done.Done.TheVariants as done
 

@@ -1,9 +1,7 @@
 -- A byte behind others: its line, and its place there.
-use Rattle.std.proofs.Common.{◌≡◌, ◌∙◌, inl, inr, ◌+◌, ℕ, suc, List, [], ◌∷◌, ◌++◌, ◌<◌, length, take, get_or, refl, ap, sym, subst, arith, append_assoc, append-nil, length-append}
-use Rattle.std.proofs.Math.Seq.{take-suc}
-use Rattle.std.specs.Prelude.{if◌then◌else◌}
+use Rattle.std.proofs.Common.{◌≡◌, ◌∙◌, inl, inr, ◌+◌, ℕ, suc, List, [], ◌∷◌, ◌++◌, ◌<◌, length, take, get_or, refl, ap, sym, subst, arith, append_assoc, append-nil, length-append, if◌then◌else◌}
+use Rattle.std.proofs.{Math.Seq.take-suc, lemmas.List.Recursion.is_count_by}
 use Rattle.std.specs.List.{count_by}
-use Rattle.std.proofs.lemmas.List.Recursion.{is_count_by}
 use Rattle.line_reader.specs.Words.{is_line_end}
 use Rattle.vuthgal_c.specs.Places.{AreWholeLines, IsBehind}
 

@@ -1,16 +1,11 @@
 -- What a choice of a session did.
-use Rattle.std.proofs.Common.{◌≡◌, ◌∙◌, ◌+◌, ◌<◌, ℕ, length, refl, ap, arith}
-use Rattle.std.specs.Prelude.{Option, Some, None}
+use Rattle.std.proofs.Common.{◌≡◌, ◌∙◌, ◌+◌, ◌<◌, ℕ, length, refl, ap, arith, Option, Some, None}
 use Rattle.machine_scene.specs.Scene.{Outcome, scene_of, thread_at}
-use Rattle.thread_machine.specs.Ready.{outcome_of_choice}
-use Rattle.thread_machine.specs.Step.{Played, played, played_by, refusal_of}
-use Rattle.thread_machine.specs.World.{World, world_of}
-use Rattle.thread_machine.specs.declared.choice.Choice.{Choice}
+use Rattle.thread_machine.specs.{Ready.outcome_of_choice, Step.Played, Step.played, Step.played_by, Step.refusal_of}
+use Rattle.thread_machine.specs.{World.World, World.world_of, declared.choice.Choice.Choice}
 use Rattle.thread_state.specs.declared.event.Event.{Event}
 use Rattle.debugger.specs.Session.{went_on}
-use Rattle.vuthgal_c.specs.Looks.{event_look}
-use Rattle.vuthgal_c.specs.Sessions.{HasStepped, Kept}
-use Rattle.vuthgal_c.specs.declared.look.EventLook.{EventLook}
+use Rattle.vuthgal_c.specs.{Looks.event_look, Sessions.HasStepped, Sessions.Kept, declared.look.EventLook.EventLook}
 
 there : (world : World) (choice : Choice) → refusal_of world choice ≡ None → choice.thread < length world.scene.threads
 there world choice is = grind arith

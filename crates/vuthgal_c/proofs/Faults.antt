@@ -1,7 +1,6 @@
 -- Of results and inputs: the fault of two results is one, and an input that is read to its end gives all of it.
-use Rattle.std.proofs.Common.{◌≡◌, ◌<◌, ℕ, List, ◌++◌, length, length-append, arith, append-nil, Option, Some, Result, Ok, Err, sym, ap, subst, ◌∙◌}
+use Rattle.std.proofs.Common.{◌≡◌, ◌<◌, ℕ, List, ◌++◌, length, length-append, arith, append-nil, Option, Some, Result, Ok, Err, sym, ap, subst, ◌∙◌, OnOk}
 use Rattle.std.proofs.KnownBytes.{Appends-trans}
-use Rattle.std.specs.Prelude.{OnOk}
 use Rattle.std.specs.Io.KnownBytes.{Appends}
 use Rattle.workbench.specs.Input.{GivesAll, GivesTooMuch, most_bytes}
 

@@ -1,10 +1,7 @@
 -- What is told of a mistake, by the status of the call.
-use Rattle.std.proofs.Common.{◌≡◌, ◌≢◌, ◌∙◌, inl, inr, ℕ, false, List, [], Some, Result, Ok, Err, IfErr, sym, arith}
-use Rattle.std.specs.Prelude.{OnOk, Option}
-use Rattle.commands.specs.Unplanned.{unplanned_status}
-use Rattle.commands.specs.declared.unplanned.Unplanned.{Unplanned}
-use Rattle.vuthgal_c.specs.Beyond.{SettlesSeeds}
-use Rattle.vuthgal_c.specs.Shows.{HandsOver}
+use Rattle.std.proofs.Common.{◌≡◌, ◌≢◌, ◌∙◌, inl, inr, ℕ, false, List, [], Some, Result, Ok, Err, IfErr, sym, arith, OnOk, Option}
+use Rattle.commands.specs.{Unplanned.unplanned_status, declared.unplanned.Unplanned.Unplanned}
+use Rattle.vuthgal_c.specs.{Beyond.SettlesSeeds, Shows.HandsOver}
 
 -- nothing is written but with status 3
 pub silent : (answer : Result (Unit {0}) Unplanned) (status : ℕ) (before after : Option (List ℕ)) (Silent : Type 0)

@@ -1,12 +1,7 @@
 -- What `plan` says of a program, of the file that holds it.
-use Rattle.std.proofs.Common.{◌≡◌, inr, ℕ, Bool, List, Result, Ok, Err, IfOk, IfErr}
-use Rattle.std.specs.Prelude.{OnOk}
-use Rattle.commands.specs.Pictures.{program_of}
-use Rattle.commands.specs.Planning.{HasNoSchedule}
-use Rattle.commands.specs.Seeds.{HaveNoReport}
-use Rattle.commands.specs.declared.seeds.Seeds.{Seeds}
-use Rattle.commands.specs.Unplanned.{unplanned_status}
-use Rattle.commands.specs.declared.unplanned.Unplanned.{Unplanned}
+use Rattle.std.proofs.Common.{◌≡◌, inr, ℕ, Bool, List, Result, Ok, Err, IfOk, IfErr, OnOk}
+use Rattle.commands.specs.{Pictures.program_of, Planning.HasNoSchedule, Seeds.HaveNoReport, declared.seeds.Seeds.Seeds}
+use Rattle.commands.specs.{Unplanned.unplanned_status, declared.unplanned.Unplanned.Unplanned}
 use Rattle.workbench.specs.declared.program.Program.{Program}
 use Rattle.vuthgal_c.specs.Beyond.{IsProgramIn, IsUnplannedFor, IsUnreportedFor}
 

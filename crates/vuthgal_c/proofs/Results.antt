@@ -1,6 +1,5 @@
 -- What follows for each result.
-use Rattle.std.proofs.Common.{Result, Ok, Err, IfErr}
-use Rattle.std.specs.Prelude.{OnOk}
+use Rattle.std.proofs.Common.{Result, Ok, Err, IfErr, OnOk}
 
 pub right_by : {A E P Q : Type 0} (answer : Result A E) → (P → Q) → OnOk answer P → OnOk answer Q
 right_by (Ok done) so is = so is

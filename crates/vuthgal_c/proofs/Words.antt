@@ -1,11 +1,7 @@
 -- The words of a text, one after another.
-use Rattle.std.proofs.Common.{◌≡◌, ◌<◌, ◌≤◌, ◌+◌, ℕ, List, [], ◌∷◌, ◌++◌, length, map, sym, ap, ◌∙◌, subst, append_assoc}
-use Rattle.std.specs.Borrow.{Bor}
-use Rattle.std.proofs.lemmas.List.{append-nil, map_push}
-use Rattle.std.specs.Str.{NoCharPasses}
-use Rattle.std.specs.Str.Iter.{IsAsciiSeparator}
-use Rattle.std.specs.List.{AllPass}
-use Rattle.std.specs.Char.{is_ascii_whitespace}
+use Rattle.std.proofs.Common.{◌≡◌, ◌<◌, ◌≤◌, ◌+◌, ℕ, List, [], ◌∷◌, ◌++◌, length, map, sym, ap, ◌∙◌, subst, append_assoc, append-nil}
+use Rattle.std.proofs.lemmas.List.{map_push}
+use Rattle.std.specs.{Borrow.Bor, Str.NoCharPasses, Str.Iter.IsAsciiSeparator, List.AllPass, Char.is_ascii_whitespace}
 use Rattle.vuthgal_c.specs.Words.{AreWordsOf}
 
 -- words before those of the rest of a text are those of the text

@@ -1,30 +1,17 @@
 -- What the calls promise whose commands are in `commands`: plans, drawings, and schedules of traces.
 use Rattle.std.specs.Prelude.{◌≡◌, ◌≢◌, ◌⊎◌, ◌<◌, ◌==◌, ℕ, Bool, true, false, not, if◌then◌else◌, min, IsTrue, List, [], ◌++◌, length, Option, Some, None, Result, Ok, Err, IfOk, IfErr, OnOk, is_none, codes}
-use Rattle.std.specs.Fmt.{decimal}
-use Rattle.std.specs.Io.KnownBytes.{Appends}
-use Rattle.commands.specs.Drawing.{IsDrawingIn}
-use Rattle.commands.specs.Picture.{HaveNoPicture}
-use Rattle.commands.specs.Pictures.{HasWritten, program_of}
-use Rattle.commands.specs.Planning.{HasNamedPlanned, HasNoSchedule, HasPlanned}
-use Rattle.commands.specs.Seeds.{HaveNoReport, HasReportedSeeds}
-use Rattle.commands.specs.declared.seeds.Seeds.{Seeds}
-use Rattle.commands.specs.declared.seeds.Unlike.{Unlike}
-use Rattle.commands.specs.Unplanned.{unplanned_line, unplanned_status}
-use Rattle.commands.specs.declared.unplanned.Unplanned.{Unplanned}
+use Rattle.std.specs.{Fmt.decimal, Io.KnownBytes.Appends}
+use Rattle.commands.specs.{Drawing.IsDrawingIn, Picture.HaveNoPicture, Pictures.HasWritten, Pictures.program_of}
+use Rattle.commands.specs.{Planning.HasNamedPlanned, Planning.HasNoSchedule, Planning.HasPlanned, declared.seeds.Seeds.Seeds}
+use Rattle.commands.specs.{Seeds.HaveNoReport, Seeds.HasReportedSeeds, declared.seeds.Unlike.Unlike, Choices.HasToldChoices}
+use Rattle.commands.specs.{Unplanned.unplanned_line, Unplanned.unplanned_status, declared.unplanned.Unplanned.Unplanned}
 use Rattle.commands.specs.declared.unplanned.Unplanned.TheVariants as why
-use Rattle.workbench.specs.declared.fault.Fault.{Fault}
+use Rattle.workbench.specs.{declared.fault.Fault.Fault, declared.program.Program.Program, Done.as_asked, Fault.status_of}
+use Rattle.workbench.specs.{Input.most_bytes, ProgramFile.IsNamedProgram, ProgramFile.IsNoProgramFor, declared.done.Done.Done}
 use Rattle.workbench.specs.declared.fault.Fault.TheVariants as fault
 use Rattle.workbench.specs.declared.fault.PictureKind.TheVariants as picture
-use Rattle.workbench.specs.declared.program.Program.{Program}
-use Rattle.workbench.specs.Done.{as_asked}
-use Rattle.workbench.specs.Fault.{status_of}
-use Rattle.workbench.specs.Input.{most_bytes}
-use Rattle.workbench.specs.ProgramFile.{IsNamedProgram, IsNoProgramFor}
-use Rattle.commands.specs.Choices.{HasToldChoices}
-use Rattle.trace_compare.specs.Naming.{Naming}
+use Rattle.trace_compare.specs.{Naming.Naming, Writing.HasWrittenPart}
 use Rattle.trace_text.specs.RunText.{GivesOnAndOn}
-use Rattle.trace_compare.specs.Writing.{HasWrittenPart}
-use Rattle.workbench.specs.declared.done.Done.{Done}
 use Rattle.workbench.specs.declared.done.Done.TheVariants as done
 use Rattle.vuthgal_c.specs.Calls.{Settles}
 

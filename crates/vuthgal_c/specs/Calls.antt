@@ -2,15 +2,9 @@
 -- command for ports in memory.
 use Rattle.std.specs.Prelude.{◌≡◌, ℕ, false, List, [], Option, Some, None, Result}
 use Rattle.trace_compare.specs.declared.comparison.Verdict.{Verdict}
-use Rattle.trace_text.specs.declared.run_end.RunEnd.{RunEnd}
-use Rattle.trace_text.specs.Outcome.{IsUntouched}
-use Rattle.workbench.specs.declared.done.Done.{Done}
-use Rattle.workbench.specs.declared.fault.Fault.{Fault}
-use Rattle.workbench.specs.Asm.{Assembles}
-use Rattle.workbench.specs.Compare.{WritesVerdict, done_by}
-use Rattle.workbench.specs.Debug.{Debugs}
-use Rattle.workbench.specs.Done.{IsSettledBy, as_asked}
-use Rattle.workbench.specs.List.{Lists}
+use Rattle.trace_text.specs.{declared.run_end.RunEnd.RunEnd, Outcome.IsUntouched}
+use Rattle.workbench.specs.{declared.done.Done.Done, declared.fault.Fault.Fault, Asm.Assembles, Debug.Debugs, List.Lists}
+use Rattle.workbench.specs.{Compare.WritesVerdict, Compare.done_by, Done.IsSettledBy, Done.as_asked}
 use Rattle.workbench.specs.Outcome.{ComesOf, ComesOfProgram, Plays, PlaysText}
 
 -- the status of what a command came to, and the line of its fault

@@ -1,14 +1,10 @@
 -- A WHOLE SESSION OF A CALLER. Whatever calls are made, in whatever order, the session is the headline's.
 use Rattle.std.specs.Prelude.{◌≡◌, ℕ, zero, suc, List, [], ◌∷◌, ◌++◌, Option, Some, None, take}
-use Rattle.debugger.specs.Command.{line_order}
-use Rattle.debugger.specs.Session.{IsHistory}
-use Rattle.debugger.specs.Standing.{Stands, without_last}
+use Rattle.debugger.specs.{Command.line_order, Session.IsHistory, Standing.Stands, Standing.without_last}
 use Rattle.headline.specs.Headline.{Accepted, GivesTheRows, start}
 use Rattle.row_code.specs.declared.image.Image.{Image}
 use Rattle.schedule_reader.specs.Schedule.{choices_of, finished_schedule}
-use Rattle.thread_machine.specs.Execution.{execution}
-use Rattle.thread_machine.specs.World.{World, world_of}
-use Rattle.thread_machine.specs.declared.choice.Choice.{Choice}
+use Rattle.thread_machine.specs.{Execution.execution, World.World, World.world_of, declared.choice.Choice.Choice}
 use Rattle.vuthgal_c.specs.Sessions.{Answers, Backs, GoesTo, IsFirstOf, Kept, Steps, copy_of}
 use Rattle.vuthgal_c.specs.declared.look.EventLook.{EventLook}
 use Rattle.workbench.specs.ProgramFile.{IsProgramFile}

@@ -1,16 +1,10 @@
 -- What `vuthgal_explain` promises.
 use Rattle.std.specs.Prelude.{◌≡◌, ◌⊎◌, ◌<◌, ℕ, Bool, true, false, IsTrue, IfErr, List, [], ◌++◌, length, Option, Some, Result, Ok, Err}
-use Rattle.std.specs.Borrow.{Bor}
-use Rattle.std.specs.Str.{IsUtf8}
-use Rattle.std.specs.Io.KnownBytes.{Appends}
-use Rattle.refusals.specs.Explained.{HasExplained}
-use Rattle.refusals.specs.Question.{AsksFor}
-use Rattle.refusals.specs.Word.{AreNoWord}
-use Rattle.refusals.specs.declared.entry.Entry.{Entry}
+use Rattle.std.specs.{Borrow.Bor, Str.IsUtf8, Io.KnownBytes.Appends}
+use Rattle.refusals.specs.{Explained.HasExplained, Question.AsksFor, Word.AreNoWord, declared.entry.Entry.Entry}
 use Rattle.refusals.specs.declared.question.Question.{Question}
-use Rattle.workbench.specs.declared.fault.Fault.{Fault}
+use Rattle.workbench.specs.{declared.fault.Fault.Fault, Done.IsSettled}
 use Rattle.workbench.specs.declared.fault.Fault.TheVariants as fault
-use Rattle.workbench.specs.Done.{IsSettled}
 use Rattle.vuthgal_c.specs.Words.{AreWordsOf}
 
 -- a text means nothing: it isn't UTF-8, or no line has its words, nor has the language its word

@@ -4,11 +4,8 @@ use base.Fml.{Fml, ftrue, fsep, fex}
 use mathlib.Core.Path.{◌≡◌}
 use denote.RattleType.{RattleType}
 use denote.RawPtr.{Ptr}
-use Rattle.std.specs.declared.option.Option.{Option}
-use Rattle.std.specs.declared.option.Option.TheVariants.{None, Some}
-use Rattle.std.specs.declared.alloc.Global.{Global}
-use Rattle.std.specs.contracts.impls.GlobalAllocator.TheImpl.{ghosts}
-use Rattle.std.specs.Box.Ownership.{box_owns}
+use Rattle.std.specs.declared.option.Option.{Option, TheVariants.None, TheVariants.Some}
+use Rattle.std.specs.{declared.alloc.Global.Global, contracts.impls.GlobalAllocator.TheImpl.ghosts, Box.Ownership.box_owns}
 
 -- all allocators of this type are one heap
 abbrev pub heap : Global

@@ -1,28 +1,18 @@
 -- Where a program, a plan or a schedule is refused.
 use Rattle.std.specs.Prelude.{◌≡◌, ◌≢◌, ◌⊎◌, ◌+◌, ◌-◌, ◌==◌, ℕ, Bool, true, false, if◌then◌else◌, List, [], length, take, Option, Some, None, Result, Ok, Err, IfErr, OnOk}
-use Rattle.assembler.specs.Meaning.{StandsFor}
-use Rattle.assembler.specs.Symbols.{symbols_in}
-use Rattle.commands.specs.Pictures.{program_of}
-use Rattle.commands.specs.Planning.{HasThreads, IsUnloadedFor}
-use Rattle.commands.specs.Unplanned.{unplanned_status}
+use Rattle.assembler.specs.{Meaning.StandsFor, Symbols.symbols_in}
+use Rattle.commands.specs.{Pictures.program_of, Planning.HasThreads, Planning.IsUnloadedFor, Unplanned.unplanned_status}
 use Rattle.commands.specs.declared.unplanned.Unplanned.{Unplanned}
 use Rattle.commands.specs.declared.unplanned.Unplanned.TheVariants as why
-use Rattle.plans.specs.Plan.{words_in_plan}
-use Rattle.plans.specs.declared.fault.PlanFault.{PlanFault}
-use Rattle.plans.specs.declared.word.Word.{Word}
-use Rattle.schedule_reader.specs.Schedule.{finished_schedule}
-use Rattle.schedule_reader.specs.declared.fault.ScheduleFault.{ScheduleFault}
+use Rattle.plans.specs.{Plan.words_in_plan, declared.fault.PlanFault.PlanFault, declared.word.Word.Word}
+use Rattle.schedule_reader.specs.{Schedule.finished_schedule, declared.fault.ScheduleFault.ScheduleFault}
 use Rattle.schedule_reader.specs.declared.fault.ScheduleFault.TheVariants as schedule
-use Rattle.workbench.specs.ProgramFile.{IsNoProgramFor, IsNoTextFor}
-use Rattle.workbench.specs.RunLine.{program_part, schedule_part}
-use Rattle.workbench.specs.declared.fault.Fault.{Fault}
+use Rattle.workbench.specs.{ProgramFile.IsNoProgramFor, ProgramFile.IsNoTextFor, RunLine.program_part, RunLine.schedule_part}
+use Rattle.workbench.specs.declared.{fault.Fault.Fault, program.Program.Program}
 use Rattle.workbench.specs.declared.fault.Fault.TheVariants as fault
-use Rattle.workbench.specs.declared.program.Program.{Program}
-use Rattle.vuthgal_c.specs.Beyond.{IsProgramIn, IsTooMuch, SettlesSeeds}
-use Rattle.vuthgal_c.specs.Places.{IsByteAt, no_place, word_place}
-use Rattle.vuthgal_c.specs.declared.mistake.Kind.{Kind}
+use Rattle.vuthgal_c.specs.{Beyond.IsProgramIn, Beyond.IsTooMuch, Beyond.SettlesSeeds, declared.mistake.Kind.Kind}
+use Rattle.vuthgal_c.specs.{Places.IsByteAt, Places.no_place, Places.word_place, declared.place.PlaceLook.PlaceLook}
 use Rattle.vuthgal_c.specs.declared.mistake.Kind.TheVariants as kind
-use Rattle.vuthgal_c.specs.declared.place.PlaceLook.{PlaceLook}
 
 -- what is looked at, by its number
 abbrev pub kind_of : ℕ → Kind

@@ -2,39 +2,23 @@
 use Rattle.std.specs.Prelude.{◌≡◌, ◌≢◌, ◌⊎◌, ◌+◌, ◌<◌, ◌≤◌, ℕ, Bool, true, false, List, [], Option, Some, None, length, min, nat_lt, take}
 use Rattle.cyclic_barrier.specs.ThreadSet.{has}
 use Rattle.row_code.specs.declared.image.Image.{Image}
-use Rattle.machine_scene.specs.Scene.{scene_of, thread_at}
-use Rattle.machine_scene.specs.Outcomes.{is_ready}
-use Rattle.thread_machine.specs.Execution.{execution}
-use Rattle.thread_machine.specs.Ready.{can_expire}
-use Rattle.thread_machine.specs.Step.{played}
-use Rattle.thread_machine.specs.World.{World, StoredWorld, world_of}
-use Rattle.thread_machine.specs.declared.choice.Choice.{Choice}
-use Rattle.thread_machine.specs.declared.fault.StepFault.{StepFault}
+use Rattle.machine_scene.specs.{Scene.scene_of, Scene.thread_at, Outcomes.is_ready}
+use Rattle.thread_machine.specs.{Execution.execution, Ready.can_expire, Step.played, declared.choice.Choice.Choice}
+use Rattle.thread_machine.specs.{World.World, World.StoredWorld, World.world_of, declared.fault.StepFault.StepFault}
 use Rattle.thread_machine.specs.declared.fault.StepFault.TheVariants as step
 use Rattle.thread_state.specs.Thread.{ThreadState}
-use Rattle.debugger.specs.Go.{Refuses}
-use Rattle.debugger.specs.Moves.{IsSessionStep}
-use Rattle.debugger.specs.Session.{IsHistory, Session, went_back}
-use Rattle.debugger.specs.Command.{line_order}
-use Rattle.debugger.specs.Reply.{Replies}
+use Rattle.debugger.specs.{Go.Refuses, Moves.IsSessionStep, Session.IsHistory, Session.Session, Session.went_back}
+use Rattle.debugger.specs.{Command.line_order, Reply.Replies}
 use Rattle.plans.specs.Others.{other_choices}
-use Rattle.schedule_reader.specs.Schedule.{choices_of, finished_schedule}
-use Rattle.schedule_reader.specs.Text.{schedule_text}
+use Rattle.schedule_reader.specs.{Schedule.choices_of, Schedule.finished_schedule, Text.schedule_text, declared.run.Run.Run}
 use Rattle.schedule_reader.specs.declared.fault.ScheduleFault.{ScheduleFault}
-use Rattle.schedule_reader.specs.declared.run.Run.{Run}
 use Rattle.trace_text.specs.Start.{Begins}
-use Rattle.vuthgal_c.specs.Looks.{event_look}
-use Rattle.vuthgal_c.specs.Room.{reply_room}
-use Rattle.vuthgal_c.specs.declared.going.NotThere.{NotThere}
-use Rattle.vuthgal_c.specs.declared.going.NotThere.TheVariants as nowhere
+use Rattle.vuthgal_c.specs.{Looks.event_look, Room.reply_room, declared.going.NotThere.NotThere, declared.other.NoOther.NoOther}
 use Rattle.vuthgal_c.specs.declared.look.EventLook.{EventLook}
-use Rattle.vuthgal_c.specs.declared.other.NoOther.{NoOther}
+use Rattle.vuthgal_c.specs.declared.going.NotThere.TheVariants as nowhere
 use Rattle.vuthgal_c.specs.declared.other.NoOther.TheVariants as nothing
-use Rattle.workbench.specs.Debug.{HasNoSession, IsFirstSession}
-use Rattle.workbench.specs.Fault.{line_of, status_of}
-use Rattle.workbench.specs.Input.{most_bytes}
-use Rattle.workbench.specs.ProgramFile.{IsNoProgramFor, IsProgramFile}
-use Rattle.workbench.specs.declared.fault.Fault.{Fault}
+use Rattle.workbench.specs.{Debug.HasNoSession, Debug.IsFirstSession, Fault.line_of, Fault.status_of, Input.most_bytes}
+use Rattle.workbench.specs.{ProgramFile.IsNoProgramFor, ProgramFile.IsProgramFile, declared.fault.Fault.Fault}
 use Rattle.workbench.specs.declared.fault.Fault.TheVariants as fault
 
 -- a session that a caller holds: the debugger's, the reply to its last command, and the program that it plays

@@ -1,8 +1,6 @@
 -- The words of a text.
 use Rattle.std.specs.Prelude.{◌≡◌, ◌<◌, ℕ, List, [], ◌∷◌, ◌++◌, length}
-use Rattle.std.specs.Str.{NoCharPasses}
-use Rattle.std.specs.List.{AllPass}
-use Rattle.std.specs.Char.{is_ascii_whitespace}
+use Rattle.std.specs.{Str.NoCharPasses, List.AllPass, Char.is_ascii_whitespace}
 
 -- only ASCII blanks
 abbrev pub AreBlanks : List ℕ → Type 0

@@ -1,7 +1,6 @@
 //! The schedules of traces.
 ghost use Rattle.std.specs.Prelude.{◌≡◌};
-ghost use Rattle.vuthgal_c.specs.Beyond.{NamesChoices, done_by_trace};
-ghost use Rattle.vuthgal_c.specs.Shows.{Shows};
+ghost use Rattle.vuthgal_c.specs.{Beyond.NamesChoices, Beyond.done_by_trace, Shows.Shows};
 ghost use Rattle.workbench.specs.Done.{IsSettledBy};
 
 use crate::reply::Reply;

@@ -1,6 +1,5 @@
 //! Sessions of the debugger.
-ghost use Rattle.vuthgal_c.specs.Calls.{DebugsProgram};
-ghost use Rattle.vuthgal_c.specs.Shows.{Shows};
+ghost use Rattle.vuthgal_c.specs.{Calls.DebugsProgram, Shows.Shows};
 
 use crate::reply::Reply;
 use std::alloc::Global;

@@ -1,7 +1,6 @@
 //! Drawings of a run.
 ghost use Rattle.std.specs.Prelude.{◌≡◌, [], Err, Some, false};
-ghost use Rattle.vuthgal_c.specs.Beyond.{Draws, DrawsRun, IsTooMuch};
-ghost use Rattle.vuthgal_c.specs.Shows.{Shows};
+ghost use Rattle.vuthgal_c.specs.{Beyond.Draws, Beyond.DrawsRun, Beyond.IsTooMuch, Shows.Shows};
 ghost use Rattle.workbench.specs.declared.fault.Fault.{Fault};
 
 use crate::files::{is_within, whole_program};

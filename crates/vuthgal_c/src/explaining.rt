@@ -1,7 +1,6 @@
 //! What words mean.
 ghost use Rattle.std.specs.Prelude.{[], ◌≡◌, IfOk, Some, false, map};
-ghost use Rattle.vuthgal_c.specs.Explaining.{Explains, ExplainsText, SettlesExplaining};
-ghost use Rattle.vuthgal_c.specs.Shows.{Shows};
+ghost use Rattle.vuthgal_c.specs.{Explaining.Explains, Explaining.ExplainsText, Explaining.SettlesExplaining, Shows.Shows};
 ghost use Rattle.vuthgal_c.specs.Words.{AreWordsOf};
 
 use crate::reply::Reply;

@@ -1,7 +1,6 @@
 //! The program in a file, and how much of a file is read.
 ghost use Rattle.std.specs.Prelude.{◌≡◌, ◌≤◌, ◌↔◌, IsTrue, IfErr, IfOk, length};
-ghost use Rattle.workbench.specs.Input.{most_bytes};
-ghost use Rattle.workbench.specs.ProgramFile.{IsNoProgramFor};
+ghost use Rattle.workbench.specs.{Input.most_bytes, ProgramFile.IsNoProgramFor};
 ghost use Rattle.vuthgal_c.specs.Beyond.{IsProgramIn};
 
 use std::alloc::Global;

@@ -18,8 +18,7 @@ pub struct Handle {
 }
 
 impl Model for Handle {
-    ghost use Rattle.vuthgal_c.specs.Keep.{keeps};
-    ghost use Rattle.vuthgal_c.specs.contracts.held.Held.{the_row};
+    ghost use Rattle.vuthgal_c.specs.{Keep.keeps, contracts.held.Held.the_row};
 
     ghost also_owns = { λ h. keeps the_row h.at h.alive h.session };
 }

@@ -1,10 +1,7 @@
 //! A debugger, its last reply, and its program.
 ghost use Rattle.std.specs.Prelude.{◌≡◌, ◌≢◌, ◌<◌, ◌++◌, List, ℕ, [], Some, Err, true, false, IfErr, IfOk, OnErr, OnOk, length, take};
 ghost use Rattle.std.specs.Io.KnownBytes.{Appends};
-ghost use Rattle.debugger.specs.Command.{line_order};
-ghost use Rattle.debugger.specs.Go.{Refuses};
-ghost use Rattle.debugger.specs.Reply.{Replies};
-ghost use Rattle.debugger.specs.Session.{went_back};
+ghost use Rattle.debugger.specs.{Command.line_order, Go.Refuses, Reply.Replies, Session.went_back};
 ghost use Rattle.machine_scene.specs.Scene.{scene_of, thread_at};
 ghost use Rattle.thread_machine.specs.World.{world_of};
 ghost use Rattle.schedule_reader.specs.Schedule.{choices_of};

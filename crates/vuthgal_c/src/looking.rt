@@ -2,8 +2,7 @@
 ghost use Rattle.std.specs.Prelude.{◌≡◌, ◌<◌, List, length, nat_lt, ℕ};
 ghost use Rattle.machine_scene.specs.Scene.{scene_of, thread_at, barrier_at};
 ghost use Rattle.thread_machine.specs.World.{world_of};
-ghost use Rattle.tier_tree.specs.Forest.{phaser_at};
-ghost use Rattle.tier_tree.specs.Stored.{phasers_of};
+ghost use Rattle.tier_tree.specs.{Forest.phaser_at, Stored.phasers_of};
 ghost use Rattle.thread_state.specs.Thread.{ThreadState};
 ghost use Rattle.vuthgal_c.specs.Looks.{BarriersAreSeen, CellsAreSeen, OutputsAreSeen, PhasersAreSeen, StackIsSeen, ThreadsAreSeen, barrier_look, phaser_look, state_look, thread_look};
 

@@ -5,11 +5,8 @@ ghost use Rattle.commands.specs.declared.unplanned.Unplanned.TheVariants as why;
 ghost use Rattle.line_reader.specs.Seen.{name_seen};
 ghost use Rattle.schedule_reader.specs.Schedule.{finished_schedule};
 ghost use Rattle.workbench.specs.declared.fault.Fault.{Fault};
-ghost use Rattle.vuthgal_c.specs.Beyond.{IsTooMuch};
+ghost use Rattle.vuthgal_c.specs.{Beyond.IsTooMuch, Places.no_place, Shows.Shows, declared.mistake.Mistake.Mistake};
 ghost use Rattle.vuthgal_c.specs.Mistakes.{HasNames, IsNotLoaded, IsPlaced, IsPlacedLoad, IsProgramOf, IsRight, IsRightPlan, IsWrongPlan, IsWrongSchedule, LacksProgram, Mistakes, Refuses, is_text, kind_of, offset_of, text_in, text_place};
-ghost use Rattle.vuthgal_c.specs.Places.{no_place};
-ghost use Rattle.vuthgal_c.specs.Shows.{Shows};
-ghost use Rattle.vuthgal_c.specs.declared.mistake.Mistake.{Mistake};
 
 use crate::files::is_within;
 use crate::place::PlaceLook;

@@ -1,13 +1,10 @@
 //! The schedules of plans, and what the orders of seeds lead to.
 ghost use Rattle.std.specs.Prelude.{◌≡◌, ◌≢◌, ◌==◌, ◌≤◌, ◌++◌, [], Err, IfErr, IfOk, IsTrue, OnErr, OnOk, Option, Some, codes, false, min, not};
-ghost use Rattle.std.specs.Fmt.{decimal};
-ghost use Rattle.std.specs.Io.KnownBytes.{Appends};
+ghost use Rattle.std.specs.{Fmt.decimal, Io.KnownBytes.Appends};
 ghost use Rattle.vuthgal_c.specs.Beyond.{AreAsked, HasPlannedBy, IsTooMuch, Plans, PlansSteps, Reports, ReportsSeeds, SettlesPlan, SettlesSeeds, stopped_line};
 ghost use Rattle.vuthgal_c.specs.Shows.{Shows};
-ghost use Rattle.commands.specs.Planning.{HasNoSchedule};
-ghost use Rattle.commands.specs.Seeds.{HasReportedSeeds, HaveNoReport};
-ghost use Rattle.commands.specs.Unplanned.{unplanned_status};
-ghost use Rattle.commands.specs.declared.seeds.Unlike.{Unlike};
+ghost use Rattle.commands.specs.{Planning.HasNoSchedule, Seeds.HasReportedSeeds, Seeds.HaveNoReport};
+ghost use Rattle.commands.specs.{Unplanned.unplanned_status, declared.seeds.Unlike.Unlike};
 ghost use Rattle.commands.specs.declared.unplanned.Unplanned.{Unplanned};
 ghost use Rattle.workbench.specs.declared.fault.Fault.{Fault};
 

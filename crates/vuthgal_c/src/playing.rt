@@ -1,6 +1,5 @@
 //! Runs.
-ghost use Rattle.vuthgal_c.specs.Calls.{Runs, RunsText};
-ghost use Rattle.vuthgal_c.specs.Shows.{Shows};
+ghost use Rattle.vuthgal_c.specs.{Calls.Runs, Calls.RunsText, Shows.Shows};
 
 use crate::reply::Reply;
 use std::alloc::Global;

@@ -1,8 +1,6 @@
 //! A sink in memory for the reply to one command of a session.
 ghost use Rattle.std.specs.Prelude.{◌≡◌, ◌<◌, ◌≤◌, ◌++◌, [], ℕ, List, Some, IfOk, true, false, length};
-ghost use Rattle.std.specs.Io.KnownBytes.{Appends};
-ghost use Rattle.std.specs.Option.{MatchOption};
-ghost use Rattle.std.specs.Vec.{vec_capacity};
+ghost use Rattle.std.specs.{Io.KnownBytes.Appends, Option.MatchOption, Vec.vec_capacity};
 ghost use Rattle.byte_ports.specs.Port.{FailsForGood};
 ghost use Rattle.vuthgal_c.specs.Room.{HasKept, reply_room};
 

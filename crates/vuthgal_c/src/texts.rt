@@ -1,6 +1,5 @@
 //! Texts and images.
-ghost use Rattle.vuthgal_c.specs.Calls.{AssemblesText, ListsProgram};
-ghost use Rattle.vuthgal_c.specs.Shows.{Shows};
+ghost use Rattle.vuthgal_c.specs.{Calls.AssemblesText, Calls.ListsProgram, Shows.Shows};
 
 use crate::reply::Reply;
 use std::alloc::Global;

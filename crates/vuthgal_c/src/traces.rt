@@ -1,6 +1,5 @@
 //! Traces that are read.
-ghost use Rattle.vuthgal_c.specs.Calls.{Compares};
-ghost use Rattle.vuthgal_c.specs.Shows.{Shows};
+ghost use Rattle.vuthgal_c.specs.{Calls.Compares, Shows.Shows};
 
 use crate::reply::Reply;
 use std::alloc::Global;

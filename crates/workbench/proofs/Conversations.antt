@@ -1,19 +1,14 @@
 -- Exchanges that are held after other exchanges.
 use Rattle.std.proofs.Common.{◌≡◌, ◌≢◌, ◌≤◌, ◌+◌, ◌∙◌, ◌⊎◌, inl, inr, ℕ, Bool, true, false, List, [], ◌∷◌, ◌++◌, Option, Result, Ok, Err, IsTrue, refl, ap, sym, subst, length, append_assoc, length-append, arith}
 use Rattle.std.proofs.KnownBytes.{Appends-nil, Appends-trans, Consumes-nil, Consumes-trans}
-use Rattle.std.proofs.lemmas.Grind.{flat_map-append}
-use Rattle.std.proofs.lemmas.List.{flat_map_more}
+use Rattle.std.proofs.lemmas.{Grind.flat_map-append, List.flat_map_more}
 use Rattle.std.proofs.lemmas.List.Elements.{All-nil, All-cons, All-append}
-use Rattle.std.specs.List.{flat_map}
-use Rattle.std.specs.Io.KnownBytes.{Appends, Consumes, IsAtEnd}
+use Rattle.std.specs.{List.flat_map, Io.KnownBytes.Appends, Io.KnownBytes.Consumes, Io.KnownBytes.IsAtEnd}
 use Rattle.trace_text.specs.RunText.{GivesOnAndOn}
-use Rattle.debugger.specs.Session.{Session}
-use Rattle.debugger.specs.Command.{Order, Quit, goes_on, line_order}
-use Rattle.debugger.specs.Reply.{Replies}
-use Rattle.workbench.specs.declared.fault.Fault.{Fault}
-use Rattle.workbench.specs.declared.fault.Fault.TheVariants as fault
+use Rattle.debugger.specs.{Session.Session, Command.Order, Command.Quit, Command.goes_on, Command.line_order, Reply.Replies}
+use Rattle.workbench.specs.{declared.fault.Fault.Fault, Input.GivesInEach, Input.IsCounted}
 use Rattle.workbench.specs.Debug.{Converses, Cut, Ending, Ends, Exchange, Finished, GivesFew, HasConversed, HasNoEnd, HasReadLines, IsDialogue, Unanswered, bytes_of}
-use Rattle.workbench.specs.Input.{GivesInEach, IsCounted}
+use Rattle.workbench.specs.declared.fault.Fault.TheVariants as fault
 
 -- what is read in some exchanges
 abbrev pub lines_of : List Exchange → List ℕ

@@ -1,8 +1,7 @@
 -- The conversation on a program that was just loaded.
 use Rattle.std.proofs.Common.{Bool, List, ℕ, Option, Result, arith}
 use Rattle.row_code.specs.declared.image.Image.{Image}
-use Rattle.trace_text.specs.Outcome.{IsUntouched}
-use Rattle.trace_text.specs.RunText.{GivesOnAndOn}
+use Rattle.trace_text.specs.{Outcome.IsUntouched, RunText.GivesOnAndOn}
 use Rattle.debugger.specs.Session.{Session}
 use Rattle.schedule_reader.specs.declared.run.Run.{Run}
 use Rattle.workbench.specs.declared.fault.Fault.{Fault}

@@ -1,9 +1,7 @@
 -- What comes of an input that can't be read.
 use Rattle.std.proofs.Common.{◌≡◌, ◌⊎◌, ℕ, Bool, IsTrue, false, List, Option, arith}
-use Rattle.workbench.specs.declared.fault.Fault.{Fault}
+use Rattle.workbench.specs.{declared.fault.Fault.Fault, Input.GivesTooMuch, Outcome.IsUnreadFor}
 use Rattle.workbench.specs.declared.fault.Fault.TheVariants as fault
-use Rattle.workbench.specs.Input.{GivesTooMuch}
-use Rattle.workbench.specs.Outcome.{IsUnreadFor}
 
 -- its bytes aren't known
 pub unread : (f : Fault) (before after : Option (List ℕ)) (failed : Bool) → ((f ≡ fault.Memory) × (failed ≡ false)) ⊎ (f ≡ fault.Read)

@@ -1,10 +1,8 @@
 -- Lines that are written piece by piece.
-use Rattle.std.proofs.Common.{◌≡◌, ◌++◌, ℕ, List, sym, subst, arith}
+use Rattle.std.proofs.Common.{◌≡◌, ◌++◌, ℕ, List, sym, subst, arith, Option, Result, OnOk}
 use Rattle.std.proofs.KnownBytes.{Appends-trans}
-use Rattle.std.specs.Prelude.{Option, Result, OnOk}
 use Rattle.std.specs.Io.KnownBytes.{Appends}
-use Rattle.workbench.specs.declared.fault.Fault.{Fault}
-use Rattle.workbench.specs.Fault.{word_of}
+use Rattle.workbench.specs.{declared.fault.Fault.Fault, Fault.word_of}
 
 -- two pieces, of which the last may fail
 pub pushed-after : {X E : Type 0} (last : Result X E) (a b c : Option (List ℕ)) (front rest : List ℕ)

@@ -1,18 +1,13 @@
 -- What becomes of a run that was recorded.
 use Rattle.std.proofs.Common.{◌≡◌, ◌∙◌, ℕ, All, List, Ok, Result, Option, None, inl, inr, sym, arith}
 use Rattle.row_code.specs.declared.image.Image.{Image}
-use Rattle.loader.specs.Fault.{first_fault}
-use Rattle.loader.specs.Program.{IsProgramOf, Program}
+use Rattle.loader.specs.{Fault.first_fault, Program.IsProgramOf, Program.Program}
 use Rattle.assembler.proofs.ReadLines.{one_image}
-use Rattle.schedule_reader.specs.declared.run.Run.{Run}
-use Rattle.schedule_reader.specs.Schedule.{IsRun, choices_of}
+use Rattle.schedule_reader.specs.{declared.run.Run.Run, Schedule.IsRun, Schedule.choices_of}
 use Rattle.thread_machine.proofs.Firsts.{is_first}
 use Rattle.thread_machine.specs.World.{first_world}
-use Rattle.trace_text.specs.declared.run_end.RunEnd.{RunEnd}
-use Rattle.trace_text.specs.RunText.{AreTraced}
-use Rattle.trace_text.specs.Trace.{AppendsPartOf, lines_of}
-use Rattle.workbench.specs.Live.{IsLived, IsLivedAtMost, IsRecorded}
-use Rattle.workbench.specs.ProgramFile.{IsProgramFile}
+use Rattle.trace_text.specs.{declared.run_end.RunEnd.RunEnd, RunText.AreTraced, Trace.AppendsPartOf, Trace.lines_of}
+use Rattle.workbench.specs.{Live.IsLived, Live.IsLivedAtMost, Live.IsRecorded, ProgramFile.IsProgramFile}
 
 ok_is : {A E : Type 0} (a b : A) → (◌≡◌ {A = Result A E} (Ok a) (Ok b)) → a ≡ b
 ok_is a b is = cc

@@ -1,20 +1,12 @@
 -- What callers made when they met, and what the closed word tells of it.
-use Rattle.std.proofs.Common.{◌≡◌, ◌∙◌, ◌⊎◌, inl, inr, ◌+◌, ◌-◌, ◌<◌, ◌≤◌, ℕ, zero, suc, ℤ, false, List, [], ◌∷◌, ◌++◌, All, Ok, Err, Result, length, get_or, arith, sym, ap, subst, append_assoc, append-nil, length-append}
-use Rattle.std.specs.Prelude.{IfOk, IfErr, flat_map, map}
+use Rattle.std.proofs.Common.{◌≡◌, ◌∙◌, ◌⊎◌, inl, inr, ◌+◌, ◌-◌, ◌<◌, ◌≤◌, ℕ, zero, suc, ℤ, false, List, [], ◌∷◌, ◌++◌, All, Ok, Err, Result, length, get_or, arith, sym, ap, subst, append_assoc, append-nil, length-append, IfOk, IfErr, flat_map, map}
+use Rattle.std.proofs.lemmas.List.{get_or-map, get_or_default, length-map, map-append, Concat.flat_map-append}
+use Rattle.std.proofs.lemmas.List.{Elements.All-push, FromFn.get_or-range_with_len, FromFn.length-range_with_len}
 use Rattle.std.specs.List.{range_with_len}
-use Rattle.std.proofs.lemmas.List.{get_or-map, get_or_default, length-map, map-append}
-use Rattle.std.proofs.lemmas.List.Concat.{flat_map-append}
-use Rattle.std.proofs.lemmas.List.Elements.{All-push}
-use Rattle.std.proofs.lemmas.List.FromFn.{get_or-range_with_len, length-range_with_len}
-use Rattle.shared_phaser.specs.declared.history.Call.TheVariants.{Arrive, Await}
-use Rattle.shared_phaser.specs.declared.history.Reply.{Reply}
+use Rattle.shared_phaser.specs.declared.history.{Call.TheVariants.Arrive, Call.TheVariants.Await, Reply.Reply, Entry.Entry}
 use Rattle.shared_phaser.specs.declared.history.Reply.TheVariants.{Counted, Dead, NotThere}
-use Rattle.shared_phaser.specs.declared.history.Answer.TheVariants.{Replied, Passed}
-use Rattle.shared_phaser.specs.declared.history.Entry.{Entry}
-use Rattle.shared_phaser.specs.declared.history.Kept.{Kept}
-use Rattle.shared_phaser.specs.declared.history.Setup.{Setup}
-use Rattle.shared_phaser.specs.declared.history.Known.{Known}
-use Rattle.shared_phaser.specs.History.{IsLegal, at_end, calls_by}
+use Rattle.shared_phaser.specs.declared.history.{Answer.TheVariants.Replied, Answer.TheVariants.Passed, Kept.Kept, Setup.Setup}
+use Rattle.shared_phaser.specs.{declared.history.Known.Known, History.IsLegal, History.at_end, History.calls_by}
 use Rattle.shared_phaser.specs.Known.{ArrivesAndAwaits, Caller, EndsAs, IsApart, IsWhole, JoinsCaller, MakesCall, phaser_of}
 use Rattle.workbench.specs.Race.{AreMeetings, HasMet, IsFinal, IsMeeting, number_of, opening_of}
 

@@ -1,9 +1,7 @@
 -- A line that is written piece by piece.
-use Rattle.std.proofs.Common.{◌≡◌, ◌++◌, ℕ, List, subst}
+use Rattle.std.proofs.Common.{◌≡◌, ◌++◌, ℕ, List, subst, Option, Result, Ok, Err, OnOk, codes}
 use Rattle.std.proofs.KnownBytes.{Appends-trans}
-use Rattle.std.specs.Prelude.{Option, Result, Ok, Err, OnOk, codes}
-use Rattle.std.specs.Fmt.{decimal}
-use Rattle.std.specs.Io.KnownBytes.{Appends}
+use Rattle.std.specs.{Fmt.decimal, Io.KnownBytes.Appends}
 use Rattle.packed_phaser.specs.Flat.{Flat, unarrived_of}
 use Rattle.workbench.specs.Race.{line_of}
 

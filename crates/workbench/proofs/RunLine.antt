@@ -1,13 +1,10 @@
 -- The first line of a file, and the parts before and after the run line.
-use Rattle.std.proofs.Common.{◌≡◌, ◌∙◌, ◌+◌, ◌-◌, ◌<◌, ◌≤◌, ◌==◌, ◌&&◌, ℕ, true, false, List, [], ◌∷◌, ◌++◌, length, take, drop, cond, ap, sym, arith, inl, inr, ◌⊎◌}
-use Rattle.std.specs.Prelude.{codes}
-use Rattle.std.proofs.lemmas.Bool.{cases_lt}
-use Rattle.std.specs.List.{slice_split, position_or_len, before_first, after_first, list_all, join_with_byte}
-use Rattle.std.specs.Str.{bytes_eq}
-use Rattle.std.proofs.lemmas.Bool.Decides.{nat_tests}
-use Rattle.std.proofs.lemmas.List.{take_all, take_more, drop_all, drop-drop, append-nil, append_assoc, length-drop, take-append-drop, take-take, drop-take}
+use Rattle.std.proofs.Common.{◌≡◌, ◌∙◌, ◌+◌, ◌-◌, ◌<◌, ◌≤◌, ◌==◌, ◌&&◌, ℕ, true, false, List, [], ◌∷◌, ◌++◌, length, take, drop, cond, ap, sym, arith, inl, inr, ◌⊎◌, codes, take_all, drop-drop, append-nil, append_assoc, length-drop, take-append-drop, take-take}
+use Rattle.std.proofs.lemmas.{Bool.cases_lt, Bool.Decides.nat_tests, List.take_more, List.drop_all, List.drop-take}
 use Rattle.std.proofs.lemmas.List.Splits.{slice_split_first, slice_split_none, join_with_byte-slice_split, length-slice_split}
 use Rattle.std.proofs.lemmas.List.Sums.{fails_before_first, passes_at_first}
+use Rattle.std.specs.List.{slice_split, position_or_len, before_first, after_first, list_all, join_with_byte}
+use Rattle.std.specs.Str.{bytes_eq}
 use Rattle.line_reader.specs.Words.{is_line_end}
 use Rattle.workbench.specs.RunLine.{is_run_line, are_run, after_run, before_run, schedule_part, program_part}
 

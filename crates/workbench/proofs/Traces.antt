@@ -1,25 +1,17 @@
 -- A session behind the choices of a trace.
-use Rattle.std.proofs.Common.{◌≡◌, ◌⊎◌, inl, inr, sym, ℕ, Bool, List, [], ◌∷◌, Option, Some, Result, Ok, Err, IsTrue, refl, ap, subst, arith}
-use Rattle.std.specs.Prelude.{IfErr, IfOk, OnOk}
+use Rattle.std.proofs.Common.{◌≡◌, ◌⊎◌, inl, inr, sym, ℕ, Bool, List, [], ◌∷◌, Option, Some, Result, Ok, Err, IsTrue, refl, ap, subst, arith, IfErr, IfOk, OnOk}
 use Rattle.std.specs.Io.KnownBytes.{Appends}
 use Rattle.row_code.specs.declared.image.Image.{Image}
 use Rattle.thread_machine.specs.declared.choice.Choice.{Choice}
-use Rattle.schedule_reader.specs.declared.run.Run.{Run}
-use Rattle.schedule_reader.specs.Schedule.{choices_of, run_of}
+use Rattle.schedule_reader.specs.{declared.run.Run.Run, Schedule.choices_of, Schedule.run_of}
 use Rattle.trace_compare.specs.Naming.{HasNamed}
-use Rattle.trace_text.specs.Outcome.{IsUntouched}
-use Rattle.trace_text.specs.RunText.{GivesOnAndOn}
+use Rattle.trace_text.specs.{Outcome.IsUntouched, RunText.GivesOnAndOn}
 use Rattle.trace_compare.specs.declared.comparison.Verdict.TheVariants as verdict
-use Rattle.debugger.specs.Session.{Session}
-use Rattle.debugger.specs.declared.stop.Stop.{Stop}
-use Rattle.debugger.specs.Go.{Stops}
-use Rattle.debugger.specs.Reply.{stop_text}
-use Rattle.workbench.specs.declared.done.Done.{Done}
-use Rattle.workbench.specs.declared.done.Done.TheVariants as done
-use Rattle.workbench.specs.declared.fault.Fault.{Fault}
-use Rattle.workbench.specs.declared.fault.Fault.TheVariants as fault
-use Rattle.workbench.specs.Compare.{verdict_line}
+use Rattle.debugger.specs.{Session.Session, declared.stop.Stop.Stop, Go.Stops, Reply.stop_text}
+use Rattle.workbench.specs.{declared.done.Done.Done, declared.fault.Fault.Fault, Compare.verdict_line}
 use Rattle.workbench.specs.Debug.{Converses, DebugsAt, HasNoSession, IsBegun, IsFirstSession, IsNotBegunAt}
+use Rattle.workbench.specs.declared.done.Done.TheVariants as done
+use Rattle.workbench.specs.declared.fault.Fault.TheVariants as fault
 
 -- each choice is a run
 pub runs_of : List Choice → List Run

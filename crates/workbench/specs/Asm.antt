@@ -2,11 +2,9 @@
 use Rattle.std.specs.Prelude.{◌≡◌, ℕ, Bool, IsTrue, List, Option, Result, Ok, Err}
 use Rattle.std.specs.Io.KnownBytes.{Appends}
 use Rattle.assembler.specs.Meaning.{StandsFor}
-use Rattle.row_code.specs.Image.{image_bytes}
-use Rattle.row_code.specs.declared.image.Image.{Image}
-use Rattle.workbench.specs.declared.fault.Fault.{Fault}
+use Rattle.row_code.specs.{Image.image_bytes, declared.image.Image.Image}
+use Rattle.workbench.specs.{declared.fault.Fault.Fault, ProgramFile.IsNoTextFor}
 use Rattle.workbench.specs.declared.fault.Fault.TheVariants as fault
-use Rattle.workbench.specs.ProgramFile.{IsNoTextFor}
 
 -- why no image was written: the output failed; or the text stands for none, and nothing was written
 abbrev pub StopsAssembling : Fault → (text : List ℕ) (output_before output_after : Option (List ℕ)) (output_failed : Bool) → Type 0

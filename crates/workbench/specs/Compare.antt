@@ -3,17 +3,12 @@ use Rattle.std.specs.Prelude.{◌≡◌, ◌⊎◌, ℕ, Bool, IsTrue, List, Opt
 use Rattle.std.specs.Io.KnownBytes.{Appends}
 use Rattle.row_code.specs.declared.image.Image.{Image}
 use Rattle.loader.specs.Fault.{first_fault}
-use Rattle.trace_compare.specs.declared.comparison.Verdict.{Verdict}
+use Rattle.trace_compare.specs.{declared.comparison.Verdict.Verdict, Compare.HasCompared, Compare.IsReadNoFurther}
 use Rattle.trace_compare.specs.declared.comparison.Verdict.TheVariants as verdict
-use Rattle.trace_compare.specs.Compare.{HasCompared, IsReadNoFurther}
-use Rattle.trace_text.specs.Outcome.{IsUntouched}
-use Rattle.trace_text.specs.RunText.{GivesOnAndOn}
-use Rattle.trace_text.specs.Start.{IsRefused}
-use Rattle.workbench.specs.declared.done.Done.{Done}
+use Rattle.trace_text.specs.{Outcome.IsUntouched, RunText.GivesOnAndOn, Start.IsRefused}
+use Rattle.workbench.specs.{declared.done.Done.Done, declared.fault.Fault.Fault, Fault.counted_line}
 use Rattle.workbench.specs.declared.done.Done.TheVariants as done
-use Rattle.workbench.specs.declared.fault.Fault.{Fault}
 use Rattle.workbench.specs.declared.fault.Fault.TheVariants as fault
-use Rattle.workbench.specs.Fault.{counted_line}
 
 -- the line of a verdict
 abbrev pub verdict_line : Verdict → List ℕ

@@ -1,27 +1,17 @@
 -- What `debug` reads and writes, for each result.
 use Rattle.std.specs.Prelude.{◌≡◌, ◌≢◌, ◌≤◌, ◌⊎◌, ℕ, Bool, true, false, IsTrue, All, List, [], ◌∷◌, ◌++◌, length, replicate, Option, Some, None, Result, Ok, Err}
-use Rattle.std.specs.List.{flat_map}
-use Rattle.std.specs.Io.KnownBytes.{Appends, Consumes, IsAtEnd}
+use Rattle.std.specs.{List.flat_map, Io.KnownBytes.Appends, Io.KnownBytes.Consumes, Io.KnownBytes.IsAtEnd}
 use Rattle.row_code.specs.declared.image.Image.{Image}
-use Rattle.thread_machine.specs.World.{StoredWorld, world_of}
-use Rattle.trace_text.specs.Start.{Begins, IsRefused}
-use Rattle.debugger.specs.Session.{Session}
-use Rattle.schedule_reader.specs.declared.run.Run.{Run}
-use Rattle.debugger.specs.Command.{Go, Quit, line_order}
-use Rattle.debugger.specs.Reply.{Replies}
-use Rattle.debugger.specs.Go.{Stops}
+use Rattle.thread_machine.specs.{World.StoredWorld, World.world_of, declared.choice.Choice.Choice}
+use Rattle.trace_text.specs.{Start.Begins, Start.IsRefused, Outcome.IsUntouched, RunText.GivesOnAndOn}
+use Rattle.debugger.specs.{Session.Session, Command.Go, Command.Quit, Command.line_order, Reply.Replies, Go.Stops}
 use Rattle.debugger.specs.declared.stop.Stop.{Stop}
-use Rattle.schedule_reader.specs.Schedule.{choices_of}
-use Rattle.thread_machine.specs.declared.choice.Choice.{Choice}
+use Rattle.schedule_reader.specs.{declared.run.Run.Run, Schedule.choices_of}
 use Rattle.trace_compare.specs.Naming.{HasNamed}
 use Rattle.trace_compare.specs.declared.comparison.Verdict.TheVariants as verdict
-use Rattle.trace_text.specs.Outcome.{IsUntouched}
-use Rattle.trace_text.specs.RunText.{GivesOnAndOn}
-use Rattle.workbench.specs.declared.fault.Fault.{Fault}
+use Rattle.workbench.specs.{declared.fault.Fault.Fault, declared.done.Done.Done, Compare.verdict_line}
 use Rattle.workbench.specs.declared.fault.Fault.TheVariants as fault
-use Rattle.workbench.specs.declared.done.Done.{Done}
 use Rattle.workbench.specs.declared.done.Done.TheVariants as done
-use Rattle.workbench.specs.Compare.{verdict_line}
 
 -- the session of a machine before its first choice: it has no breakpoints, and keeps at most 4096 choices
 abbrev pub first_session : StoredWorld → Session

@@ -1,9 +1,7 @@
 -- The exit status of a command, and what it writes to the port for errors.
 use Rattle.std.specs.Prelude.{◌≡◌, ℕ, Bool, List, Option, Result, Ok, Err}
-use Rattle.workbench.specs.declared.fault.Fault.{Fault}
-use Rattle.workbench.specs.declared.done.Done.{Done}
+use Rattle.workbench.specs.{declared.fault.Fault.Fault, declared.done.Done.Done, Fault.HasReported, Fault.status_of}
 use Rattle.workbench.specs.declared.done.Done.TheVariants as done
-use Rattle.workbench.specs.Fault.{HasReported, status_of}
 
 -- the exit status without a fault
 abbrev pub done_status : Done → ℕ

@@ -1,7 +1,6 @@
 -- The exit status of each fault, and the line that reports it.
 use Rattle.std.specs.Prelude.{◌⊎◌, ℕ, Bool, IsTrue, List, [], ◌++◌, Option, Some, None, codes}
-use Rattle.std.specs.Fmt.{decimal}
-use Rattle.std.specs.Io.KnownBytes.{Appends}
+use Rattle.std.specs.{Fmt.decimal, Io.KnownBytes.Appends}
 use Rattle.line_reader.specs.FaultNumber.{asm_number}
 use Rattle.row_code.specs.FaultNumber.{image_number}
 use Rattle.loader.specs.FaultNumber.{load_number}
@@ -11,9 +10,8 @@ use Rattle.loader.specs.declared.load_fault.LoadFault.TheVariants as load
 use Rattle.loader.specs.declared.load_fault.Place.TheVariants as place
 use Rattle.schedule_reader.specs.declared.fault.ScheduleFault.TheVariants as schedule
 use Rattle.tier_tree.specs.Declaration.{fault_number}
-use Rattle.workbench.specs.declared.fault.Fault.{Fault}
+use Rattle.workbench.specs.declared.fault.{Fault.Fault, PictureKind.PictureKind}
 use Rattle.workbench.specs.declared.fault.Fault.TheVariants as fault
-use Rattle.workbench.specs.declared.fault.PictureKind.{PictureKind}
 use Rattle.workbench.specs.declared.fault.PictureKind.TheVariants as picture
 
 -- the number of a refusal's kind; missing memory has none

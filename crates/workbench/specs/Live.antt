@@ -2,18 +2,12 @@
 use Rattle.std.specs.Prelude.{◌≡◌, ◌⊎◌, ℕ, All, Bool, IsTrue, List, Option, Some, None, Result, Ok, Err}
 use Rattle.row_code.specs.declared.image.Image.{Image}
 use Rattle.loader.specs.Fault.{first_fault}
-use Rattle.schedule_reader.specs.declared.run.Run.{Run}
-use Rattle.schedule_reader.specs.Schedule.{IsRun, choices_of}
-use Rattle.thread_machine.specs.declared.choice.Choice.{Choice}
-use Rattle.thread_machine.specs.World.{World, IsFirstOf}
-use Rattle.thread_runner.specs.declared.ending.Ending.{Ending}
-use Rattle.thread_runner.specs.declared.fault.LiveFault.{LiveFault}
-use Rattle.thread_runner.specs.declared.fault.LiveFault.TheVariants as live
-use Rattle.thread_runner.specs.Endings.{ending_of}
+use Rattle.schedule_reader.specs.{declared.run.Run.Run, Schedule.IsRun, Schedule.choices_of}
+use Rattle.thread_machine.specs.{declared.choice.Choice.Choice, World.World, World.IsFirstOf}
+use Rattle.thread_runner.specs.{declared.ending.Ending.Ending, declared.fault.LiveFault.LiveFault, Endings.ending_of}
 use Rattle.thread_runner.specs.Replay.{IsReplay}
-use Rattle.trace_text.specs.declared.run_end.RunEnd.{RunEnd}
-use Rattle.trace_text.specs.RunText.{AreTraced}
-use Rattle.trace_text.specs.Start.{Begins, IsRefused}
+use Rattle.thread_runner.specs.declared.fault.LiveFault.TheVariants as live
+use Rattle.trace_text.specs.{declared.run_end.RunEnd.RunEnd, RunText.AreTraced, Start.Begins, Start.IsRefused}
 use Rattle.trace_text.specs.Trace.{AppendsPartOf, lines_of}
 use Rattle.workbench.specs.declared.fault.Fault.{Fault}
 use Rattle.workbench.specs.declared.fault.Fault.TheVariants as fault

@@ -5,15 +5,12 @@
 use Rattle.std.specs.Prelude.{◌≡◌, ◌⊎◌, ℕ, Bool, false, IsTrue, List, Option, Some, Result, Ok, Err}
 use Rattle.assembler.specs.Meaning.{StandsFor}
 use Rattle.row_code.specs.declared.image.Image.{Image}
-use Rattle.trace_text.specs.declared.run.RunFault.{RunFault}
+use Rattle.trace_text.specs.{declared.run.RunFault.RunFault, declared.run_end.RunEnd.RunEnd, Outcome.ComesTo, Outcome.Stops}
 use Rattle.trace_text.specs.declared.run.RunFault.TheVariants as run_fault
-use Rattle.trace_text.specs.declared.run_end.RunEnd.{RunEnd}
-use Rattle.trace_text.specs.Outcome.{ComesTo, Stops}
-use Rattle.workbench.specs.declared.fault.Fault.{Fault}
-use Rattle.workbench.specs.declared.fault.Fault.TheVariants as fault
-use Rattle.workbench.specs.Input.{GivesAll, GivesTooMuch}
+use Rattle.workbench.specs.{declared.fault.Fault.Fault, Input.GivesAll, Input.GivesTooMuch}
 use Rattle.workbench.specs.ProgramFile.{IsNoProgramFor, IsNoTextFor, IsProgramFile}
 use Rattle.workbench.specs.RunLine.{program_part, schedule_part}
+use Rattle.workbench.specs.declared.fault.Fault.TheVariants as fault
 
 -- why an input's bytes aren't known: no memory for them, and it hasn't failed; or it failed, or has more than an input may have
 abbrev pub IsUnreadFor : Fault → (before after : Option (List ℕ)) (failed : Bool) → Type 0

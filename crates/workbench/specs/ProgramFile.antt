@@ -1,14 +1,9 @@
 -- A program in a file: an image, or a text.
 use Rattle.std.specs.Prelude.{◌≡◌, ◌⊎◌, ℕ, Bool, true, false, List, [], take, Ok, Err}
-use Rattle.assembler.specs.Meaning.{StandsFor}
-use Rattle.assembler.specs.Passes.{assembled}
-use Rattle.assembler.specs.Symbols.{SymbolTable, symbols_in}
-use Rattle.row_code.specs.Image.{IsImage}
-use Rattle.row_code.specs.Reading.{image_of, is_magic}
-use Rattle.row_code.specs.declared.image.Image.{Image}
-use Rattle.workbench.specs.declared.fault.Fault.{Fault}
+use Rattle.assembler.specs.{Meaning.StandsFor, Passes.assembled, Symbols.SymbolTable, Symbols.symbols_in}
+use Rattle.row_code.specs.{Image.IsImage, Reading.image_of, Reading.is_magic, declared.image.Image.Image}
+use Rattle.workbench.specs.{declared.fault.Fault.Fault, Fault.status_of}
 use Rattle.workbench.specs.declared.fault.Fault.TheVariants as fault
-use Rattle.workbench.specs.Fault.{status_of}
 
 -- a file is an image if its first four bytes are those of one
 abbrev pub is_image_file : List ℕ → Bool

@@ -1,15 +1,10 @@
 -- The result of a race, and what the command writes.
 use Rattle.std.specs.Prelude.{◌≡◌, ◌++◌, ◌⊎◌, ◌<◌, ◌≤◌, ℕ, ℤ, false, List, [], ◌∷◌, length, flat_map, All, codes}
 use Rattle.std.specs.Fmt.{decimal}
-use Rattle.packed_phaser.specs.declared.policy.Policy.TheVariants.{Default}
-use Rattle.packed_phaser.specs.Flat.{Flat, unarrived_of}
-use Rattle.packed_phaser.specs.Word.{record_of}
-use Rattle.shared_phaser.specs.declared.history.Call.TheVariants.{Arrive, Await}
-use Rattle.shared_phaser.specs.declared.history.Reply.{Reply}
-use Rattle.shared_phaser.specs.declared.history.Reply.TheVariants.{Counted}
+use Rattle.packed_phaser.specs.{declared.policy.Policy.TheVariants.Default, Flat.Flat, Flat.unarrived_of, Word.record_of}
+use Rattle.shared_phaser.specs.declared.history.{Call.TheVariants.Arrive, Call.TheVariants.Await, Reply.Reply, Entry.Entry}
+use Rattle.shared_phaser.specs.declared.history.{Reply.TheVariants.Counted, Setup.Setup}
 use Rattle.shared_phaser.specs.declared.history.Answer.TheVariants.{Replied, Passed}
-use Rattle.shared_phaser.specs.declared.history.Entry.{Entry}
-use Rattle.shared_phaser.specs.declared.history.Setup.{Setup}
 use Rattle.shared_phaser.specs.History.{IsLegal, at_end, calls_by}
 use Rattle.shared_phaser.specs.Known.{Caller, Identity, entry, phaser_of}
 

@@ -1,7 +1,6 @@
 -- How the fault of a race is reported.
-use Rattle.workbench.specs.declared.racing.fault.RaceFault.{RaceFault}
+use Rattle.workbench.specs.declared.{racing.fault.RaceFault.RaceFault, fault.Fault.Fault}
 use Rattle.workbench.specs.declared.racing.fault.RaceFault.TheVariants as race
-use Rattle.workbench.specs.declared.fault.Fault.{Fault}
 use Rattle.workbench.specs.declared.fault.Fault.TheVariants as fault
 
 -- a race's fault among those of all commands

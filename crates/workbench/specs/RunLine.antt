@@ -1,7 +1,6 @@
 -- Where a file's program text ends and its schedule begins: at the first line whose only word is `.run`.
 use Rattle.std.specs.Prelude.{ℕ, if◌then◌else◌, Bool, false, List, [], ◌∷◌, ◌++◌, codes}
-use Rattle.std.specs.List.{slice_split, join_with_byte}
-use Rattle.std.specs.Str.{bytes_eq}
+use Rattle.std.specs.{List.slice_split, List.join_with_byte, Str.bytes_eq}
 use Rattle.line_reader.specs.Words.{is_line_end, words_of}
 
 -- `.run` and no other word

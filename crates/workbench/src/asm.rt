@@ -1,10 +1,7 @@
 ghost use Rattle.std.specs.Prelude.{◌≡◌, IsTrue, IfErr, OnOk, Result};
 ghost use Rattle.std.specs.Io.KnownBytes.{Appends};
 ghost use Rattle.row_code.specs.Image.{image_bytes};
-ghost use Rattle.workbench.specs.declared.fault.Fault.{Fault};
-ghost use Rattle.workbench.specs.Asm.{Assembles};
-ghost use Rattle.workbench.specs.Done.{IsSettledBy, as_asked};
-ghost use Rattle.workbench.specs.Outcome.{ComesOf};
+ghost use Rattle.workbench.specs.{declared.fault.Fault.Fault, Asm.Assembles, Done.IsSettledBy, Done.as_asked, Outcome.ComesOf};
 
 use crate::done::{settled, settled_as_asked};
 use crate::fault::Fault;

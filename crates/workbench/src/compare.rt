@@ -2,10 +2,8 @@ ghost use Rattle.std.specs.Prelude.{◌≡◌, IsTrue, IfErr, OnOk, Result, fals
 ghost use Rattle.std.specs.Io.KnownBytes.{Appends};
 ghost use Rattle.trace_compare.specs.declared.comparison.Verdict.{Verdict};
 ghost use Rattle.trace_text.specs.Outcome.{IsUntouched};
-ghost use Rattle.workbench.specs.declared.fault.Fault.{Fault};
-ghost use Rattle.workbench.specs.Compare.{WritesVerdict, done_by, verdict_line};
-ghost use Rattle.workbench.specs.Done.{IsSettledBy};
-ghost use Rattle.workbench.specs.Outcome.{ComesOfProgram};
+ghost use Rattle.workbench.specs.{declared.fault.Fault.Fault, Compare.WritesVerdict, Compare.done_by, Compare.verdict_line};
+ghost use Rattle.workbench.specs.{Done.IsSettledBy, Outcome.ComesOfProgram};
 
 use crate::done::{Done, settled};
 use crate::fault::{Fault, push_counted_line};

@@ -2,20 +2,14 @@
 ghost use Rattle.std.specs.Prelude.{◌≡◌, ◌⊎◌, ◌+◌, ◌∷◌, [], true, false, List, ℕ, length, None, Some, Ok, Err, IsTrue, IfOk, IfErr, OnOk, Result};
 ghost use Rattle.std.specs.Io.KnownBytes.{Appends, Consumes};
 ghost use Rattle.trace_compare.specs.Naming.{HasNamed};
-ghost use Rattle.trace_text.specs.Outcome.{IsUntouched};
-ghost use Rattle.trace_text.specs.RunText.{GivesOnAndOn};
-ghost use Rattle.debugger.specs.Command.{goes_on, line_order};
-ghost use Rattle.debugger.specs.Reply.{Replies};
-ghost use Rattle.debugger.specs.declared.stop.Stop.{Stop};
+ghost use Rattle.trace_text.specs.{Outcome.IsUntouched, RunText.GivesOnAndOn};
+ghost use Rattle.debugger.specs.{Command.goes_on, Command.line_order, Reply.Replies, declared.stop.Stop.Stop};
 ghost use Rattle.row_code.specs.declared.image.Image.{Image};
 ghost use Rattle.workbench.specs.declared.debug.PlayedTrace.TheVariants as played;
-ghost use Rattle.workbench.specs.declared.fault.Fault.{Fault};
+ghost use Rattle.workbench.specs.{declared.fault.Fault.Fault, Compare.verdict_line, Done.IsSettledBy, Done.as_asked};
 ghost use Rattle.workbench.specs.Debug.{Converses, Debugs, DebugsAt, Exchange, Finished, GivesFew, HasConversed, HasNoSession, IsDialogue, IsFirstSession, IsPlayedTo, bytes_of};
-ghost use Rattle.workbench.specs.Compare.{verdict_line};
+ghost use Rattle.workbench.specs.{Input.GivesInEach, Input.IsCounted, Outcome.ComesOfProgram};
 ghost use Rattle.trace_compare.specs.declared.comparison.Verdict.TheVariants as verdict;
-ghost use Rattle.workbench.specs.Done.{IsSettledBy, as_asked};
-ghost use Rattle.workbench.specs.Input.{GivesInEach, IsCounted};
-ghost use Rattle.workbench.specs.Outcome.{ComesOfProgram};
 
 use crate::companion::Companion;
 use crate::compare::push_verdict;

@@ -1,7 +1,5 @@
 ghost use Rattle.std.specs.Prelude.{◌≡◌, Result};
-ghost use Rattle.workbench.specs.declared.fault.Fault.{Fault};
-ghost use Rattle.workbench.specs.Done.{IsSettledBy, as_asked};
-ghost use Rattle.workbench.specs.List.{Lists};
+ghost use Rattle.workbench.specs.{declared.fault.Fault.Fault, Done.IsSettledBy, Done.as_asked, List.Lists};
 ghost use Rattle.workbench.specs.Outcome.{ComesOfProgram};
 
 use crate::done::{settled, settled_as_asked};

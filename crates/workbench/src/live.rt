@@ -1,18 +1,12 @@
 // A run on real threads, whose recorded choices are then played again for the trace.
 ghost use Rattle.std.specs.Prelude.{◌≡◌, ◌⊎◌, ◌≤◌, All, None, Ok, Err, IfOk, IfErr, OnOk, Result, length};
 ghost use Rattle.row_code.specs.declared.image.Image.{Image};
-ghost use Rattle.loader.specs.Fault.{first_fault};
-ghost use Rattle.loader.specs.Program.{IsProgramOf};
-ghost use Rattle.loader.specs.declared.load_fault.LoadFault.{LoadFault};
+ghost use Rattle.loader.specs.{Fault.first_fault, Program.IsProgramOf, declared.load_fault.LoadFault.LoadFault};
 ghost use Rattle.schedule_reader.specs.Schedule.{IsRun, choices_of, finished_schedule};
-ghost use Rattle.thread_runner.specs.declared.fault.LiveFault.{LiveFault};
-ghost use Rattle.thread_runner.specs.declared.runner.LiveRun.{LiveRun};
-ghost use Rattle.trace_text.specs.Start.{IsRefused};
-ghost use Rattle.trace_text.specs.declared.run_end.RunEnd.{RunEnd};
-ghost use Rattle.workbench.specs.declared.fault.Fault.{Fault};
-ghost use Rattle.workbench.specs.Done.{IsSettledBy, as_asked};
+ghost use Rattle.thread_runner.specs.declared.{fault.LiveFault.LiveFault, runner.LiveRun.LiveRun};
+ghost use Rattle.trace_text.specs.{Start.IsRefused, declared.run_end.RunEnd.RunEnd};
+ghost use Rattle.workbench.specs.{declared.fault.Fault.Fault, Done.IsSettledBy, Done.as_asked, Outcome.ComesOfProgram};
 ghost use Rattle.workbench.specs.Live.{IsRecorded, Lives, fault_of_live};
-ghost use Rattle.workbench.specs.Outcome.{ComesOfProgram};
 
 use crate::done::{settled, settled_as_asked};
 use crate::fault::Fault;

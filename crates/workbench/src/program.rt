@@ -1,7 +1,6 @@
 //! A program is a value. Its bytes are read and assembled once, and whatever plays it takes what they stand for.
 ghost use Rattle.std.specs.Prelude.{◌≡◌, ℕ, List, IfOk, IfErr, Ok};
-ghost use Rattle.assembler.specs.Meaning.{StandsFor};
-ghost use Rattle.assembler.specs.Symbols.{symbols_in};
+ghost use Rattle.assembler.specs.{Meaning.StandsFor, Symbols.symbols_in};
 ghost use Rattle.row_code.specs.declared.image.Image.{Image};
 ghost use Rattle.workbench.specs.Outcome.{ReadsProgram};
 ghost use Rattle.workbench.specs.ProgramFile.{IsNamedProgram, IsNoProgramFor, IsNoTextFor, IsProgramFile};

@@ -5,11 +5,8 @@
 ghost use Rattle.std.specs.Prelude.{◌≡◌, ◌⊎◌, ℕ, Err, IfErr, IsTrue, OnOk};
 ghost use Rattle.std.specs.Io.KnownBytes.{Appends};
 ghost use Rattle.packed_phaser.specs.Word.{record_of};
-ghost use Rattle.workbench.specs.Race.{IsFinal, line_of};
-ghost use Rattle.workbench.specs.declared.racing.fault.RaceFault.{RaceFault};
-ghost use Rattle.workbench.specs.declared.fault.Fault.{Fault};
-ghost use Rattle.workbench.specs.Fault.{HasReported, status_of};
-ghost use Rattle.workbench.specs.Racing.{fault_of_race};
+ghost use Rattle.workbench.specs.{Race.IsFinal, Race.line_of, declared.racing.fault.RaceFault.RaceFault, Racing.fault_of_race};
+ghost use Rattle.workbench.specs.{declared.fault.Fault.Fault, Fault.HasReported, Fault.status_of};
 
 mod command;
 pub mod fault;

@@ -1,8 +1,6 @@
 ghost use Rattle.std.specs.Prelude.{Result};
-ghost use Rattle.trace_text.specs.declared.run_end.RunEnd.{RunEnd};
-ghost use Rattle.trace_text.specs.Outcome.{IsUntouched};
-ghost use Rattle.workbench.specs.declared.fault.Fault.{Fault};
-ghost use Rattle.workbench.specs.Done.{IsSettledBy, as_asked};
+ghost use Rattle.trace_text.specs.{declared.run_end.RunEnd.RunEnd, Outcome.IsUntouched};
+ghost use Rattle.workbench.specs.{declared.fault.Fault.Fault, Done.IsSettledBy, Done.as_asked};
 ghost use Rattle.workbench.specs.Outcome.{ComesOfProgram, Plays};
 
 use crate::done::{settled, settled_as_asked};

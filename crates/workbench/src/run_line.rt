@@ -1,7 +1,6 @@
 // Splits a text at its line `.run` into a program and a schedule.
 ghost use Rattle.std.specs.Prelude.{◌≡◌, ◌≤◌, codes, length};
-ghost use Rattle.std.specs.List.{before_first, after_first, list_all};
-ghost use Rattle.std.specs.Str.{bytes_eq};
+ghost use Rattle.std.specs.{List.before_first, List.after_first, List.list_all, Str.bytes_eq};
 ghost use Rattle.line_reader.specs.Words.{is_line_end, words_in};
 ghost use Rattle.workbench.specs.RunLine.{is_run_line, program_part, schedule_part};
 

@@ -5,9 +5,8 @@ ghost use Rattle.instruction_table.specs.declared.shape.OperandKind.TheVariants 
 ghost use Rattle.row_code.specs.Phasers.{IsPhaser};
 ghost use Rattle.line_reader.specs.declared.statement.Statement.TheVariants as statement;
 ghost use Rattle.assembler.specs.Meaning.{are_known, barrier_of, is_known_or_none, is_operand_known, is_policy_known, referent_or_0, operands_of, phaser_of, policy_of, row_of, thread_of, with_operand};
-ghost use Rattle.line_reader.specs.Symbols.{operands_in};
+ghost use Rattle.line_reader.specs.{Symbols.operands_in, KeptRow.operand_kept, KeptRow.row_kept};
 ghost use Rattle.line_reader.specs.Seen.{barrier_seen, phaser_seen, policy_seen, reference_seen, thread_seen};
-ghost use Rattle.line_reader.specs.KeptRow.{operand_kept, row_kept};
 
 use crate::draft::Draft;
 use instruction_table::{OperandKind, Reg, Row};

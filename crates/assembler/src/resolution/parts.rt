@@ -1,8 +1,6 @@
 ghost use Rattle.std.specs.Prelude.{◌≡◌, ◌++◌, [], IfOk, true, Ok, is_some};
 ghost use Rattle.std.specs.List.{AllByRecursion, cons_option};
-ghost use Rattle.row_code.specs.declared.image.Image.{Image};
-ghost use Rattle.row_code.specs.Image.{IsImage};
-ghost use Rattle.row_code.specs.Phasers.{IsPhaser};
+ghost use Rattle.row_code.specs.{declared.image.Image.Image, Image.IsImage, Phasers.IsPhaser};
 ghost use Rattle.assembler.specs.Meaning.{are_known, barriers_in, image_of, phasers_in, rows_in, threads_in};
 ghost use Rattle.assembler.specs.KeptLine.{statement_kept};
 

@@ -1,7 +1,6 @@
 //! What is read: a file, standard input, or a text in memory.
 
-ghost use Rattle.std.specs.Io.{ReadsAtMost};
-ghost use Rattle.std.specs.Io.KnownBytes.{ReadConsumes};
+ghost use Rattle.std.specs.Io.{ReadsAtMost, KnownBytes.ReadConsumes};
 ghost use Rattle.command_line.specs.Input.{left_of};
 
 use std::io;

@@ -1,7 +1,6 @@
 //! What a terminal shows: no byte of an input that would control the terminal is written to it.
 
-ghost use Rattle.std.specs.Io.{WritesAtMost};
-ghost use Rattle.std.specs.Io.KnownBytes.{WriteAppends};
+ghost use Rattle.std.specs.Io.{WritesAtMost, KnownBytes.WriteAppends};
 ghost use Rattle.std.specs.Prelude.{◌≡◌, IsTrue, None, if◌then◌else◌, length, map, min, take};
 ghost use Rattle.command_line.specs.Shown.{IsShown, shown_for};
 

@@ -1,7 +1,6 @@
 //! Readers and writers that keep the system's reason if a call fails.
 
-ghost use Rattle.std.specs.Io.{ReadsAtMost, WritesAtMost};
-ghost use Rattle.std.specs.Io.KnownBytes.{ReadConsumes, WriteAppends};
+ghost use Rattle.std.specs.Io.{ReadsAtMost, WritesAtMost, KnownBytes.ReadConsumes, KnownBytes.WriteAppends};
 
 use std::io;
 use std::io::{Read, Write};

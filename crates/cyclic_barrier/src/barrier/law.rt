@@ -1,9 +1,8 @@
 //! What is true of every barrier. Each law is the contract of a function that does nothing.
 ghost use Rattle.std.specs.Prelude.{◌≡◌, ℕ, Bool};
-ghost use Rattle.cyclic_barrier.specs.Barrier.{BarrierState, IsBarrier, fresh};
-ghost use Rattle.cyclic_barrier.specs.PlainBarrier as plain;
+ghost use Rattle.cyclic_barrier.specs.{Barrier.BarrierState, Barrier.IsBarrier, Barrier.fresh, WhoWaits.TellsWhoWaits};
 ghost use Rattle.cyclic_barrier.specs.Past.{IsStateAfter, HasPast, FollowsPast};
-ghost use Rattle.cyclic_barrier.specs.WhoWaits.{TellsWhoWaits};
+ghost use Rattle.cyclic_barrier.specs.PlainBarrier as plain;
 
 use super::Barrier;
 

@@ -1,7 +1,6 @@
 //! Tests: tables of calls at one barrier, each with its result and what the barrier shows after it.
 ghost use Rattle.std.specs.Prelude.{◌≡◌, ◌≢◌, ◌<◌, true, Some, None};
-ghost use Rattle.cyclic_barrier.specs.declared.answer.WaitState.TheVariants.{Waiting};
-ghost use Rattle.cyclic_barrier.specs.Waits.{wait_at};
+ghost use Rattle.cyclic_barrier.specs.{declared.answer.WaitState.TheVariants.Waiting, Waits.wait_at};
 
 use super::Barrier;
 use crate::answer::{Entered, WaitState};

@@ -1,6 +1,5 @@
 ghost use Rattle.std.specs.Prelude.{◌≡◌, ◌≢◌, ◌<◌, Some, None};
-ghost use Rattle.cyclic_barrier.specs.declared.answer.WaitState.TheVariants.{Waiting};
-ghost use Rattle.cyclic_barrier.specs.Waits.{wait_at};
+ghost use Rattle.cyclic_barrier.specs.{declared.answer.WaitState.TheVariants.Waiting, Waits.wait_at};
 ghost use Rattle.cyclic_barrier.specs.Barrier.{leave, interrupt, expire};
 
 use super::Barrier;

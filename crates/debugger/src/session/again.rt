@@ -1,11 +1,8 @@
 // Goes back to any choice that was played: by what is kept, or by playing the choices before it again.
 ghost use Rattle.std.specs.Prelude.{◌≡◌, ◌↔◌, ◌-◌, ◌<◌, [], List, IfErr, IfOk, IsErr, None, OnErr, OnOk, length, take};
 ghost use Rattle.schedule_reader.specs.Schedule.{choices_of};
-ghost use Rattle.thread_machine.specs.Execution.{execution};
-ghost use Rattle.thread_machine.specs.World.{World, world_of};
-ghost use Rattle.thread_machine.specs.declared.choice.Choice.{Choice};
-ghost use Rattle.debugger.specs.Moves.{backs};
-ghost use Rattle.debugger.specs.Session.{IsHistory};
+ghost use Rattle.thread_machine.specs.{Execution.execution, World.World, World.world_of, declared.choice.Choice.Choice};
+ghost use Rattle.debugger.specs.{Moves.backs, Session.IsHistory};
 
 use crate::marks::Marks;
 use crate::session::Debugger;

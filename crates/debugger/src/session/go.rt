@@ -3,9 +3,7 @@ ghost use Rattle.std.specs.Prelude.{◌≡◌, ◌≤◌, ◌-◌, ◌∷◌, []
 ghost use Rattle.machine_scene.specs.Scene.{scene_of, thread_at};
 ghost use Rattle.schedule_reader.specs.Schedule.{choices_of};
 ghost use Rattle.thread_machine.specs.declared.choice.Choice.{Choice};
-ghost use Rattle.debugger.specs.Go.{is_at_break, Stops};
-ghost use Rattle.debugger.specs.Goes.{Goes};
-ghost use Rattle.debugger.specs.Session.{Session};
+ghost use Rattle.debugger.specs.{Go.is_at_break, Go.Stops, Goes.Goes, Session.Session};
 
 use crate::session::Debugger;
 use crate::stop::Stop;

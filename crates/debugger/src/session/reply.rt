@@ -1,7 +1,6 @@
 // The commands of a session, and the replies that they write.
 ghost use Rattle.std.specs.Prelude.{◌≡◌, ◌+◌, ◌≤◌, ◌∷◌, [], ◌++◌, length, codes, if◌then◌else◌, true, IsTrue, IfErr, IfOk, Ok, Err, OnOk, OnErr};
-ghost use Rattle.std.specs.Fmt.{decimal};
-ghost use Rattle.std.specs.Io.KnownBytes.{Appends};
+ghost use Rattle.std.specs.{Fmt.decimal, Io.KnownBytes.Appends};
 ghost use Rattle.debugger.specs.declared.stop.Stop.{Stop};
 ghost use Rattle.debugger.specs.Command.{Back, Break, Clear, Go, Print, Step, Unknown, goes_on, has_list, is_go, line_order, order_of};
 ghost use Rattle.debugger.specs.Reply.{IsCarriedOut, NeedsMemory, number_line, stop_text, wants_memory};

@@ -1,8 +1,7 @@
 //! The rows that call a barrier. Inside the barrier's own action, `cawait`, `cawaitt`, `creset` and `cwaiting` throw 1
 //! (IllegalStateException). Entering also throws 3 to 5, as Java's `await` does, and 6 (stack full).
 ghost use Rattle.std.specs.Prelude.{◌≡◌, ℕ, pos, ◌<◌, ◌&&◌, length, true, false, Some, None, is_some};
-ghost use Rattle.cyclic_barrier.specs.Waits.{wait_at};
-ghost use Rattle.cyclic_barrier.specs.Barrier.{number_waiting};
+ghost use Rattle.cyclic_barrier.specs.{Waits.wait_at, Barrier.number_waiting};
 ghost use Rattle.loader.specs.Program.{IsNamed};
 ghost use Rattle.thread_state.specs.Thread.{is_full, turn_of_answer};
 ghost use Rattle.machine_scene.specs.Scene.{scene_of, counts_in, thread_at, barrier_at, outcome_of_turn};

@@ -1,7 +1,6 @@
 //! Calls, handlers, thrown exceptions, and the way back from calls, routines and actions.
 ghost use Rattle.std.specs.Prelude.{◌≡◌, ◌+◌, ◌<◌, ◌≤◌, length, true, Some, is_some};
-ghost use Rattle.tier_tree.specs.Forest.{phaser_at, flat_at, root_at};
-ghost use Rattle.tier_tree.specs.Stored.{phasers_of, ChangedAt};
+ghost use Rattle.tier_tree.specs.{Forest.phaser_at, Forest.flat_at, Forest.root_at, Stored.phasers_of, Stored.ChangedAt};
 ghost use Rattle.tier_tree.specs.Trees.{is_pending};
 ghost use Rattle.loader.specs.Program.{row_at};
 ghost use Rattle.thread_state.specs.declared.frame.Frame.TheVariants as frame;

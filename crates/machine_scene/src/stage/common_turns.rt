@@ -2,11 +2,9 @@ ghost use Rattle.std.specs.Prelude.{◌≡◌, ◌≢◌, ◌<◌, length, true,
 ghost use Rattle.std.specs.Option.{OnSome};
 ghost use Rattle.loader.specs.Program.{row_at};
 ghost use Rattle.thread_state.specs.Thread.{top_of};
-ghost use Rattle.machine_scene.specs.Scene.{scene_of, thread_at};
+ghost use Rattle.machine_scene.specs.{Scene.scene_of, Scene.thread_at, Sound.IsSound, Sound.StandsAt, Sound.most_before};
 ghost use Rattle.machine_scene.specs.Outcomes.{outcome_in, outcome_of, outcome_of_row, is_ready};
-ghost use Rattle.machine_scene.specs.Sound.{IsSound, StandsAt, most_before};
-ghost use Rattle.machine_scene.specs.ReadySet.{KnowsReady, is_arrival, is_common};
-ghost use Rattle.machine_scene.specs.Played.{IsPlayed};
+ghost use Rattle.machine_scene.specs.{ReadySet.KnowsReady, ReadySet.is_arrival, ReadySet.is_common, Played.IsPlayed};
 ghost use Rattle.machine_scene.specs.Undo.{PhasersWithin, reach_of_row, reach_in};
 
 use super::Stage;

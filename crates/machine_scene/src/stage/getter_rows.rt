@@ -1,10 +1,8 @@
 //! The rows that read a phaser.
 ghost use Rattle.std.specs.Prelude.{◌≡◌, ◌<◌, ◌≤◌, length, slice_get, true, Some, is_some};
-ghost use Rattle.tier_tree.specs.Forest.{phaser_at};
-ghost use Rattle.tier_tree.specs.Stored.{phasers_of};
+ghost use Rattle.tier_tree.specs.{Forest.phaser_at, Stored.phasers_of};
 ghost use Rattle.loader.specs.Program.{IsNamed};
-ghost use Rattle.machine_scene.specs.Scene.{scene_of, counts_in, thread_at};
-ghost use Rattle.machine_scene.specs.Sound.{CanPlay};
+ghost use Rattle.machine_scene.specs.{Scene.scene_of, Scene.counts_in, Scene.thread_at, Sound.CanPlay};
 ghost use Rattle.machine_scene.specs.GetterRows.{number_or_none, outcome_of_getter_row};
 
 use super::{Stage, alone};

@@ -1,9 +1,7 @@
 //! The rows that use only the registers and the place of their own thread.
 ghost use Rattle.std.specs.Prelude.{◌≡◌, ◌<◌, length, true, false, Some, is_some};
 ghost use Rattle.instruction_table.specs.LocalRows.{is_local_row};
-ghost use Rattle.machine_scene.specs.Scene.{scene_of, thread_at};
-ghost use Rattle.machine_scene.specs.Sound.{CanPlay};
-ghost use Rattle.machine_scene.specs.OwnRows.{outcome_of_own_row};
+ghost use Rattle.machine_scene.specs.{Scene.scene_of, Scene.thread_at, Sound.CanPlay, OwnRows.outcome_of_own_row};
 
 use super::{Stage, alone};
 use instruction_table::{Row, is_local};

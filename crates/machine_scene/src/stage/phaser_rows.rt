@@ -1,14 +1,12 @@
 //! The rows that register at a phaser, arrive, wait or terminate. They throw 1 (IllegalStateException), 2
 //! (IllegalArgumentException), 3 (InterruptedException), 5 (TimeoutException) and 6 (stack full).
 ghost use Rattle.std.specs.Prelude.{◌≡◌, ℕ, ◌<◌, ◌≤◌, ◌&&◌, length, true, false, Some, None, is_some};
-ghost use Rattle.tier_tree.specs.Forest.{phaser_at, flat_at, root_at};
-ghost use Rattle.tier_tree.specs.Stored.{phasers_of, ChangedAt};
+ghost use Rattle.tier_tree.specs.{Forest.phaser_at, Forest.flat_at, Forest.root_at, Stored.phasers_of, Stored.ChangedAt};
 ghost use Rattle.instruction_table.specs.Registers.{value_in};
 ghost use Rattle.loader.specs.Program.{IsNamed};
 ghost use Rattle.thread_state.specs.Thread.{is_full, top_of};
-ghost use Rattle.machine_scene.specs.Scene.{scene_of, counts_in, thread_at};
+ghost use Rattle.machine_scene.specs.{Scene.scene_of, Scene.counts_in, Scene.thread_at, Undo.PhasersWithin, Undo.reach_of_row};
 ghost use Rattle.machine_scene.specs.PhaserRows.{turn_of_patience, turn_of_await, turn_of_arrival, is_own_tree, unless_own, has_routine, answer_of_policy, refusal_of_arrival, outcome_of_ended_phase, outcome_of_phase_end, outcome_of_pending_end, outcome_with_room, outcome_of_arrival, outcome_of_registration, outcome_of_bulk, outcome_of_await, outcome_of_force, outcome_of_phaser_row};
-ghost use Rattle.machine_scene.specs.Undo.{PhasersWithin, reach_of_row};
 ghost use Rattle.machine_scene.specs.Sound.{CanPlay, most_after};
 
 use super::{Stage, alone};

@@ -2,12 +2,10 @@ ghost use Rattle.std.specs.Prelude.{◌≡◌, ◌≢◌, ℕ, ℤ, ◌<◌, ◌
 ghost use Rattle.instruction_table.specs.declared.register.Reg.{Reg};
 ghost use Rattle.cyclic_barrier.specs.Waits.{wait_at};
 ghost use Rattle.loader.specs.Program.{IsNamed};
-ghost use Rattle.machine_scene.specs.Scene.{scene_of, counts_in, thread_at, barrier_at};
-ghost use Rattle.machine_scene.specs.BarrierRows.{is_run_by_another};
+ghost use Rattle.machine_scene.specs.{Scene.scene_of, Scene.counts_in, Scene.thread_at, Scene.barrier_at, Outcomes.timeout_in};
+ghost use Rattle.machine_scene.specs.{BarrierRows.is_run_by_another, Sound.is_wait_row};
 ghost use Rattle.machine_scene.specs.Waits.{outcome_of_phase_wait, outcome_of_release, outcome_of_barrier_wait};
-ghost use Rattle.machine_scene.specs.Outcomes.{timeout_in};
 ghost use Rattle.machine_scene.specs.Ready.{registration_is_held, is_blocked, may_be_blocked};
-ghost use Rattle.machine_scene.specs.Sound.{is_wait_row};
 
 use super::Stage;
 use cyclic_barrier::WaitState;

@@ -3,8 +3,7 @@ ghost use Rattle.std.specs.Prelude.{◌≡◌, ℕ, ◌<◌, length, true, false
 ghost use Rattle.instruction_table.specs.LocalRows.{is_local_row};
 ghost use Rattle.cyclic_barrier.specs.ThreadSet.{has};
 ghost use Rattle.loader.specs.Program.{IsNamed, row_at};
-ghost use Rattle.machine_scene.specs.Scene.{scene_of, counts_in, thread_at};
-ghost use Rattle.machine_scene.specs.Outcomes.{is_ready};
+ghost use Rattle.machine_scene.specs.{Scene.scene_of, Scene.counts_in, Scene.thread_at, Outcomes.is_ready};
 ghost use Rattle.machine_scene.specs.Sound.{IsSound, SeesWait, most_after};
 ghost use Rattle.machine_scene.specs.ReadySet.{AreReady, KnowsReady, IsSetAt, AreLooked, IsLooked, AreOthersReady, AreReadyBeside, is_registration, is_registering, interrupts, changes_tree, is_loud, changes_all, is_local_turn, runs_on, is_wait};
 

@@ -1,8 +1,7 @@
 //! What a turn may change is saved before it, and restored when it is taken back.
 ghost use Rattle.std.specs.Prelude.{◌≡◌, ◌<◌, length};
 ghost use Rattle.thread_state.specs.Thread.{top_of};
-ghost use Rattle.machine_scene.specs.Scene.{scene_of, thread_at};
-ghost use Rattle.machine_scene.specs.Sound.{IsSound, most_before};
+ghost use Rattle.machine_scene.specs.{Scene.scene_of, Scene.thread_at, Sound.IsSound, Sound.most_before};
 ghost use Rattle.machine_scene.specs.Undo.{IsThere, CanPutBack, CanUndo, reach_of, touched_by, with_touched, note_of, undone};
 
 use super::Stage;

@@ -1,8 +1,6 @@
 //! The turns of a thread that throws an exception.
 ghost use Rattle.std.specs.Prelude.{◌≡◌, ◌<◌, length};
-ghost use Rattle.machine_scene.specs.Scene.{scene_of};
-ghost use Rattle.machine_scene.specs.Unwinding.{outcome_of_pop};
-ghost use Rattle.machine_scene.specs.Sound.{IsSound, most_before};
+ghost use Rattle.machine_scene.specs.{Scene.scene_of, Unwinding.outcome_of_pop, Sound.IsSound, Sound.most_before};
 
 use super::{Stage, alone};
 use loader::Loaded;

@@ -1,13 +1,11 @@
 //! The ends of waits. They throw 3 (InterruptedException), 4 (BrokenBarrierException) and 5 (TimeoutException).
 ghost use Rattle.std.specs.Prelude.{◌≡◌, ◌≢◌, ◌<◌, ◌≤◌, ℕ, length, pos, true, false, Some, None, is_some};
-ghost use Rattle.cyclic_barrier.specs.Waits.{wait_at};
-ghost use Rattle.cyclic_barrier.specs.Barrier.{expire};
+ghost use Rattle.cyclic_barrier.specs.{Waits.wait_at, Barrier.expire};
 ghost use Rattle.thread_state.specs.Thread.{turn_of_throw};
 ghost use Rattle.loader.specs.Program.{IsNamed};
 ghost use Rattle.machine_scene.specs.Scene.{scene_of, counts_in, thread_at, barrier_at, with_barrier, outcome_marked};
-ghost use Rattle.machine_scene.specs.PhaserRows.{is_past};
+ghost use Rattle.machine_scene.specs.{PhaserRows.is_past, Sound.CanPlay, Sound.is_wait_row};
 ghost use Rattle.machine_scene.specs.Waits.{outcome_of_awaited, outcome_of_phase_wait, outcome_of_release, outcome_of_barrier_wait, outcome_of_phase_timeout, outcome_of_barrier_timeout};
-ghost use Rattle.machine_scene.specs.Sound.{CanPlay, is_wait_row};
 
 use super::{Stage, alone};
 use cyclic_barrier::WaitState;

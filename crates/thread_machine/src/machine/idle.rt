@@ -1,8 +1,6 @@
 //! Idle choices in a row.
 ghost use Rattle.std.specs.Prelude.{◌≡◌, ◌+◌, ◌<◌, length, replicate, None};
-ghost use Rattle.thread_machine.specs.World.{world_of};
-ghost use Rattle.thread_machine.specs.Execution.{execution};
-ghost use Rattle.thread_machine.specs.Idle.{idle_event, idle_times};
+ghost use Rattle.thread_machine.specs.{World.world_of, Execution.execution, Idle.idle_event, Idle.idle_times};
 
 use super::{MOST_CHOICES, Machine};
 use crate::choice::Choice;

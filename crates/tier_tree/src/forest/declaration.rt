@@ -1,11 +1,9 @@
 ghost use Rattle.std.specs.Prelude.{◌≡◌, ◌+◌, ◌<◌, ◌∷◌, [], ◌++◌, length, true, false, None, IfOk, IfErr, IfSome, OnErr, nat_abs};
 ghost use Rattle.std.specs.List.{list_any};
 ghost use Rattle.packed_phaser.specs.Word.{record_of};
-ghost use Rattle.tier_tree.specs.Answer.{AddsPlace, KeepsEnds};
+ghost use Rattle.tier_tree.specs.{Answer.AddsPlace, Answer.KeepsEnds, Origin.Carries, Origin.declared_at, Stored.phasers_of};
 ghost use Rattle.tier_tree.specs.Declaration.{has_parent, is_root, line_above, joins_above, declared, fault_of, after_declaration, IsFreshAbove, AreAllFresh};
-ghost use Rattle.tier_tree.specs.Origin.{Carries, declared_at};
 ghost use Rattle.tier_tree.specs.Registration.{is_overfull, joined};
-ghost use Rattle.tier_tree.specs.Stored.{phasers_of};
 
 use super::Forest;
 use crate::fault::DeclareFault;

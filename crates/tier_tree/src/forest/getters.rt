@@ -1,8 +1,7 @@
 ghost use Rattle.std.specs.Prelude.{◌≡◌, ◌<◌, length, slice_get, IfSome};
 ghost use Rattle.std.specs.Option.{option_map};
 ghost use Rattle.packed_phaser.specs.Flat.{view_of, unarrived_of};
-ghost use Rattle.tier_tree.specs.Forest.{phaser_at, flat_at, root_at};
-ghost use Rattle.tier_tree.specs.Stored.{phasers_of};
+ghost use Rattle.tier_tree.specs.{Forest.phaser_at, Forest.flat_at, Forest.root_at, Stored.phasers_of};
 
 use super::Forest;
 use crate::id::PhaserId;

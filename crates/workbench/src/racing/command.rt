@@ -2,8 +2,7 @@
 ghost use Rattle.std.specs.Prelude.{◌≡◌, ◌⊎◌, ℕ, Err, IfErr, IsTrue, OnOk};
 ghost use Rattle.std.specs.Io.KnownBytes.{Appends};
 ghost use Rattle.packed_phaser.specs.Word.{record_of};
-ghost use Rattle.workbench.specs.declared.racing.fault.RaceFault.{RaceFault};
-ghost use Rattle.workbench.specs.Race.{IsFinal, line_of};
+ghost use Rattle.workbench.specs.{declared.racing.fault.RaceFault.RaceFault, Race.IsFinal, Race.line_of};
 
 use crate::racing::fault::RaceFault;
 use crate::racing::line::push_line;

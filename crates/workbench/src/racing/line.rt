@@ -1,7 +1,6 @@
 //! The line that a race ends with.
 ghost use Rattle.std.specs.Prelude.{◌≡◌, ◌++◌, IsTrue, OnOk, OnErr};
-ghost use Rattle.std.specs.Fmt.{decimal};
-ghost use Rattle.std.specs.Io.KnownBytes.{Appends};
+ghost use Rattle.std.specs.{Fmt.decimal, Io.KnownBytes.Appends};
 ghost use Rattle.packed_phaser.specs.Word.{record_of};
 ghost use Rattle.workbench.specs.Race.{line_of};
 

@@ -1,8 +1,7 @@
 //! Threads that meet at one shared phaser.
 ghost use Rattle.std.specs.Prelude.{◌≡◌, ◌≢◌, ◌+◌, ◌<◌, ◌≤◌, ◌++◌, [], map, ℕ, All, IfOk, IfErr, true, false, length, vec_len, vec_capacity};
 ghost use Rattle.std.specs.List.{range_with_len};
-ghost use Rattle.shared_phaser.specs.declared.history.Kept.{Kept};
-ghost use Rattle.shared_phaser.specs.Known.{EndsAs, phaser_of};
+ghost use Rattle.shared_phaser.specs.{declared.history.Kept.Kept, Known.EndsAs, Known.phaser_of};
 ghost use Rattle.workbench.specs.Race.{AreMeetings, HasMet, IsFinal, IsFresh, number_of};
 
 use crate::racing::fault::RaceFault;

@@ -1,10 +1,8 @@
 use Rattle.std.proofs.Common.{[], Err, sym, subst}
 use Rattle.row_code.specs.Image.{IsImage}
 use Rattle.line_reader.specs.Words.{lines_of}
-use Rattle.assembler.specs.Meaning.{StandsFor, image_of}
-use Rattle.assembler.specs.Answers.{unplaced}
-use Rattle.assembler.proofs.FirstPass.{placed_name}
-use Rattle.assembler.proofs.ImageRanges.{said_image}
+use Rattle.assembler.specs.{Meaning.StandsFor, Meaning.image_of, Answers.unplaced}
+use Rattle.assembler.proofs.{FirstPass.placed_name, ImageRanges.said_image}
 use Rattle.assembler.proofs.ReadLines.{answers_stand, fault_answered, lines_take, looked_up_answered, stands_answered, unplaced_ok}
 use Rattle.assembler.proofs.assembling.assemble_placed.Goals as goal
 

@@ -1,10 +1,7 @@
-use Rattle.std.proofs.Common.{◌≡◌, ◌∙◌, ◌∷◌, ◌++◌, [], Bool, None, Some, ap, bytes_eq, map, option_map, subst, sym}
-use Rattle.std.specs.Prelude.{IfSome}
+use Rattle.std.proofs.Common.{◌≡◌, ◌∙◌, ◌∷◌, ◌++◌, [], Bool, None, Some, ap, bytes_eq, map, option_map, subst, sym, IfSome}
 use Rattle.std.proofs.lemmas.List.{map-append}
 use Rattle.indexmap.proofs.CallerLemmas.{insert_entry-new}
-use Rattle.assembler.specs.declared.name_hash.NameKey.{NameKey}
-use Rattle.assembler.specs.Draft.{places, symbol_there}
-use Rattle.assembler.specs.Symbols.{symbol_by}
+use Rattle.assembler.specs.{declared.name_hash.NameKey.NameKey, Draft.places, Draft.symbol_there, Symbols.symbol_by}
 use Rattle.line_reader.specs.Seen.{name_seen}
 use Rattle.assembler.proofs.draft.add_name.Goals as goal
 

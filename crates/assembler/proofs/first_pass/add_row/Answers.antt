@@ -1,6 +1,5 @@
 use Rattle.std.proofs.Common.{None, map}
-use Rattle.line_reader.specs.Seen.{name_seen}
-use Rattle.line_reader.specs.KeptRow.{row_kept}
+use Rattle.line_reader.specs.{Seen.name_seen, KeptRow.row_kept}
 use Rattle.assembler.proofs.KeptLines.{row_follows}
 use Rattle.assembler.proofs.first_pass.add_row.Goals as goal
 

@@ -1,10 +1,6 @@
 use Rattle.std.proofs.Common.{rules, ◌≡◌, ◌∙◌, ◌+◌, ◌≤◌, [], length, Ok, sym, ap, subst, refl, arith}
-use Rattle.line_reader.specs.declared.asm_fault.AsmFault.{AsmFault}
-use Rattle.assembler.specs.Answers.{FailsAt}
-use Rattle.line_reader.specs.FirstLine.{after_line, first_line}
-use Rattle.line_reader.specs.Words.{lines_of}
-use Rattle.assembler.specs.Passes.{lines_read, behind}
-use Rattle.assembler.specs.Reading.{line_behind}
+use Rattle.line_reader.specs.{declared.asm_fault.AsmFault.AsmFault, FirstLine.after_line, FirstLine.first_line, Words.lines_of}
+use Rattle.assembler.specs.{Answers.FailsAt, Passes.lines_read, Passes.behind, Reading.line_behind}
 use Rattle.assembler.proofs.FirstPass.{placed_word, next_line, no_lines, one_left, none_left, one_more, one_less, all_read, some_text}
 use Rattle.assembler.proofs.ReadLines.{fails_then}
 use Rattle.line_reader.proofs.FirstLines.{lines_first}

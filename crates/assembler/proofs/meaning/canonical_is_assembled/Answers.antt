@@ -1,6 +1,5 @@
 use Rattle.line_reader.specs.Listing.{canonical}
-use Rattle.assembler.proofs.CanonicalMeaning.{canonical-stands_for}
-use Rattle.assembler.proofs.ReadLines.{stands_for-assembled}
+use Rattle.assembler.proofs.{CanonicalMeaning.canonical-stands_for, ReadLines.stands_for-assembled}
 use Rattle.assembler.proofs.meaning.canonical_is_assembled.Goals as goal
 
 pub returns : goal.returns

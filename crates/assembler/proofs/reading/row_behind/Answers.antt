@@ -1,10 +1,7 @@
 use Rattle.std.proofs.Common.{◌∙◌, ◌+◌, Err, ap, map, sym}
 use Rattle.std.proofs.lemmas.List.{length-map}
 use Rattle.line_reader.specs.declared.asm_fault.AsmFaultKind.TheVariants as fault
-use Rattle.line_reader.specs.declared.asm_fault.WordFault.{WordFault}
-use Rattle.line_reader.specs.Reading.{fault_at}
-use Rattle.line_reader.specs.Seen.{name_seen}
-use Rattle.line_reader.specs.KeptRow.{row_kept}
+use Rattle.line_reader.specs.{declared.asm_fault.WordFault.WordFault, Reading.fault_at, Seen.name_seen, KeptRow.row_kept}
 use Rattle.assembler.proofs.KeptLines.{row_refused, row_taken}
 use Rattle.assembler.proofs.reading.row_behind.Goals as goal
 

@@ -1,11 +1,8 @@
 use Rattle.std.proofs.Common.{List}
 use Rattle.std.specs.List.{flat_map}
-use Rattle.row_code.specs.declared.phasers.DeclaredPhaser.{DeclaredPhaser}
-use Rattle.row_code.specs.Phasers.{IsPhaser}
-use Rattle.line_reader.specs.declared.statement.Line.{Line}
-use Rattle.assembler.specs.Meaning.{phasers_in}
-use Rattle.line_reader.specs.Symbols.{Name}
-use Rattle.assembler.specs.KeptLine.{line_kept}
+use Rattle.row_code.specs.{declared.phasers.DeclaredPhaser.DeclaredPhaser, Phasers.IsPhaser}
+use Rattle.line_reader.specs.{declared.statement.Line.Line, Symbols.Name}
+use Rattle.assembler.specs.{Meaning.phasers_in, KeptLine.line_kept}
 use Rattle.assembler.proofs.RestOfLines.{next_has}
 use Rattle.assembler.proofs.resolution.parts_of.Goals as goal
 

@@ -1,9 +1,7 @@
-use Rattle.std.proofs.Common.{◌≡◌, ◌++◌, drop, map, not}
-use Rattle.std.specs.Prelude.{find}
+use Rattle.std.proofs.Common.{◌≡◌, ◌++◌, drop, map, not, find}
 use Rattle.std.specs.List.{flat_map}
 use Rattle.assembler.specs.Meaning.{are_known, barriers_in, phasers_in, rows_in, threads_in}
-use Rattle.assembler.specs.Passes.{first_unknown}
-use Rattle.assembler.specs.KeptLine.{line_kept}
+use Rattle.assembler.specs.{Passes.first_unknown, KeptLine.line_kept}
 use Rattle.assembler.proofs.resolution.parts_of.Given as goal
 
 abbrev pub invariant-loop-line : goal.invariant-loop-line

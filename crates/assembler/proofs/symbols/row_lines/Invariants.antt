@@ -1,7 +1,6 @@
 use Rattle.std.proofs.Common.{◌≡◌, ◌++◌, drop, map}
 use Rattle.std.specs.List.{flat_map}
-use Rattle.assembler.specs.KeptLine.{line_kept}
-use Rattle.assembler.specs.Symbols.{row_line}
+use Rattle.assembler.specs.{KeptLine.line_kept, Symbols.row_line}
 use Rattle.assembler.proofs.symbols.row_lines.Given as goal
 
 abbrev pub invariant-loop-line : goal.invariant-loop-line

@@ -1,7 +1,6 @@
 use Rattle.std.proofs.Common.{◌≡◌, ◌+◌, ◌-◌, take, drop, sym, ap, ◌∙◌, arith, length-drop}
+use Rattle.std.proofs.lemmas.List.{drop-take, Edits.take-paste}
 use lib.Seq.{paste}
-use Rattle.std.proofs.lemmas.List.{drop-take}
-use Rattle.std.proofs.lemmas.List.Edits.{take-paste}
 use Rattle.byte_ports.proofs.source_lines.move_front.Goals as goal
 
 pub returns-clause-front : goal.returns-clause-front

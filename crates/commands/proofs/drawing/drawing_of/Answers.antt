@@ -1,9 +1,8 @@
 use Rattle.std.proofs.Common.{rules, ◌≡◌, ◌∙◌, ap, inl, inr}
-use Rattle.thread_machine.specs.World.{world_of}
 use Rattle.std.proofs.lemmas.Result.{IfOk-weaker}
-use Rattle.commands.proofs.Drawings.{drawing_in}
+use Rattle.thread_machine.specs.World.{world_of}
+use Rattle.commands.proofs.{Drawings.drawing_in, NoPicture.no_picture}
 use Rattle.workbench.specs.declared.fault.PictureKind.TheVariants as kind
-use Rattle.commands.proofs.NoPicture.{no_picture}
 use Rattle.pictures.specs.Missing.{missing_in}
 use Rattle.commands.proofs.drawing.drawing_of.Goals as goal
 

@@ -1,9 +1,7 @@
-use Rattle.std.proofs.Common.{◌≡◌, ◌+◌, ap, refl, sym, rules, ◌∙◌}
-use Rattle.std.specs.Prelude.{Some, None, cond, option_map}
+use Rattle.std.proofs.Common.{◌≡◌, ◌+◌, ap, refl, sym, rules, ◌∙◌, Some, None, cond, option_map}
 use Rattle.std.specs.String.{string_bytes}
 use Rattle.indexmap.specs.IndexMap.{get}
-use Rattle.commands.specs.declared.end_state.EndState.{EndState}
-use Rattle.commands.specs.declared.outcomes.Outcome.{Outcome}
+use Rattle.commands.specs.declared.{end_state.EndState.EndState, outcomes.Outcome.Outcome}
 use Rattle.commands.specs.Outcomes.{Ended, is_state, told, told_in}
 use Rattle.commands.proofs.Counting.{and_run, grown, some-there}
 use Rattle.commands.proofs.outcomes.add.Goals as goal

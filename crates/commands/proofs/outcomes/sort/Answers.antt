@@ -1,6 +1,4 @@
-use Rattle.std.proofs.Common.{rules, of_calls}
-use Rattle.std.proofs.lemmas.Fn.{always_returns_same}
-use Rattle.std.proofs.lemmas.Result.{on_ok_weaker}
+use Rattle.std.proofs.{Common.rules, Common.of_calls, lemmas.Fn.always_returns_same, lemmas.Result.on_ok_weaker}
 use Rattle.commands.specs.Outcomes.{is_more_frequent}
 use Rattle.commands.proofs.Counting.{more_frequent_is_an_order}
 use Rattle.commands.proofs.outcomes.sort.Goals as goal

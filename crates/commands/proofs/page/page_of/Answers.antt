@@ -1,7 +1,6 @@
 use Rattle.std.proofs.Common.{refl}
 use Rattle.workbench.specs.declared.fault.PictureKind.TheVariants as picture
-use Rattle.commands.proofs.NoPicture.{no_picture}
-use Rattle.commands.proofs.Pages.{page_in}
+use Rattle.commands.proofs.{NoPicture.no_picture, Pages.page_in}
 use Rattle.pictures.specs.Page.{parts_of}
 use Rattle.commands.proofs.page.page_of.Goals as goal
 

@@ -1,5 +1,4 @@
-use Rattle.std.proofs.Common.{refl}
-use Rattle.std.specs.Prelude.{Ok}
+use Rattle.std.proofs.Common.{refl, Ok}
 use Rattle.commands.proofs.PlanParts.{comes_of_plan}
 use Rattle.commands.proofs.plan.planned_of.Goals as goal
 

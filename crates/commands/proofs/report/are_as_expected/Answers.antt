@@ -1,7 +1,5 @@
-use Rattle.std.proofs.Common.{◌≡◌, ◌∙◌, ◌+◌, ◌&&◌, ap, arith, drop, false, true, rules, sym}
-use Rattle.std.specs.Prelude.{Some, is_some, slice_get}
-use Rattle.commands.specs.declared.end_state.EndState.{EndState}
-use Rattle.commands.specs.declared.outcomes.Outcome.{Outcome}
+use Rattle.std.proofs.Common.{◌≡◌, ◌∙◌, ◌+◌, ◌&&◌, ap, arith, drop, false, true, rules, sym, Some, is_some, slice_get}
+use Rattle.commands.specs.declared.{end_state.EndState.EndState, outcomes.Outcome.Outcome}
 use Rattle.commands.specs.Outcomes.{are_as_expected, is_as_expected}
 use Rattle.commands.proofs.Reports.{all-at}
 use Rattle.commands.proofs.report.are_as_expected.Goals.{in-Some+else-not-is_as_expected, in_default}

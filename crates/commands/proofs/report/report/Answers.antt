@@ -1,11 +1,7 @@
-use Rattle.std.proofs.Common.{◌≡◌, ◌∙◌, ◌+◌, ◌++◌, ap, append_assoc, arith, drop, rules, sym}
-use Rattle.std.specs.Prelude.{Some, is_some, slice_get}
-use Rattle.commands.specs.declared.end_state.EndState.{EndState}
-use Rattle.commands.specs.declared.outcomes.Outcome.{Outcome}
-use Rattle.commands.specs.Named.{names_seen}
+use Rattle.std.proofs.Common.{◌≡◌, ◌∙◌, ◌+◌, ◌++◌, ap, append_assoc, arith, drop, rules, sym, Some, is_some, slice_get}
+use Rattle.commands.specs.{declared.end_state.EndState.EndState, declared.outcomes.Outcome.Outcome, Named.names_seen}
 use Rattle.commands.specs.Outcomes.{outcome_line, report}
-use Rattle.commands.proofs.Reports.{texts-at}
-use Rattle.commands.proofs.report.report.Goals.{in-Some+in_ok-push_line, in_default}
+use Rattle.commands.proofs.{Reports.texts-at, report.report.Goals.in-Some+in_ok-push_line, report.report.Goals.in_default}
 use Rattle.commands.proofs.report.report.Goals as goal
 
 pub loop-place-preserved : goal.loop-place-preserved

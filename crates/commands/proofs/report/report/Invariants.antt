@@ -1,6 +1,5 @@
 use Rattle.std.proofs.Common.{◌≡◌, ◌++◌, drop}
-use Rattle.commands.specs.Named.{names_seen}
-use Rattle.commands.specs.Outcomes.{report}
+use Rattle.commands.specs.{Named.names_seen, Outcomes.report}
 use Rattle.commands.proofs.report.report.Given as goal
 
 -- the text goes on with the lines from the next outcome on

@@ -1,5 +1,4 @@
-use Rattle.std.proofs.Common.{◌∷◌, [], ◌++◌, arith, refl, subst, sym}
-use Rattle.std.proofs.lemmas.List.{length-append}
+use Rattle.std.proofs.Common.{◌∷◌, [], ◌++◌, arith, refl, subst, sym, length-append}
 use Rattle.std.proofs.lemmas.List.Elements.{All-append, All-cons, All-nil}
 use Rattle.thread_machine.specs.World.{first_world}
 use Rattle.commands.specs.Outcomes.{AreOutcomes, IsEndedFrom, is_state}

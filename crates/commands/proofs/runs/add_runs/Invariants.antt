@@ -1,5 +1,4 @@
-use Rattle.std.proofs.Common.{◌≡◌, List, length}
-use Rattle.std.specs.Prelude.{All}
+use Rattle.std.proofs.Common.{◌≡◌, List, length, All}
 use Rattle.thread_machine.specs.World.{first_world}
 use Rattle.commands.specs.Outcomes.{AreOutcomes, Ended, IsEndedFrom}
 use Rattle.commands.proofs.runs.add_runs.Given as goal

@@ -1,13 +1,9 @@
-use Rattle.std.proofs.Common.{◌≡◌, ◌∷◌, [], ◌++◌, ap, arith, map, refl, subst, sym}
-use Rattle.std.specs.Prelude.{Err}
+use Rattle.std.proofs.Common.{◌≡◌, ◌∷◌, [], ◌++◌, ap, arith, map, refl, subst, sym, Err, length-append}
 use Rattle.line_reader.specs.Seen.{name_seen}
-use Rattle.std.proofs.lemmas.List.{length-append}
-use Rattle.commands.specs.Outcomes.{AreOutcomes, is_state}
-use Rattle.commands.specs.Seeds.{IsEndBy, IsFirstUnlike}
+use Rattle.commands.specs.{Outcomes.AreOutcomes, Outcomes.is_state, Seeds.IsEndBy, Seeds.IsFirstUnlike}
 use Rattle.commands.specs.declared.unplanned.Unplanned.TheVariants as why
 use Rattle.indexmap.specs.IndexMap.{get}
-use Rattle.commands.proofs.Counting.{few, nothing}
-use Rattle.commands.proofs.Seeded.{one_is_refused, one_more, one_more_unlike}
+use Rattle.commands.proofs.{Counting.few, Counting.nothing, Seeded.one_is_refused, Seeded.one_more, Seeded.one_more_unlike}
 use Rattle.commands.proofs.seeds.counted.Goals as goal
 
 pub loop-number-init : goal.loop-number-init

@@ -1,7 +1,6 @@
 use Rattle.std.proofs.Common.{◌≡◌, List, length, map}
 use Rattle.line_reader.specs.Seen.{name_seen}
-use Rattle.commands.specs.Outcomes.{AreOutcomes, Ended}
-use Rattle.commands.specs.Seeds.{AreEndsBy, IsFirstUnlike}
+use Rattle.commands.specs.{Outcomes.AreOutcomes, Outcomes.Ended, Seeds.AreEndsBy, Seeds.IsFirstUnlike}
 use Rattle.commands.proofs.seeds.counted.Given as goal
 
 -- so many orders came to the outcomes, and the first of them that ended otherwise is kept

@@ -1,9 +1,7 @@
-use Rattle.std.proofs.Common.{rules, ℕ, List, ap, map, subst, sym}
-use Rattle.std.specs.Prelude.{Err}
+use Rattle.std.proofs.Common.{rules, ℕ, List, ap, map, subst, sym, Err}
 use Rattle.std.specs.Borrow.{Bor}
 use Rattle.line_reader.specs.Seen.{name_seen}
-use Rattle.commands.specs.Planning.{HasThreads}
-use Rattle.commands.specs.Seeds.{AreOutcomesBy}
+use Rattle.commands.specs.{Planning.HasThreads, Seeds.AreOutcomesBy}
 use Rattle.commands.proofs.PlanParts.{no_report}
 use Rattle.commands.proofs.seeds.tally_in.Goals as goal
 

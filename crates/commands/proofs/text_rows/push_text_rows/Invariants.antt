@@ -1,7 +1,6 @@
 use Rattle.std.proofs.Common.{◌≡◌, ◌++◌, drop, map}
 use Rattle.std.specs.List.{flat_map}
-use Rattle.line_reader.specs.Seen.{name_seen}
-use Rattle.line_reader.specs.Listing.{line_text, numbered}
+use Rattle.line_reader.specs.{Seen.name_seen, Listing.line_text, Listing.numbered}
 use Rattle.commands.specs.Rows.{text_row_words}
 use Rattle.commands.proofs.text_rows.push_text_rows.Given as goal
 

@@ -1,6 +1,5 @@
 use Rattle.std.proofs.Common.{rules, ◌≡◌, map}
-use Rattle.line_reader.specs.Seen.{name_seen}
-use Rattle.line_reader.specs.Words.{is_line_end}
+use Rattle.line_reader.specs.{Seen.name_seen, Words.is_line_end}
 use Rattle.std.specs.List.{slice_split}
 use Rattle.commands.proofs.ListedRows.{rows_by_pieces}
 use Rattle.commands.proofs.text_rows.rows_in_text.Goals as goal

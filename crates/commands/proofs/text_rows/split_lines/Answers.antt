@@ -1,9 +1,7 @@
-use Rattle.std.proofs.Common.{rules, tests, ap, map, subst, ◌≡◌, ◌∙◌, ◌++◌}
-use Rattle.std.specs.Prelude.{OnOk}
-use Rattle.std.specs.List.{slice_split}
+use Rattle.std.proofs.Common.{rules, tests, ap, map, subst, ◌≡◌, ◌∙◌, ◌++◌, OnOk}
 use Rattle.std.proofs.lemmas.Iterator.Splits.{YieldsList-from_slice_split}
-use Rattle.line_reader.specs.Seen.{name_seen}
-use Rattle.line_reader.specs.Words.{is_line_end}
+use Rattle.std.specs.List.{slice_split}
+use Rattle.line_reader.specs.{Seen.name_seen, Words.is_line_end}
 use Rattle.line_reader.proofs.Extended.{read_from_extend}
 use Rattle.commands.proofs.text_rows.split_lines.Goals as goal
 

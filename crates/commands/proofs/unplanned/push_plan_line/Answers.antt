@@ -1,8 +1,6 @@
-use Rattle.std.proofs.Common.{rules, ◌≡◌, ℕ, List, Option, Some, Result, Ok, Err, OnOk, subst, sym}
-use Rattle.std.specs.Prelude.{codes}
-use Rattle.std.specs.Fmt.{decimal}
-use Rattle.std.specs.Io.KnownBytes.{Appends}
+use Rattle.std.proofs.Common.{rules, ◌≡◌, ℕ, List, Option, Some, Result, Ok, Err, OnOk, subst, sym, codes}
 use Rattle.std.proofs.KnownBytes.{Appends-trans}
+use Rattle.std.specs.{Fmt.decimal, Io.KnownBytes.Appends}
 use Rattle.workbench.specs.Fault.{counted_line}
 use Rattle.commands.specs.Unplanned.{plan_line}
 use Rattle.commands.proofs.unplanned.push_plan_line.Goals as goal

@@ -1,7 +1,6 @@
-use Rattle.std.proofs.Common.{◌∙◌, ◌++◌, ap, arith}
+use Rattle.std.proofs.Common.{◌∙◌, ◌++◌, ap, arith, append-nil}
+use Rattle.std.proofs.lemmas.{Fmt.length-decimal-le, List.drop_all}
 use Rattle.std.specs.Fmt.{decimal}
-use Rattle.std.proofs.lemmas.Fmt.{length-decimal-le}
-use Rattle.std.proofs.lemmas.List.{drop_all, append-nil}
 use Rattle.debugger.proofs.number_line.put_number_line.Goals as goal
 
 pub write_digits-middle-requires : goal.write_digits-middle-requires

@@ -1,6 +1,5 @@
 use Rattle.std.proofs.Common.{refl}
-use Rattle.headline.proofs.Backs.{leaves, one_more, walks, whatever}
-use Rattle.headline.proofs.Scenes.{choices-drop}
+use Rattle.headline.proofs.{Backs.leaves, Backs.one_more, Backs.walks, Backs.whatever, Scenes.choices-drop}
 use Rattle.headline.proofs.back.steps.Goals as goal
 
 pub loop-choice-preserved : goal.loop-choice-preserved

@@ -1,6 +1,5 @@
 use Rattle.std.proofs.Common.{◌≡◌, drop}
-use Rattle.thread_machine.specs.World.{world_of}
-use Rattle.thread_machine.specs.Execution.{execution}
+use Rattle.thread_machine.specs.{World.world_of, Execution.execution}
 use Rattle.headline.proofs.machine.play_all.Given as goal
 
 abbrev pub invariant-loop-choice : goal.invariant-loop-choice

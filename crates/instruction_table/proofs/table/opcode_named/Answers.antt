@@ -1,7 +1,6 @@
 use Rattle.std.proofs.Common.{◌≡◌, ◌∙◌, ◌<◌, length, IfSome, MatchOption, option_map, Option, Some, None, List, ℕ, ap, slice_index_or, arith}
 use Rattle.instruction_table.specs.Table.{Entry, no_entry, entry_named, table}
-use Rattle.instruction_table.proofs.TableLemmas.{named_is_placed, named_is_within}
-use Rattle.instruction_table.proofs.WordSlots.{found_there}
+use Rattle.instruction_table.proofs.{TableLemmas.named_is_placed, TableLemmas.named_is_within, WordSlots.found_there}
 use Rattle.instruction_table.proofs.table.opcode_named.Goals as goal
 
 -- the answer is the opcode of the entry with the word, at whose place it stands

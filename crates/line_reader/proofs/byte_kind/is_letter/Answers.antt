@@ -1,7 +1,6 @@
 use Rattle.std.proofs.Common.{arith, nat_lt, refl, slice_index_or}
 use Rattle.std.proofs.lemmas.Bool.{agree_below_at}
-use Rattle.line_reader.specs.FirstLine.{is_letter}
-use Rattle.line_reader.specs.declared.byte_kind.TheConstants.{KINDS}
+use Rattle.line_reader.specs.{FirstLine.is_letter, declared.byte_kind.TheConstants.KINDS}
 use Rattle.line_reader.proofs.byte_kind.is_letter.Goals as goal
 
 pub returns : goal.returns

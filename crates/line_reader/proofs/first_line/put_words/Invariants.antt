@@ -1,7 +1,5 @@
 use Rattle.std.proofs.Common.{◌≡◌, ◌++◌, length, map}
-use Rattle.line_reader.specs.FirstLine.{IsLeft, first_line}
-use Rattle.line_reader.specs.Seen.{name_seen}
-use Rattle.line_reader.specs.Words.{words_of}
+use Rattle.line_reader.specs.{FirstLine.IsLeft, FirstLine.first_line, Seen.name_seen, Words.words_of}
 use Rattle.line_reader.proofs.first_line.put_words.Given as goal
 
 -- the words so far, and behind them those of what is left

@@ -1,5 +1,4 @@
-use Rattle.std.proofs.Common.{arith}
-use Rattle.std.proofs.lemmas.Str.Parse.{digits_value-take-le}
+use Rattle.std.proofs.{Common.arith, lemmas.Str.Parse.digits_value-take-le}
 use Rattle.line_reader.proofs.Digits.{digits_value-few, digits_value-next, digits_value-next_few}
 use Rattle.line_reader.proofs.number.digits_value.Goals as goal
 

@@ -1,6 +1,5 @@
 use Rattle.std.proofs.Common.{◌≡◌, drop, take, map}
-use Rattle.loader.specs.Declarations.{new_barrier}
-use Rattle.loader.specs.Fault.{barrier_fault, earliest_in}
+use Rattle.loader.specs.{Declarations.new_barrier, Fault.barrier_fault, Fault.earliest_in}
 use Rattle.loader.proofs.barriers.make_all.Given as goal
 
 abbrev pub invariant-loop-n : goal.invariant-loop-n

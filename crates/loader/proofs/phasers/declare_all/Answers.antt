@@ -1,8 +1,6 @@
 use Rattle.std.proofs.Common.{◌≡◌, ◌<◌, length, get_or, None, sym, ap, ◌∙◌, arith}
-use Rattle.loader.specs.Declarations.{no_phaser}
-use Rattle.loader.specs.Fault.{phaser_fault, listed_phaser_fault}
-use Rattle.loader.proofs.Search.{goes_on}
-use Rattle.loader.proofs.Declaring.{declared_more}
+use Rattle.loader.specs.{Declarations.no_phaser, Fault.phaser_fault, Fault.listed_phaser_fault}
+use Rattle.loader.proofs.{Search.goes_on, Declaring.declared_more}
 use Rattle.loader.proofs.phasers.declare_all.Goals as goal
 
 pub loop-n-preserved : goal.loop-n-preserved

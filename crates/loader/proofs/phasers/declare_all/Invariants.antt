@@ -1,6 +1,5 @@
 use Rattle.std.proofs.Common.{◌≡◌, drop}
-use Rattle.loader.specs.Declarations.{AreDeclared}
-use Rattle.loader.specs.Fault.{listed_phaser_fault, earliest_in}
+use Rattle.loader.specs.{Declarations.AreDeclared, Fault.listed_phaser_fault, Fault.earliest_in}
 use Rattle.loader.proofs.phasers.declare_all.Given as goal
 
 abbrev pub invariant-loop-n : goal.invariant-loop-n

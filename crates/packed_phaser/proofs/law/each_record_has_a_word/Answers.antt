@@ -1,7 +1,5 @@
-use Rattle.std.proofs.Common.{◌∙◌, ◌≤◌, ap, subst, sym}
-use Rattle.std.specs.Prelude.{max}
-use Rattle.packed_phaser.specs.declared.word.Fields.{Fields}
-use Rattle.packed_phaser.specs.Word.{record_of_fields}
+use Rattle.std.proofs.Common.{◌∙◌, ◌≤◌, ap, subst, sym, max}
+use Rattle.packed_phaser.specs.{declared.word.Fields.Fields, Word.record_of_fields}
 use Rattle.packed_phaser.proofs.WordFields.{word_of, word_of-bound, fields_of-word_of, fields_for, Fit-fields_for, fields_for-unarrived, record_of_fields-for}
 use Rattle.packed_phaser.proofs.law.each_record_has_a_word.Goals as goal
 

@@ -1,7 +1,5 @@
 use Rattle.std.proofs.Common.{rules, ◌≡◌, ◌∙◌, ◌+◌, ◌++◌, List, ℕ, Some, ap}
-use Rattle.thread_machine.specs.Step.{refusal_of}
-use Rattle.thread_machine.specs.World.{World, world_of}
-use Rattle.thread_machine.specs.declared.fault.StepFault.TheVariants.{StepLimit}
+use Rattle.thread_machine.specs.{Step.refusal_of, World.World, World.world_of, declared.fault.StepFault.TheVariants.StepLimit}
 use Rattle.pictures.specs.Picture.{refused_line, written_line}
 use Rattle.pictures.proofs.Drawings.{DrawsOne-played, DrawsOne-refused}
 use Rattle.pictures.proofs.block.draw_turn.Goals as goal

@@ -1,7 +1,6 @@
 use Rattle.std.proofs.Common.{◌≡◌, ◌∙◌, ◌+◌, List, ℕ, IfOk, codes, ap, subst}
 use Rattle.thread_machine.specs.World.{world_of}
-use Rattle.pictures.specs.Picture.{choice_line, refused_did, refused_words}
-use Rattle.pictures.specs.Sheet.{mark_room, shortened}
+use Rattle.pictures.specs.{Picture.choice_line, Picture.refused_did, Picture.refused_words, Sheet.mark_room, Sheet.shortened}
 use Rattle.pictures.proofs.block.refused_line.Goals as goal
 
 pub returns : goal.returns

@@ -1,7 +1,6 @@
 use Rattle.std.specs.Prelude.{[], replicate}
 use Rattle.schedule_reader.specs.declared.run.Run.{Run}
-use Rattle.pictures.proofs.Appended.{none_left, one_more}
-use Rattle.pictures.proofs.Counts.{room}
+use Rattle.pictures.proofs.{Appended.none_left, Appended.one_more, Counts.room}
 use Rattle.pictures.proofs.choices.choices_of.Goals as goal
 
 pub add_run-requires : goal.add_run-requires

@@ -1,9 +1,7 @@
 use Rattle.std.proofs.Common.{rules, ◌≡◌, ◌∙◌, List, ℕ, ◌++◌, codes, ap, append_assoc}
 use Rattle.std.specs.Fmt.{signed_decimal}
 use Rattle.instruction_table.specs.declared.shape.OperandKind.TheVariants as kind
-use Rattle.pictures.specs.Caption.{called}
-use Rattle.pictures.specs.Picture.{name_room, thread_caption}
-use Rattle.pictures.specs.Sheet.{shortened}
+use Rattle.pictures.specs.{Caption.called, Picture.name_room, Picture.thread_caption, Sheet.shortened}
 use Rattle.pictures.proofs.closing.dead_line.Goals as goal
 
 pub returns : goal.returns

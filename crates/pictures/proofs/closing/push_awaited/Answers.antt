@@ -1,5 +1,4 @@
-use Rattle.std.proofs.Common.{◌≡◌, ◌++◌, List, ℕ, sym, subst}
-use Rattle.std.specs.Prelude.{OnOk}
+use Rattle.std.proofs.Common.{◌≡◌, ◌++◌, List, ℕ, sym, subst, OnOk}
 use Rattle.machine_scene.specs.Scene.{scene_of}
 use Rattle.pictures.proofs.Awaited.{awaited_at}
 use Rattle.pictures.proofs.closing.push_awaited.Goals as goal

@@ -1,5 +1,4 @@
-use Rattle.std.proofs.Common.{rules, ◌≡◌, ◌∙◌, ◌++◌, List, ℕ, ap, sym, subst, codes}
-use Rattle.std.specs.Prelude.{OnOk, Some}
+use Rattle.std.proofs.Common.{rules, ◌≡◌, ◌∙◌, ◌++◌, List, ℕ, ap, sym, subst, codes, OnOk, Some}
 use Rattle.thread_machine.specs.World.{world_of}
 use Rattle.pictures.specs.Picture.{end_text}
 use Rattle.pictures.proofs.Ends.{hope_expires, hope_ready, pushed}

@@ -1,5 +1,4 @@
-use Rattle.std.proofs.Common.{arith, ◌≡◌, ◌∙◌, ◌++◌, List, [], ℕ, true, false, length, if◌then◌else◌, ap, sym, subst, append_assoc, codes}
-use Rattle.std.specs.Prelude.{OnOk, nat_lt}
+use Rattle.std.proofs.Common.{arith, ◌≡◌, ◌∙◌, ◌++◌, List, [], ℕ, true, false, length, if◌then◌else◌, ap, sym, subst, append_assoc, codes, OnOk, nat_lt}
 use Rattle.std.proofs.lemmas.List.{length-map}
 use Rattle.tier_tree.specs.Stored.{phasers_of}
 use Rattle.instruction_table.specs.declared.shape.OperandKind.TheVariants as kind

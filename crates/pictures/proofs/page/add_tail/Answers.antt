@@ -1,5 +1,4 @@
-use Rattle.std.specs.Borrow.{Bor}
-use Rattle.std.specs.Prelude.{ℕ, List}
+use Rattle.std.specs.{Borrow.Bor, Prelude.ℕ, Prelude.List}
 use Rattle.pictures.proofs.Appended.{none_left, one_more}
 use Rattle.pictures.proofs.page.add_tail.Goals as goal
 

@@ -1,6 +1,5 @@
-use Rattle.std.proofs.Common.{◌≡◌, ◌++◌, ℕ, List, drop}
+use Rattle.std.proofs.Common.{◌≡◌, ◌++◌, ℕ, List, drop, flat_map}
 use Rattle.std.specs.Borrow.{Bor}
-use Rattle.std.specs.Prelude.{flat_map}
 use Rattle.pictures.proofs.page.add_tail.Given as goal
 
 abbrev pub invariant-loop-piece : goal.invariant-loop-piece

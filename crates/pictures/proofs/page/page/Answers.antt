@@ -1,15 +1,11 @@
 use Rattle.std.proofs.Common.{rules, ◌≡◌, ◌∙◌, ◌≤◌, ◌<◌, List, length, Err, ap, refl, subst}
 use Rattle.std.proofs.lemmas.Result.{IfOk-weaker}
 use Rattle.line_reader.specs.Listing.{canonical}
-use Rattle.schedule_reader.specs.declared.run.Run.{Run}
-use Rattle.schedule_reader.specs.Schedule.{choices_of}
-use Rattle.schedule_reader.specs.Text.{schedule_text}
+use Rattle.schedule_reader.specs.{declared.run.Run.Run, Schedule.choices_of, Text.schedule_text}
 use Rattle.thread_machine.specs.World.{first_world}
 use Rattle.thread_machine.proofs.Firsts.{is_first}
-use Rattle.trace_text.specs.Start.{Begins}
-use Rattle.trace_text.specs.Trace.{trace_of}
-use Rattle.pictures.specs.Missing.{missing_in}
-use Rattle.pictures.specs.Page.{page_text, parts_of}
+use Rattle.trace_text.specs.{Start.Begins, Trace.trace_of}
+use Rattle.pictures.specs.{Missing.missing_in, Page.page_text, Page.parts_of}
 use Rattle.pictures.specs.declared.page.PageFault.TheVariants as fault
 use Rattle.pictures.proofs.page.page.Goals as goal
 

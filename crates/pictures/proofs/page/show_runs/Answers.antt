@@ -1,6 +1,5 @@
 use Rattle.std.proofs.Common.{rules, ◌≡◌, ◌∙◌, ap}
-use Rattle.schedule_reader.specs.Schedule.{choices_of}
-use Rattle.schedule_reader.specs.Text.{schedule_text}
+use Rattle.schedule_reader.specs.{Schedule.choices_of, Text.schedule_text}
 use Rattle.thread_machine.specs.World.{first_world}
 use Rattle.trace_text.specs.Trace.{trace_of}
 use Rattle.pictures.specs.Page.{page_text, parts_of}

@@ -1,8 +1,7 @@
 use Rattle.std.proofs.Common.{◌≡◌, ◌∙◌, ◌+◌, ◌++◌, drop, take, ap, sym, true}
 use Rattle.std.specs.List.{position_or_len}
 use Rattle.line_reader.specs.Words.{words_in}
-use Rattle.plans.specs.Cutting.{parts_words, word_alone}
-use Rattle.plans.specs.Words.{begins_count, spread}
+use Rattle.plans.specs.{Cutting.parts_words, Cutting.word_alone, Words.begins_count, Words.spread}
 use Rattle.plans.proofs.Pieces.{piece_cut, count_cut}
 use Rattle.plans.proofs.cutting.word_length.Goals as goal
 

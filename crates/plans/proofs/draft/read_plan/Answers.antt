@@ -1,8 +1,7 @@
 use Rattle.std.proofs.Common.{◌∙◌, ap, map, subst, sym}
 use Rattle.std.specs.List.{slice_split}
 use Rattle.row_code.specs.Answers.{◌>>=◌}
-use Rattle.line_reader.specs.Seen.{name_seen}
-use Rattle.line_reader.specs.Words.{is_line_end}
+use Rattle.line_reader.specs.{Seen.name_seen, Words.is_line_end}
 use Rattle.plans.specs.Plan.{AnswersPlan, finished, lines_behind}
 use Rattle.plans.proofs.Nesting.{answer_is_plan}
 use Rattle.plans.proofs.draft.read_plan.Goals as goal

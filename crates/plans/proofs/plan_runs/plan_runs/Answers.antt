@@ -1,6 +1,5 @@
 use Rattle.std.proofs.Common.{◌≡◌, ◌∙◌, sym, ap}
-use Rattle.plans.specs.Progress.{Progress, begun}
-use Rattle.plans.specs.Play.{plays}
+use Rattle.plans.specs.{Progress.Progress, Progress.begun, Play.plays}
 use Rattle.plans.proofs.Groups.{pass_played}
 use Rattle.plans.proofs.plan_runs.plan_runs.Goals as goal
 

@@ -1,7 +1,6 @@
 use Rattle.std.proofs.Common.{◌≡◌, ◌∙◌, sym, ap}
-use Rattle.plans.specs.Progress.{Progress, begun_at}
+use Rattle.plans.specs.{Progress.Progress, Progress.begun_at, Play.plays}
 use Rattle.thread_machine.specs.World.{world_of}
-use Rattle.plans.specs.Play.{plays}
 use Rattle.plans.proofs.Groups.{pass_played}
 use Rattle.plans.proofs.plan_runs.plan_runs_at.Goals as goal
 

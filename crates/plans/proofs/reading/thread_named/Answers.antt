@@ -1,6 +1,5 @@
 use Rattle.std.proofs.Common.{◌∙◌, sym, rules, tests, bytes_eq}
-use Rattle.std.proofs.lemmas.Iterator.{YieldsList-from_slice}
-use Rattle.std.proofs.lemmas.Iterator.Search.{position_from_yields_List}
+use Rattle.std.proofs.lemmas.Iterator.{YieldsList-from_slice, Search.position_from_yields_List}
 use Rattle.line_reader.specs.Seen.{Borrowed}
 use Rattle.plans.proofs.Names.{same_position}
 use Rattle.plans.proofs.reading.thread_named.Goals as goal

@@ -1,7 +1,5 @@
 use Rattle.std.proofs.Common.{ℕ, List, take}
-use Rattle.std.specs.Borrow.{Bor}
-use Rattle.std.specs.List.{flat_map}
-use Rattle.std.specs.Io.KnownBytes.{Appends}
+use Rattle.std.specs.{Borrow.Bor, List.flat_map, Io.KnownBytes.Appends}
 use Rattle.refusals.specs.Entry.{line}
 use Rattle.refusals.proofs.entry.push_lines.Given as goal
 

@@ -1,6 +1,5 @@
 use Rattle.std.proofs.Common.{◌≡◌, take, Ok, Err, rules}
-use Rattle.std.proofs.lemmas.Result.{err_from_is_err_and}
-use Rattle.std.proofs.lemmas.List.Elements.{All-push}
+use Rattle.std.proofs.lemmas.{Result.err_from_is_err_and, List.Elements.All-push}
 use Rattle.row_code.specs.Reading.{is_memory, entries}
 use Rattle.row_code.proofs.Loop.{goes_on, ends, is_done, fails, fewer_left}
 use Rattle.row_code.proofs.entry.read_entries.Goals as goal

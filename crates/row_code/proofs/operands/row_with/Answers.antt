@@ -1,5 +1,4 @@
-use Rattle.std.proofs.Common.{sym, arith}
-use Rattle.std.proofs.lemmas.List.{get_or_past}
+use Rattle.std.proofs.{Common.sym, Common.arith, lemmas.List.get_or_past}
 use Rattle.instruction_table.specs.declared.row.Row.TheVariants.{Halt}
 use Rattle.row_code.specs.RowOperands.{rows_with}
 use Rattle.row_code.proofs.operands.row_with.Goals as goal

@@ -1,6 +1,5 @@
 use Rattle.std.proofs.Common.{ℕ, ◌<◌, slice_index_or}
-use Rattle.row_code.specs.declared.phasers.DeclaredPhaser.{DeclaredPhaser}
-use Rattle.row_code.specs.Phasers.{IsPhaser}
+use Rattle.row_code.specs.{declared.phasers.DeclaredPhaser.DeclaredPhaser, Phasers.IsPhaser}
 use Rattle.row_code.proofs.phasers.are_all_phasers.Given as goal
 
 abbrev pub invariant-loop-phaser : goal.invariant-loop-phaser

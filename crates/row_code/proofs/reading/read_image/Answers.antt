@@ -2,8 +2,7 @@ use Rattle.std.proofs.Common.{Err, sym, ap, subst, arith}
 use Rattle.std.proofs.lemmas.Result.{err_from_is_err_and}
 use Rattle.row_code.specs.Answers.{◌>>=◌, FailsAs, Answers}
 use Rattle.row_code.specs.Reading.{is_memory, lists_at, image_of}
-use Rattle.row_code.proofs.Loop.{fails}
-use Rattle.row_code.proofs.ImageLaws.{is_found, is_only}
+use Rattle.row_code.proofs.{Loop.fails, ImageLaws.is_found, ImageLaws.is_only}
 use Rattle.row_code.proofs.reading.read_image.Goals as goal
 
 pub returns-in_err-counts-clause-only : goal.returns-in_err-counts-clause-only

@@ -1,5 +1,4 @@
-use Rattle.row_code.proofs.Cells.{IsBytes-from_All}
-use Rattle.row_code.proofs.ImageLaws.{image_takes}
+use Rattle.row_code.proofs.{Cells.IsBytes-from_All, ImageLaws.image_takes}
 use Rattle.row_code.proofs.round_trip.one_spelling.Goals as goal
 
 pub returns : goal.returns

@@ -1,6 +1,5 @@
 use Rattle.std.proofs.Common.{slice_index, bytes_eq, sym, ap, ◌∙◌}
-use Rattle.row_code.specs.RowBytes.{fields_at}
-use Rattle.row_code.specs.RowOperands.{operands_at, row_with}
+use Rattle.row_code.specs.{RowBytes.fields_at, RowOperands.operands_at, RowOperands.row_with}
 use Rattle.row_code.proofs.RowLaws.{when_spelled, when_not, row_in_its_bytes}
 use Rattle.row_code.proofs.row_bytes.decode.Goals as goal
 

@@ -1,6 +1,5 @@
 use Rattle.std.proofs.Common.{ap, sym, ◌∙◌}
-use Rattle.row_code.specs.Reading.{row_at, row_or}
-use Rattle.row_code.specs.RowOperands.{row_in}
+use Rattle.row_code.specs.{Reading.row_at, Reading.row_or, RowOperands.row_in}
 use Rattle.row_code.proofs.Cells.{of_eight}
 use Rattle.row_code.proofs.row_entry.row_at.Goals as goal
 

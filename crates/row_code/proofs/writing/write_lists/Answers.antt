@@ -1,11 +1,6 @@
 use Rattle.std.proofs.Common.{ap, subst}
-use Rattle.std.specs.List.{flat_map}
-use Rattle.std.specs.Result.{OnOk}
-use Rattle.std.specs.Io.KnownBytes.{Appends}
-use Rattle.row_code.specs.Phasers.{phaser_bytes}
-use Rattle.row_code.specs.Barriers.{barrier_bytes}
-use Rattle.row_code.specs.Threads.{thread_bytes}
-use Rattle.row_code.specs.RowBytes.{bytes_of}
+use Rattle.std.specs.{List.flat_map, Result.OnOk, Io.KnownBytes.Appends}
+use Rattle.row_code.specs.{Phasers.phaser_bytes, Barriers.barrier_bytes, Threads.thread_bytes, RowBytes.bytes_of}
 use Rattle.row_code.proofs.Written.{appends_behind}
 use Rattle.row_code.proofs.writing.write_lists.Goals as goal
 

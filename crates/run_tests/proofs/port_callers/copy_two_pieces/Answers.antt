@@ -1,5 +1,4 @@
-use Rattle.std.proofs.Common.{◌++◌}
-use Rattle.std.proofs.KnownBytes.{Consumes-trans, Appends-trans}
+use Rattle.std.proofs.{Common.◌++◌, KnownBytes.Consumes-trans, KnownBytes.Appends-trans}
 use Rattle.run_tests.proofs.port_callers.copy_two_pieces.Goals as goal
 
 -- the bytes of the one piece and then of the other

@@ -1,5 +1,4 @@
-use Rattle.tier_tree.specs.Declaration.{AreAllFresh}
-use Rattle.tier_tree.specs.Stored.{phasers_of}
+use Rattle.tier_tree.specs.{Declaration.AreAllFresh, Stored.phasers_of}
 use Rattle.run_tests.proofs.trees.planted.Given as goal
 
 abbrev pub invariant-loop-plan : goal.invariant-loop-plan

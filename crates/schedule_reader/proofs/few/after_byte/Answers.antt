@@ -1,7 +1,5 @@
-use Rattle.std.proofs.Common.{◌∙◌, ◌+◌, inr, sym, true}
-use Rattle.std.specs.Prelude.{Err, Ok}
-use Rattle.schedule_reader.specs.declared.place.Place.TheVariants.{Between}
-use Rattle.schedule_reader.specs.Places.{schedule_from}
+use Rattle.std.proofs.Common.{◌∙◌, ◌+◌, inr, sym, true, Err, Ok}
+use Rattle.schedule_reader.specs.{declared.place.Place.TheVariants.Between, Places.schedule_from}
 use Rattle.schedule_reader.proofs.Streams.{blank, plain}
 use Rattle.schedule_reader.proofs.few.after_byte.Goals as goal
 

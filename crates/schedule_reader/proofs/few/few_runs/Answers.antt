@@ -1,6 +1,5 @@
 use Rattle.std.proofs.Common.{◌≡◌, drop, length, arith, rules, subst, true}
-use Rattle.schedule_reader.specs.Places.{schedule_from}
-use Rattle.schedule_reader.specs.Schedule.{finished_schedule}
+use Rattle.schedule_reader.specs.{Places.schedule_from, Schedule.finished_schedule}
 use Rattle.schedule_reader.proofs.Fews.{HasSeen, seen_last, seen_last_fault}
 use Rattle.schedule_reader.proofs.few.few_runs.Goals as goal
 

@@ -1,6 +1,5 @@
 use Rattle.std.proofs.Common.{true, drop}
-use Rattle.schedule_reader.specs.Places.{IsPlace, schedule_from}
-use Rattle.schedule_reader.specs.Schedule.{finished_schedule}
+use Rattle.schedule_reader.specs.{Places.IsPlace, Places.schedule_from, Schedule.finished_schedule}
 use Rattle.schedule_reader.proofs.Fews.{HasSeen}
 use Rattle.schedule_reader.proofs.few.few_runs.Given as goal
 

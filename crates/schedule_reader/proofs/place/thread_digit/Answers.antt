@@ -1,7 +1,6 @@
 use Rattle.std.proofs.Common.{◌≡◌, ◌⊎◌, ◌∙◌, inl, inr, ◌+◌, ◌-◌, ◌*◌, ◌<◌, ap, arith}
-use Rattle.schedule_reader.specs.Schedule.{Faulty}
+use Rattle.schedule_reader.specs.{Schedule.Faulty, Places.thread_from}
 use Rattle.schedule_reader.specs.declared.fault.ScheduleFault.TheVariants as fault
-use Rattle.schedule_reader.specs.Places.{thread_from}
 use Rattle.schedule_reader.proofs.Numbers.{thread-digit, thread-too_far}
 use Rattle.schedule_reader.proofs.place.thread_digit.Goals.{then-digits-eq2-via-then-digits-eq2, then-digits-eq2-via-else-digits-eq2+then-longer-gt-LAST_THREAD}
 use Rattle.schedule_reader.proofs.place.thread_digit.Goals as goal

@@ -1,7 +1,6 @@
 use Rattle.std.proofs.Common.{◌≡◌, ◌⊎◌, ◌∙◌, inl, inr, ◌+◌, ◌-◌, ◌*◌, ◌<◌, ap, arith}
-use Rattle.schedule_reader.specs.Schedule.{Faulty}
+use Rattle.schedule_reader.specs.{Schedule.Faulty, Places.times_from}
 use Rattle.schedule_reader.specs.declared.fault.ScheduleFault.TheVariants as fault
-use Rattle.schedule_reader.specs.Places.{times_from}
 use Rattle.schedule_reader.proofs.Numbers.{times-digit, times-too_far}
 use Rattle.schedule_reader.proofs.place.times_digit.Goals.{then-digits-eq10-via-then-digits-eq10, then-digits-eq10-via-else-digits-eq10+then-longer-gt-MOST_TIMES}
 use Rattle.schedule_reader.proofs.place.times_digit.Goals as goal

@@ -1,7 +1,5 @@
-use Rattle.std.proofs.Common.{◌≡◌, [], inr, ap}
-use Rattle.std.specs.Prelude.{Err}
-use Rattle.schedule_reader.specs.declared.fault.ScheduleFault.TheVariants.{Memory}
-use Rattle.schedule_reader.specs.Places.{piece_with}
+use Rattle.std.proofs.Common.{◌≡◌, [], inr, ap, Err}
+use Rattle.schedule_reader.specs.{declared.fault.ScheduleFault.TheVariants.Memory, Places.piece_with}
 use Rattle.schedule_reader.proofs.Streams.{takes-plain, takes-memory}
 use Rattle.schedule_reader.proofs.reader.end_token.Goals as goal
 

@@ -1,7 +1,6 @@
 use Rattle.std.proofs.Common.{◌+◌, ◌++◌, ℕ, Bool, List, ap, subst, refl, arith}
 use Rattle.schedule_reader.specs.Places.{IsPlace, schedule_from}
-use Rattle.schedule_reader.proofs.Streams.{takes-plain, takes-end}
-use Rattle.schedule_reader.proofs.Turns.{takes-some, takes-some_fault}
+use Rattle.schedule_reader.proofs.{Streams.takes-plain, Streams.takes-end, Turns.takes-some, Turns.takes-some_fault}
 use Rattle.schedule_reader.proofs.reader.read_bytes.Goals as goal
 
 pub loop-done-init : goal.loop-done-init

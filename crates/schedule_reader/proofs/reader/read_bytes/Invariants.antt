@@ -1,8 +1,6 @@
-use Rattle.std.proofs.Common.{◌+◌, ◌-◌, ◌*◌, ◌≤◌, ◌++◌, ℕ, Bool, List, length, drop}
-use Rattle.std.specs.Prelude.{All, Ok}
+use Rattle.std.proofs.Common.{◌+◌, ◌-◌, ◌*◌, ◌≤◌, ◌++◌, ℕ, Bool, List, length, drop, All, Ok}
 use Rattle.std.specs.Vec.{vec_capacity}
-use Rattle.schedule_reader.specs.Schedule.{IsRun}
-use Rattle.schedule_reader.specs.Places.{IsPlace, Takes, spent, schedule_from}
+use Rattle.schedule_reader.specs.{Schedule.IsRun, Places.IsPlace, Places.Takes, Places.spent, Places.schedule_from}
 use Rattle.schedule_reader.proofs.reader.read_bytes.Given as goal
 
 -- the runs so far and what the rest of the piece adds are what the whole piece adds

@@ -1,8 +1,8 @@
 use Rattle.std.proofs.Common.{◌≡◌, ◌∙◌, ap, arith}
 use Rattle.schedule_reader.specs.declared.place.Place.TheVariants.{Between}
 use Rattle.schedule_reader.proofs.Turns.{takes-turns, takes-one, takes-one_fault}
-use Rattle.schedule_reader.proofs.reader.read_some.Goals as goal
 use Rattle.schedule_reader.proofs.reader.read_some.Goals.{in-Between, in_default, then-matches+else-count-gt0, else-matches}
+use Rattle.schedule_reader.proofs.reader.read_some.Goals as goal
 
 pub returns-then-count-gt0-clause-takes : goal.returns-then-count-gt0-clause-takes
 returns-then-count-gt0-clause-takes c =

@@ -1,9 +1,6 @@
-use Rattle.std.proofs.Common.{◌≡◌, ◌+◌, ◌-◌, ◌*◌, ◌≤◌, ◌++◌, ℕ, Bool, List, length, drop}
-use Rattle.std.specs.Prelude.{All, Ok}
+use Rattle.std.proofs.Common.{◌≡◌, ◌+◌, ◌-◌, ◌*◌, ◌≤◌, ◌++◌, ℕ, Bool, List, length, drop, All, Ok}
 use Rattle.std.specs.Vec.{vec_capacity}
-use Rattle.schedule_reader.specs.declared.place.Place.TheVariants.{Between}
-use Rattle.schedule_reader.specs.Schedule.{IsRun}
-use Rattle.schedule_reader.specs.Places.{Takes, schedule_from}
+use Rattle.schedule_reader.specs.{declared.place.Place.TheVariants.Between, Schedule.IsRun, Places.Takes, Places.schedule_from}
 use Rattle.schedule_reader.proofs.reader.read_turns.Given as goal
 
 -- the runs so far are those of the turns with which the bytes begin

@@ -1,10 +1,9 @@
 use Rattle.std.proofs.Common.{◌≡◌, ◌∙◌, ◌++◌, ◌<◌, ℕ, List, length, ap, arith}
 use Rattle.std.proofs.lemmas.Bool.Decides.{nat_tests}
-use Rattle.schedule_reader.specs.Schedule.{run_of}
-use Rattle.schedule_reader.specs.Text.{token_of}
+use Rattle.schedule_reader.specs.{Schedule.run_of, Text.token_of}
 use Rattle.schedule_reader.proofs.Records.{record-first, record-more}
-use Rattle.schedule_reader.proofs.record.push_choice.Goals as goal
 use Rattle.schedule_reader.proofs.record.push_choice.Goals.{then-not-is_empty, else-not-is_empty}
+use Rattle.schedule_reader.proofs.record.push_choice.Goals as goal
 
 pub returns : goal.returns
 returns c = λ choices is.

@@ -1,8 +1,8 @@
 use Rattle.std.proofs.Common.{◌≡◌, ◌∙◌, ◌+◌, ◌/◌, ◌%◌, ◌++◌, ◌∷◌, [], ℕ, List, ap, sym, arith}
 use Rattle.schedule_reader.specs.Text.{letter_of}
 use Rattle.schedule_reader.proofs.Records.{token-long, token-short}
-use Rattle.schedule_reader.proofs.record.push_once.Goals as goal
 use Rattle.schedule_reader.proofs.record.push_once.Goals.{then-choice, else-choice, then-choice-gt9, else-choice-gt9}
+use Rattle.schedule_reader.proofs.record.push_once.Goals as goal
 
 pub returns : goal.returns
 returns c =

@@ -1,7 +1,5 @@
-use Rattle.std.proofs.Common.{◌≡◌, take}
-use Rattle.std.specs.Prelude.{All}
-use Rattle.schedule_reader.specs.Joined.{AreJoined}
-use Rattle.schedule_reader.specs.Schedule.{IsRun, choices_of}
+use Rattle.std.proofs.Common.{◌≡◌, take, All}
+use Rattle.schedule_reader.specs.{Joined.AreJoined, Schedule.IsRun, Schedule.choices_of}
 use Rattle.schedule_reader.proofs.run.joined.Given as goal
 
 abbrev pub invariant-loop-run : goal.invariant-loop-run

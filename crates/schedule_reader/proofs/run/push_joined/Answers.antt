@@ -1,11 +1,8 @@
-use Rattle.std.proofs.Common.{◌≡◌, ◌∙◌, ◌+◌, ◌-◌, ◌++◌, ◌∷◌, [], length, ap, sym, subst, rules, arith}
-use Rattle.std.specs.Prelude.{slice_index_or, slice_set}
-use Rattle.schedule_reader.specs.declared.run.Run.{Run}
-use Rattle.schedule_reader.specs.Joined.{AreJoined}
-use Rattle.schedule_reader.specs.Schedule.{choices_of, run_of}
+use Rattle.std.proofs.Common.{◌≡◌, ◌∙◌, ◌+◌, ◌-◌, ◌++◌, ◌∷◌, [], length, ap, sym, subst, rules, arith, slice_index_or, slice_set}
+use Rattle.schedule_reader.specs.{declared.run.Run.Run, Joined.AreJoined, Schedule.choices_of, Schedule.run_of}
 use Rattle.schedule_reader.proofs.Runs.{again, joined-again, joined-first, joined-own, spelled-own}
-use Rattle.schedule_reader.proofs.run.push_joined.Goals as goal
 use Rattle.schedule_reader.proofs.run.push_joined.Goals.{then-count-gt0+in_default, else-count-gt0}
+use Rattle.schedule_reader.proofs.run.push_joined.Goals as goal
 
 pub returns-in-Some-clause-choices : goal.returns-in-Some-clause-choices
 returns-in-Some-clause-choices c =

@@ -1,10 +1,7 @@
-use Rattle.std.proofs.Common.{◌∙◌, ◌++◌, ◌∷◌, [], List, ap, sym, subst, append_assoc}
-use Rattle.std.specs.Prelude.{replicate}
-use Rattle.std.proofs.lemmas.List.{append-nil, replicate-append-replicate}
+use Rattle.std.proofs.Common.{◌∙◌, ◌++◌, ◌∷◌, [], List, ap, sym, subst, append_assoc, replicate, append-nil}
+use Rattle.std.proofs.lemmas.List.{replicate-append-replicate}
 use Rattle.thread_machine.specs.declared.choice.Choice.{Choice}
-use Rattle.schedule_reader.specs.declared.run.Run.{Run}
-use Rattle.schedule_reader.specs.Joined.{AreJoined}
-use Rattle.schedule_reader.specs.Schedule.{choices_of}
+use Rattle.schedule_reader.specs.{declared.run.Run.Run, Joined.AreJoined, Schedule.choices_of}
 use Rattle.schedule_reader.proofs.run.push_run.Goals as goal
 
 pub loop-done-init : goal.loop-done-init

@@ -1,7 +1,5 @@
-use Rattle.std.proofs.Common.{◌≡◌, ◌++◌}
-use Rattle.std.specs.Prelude.{All, replicate}
-use Rattle.schedule_reader.specs.Joined.{AreJoined}
-use Rattle.schedule_reader.specs.Schedule.{IsRun, choices_of}
+use Rattle.std.proofs.Common.{◌≡◌, ◌++◌, All, replicate}
+use Rattle.schedule_reader.specs.{Joined.AreJoined, Schedule.IsRun, Schedule.choices_of}
 use Rattle.schedule_reader.proofs.run.push_run.Given as goal
 
 abbrev pub invariant-loop-done : goal.invariant-loop-done

@@ -1,8 +1,6 @@
-use Rattle.std.proofs.Common.{◌∙◌, ap, map}
+use Rattle.std.proofs.Common.{◌∙◌, ap, map, List}
 use Rattle.row_code.specs.declared.threads.DeclaredThread.{DeclaredThread}
-use Rattle.std.specs.Prelude.{List}
-use Rattle.machine_scene.specs.Scene.{starting}
-use Rattle.machine_scene.specs.Sound.{most_after}
+use Rattle.machine_scene.specs.{Scene.starting, Sound.most_after}
 use Rattle.thread_machine.proofs.Sound.{first_parts}
 use Rattle.thread_machine.proofs.machine.first_stage.Goals as goal
 

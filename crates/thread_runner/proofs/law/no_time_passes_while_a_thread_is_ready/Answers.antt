@@ -1,7 +1,6 @@
 use Rattle.thread_machine.specs.Execution.{execution}
 use Rattle.thread_runner.specs.Turns.{expiry_of}
-use Rattle.thread_runner.proofs.Choosing.{none_is_ready}
-use Rattle.thread_runner.proofs.Replays.{due_at}
+use Rattle.thread_runner.proofs.{Choosing.none_is_ready, Replays.due_at}
 use Rattle.thread_runner.proofs.law.no_time_passes_while_a_thread_is_ready.Goals as goal
 
 pub returns : goal.returns

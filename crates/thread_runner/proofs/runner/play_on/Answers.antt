@@ -1,6 +1,5 @@
 use Rattle.std.proofs.Common.{◌∙◌, ◌++◌, ◌∷◌, [], ap, append-nil, append_assoc, refl, sym}
-use Rattle.thread_runner.specs.Recording.{Recording, recorded_world}
-use Rattle.thread_runner.specs.Turns.{choice_in}
+use Rattle.thread_runner.specs.{Recording.Recording, Recording.recorded_world, Turns.choice_in}
 use Rattle.thread_runner.proofs.Replays.{kept_more}
 use Rattle.thread_runner.proofs.runner.play_on.Goals as goal
 

@@ -1,8 +1,6 @@
 use Rattle.std.proofs.Common.{rules, false, ◌≡◌, ◌≢◌, ◌∙◌, ◌<◌, ◌/◌, ℕ, sym, ap, subst}
-use Rattle.packed_phaser.specs.Flat.{Flat, arrive, renew}
-use Rattle.packed_phaser.specs.Word.{record_of}
-use Rattle.tier_tree.proofs.Shown.{below_read, late_read}
-use Rattle.tier_tree.proofs.View.{stands_as_it_is, lags}
+use Rattle.packed_phaser.specs.{Flat.Flat, Flat.arrive, Flat.renew, Word.record_of}
+use Rattle.tier_tree.proofs.{Shown.below_read, Shown.late_read, View.stands_as_it_is, View.lags}
 use Rattle.tier_tree.proofs.climb.arrival_at.Goals as goal
 
 pub returns-then-raw : goal.returns-then-raw

@@ -1,7 +1,6 @@
 use Rattle.std.proofs.Common.{◌∙◌, rules, ap, sym}
 use Rattle.packed_phaser.specs.Word.{record_of}
-use Rattle.tier_tree.specs.Forest.{PhaserState}
-use Rattle.tier_tree.specs.Stored.{phasers_of}
+use Rattle.tier_tree.specs.{Forest.PhaserState, Stored.phasers_of}
 use Rattle.tier_tree.proofs.Ascent.{own_line, counted_here, turned_here, none_here}
 use Rattle.tier_tree.proofs.Changed.{there_shown, root-line}
 use Rattle.tier_tree.proofs.Shown.{shown_at, root_shown, only_more, only_same}

@@ -1,12 +1,8 @@
-use Rattle.std.proofs.Common.{◌≡◌, ◌∙◌, ◌<◌, List, [], ℕ, length, refl, sym, subst}
-use Rattle.std.specs.Prelude.{All, take}
+use Rattle.std.proofs.Common.{◌≡◌, ◌∙◌, ◌<◌, List, [], ℕ, length, refl, sym, subst, All, take}
 use Rattle.std.proofs.lemmas.List.Elements.{All-replicate, All-take}
 use Rattle.packed_phaser.specs.Word.{record_of}
-use Rattle.tier_tree.specs.Ascent.{IsOfPhase}
-use Rattle.tier_tree.specs.Forest.{flat_at, root_at}
-use Rattle.tier_tree.specs.Stored.{ChangedOnly, phasers_of}
-use Rattle.tier_tree.proofs.Ascent.{one_top, live_line, of_phase_line, only_take}
-use Rattle.tier_tree.proofs.Changed.{restored_line}
+use Rattle.tier_tree.specs.{Ascent.IsOfPhase, Forest.flat_at, Forest.root_at, Stored.ChangedOnly, Stored.phasers_of}
+use Rattle.tier_tree.proofs.{Ascent.one_top, Ascent.live_line, Ascent.of_phase_line, Ascent.only_take, Changed.restored_line}
 use Rattle.tier_tree.proofs.Shown.{live_top}
 use Rattle.tier_tree.proofs.climb.ascend.Goals as goal
 

@@ -1,11 +1,6 @@
 use Rattle.std.proofs.Common.{inl, inr, ◌≡◌, ◌∙◌, ◌==◌, ℕ, Bool, get_or, if◌then◌else◌, arith, rules, false, sym, ap, subst}
-use Rattle.packed_phaser.specs.declared.word.Arrived.{Arrived}
-use Rattle.packed_phaser.specs.Answer.{arrival_of}
-use Rattle.packed_phaser.specs.Flat.{Counts, Turns}
-use Rattle.packed_phaser.specs.Word.{record_of}
-use Rattle.tier_tree.specs.Arrival.{passed_on}
-use Rattle.tier_tree.specs.Forest.{flat_at}
-use Rattle.tier_tree.specs.Stored.{phasers_of}
+use Rattle.packed_phaser.specs.{declared.word.Arrived.Arrived, Answer.arrival_of, Flat.Counts, Flat.Turns, Word.record_of}
+use Rattle.tier_tree.specs.{Arrival.passed_on, Forest.flat_at, Stored.phasers_of}
 use Rattle.tier_tree.proofs.Ascent.{IsRefusal, counted_there, turned_there, stays, goes_on, refused_there, refused_past, new_word, passed_late}
 use Rattle.tier_tree.proofs.Times.{found}
 use Rattle.tier_tree.proofs.climb.look.Goals.{then-leaves, else-leaves, then-leaves-2, else-leaves-2}

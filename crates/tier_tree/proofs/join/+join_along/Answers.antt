@@ -1,5 +1,4 @@
-use Rattle.std.proofs.Common.{sym, subst, ap, ◌≡◌, ◌∙◌, ℕ, ◌<◌, length}
-use Rattle.std.specs.Prelude.{All}
+use Rattle.std.proofs.Common.{sym, subst, ap, ◌≡◌, ◌∙◌, ℕ, ◌<◌, length, All}
 use Rattle.std.proofs.lemmas.List.Elements.{All-head}
 use Rattle.tier_tree.specs.Stored.{ChangedOnly}
 use Rattle.tier_tree.proofs.Shown.{only_more, only_same}

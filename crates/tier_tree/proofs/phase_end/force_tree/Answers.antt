@@ -1,6 +1,5 @@
 use Rattle.std.proofs.Common.{◌∙◌}
-use Rattle.tier_tree.proofs.Shown.{root_shown}
-use Rattle.tier_tree.proofs.Changed.{only_root}
+use Rattle.tier_tree.proofs.{Shown.root_shown, Changed.only_root}
 use Rattle.tier_tree.proofs.phase_end.force_tree.Goals as goal
 
 pub returns-clause-only : goal.returns-clause-only

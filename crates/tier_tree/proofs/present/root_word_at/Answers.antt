@@ -2,8 +2,7 @@ use Rattle.std.proofs.Common.{◌∙◌, ℕ, ap, sym, refl}
 use Rattle.std.proofs.lemmas.List.{get_or_read}
 use Rattle.packed_phaser.specs.Word.{record_of}
 use Rattle.tier_tree.specs.Stored.{Stored, no_stored, stored_at}
-use Rattle.tier_tree.proofs.Shown.{below_read}
-use Rattle.tier_tree.proofs.View.{stands_as_it_is}
+use Rattle.tier_tree.proofs.{Shown.below_read, View.stands_as_it_is}
 use Rattle.tier_tree.proofs.present.root_word_at.Goals as goal
 
 pub returns : goal.returns

@@ -1,8 +1,6 @@
-use Rattle.std.proofs.Common.{◌≡◌, ◌+◌, List, ℕ, Ok, ap, arith, inr, subst, sym}
-use Rattle.std.specs.Prelude.{Option}
+use Rattle.std.proofs.Common.{◌≡◌, ◌+◌, List, ℕ, Ok, ap, arith, inr, subst, sym, Option}
 use Rattle.byte_ports.specs.SourceLines.{Lines}
-use Rattle.trace_compare.specs.declared.comparison.Verdict.{Verdict}
-use Rattle.trace_compare.specs.Comparing.{HasComeTo, HasJudged}
+use Rattle.trace_compare.specs.{declared.comparison.Verdict.Verdict, Comparing.HasComeTo, Comparing.HasJudged}
 use Rattle.trace_compare.proofs.NamedLines.{gone-lines, gone-on, or_else}
 use Rattle.trace_compare.proofs.TakenLines.{come-far, come-first, come-line, come-over, come-verdict, read-behind}
 use Rattle.trace_compare.proofs.comparison.compare_lines.Goals as goal

@@ -1,6 +1,5 @@
 use Rattle.std.proofs.Common.{◌≡◌, ◌∙◌, ◌+◌, ◌++◌, ◌∷◌, [], Ok, Err, ap, arith, append-nil, inl, inr, refl, subst, sym}
-use Rattle.schedule_reader.specs.Joined.{AreJoined}
-use Rattle.schedule_reader.specs.Schedule.{choices_of}
+use Rattle.schedule_reader.specs.{Joined.AreJoined, Schedule.choices_of}
 use Rattle.trace_compare.specs.declared.naming.NextName.TheVariants as next
 use Rattle.trace_compare.specs.NamedLines.{HasTaken, none_read}
 use Rattle.trace_compare.proofs.NamedLines.{or_else, taken-lines, taken-more, taken-named, taken-on}

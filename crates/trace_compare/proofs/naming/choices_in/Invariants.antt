@@ -1,7 +1,5 @@
-use Rattle.std.proofs.Common.{◌≡◌, ◌+◌, false}
-use Rattle.std.specs.Prelude.{All}
-use Rattle.schedule_reader.specs.Joined.{AreJoined}
-use Rattle.schedule_reader.specs.Schedule.{IsRun, choices_of}
+use Rattle.std.proofs.Common.{◌≡◌, ◌+◌, false, All}
+use Rattle.schedule_reader.specs.{Joined.AreJoined, Schedule.IsRun, Schedule.choices_of}
 use Rattle.trace_compare.specs.NamedLines.{HasTaken, none_read}
 use Rattle.trace_compare.proofs.naming.choices_in.Given as goal
 

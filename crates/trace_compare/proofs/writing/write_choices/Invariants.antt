@@ -1,8 +1,6 @@
-use Rattle.std.proofs.Common.{◌≤◌, ◌+◌, List}
-use Rattle.std.specs.Prelude.{MatchOption}
+use Rattle.std.proofs.Common.{◌≤◌, ◌+◌, List, MatchOption}
 use Rattle.thread_machine.specs.declared.choice.Choice.{Choice}
-use Rattle.trace_compare.specs.NamedLines.{HasTaken, none_read}
-use Rattle.trace_compare.specs.Writing.{HasWritten}
+use Rattle.trace_compare.specs.{NamedLines.HasTaken, NamedLines.none_read, Writing.HasWritten}
 use Rattle.trace_compare.proofs.writing.write_choices.Given as goal
 
 -- the lines so far named choices, which are written but for the run that may get more

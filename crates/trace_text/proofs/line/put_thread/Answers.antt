@@ -1,5 +1,4 @@
-use Rattle.std.proofs.Common.{◌∙◌, ◌++◌, ap}
-use Rattle.std.specs.Prelude.{codes, if◌then◌else◌}
+use Rattle.std.proofs.Common.{◌∙◌, ◌++◌, ap, codes, if◌then◌else◌}
 use Rattle.trace_text.proofs.LineEnds.{named_line}
 use Rattle.trace_text.proofs.line.put_thread.Goals as goal
 

@@ -2,8 +2,7 @@ use Rattle.std.proofs.Common.{sym, subst}
 use Rattle.schedule_reader.specs.Schedule.{choices_of}
 use Rattle.thread_machine.specs.World.{world_of}
 use Rattle.trace_text.specs.Trace.{AppendsPartOf, lines_of}
-use Rattle.trace_text.proofs.Plays.{Part-whole}
-use Rattle.trace_text.proofs.Streams.{are_traced}
+use Rattle.trace_text.proofs.{Plays.Part-whole, Streams.are_traced}
 use Rattle.trace_text.proofs.loaded.play_known.Goals as goal
 
 pub returns-in-Ok-clause-traced : goal.returns-in-Ok-clause-traced

@@ -1,9 +1,7 @@
-use Rattle.std.proofs.Common.{subst}
-use Rattle.std.specs.Prelude.{IfOk}
+use Rattle.std.proofs.Common.{subst, IfOk}
 use Rattle.schedule_reader.specs.Schedule.{choices_of}
 use Rattle.thread_machine.specs.World.{World}
-use Rattle.trace_text.specs.RunText.{AreTraced}
-use Rattle.trace_text.specs.Trace.{AppendsPartOf, lines_of}
+use Rattle.trace_text.specs.{RunText.AreTraced, Trace.AppendsPartOf, Trace.lines_of}
 use Rattle.trace_text.proofs.Plays.{Part-none}
 use Rattle.trace_text.proofs.loaded.run_loaded.Goals as goal
 

@@ -1,7 +1,7 @@
 use Rattle.std.proofs.Common.{sym}
 use Rattle.trace_text.proofs.NamedChoices.{letter_x, letter_t, named_by_one, named_by_two}
-use Rattle.trace_text.proofs.next_choice.choice_between_spaces.Goals as goal
 use Rattle.trace_text.proofs.next_choice.choice_between_spaces.Goals.{else-not-expiry-via-then-not-expiry+else-bytes-ne116, else-not-expiry-via-else-not-expiry}
+use Rattle.trace_text.proofs.next_choice.choice_between_spaces.Goals as goal
 
 pub returns-then-bytes-eq32 : goal.returns-then-bytes-eq32
 returns-then-bytes-eq32 c =

@@ -1,5 +1,4 @@
-use Rattle.std.proofs.Common.{arith}
-use Rattle.std.proofs.lemmas.Fmt.{length_signed_le}
+use Rattle.std.proofs.{Common.arith, lemmas.Fmt.length_signed_le}
 use Rattle.trace_text.proofs.pieces.add_with_value.Goals as goal
 
 pub returns-in_err-extend_from_slice-clause-few : goal.returns-in_err-extend_from_slice-clause-few

@@ -1,8 +1,6 @@
-use Rattle.std.proofs.Common.{◌≡◌, ◌++◌, ◌<◌, ◌≤◌, Option, Result, Ok, take, length, refl, arith, rules}
-use Rattle.trace_text.specs.declared.play.Refused.{Refused}
-use Rattle.trace_text.specs.declared.run.RunFault.{RunFault}
-use Rattle.std.proofs.lemmas.List.{length-take}
+use Rattle.std.proofs.Common.{◌≡◌, ◌++◌, ◌<◌, ◌≤◌, Option, Result, Ok, take, length, refl, arith, rules, length-take}
 use Rattle.std.proofs.KnownBytes.{Consumes-trans}
+use Rattle.trace_text.specs.declared.{play.Refused.Refused, run.RunFault.RunFault}
 use Rattle.thread_machine.specs.World.{world_of}
 use Rattle.trace_text.proofs.Schedules.{end-plays, end-stopped, piece-plays, piece-stops}
 use Rattle.trace_text.proofs.Streams.{consumes-none, has_answered, longer_by_piece, on_ok, played-all}

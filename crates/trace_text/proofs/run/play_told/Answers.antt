@@ -1,8 +1,7 @@
 use Rattle.std.proofs.Common.{Option, Result, Ok, Err, ap, refl}
 use Rattle.schedule_reader.specs.Schedule.{choices_of}
 use Rattle.thread_machine.specs.World.{world_of}
-use Rattle.trace_text.specs.declared.play.PlayFault.{PlayFault}
-use Rattle.trace_text.specs.declared.play.Refused.{Refused}
+use Rattle.trace_text.specs.declared.play.{PlayFault.PlayFault, Refused.Refused}
 use Rattle.trace_text.proofs.Playing.{none-so, played-stops, plays-on, refused-on, told-plays, told-stops}
 use Rattle.trace_text.proofs.run.play_told.Goals as goal
 

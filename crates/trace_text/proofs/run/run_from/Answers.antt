@@ -1,8 +1,6 @@
 use Rattle.std.proofs.Common.{Result, Ok, Err, ap, subst, sym}
 use Rattle.thread_machine.specs.World.{world_of}
-use Rattle.trace_text.specs.declared.play.PlayFault.{PlayFault}
-use Rattle.trace_text.specs.declared.run_end.RunEnd.{RunEnd}
-use Rattle.trace_text.specs.Outcome.{Stops}
+use Rattle.trace_text.specs.{declared.play.PlayFault.PlayFault, declared.run_end.RunEnd.RunEnd, Outcome.Stops}
 use Rattle.trace_text.proofs.Streams.{ended, stops, unfinished}
 use Rattle.trace_text.proofs.run.run_from.Goals as goal
 

@@ -1,7 +1,6 @@
 use Rattle.std.proofs.Common.{◌∙◌, ◌<◌, ◌≤◌, length, subst, sym}
 use Rattle.std.proofs.lemmas.List.{length-map}
-use Rattle.tier_tree.specs.Forest.{no_phaser}
-use Rattle.tier_tree.specs.Stored.{phasers_of, shown}
+use Rattle.tier_tree.specs.{Forest.no_phaser, Stored.phasers_of, Stored.shown}
 use Rattle.trace_text.specs.State.{phaser_text}
 use Rattle.trace_text.proofs.Traces.{all_numbered, one_numbered_more}
 use Rattle.trace_text.proofs.state.add_phasers.Goals as goal

@@ -1,9 +1,7 @@
-use Rattle.std.proofs.Common.{rules, ◌≡◌, ◌+◌, ◌<◌, ◌++◌, All, arith, drop, get_or, length, subst}
-use Rattle.std.proofs.lemmas.List.{take_all}
+use Rattle.std.proofs.Common.{rules, ◌≡◌, ◌+◌, ◌<◌, ◌++◌, All, arith, drop, get_or, length, subst, take_all}
 use Rattle.std.proofs.lemmas.List.Elements.{All-more}
 use Rattle.machine_scene.specs.Scene.{no_thread}
-use Rattle.trace_text.specs.Brief.{IsBrief}
-use Rattle.trace_text.specs.State.{numbered_texts, thread_text}
+use Rattle.trace_text.specs.{Brief.IsBrief, State.numbered_texts, State.thread_text}
 use Rattle.trace_text.proofs.Traces.{numbered_texts-drop, one_text_more}
 use Rattle.trace_text.proofs.state.add_threads.Goals as goal
 

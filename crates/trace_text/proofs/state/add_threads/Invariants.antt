@@ -1,6 +1,5 @@
 use Rattle.std.proofs.Common.{◌≡◌, ◌++◌, All, drop, take}
-use Rattle.trace_text.specs.Brief.{IsBrief}
-use Rattle.trace_text.specs.State.{numbered_texts, thread_text}
+use Rattle.trace_text.specs.{Brief.IsBrief, State.numbered_texts, State.thread_text}
 use Rattle.trace_text.proofs.state.add_threads.Given as goal
 
 abbrev pub invariant-loop-thread : goal.invariant-loop-thread

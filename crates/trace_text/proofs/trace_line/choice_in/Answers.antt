@@ -2,8 +2,8 @@ use Rattle.std.proofs.Common.{◌∙◌, ap, arith}
 use Rattle.std.specs.List.{before_first}
 use Rattle.trace_text.specs.Reading.{choice_named, is_space}
 use Rattle.trace_text.proofs.FirstWords.{named_behind, named_none}
-use Rattle.trace_text.proofs.trace_line.choice_in.Goals as goal
 use Rattle.trace_text.proofs.trace_line.choice_in.Goals.{then-end-eq0-via-then-end-eq0, then-end-eq0-via-else-end-eq0+then-end-gt13, then-end-eq0-via-else-end-eq0+else-end-gt13+then-line-end, then-end-eq0-via-else-end-eq0+else-end-gt13+else-line-end+then-line-end-ne32}
+use Rattle.trace_text.proofs.trace_line.choice_in.Goals as goal
 
 pub returns-then-end-eq0 : goal.returns-then-end-eq0
 returns-then-end-eq0 c =

@@ -1,5 +1,4 @@
-use Rattle.tier_tree.specs.Forest.{phaser_at}
-use Rattle.tier_tree.specs.Stored.{phasers_of}
+use Rattle.tier_tree.specs.{Forest.phaser_at, Stored.phasers_of}
 use Rattle.vuthgal_c.specs.Looks.{IsFilled, phaser_look}
 use Rattle.vuthgal_c.proofs.looking.see_phasers.Given as goal
 

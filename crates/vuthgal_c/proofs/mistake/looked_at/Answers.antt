@@ -1,10 +1,9 @@
-use Rattle.std.proofs.Common.{ℕ, List, map, inr, sym, subst}
+use Rattle.std.proofs.Common.{ℕ, List, map, inr, sym, subst, ◌≡◌, None}
 use Rattle.line_reader.specs.Seen.{name_seen}
 use Rattle.vuthgal_c.specs.Mistakes.{IsRightInput, IsRightPlan, IsWrongInput, IsWrongPlan, IsWrongSchedule}
 use Rattle.vuthgal_c.specs.declared.mistake.Kind.{Kind}
 use Rattle.vuthgal_c.proofs.Results.{right_by, wrong_by}
 use Rattle.schedule_reader.specs.Schedule.{finished_schedule}
-use Rattle.std.specs.Prelude.{◌≡◌, None}
 use Rattle.vuthgal_c.proofs.mistake.looked_at.Goals as goal
 
 pub returns-in-Program-clause-right : goal.returns-in-Program-clause-right

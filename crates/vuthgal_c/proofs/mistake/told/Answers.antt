@@ -1,6 +1,5 @@
 use Rattle.std.proofs.Common.{◌∙◌, sym, subst}
-use Rattle.vuthgal_c.specs.Mistakes.{Refuses}
-use Rattle.vuthgal_c.specs.declared.place.PlaceLook.{PlaceLook}
+use Rattle.vuthgal_c.specs.{Mistakes.Refuses, declared.place.PlaceLook.PlaceLook}
 use Rattle.vuthgal_c.proofs.mistake.told.Goals as goal
 use Rattle.vuthgal_c.proofs.mistake.told.Goals.{then-status-eq3, else-status-eq3}
 

@@ -1,15 +1,11 @@
-use Rattle.std.proofs.Common.{rules, ◌≡◌, ◌≢◌, ◌∙◌, inl, inr, ℕ, false, List, [], Some, IfErr, sym, subst}
+use Rattle.std.proofs.Common.{rules, ◌≡◌, ◌≢◌, ◌∙◌, inl, inr, ℕ, false, List, [], Some, IfErr, sym, subst, OnOk}
 use Rattle.std.proofs.lemmas.Result.{IfErr-weaker}
-use Rattle.std.specs.Prelude.{OnOk}
-use Rattle.commands.specs.Unplanned.{unplanned_status}
-use Rattle.commands.specs.declared.unplanned.Unplanned.{Unplanned}
-use Rattle.vuthgal_c.specs.Beyond.{SettlesSeeds}
-use Rattle.vuthgal_c.specs.Mistakes.{IsRight, Refuses, kind_of}
-use Rattle.vuthgal_c.specs.declared.mistake.Kind.{Kind}
-use Rattle.vuthgal_c.specs.declared.place.PlaceLook.{PlaceLook}
+use Rattle.commands.specs.{Unplanned.unplanned_status, declared.unplanned.Unplanned.Unplanned}
+use Rattle.vuthgal_c.specs.{Beyond.SettlesSeeds, Mistakes.IsRight, Mistakes.Refuses, Mistakes.kind_of}
+use Rattle.vuthgal_c.specs.declared.{mistake.Kind.Kind, place.PlaceLook.PlaceLook}
 use Rattle.vuthgal_c.proofs.Mistaken.{came_to_three, has_reason, nothing_came, silent}
-use Rattle.vuthgal_c.proofs.mistake.vuthgal_mistake.Goals as goal
 use Rattle.vuthgal_c.proofs.mistake.vuthgal_mistake.Goals.{then-status-ne3, else-status-ne3}
+use Rattle.vuthgal_c.proofs.mistake.vuthgal_mistake.Goals as goal
 
 -- what came to the two sinks
 pub returns-clause-shown : goal.returns-clause-shown

@@ -1,5 +1,4 @@
-use Rattle.std.proofs.Common.{◌∙◌}
-use Rattle.std.specs.Prelude.{codes}
+use Rattle.std.proofs.Common.{◌∙◌, codes}
 use Rattle.std.specs.Fmt.{decimal}
 use Rattle.vuthgal_c.proofs.Faults.{pieces_pushed}
 use Rattle.vuthgal_c.proofs.planning.push_stopped.Goals as goal

@@ -1,6 +1,5 @@
 use Rattle.std.proofs.Common.{subst, Option}
-use Rattle.commands.specs.Seeds.{HasReportedSeeds}
-use Rattle.commands.specs.declared.seeds.Unlike.{Unlike}
+use Rattle.commands.specs.{Seeds.HasReportedSeeds, declared.seeds.Unlike.Unlike}
 use Rattle.vuthgal_c.specs.Beyond.{IsProgramIn}
 use Rattle.vuthgal_c.proofs.ProgramPlans.{reported_in_file, unreported_in_file}
 use Rattle.vuthgal_c.proofs.planning.reported.Goals as goal

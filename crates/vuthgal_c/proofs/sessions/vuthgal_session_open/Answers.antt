@@ -1,5 +1,4 @@
-use Rattle.std.proofs.Common.{rules, inl, inr, refl, ◌<◌, ◌≤◌, length, arith}
-use Rattle.std.specs.Prelude.{codes}
+use Rattle.std.proofs.Common.{rules, inl, inr, refl, ◌<◌, ◌≤◌, length, arith, codes}
 use Rattle.workbench.specs.Input.{most_bytes}
 use Rattle.workbench.specs.declared.fault.Fault.TheVariants as fault
 use Rattle.vuthgal_c.proofs.sessions.vuthgal_session_open.Goals as goal

@@ -1,9 +1,7 @@
-use Rattle.std.proofs.Common.{◌∙◌, inl, inr, refl, rules, subst}
-use Rattle.std.specs.Prelude.{Some, false}
+use Rattle.std.proofs.Common.{◌∙◌, inl, inr, refl, rules, subst, Some, false}
 use Rattle.assembler.specs.Meaning.{StandsFor}
 use Rattle.workbench.specs.declared.fault.Fault.TheVariants as fault
-use Rattle.workbench.specs.Outcome.{Plays}
-use Rattle.workbench.specs.ProgramFile.{IsNoTextFor}
+use Rattle.workbench.specs.{Outcome.Plays, ProgramFile.IsNoTextFor}
 use Rattle.workbench.proofs.both.both.Goals as goal
 
 pub returns-in-Ok : goal.returns-in-Ok

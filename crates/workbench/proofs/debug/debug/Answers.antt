@@ -1,7 +1,5 @@
-use Rattle.std.proofs.Common.{inr, refl}
-use Rattle.std.specs.Prelude.{None}
-use Rattle.workbench.proofs.Conversations.{none_given}
-use Rattle.workbench.proofs.Debugged.{debugged, not_begun}
+use Rattle.std.proofs.Common.{inr, refl, None}
+use Rattle.workbench.proofs.{Conversations.none_given, Debugged.debugged, Debugged.not_begun}
 use Rattle.workbench.proofs.debug.debug.Goals as goal
 
 pub returns-clause-outcome : goal.returns-clause-outcome

@@ -1,5 +1,4 @@
-use Rattle.std.proofs.Common.{inr, refl}
-use Rattle.std.specs.Prelude.{Some}
+use Rattle.std.proofs.Common.{inr, refl, Some}
 use Rattle.workbench.proofs.Debugged.{not_begun}
 use Rattle.workbench.proofs.debug.debug_behind.Goals as goal
 

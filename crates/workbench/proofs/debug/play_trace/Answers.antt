@@ -1,10 +1,8 @@
-use Rattle.std.proofs.Common.{◌≡◌, ◌+◌, ◌++◌, ◌∷◌, [], Ok, Err, ap, arith, append-nil, inr, refl, subst}
-use Rattle.std.proofs.lemmas.List.{length-append}
+use Rattle.std.proofs.Common.{◌≡◌, ◌+◌, ◌++◌, ◌∷◌, [], Ok, Err, ap, arith, append-nil, inr, refl, subst, length-append}
 use Rattle.trace_compare.specs.NamedLines.{none_read}
 use Rattle.trace_compare.specs.declared.naming.NextName.TheVariants as next
 use Rattle.trace_compare.proofs.NamedLines.{or_else, taken-lines, taken-more, taken-named, taken-on}
-use Rattle.debugger.specs.declared.stop.Stop.{Stop}
-use Rattle.debugger.specs.Go.{Stops}
+use Rattle.debugger.specs.{declared.stop.Stop.Stop, Go.Stops}
 use Rattle.workbench.proofs.debug.play_trace.Goals as goal
 
 pub returns-in-Ok-State-clause-stopped : goal.returns-in-Ok-State-clause-stopped

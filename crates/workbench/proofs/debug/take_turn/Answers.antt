@@ -3,8 +3,8 @@ use Rattle.std.proofs.lemmas.List.{nil_from_length}
 use Rattle.std.specs.Io.KnownBytes.{Consumes}
 use Rattle.workbench.specs.Debug.{HasNoEnd}
 use Rattle.workbench.proofs.Conversations.{cut_off, ends_with_a_line, ends_without_a_line, is_no_quit, quits, unanswered}
-use Rattle.workbench.proofs.debug.take_turn.Goals as goal
 use Rattle.workbench.proofs.debug.take_turn.Goals.{else-not-is_ended-via-then-not-is_ended+else-is_empty, else-not-is_ended-via-else-not-is_ended}
+use Rattle.workbench.proofs.debug.take_turn.Goals as goal
 
 pub returns-in-Err-clause-fault : goal.returns-in-Err-clause-fault
 returns-in-Err-clause-fault g c =

@@ -1,8 +1,7 @@
 use Rattle.std.proofs.Common.{List, arith, subst}
 use Rattle.std.proofs.lemmas.Result.{IfOk-at_ok, IfOk-weaker}
 use Rattle.thread_machine.proofs.Firsts.{is_first}
-use Rattle.thread_machine.specs.World.{first_world, world_of}
-use Rattle.thread_machine.specs.declared.choice.Choice.{Choice}
+use Rattle.thread_machine.specs.{World.first_world, World.world_of, declared.choice.Choice.Choice}
 use Rattle.thread_runner.specs.Replay.{IsReplay}
 use Rattle.workbench.proofs.live.recorded.Goals as goal
 

@@ -1,9 +1,7 @@
-use Rattle.std.proofs.Common.{rules, tests, not, ◌==◌, length}
-use Rattle.std.specs.Prelude.{codes}
-use Rattle.std.specs.Str.{bytes_eq}
-use Rattle.std.proofs.lemmas.Iterator.Consumers.{YieldsList-from_filter, YieldsList-at}
-use Rattle.std.proofs.lemmas.Iterator.Search.{all_from_yields_List}
+use Rattle.std.proofs.Common.{rules, tests, not, ◌==◌, length, codes}
+use Rattle.std.proofs.lemmas.Iterator.{Consumers.YieldsList-from_filter, Consumers.YieldsList-at, Search.all_from_yields_List}
 use Rattle.std.proofs.lemmas.Iterator.Splits.{YieldsList-from_slice_split}
+use Rattle.std.specs.Str.{bytes_eq}
 use Rattle.line_reader.specs.Words.{is_blank}
 use Rattle.workbench.proofs.run_line.has_only_run.Goals as goal
 

@@ -1,5 +1,4 @@
-use Rattle.std.proofs.Common.{◌∙◌, ◌-◌, ◌++◌, List, ℕ, length, take, ap, sym, arith}
-use Rattle.std.proofs.lemmas.List.{append-nil, length-drop}
+use Rattle.std.proofs.Common.{◌∙◌, ◌-◌, ◌++◌, List, ℕ, length, take, ap, sym, arith, append-nil, length-drop}
 use Rattle.workbench.specs.RunLine.{is_run_line, schedule_part}
 use Rattle.workbench.proofs.RunLine.{schedule_part-run, schedule_part-next, program_part-run, next_rest, next_text}
 use Rattle.workbench.proofs.run_line.split_at_run.Goals as goal

@@ -1,9 +1,7 @@
 use Rattle.std.proofs.Common.{◌∙◌, ap, map, [], ◌∷◌, ◌++◌, Some}
 use Rattle.std.proofs.lemmas.List.{map-append}
-use Rattle.assembler.specs.KeptLine.{line_kept}
-use Rattle.assembler.specs.Statements.{is_new, name_in}
+use Rattle.assembler.specs.{KeptLine.line_kept, Statements.is_new, Statements.name_in, Symbols.symbol_by}
 use Rattle.assembler.specs.Draft.{named_with, places, symbol_there}
-use Rattle.assembler.specs.Symbols.{symbol_by}
 use Rattle.assembler.proofs.Drafts.{kept_with}
 use Rattle.assembler.proofs.draft.Draft.push.Goals as goal
 

@@ -1,8 +1,7 @@
 use Rattle.std.proofs.Common.{◌≡◌, ◌∙◌, ◌&&◌, ◌∷◌, [], Some, None, cond}
 use Rattle.std.specs.List.{list_all}
 use Rattle.row_code.specs.RowOperands.{row_with}
-use Rattle.line_reader.specs.Symbols.{operands_in}
-use Rattle.line_reader.specs.KeptRow.{row_kept}
+use Rattle.line_reader.specs.{Symbols.operands_in, KeptRow.row_kept}
 use Rattle.assembler.specs.Meaning.{is_operand_known, operands_of, row_of, with_operand}
 use Rattle.assembler.proofs.Lookups.{found_used, none_behind, two_found}
 use Rattle.assembler.proofs.resolution.lookups.row_of.Goals as goal

@@ -1,5 +1,4 @@
-use Rattle.std.proofs.Common.{◌≡◌, ◌∙◌, ◌∷◌, [], Bool, List, None, Option, Some, add-one, ap, cond, drop, option_map, refl, slice_get, suc, sym, zero, ℕ}
-use Rattle.std.specs.Prelude.{find}
+use Rattle.std.proofs.Common.{◌≡◌, ◌∙◌, ◌∷◌, [], Bool, List, None, Option, Some, add-one, ap, cond, drop, option_map, refl, slice_get, suc, sym, zero, ℕ, find}
 use Rattle.assembler.specs.Symbols.{is_symbol_of, symbol_name, symbol_seen}
 use Rattle.assembler.proofs.symbols.Symbols.name_of.Goals as goal
 use Rattle.assembler.proofs.symbols.Symbols.name_of.Goals.{in-Some+else-is_symbol_of, in_default}

@@ -1,5 +1,4 @@
-use Rattle.std.proofs.Common.{◌≡◌, drop}
-use Rattle.std.specs.Prelude.{find}
+use Rattle.std.proofs.Common.{◌≡◌, drop, find}
 use Rattle.assembler.specs.Symbols.{is_symbol_of}
 use Rattle.assembler.proofs.symbols.Symbols.name_of.Given as goal
 

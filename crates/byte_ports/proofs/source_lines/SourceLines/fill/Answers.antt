@@ -1,7 +1,6 @@
 use Rattle.std.proofs.Common.{◌≡◌, ◌∙◌, ◌+◌, ◌-◌, ◌++◌, ◌≤◌, ap, length, take, drop, rules, arith, length-drop, length-take, length-take-le}
+use Rattle.std.proofs.{Math.Seq.take-add, lemmas.List.with_items_is, lemmas.List.places}
 use Rattle.std.specs.Vec.{with_items}
-use Rattle.std.proofs.Math.Seq.{take-add}
-use Rattle.std.proofs.lemmas.List.{with_items_is, places}
 use Rattle.byte_ports.proofs.Pieces.{more-held}
 use Rattle.byte_ports.proofs.source_lines.SourceLines.fill.Goals as goal
 

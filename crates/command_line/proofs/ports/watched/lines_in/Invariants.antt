@@ -1,5 +1,4 @@
-use Rattle.std.proofs.Common.{ℕ, ◌≡◌, ◌==◌, ◌+◌, length}
-use Rattle.std.specs.Prelude.{count_by}
+use Rattle.std.proofs.Common.{ℕ, ◌≡◌, ◌==◌, ◌+◌, length, count_by}
 use Rattle.command_line.proofs.ports.watched.lines_in.Given as goal
 
 -- the lines that end in the bytes before, and those that end in what is left

@@ -1,5 +1,4 @@
-use Rattle.std.proofs.Common.{◌≡◌, ◌==◌, take}
-use Rattle.std.specs.Prelude.{count_by}
+use Rattle.std.proofs.Common.{◌≡◌, ◌==◌, take, count_by}
 use Rattle.command_line.proofs.ports.watched.lines_in_piece.Given as goal
 
 -- the lines that end in the bytes so far

@@ -1,7 +1,5 @@
 use Rattle.std.proofs.Common.{◌≡◌, ◌∙◌, ◌-◌, ◌++◌, ◌∷◌, [], List, All, ap, refl, sym, subst, arith, rules, length, take}
-use Rattle.schedule_reader.specs.declared.run.Run.{Run}
-use Rattle.schedule_reader.specs.Joined.{AreJoined}
-use Rattle.schedule_reader.specs.Schedule.{IsRun, choices_of}
+use Rattle.schedule_reader.specs.{declared.run.Run.Run, Joined.AreJoined, Schedule.IsRun, Schedule.choices_of}
 use Rattle.debugger.proofs.PlayedRuns.{IsCounted, all_but, all_last, all_with, choices-less, choices-push, joined_front, joined_last}
 use Rattle.debugger.proofs.played.Played.pop.Goals as goal
 

@@ -1,5 +1,4 @@
-use Rattle.std.proofs.Common.{◌∙◌, ap, false}
-use Rattle.std.specs.Prelude.{min, slice_index_or}
+use Rattle.std.proofs.Common.{◌∙◌, ap, false, min, slice_index_or}
 use Rattle.schedule_reader.specs.declared.run.Run.{Run}
 use Rattle.trace_text.proofs.Plays.{choices_of-drop}
 use Rattle.debugger.proofs.PlayedRuns.{pushed_on}

@@ -1,10 +1,8 @@
 use Rattle.std.proofs.Common.{◌≡◌, ◌∙◌, ◌+◌, ◌++◌, ◌∷◌, [], List, All, refl, ap, sym, subst, arith, rules, replicate}
-use Rattle.schedule_reader.specs.declared.run.Run.{Run}
-use Rattle.schedule_reader.specs.Joined.{AreJoined}
-use Rattle.schedule_reader.specs.Schedule.{IsRun, choices_of, run_of}
+use Rattle.schedule_reader.specs.{declared.run.Run.Run, Joined.AreJoined, Schedule.IsRun, Schedule.choices_of, Schedule.run_of}
 use Rattle.debugger.proofs.PlayedRuns.{IsCounted, all_but, all_last, all_with, choices-joined, joined_last, joined_next}
-use Rattle.debugger.proofs.played.Played.push_some.Goals as goal
 use Rattle.debugger.proofs.played.Played.push_some.Goals.{else-is_same-via-then-is_same+else-last-lt-MOST_TIMES, else-is_same-via-else-is_same}
+use Rattle.debugger.proofs.played.Played.push_some.Goals as goal
 
 -- the last run becomes longer
 pub invariant_of-self-then-last-lt-MOST_TIMES : goal.invariant_of-self-then-last-lt-MOST_TIMES

@@ -1,7 +1,6 @@
 use Rattle.std.proofs.Common.{◌∙◌, ◌-◌, length, take, refl, ap, sym, subst}
 use Rattle.debugger.specs.Session.{Session, IsHistory, back_to}
-use Rattle.debugger.proofs.Trails.{past_first, session_back, can_first, past_none}
-use Rattle.debugger.proofs.Histories.{history_back}
+use Rattle.debugger.proofs.{Trails.past_first, Trails.session_back, Trails.can_first, Trails.past_none, Histories.history_back}
 use Rattle.debugger.proofs.session.Debugger.back.Goals as goal
 
 pub returns-in-Some-clause-history : goal.returns-in-Some-clause-history

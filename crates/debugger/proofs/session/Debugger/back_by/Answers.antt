@@ -1,9 +1,7 @@
 use Rattle.std.proofs.Common.{◌≡◌, ◌∙◌, ◌-◌, List, ap, arith, length, refl, subst, sym, take}
 use Rattle.thread_machine.specs.World.{StoredWorld}
-use Rattle.debugger.specs.Moves.{backs}
-use Rattle.debugger.specs.Session.{IsHistory, Session}
-use Rattle.debugger.proofs.Moves.{backs_length, history_backs}
-use Rattle.debugger.proofs.Trails.{past_length}
+use Rattle.debugger.specs.{Moves.backs, Session.IsHistory, Session.Session}
+use Rattle.debugger.proofs.{Moves.backs_length, Moves.history_backs, Trails.past_length}
 use Rattle.debugger.proofs.session.Debugger.back_by.Goals as goal
 
 pub returns-then-len-count-clause-none : goal.returns-then-len-count-clause-none

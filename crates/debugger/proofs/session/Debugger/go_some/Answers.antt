@@ -1,8 +1,6 @@
-use Rattle.std.proofs.Common.{◌∙◌, ap, false}
-use Rattle.std.specs.Prelude.{min}
+use Rattle.std.proofs.Common.{◌∙◌, ap, false, min}
 use Rattle.schedule_reader.specs.declared.run.Run.{Run}
-use Rattle.debugger.proofs.Goes.{continues_next, continues_break, continues_fault}
-use Rattle.debugger.proofs.PlayedRuns.{first_of_runs}
+use Rattle.debugger.proofs.{Goes.continues_next, Goes.continues_break, Goes.continues_fault, PlayedRuns.first_of_runs}
 use Rattle.debugger.proofs.session.Debugger.go_some.Goals as goal
 
 pub returns-in-Break : goal.returns-in-Break

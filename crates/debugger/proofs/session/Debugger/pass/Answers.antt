@@ -1,8 +1,8 @@
 use Rattle.std.proofs.Common.{◌∙◌, sym, ap}
 use Rattle.thread_machine.specs.World.{StoredWorld}
 use Rattle.debugger.proofs.Goes.{is_step, pass_break, pass_idle, pass_on, pass_fault}
-use Rattle.debugger.proofs.session.Debugger.pass.Goals as goal
 use Rattle.debugger.proofs.session.Debugger.pass.Goals.{else-steps-before-via-then-steps-before+else-stands_at_break, else-steps-before-via-else-steps-before}
+use Rattle.debugger.proofs.session.Debugger.pass.Goals as goal
 
 pub returns-then-stands_at_break : goal.returns-then-stands_at_break
 returns-then-stands_at_break c =

@@ -1,9 +1,7 @@
 use Rattle.std.proofs.Common.{◌≡◌, ◌∙◌, ap, sym}
-use Rattle.thread_machine.specs.World.{StoredWorld, world_of}
-use Rattle.thread_machine.specs.Step.{Played, played, refusal_of}
+use Rattle.thread_machine.specs.{World.StoredWorld, World.world_of, Step.Played, Step.played, Step.refusal_of}
 use Rattle.debugger.specs.Session.{Session}
-use Rattle.debugger.proofs.Trails.{trail_on, session_on}
-use Rattle.debugger.proofs.Histories.{history_on}
+use Rattle.debugger.proofs.{Trails.trail_on, Trails.session_on, Histories.history_on}
 use Rattle.debugger.proofs.session.Debugger.step.Goals as goal
 
 pub invariant_of-self-2 : goal.invariant_of-self-2

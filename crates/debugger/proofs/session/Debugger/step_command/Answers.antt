@@ -1,13 +1,8 @@
 use Rattle.std.proofs.Common.{◌≡◌, ◌∙◌, ◌+◌, true, ap, sym}
 use Rattle.machine_scene.specs.Scene.{thread_at}
-use Rattle.thread_machine.specs.World.{StoredWorld, world_of}
-use Rattle.thread_machine.specs.Step.{Played, played, refusal_of}
-use Rattle.debugger.specs.Command.{Step}
-use Rattle.debugger.specs.Reply.{wants_memory}
-use Rattle.debugger.specs.Session.{Session}
-use Rattle.debugger.proofs.Trails.{trail_on, session_on}
-use Rattle.debugger.proofs.Goes.{step_unless}
-use Rattle.debugger.proofs.Replies.{event_line, stepped}
+use Rattle.thread_machine.specs.{World.StoredWorld, World.world_of, Step.Played, Step.played, Step.refusal_of}
+use Rattle.debugger.specs.{Command.Step, Reply.wants_memory, Session.Session}
+use Rattle.debugger.proofs.{Trails.trail_on, Trails.session_on, Goes.step_unless, Replies.event_line, Replies.stepped}
 use Rattle.debugger.proofs.session.Debugger.step_command.Goals as goal
 
 pub invariant_of-self-2 : goal.invariant_of-self-2

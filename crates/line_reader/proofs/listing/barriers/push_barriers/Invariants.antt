@@ -1,7 +1,6 @@
 use Rattle.std.proofs.Common.{ℕ, ◌<◌, slice_index_or, ◌≡◌, ◌++◌, drop}
 use Rattle.std.specs.List.{flat_map}
-use Rattle.row_code.specs.declared.barriers.DeclaredBarrier.{DeclaredBarrier}
-use Rattle.row_code.specs.Barriers.{IsBarrier}
+use Rattle.row_code.specs.{declared.barriers.DeclaredBarrier.DeclaredBarrier, Barriers.IsBarrier}
 use Rattle.line_reader.specs.Listing.{line_text, numbered, barrier_words}
 use Rattle.line_reader.proofs.listing.barriers.push_barriers.Given as goal
 

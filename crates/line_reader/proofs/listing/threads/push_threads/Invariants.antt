@@ -1,7 +1,6 @@
 use Rattle.std.proofs.Common.{ℕ, ◌<◌, slice_index_or, ◌≡◌, ◌++◌, drop}
 use Rattle.std.specs.List.{flat_map}
-use Rattle.row_code.specs.declared.threads.DeclaredThread.{DeclaredThread}
-use Rattle.row_code.specs.Threads.{IsThread}
+use Rattle.row_code.specs.{declared.threads.DeclaredThread.DeclaredThread, Threads.IsThread}
 use Rattle.line_reader.specs.Listing.{line_text, numbered, thread_words}
 use Rattle.line_reader.proofs.listing.threads.push_threads.Given as goal
 

@@ -1,12 +1,8 @@
-use Rattle.std.proofs.Common.{◌≡◌, ◌∙◌, ◌<◌, false, ap, refl, sym, subst, List, length}
-use Rattle.std.specs.Prelude.{◌&&◌}
-use Rattle.tier_tree.specs.Forest.{PhaserState}
-use Rattle.tier_tree.specs.Stored.{Stored, phasers_of, ChangedAt}
-use Rattle.tier_tree.proofs.Shown.{root_shown}
-use Rattle.tier_tree.proofs.Changed.{changed_then_root}
+use Rattle.std.proofs.Common.{◌≡◌, ◌∙◌, ◌<◌, false, ap, refl, sym, subst, List, length, ◌&&◌}
+use Rattle.tier_tree.specs.{Forest.PhaserState, Stored.Stored, Stored.phasers_of, Stored.ChangedAt}
+use Rattle.tier_tree.proofs.{Shown.root_shown, Changed.changed_then_root}
 use Rattle.thread_state.specs.Thread.{is_full}
-use Rattle.machine_scene.specs.Scene.{Scene, StoredScene, scene_of, thread_at}
-use Rattle.machine_scene.specs.PhaserRows.{has_routine}
+use Rattle.machine_scene.specs.{Scene.Scene, Scene.StoredScene, Scene.scene_of, Scene.thread_at, PhaserRows.has_routine}
 use Rattle.machine_scene.proofs.Room.{room_left}
 use Rattle.machine_scene.proofs.stage.Stage.arrive.Goals as goal
 

@@ -1,11 +1,7 @@
-use Rattle.std.proofs.Common.{inl, inr, ◌≡◌, ◌∙◌, ap, sym}
-use Rattle.std.specs.Prelude.{Option, Some}
+use Rattle.std.proofs.Common.{inl, inr, ◌≡◌, ◌∙◌, ap, sym, Option, Some}
 use Rattle.instruction_table.specs.declared.row.Row.{Row}
-use Rattle.machine_scene.specs.declared.manner.Manner.{Manner}
-use Rattle.machine_scene.specs.Manner.{manner_of}
-use Rattle.machine_scene.specs.Scene.{Outcome, scene_of}
-use Rattle.machine_scene.specs.PhaserRows.{unless_own, outcome_of_arrival}
-use Rattle.machine_scene.specs.Outcomes.{outcome_of_row}
+use Rattle.machine_scene.specs.{declared.manner.Manner.Manner, Manner.manner_of, Scene.Outcome, Scene.scene_of}
+use Rattle.machine_scene.specs.{PhaserRows.unless_own, PhaserRows.outcome_of_arrival, Outcomes.outcome_of_row}
 use Rattle.machine_scene.proofs.stage.Stage.common_arrival.Goals as goal
 
 pub returns-in-Parr-clause-ok : goal.returns-in-Parr-clause-ok

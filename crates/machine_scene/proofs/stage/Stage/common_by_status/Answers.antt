@@ -1,7 +1,6 @@
 use Rattle.std.proofs.Common.{◌∙◌, sym}
 use Rattle.machine_scene.specs.Scene.{scene_of, thread_at}
-use Rattle.machine_scene.proofs.LocalTurns.{is_local, local_turn}
-use Rattle.machine_scene.proofs.Reaches.{within_same}
+use Rattle.machine_scene.proofs.{LocalTurns.is_local, LocalTurns.local_turn, Reaches.within_same}
 use Rattle.machine_scene.proofs.stage.Stage.common_by_status.Goals as goal
 
 pub local_row-requires-clause-local : goal.local_row-requires-clause-local

@@ -1,7 +1,5 @@
 use Rattle.std.proofs.Common.{ap, arith, sym, subst}
-use Rattle.machine_scene.specs.Scene.{Scene, StoredScene, scene_of}
-use Rattle.machine_scene.specs.Outcomes.{outcome_of}
-use Rattle.machine_scene.specs.ReadySet.{AreReady}
+use Rattle.machine_scene.specs.{Scene.Scene, Scene.StoredScene, Scene.scene_of, Outcomes.outcome_of, ReadySet.AreReady}
 use Rattle.machine_scene.specs.Played.{IsPlayed}
 use Rattle.machine_scene.proofs.CommonTurns.{AfterCommon, turn_kept, apart_kept, local_kept, beside_kept, waits_kept}
 use Rattle.machine_scene.proofs.Undoing.{turn_played, played_still}

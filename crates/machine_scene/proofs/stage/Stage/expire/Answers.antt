@@ -1,10 +1,7 @@
 use Rattle.std.proofs.Common.{sym, subst, arith}
-use Rattle.machine_scene.specs.Scene.{StoredScene, scene_of}
-use Rattle.machine_scene.specs.ReadySet.{AreReady}
-use Rattle.machine_scene.specs.Outcomes.{outcome_of_expiry}
+use Rattle.machine_scene.specs.{Scene.StoredScene, Scene.scene_of, ReadySet.AreReady, Outcomes.outcome_of_expiry}
 use Rattle.machine_scene.specs.Played.{IsPlayed}
-use Rattle.machine_scene.proofs.Placed.{named_still}
-use Rattle.machine_scene.proofs.Undoing.{played_still}
+use Rattle.machine_scene.proofs.{Placed.named_still, Undoing.played_still}
 use Rattle.machine_scene.proofs.stage.Stage.expire.Goals as goal
 
 pub ready_after-self-inside-requires-clause-sound : goal.ready_after-self-inside-requires-clause-sound

@@ -1,10 +1,7 @@
-use Rattle.std.proofs.Common.{inl, inr, ◌≡◌, ◌∙◌, ap, sym}
-use Rattle.std.specs.Prelude.{Some}
+use Rattle.std.proofs.Common.{inl, inr, ◌≡◌, ◌∙◌, ap, sym, Some}
 use Rattle.instruction_table.specs.declared.row.Row.{Row}
-use Rattle.machine_scene.specs.Scene.{scene_of}
+use Rattle.machine_scene.specs.{Scene.scene_of, declared.manner.Manner.Manner, Manner.manner_of}
 use Rattle.machine_scene.specs.PhaserRows.{unless_own, outcome_of_arrival, outcome_of_phaser_row}
-use Rattle.machine_scene.specs.declared.manner.Manner.{Manner}
-use Rattle.machine_scene.specs.Manner.{manner_of}
 use Rattle.machine_scene.proofs.stage.Stage.phaser_row.Goals as goal
 
 pub returns-in-Parr-clause-outcome : goal.returns-in-Parr-clause-outcome

@@ -1,5 +1,4 @@
-use Rattle.machine_scene.proofs.Steady.{others_ready}
-use Rattle.machine_scene.proofs.Undoing.{turn_played}
+use Rattle.machine_scene.proofs.{Steady.others_ready, Undoing.turn_played}
 use Rattle.machine_scene.proofs.stage.Stage.play.Goals as goal
 
 pub returns-in-Ok-clause-ok : goal.returns-in-Ok-clause-ok

@@ -1,8 +1,5 @@
 use Rattle.machine_scene.specs.Scene.{scene_of}
-use Rattle.machine_scene.proofs.Readiness.{expired}
-use Rattle.machine_scene.proofs.Reaches.{within_same}
-use Rattle.machine_scene.proofs.Steady.{others_ready_late}
-use Rattle.machine_scene.proofs.Undoing.{expiry_played}
+use Rattle.machine_scene.proofs.{Readiness.expired, Reaches.within_same, Steady.others_ready_late, Undoing.expiry_played}
 use Rattle.machine_scene.proofs.stage.Stage.run_out.Goals as goal
 
 pub returns-clause-ok : goal.returns-clause-ok

@@ -1,10 +1,7 @@
 use Rattle.std.proofs.Common.{◌∙◌, ap, map, subst, sym}
 use Rattle.row_code.specs.Answers.{FailsUnless}
-use Rattle.line_reader.specs.Seen.{name_seen}
-use Rattle.line_reader.specs.Words.{words_in}
-use Rattle.plans.specs.Drafts.{draft_of}
-use Rattle.plans.specs.Plan.{is_memory, word_behind, words_behind}
-use Rattle.plans.specs.Words.{spread}
+use Rattle.line_reader.specs.{Seen.name_seen, Words.words_in}
+use Rattle.plans.specs.{Drafts.draft_of, Plan.is_memory, Plan.word_behind, Plan.words_behind, Words.spread}
 use Rattle.plans.proofs.Behind.{next_word, faulty_word}
 use Rattle.plans.proofs.draft.Reading.add_line.Goals as goal
 

@@ -1,9 +1,6 @@
 use Rattle.std.proofs.Common.{◌≡◌, length, map}
-use Rattle.line_reader.specs.Seen.{name_seen}
-use Rattle.line_reader.specs.Words.{words_in}
-use Rattle.plans.specs.Drafts.{draft_of}
-use Rattle.plans.specs.Plan.{words_behind}
-use Rattle.plans.specs.Words.{spread, words_of}
+use Rattle.line_reader.specs.{Seen.name_seen, Words.words_in}
+use Rattle.plans.specs.{Drafts.draft_of, Plan.words_behind, Words.spread, Words.words_of}
 use Rattle.plans.proofs.draft.Reading.add_line.Given as goal
 
 -- behind the words so far the rest of the line stands as all of it behind none

@@ -1,11 +1,8 @@
 use Rattle.std.proofs.Common.{◌≡◌, ◌∙◌, ◌+◌, ◌<◌, ◌-◌, ap, arith, drop, length, length-drop, map, subst, sym}
 use Rattle.std.specs.List.{position_or_len, slice_split}
 use Rattle.row_code.specs.Answers.{FailsUnless}
-use Rattle.line_reader.specs.Seen.{name_seen}
-use Rattle.line_reader.specs.Words.{is_line_end}
-use Rattle.plans.specs.Drafts.{draft_of}
-use Rattle.plans.specs.Plan.{is_memory, lines_behind, words_behind}
-use Rattle.plans.specs.Words.{words_of}
+use Rattle.line_reader.specs.{Seen.name_seen, Words.is_line_end}
+use Rattle.plans.specs.{Drafts.draft_of, Plan.is_memory, Plan.lines_behind, Plan.words_behind, Words.words_of}
 use Rattle.plans.proofs.Behind.{next_line, last_line, faulty_line, before_end}
 use Rattle.plans.proofs.draft.Reading.add_lines.Goals as goal
 

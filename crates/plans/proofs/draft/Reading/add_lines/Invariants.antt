@@ -1,9 +1,7 @@
 use Rattle.std.proofs.Common.{◌≡◌, ◌+◌, ◌≤◌, length, map}
 use Rattle.std.specs.List.{slice_split}
-use Rattle.line_reader.specs.Seen.{name_seen}
-use Rattle.line_reader.specs.Words.{is_line_end}
-use Rattle.plans.specs.Drafts.{draft_of}
-use Rattle.plans.specs.Plan.{lines_behind}
+use Rattle.line_reader.specs.{Seen.name_seen, Words.is_line_end}
+use Rattle.plans.specs.{Drafts.draft_of, Plan.lines_behind}
 use Rattle.plans.proofs.draft.Reading.add_lines.Given as goal
 
 -- behind the lines so far the rest of the text stands as all of it behind none

@@ -1,7 +1,6 @@
 use Rattle.std.proofs.Common.{◌≡◌, ◌∙◌, ◌<◌, ◌≤◌, ◌∷◌, length, ap, sym, subst, rules, arith}
 use Rattle.plans.specs.declared.word.Word.TheVariants as word
-use Rattle.plans.specs.Play.{plays}
-use Rattle.plans.specs.Groups.{HasPlayed}
+use Rattle.plans.specs.{Play.plays, Groups.HasPlayed}
 use Rattle.plans.proofs.Groups.{step_left, open_left, close_left, end_left, again_group, settled_again, settled_pass}
 use Rattle.plans.proofs.Repeats.{next_repeated, settled_repeated, all_repeated}
 use Rattle.plans.proofs.player.Player.+words.Goals as goal

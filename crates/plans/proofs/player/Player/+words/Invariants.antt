@@ -1,8 +1,5 @@
 use Rattle.std.proofs.Common.{length, ◌-◌, ◌≡◌, ◌≤◌, ◌+◌, ◌*◌, ◌++◌, List}
-use Rattle.plans.specs.declared.word.Word.{Word}
-use Rattle.plans.specs.Tree.{Plan, words_of_plan}
-use Rattle.plans.specs.Groups.{IsEnd}
-use Rattle.plans.specs.Play.{plays, repeated}
+use Rattle.plans.specs.{declared.word.Word.Word, Tree.Plan, Tree.words_of_plan, Groups.IsEnd, Play.plays, Play.repeated}
 use Rattle.plans.proofs.Groups.{IsLeft}
 use Rattle.plans.proofs.player.Player.+words.Given as goal
 

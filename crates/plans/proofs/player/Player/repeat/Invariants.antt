@@ -1,6 +1,5 @@
 use Rattle.std.proofs.Common.{◌≡◌, ◌-◌}
-use Rattle.plans.specs.Play.{repeated}
-use Rattle.plans.specs.Progress.{chosen}
+use Rattle.plans.specs.{Play.repeated, Progress.chosen}
 use Rattle.plans.proofs.player.Player.repeat.Given as goal
 
 -- the times that are left lead to where all lead

@@ -1,5 +1,4 @@
-use Rattle.std.proofs.Common.{ap, subst, sym, ◌∙◌, ◌≤◌}
-use Rattle.std.specs.Prelude.{MatchOption, length, slice_get}
+use Rattle.std.proofs.Common.{ap, subst, sym, ◌∙◌, ◌≤◌, MatchOption, length, slice_get}
 use Rattle.std.specs.List.{flat_map}
 use Rattle.instruction_table.specs.Table.{table}
 use Rattle.refusals.specs.Word.{IsRowEntry}

@@ -1,5 +1,4 @@
-use Rattle.std.proofs.Common.{inr, subst, sym}
-use Rattle.std.specs.Prelude.{Ok, Err}
+use Rattle.std.proofs.Common.{inr, subst, sym, Ok, Err}
 use Rattle.schedule_reader.specs.Places.{HasRead, Progress}
 use Rattle.schedule_reader.proofs.Streams.{fed-runs, fed-answer, fed-stream, fed-ok, stays-runs}
 use Rattle.schedule_reader.proofs.reader.Reader.feed.Goals as goal

@@ -1,11 +1,7 @@
 use Rattle.std.proofs.Common.{◌≡◌, ◌≢◌, ℕ, rules, ap, sym, subst, ◌∙◌, eq-eqb, ne_eqb, arith}
-use Rattle.packed_phaser.specs.Word.{IsWord, record_of}
-use Rattle.packed_phaser.specs.declared.policy.Policy.{Policy}
-use Rattle.shared_phaser.specs.declared.history.Call.{Call}
-use Rattle.shared_phaser.specs.declared.history.Known.{Known}
-use Rattle.shared_phaser.specs.declared.history.Setup.{Setup}
-use Rattle.shared_phaser.specs.History.{Tells, Makes}
-use Rattle.shared_phaser.specs.Known.{Caller, Identity, MakesCall, SeesMore}
+use Rattle.packed_phaser.specs.{Word.IsWord, Word.record_of, declared.policy.Policy.Policy}
+use Rattle.shared_phaser.specs.declared.history.{Call.Call, Known.Known, Setup.Setup}
+use Rattle.shared_phaser.specs.{History.Tells, History.Makes, Known.Caller, Known.Identity, Known.MakesCall, Known.SeesMore}
 use Rattle.shared_phaser.specs.Rule.{effect_at}
 use Rattle.shared_phaser.proofs.Plays.{loads, exchanges}
 use Rattle.shared_phaser.proofs.Tries.{effect_here, opening_stays, live_stays, opens, unturned_after, told, begun, begun_at, won_is, lost_is, then_makes, then_sees}

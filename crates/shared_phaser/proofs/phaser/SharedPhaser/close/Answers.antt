@@ -1,6 +1,5 @@
 use Rattle.std.proofs.Common.{◌≡◌, ℕ, rules, ap, subst, ◌∙◌}
-use Rattle.shared_phaser.specs.declared.history.Known.{Known}
-use Rattle.shared_phaser.specs.Known.{Caller, EndsAs}
+use Rattle.shared_phaser.specs.{declared.history.Known.Known, Known.Caller, Known.EndsAs}
 use Rattle.shared_phaser.proofs.Parties.{ends}
 use Rattle.shared_phaser.proofs.phaser.SharedPhaser.close.Goals as goal
 

@@ -1,7 +1,6 @@
 use Rattle.std.proofs.Common.{rules, ap, ◌∙◌}
 use Rattle.shared_phaser.specs.Known.{Caller}
-use Rattle.shared_phaser.proofs.Parties.{joins}
-use Rattle.shared_phaser.proofs.Plays.{watches}
+use Rattle.shared_phaser.proofs.{Parties.joins, Plays.watches}
 use Rattle.shared_phaser.proofs.phaser.SharedPhaser.join.Goals as goal
 
 pub join_seat-requires : goal.join_seat-requires

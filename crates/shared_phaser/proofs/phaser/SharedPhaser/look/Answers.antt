@@ -1,10 +1,7 @@
 use Rattle.std.proofs.Common.{◌≡◌, ℕ, rules, refl, ap, subst}
-use Rattle.shared_phaser.specs.declared.history.Call.TheVariants.{Look}
-use Rattle.shared_phaser.specs.declared.history.Answer.TheVariants.{Saw}
-use Rattle.shared_phaser.specs.declared.history.Known.{Known}
+use Rattle.shared_phaser.specs.declared.history.{Call.TheVariants.Look, Answer.TheVariants.Saw, Known.Known}
 use Rattle.shared_phaser.specs.Known.{Caller, MakesCall}
-use Rattle.shared_phaser.proofs.Plays.{loads}
-use Rattle.shared_phaser.proofs.Tries.{looked}
+use Rattle.shared_phaser.proofs.{Plays.loads, Tries.looked}
 use Rattle.shared_phaser.proofs.phaser.SharedPhaser.look.Goals as goal
 
 pub load-found-requires : goal.load-found-requires

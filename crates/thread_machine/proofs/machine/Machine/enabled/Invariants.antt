@@ -1,5 +1,4 @@
-use Rattle.machine_scene.specs.Scene.{scene_of}
-use Rattle.machine_scene.specs.Outcomes.{is_ready}
+use Rattle.machine_scene.specs.{Scene.scene_of, Outcomes.is_ready}
 use Rattle.machine_scene.proofs.ThreadSets.{IsFilledTo}
 use Rattle.thread_machine.specs.Ready.{can_expire}
 use Rattle.thread_machine.proofs.machine.Machine.enabled.Given as goal

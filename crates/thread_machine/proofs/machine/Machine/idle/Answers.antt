@@ -1,8 +1,5 @@
-use Rattle.std.proofs.Common.{◌∙◌, ap, sym, subst, arith, ◌≤◌, ◌+◌, replicate}
-use Rattle.std.specs.Prelude.{None}
-use Rattle.thread_machine.specs.World.{StoredWorld, world_of}
-use Rattle.thread_machine.specs.Execution.{Execution}
-use Rattle.thread_machine.specs.Idle.{idle_event}
+use Rattle.std.proofs.Common.{◌∙◌, ap, sym, subst, arith, ◌≤◌, ◌+◌, replicate, None}
+use Rattle.thread_machine.specs.{World.StoredWorld, World.world_of, Execution.Execution, Idle.idle_event}
 use Rattle.thread_machine.proofs.Idling.{after_idling, idle_execution}
 use Rattle.thread_machine.proofs.machine.Machine.idle.Goals as goal
 

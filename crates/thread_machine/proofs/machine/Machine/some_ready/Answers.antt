@@ -1,8 +1,6 @@
 use Rattle.std.proofs.Common.{◌≡◌, ◌∙◌, ℕ, true, false, sym, subst, rules, arith}
-use Rattle.machine_scene.specs.Scene.{scene_of}
-use Rattle.machine_scene.specs.Outcomes.{is_ready}
-use Rattle.thread_machine.specs.World.{StoredWorld}
-use Rattle.thread_machine.specs.Ready.{can_expire, some_ready}
+use Rattle.machine_scene.specs.{Scene.scene_of, Outcomes.is_ready}
+use Rattle.thread_machine.specs.{World.StoredWorld, Ready.can_expire, Ready.some_ready}
 use Rattle.thread_machine.proofs.Readiness.{one_more, one_ready, none_ready, ready_some, nobody_told, by_expiry, neither}
 use Rattle.thread_machine.proofs.machine.Machine.some_ready.Goals as goal
 

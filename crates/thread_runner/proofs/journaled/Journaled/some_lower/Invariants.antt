@@ -1,6 +1,5 @@
 use Rattle.std.proofs.Common.{◌≡◌, ◌<◌, ℕ, false}
-use Rattle.thread_runner.specs.Recording.{recorded_world}
-use Rattle.thread_runner.specs.Turns.{can_expire_in}
+use Rattle.thread_runner.specs.{Recording.recorded_world, Turns.can_expire_in}
 use Rattle.thread_runner.proofs.journaled.Journaled.some_lower.Given as goal
 
 -- the wait of none of the threads so far may run out

@@ -1,6 +1,5 @@
 use Rattle.std.proofs.Common.{◌∙◌, sym, rules, arith}
-use Rattle.thread_runner.specs.Recording.{recorded_world}
-use Rattle.thread_runner.specs.Turns.{is_ready_in}
+use Rattle.thread_runner.specs.{Recording.recorded_world, Turns.is_ready_in}
 use Rattle.thread_runner.proofs.Threads.{one_more, one_passes, none_passes}
 use Rattle.thread_runner.proofs.journaled.Journaled.some_turn.Goals as goal
 

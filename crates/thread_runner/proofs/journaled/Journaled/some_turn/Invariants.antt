@@ -1,6 +1,5 @@
 use Rattle.std.proofs.Common.{◌≡◌, ◌<◌, ℕ, false}
-use Rattle.thread_runner.specs.Recording.{recorded_world}
-use Rattle.thread_runner.specs.Turns.{is_ready_in}
+use Rattle.thread_runner.specs.{Recording.recorded_world, Turns.is_ready_in}
 use Rattle.thread_runner.proofs.journaled.Journaled.some_turn.Given as goal
 
 -- none of the threads so far is ready

@@ -1,9 +1,7 @@
 use Rattle.std.proofs.Common.{◌≡◌, ◌∙◌, ap, arith, rules, sym, subst, true}
-use Rattle.thread_machine.specs.World.{World, world_of, first_world}
-use Rattle.thread_machine.specs.Ready.{is_choice_ready}
+use Rattle.thread_machine.specs.{World.World, World.world_of, World.first_world, Ready.is_choice_ready}
 use Rattle.thread_machine.specs.Step.{Played, played}
-use Rattle.thread_runner.specs.Recording.{recording_of, recorded_world, with_choice}
-use Rattle.thread_runner.specs.Turns.{IsDue}
+use Rattle.thread_runner.specs.{Recording.recording_of, Recording.recorded_world, Recording.with_choice, Turns.IsDue}
 use Rattle.thread_runner.proofs.Replays.{recorded_more, replay_more, same_first}
 use Rattle.thread_runner.proofs.journaled.Journaled.take.Goals as goal
 

@@ -1,11 +1,8 @@
-use Rattle.std.proofs.Common.{◌≡◌, ◌∙◌, ℕ, sym, subst, rules, arith}
-use Rattle.std.specs.Prelude.{None}
+use Rattle.std.proofs.Common.{◌≡◌, ◌∙◌, ℕ, sym, subst, rules, arith, None}
 use Rattle.std.proofs.lemmas.Result.{on_ok_weaker}
-use Rattle.thread_runner.specs.Recording.{Recording, recorded_world, with_choice}
-use Rattle.thread_runner.specs.Endings.{ending_of}
+use Rattle.thread_runner.specs.{Recording.Recording, Recording.recorded_world, Recording.with_choice, Endings.ending_of}
 use Rattle.thread_runner.specs.Turns.{IsNext, choice_in, may_choose}
-use Rattle.thread_runner.proofs.Threads.{one_more}
-use Rattle.thread_runner.proofs.Choosing.{chooser}
+use Rattle.thread_runner.proofs.{Threads.one_more, Choosing.chooser}
 use Rattle.thread_runner.proofs.journaled.Journaled.take_next.Goals as goal
 
 pub loop-t-preserved : goal.loop-t-preserved

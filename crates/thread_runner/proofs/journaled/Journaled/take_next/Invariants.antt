@@ -1,6 +1,5 @@
 use Rattle.std.proofs.Common.{◌≡◌, ◌<◌, ℕ, false}
-use Rattle.thread_runner.specs.Recording.{recorded_world}
-use Rattle.thread_runner.specs.Turns.{may_choose}
+use Rattle.thread_runner.specs.{Recording.recorded_world, Turns.may_choose}
 use Rattle.thread_runner.proofs.journaled.Journaled.take_next.Given as goal
 
 -- nothing was chosen yet, and none of the threads so far has a choice to make

@@ -1,6 +1,5 @@
 use Rattle.std.proofs.Common.{◌∙◌, ap}
-use Rattle.thread_runner.specs.Recording.{Recording, recorded_world}
-use Rattle.thread_runner.specs.Waiting.{some_wakes}
+use Rattle.thread_runner.specs.{Recording.Recording, Recording.recorded_world, Waiting.some_wakes}
 use Rattle.thread_runner.proofs.Sleeping.{still_none_wakes}
 use Rattle.thread_runner.proofs.live.Live.falls_asleep.Goals as goal
 

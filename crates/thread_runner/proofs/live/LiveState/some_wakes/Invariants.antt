@@ -1,6 +1,5 @@
 use Rattle.std.proofs.Common.{◌≡◌, ◌<◌, ℕ, false}
-use Rattle.thread_runner.specs.Recording.{recorded_world}
-use Rattle.thread_runner.specs.Waiting.{wakes}
+use Rattle.thread_runner.specs.{Recording.recorded_world, Waiting.wakes}
 use Rattle.thread_runner.proofs.live.LiveState.some_wakes.Given as goal
 
 -- none of the workers so far wakes

@@ -1,13 +1,7 @@
 use Rattle.std.proofs.Common.{refl, ap, subst, ◌∙◌, List}
-use Rattle.tier_tree.specs.Forest.{PhaserState}
-use Rattle.tier_tree.specs.Registration.{joined}
-use Rattle.tier_tree.specs.Origin.{AreTallied, declared_at}
+use Rattle.tier_tree.specs.{Forest.PhaserState, Registration.joined, Origin.AreTallied, Origin.declared_at, Stored.phasers_of}
 use Rattle.tier_tree.specs.Declaration.{declared, joins_above, is_root}
-use Rattle.tier_tree.specs.Stored.{phasers_of}
-use Rattle.tier_tree.proofs.Added.{stands_declared}
-use Rattle.tier_tree.proofs.Fresh.{fresh_declared}
-use Rattle.tier_tree.proofs.Shown.{length-shown}
-use Rattle.tier_tree.proofs.Changed.{there_few}
+use Rattle.tier_tree.proofs.{Added.stands_declared, Fresh.fresh_declared, Shown.length-shown, Changed.there_few}
 use Rattle.tier_tree.proofs.Calls.{declared_ends, declared_places}
 use Rattle.tier_tree.proofs.forest.Forest.add.Goals as goal
 

@@ -1,9 +1,6 @@
 use Rattle.std.proofs.Common.{subst, List}
-use Rattle.tier_tree.specs.Call.{IsCall}
-use Rattle.tier_tree.specs.Stored.{Stored, IsStored, phasers_of}
-use Rattle.tier_tree.specs.Origin.{origin_after_phase_end}
-use Rattle.tier_tree.proofs.Safe.{all_arrived}
-use Rattle.tier_tree.proofs.Calls.{written_back, turned}
+use Rattle.tier_tree.specs.{Call.IsCall, Stored.Stored, Stored.IsStored, Stored.phasers_of, Origin.origin_after_phase_end}
+use Rattle.tier_tree.proofs.{Safe.all_arrived, Calls.written_back, Calls.turned}
 use Rattle.tier_tree.proofs.forest.Forest.finish_turn.Goals as goal
 
 pub returns-clause-call : goal.returns-clause-call

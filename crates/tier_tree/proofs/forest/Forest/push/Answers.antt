@@ -1,5 +1,4 @@
-use Rattle.tier_tree.specs.Declaration.{declared}
-use Rattle.tier_tree.specs.Stored.{phasers_of}
+use Rattle.tier_tree.specs.{Declaration.declared, Stored.phasers_of}
 use Rattle.tier_tree.proofs.Changed.{place_is, pushed}
 use Rattle.tier_tree.proofs.forest.Forest.push.Goals as goal
 

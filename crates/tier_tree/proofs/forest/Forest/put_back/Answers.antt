@@ -1,8 +1,6 @@
 use Rattle.std.proofs.Common.{◌≡◌, ◌∙◌, List, subst, sym}
-use Rattle.tier_tree.specs.Answer.{KeepsPlaces}
-use Rattle.tier_tree.specs.Stored.{Stored, IsStored, ChangedAt, phasers_of}
-use Rattle.tier_tree.proofs.Changed.{restored_call}
-use Rattle.tier_tree.proofs.Calls.{written_back, written_many, written_places}
+use Rattle.tier_tree.specs.{Answer.KeepsPlaces, Stored.Stored, Stored.IsStored, Stored.ChangedAt, Stored.phasers_of}
+use Rattle.tier_tree.proofs.{Changed.restored_call, Calls.written_back, Calls.written_many, Calls.written_places}
 use Rattle.tier_tree.proofs.forest.Forest.put_back.Goals as goal
 
 pub returns-clause-undone : goal.returns-clause-undone

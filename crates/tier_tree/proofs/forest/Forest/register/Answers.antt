@@ -1,7 +1,5 @@
 use Rattle.std.proofs.Common.{◌≡◌, List}
-use Rattle.tier_tree.specs.Stored.{Stored, phasers_of}
-use Rattle.tier_tree.specs.Answer.{DoesntJoin, KeepsEnds}
-use Rattle.tier_tree.specs.Call.{IsCall}
+use Rattle.tier_tree.specs.{Stored.Stored, Stored.phasers_of, Answer.DoesntJoin, Answer.KeepsEnds, Call.IsCall}
 use Rattle.tier_tree.specs.Origin.{origin_after_registration}
 use Rattle.tier_tree.proofs.Calls.{written_back, registered}
 use Rattle.tier_tree.proofs.forest.Forest.register.Goals as goal

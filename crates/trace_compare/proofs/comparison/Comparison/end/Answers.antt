@@ -1,8 +1,7 @@
 use Rattle.std.proofs.Common.{◌≡◌, ◌∙◌, ◌+◌, [], Option, ap, arith, drop, length, subst, sym}
 use Rattle.trace_compare.specs.declared.comparison.Verdict.{Verdict}
 use Rattle.trace_compare.specs.Comparing.{HasCounted, MeetsText, decided, lines_left}
-use Rattle.trace_compare.proofs.RunLines.{told-ended, told-other}
-use Rattle.trace_compare.proofs.Verdicts.{more_to_come}
+use Rattle.trace_compare.proofs.{RunLines.told-ended, RunLines.told-other, Verdicts.more_to_come}
 use Rattle.trace_compare.proofs.comparison.Comparison.end.Goals as goal
 
 pub returns-in-Ok-Some-clause-told : goal.returns-in-Ok-Some-clause-told

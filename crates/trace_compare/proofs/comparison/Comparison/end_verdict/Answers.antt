@@ -1,6 +1,5 @@
 use Rattle.std.proofs.Common.{◌≡◌, ◌∙◌, ◌-◌, ◌++◌, ◌∷◌, [], ap, arith}
-use Rattle.trace_compare.specs.Compare.{line_at}
-use Rattle.trace_compare.specs.Comparing.{text_left}
+use Rattle.trace_compare.specs.{Compare.line_at, Comparing.text_left}
 use Rattle.trace_compare.proofs.RunLines.{at-next, kept-state}
 use Rattle.trace_compare.proofs.comparison.Comparison.end_verdict.Goals as goal
 

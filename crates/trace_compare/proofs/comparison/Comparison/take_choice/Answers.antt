@@ -1,6 +1,6 @@
 use Rattle.std.proofs.Common.{◌∙◌, ◌+◌, ◌++◌, ◌∷◌, [], ap, false, refl, sym}
-use Rattle.std.specs.Str.{bytes_eq}
 use Rattle.std.proofs.lemmas.Slice.Eq.{bytes_eq-Decides}
+use Rattle.std.specs.Str.{bytes_eq}
 use Rattle.thread_machine.specs.World.{world_of}
 use Rattle.trace_text.specs.Reading.{choice_in}
 use Rattle.trace_compare.specs.Compare.{choices_in, line_at, lines_verdict}

@@ -1,6 +1,5 @@
 use Rattle.std.proofs.Common.{◌∙◌, refl, sym, true}
-use Rattle.trace_compare.proofs.RunLines.{meets-from, text-state}
-use Rattle.trace_compare.proofs.Verdicts.{line-choice}
+use Rattle.trace_compare.proofs.{RunLines.meets-from, RunLines.text-state, Verdicts.line-choice}
 use Rattle.trace_compare.proofs.comparison.Comparison.take_line.Goals as goal
 
 pub returns-then-not-is_state_line-clause-verdict : goal.returns-then-not-is_state_line-clause-verdict

@@ -1,8 +1,6 @@
-use Rattle.std.proofs.Common.{◌≡◌, ◌∙◌, ◌+◌, ◌-◌, ◌++◌, ◌∷◌, [], ap, arith, drop, length, length-append, sym}
-use Rattle.std.proofs.lemmas.List.{length-take}
+use Rattle.std.proofs.Common.{◌≡◌, ◌∙◌, ◌+◌, ◌-◌, ◌++◌, ◌∷◌, [], ap, arith, drop, length, length-append, sym, length-take}
 use Rattle.std.proofs.lemmas.Slice.Eq.{bytes_eq-Decides}
-use Rattle.trace_compare.proofs.RunLines.{due-parts}
-use Rattle.trace_compare.proofs.Verdicts.{state-further, not_empty}
+use Rattle.trace_compare.proofs.{RunLines.due-parts, Verdicts.state-further, Verdicts.not_empty}
 use Rattle.trace_compare.proofs.comparison.Comparison.take_state_line.Goals as goal
 
 pub returns-clause-verdict : goal.returns-clause-verdict

@@ -1,5 +1,4 @@
-use Rattle.std.proofs.Common.{refl, arith}
-use Rattle.std.proofs.lemmas.Fmt.{length-decimal-le}
+use Rattle.std.proofs.{Common.refl, Common.arith, lemmas.Fmt.length-decimal-le}
 use Rattle.trace_text.proofs.LineEnds.{carried}
 use Rattle.trace_text.proofs.digits.Digits.move_far.Goals as goal
 

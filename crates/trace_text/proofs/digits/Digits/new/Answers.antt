@@ -1,5 +1,4 @@
-use Rattle.std.proofs.Common.{sym, arith}
-use Rattle.std.proofs.lemmas.Fmt.{decimal_digit}
+use Rattle.std.proofs.{Common.sym, Common.arith, lemmas.Fmt.decimal_digit}
 use Rattle.trace_text.proofs.digits.Digits.new.Goals as goal
 
 pub invariant_of-result : goal.invariant_of-result

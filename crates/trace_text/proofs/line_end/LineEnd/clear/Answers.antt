@@ -1,5 +1,4 @@
-use Rattle.std.proofs.lemmas.List.{drop_all}
-use Rattle.std.proofs.Common.{arith}
+use Rattle.std.proofs.{lemmas.List.drop_all, Common.arith}
 use Rattle.trace_text.proofs.line_end.LineEnd.clear.Goals as goal
 
 pub returns : goal.returns

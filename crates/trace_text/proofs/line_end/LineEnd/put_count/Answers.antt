@@ -1,6 +1,6 @@
 use Rattle.std.proofs.Common.{◌∙◌, ◌++◌, length, ap, arith, length-append}
-use Rattle.std.specs.Fmt.{decimal}
 use Rattle.std.proofs.lemmas.Fmt.{length-decimal-le}
+use Rattle.std.specs.Fmt.{decimal}
 use Rattle.trace_text.proofs.LineEnds.{room_for_count}
 use Rattle.trace_text.proofs.line_end.LineEnd.put_count.Goals as goal
 

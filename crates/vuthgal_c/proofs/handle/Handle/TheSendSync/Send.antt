@@ -9,12 +9,10 @@ use denote.Struct.Struct.{exits_of}
 use denote.Struct.Owning.{shape, fields, to}
 use Rattle.std_alloc.proofs.SendSync.{quiet, lies}
 use Rattle.std.proofs.Crossing.{frees}
-use Rattle.std.specs.declared.option.Option.{Option}
-use Rattle.std.specs.declared.option.Option.TheVariants.{None, Some}
+use Rattle.std.specs.declared.option.Option.{Option, TheVariants.None, TheVariants.Some}
 use Rattle.vuthgal_c.proofs.held.Held.TheSendSync as held
-use Rattle.vuthgal_c.specs.Keep.{heap, keeps}
+use Rattle.vuthgal_c.specs.{Keep.heap, Keep.keeps, contracts.handle.Handle.the_row, contracts.handle.Handle.the_type}
 use Rattle.vuthgal_c.proofs.Values.{Kept}
-use Rattle.vuthgal_c.specs.contracts.handle.Handle.{the_row, the_type}
 
 kept_keyless : (p : Ptr) (n : ℕ) (s : Option Kept.Denot) → Keyless (keeps Kept p n s)
 kept_keyless p n None = λ _. tt

@@ -1,5 +1,6 @@
 -- A handle with nothing in it owns nothing.
 use Rattle.std.proofs.Common.{◌≡◌, [], ◌∷◌, refl, lit<, w64}
+use Rattle.std.proofs.raw_atomic.Walks.{proved_at, leaves}
 use mir.Val.{Val, vint}
 use base.Logic.{SProp, emp}
 use base.Fml.{ftrue}
@@ -15,11 +16,8 @@ use denote.RawPtr.{null_ptr, ptr_val}
 use denote.Steps.{nothing}
 use denote.Triple.Walked.{walk_of}
 use Rattle.std.specs.declared.option.Option.TheVariants.{None}
-use Rattle.std.proofs.raw_atomic.Walks.{proved_at, leaves}
-use Rattle.vuthgal_c.proofs.Values.{both, handle_in}
-use Rattle.vuthgal_c.specs.contracts.handle.Handle.empty.{ended, clauses}
-use Rattle.vuthgal_c.specs.contracts.handle.Handle.empty.Key.{name as #self}
-use Rattle.vuthgal_c.proofs.handle.Handle.empty.Statement.{statement}
+use Rattle.vuthgal_c.proofs.{Values.both, Values.handle_in, handle.Handle.empty.Statement.statement}
+use Rattle.vuthgal_c.specs.contracts.handle.Handle.empty.{ended, clauses, Key.name as #self}
 use Rattle.vuthgal_c.proofs.handle.Handle.empty.Code as code
 
 pub empty_spec : {M : Type 1} → statement M

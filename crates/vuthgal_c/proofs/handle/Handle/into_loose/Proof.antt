@@ -1,5 +1,6 @@
 -- The pointer owns what the handle owned, where it owned a session.
 use Rattle.std.proofs.Common.{◌≡◌, List, [], ◌∷◌, ◌++◌, ℕ, refl, sym, ap, ◌∙◌, subst, lit<, w64}
+use Rattle.std.proofs.raw_atomic.Walks.{proved_at, leaves}
 use mathlib.Core.Bool.{true}
 use mir.Syntax.{impl, tnil, dnil}
 use mir.Val.{Val, vint, vptr, vcons, vnil}
@@ -21,21 +22,16 @@ use denote.Param.{layout}
 use denote.Steps.{nothing}
 use denote.Triple.Walked.{Stays, stay_dropped, walk_of, Goes-dropped}
 use Rattle.std.specs.declared.option.Option.TheVariants.{None, Some}
-use Rattle.core.proofs.alloc.Calls.{Al, handle_tells}
-use Rattle.core.proofs.alloc.Shapes.{after}
-use Rattle.core.proofs.atomic.Steps.{Ptr-Good}
-use Rattle.core.proofs.cell.Inside.{Good}
+use Rattle.std.specs.contracts.impls.GlobalAllocator.TheImpl.{ghosts}
+use Rattle.core.proofs.{alloc.Calls.Al, alloc.Calls.handle_tells, alloc.Shapes.after, atomic.Steps.Ptr-Good, cell.Inside.Good}
 use Rattle.core.proofs.option.Made.{Some-of, none_of}
 use Rattle.std_alloc.proofs.ResultValues.{and_tt}
 use Rattle.std.specs.contracts.alloc.Global as heap
 use Rattle.std.proofs.alloc.Global.TheLaws as heap_laws
-use Rattle.std.specs.contracts.impls.GlobalAllocator.TheImpl.{ghosts}
-use Rattle.std.proofs.raw_atomic.Walks.{proved_at, leaves}
 use Rattle.std_alloc.specs.Box.Ownership.{box_owns}
 use Rattle.vuthgal_c.proofs.Values.{both, both_tt, Kept, Hand, Loose, loose_good, loose_in, handle_out, by_session}
-use Rattle.vuthgal_c.specs.contracts.handle.Handle.into_loose.{ended, clauses}
-use Rattle.vuthgal_c.specs.contracts.handle.Handle.into_loose.Key.{name as #self}
 use Rattle.vuthgal_c.proofs.handle.Handle.into_loose.Statement.{statement}
+use Rattle.vuthgal_c.specs.contracts.handle.Handle.into_loose.{ended, clauses, Key.name as #self}
 use Rattle.vuthgal_c.proofs.handle.Handle.into_loose.Code as code
 
 pub into_loose_spec : {M : Type 1} → statement M

@@ -1,5 +1,6 @@
 -- The handle owns what the pointer owned.
 use Rattle.std.proofs.Common.{◌≡◌, List, [], ◌∷◌, ◌++◌, refl, sym, subst, lit<, w64}
+use Rattle.std.proofs.raw_atomic.Walks.{proved_at, leaves}
 use mir.Val.{Val, vint, vptr}
 use base.Logic.{SProp, ent, emp, id⊢}
 use base.Fml.{ftrue}
@@ -16,15 +17,12 @@ use denote.Signature.{types_at, plain}
 use denote.RawPtr.{Ptr, block_ptr}
 use denote.Steps.{nothing}
 use denote.Triple.Walked.{Stays, stay_dropped, walk_of, Goes-dropped}
-use Rattle.std.specs.declared.option.Option.TheVariants.{Some}
+use Rattle.std.specs.{declared.option.Option.TheVariants.Some, contracts.impls.GlobalAllocator.TheImpl.ghosts}
 use Rattle.std.specs.contracts.alloc.Global as heap
 use Rattle.std.proofs.alloc.Global.TheLaws as heap_laws
-use Rattle.std.specs.contracts.impls.GlobalAllocator.TheImpl.{ghosts}
-use Rattle.std.proofs.raw_atomic.Walks.{proved_at, leaves}
-use Rattle.vuthgal_c.specs.Keep.{keeps}
-use Rattle.vuthgal_c.proofs.Values.{both, Kept, Loose, loose_good, loose_out, handle_in}
-use Rattle.vuthgal_c.specs.contracts.handle.Handle.of.{ended, clauses}
+use Rattle.vuthgal_c.specs.{Keep.keeps, contracts.handle.Handle.of.ended, contracts.handle.Handle.of.clauses}
 use Rattle.vuthgal_c.specs.contracts.handle.Handle.of.Key.{name as #self}
+use Rattle.vuthgal_c.proofs.Values.{both, Kept, Loose, loose_good, loose_out, handle_in}
 use Rattle.vuthgal_c.proofs.handle.Handle.of.Statement.{statement}
 use Rattle.vuthgal_c.proofs.handle.Handle.of.Code as code
 

@@ -1,8 +1,8 @@
 use Rattle.std.proofs.Common.{rules, ◌≤◌, ◌+◌, ℕ, sym, subst, arith, take}
 use Rattle.vuthgal_c.specs.Places.{IsBehind}
 use Rattle.vuthgal_c.proofs.Behind.{next_byte, next_line}
-use Rattle.vuthgal_c.proofs.place.PlaceLook.behind.Goals as goal
 use Rattle.vuthgal_c.proofs.place.PlaceLook.behind.Goals.{then-byte-eq10, else-byte-eq10}
+use Rattle.vuthgal_c.proofs.place.PlaceLook.behind.Goals as goal
 
 -- the line and the column of one byte more
 pub loop-byte-preserved : goal.loop-byte-preserved

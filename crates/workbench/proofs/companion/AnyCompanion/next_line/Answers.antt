@@ -1,5 +1,4 @@
-use Rattle.std.proofs.Common.{◌≡◌, ◌≢◌, ◌∙◌, ◌+◌, ◌++◌, ℕ, List, [], ◌∷◌, Ok, Some, ap, arith, length, length-append, subst, sym, rules}
-use Rattle.std.specs.Prelude.{All}
+use Rattle.std.proofs.Common.{◌≡◌, ◌≢◌, ◌∙◌, ◌+◌, ◌++◌, ℕ, List, [], ◌∷◌, Ok, Some, ap, arith, length, length-append, subst, sym, rules, All}
 use Rattle.std.specs.Io.KnownBytes.{Consumes}
 use Rattle.workbench.proofs.Conversations.{one_more, given_on}
 use Rattle.workbench.proofs.companion.AnyCompanion.next_line.Goals as goal

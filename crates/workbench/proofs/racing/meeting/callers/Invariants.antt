@@ -1,5 +1,4 @@
-use Rattle.std.proofs.Common.{◌≡◌, All}
-use Rattle.std.specs.Prelude.{map}
+use Rattle.std.proofs.Common.{◌≡◌, All, map}
 use Rattle.std.specs.List.{range_with_len}
 use Rattle.workbench.specs.Race.{IsFresh, number_of}
 use Rattle.workbench.proofs.racing.meeting.callers.Given as goal

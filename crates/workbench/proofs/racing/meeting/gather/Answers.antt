@@ -1,14 +1,9 @@
-use Rattle.std.proofs.Common.{◌≡◌, ◌∙◌, ◌++◌, ◌∷◌, [], All, ap, subst, sym}
-use Rattle.std.specs.Prelude.{map}
-use Rattle.std.specs.Vec.Iter.{into_iter_items}
+use Rattle.std.proofs.Common.{◌≡◌, ◌∙◌, ◌++◌, ◌∷◌, [], All, ap, subst, sym, map}
 use Rattle.std.proofs.lemmas.List.Elements.{All-head, All-push, All-rest}
-use Rattle.std.specs.declared.thread.PromisedHandle.{PromisedHandle}
-use Rattle.shared_phaser.specs.declared.history.Kept.{Kept}
-use Rattle.shared_phaser.specs.declared.history.Known.{Known}
-use Rattle.shared_phaser.specs.declared.phaser.Party.{Party}
+use Rattle.std.specs.{Vec.Iter.into_iter_items, declared.thread.PromisedHandle.PromisedHandle}
+use Rattle.shared_phaser.specs.declared.{history.Kept.Kept, history.Known.Known, phaser.Party.Party}
 use Rattle.shared_phaser.specs.Known.{phaser_of}
-use Rattle.workbench.specs.declared.racing.meeting.Home.{Home}
-use Rattle.workbench.specs.Race.{AreMeetings, number_of}
+use Rattle.workbench.specs.{declared.racing.meeting.Home.Home, Race.AreMeetings, Race.number_of}
 use Rattle.workbench.proofs.Meetings.{joined_more, kept_of, met_in, moved_on}
 use Rattle.workbench.proofs.racing.meeting.gather.Goals as goal
 

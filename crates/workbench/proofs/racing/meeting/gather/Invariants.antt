@@ -1,8 +1,6 @@
-use Rattle.std.proofs.Common.{◌≡◌, ◌++◌, ℕ, All}
-use Rattle.std.specs.Prelude.{map}
+use Rattle.std.proofs.Common.{◌≡◌, ◌++◌, ℕ, All, map}
 use Rattle.std.specs.Vec.Iter.{into_iter_items}
-use Rattle.shared_phaser.specs.declared.history.Kept.{Kept}
-use Rattle.shared_phaser.specs.Known.{phaser_of}
+use Rattle.shared_phaser.specs.{declared.history.Kept.Kept, Known.phaser_of}
 use Rattle.workbench.specs.Race.{AreMeetings, number_of}
 use Rattle.workbench.proofs.racing.meeting.gather.Given as goal
 

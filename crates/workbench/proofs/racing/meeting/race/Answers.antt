@@ -1,13 +1,8 @@
-use Rattle.std.proofs.Common.{◌≡◌, ◌∙◌, ◌++◌, [], List, All, ap, subst, sym, rules}
-use Rattle.std.specs.Prelude.{map}
-use Rattle.std.proofs.lemmas.List.Elements.{All-nil}
-use Rattle.std.proofs.lemmas.Result.{IfErr-weaker, IfOk-weaker}
+use Rattle.std.proofs.Common.{◌≡◌, ◌∙◌, ◌++◌, [], List, All, ap, subst, sym, rules, map}
+use Rattle.std.proofs.lemmas.{List.Elements.All-nil, Result.IfErr-weaker, Result.IfOk-weaker}
 use Rattle.std.specs.declared.thread.PromisedHandle.{PromisedHandle}
-use Rattle.shared_phaser.specs.declared.history.Kept.{Kept}
-use Rattle.shared_phaser.specs.declared.phaser.Party.{Party}
-use Rattle.shared_phaser.specs.Known.{Caller}
-use Rattle.workbench.specs.declared.racing.meeting.Home.{Home}
-use Rattle.workbench.specs.Race.{AreMeetings, number_of, opening_of}
+use Rattle.shared_phaser.specs.{declared.history.Kept.Kept, declared.phaser.Party.Party, Known.Caller}
+use Rattle.workbench.specs.{declared.racing.meeting.Home.Home, Race.AreMeetings, Race.number_of, Race.opening_of}
 use Rattle.workbench.proofs.Meetings.{HasGathered, final}
 use Rattle.workbench.proofs.racing.meeting.race.Goals as goal
 

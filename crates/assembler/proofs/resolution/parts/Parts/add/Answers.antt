@@ -1,8 +1,7 @@
 use Rattle.std.proofs.Common.{None}
 use Rattle.line_reader.specs.declared.statement.Statement.TheVariants as statement
 use Rattle.assembler.specs.Meaning.{are_known, phaser_of, row_of}
-use Rattle.line_reader.specs.Seen.{phaser_seen}
-use Rattle.line_reader.specs.KeptRow.{row_kept}
+use Rattle.line_reader.specs.{Seen.phaser_seen, KeptRow.row_kept}
 use Rattle.assembler.proofs.Lookups.{found_behind}
 use Rattle.assembler.proofs.resolution.parts.Parts.add.Goals as goal
 

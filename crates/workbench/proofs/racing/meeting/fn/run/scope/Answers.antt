@@ -1,12 +1,8 @@
-use Rattle.std.proofs.Common.{◌≡◌, ◌∙◌, ◌∷◌, [], All, ap, arith, length, length-append, subst, sym, rules}
-use Rattle.std.specs.Prelude.{map}
-use Rattle.std.specs.Vec.Iter.{into_iter_items}
+use Rattle.std.proofs.Common.{◌≡◌, ◌∙◌, ◌∷◌, [], All, ap, arith, length, length-append, subst, sym, rules, map}
 use Rattle.std.proofs.lemmas.List.Elements.{All-head, All-push, All-rest}
-use Rattle.std.specs.declared.thread.PromisedHandle.{PromisedHandle}
-use Rattle.shared_phaser.specs.declared.phaser.Party.{Party}
-use Rattle.shared_phaser.specs.Known.{Caller, phaser_of}
-use Rattle.workbench.specs.declared.racing.meeting.Home.{Home}
-use Rattle.workbench.specs.Race.{HasMet, IsFresh, number_of}
+use Rattle.std.specs.{Vec.Iter.into_iter_items, declared.thread.PromisedHandle.PromisedHandle}
+use Rattle.shared_phaser.specs.{declared.phaser.Party.Party, Known.Caller, Known.phaser_of}
+use Rattle.workbench.specs.{declared.racing.meeting.Home.Home, Race.HasMet, Race.IsFresh, Race.number_of}
 use Rattle.workbench.proofs.Meetings.{moved_on}
 use Rattle.workbench.proofs.racing.meeting.fn.run.scope.Goals as goal
 
