@@ -75,6 +75,3 @@ length-enter thread interrupted no_wait b = grind (arith, length-set, length-map
 
 pub length-end_action : (returned : Bool) (b : BarrierState) → length (end_action returned b).waits ≡ length b.waits
 length-end_action returned b = grind (arith, length-map)
-
-pub tells_who_waits : (b : BarrierState) → IsBarrier b → TellsWhoWaits b
-tells_who_waits b sound = grind (arith, has_wait-enter, runner-enter, has_wait-end_action, has_wait-leave, has_wait-interrupt, has_wait-reset)

@@ -38,17 +38,7 @@ pub none_waiting :
     count_by (is_unreleased (ends ++ end ∷ [])) waits ≡ 0
 none_waiting [] ends end begun = refl
 none_waiting (wait ∷ waits) ends end begun =
-    grind (
-      arith,
-      All-head,
-      lt-leb,
-      length-append,
-      sum_by-cons,
-      zero-add,
-      All-tail,
-      none_waiting waits ends end (All-tail (HasBegun ends) wait waits
-          begun),
-    )
+    grind (arith, All-head, lt-leb, length-append, sum_by-cons, zero-add, All-tail, (none_waiting waits ends end (All-tail (HasBegun ends) wait waits begun)))
 
 -- what has begun has begun for good
 pub begun_still :

@@ -36,8 +36,3 @@ fewer_left size count i long behind lt split fits = grind arith
 -- what is read fails as the fault that was found
 pub fails : {Y E : Type 0} (is_memory : E → Bool) (f : E) (read : Result Y E) → read ≡ Err f → FailsAs is_memory f read
 fails is_memory f read e = grind arith
-
--- the whole fails as its part does
-pub fails_through : {Y Z E : Type 0} (is_memory : E → Bool) (f : E) (part : Result Y E) (whole : Result Z E) →
-    (part ≡ Err f → whole ≡ Err f) → FailsAs is_memory f part → FailsAs is_memory f whole
-fails_through is_memory f part whole through e = grind arith

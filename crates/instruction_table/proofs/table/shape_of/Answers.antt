@@ -13,18 +13,10 @@ placed word e is = subst (λ o. IfSome o (λ e. slice_index_or table e.opcode no
 short : (word : List ℕ) (e : Entry) → Some e ≡ entry_named table word → length e.operands ≤ 4
 short word e is = subst (λ o. IfSome o (λ e. length e.operands ≤ 4)) (sym is) (named_is_short word)
 
-pub returns-in-Some-clause-entry : goal.returns-in-Some-clause-entry
-returns-in-Some-clause-entry c = found c.args.word.now (entry_of c.shape_at.result) _ c.shape_at.ensures c.in-Some.ensures.entry
-
 pub returns-in-Some-clause-only : goal.returns-in-Some-clause-only
 returns-in-Some-clause-only c =
     named_is_only c.args.word.now (entry_of c.shape_at.result)
     (sym (found c.args.word.now (entry_of c.shape_at.result) _ c.shape_at.ensures c.in-Some.ensures.entry))
-
-pub returns-in-Some-clause-place : goal.returns-in-Some-clause-place
-returns-in-Some-clause-place c =
-    placed c.args.word.now (entry_of c.shape_at.result)
-    (found c.args.word.now (entry_of c.shape_at.result) _ c.shape_at.ensures c.in-Some.ensures.entry)
 
 pub returns-in-Some-clause-short : goal.returns-in-Some-clause-short
 returns-in-Some-clause-short c =

@@ -4,12 +4,6 @@ use Rattle.tier_tree.specs.Answer.{DoesntArrive, IfTurning, MakesPending, KeepsE
 use Rattle.tier_tree.proofs.Calls.{written_back, arrived, arrived_turning}
 use Rattle.tier_tree.proofs.forest.Forest.arrive.Goals as goal
 
-pub returns-clause-refused : goal.returns-clause-refused
-returns-clause-refused c =
-    written_back (λ (before after : List Stored). DoesntArrive c.arrive.result → after ≡ before) c.self.inside.nodes.items c.as_mut_slice.result.now
-    c.args.self.now c.arrive.new.nodes c.self.inside.nodes.len c.as_mut_slice.ensures.value c.self.view_is c.as_mut_slice.ensures.len c.arrive.ensures.only.many
-    c.arrive.ensures.refused
-
 pub returns-clause-turning : goal.returns-clause-turning
 returns-clause-turning c =
     written_back (λ (before after : List Stored). IfTurning c.arrive.result (λ root. (root.0 < length after) × (root.0 ≡ root_at (phasers_of before) c.args.id.0) × MakesPending root.0 (phasers_of before) (phasers_of after))) c.self.inside.nodes.items c.as_mut_slice.result.now

@@ -8,9 +8,3 @@ returns-clause-call c =
     written_back (λ (before after : List Stored). IsCall c.args.id.0 (λ origin. origin) before after) c.self.inside.nodes.items c.as_mut_slice.result.now
     c.args.self.now c.force_tree.new.nodes c.self.inside.nodes.len c.as_mut_slice.ensures.value c.self.view_is c.as_mut_slice.ensures.len c.force_tree.ensures.only.many
     (forced c.self.inside.nodes.items c.as_mut_slice.result.now c.args.self.now c.force_tree.new.nodes c.args.id.0 c.as_mut_slice.ensures.value c.self.view_is c.self.invariant c.requires c.force_tree.ensures.forest c.force_tree.ensures.only).call
-
-pub returns-clause-ends : goal.returns-clause-ends
-returns-clause-ends c =
-    written_back (λ (before after : List Stored). KeepsEnds (phasers_of before) (phasers_of after)) c.self.inside.nodes.items c.as_mut_slice.result.now
-    c.args.self.now c.force_tree.new.nodes c.self.inside.nodes.len c.as_mut_slice.ensures.value c.self.view_is c.as_mut_slice.ensures.len c.force_tree.ensures.only.many
-    (forced c.self.inside.nodes.items c.as_mut_slice.result.now c.args.self.now c.force_tree.new.nodes c.args.id.0 c.as_mut_slice.ensures.value c.self.view_is c.self.invariant c.requires c.force_tree.ensures.forest c.force_tree.ensures.only).ends

@@ -4,12 +4,6 @@ use Rattle.tier_tree.specs.Origin.{origin_after_registration}
 use Rattle.tier_tree.proofs.Calls.{written_back, registered}
 use Rattle.tier_tree.proofs.forest.Forest.register.Goals as goal
 
-pub returns-clause-refused : goal.returns-clause-refused
-returns-clause-refused c =
-    written_back (λ (before after : List Stored). DoesntJoin c.register.result c.args.count → after ≡ before) c.self.inside.nodes.items c.as_mut_slice.result.now
-    c.args.self.now c.register.new.nodes c.self.inside.nodes.len c.as_mut_slice.ensures.value c.self.view_is c.as_mut_slice.ensures.len c.register.ensures.only.many
-    c.register.ensures.refused
-
 pub returns-clause-call : goal.returns-clause-call
 returns-clause-call c =
     written_back (λ (before after : List Stored). IsCall c.args.id.0 (origin_after_registration c.register.result c.args.id.0 c.args.count) before after) c.self.inside.nodes.items c.as_mut_slice.result.now
