@@ -90,13 +90,42 @@ record IsAdded (phasers : List PhaserState) (new : PhaserState) (parties : ℕ) 
   fresh : (new.flat.turned ≡ false) × (new.flat.arrived ≡ 0)
   tree : (flat_at (phasers ++ new ∷ []) (root_at (phasers ++ new ∷ []) (length phasers))).ended ≡ new.flat.ended
 
-unless : (top test stray : Bool) → test ≡ false → (if top && test then false else stray) ≡ stray
-unless true test stray is = ap (λ (t : Bool). if t then false else stray) is
-unless false test stray is = refl
-
 -- a phaser that was declared before isn't a child
 no_child : (phasers : List PhaserState) (id k : ℕ) → IsForest phasers → k < length phasers → k < id → is_under id (phaser_at phasers k).line ≡ false
 no_child phasers id k sound there before = grind (arith, child-tree)
+
+-- an old phaser is as steady as before
+old_steady : (phasers : List PhaserState) (new : PhaserState) (parties id : ℕ) (gain : ℕ → ℕ) (after : List PhaserState)
+    → IsForest phasers → id < length phasers → IsSteady id phasers → IsAdded phasers new parties gain after → IsSteady id after
+old_steady phasers new parties id gain after sound there was added =
+    let good = added.good id in
+    let was_good : IsGood (root_at phasers id) id (flat_at phasers id) = record { arrived = was.arrived; turned = was.turned; child = was.child } in
+    grind (arith, root-same, root_within, get_or_append_left, good, was_good)
+
+-- and the new one is steady
+new_steady : (phasers : List PhaserState) (new : PhaserState) (parties : ℕ) (gain : ℕ → ℕ) (after : List PhaserState)
+    → IsAdded phasers new parties gain after → IsSteady (length phasers) after
+new_steady phasers new parties gain after added = grind (arith, root-same, get_or_push)
+
+old_tallied : (phasers : List PhaserState) (new : PhaserState) (parties id : ℕ) (gain : ℕ → ℕ) (after : List PhaserState) (origin other : Origin)
+    → id < length phasers → IsTallied origin id phasers → IsAdded phasers new parties gain after
+    → other.registered id ≡ origin.registered id → other.unarrived id ≡ origin.unarrived id → IsTallied other id after
+old_tallied phasers new parties id gain after origin other there tally added registered unarrived =
+    let off = added.off id in
+    grind (arith, children-push, get_or_append_left, off)
+
+new_tallied : (phasers : List PhaserState) (new : PhaserState) (parties : ℕ) (gain : ℕ → ℕ) (after : List PhaserState) (other : Origin)
+    → IsForest phasers → IsAdded phasers new parties gain after
+    → other.registered (length phasers) ≡ parties → other.unarrived (length phasers) ≡ parties → IsTallied other (length phasers) after
+new_tallied phasers new parties gain after other sound added registered unarrived =
+    let n = length phasers in
+    let off = added.off n in
+    let newest : phaser_at (phasers ++ new ∷ []) n ≡ new = get_or_push phasers new no_phaser n refl in
+    let none : (test : Flat → Bool) → children test n phasers ≡ 0 =
+    λ test. children-none test n phasers (λ k there. no_child phasers n k sound there there) in
+    let joined = children-push has_joined n phasers new in let no_joined = none has_joined in let joined_bit = added.joined_bit n in
+    let awaited = children-push is_awaited n phasers new in let no_awaited = none is_awaited in let awaited_bit = added.awaited_bit n in
+    grind (arith, newest, off, joined, no_joined, joined_bit, awaited, no_awaited, awaited_bit)
 
 stands_added : (phasers : List PhaserState) (new : PhaserState) (parties : ℕ) (top : Bool) (gain : ℕ → ℕ) (after : List PhaserState) (origin : Origin)
     → IsForest phasers → IsForest (phasers ++ new ∷ []) → AreTallied phasers origin → IsAdded phasers new parties gain after
@@ -107,92 +136,28 @@ stands_added phasers new parties top gain after origin sound sound_more stands a
     let other : Origin = declared_at n parties top origin in
     let longer : length more ≡ n + 1 = length_push phasers new in
     let many : length after ≡ length more = sym (length-places after) ∙ ap length added.same ∙ length-places more in
-    let old : (id : ℕ) → id < n → phaser_at more id ≡ phaser_at phasers id =
-    λ id there. get_or_append_left phasers (new ∷ []) no_phaser id there in
-    let newest : phaser_at more n ≡ new = get_or_push phasers new no_phaser n refl in
-    let old_root : (id : ℕ) → id < n → root_at more id ≡ root_at phasers id = λ id there. ap root_of (old id there) in
     record {
-      steady = λ id here.
-          let root = root-same more after id added.same in
-          elim (cases_lt id n) as (λ _. IsSteady id after) [
-            | inl there ↦
-                let was = stands.steady id there in
-                let below = root_within phasers id sound there in
-                let start : IsGood (root_at more id) id (flat_at more id) =
-                subst (λ (p : PhaserState). IsGood (root_of p) id p.flat) (sym (old id there))
-                (record { arrived = was.arrived; turned = was.turned; child = was.child }) in
-                let now = added.good id start in
-                record {
-                  arrived = now.arrived;
-                  turned = now.turned;
-                  child = (λ turned low. now.child turned (λ is. low (root ∙ is)));
-                  tree = added.ended id ∙ ap (λ (p : PhaserState). p.flat.ended) (old id there) ∙ was.tree
-                      ∙ sym (added.ended (root_at phasers id) ∙ ap (λ (p : PhaserState). p.flat.ended) (old (root_at phasers id) below))
-                      ∙ ap (λ (m : ℕ). (flat_at after m).ended) (sym (root ∙ old_root id there));
-                }
-            | inr last ↦
-                let is : id ≡ n = omega (arith, last, here, many, longer) in
-                let idle = added.fresh.0 in
-                let none = added.fresh.1 in
-                let start : IsGood (root_at more n) n (flat_at more n) =
-                subst (λ (p : PhaserState). IsGood (root_of p) n p.flat) (sym newest)
-                (record { arrived = omega (arith, none); turned = (λ yes. absurd (cc (yes, idle))); child = (λ yes _. absurd (cc (yes, idle))) }) in
-                let now = added.good n start in
-                let root_n = root-same more after n added.same in
-                let steady_n : IsSteady n after = record {
-                  arrived = now.arrived;
-                  turned = now.turned;
-                  child = (λ turned low. now.child turned (λ same. low (root_n ∙ same)));
-                  tree = added.ended n ∙ ap (λ (p : PhaserState). p.flat.ended) newest ∙ sym added.tree ∙ sym (added.ended (root_at more n))
-                      ∙ ap (λ (m : ℕ). (flat_at after m).ended) (sym root_n);
-                } in
-                subst (λ (m : ℕ). IsSteady m after) (sym is) steady_n
-          ];
-      tallied = λ id here clean live.
-          let off = added.off id in
-          let r = off.registered in let u = off.unarrived in
-          let joined_more = children-push has_joined id phasers new in
-          let awaited_more = children-push is_awaited id phasers new in
-          let jb = added.joined_bit id in let wb = added.awaited_bit id in
-          elim (cases_lt id n) as (λ _. IsTallied other id after) [
-            | inl there ↦
-                let below = root_within phasers id sound there in
-                let root = root-same more after id added.same ∙ old_root id there in
-                let apart : (root_at phasers id == n) ≡ false = grind (arith, nat_tests, below) in
-                let clean_before : origin.stray (root_at phasers id) ≡ false =
-                sym (unless top (root_at phasers id == n) (origin.stray (root_at phasers id)) apart) ∙ ap other.stray (sym root) ∙ clean in
-                let live_before : (flat_at phasers id).ended ≡ false =
-                ap (λ (p : PhaserState). p.flat.ended) (sym (old id there)) ∙ sym (added.ended id) ∙ live in
-                let tally = stands.tallied id there clean_before live_before in
-                let tr = tally.registered in let tu = tally.unarrived in let tw = tally.within in
-                let p : (flat_at more id).parties ≡ (flat_at phasers id).parties = ap (λ (q : PhaserState). q.flat.parties) (old id there) in
-                let ua : unarrived_of (flat_at more id) ≡ unarrived_of (flat_at phasers id) = ap (λ (q : PhaserState). unarrived_of q.flat) (old id there) in
-                let is : (id == n) ≡ false = grind (arith, nat_tests, there) in
-                let ro : other.registered id ≡ origin.registered id = ap (λ (t : Bool). if t then parties else origin.registered id) is in
-                let uo : other.unarrived id ≡ origin.unarrived id = ap (λ (t : Bool). if t then parties else origin.unarrived id) is in
-                record {
-                  registered = omega (arith, r, joined_more, jb, tr, p, ro);
-                  unarrived = omega (arith, u, awaited_more, wb, tu, ua, uo);
-                  within = omega (arith, tw, ro, uo);
-                }
-            | inr last ↦
-                let own : id ≡ n = omega (arith, last, here, many, longer) in
-                let childless : (k : ℕ) → k < length phasers → is_under id (phaser_at phasers k).line ≡ false = λ k there.
-                no_child phasers id k sound there (omega (arith, own, there)) in
-                let j0 = children-none has_joined id phasers childless in
-                let w0 = children-none is_awaited id phasers childless in
-                let gone : gain id ≡ 0 = ap gain own ∙ added.last in
-                let p : (flat_at more id).parties ≡ parties = ap (λ (m : ℕ). (flat_at more m).parties) own ∙ ap (λ (q : PhaserState). q.flat.parties) newest ∙ added.count in
-                let ua : unarrived_of (flat_at more id) ≡ parties = ap (λ (m : ℕ). unarrived_of (flat_at more m)) own ∙ ap (λ (q : PhaserState). unarrived_of q.flat) newest ∙ added.unarrived in
-                let is : (id == n) ≡ true = ap (λ (m : ℕ). m == n) own ∙ same-is n in
-                let ro : other.registered id ≡ parties = ap (λ (t : Bool). if t then parties else origin.registered id) is in
-                let uo : other.unarrived id ≡ parties = ap (λ (t : Bool). if t then parties else origin.unarrived id) is in
-                record {
-                  registered = omega (arith, r, joined_more, jb, j0, gone, p, ro);
-                  unarrived = omega (arith, u, awaited_more, wb, w0, gone, ua, uo);
-                  within = omega (arith, ro, uo);
-                }
-          ];
+      steady = λ id here. elim (cases_lt id n) as (λ _. IsSteady id after) [
+        | inl there ↦ old_steady phasers new parties id gain after sound there (stands.steady id there) added
+        | inr last ↦
+            subst (λ (m : ℕ). IsSteady m after) (omega (arith, last, here, many, longer)) (new_steady phasers new parties gain after added)
+      ];
+      tallied = λ id here clean live. elim (cases_lt id n) as (λ _. IsTallied other id after) [
+        | inl there ↦
+            let below = root_within phasers id sound there in
+            let apart : (root_at phasers id == n) ≡ false = grind (arith, nat_tests, below) in
+            let is : (id == n) ≡ false = grind (arith, nat_tests, there) in
+            let old : phaser_at more id ≡ phaser_at phasers id = get_or_append_left phasers (new ∷ []) no_phaser id there in
+            let root : root_at after id ≡ root_at phasers id = root-same more after id added.same ∙ ap root_of old in
+            let clean_before : origin.stray (root_at phasers id) ≡ false = grind (arith, root, apart, clean) in
+            let live_before : (flat_at phasers id).ended ≡ false = ap (λ (p : PhaserState). p.flat.ended) (sym old) ∙ sym (added.ended id) ∙ live in
+            old_tallied phasers new parties id gain after origin other there (stands.tallied id there clean_before live_before) added
+            (ap (λ (t : Bool). if t then parties else origin.registered id) is) (ap (λ (t : Bool). if t then parties else origin.unarrived id) is)
+        | inr last ↦
+            subst (λ (m : ℕ). IsTallied other m after) (omega (arith, last, here, many, longer))
+            (new_tallied phasers new parties gain after other sound added
+            (ap (λ (t : Bool). if t then parties else origin.registered n) (same-is n)) (ap (λ (t : Bool). if t then parties else origin.unarrived n) (same-is n)))
+      ];
     }
 
 no_bit : (under : Bool) → bit (under && false) ≡ 0

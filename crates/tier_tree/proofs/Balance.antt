@@ -139,74 +139,51 @@ pub apart : (q id : ℕ) → id ≢ q → (q == id) ≡ false
 apart q id other = grind (arith, nat_tests, other)
 
 -- a child's last: its parent changed to `mid`, and then the child
-child_case : (leave none : Bool) (phasers mid : List PhaserState) (i q : ℕ) (more : List ℕ) (after : Flat) → i < length phasers → q < i → AllGood phasers
-    → (phaser_at mid i).line ≡ i ∷ q ∷ more → length mid ≡ length phasers
-    → (flat_at phasers i).ended ≡ false → (flat_at phasers i).arrived ≢ (flat_at phasers i).parties
-    → IsPassed none (counted leave (flat_at phasers i)) after
-    → Changes q 0 (bit none) 0 1 phasers mid
-    → Changes i 0 (bit leave) 0 1 phasers (with_flat mid i after)
-child_case leave none phasers mid i q more after there below good line many live some new rest =
-    let f = flat_at phasers i in
-    let was = good i there in
-    let numbers = in_numbers leave f was.arrived some in
-    let within : i < length mid = omega (arith, many, there) in
-    let kept : flat_at mid i ≡ f = rest.same i below in
-    let idle = open_flat f was.turned some in
-    let before = waiting f live idle (some_of f.arrived f.parties was.arrived some) in
-    let joined_before : has_joined (flat_at mid i) ≡ true = ap has_joined kept ∙ before.0 in
-    let awaited_before : is_awaited (flat_at mid i) ≡ true = ap is_awaited kept ∙ before.1 in
-    let put = flat-put mid i after within in
-    let not_parent : i ≢ q = λ is. absurd (omega (arith, is, below)) in
-    let own_apart : is_under i (phaser_at mid i).line ≡ false = ap (is_under i) line ∙ apart q i not_parent in
-    let own_mid = rest.others i not_parent in
-    record {
-      own = record {
-        registered = (let p : (flat_at (with_flat mid i after) i).parties ≡ (counted leave f).parties = ap (λ (x : Flat). x.parties) put ∙ new.parties in
-            let pm : (flat_at mid i).parties ≡ f.parties = ap (λ (x : Flat). x.parties) kept in
-            let j = put_apart has_joined i mid i after within own_apart in
-            let n = numbers.parties in let m = own_mid.registered in omega (arith, p, pm, j, n, m));
-        unarrived = (let u : unarrived_of (flat_at (with_flat mid i after) i) ≡ unarrived_of (counted leave f) = ap unarrived_of put ∙ new.unarrived in
-            let um : unarrived_of (flat_at mid i) ≡ unarrived_of f = ap unarrived_of kept in
-            let j = put_apart is_awaited i mid i after within own_apart in
-            let n = numbers.unarrived in let m = own_mid.unarrived in omega (arith, u, um, j, n, m));
-      };
-      others = λ id other.
-          let away = flat-other mid i after id other in
-          let p : (flat_at (with_flat mid i after) id).parties ≡ (flat_at mid id).parties = ap (λ (x : Flat). x.parties) away in
-          let u : unarrived_of (flat_at (with_flat mid i after) id) ≡ unarrived_of (flat_at mid id) = ap unarrived_of away in
-          elim (cases_eq id q) as (λ _. IsOff id 0 0 0 0 phasers (with_flat mid i after)) [
-            | inl is ↦
-                let under : is_under id (phaser_at mid i).line ≡ true = ap (is_under id) line ∙ (grind (arith, nat_tests, is)) in
-                let m : IsOff id 0 (bit none) 0 1 phasers mid = subst (λ (n : ℕ). IsOff n 0 (bit none) 0 1 phasers mid) (sym is) rest.own in
-                let mr = m.registered in let mu = m.unarrived in
-                let j : children has_joined id (with_flat mid i after) + 1 ≡ children has_joined id mid + bit (not none) =
-                ap (λ (b : Bool). children has_joined id (with_flat mid i after) + bit b) (sym joined_before)
-                ∙ put_under has_joined id mid i after within under ∙ ap (λ (b : Bool). children has_joined id mid + bit b) new.joined in
-                let w : children is_awaited id (with_flat mid i after) + 1 ≡ children is_awaited id mid + 0 =
-                ap (λ (b : Bool). children is_awaited id (with_flat mid i after) + bit b) (sym awaited_before)
-                ∙ put_under is_awaited id mid i after within under ∙ ap (λ (b : Bool). children is_awaited id mid + bit b) new.awaited in
-                let bits = bit-not none in
-                record { registered = omega (arith, p, j, bits, mr); unarrived = omega (arith, u, w, mu) }
-            | inr not_it ↦
-                let under : is_under id (phaser_at mid i).line ≡ false = ap (is_under id) line ∙ apart q id not_it in
-                let m = rest.others id not_it in
-                let mr = m.registered in let mu = m.unarrived in
-                let j = put_apart has_joined id mid i after within under in
-                let w = put_apart is_awaited id mid i after within under in
-                record { registered = omega (arith, p, j, mr); unarrived = omega (arith, u, w, mu) }
-          ];
-      same = λ id above. flat-other mid i after id (λ is. absurd (omega (arith, is, above))) ∙ rest.same id (omega (arith, below, above));
-      ended = λ id. elim (cases_eq id i) as (λ _. (flat_at (with_flat mid i after) id).ended ≡ (flat_at phasers id).ended) [
-        | inl is ↦ subst (λ (n : ℕ). (flat_at (with_flat mid i after) n).ended ≡ (flat_at phasers n).ended) (sym is)
-            (ap (λ (x : Flat). x.ended) put ∙ new.ended ∙ numbers.ended)
-        | inr other ↦ ap (λ (x : Flat). x.ended) (flat-other mid i after id other) ∙ rest.ended id
-      ];
-      good = λ id had. elim (cases_eq id i) as (λ _. IsGood (root_at phasers id) id (flat_at (with_flat mid i after) id)) [
-        | inl is ↦ subst (λ (n : ℕ). IsGood (root_at phasers n) n (flat_at (with_flat mid i after) n)) (sym is)
-            (subst (λ (x : Flat). IsGood (root_at phasers i) i x) (sym put) (new.good (root_at phasers i) i))
-        | inr other ↦ subst (λ (x : Flat). IsGood (root_at phasers id) id x) (sym (flat-other mid i after id other)) (rest.good id had)
-      ];
-    }
+record IsChildCase (leave none : Bool) (phasers mid : List PhaserState) (i q : ℕ) (more : List ℕ) (after : Flat) : Type 0 where
+  there : i < length phasers
+  below : q < i
+  line : (phaser_at mid i).line ≡ i ∷ q ∷ more
+  many : length mid ≡ length phasers
+  waits : (has_joined (flat_at phasers i) ≡ true) × (is_awaited (flat_at phasers i) ≡ true)
+  last : IsCounted leave (flat_at phasers i) (counted leave (flat_at phasers i))
+  passes : IsPassed none (counted leave (flat_at phasers i)) after
+  parent : Changes q 0 (bit none) 0 1 phasers mid
+
+child_own : (leave none : Bool) (phasers mid : List PhaserState) (i q : ℕ) (more : List ℕ) (after : Flat)
+    → IsChildCase leave none phasers mid i q more after → IsOff i 0 (bit leave) 0 1 phasers (with_flat mid i after)
+child_own leave none phasers mid i q more after case =
+    let own = case.parent.others i (λ is. absurd (omega (arith, is, case.below))) in
+    let kept = case.parent.same i case.below in
+    grind (arith, put_apart, flat-put, apart, own, kept)
+
+child_parent : (leave none : Bool) (phasers mid : List PhaserState) (i q : ℕ) (more : List ℕ) (after : Flat)
+    → IsChildCase leave none phasers mid i q more after → IsOff q 0 0 0 0 phasers (with_flat mid i after)
+child_parent leave none phasers mid i q more after case =
+    let kept = case.parent.same i case.below in
+    grind (arith, put_under, flat-other, nat_tests, bit-not, kept)
+
+child_other : (leave none : Bool) (phasers mid : List PhaserState) (i q : ℕ) (more : List ℕ) (after : Flat) (id : ℕ)
+    → IsChildCase leave none phasers mid i q more after → id ≢ i → id ≢ q → IsOff id 0 0 0 0 phasers (with_flat mid i after)
+child_other leave none phasers mid i q more after id case other not_parent =
+    let off = case.parent.others id not_parent in
+    grind (arith, put_apart, flat-other, apart, off)
+
+child_case : (leave none : Bool) (phasers mid : List PhaserState) (i q : ℕ) (more : List ℕ) (after : Flat)
+    → IsChildCase leave none phasers mid i q more after → Changes i 0 (bit leave) 0 1 phasers (with_flat mid i after)
+child_case leave none phasers mid i q more after case = record {
+  own = child_own leave none phasers mid i q more after case;
+  others = λ id other. elim (cases_eq id q) as (λ _. IsOff id 0 0 0 0 phasers (with_flat mid i after)) [
+    | inl is ↦ subst (λ (n : ℕ). IsOff n 0 0 0 0 phasers (with_flat mid i after)) (sym is) (child_parent leave none phasers mid i q more after case)
+    | inr not_it ↦ child_other leave none phasers mid i q more after id case other not_it
+  ];
+  same = λ id above. let kept = case.parent.same id (omega (arith, case.below, above)) in grind (arith, flat-other, kept);
+  ended = λ id. let kept = case.parent.ended id in grind (arith, flat-put, flat-other, cases_eq, kept);
+  good = λ id had.
+      let kept = case.parent.good id had in
+      let new = case.passes.good (root_at phasers id) id in
+      let put = flat-put mid i after (omega (arith, case.many, case.there)) in
+      grind (arith, flat-other, cases_eq, kept, new, put);
+}
 
 -- what the arrival above has made of the counts, where it comes through
 abbrev pub Onward : List ℕ → (Bool → Climbed) → List PhaserState → Type 0
@@ -260,8 +237,16 @@ climb_by (q ∷ more) leave phasers i onward sound there line good false false t
     ap (λ (p : Place). p.line) (place_at-places mid.phasers i ∙ ap (λ (ps : List Place). slice_index_or ps i (place_of no_phaser)) same
     ∙ sym (place_at-places phasers i)) ∙ line in
     child_by mid.climb i i (bit leave) (record g { turned = true }) phasers mid.phasers ok
-    (λ through. child_case leave none phasers mid.phasers i q more (passed_on (record g { turned = true })) there
-    (next-parent phasers i q more sound there line).0 good moved many is_ended some (passed none g live refl all) (rest none through))
+    (λ through. child_case leave none phasers mid.phasers i q more (passed_on (record g { turned = true })) (record {
+      there = there;
+      below = (next-parent phasers i q more sound there line).0;
+      line = moved;
+      many = many;
+      waits = waiting f is_ended (open_flat f (good i there).turned some) (some_of f.arrived f.parties (good i there).arrived some);
+      last = in_numbers leave f (good i there).arrived some;
+      passes = passed none g live refl all;
+      parent = rest none through;
+    }))
 climb_by above leave phasers i onward sound there line good _ _ last is_ended is_missing is_last rest kept ok = absurd ok
 
 -- an arrival that comes through takes one from its first phaser, and the phasers above stay balanced

@@ -1,5 +1,5 @@
 -- Which words a call changes, and that putting them back undoes it.
-use Rattle.std.proofs.Common.{inl, inr, ◌≡◌, ◌≢◌, ◌∙◌, ℕ, ◌+◌, ◌-◌, ◌<◌, ◌≤◌, true, false, List, [], ◌∷◌, ◌++◌, length, map, get_or, ap, refl, sym, subst, arith, slice_set, All, Option, ext_get_or}
+use Rattle.std.proofs.Common.{inl, inr, ◌≡◌, ◌≢◌, ◌∙◌, ℕ, ◌-◌, ◌<◌, ◌≤◌, true, false, List, [], ◌∷◌, ◌++◌, length, map, get_or, ap, refl, sym, subst, arith, slice_set, All, Option, ext_get_or}
 use Rattle.std.proofs.lemmas.{Bool.cases_eq, Bool.cases_lt, List.Elements.All-cons, List.Elements.All-nil}
 use Rattle.std.proofs.lemmas.List.{get_or_read, get_or_past, set_past, length_push, get_or_append_left, get_or_push}
 use Rattle.std.proofs.lemmas.Bool.Decides.{nat_tests}
@@ -7,7 +7,7 @@ use Rattle.packed_phaser.specs.{declared.policy.Policy.Policy, Flat.Flat}
 use Rattle.tier_tree.specs.{declared.id.PhaserId.PhaserId, Sound.Place, Sound.place_of, Sound.IsForest}
 use Rattle.tier_tree.specs.Declaration.{declared, has_parent, IsFreshAbove}
 use Rattle.tier_tree.specs.Forest.{PhaserState, no_phaser, phaser_at, root_at}
-use Rattle.tier_tree.specs.Stored.{Stored, no_stored, stored_at, kept_flat, top_of, present, shown, phasers_of, behind, IsNear, IsLive, IsStored, place_in, ChangedOnly, ChangedAt}
+use Rattle.tier_tree.specs.Stored.{Stored, no_stored, stored_at, kept_flat, top_of, phasers_of, IsNear, IsLive, IsStored, place_in, ChangedOnly, ChangedAt}
 use Rattle.tier_tree.specs.Undo.{Kept, kept_at, saved_of, with_kept, restored}
 use Rattle.tier_tree.proofs.{Lines.line_within, Lines.forest_declared, Turned.root-root}
 use Rattle.tier_tree.proofs.Safe.{linked, line_own, root-parent, last_of, last-more}
@@ -150,6 +150,27 @@ newest : (parent : Option PhaserId) (parties : ℕ) (policy : Policy) (phase : �
     → IsNewest (now ++ node ∷ []) node
 newest parent parties policy phase now node place word there fresh_above stored = grind (arith, last_of, get_or_push, length-shown, nat_tests, line_own, top_at, last-more, shown_at, top_there, get_or_append_left, flat_shown, present_live, present-phase)
 
+-- a forest with one more phaser: the old ones stay, and so do their roots
+still : (now : List Stored) (node : Stored) (k : ℕ) → IsStored now → k < length now
+    → (stored_at (now ++ node ∷ []) k ≡ stored_at now k)
+    × (stored_at (now ++ node ∷ []) (top_at (now ++ node ∷ []) k) ≡ stored_at now (top_at now k))
+still now node k stored within = grind (arith, get_or_append_left, top_there)
+
+still_shown : (now : List Stored) (node : Stored) (k : ℕ) → IsStored now → k < length now
+    → phaser_at (phasers_of (now ++ node ∷ [])) k ≡ phaser_at (phasers_of now) k
+still_shown now node k stored within = grind (arith, still, shown_at, length_push)
+
+newest_shown : (now : List Stored) (node : Stored) (new : PhaserState) → IsNewest (now ++ node ∷ []) node
+    → place_in node ≡ place_of new → kept_flat node ≡ new.flat → node.ends ≡ new.ends
+    → phaser_at (phasers_of (now ++ node ∷ [])) (length now) ≡ phaser_at (phasers_of now ++ new ∷ []) (length now)
+newest_shown now node new newest place word ends = grind (arith, shown_at, length_push, get_or_push, length-shown, present-now)
+
+still_near : (now : List Stored) (node : Stored) → IsStored now → IsNewest (now ++ node ∷ []) node → IsNear (now ++ node ∷ [])
+still_near now node stored newest k here = grind (arith, still, cases_lt, length_push, get_or_push, behind-self)
+
+still_live : (now : List Stored) (node : Stored) → IsStored now → (kept_flat node).ended ≡ false → IsLive (now ++ node ∷ [])
+still_live now node stored live k here alive = grind (arith, still, cases_lt, length_push, get_or_push)
+
 pub pushed : (parent : Option PhaserId) (parties : ℕ) (policy : Policy) (phase : ℕ) (items now after : List Stored) (node : Stored) → items ≡ now
     → place_in node ≡ place_of (declared parent parties policy phase (phasers_of now))
     → kept_flat node ≡ (declared parent parties policy phase (phasers_of now)).flat → node.ends ≡ 0 → after ≡ items ++ node ∷ []
@@ -158,71 +179,27 @@ pub pushed : (parent : Option PhaserId) (parties : ℕ) (policy : Policy) (phase
 pushed parent parties policy phase items now after node shown_is place word none is few there fresh_above sound =
     let stored : IsStored now = subst IsStored shown_is sound in
     let more = now ++ node ∷ [] in
-    let new = declared parent parties policy phase (phasers_of now) in
     let ps = phasers_of now in
+    let new = declared parent parties policy phase ps in
     let all : after ≡ more = is ∙ ap (λ (ss : List Stored). ss ++ node ∷ []) shown_is in
-    let new_is = newest parent parties policy phase now node place word there fresh_above stored in
-    let longer : length more ≡ length now + 1 = length_push now node in
+    let newest_is = newest parent parties policy phase now node place word there fresh_above stored in
+    let longer = length_push now node in
     let many = length-shown now in
     let many_more = length-shown more in
-    let longer_ps : length (ps ++ new ∷ []) ≡ length ps + 1 = length_push ps new in
-    let old : (k : ℕ) → k < length now → stored_at more k ≡ stored_at now k = λ k within. get_or_append_left now (node ∷ []) no_stored k within in
-    let old_top : (k : ℕ) → k < length now → stored_at more (top_at more k) ≡ stored_at now (top_at now k) =
-    λ k within. ap (λ (s : Stored). stored_at more (top_of s)) (old k within) ∙ old (top_at now k) (top_there now k stored within) in
-    let last : stored_at more (length now) ≡ node = get_or_push now node no_stored (length now) refl in
+    let longer_ps = length_push ps new in
     let shows : phasers_of more ≡ ps ++ new ∷ [] =
     ext_get_or no_phaser (phasers_of more) (ps ++ new ∷ []) (omega (arith, longer, many, many_more, longer_ps)) (λ k here.
-    let inside : k < length more = omega (arith, many_more, here) in
     elim (cases_lt k (length now)) as (λ _. phaser_at (phasers_of more) k ≡ phaser_at (ps ++ new ∷ []) k) [
-      | inl within ↦
-          shown_at more k inside
-          ∙ ap (λ (s : Stored). shown more s) (old k within)
-          ∙ ap (λ (s : Stored). record {
-            line = (stored_at now k).line;
-            policy = (stored_at now k).policy;
-            flat = present (kept_flat s) (kept_flat (stored_at now k));
-            ends = (stored_at now k).ends;
-          }) (old (top_at now k) (top_there now k stored within))
-          ∙ sym (shown_at now k within)
-          ∙ sym (get_or_append_left ps (new ∷ []) no_phaser k (there_shown now k within))
+      | inl within ↦ still_shown now node k stored within ∙ sym (get_or_append_left ps (new ∷ []) no_phaser k (there_shown now k within))
       | inr past ↦
-          let same : k ≡ length now = omega (arith, past, inside, longer) in
-          subst (λ (m : ℕ). phaser_at (phasers_of more) m ≡ phaser_at (ps ++ new ∷ []) m) (sym same)
-          (shown_at more (length now) (omega (arith, longer))
-          ∙ ap (λ (s : Stored). shown more s) last
-          ∙ ap (λ (f : Flat). record { line = node.line; policy = node.policy; flat = f; ends = node.ends })
-          (present-now (kept_flat (stored_at more (top_of node))) (kept_flat node) new_is.top new_is.phase ∙ word)
-          ∙ ap (λ (p : Place). record { line = p.line; policy = p.policy; flat = new.flat; ends = node.ends }) place
-          ∙ ap (λ (e : ℕ). record { line = new.line; policy = new.policy; flat = new.flat; ends = e }) none
-          ∙ sym (get_or_push ps new no_phaser (length now) many))
+          subst (λ (m : ℕ). phaser_at (phasers_of more) m ≡ phaser_at (ps ++ new ∷ []) m) (omega (arith, past, here, longer, many_more))
+          (newest_shown now node new newest_is place word none)
     ]) in
-    let near : IsNear more = λ k here. elim (cases_lt k (length now)) as
-    (λ _. behind (kept_flat (stored_at more k)).phase (kept_flat (stored_at more (top_at more k))).phase ≤ (stored_at more (top_at more k)).ends) [
-      | inl within ↦
-          subst (λ (s : Stored). behind (kept_flat (stored_at more k)).phase (kept_flat s).phase ≤ s.ends) (sym (old_top k within))
-          (subst (λ (s : Stored). behind (kept_flat s).phase (kept_flat (stored_at now (top_at now k))).phase ≤ (stored_at now (top_at now k)).ends) (sym (old k within)) (stored.near k within))
-      | inr past ↦
-          let same : k ≡ length now = omega (arith, past, here, longer) in
-          let own : stored_at more k ≡ node = ap (stored_at more) same ∙ last in
-          let zero_is : behind (kept_flat (stored_at more k)).phase (kept_flat (stored_at more (top_at more k))).phase ≡ 0 =
-          ap (λ (s : Stored). behind (kept_flat s).phase (kept_flat (stored_at more (top_of s))).phase) own
-          ∙ ap (λ (p : ℕ). behind p (kept_flat (stored_at more (top_of node))).phase) new_is.phase ∙ behind-self _ in
-          omega (arith, zero_is)
-    ] in
-    let live : IsLive more = λ k here alive. elim (cases_lt k (length now)) as (λ _. (kept_flat (stored_at more k)).ended ≡ false) [
-      | inl within ↦
-          ap (λ (s : Stored). (kept_flat s).ended) (old k within)
-          ∙ stored.live k within (ap (λ (s : Stored). (kept_flat s).ended) (sym (old_top k within)) ∙ alive)
-      | inr past ↦
-          let same : k ≡ length now = omega (arith, past, here, longer) in
-          ap (λ (m : ℕ). (kept_flat (stored_at more m)).ended) same ∙ ap (λ (s : Stored). (kept_flat s).ended) last
-          ∙ ap (λ (f : Flat). f.ended) word
-    ] in
     subst (λ (ss : List Stored). Pushes now ss new) (sym all) (record {
       shows = shows;
       stored = record {
         places = subst IsForest (sym shows) (forest_declared parent parties policy phase ps (omega (arith, few, many)) there stored.places);
-        near = near;
-        live = live;
+        near = still_near now node stored newest_is;
+        live = still_live now node stored (ap (λ (f : Flat). f.ended) word);
       };
     })

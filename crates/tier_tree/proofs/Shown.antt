@@ -148,56 +148,28 @@ steady_put forest i w stored there phase before live =
       own = live;
     }
 
+put_own : (forest : List Stored) (i w : ℕ) (now : List Stored) → i < length forest → IsSteadyPut forest i w now
+    → phaser_at (phasers_of now) i ≡ record (phaser_at (phasers_of forest) i) { flat = record_of w }
+put_own forest i w now there steady = grind (arith, shown_put, shown_at, present-top, present-now)
+
+put_others : (forest : List Stored) (i w : ℕ) (now : List Stored) (n : ℕ) → n < length forest → n ≢ i → IsSteadyPut forest i w now
+    → phaser_at (phasers_of now) n ≡ phaser_at (phasers_of forest) n
+put_others forest i w now n there other steady = grind (arith, shown_put, shown_at, present-top)
+
 put_shows : (forest : List Stored) (i w : ℕ) (now : List Stored) → IsStored forest → i < length forest → IsSteadyPut forest i w now
     → phasers_of now ≡ with_flat (phasers_of forest) i (record_of w)
 put_shows forest i w now stored there steady =
-    let put = steady.put in
     let ps = phasers_of forest in
     let new : PhaserState = record (phaser_at ps i) { flat = record_of w } in
-    let many = put.many in
-    let many_now = length-shown now in
+    let many_now = length-shown now ∙ steady.put.many in
     let many_ps = length-shown forest in
-    let many_set = length-set ps i new in
-    ext_get_or no_phaser (phasers_of now) (slice_set ps i new) (omega (arith, many, many_now, many_ps, many_set)) (λ n here.
-    let within : n < length forest = omega (arith, many, many_now, here) in
-    let is = shown_put forest i (record (stored_at forest i) { word = w }) now put n within in
-    let top = steady.top n within in
+    ext_get_or no_phaser (phasers_of now) (slice_set ps i new) (many_now ∙ sym (length-set ps i new ∙ many_ps)) (λ n here.
     elim (cases_eq n i) as (λ _. phaser_at (phasers_of now) n ≡ phaser_at (slice_set ps i new) n) [
       | inl same ↦
           subst (λ (m : ℕ). phaser_at (phasers_of now) m ≡ phaser_at (slice_set ps i new) m) (sym same)
-          (shown_put forest i (record (stored_at forest i) { word = w }) now put i there
-          ∙ ap (λ (s : Stored). record {
-            line = (stored_at forest i).line;
-            policy = (stored_at forest i).policy;
-            flat = present (kept_flat (stored_at now (top_at forest i))) (kept_flat s);
-            ends = s.ends;
-          }) put.own
-          ∙ ap (λ (f : Flat). record {
-            line = (stored_at forest i).line;
-            policy = (stored_at forest i).policy;
-            flat = f;
-            ends = (stored_at forest i).ends;
-          }) (present-top (kept_flat (stored_at now (top_at forest i))) (kept_flat (stored_at forest (top_at forest i))) (record_of w)
-          (steady.top i there).0 (steady.top i there).1
-          ∙ present-now (kept_flat (stored_at forest (top_at forest i))) (record_of w) steady.live steady.phase)
-          ∙ ap (λ (p : PhaserState). record p { flat = record_of w }) (sym (shown_at forest i there))
-          ∙ sym (get_or-set_same ps i new no_phaser (omega (arith, many_ps, there))))
+          (put_own forest i w now there steady ∙ sym (get_or-set_same ps i new no_phaser (omega (arith, many_ps, there))))
       | inr other ↦
-          is
-          ∙ ap (λ (s : Stored). record {
-            line = (stored_at forest n).line;
-            policy = (stored_at forest n).policy;
-            flat = present (kept_flat (stored_at now (top_at forest n))) (kept_flat s);
-            ends = s.ends;
-          }) (put.others n other)
-          ∙ ap (λ (f : Flat). record {
-            line = (stored_at forest n).line;
-            policy = (stored_at forest n).policy;
-            flat = f;
-            ends = (stored_at forest n).ends;
-          }) (present-top (kept_flat (stored_at now (top_at forest n))) (kept_flat (stored_at forest (top_at forest n))) (kept_flat (stored_at forest n)) top.0 top.1)
-          ∙ sym (shown_at forest n within)
-          ∙ sym (get_or-set_other ps i n new no_phaser other)
+          put_others forest i w now n (omega (arith, many_now, here)) other steady ∙ sym (get_or-set_other ps i n new no_phaser other)
     ])
 
 put_near : (forest : List Stored) (i w : ℕ) (now : List Stored) → IsStored forest → i < length forest → IsSteadyPut forest i w now → IsNear now
@@ -334,6 +306,10 @@ top_put : (forest : List Stored) (root w count : ℕ) → IsStored forest → ro
     → IsTopPut forest root w count (slice_set forest root (record (stored_at forest root) { word = w; ends = count }))
 top_put forest root w count stored there is_root = search (rules, is_put, root_shown)
 
+-- a phaser of the root's tree makes the step
+abbrev moved_by : ℕ → (Flat → Flat) → PhaserState → PhaserState
+moved_by root step p = if root_of p == root then record p { flat = step p.flat } else p
+
 -- what another phaser shows then
 top_shows : (forest : List Stored) (root w count : ℕ) (now : List Stored) → IsTopPut forest root w count now
     → (n : ℕ) → n < length forest → n ≢ root
@@ -342,11 +318,49 @@ top_shows : (forest : List Stored) (root w count : ℕ) (now : List Stored) → 
     }
 top_shows forest root w count now changed n there other = grind (arith, shown_put, cases_eq, same-is, flat_shown, other-is, shown_at)
 
-put_if : (here : Bool) (p : PhaserState) (f g : Flat) → p.flat ≡ g → record p { flat = (if here then f else g) } ≡ (if here then record p { flat = f } else p)
-put_if true p f g is = refl
-put_if false p f g is = ap (λ (x : Flat). record p { flat = x }) (sym is)
+-- what a phaser below the root showed
+shown_under : (forest : List Stored) (root n : ℕ) → n < length forest → top_at forest n ≡ root
+    → flat_at (phasers_of forest) n ≡ present (kept_flat (stored_at forest root)) (kept_flat (stored_at forest n))
+shown_under forest root n there under = grind (arith, flat_shown)
 
--- the whole forest after it
+-- what the root shows then
+top_own : (forest : List Stored) (root w count : ℕ) (now : List Stored) → IsTopPut forest root w count now → root < length forest
+    → phaser_at (phasers_of now) root ≡ record (phaser_at (phasers_of forest) root) { flat = present (record_of w) (record_of w); ends = count }
+top_own forest root w count now changed there = grind (arith, shown_put, shown_at)
+
+-- and what the whole forest shows, if the root's new word moves each phaser of its tree by one step
+moved : (forest : List Stored) (root w count : ℕ) (now : List Stored) (step : Flat → Flat) (after : List PhaserState)
+    → IsTopPut forest root w count now → length after ≡ length forest
+    → ((n : ℕ) → n < length forest → top_at forest n ≡ root
+    → present (record_of w) (kept_flat (stored_at forest n)) ≡ step (flat_at (phasers_of forest) n))
+    → phaser_at (phasers_of now) root ≡ phaser_at after root
+    → ((n : ℕ) → n < length forest → n ≢ root → phaser_at after n ≡ moved_by root step (phaser_at (phasers_of forest) n))
+    → phasers_of now ≡ after
+moved forest root w count now step after changed many below own others =
+    let ps = phasers_of forest in
+    let many_now = length-shown now ∙ changed.put.many in
+    ext_get_or no_phaser (phasers_of now) after (many_now ∙ sym many) (λ n here.
+    let there : n < length forest = omega (arith, many_now, here) in
+    let root_is : root_of (phaser_at ps n) ≡ top_at forest n = root_shown forest n there in
+    elim (cases_eq n root) as (λ _. phaser_at (phasers_of now) n ≡ phaser_at after n) [
+      | inl same ↦ subst (λ (m : ℕ). phaser_at (phasers_of now) m ≡ phaser_at after m) (sym same) own
+      | inr other ↦
+          top_shows forest root w count now changed n there other
+          ∙ elim (cases_eq (top_at forest n) root) as (λ _. record (phaser_at ps n) {
+            flat = (if top_at forest n == root then present (record_of w) (kept_flat (stored_at forest n)) else flat_at ps n);
+          } ≡ moved_by root step (phaser_at ps n)) [
+            | inl under ↦
+                let here_is : (top_at forest n == root) ≡ true = ap (λ (m : ℕ). m == root) under ∙ same-is root in
+                let is : (root_of (phaser_at ps n) == root) ≡ true = ap (λ (m : ℕ). m == root) (root_is ∙ under) ∙ same-is root in
+                rw (here_is, is, below n there under) refl
+            | inr apart ↦
+                let is : (root_of (phaser_at ps n) == root) ≡ false = other-is (root_of (phaser_at ps n)) root (λ same. apart (sym root_is ∙ same)) in
+                rw (other-is (top_at forest n) root apart, is) refl
+          ]
+          ∙ sym (others n there other)
+    ])
+
+-- after the end of a phase
 turned_shows : (forest : List Stored) (root w : ℕ) (ends : Bool) (now : List Stored) → IsStored forest → root < length forest
     → root_at (phasers_of forest) root ≡ root → (flat_at (phasers_of forest) root).ended ≡ false
     → (stored_at forest root).ends < 2147483647
@@ -354,159 +368,55 @@ turned_shows : (forest : List Stored) (root w : ℕ) (ends : Bool) (now : List S
     → IsTopPut forest root w ((stored_at forest root).ends + 1) now
     → phasers_of now ≡ after_phase_end root ends (phasers_of forest)
 turned_shows forest root w ends now stored there is_root live few is changed =
-    let put = changed.put in
     let ps = phasers_of forest in
-    let before = phaser_at ps root in
-    let flat = advance ends before.flat in
-    let moved = map (in_step root flat.phase flat.ended) ps in
-    let new : PhaserState = record before { flat = flat; ends = before.ends + 1 } in
-    let x : Stored = record (stored_at forest root) { word = w; ends = (stored_at forest root).ends + 1 } in
+    let flat = advance ends (flat_at ps root) in
+    let all = map (in_step root flat.phase flat.ended) ps in
+    let new : PhaserState = record (phaser_at ps root) { flat = flat; ends = (phaser_at ps root).ends + 1 } in
     let top = kept_flat (stored_at forest root) in
+    let many : length ps ≡ length forest = length-shown forest in
+    let many_all : length all ≡ length ps = length-map ps (in_step root flat.phase flat.ended) in
+    let shown_top = shown_under forest root root there changed.top in
     let own_flat : flat_at ps root ≡ top =
-    flat_shown forest root there ∙ ap (λ (m : ℕ). present (kept_flat (stored_at forest m)) top) changed.top
-    ∙ present-now top top (present_live top top (ap (λ (f : Flat). f.ended)
-    (sym (flat_shown forest root there ∙ ap (λ (m : ℕ). present (kept_flat (stored_at forest m)) top) changed.top)) ∙ live)) refl in
-    let many = put.many in
-    let many_now = length-shown now in
-    let many_ps = length-shown forest in
-    let many_moved : length moved ≡ length ps = length-map ps (in_step root flat.phase flat.ended) in
-    let many_set = length-set moved root new in
-    ext_get_or no_phaser (phasers_of now) (slice_set moved root new) (omega (arith, many, many_now, many_ps, many_moved, many_set)) (λ n here.
-    let within : n < length forest = omega (arith, many, many_now, here) in
-    elim (cases_eq n root) as (λ _. phaser_at (phasers_of now) n ≡ phaser_at (slice_set moved root new) n) [
-      | inl same ↦
-          subst (λ (m : ℕ). phaser_at (phasers_of now) m ≡ phaser_at (slice_set moved root new) m) (sym same)
-          (shown_put forest root x now put root there
-          ∙ ap (λ (m : ℕ). record {
-            line = (stored_at forest root).line;
-            policy = (stored_at forest root).policy;
-            flat = present (kept_flat (stored_at now m)) (kept_flat (stored_at now root));
-            ends = (stored_at now root).ends;
-          }) changed.top
-          ∙ ap (λ (s : Stored). record {
-            line = (stored_at forest root).line;
-            policy = (stored_at forest root).policy;
-            flat = present (kept_flat s) (kept_flat s);
-            ends = s.ends;
-          }) put.own
-          ∙ ap (λ (f : Flat). record {
-            line = (stored_at forest root).line;
-            policy = (stored_at forest root).policy;
-            flat = present f f;
-            ends = (stored_at forest root).ends + 1;
-          }) is
-          ∙ ap (λ (f : Flat). record {
-            line = (stored_at forest root).line;
-            policy = (stored_at forest root).policy;
-            flat = f;
-            ends = (stored_at forest root).ends + 1;
-          }) (present-self ends (flat_at ps root))
-          ∙ ap (λ (p : PhaserState). record p { flat = flat; ends = p.ends + 1 }) (sym (shown_at forest root there))
-          ∙ sym (get_or-set_same moved root new no_phaser (omega (arith, many_moved, many_ps, there))))
-      | inr other ↦
-          let near : behind (kept_flat (stored_at forest n)).phase (kept_flat (stored_at forest (top_at forest n))).phase ≤ (stored_at forest (top_at forest n)).ends = stored.near n within in
-          let follows : (if top_at forest n == root then present (record_of w) (kept_flat (stored_at forest n)) else flat_at ps n)
-          ≡ (if root_of (phaser_at ps n) == root then follow flat.phase flat.ended (flat_at ps n) else flat_at ps n) =
-          elim (cases_eq (top_at forest n) root) as (λ _. (if top_at forest n == root then present (record_of w) (kept_flat (stored_at forest n)) else flat_at ps n)
-          ≡ (if root_of (phaser_at ps n) == root then follow flat.phase flat.ended (flat_at ps n) else flat_at ps n)) [
-            | inl under ↦
-                ap (λ (t : Bool). if t then present (record_of w) (kept_flat (stored_at forest n)) else flat_at ps n) (ap (λ (m : ℕ). m == root) under ∙ same-is root)
-                ∙ ap (λ (f : Flat). present f (kept_flat (stored_at forest n))) (is ∙ ap (advance ends) own_flat)
-                ∙ present_turned ends top (kept_flat (stored_at forest n)) (stored_at forest root).ends
-                (subst (λ (m : ℕ). behind (kept_flat (stored_at forest n)).phase (kept_flat (stored_at forest m)).phase ≤ (stored_at forest m).ends) under near) few
-                ∙ ap (λ (m : ℕ). follow (advance ends top).phase ends (present (kept_flat (stored_at forest m)) (kept_flat (stored_at forest n)))) (sym under)
-                ∙ ap (λ (f : Flat). follow (advance ends top).phase ends f) (sym (flat_shown forest n within))
-                ∙ ap (λ (f : Flat). follow (advance ends f).phase ends (flat_at ps n)) (sym own_flat)
-                ∙ sym (ap (λ (t : Bool). if t then follow flat.phase flat.ended (flat_at ps n) else flat_at ps n)
-                (ap (λ (m : ℕ). m == root) (root_shown forest n within ∙ under) ∙ same-is root))
-            | inr apart ↦
-                ap (λ (t : Bool). if t then present (record_of w) (kept_flat (stored_at forest n)) else flat_at ps n) (other-is (top_at forest n) root apart)
-                ∙ sym (ap (λ (t : Bool). if t then follow flat.phase flat.ended (flat_at ps n) else flat_at ps n)
-                (other-is (root_at ps n) root (λ same. apart (sym (root_shown forest n within) ∙ same))))
-          ] in
-          top_shows forest root w ((stored_at forest root).ends + 1) now changed n within other
-          ∙ ap (λ (f : Flat). record (phaser_at ps n) { flat = f }) follows
-          ∙ put_if (root_of (phaser_at ps n) == root) (phaser_at ps n) (follow flat.phase flat.ended (flat_at ps n)) (flat_at ps n) refl
-          ∙ sym (get_or-map (in_step root flat.phase flat.ended) ps n no_phaser no_phaser (omega (arith, many_ps, within)))
-          ∙ sym (get_or-set_other moved root n new no_phaser other)
-    ])
+    shown_top ∙ present-now top top (present_live top top (ap (λ (f : Flat). f.ended) (sym shown_top) ∙ live)) refl in
+    moved forest root w ((stored_at forest root).ends + 1) now (follow flat.phase flat.ended) (slice_set all root new) changed
+    (length-set all root new ∙ many_all ∙ many)
+    (λ n within under.
+    let near = subst (λ (m : ℕ). behind (kept_flat (stored_at forest n)).phase (kept_flat (stored_at forest m)).phase ≤ (stored_at forest m).ends) under (stored.near n within) in
+    ap (λ (f : Flat). present f (kept_flat (stored_at forest n))) (is ∙ ap (advance ends) own_flat)
+    ∙ present_turned ends top (kept_flat (stored_at forest n)) (stored_at forest root).ends near few
+    ∙ ap (follow (advance ends top).phase ends) (sym (shown_under forest root n within under))
+    ∙ ap (λ (f : Flat). follow (advance ends f).phase ends (flat_at ps n)) (sym own_flat))
+    (top_own forest root w ((stored_at forest root).ends + 1) now changed there
+    ∙ ap (λ (f : Flat). record (phaser_at ps root) { flat = f; ends = (stored_at forest root).ends + 1 })
+    (ap (λ (f : Flat). present f f) is ∙ present-self ends (flat_at ps root))
+    ∙ ap (λ (e : ℕ). record (phaser_at ps root) { flat = flat; ends = e + 1 }) (sym (ap (λ (p : PhaserState). p.ends) (shown_at forest root there)))
+    ∙ sym (get_or-set_same all root new no_phaser (omega (arith, many, many_all, there))))
+    (λ n within other. get_or-set_other all root n new no_phaser other
+    ∙ get_or-map (in_step root flat.phase flat.ended) ps n no_phaser no_phaser (omega (arith, many, within)))
 
+-- after a termination
 forced_shows : (forest : List Stored) (root w : ℕ) (now : List Stored) → IsStored forest → root < length forest
     → record_of w ≡ force (kept_flat (stored_at forest root))
     → IsTopPut forest root w (stored_at forest root).ends now
     → phasers_of now ≡ map (terminated root) (phasers_of forest)
 forced_shows forest root w now stored there is changed =
-    let put = changed.put in
     let ps = phasers_of forest in
-    let x : Stored = record (stored_at forest root) { word = w; ends = (stored_at forest root).ends } in
     let top = kept_flat (stored_at forest root) in
-    let many = put.many in
-    let many_now = length-shown now in
-    let many_ps = length-shown forest in
-    let many_moved : length (map (terminated root) ps) ≡ length ps = length-map ps (terminated root) in
-    ext_get_or no_phaser (phasers_of now) (map (terminated root) ps) (omega (arith, many, many_now, many_ps, many_moved)) (λ n here.
-    let within : n < length forest = omega (arith, many, many_now, here) in
-    elim (cases_eq n root) as (λ _. phaser_at (phasers_of now) n ≡ phaser_at (map (terminated root) ps) n) [
-      | inl same ↦
-          subst (λ (m : ℕ). phaser_at (phasers_of now) m ≡ phaser_at (map (terminated root) ps) m) (sym same)
-          (shown_put forest root x now put root there
-          ∙ ap (λ (m : ℕ). record {
-            line = (stored_at forest root).line;
-            policy = (stored_at forest root).policy;
-            flat = present (kept_flat (stored_at now m)) (kept_flat (stored_at now root));
-            ends = (stored_at now root).ends;
-          }) changed.top
-          ∙ ap (λ (s : Stored). record {
-            line = (stored_at forest root).line;
-            policy = (stored_at forest root).policy;
-            flat = present (kept_flat s) (kept_flat s);
-            ends = s.ends;
-          }) put.own
-          ∙ ap (λ (f : Flat). record {
-            line = (stored_at forest root).line;
-            policy = (stored_at forest root).policy;
-            flat = present f f;
-            ends = (stored_at forest root).ends;
-          }) is
-          ∙ ap (λ (f : Flat). record {
-            line = (stored_at forest root).line;
-            policy = (stored_at forest root).policy;
-            flat = f;
-            ends = (stored_at forest root).ends;
-          }) (present_forced top top)
-          ∙ ap (λ (m : ℕ). record {
-            line = (stored_at forest root).line;
-            policy = (stored_at forest root).policy;
-            flat = force (present (kept_flat (stored_at forest m)) top);
-            ends = (stored_at forest root).ends;
-          }) (sym changed.top)
-          ∙ ap (λ (p : PhaserState). record p { flat = force p.flat }) (sym (shown_at forest root there))
-          ∙ sym (ap (λ (t : Bool). if t then record (phaser_at ps root) { flat = force (flat_at ps root) } else phaser_at ps root)
-          (ap (λ (m : ℕ). m == root) (root_shown forest root there ∙ changed.top) ∙ same-is root))
-          ∙ sym (get_or-map (terminated root) ps root no_phaser no_phaser (omega (arith, many_ps, there))))
-      | inr other ↦
-          let follows : (if top_at forest n == root then present (record_of w) (kept_flat (stored_at forest n)) else flat_at ps n)
-          ≡ (if root_of (phaser_at ps n) == root then force (flat_at ps n) else flat_at ps n) =
-          elim (cases_eq (top_at forest n) root) as (λ _. (if top_at forest n == root then present (record_of w) (kept_flat (stored_at forest n)) else flat_at ps n)
-          ≡ (if root_of (phaser_at ps n) == root then force (flat_at ps n) else flat_at ps n)) [
-            | inl under ↦
-                ap (λ (t : Bool). if t then present (record_of w) (kept_flat (stored_at forest n)) else flat_at ps n) (ap (λ (m : ℕ). m == root) under ∙ same-is root)
-                ∙ ap (λ (f : Flat). present f (kept_flat (stored_at forest n))) is
-                ∙ present_forced top (kept_flat (stored_at forest n))
-                ∙ ap (λ (m : ℕ). force (present (kept_flat (stored_at forest m)) (kept_flat (stored_at forest n)))) (sym under)
-                ∙ ap force (sym (flat_shown forest n within))
-                ∙ sym (ap (λ (t : Bool). if t then force (flat_at ps n) else flat_at ps n)
-                (ap (λ (m : ℕ). m == root) (root_shown forest n within ∙ under) ∙ same-is root))
-            | inr apart ↦
-                ap (λ (t : Bool). if t then present (record_of w) (kept_flat (stored_at forest n)) else flat_at ps n) (other-is (top_at forest n) root apart)
-                ∙ sym (ap (λ (t : Bool). if t then force (flat_at ps n) else flat_at ps n)
-                (other-is (root_at ps n) root (λ same. apart (sym (root_shown forest n within) ∙ same))))
-          ] in
-          top_shows forest root w (stored_at forest root).ends now changed n within other
-          ∙ ap (λ (f : Flat). record (phaser_at ps n) { flat = f }) follows
-          ∙ put_if (root_of (phaser_at ps n) == root) (phaser_at ps n) (force (flat_at ps n)) (flat_at ps n) refl
-          ∙ sym (get_or-map (terminated root) ps n no_phaser no_phaser (omega (arith, many_ps, within)))
-    ])
+    let many : length ps ≡ length forest = length-shown forest in
+    let at : (n : ℕ) → n < length forest → phaser_at (map (terminated root) ps) n ≡ terminated root (phaser_at ps n) =
+    λ n within. get_or-map (terminated root) ps n no_phaser no_phaser (omega (arith, many, within)) in
+    let below : (n : ℕ) → n < length forest → top_at forest n ≡ root → present (record_of w) (kept_flat (stored_at forest n)) ≡ force (flat_at ps n) =
+    λ n within under. ap (λ (f : Flat). present f (kept_flat (stored_at forest n))) is ∙ present_forced top (kept_flat (stored_at forest n))
+    ∙ ap force (sym (shown_under forest root n within under)) in
+    let root_is : (root_of (phaser_at ps root) == root) ≡ true = ap (λ (m : ℕ). m == root) (root_shown forest root there ∙ changed.top) ∙ same-is root in
+    moved forest root w (stored_at forest root).ends now force (map (terminated root) ps) changed
+    (length-map ps (terminated root) ∙ many) below
+    (top_own forest root w (stored_at forest root).ends now changed there
+    ∙ ap (λ (f : Flat). record (phaser_at ps root) { flat = f; ends = (stored_at forest root).ends })
+    (ap (λ (f : Flat). present f f) is ∙ present_forced top top ∙ ap force (sym (shown_under forest root root there changed.top)))
+    ∙ rw (root_is, ap (λ (p : PhaserState). p.ends) (shown_at forest root there)) refl
+    ∙ sym (at root there))
+    (λ n within _. at n within)
 
 -- no word is too far behind then
 top_near : (forest : List Stored) (root w count : ℕ) (now : List Stored) → IsStored forest → root < length forest

@@ -1,11 +1,11 @@
 -- A phase end and a termination keep the counts of who registered and arrived where.
 use Rattle.std.proofs.Common.{inl, inr, ◌≡◌, ◌≢◌, ◌∙◌, ℕ, suc, ◌+◌, ◌<◌, ◌≤◌, ◌==◌, Bool, true, false, List, [], ◌∷◌, length, map, ap, refl, sym, subst, arith, if◌then◌else◌, ◌&&◌, not, get_or-set_same, get_or-set_other}
 use Rattle.std.proofs.lemmas.{Bool.cases_eq, Bool.Decides.nat_tests, List.length-map}
-use Rattle.packed_phaser.specs.Flat.{Flat, unarrived_of, advance, force}
+use Rattle.packed_phaser.specs.Flat.{Flat, advance, force}
 use Rattle.tier_tree.specs.Forest.{PhaserState, no_phaser, phaser_at, flat_at, root_at}
 use Rattle.tier_tree.specs.PhaseEnd.{follow, in_step, terminated, after_phase_end, after_force}
 use Rattle.tier_tree.specs.Sound.{Place, place_of, places_of, IsForest}
-use Rattle.tier_tree.specs.Origin.{Origin, is_under, children, has_joined, is_awaited, IsTallied, IsSteady, AreTallied, origin_after_phase_end}
+use Rattle.tier_tree.specs.Origin.{Origin, is_under, children, IsTallied, IsSteady, AreTallied, origin_after_phase_end}
 use Rattle.tier_tree.proofs.{Lines.length-places, Lines.turn-places, Lines.force-places, Balance.IsGood, Balance.next-parent}
 use Rattle.tier_tree.proofs.Safe.{linked, line_own, last_of, rest_of, root-parent}
 use Rattle.tier_tree.proofs.Stands.{root-same, same-is, other-is}
@@ -119,75 +119,51 @@ going_tallied phasers after origin other root id sound within there stands clean
     let tally = stands.tallied id there (ap origin.stray tree ∙ clean) (open_at id there tree) in
     grind (arith, child-tree, root-root, joined-by, children-same, and-true)
 
+-- a phaser outside keeps its counts
+apart_tallied : (phasers after : List PhaserState) (origin other : Origin) (root id : ℕ) (ends : Bool) → IsForest phasers → id < length phasers
+    → root_at phasers id ≢ root → TreeChange root ends phasers after → IsTallied origin id phasers
+    → other.registered id ≡ origin.registered id → other.unarrived id ≡ origin.unarrived id → IsTallied other id after
+apart_tallied phasers after origin other root id ends sound there outside change tally registered unarrived =
+    grind (arith, child-tree, children-same)
+
+-- a phaser of the tree is as steady as those of a phase that begins, and each other stays so
+apart_steady : (phasers after : List PhaserState) (root id : ℕ) (ends : Bool) → IsForest phasers → id < length phasers → IsSteady id phasers
+    → TreeChange root ends phasers after → root_at phasers id ≢ root → IsSteady id after
+apart_steady phasers after root id ends sound there was change outside = grind (arith, root-same, root-root)
+
+inside_steady : (phasers after : List PhaserState) (root id : ℕ) (ends : Bool) → IsForest phasers → id < length phasers
+    → TreeChange root ends phasers after → root_at phasers id ≡ root → IsSteady id after
+inside_steady phasers after root id ends sound there change inside = grind (arith, root-same, root-root, follow-ended, follow-good)
+
 -- a change of one tree
 pub stands_reset : (phasers after : List PhaserState) (origin other : Origin) (root : ℕ) (ends : Bool) → IsForest phasers → root < length phasers
     → root_at phasers root ≡ root → (ends ≡ false → (flat_at phasers root).ended ≡ false) → AreTallied phasers origin
     → TreeChange root ends phasers after → Resets root ends phasers origin other → AreTallied after other
 stands_reset phasers after origin other root ends sound within top live stands change resets =
     let many : length after ≡ length phasers = sym (length-places after) ∙ ap length change.same ∙ length-places phasers in
-    let ended_in : (n : ℕ) → n < length phasers → root_at phasers n ≡ root → (flat_at after n).ended ≡ ends = λ n here inside.
-    let now = change.inside n here inside in
-    ap (λ (f : Flat). f.ended) now.1 ∙ follow-ended now.0 ends (flat_at phasers n) in
     record {
       steady = λ id here.
           let there : id < length phasers = omega (arith, many, here) in
-          let root_is = root-same phasers after id change.same in
-          let up = root-root phasers (phaser_at phasers id).line id sound there refl in
-          let least : root_at phasers id ≤ id = up.1 in
-          let root_there : root_at phasers id < length phasers = omega (arith, least, there) in
-          let was = stands.steady id there in
           elim (cases_eq (root_at phasers id) root) as (λ _. IsSteady id after) [
-            | inl inside ↦
-                let now = change.inside id there inside in
-                let good : IsGood (root_at phasers id) id (flat_at after id) =
-                subst (λ (f : Flat). IsGood (root_at phasers id) id f) (sym now.1) (follow-good now.0 ends (flat_at phasers id) (root_at phasers id) id) in
-                record {
-                  arrived = good.arrived;
-                  turned = good.turned;
-                  child = (λ turned low. good.child turned (λ is. low (root_is ∙ is)));
-                  tree = ended_in id there inside ∙ sym (ended_in (root_at phasers id) root_there (up.0 ∙ inside))
-                      ∙ ap (λ (n : ℕ). (flat_at after n).ended) (sym root_is);
-                }
-            | inr outside ↦
-                let flat = change.apart id there outside in
-                let roots = change.apart (root_at phasers id) root_there (λ is. outside (sym up.0 ∙ is)) in
-                let good : IsGood (root_at phasers id) id (flat_at after id) =
-                subst (λ (f : Flat). IsGood (root_at phasers id) id f) (sym flat)
-                (record { arrived = was.arrived; turned = was.turned; child = was.child }) in
-                record {
-                  arrived = good.arrived;
-                  turned = good.turned;
-                  child = (λ turned low. good.child turned (λ is. low (root_is ∙ is)));
-                  tree = ap (λ (f : Flat). f.ended) flat ∙ was.tree ∙ sym (ap (λ (f : Flat). f.ended) roots)
-                      ∙ ap (λ (n : ℕ). (flat_at after n).ended) (sym root_is);
-                }
+            | inl inside ↦ inside_steady phasers after root id ends sound there change inside
+            | inr outside ↦ apart_steady phasers after root id ends sound there (stands.steady id there) change outside
           ];
       tallied = λ id here clean still.
           let there : id < length phasers = omega (arith, many, here) in
-          let root_is = root-same phasers after id change.same in
           let clean_before : origin.stray (root_at phasers id) ≡ false =
-          sym (resets.stray (root_at phasers id)) ∙ ap other.stray (sym root_is) ∙ clean in
+          sym (resets.stray (root_at phasers id)) ∙ ap other.stray (sym (root-same phasers after id change.same)) ∙ clean in
           elim (cases_eq (root_at phasers id) root) as (λ _. IsTallied other id after) [
             | inl inside ↦
-                let going : ends ≡ false = sym (ended_in id there inside) ∙ still in
-                let now = resets.inside going id inside in
+                let now = change.inside id there inside in
+                let going : ends ≡ false = sym (ap (λ (f : Flat). f.ended) now.1 ∙ follow-ended now.0 ends (flat_at phasers id)) ∙ still in
+                let counts = resets.inside going id inside in
                 going_tallied phasers after origin other root id sound within there stands (ap origin.stray (sym inside) ∙ clean_before) (live going)
-                (subst (λ (e : Bool). TreeChange root e phasers after) going change) inside now.0 now.1
+                (subst (λ (e : Bool). TreeChange root e phasers after) going change) inside counts.0 counts.1
             | inr outside ↦
                 let flat = change.apart id there outside in
-                let now = resets.apart id outside in
-                let tally = stands.tallied id there clean_before (ap (λ (f : Flat). f.ended) (sym flat) ∙ still) in
-                let elsewhere : (k : ℕ) → k < length phasers → is_under id (phaser_at phasers k).line ≡ true → flat_at after k ≡ flat_at phasers k =
-                λ k there_k under. change.apart k there_k (λ is. outside (sym (child-tree phasers k id sound there_k under).1 ∙ is)) in
-                let j : children has_joined id after ≡ children has_joined id phasers = children-same has_joined has_joined id after phasers change.same
-                (λ k there_k under. ap has_joined (elsewhere k there_k under)) in
-                let w : children is_awaited id after ≡ children is_awaited id phasers = children-same is_awaited is_awaited id after phasers change.same
-                (λ k there_k under. ap is_awaited (elsewhere k there_k under)) in
-                let p : (flat_at after id).parties ≡ (flat_at phasers id).parties = ap (λ (f : Flat). f.parties) flat in
-                let u : unarrived_of (flat_at after id) ≡ unarrived_of (flat_at phasers id) = ap unarrived_of flat in
-                let tr = tally.registered in let tu = tally.unarrived in let tw = tally.within in
-                let r0 = now.0 in let u0 = now.1 in
-                record { registered = omega (arith, p, j, tr, r0); unarrived = omega (arith, u, w, tu, u0); within = omega (arith, tw, r0, u0) }
+                let counts = resets.apart id outside in
+                apart_tallied phasers after origin other root id ends sound there outside change
+                (stands.tallied id there clean_before (ap (λ (f : Flat). f.ended) (sym flat) ∙ still)) counts.0 counts.1
           ];
     }
 

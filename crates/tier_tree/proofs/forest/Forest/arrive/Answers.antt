@@ -1,6 +1,6 @@
 use Rattle.std.proofs.Common.{◌≡◌, List, ◌<◌, length}
 use Rattle.tier_tree.specs.{Stored.Stored, Stored.phasers_of, Forest.root_at, Call.IsCall, Origin.origin_after_arrival}
-use Rattle.tier_tree.specs.Answer.{DoesntArrive, IfTurning, MakesPending, KeepsEnds}
+use Rattle.tier_tree.specs.Answer.{IfTurning, MakesPending, KeepsEnds}
 use Rattle.tier_tree.proofs.Calls.{written_back, arrived, arrived_turning}
 use Rattle.tier_tree.proofs.forest.Forest.arrive.Goals as goal
 

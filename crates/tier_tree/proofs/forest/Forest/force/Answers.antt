@@ -1,5 +1,5 @@
 use Rattle.std.proofs.Common.{List}
-use Rattle.tier_tree.specs.{Stored.Stored, Stored.phasers_of, Answer.KeepsEnds, Call.IsCall}
+use Rattle.tier_tree.specs.{Stored.Stored, Call.IsCall}
 use Rattle.tier_tree.proofs.Calls.{written_back, forced}
 use Rattle.tier_tree.proofs.forest.Forest.force.Goals as goal
 
