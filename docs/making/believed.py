@@ -32,22 +32,22 @@ def without_comments(text):
 
 def imports_of(text, word):
     """What each word of an import stands for: a triple, or for an alias of a module a pair. A type that code declares has the
-    module `declared`."""
+    module `declared`. Between braces a name may have a path of its own."""
     names, modules = {}, {}
-    for path, rest in re.findall(rf"(?m)^\s*{word} Rattle\.([\w.]+?)(\.\{{[^}}]*\}}| as {NAME})?;?\s*$", text):
-        steps = path.split(".")
-        if len(steps) < 3 or steps[1] != "specs":
-            continue
-        if steps[2] == "declared":
-            kind = [step for step in steps if step != "TheVariants"][-1]
-            names.update({name: (steps[0], "declared", kind) for name in re.findall(NAME, rest.replace(" as ", " "))})
-            continue
-        crate, module = steps[0], ".".join(steps[2:])
-        if rest.startswith(" as "):
-            modules[rest[4:]] = (crate, module)
-        for item in rest[2:-1].split(",") if rest.startswith(".{") else []:
-            first, _, alias = item.strip().partition(" as ")
-            names[(alias or first).strip()] = (crate, module, first.strip())
+    for path, items, alias in re.findall(rf"(?m)^\s*{word} Rattle\.([\w.]+?)(?:\.\{{([^}}]*)\}}| as ({NAME}))?;?\s*$", text):
+        named = [item.strip().partition(" as ") for item in items.split(",")] if items else [("", "", alias)]
+        for name, _, other in named:
+            below, _, last = name.rpartition(".") if re.match(r"\w+\.", name) else ("", "", name)
+            steps = path.split(".") + [step for step in below.split(".") if step]
+            if len(steps) < 3 or steps[1] != "specs":
+                continue
+            if steps[2] == "declared":
+                kind = [step for step in steps if step != "TheVariants"][-1]
+                names[other or last] = (steps[0], "declared", kind)
+            elif last:
+                names[other or last] = (steps[0], ".".join(steps[2:]), last)
+            elif alias:
+                modules[alias] = (steps[0], ".".join(steps[2:]))
     return names, modules
 
 

@@ -87,9 +87,15 @@ def example(text):
 
 # -- definitions and laws
 
+def named_by(path):
+    """The files of its own crate's specs/ that a file of them imports from."""
+    imports = re.findall(rf"Rattle\.{path.parts[-3]}\.specs\.(\{{[^}}]*\}}|\w+)", path.read_text())
+    return {name for items in imports for name in re.findall(r"(?:^|[{ ])(\w+)", items)}
+
+
 def in_reading_order(files):
     """Files, each behind those of them that it names, else in the order in which the crate lists them."""
-    names = {path: set(re.findall(rf"Rattle\.{path.parts[-3]}\.specs\.(\w+)", path.read_text())) for path in files}
+    names = {path: named_by(path) for path in files}
     order, left = [], list(files)
     while left:
         known = {path.stem for path in left}
