@@ -1,15 +1,12 @@
 """What somebody who trusts the checker must still read and believe: the definitions (specs/) that a public contract names, and what
 these name in turn, in whichever crate it stands; the clauses of the public functions; and the types of the code that both
-name, less their private fields. The other lines of specs/ are the steps of proofs, what private types and fields stand for,
-and what contracts hand from call to call (docs/abstract.txt; abstract.py says when that is so). A line counts that says
-something: no comment, no import, no blank. Made of it is docs/headline.sum, the sum of the text for the headline; wrong is a line of
-abstract.txt that isn't so."""
+name, less their private fields. The other lines of specs/ are the steps of proofs, and what private types and fields stand for.
+A line counts that says something: no comment, no import, no blank. Made of it is docs/headline.sum, the sum of the text for the
+headline."""
 import functools
 import hashlib
 import re
-import sys
 
-import abstract
 from marks import TOP
 
 NAME = r"[A-Za-z_][\w-]*"
@@ -17,11 +14,10 @@ HEADLINE = TOP / "docs" / "headline.sum"
 
 
 class Definition:
-    """Its lines with their comments, those of them that say something, and what they name: triples (crate, module, name).
-    What its words stand for; and the line of docs/abstract.txt that it has, if any."""
+    """Its lines with their comments, those of them that say something, and what they name: triples (crate, module, name)."""
 
     def __init__(self):
-        self.text, self.lines, self.names, self.scope, self.mark = [], [], set(), ({}, {}), None
+        self.text, self.lines, self.names = [], [], set()
 
 
 def without_comments(text):
@@ -82,8 +78,7 @@ def definitions_of(path, crate, module):
         comment = []
     own = {name: (crate, module, name) for name in found}
     for name, it in found.items():
-        it.scope = ({**names, **own}, modules)
-        it.names = named_in("\n".join(it.lines), *it.scope) - {own[name]}
+        it.names = named_in("\n".join(it.lines), {**names, **own}, modules) - {own[name]}
     return {own[name]: it for name, it in found.items()}
 
 
@@ -126,10 +121,6 @@ def all_definitions():
             for word in set(re.findall(r"\w+", inside)) - {key[2]}:
                 same = [other for other in by_name.get(word, []) if other[0] == key[0]] or by_name.get(word, [])
                 it.names |= {same[0]} if len(same) == 1 else set()
-    for mark in abstract.marks():
-        if mark.key not in found:
-            sys.exit(f"docs/abstract.txt names {mark.name}, which is no definition")
-        found[mark.key].mark = mark
     return found
 
 
@@ -190,19 +181,16 @@ def clauses_of(contract):
 
 
 def contracts_of(crate, left_out=()):
-    """What the public contracts of a crate name, how many lines their clauses have, and its calls, but for these modules of it."""
-    source, found, clauses, calls = crate / "src", set(), 0, []
+    """What the public contracts of a crate name, and how many lines their clauses have, but for these modules of it."""
+    source, found, clauses = crate / "src", set(), 0
 
     def visit(path, folder, is_public, exported):
         nonlocal clauses
         text = path.read_text()
         its, said, scope = said_in(path, is_public, exported)
-        file = str(path.relative_to(TOP))
-        calls.append(abstract.Call.of_others(file, said, scope))
         said += [contract for _, contract in its]
         found.update(named_in("".join(said), *scope))
         clauses += sum(len(clauses_of(it)) for it in said)
-        calls.extend(abstract.Call(f"{crate.name}:{name}", file, contract, scope) for name, contract in its)
         here = {}
         for module, items in re.findall(r"(?m)^pub use (?:self::|crate::)?([\w:]+?)::(\{[^}]*\}|\w+);", text):
             here.setdefault(module.split("::")[0], set()).update(re.findall(r"\w+", items))
@@ -213,7 +201,7 @@ def contracts_of(crate, left_out=()):
 
     if (source / "lib.rt").is_file():
         visit(source / "lib.rt", source, True, set())
-    return found, clauses, calls
+    return found, clauses
 
 
 def page_of(crate):
@@ -225,20 +213,14 @@ def page_of(crate):
 
 
 def closure(roots, definitions):
-    """What these names lead to, less what is handed from call to call."""
+    """What these names lead to."""
     believed, ahead = set(), set(roots)
     while ahead:
         name = ahead.pop()
-        if name in definitions and name not in believed and not definitions[name].mark:
+        if name in definitions and name not in believed:
             believed.add(name)
             ahead |= definitions[name].names
     return believed
-
-
-def abstract_in(roots, believed, definitions):
-    """What is handed from call to call among these names and those that they lead to."""
-    names = set(roots).union(*(definitions[it].names for it in believed))
-    return [it.mark for key, it in definitions.items() if it.mark and key in names]
 
 
 @functools.cache
@@ -247,7 +229,7 @@ def all_contracts():
 
 
 def all_roots():
-    return set().union(*(names for names, _, _ in all_contracts().values()))
+    return set().union(*(names for names, _ in all_contracts().values()))
 
 
 # -- the text of it
@@ -259,7 +241,7 @@ def file_of(key):
 def reading(crate, definitions):
     """The text of what is believed for a crate, from the top down: each definition before those that it names, where none names
     another in a ring."""
-    roots, _, _ = page_of(crate)
+    roots, _ = page_of(crate)
     believed, seen, order = closure(roots, definitions), set(), []
     places = {key: place for place, key in enumerate(definitions)}
 
@@ -285,8 +267,6 @@ def reading(crate, definitions):
             last = file_of(key)
             lines += ["", f"==== {last}"]
         lines += definitions[key].text
-    marks = abstract_in(roots, believed, definitions)
-    lines += ["", "==== docs/abstract.txt", *(f"abstract: {mark.line}" for mark in marks)] if marks else []
     return "\n".join(lines[1:]) + "\n"
 
 
@@ -294,8 +274,3 @@ def made():
     text = reading("headline", all_definitions())
     told = hashlib.sha256(text.encode()).hexdigest()
     return {HEADLINE: f"{told}  {text.count(chr(10))} lines, as docs/believed --read headline prints them\n"}
-
-
-def wrong():
-    calls = [call for _, _, calls in all_contracts().values() for call in calls]
-    return abstract.wrong(all_definitions(), closure(all_roots(), all_definitions()), calls)

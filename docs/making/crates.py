@@ -112,24 +112,20 @@ def files_of(crate):
 
 def definitions(crate, its, all_believed):
     """The definitions of a crate by files, those that somebody has to believe; the names of the others; the types named."""
-    text, abstract, others = "", [], []
+    text, others = "", []
     for path in files_of(crate):
         here = [(key[2], it) for key, it in its.items() if key[1] == path.stem]
         file = f"[{path.name}](../../crates/{crate.name}/specs/{path.name})"
         kept = [f"`{name}`" for name, it in here if (crate.name, path.stem, name) in all_believed]
-        handed = [f"`{name}`" for name, it in here if it.mark]
-        rest = [f"`{name}`" for name, it in here if (crate.name, path.stem, name) not in all_believed and not it.mark]
+        rest = [f"`{name}`" for name, it in here if (crate.name, path.stem, name) not in all_believed]
         if kept:
             head = comment_of(path.read_text().split("\n"), "-")
             text += item(f"{file}: {first_sentence_of(head)} {', '.join(kept)}" if head else f"{file}: {', '.join(kept)}")
-        if handed:
-            abstract.append(f"{', '.join(handed)} ({file})")
         if rest:
             others.append(f"{file} ({len(rest)})")
     types = [f"`{key[2]}`" for key, it in its.items() if key[1] == "declared" and key in all_believed]
     if types:
         text += item("Types of the code that appear in these definitions and in the contracts: " + ", ".join(types))
-    text += item("*Abstract* words, which one call ensures and another requires: " + "; ".join(abstract)) if abstract else ""
     text += item("Some definitions aren't listed here, because no public contract names them. So *you need not believe* them. They are "
                  "in " + ", ".join(others) + ".") if others else ""
     return text
