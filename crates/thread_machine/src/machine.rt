@@ -307,7 +307,7 @@ impl Machine {
         }
     }
 
-    /// A law: every machine fulfils `IsMachine`. The function itself does nothing.
+    /// A law: every machine fulfils `IsMachine`. It only reads a field, which brings the invariant of `Machine` into the proof.
     fn is_sound(&self)
         ensures { IsMachine self.now }
     {

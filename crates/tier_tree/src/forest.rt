@@ -174,7 +174,7 @@ impl Forest {
     }
 }
 
-/// Laws: what is true of every forest. Nothing runs.
+/// Laws: what is true of every forest. Each only reads a field, which brings the invariant of `Forest` into its proof.
 impl Forest {
     /// A forest has at most 64 phasers, and the line of each phaser leads up to a root. The word of a phaser may have an
     /// older phase than the root. It is older by at most as many phases as have ended in this tree. No phaser is terminated

@@ -1,4 +1,5 @@
-//! What is known of a sound stage. Each function is called for its contract, which a proof cites. It does nothing.
+//! What is known of a sound stage. Each function is called for its contract, which a proof cites. It only reads a field, which
+//! brings the invariant of `Stage` into that proof.
 ghost use Rattle.std.specs.Prelude.{◌≡◌, ◌<◌, length};
 ghost use Rattle.tier_tree.specs.Stored.{IsStored};
 ghost use Rattle.loader.specs.Program.{row_at};
