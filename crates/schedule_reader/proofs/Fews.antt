@@ -1,5 +1,5 @@
 -- A schedule that is read without a list.
-use Rattle.std.proofs.Common.{◌≡◌, ◌∙◌, ◌≤◌, ℕ, true, List, [], ◌∷◌, drop, length, refl, ap, arith, append-nil, Option, Some, None, Ok}
+use Rattle.std.proofs.Common.{◌≡◌, ◌≤◌, ℕ, true, List, [], ◌∷◌, drop, length, refl, arith, append-nil, Option, Some, None, Ok}
 use Rattle.std.proofs.lemmas.List.{drop_all}
 use Rattle.schedule_reader.specs.declared.{few.Few.Few, run.Run.Run, fault.ScheduleFault.ScheduleFault, place.Place.Place}
 use Rattle.schedule_reader.specs.Few.{few_of, with_ended}
@@ -21,11 +21,7 @@ ended_before runs (Some run) left = with_runs-append runs (run ∷ []) left
 pub seen_more : (old new : Few) (ended : Option Run) (whole before after : Schedule) → HasSeen old whole before
     → before ≡ ended_with (Ok ended) after → ((runs : List Run) → old ≡ few_of runs → new ≡ few_of (with_ended runs ended))
     → HasSeen new whole after
-seen_more old new ended whole before after seen is few = record {
-  runs = with_ended seen.runs ended;
-  few = few seen.runs seen.few;
-  all = seen.all ∙ ap (with_runs seen.runs) is ∙ ended_before seen.runs ended after;
-}
+seen_more old new ended whole before after seen is few = grind (arith, ended_before)
 
 -- at the end
 pub seen_end : (few : Few) (bytes : List ℕ) (left : Schedule) → HasSeen few (finished_schedule bytes) left → left ≡ no_runs
@@ -37,10 +33,7 @@ pub seen_last : (old new : Few) (bytes : List ℕ) (p : Place) (at n : ℕ) (end
     → ((more : Schedule) → piece_with p at [] more ≡ ended_with (Ok ended) more)
     → ((runs : List Run) → old ≡ few_of runs → new ≡ few_of (with_ended runs ended))
     → (new ≡ few_of (finished_schedule bytes).runs) × ((finished_schedule bytes).fault ≡ None)
-seen_last old new bytes p at n ended seen all is few =
-    let left : schedule_from true p at (drop n bytes) ≡ ended_with (Ok ended) no_runs =
-    ap (schedule_from true p at) (drop_all n bytes all) ∙ finished-end p at ∙ is no_runs in
-    seen_end new bytes no_runs (seen_more old new ended (finished_schedule bytes) _ no_runs seen left few) refl
+seen_last old new bytes p at n ended seen all is few = grind (arith, drop_all, finished-end, seen_end, seen_more)
 
 -- a fault
 pub seen_fault : (few : Few) (bytes : List ℕ) (left : Schedule) (f : ScheduleFault) → HasSeen few (finished_schedule bytes) left
@@ -50,6 +43,4 @@ seen_fault few bytes left f seen is = grind arith
 pub seen_last_fault : (few : Few) (bytes : List ℕ) (p : Place) (at n : ℕ) (f : ScheduleFault)
     → HasSeen few (finished_schedule bytes) (schedule_from true p at (drop n bytes)) → length bytes ≤ n
     → ((more : Schedule) → piece_with p at [] more ≡ faulty f) → (finished_schedule bytes).fault ≡ Some f
-seen_last_fault few bytes p at n f seen all is =
-    seen_fault few bytes (schedule_from true p at (drop n bytes)) f seen
-    (ap (schedule_from true p at) (drop_all n bytes all) ∙ finished-end p at ∙ is no_runs)
+seen_last_fault few bytes p at n f seen all is = grind (arith, seen_fault, drop_all, finished-end)

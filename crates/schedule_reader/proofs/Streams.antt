@@ -197,23 +197,23 @@ no_fault : (old : Progress) (piece : List ℕ) (finished : Bool) (rest : List �
     → rest_schedule old finished (piece ++ rest) ≡ schedule_from finished old.place old.read (piece ++ rest)
 no_fault old piece finished rest none = ap (λ f. rest_by_fault f (schedule_from finished old.place old.read (piece ++ rest))) none
 
-pub fed-runs : (old : Progress) (bytes piece : List ℕ) (result : Result Place ScheduleFault) (before after : List Run) → HasRead old bytes → old.fault ≡ None
+pub fed-runs : {old : Progress} {bytes : List ℕ} (piece : List ℕ) {result : Result Place ScheduleFault} {before after : List Run} → HasRead old bytes → old.fault ≡ None
     → IfOk result (λ next. IsPlace (old.read + length piece) next)
     → Takes result before after (λ (stream : Bool × List ℕ). schedule_from stream.0 old.place old.read (piece ++ stream.1))
     (λ stream next. schedule_from stream.0 next (old.read + length piece) stream.1)
     → Adds (answered result) (open_schedule bytes) (open_schedule (bytes ++ piece)) before after
-fed-runs old bytes piece result before after has none place takes =
+fed-runs {old} {bytes} piece {result} {before} {after} has none place takes =
     let t = takes.schedules (false, []) in
     adds-by (open_schedule bytes) (open_schedule (bytes ++ piece)) (answered result) before after takes.added t.0 takes.list
     (told-open old bytes piece result before after _ _ has (λ finished rest. no_fault old piece finished rest none) takes)
     (end-left result (old.read + length piece) t.0 place t.1.1)
 
-pub fed-answer : (old : Progress) (bytes piece : List ℕ) (result : Result Place ScheduleFault) (before after : List Run) → HasRead old bytes → old.fault ≡ None
+pub fed-answer : {old : Progress} {bytes : List ℕ} (piece : List ℕ) {result : Result Place ScheduleFault} {before after : List Run} → HasRead old bytes → old.fault ≡ None
     → IfOk result (λ next. IsPlace (old.read + length piece) next)
     → Takes result before after (λ (stream : Bool × List ℕ). schedule_from stream.0 old.place old.read (piece ++ stream.1))
     (λ stream next. schedule_from stream.0 next (old.read + length piece) stream.1)
     → (answered result ≡ Err fault.Memory) ⊎ (answered result ≡ answer_of (open_schedule (bytes ++ piece)))
-fed-answer old bytes piece result before after has none place takes =
+fed-answer {old} {bytes} piece {result} {before} {after} has none place takes =
     let t = takes.schedules (false, []) in
     answers-by (open_schedule (bytes ++ piece)) (answered result) ((open_schedule bytes).runs ++ takes.added) t.0
     (told-open old bytes piece result before after _ _ has (λ finished rest. no_fault old piece finished rest none) takes)
@@ -262,19 +262,19 @@ has-after old bytes piece result before after has none place takes no_memory =
           ∙ ap (λ rs. with_runs rs (rest_schedule (progress_after old (length piece) result) finished rest)) (sym runs);
     }
 
-pub fed-stream : (old : Progress) (bytes piece : List ℕ) (result : Result Place ScheduleFault) (before after : List Run) → HasRead old bytes → old.fault ≡ None
+pub fed-stream : {old : Progress} {bytes : List ℕ} (piece : List ℕ) (result : Result Place ScheduleFault) {before after : List Run} → HasRead old bytes → old.fault ≡ None
     → IfOk result (λ next. IsPlace (old.read + length piece) next)
     → Takes result before after (λ (stream : Bool × List ℕ). schedule_from stream.0 old.place old.read (piece ++ stream.1))
     (λ stream next. schedule_from stream.0 next (old.read + length piece) stream.1)
     → (answered result ≡ Err fault.Memory) ⊎ HasRead (progress_after old (length piece) result) (bytes ++ piece)
-fed-stream old bytes piece (Ok next) before after has none place takes =
+fed-stream {old} {bytes} piece (Ok next) {before} {after} has none place takes =
     inr (has-after old bytes piece (Ok next) before after has none place takes (λ e. absurd (cc)))
-fed-stream old bytes piece (Err fault.Memory) before after has none place takes = inl refl
-fed-stream old bytes piece (Err (fault.Byte n)) before after has none place takes =
+fed-stream {old} {bytes} piece (Err fault.Memory) {before} {after} has none place takes = inl refl
+fed-stream {old} {bytes} piece (Err (fault.Byte n)) {before} {after} has none place takes =
     inr (has-after old bytes piece (Err (fault.Byte n)) before after has none place takes (λ e. absurd (cc)))
-fed-stream old bytes piece (Err (fault.Number n)) before after has none place takes =
+fed-stream {old} {bytes} piece (Err (fault.Number n)) {before} {after} has none place takes =
     inr (has-after old bytes piece (Err (fault.Number n)) before after has none place takes (λ e. absurd (cc)))
-fed-stream old bytes piece (Err (fault.Repeat n)) before after has none place takes =
+fed-stream {old} {bytes} piece (Err (fault.Repeat n)) {before} {after} has none place takes =
     inr (has-after old bytes piece (Err (fault.Repeat n)) before after has none place takes (λ e. absurd (cc)))
 
 -- a fault stays
@@ -285,9 +285,9 @@ fault_open old bytes piece f has is = grind arith
 same_runs : (runs : List Run) (schedule : Schedule) → with_runs runs schedule ≡ with_runs (runs ++ []) schedule
 same_runs runs schedule = ap (λ rs. with_runs rs schedule) (sym (append-nil runs))
 
-pub stays-runs : (old : Progress) (bytes piece : List ℕ) (f : ScheduleFault) (runs : List Run) → HasRead old bytes → old.fault ≡ Some f
+pub stays-runs : {old : Progress} {bytes : List ℕ} (piece : List ℕ) {f : ScheduleFault} {runs : List Run} → HasRead old bytes → old.fault ≡ Some f
     → Adds (Err f) (open_schedule bytes) (open_schedule (bytes ++ piece)) runs runs
-stays-runs old bytes piece f runs has is =
+stays-runs {old} {bytes} piece {f} {runs} has is =
     adds-by (open_schedule bytes) (open_schedule (bytes ++ piece)) (Err f) runs runs [] (faulty f) (sym (append-nil runs))
     (fault_open old bytes piece f has is ∙ same_runs (open_schedule bytes).runs (faulty f)) (inr refl)
 
@@ -302,17 +302,17 @@ ended old bytes result before after has none takes =
     ∙ ap (with_runs given) (ap (λ f. rest_by_fault f (schedule_from true old.place old.read [])) none ∙ finished-end old.place old.read ∙ t.1.0)
     ∙ with_runs-append given takes.added t.0
 
-pub ended-runs : (old : Progress) (bytes : List ℕ) (result : Result (Unit {0}) ScheduleFault) (before after : List Run) → HasRead old bytes → old.fault ≡ None
+pub ended-runs : {old : Progress} {bytes : List ℕ} {result : Result (Unit {0}) ScheduleFault} {before after : List Run} → HasRead old bytes → old.fault ≡ None
     → Takes result before after (λ (more : Schedule). piece_with old.place old.read [] more) (λ more (none : Unit {0}). more)
     → Adds result (open_schedule bytes) (finished_schedule bytes) before after
-ended-runs old bytes result before after has none takes =
+ended-runs {old} {bytes} {result} {before} {after} has none takes =
     let t = takes.schedules no_runs in
     adds-by (open_schedule bytes) (finished_schedule bytes) result before after takes.added t.0 takes.list (ended old bytes result before after has none takes) t.1.1
 
-pub ended-answer : (old : Progress) (bytes : List ℕ) (result : Result (Unit {0}) ScheduleFault) (before after : List Run) → HasRead old bytes → old.fault ≡ None
+pub ended-answer : {old : Progress} {bytes : List ℕ} {result : Result (Unit {0}) ScheduleFault} {before after : List Run} → HasRead old bytes → old.fault ≡ None
     → Takes result before after (λ (more : Schedule). piece_with old.place old.read [] more) (λ more (none : Unit {0}). more)
     → (result ≡ Err fault.Memory) ⊎ (result ≡ answer_of (finished_schedule bytes))
-ended-answer old bytes result before after has none takes =
+ended-answer {old} {bytes} {result} {before} {after} has none takes =
     let t = takes.schedules no_runs in
     answers-by (finished_schedule bytes) result ((open_schedule bytes).runs ++ takes.added) t.0 (ended old bytes result before after has none takes) t.1.1
 
@@ -323,23 +323,23 @@ fault_ended old bytes f has is =
     ap finished_schedule (sym (append-nil bytes)) ∙ has.rest true []
     ∙ ap (λ g. with_runs (open_schedule bytes).runs (rest_by_fault g (schedule_from true old.place old.read []))) is
 
-pub ended-stays-runs : (old : Progress) (bytes : List ℕ) (f : ScheduleFault) (runs : List Run) → HasRead old bytes → old.fault ≡ Some f
+pub ended-stays-runs : {old : Progress} {bytes : List ℕ} {f : ScheduleFault} {runs : List Run} → HasRead old bytes → old.fault ≡ Some f
     → Adds (Err f) (open_schedule bytes) (finished_schedule bytes) runs runs
-ended-stays-runs old bytes f runs has is =
+ended-stays-runs {old} {bytes} {f} {runs} has is =
     adds-by (open_schedule bytes) (finished_schedule bytes) (Err f) runs runs [] (faulty f) (sym (append-nil runs))
     (fault_ended old bytes f has is ∙ same_runs (open_schedule bytes).runs (faulty f)) (inr refl)
 
-pub ended-stays-answer : (old : Progress) (bytes : List ℕ) (f : ScheduleFault) → HasRead old bytes → old.fault ≡ Some f
+pub ended-stays-answer : {old : Progress} {bytes : List ℕ} {f : ScheduleFault} → HasRead old bytes → old.fault ≡ Some f
     → (◌≡◌ {A = Result (Unit {0}) ScheduleFault} (Err f) (Err fault.Memory)) ⊎ (◌≡◌ {A = Result (Unit {0}) ScheduleFault} (Err f) (answer_of (finished_schedule bytes)))
-ended-stays-answer old bytes f has is =
+ended-stays-answer {old} {bytes} {f} has is =
     answers-by (finished_schedule bytes) (Err f) (open_schedule bytes).runs (faulty f) (fault_ended old bytes f has is) (inr refl)
 
 -- a place has no fault
-pub fed-ok : (old : Progress) (bytes piece : List ℕ) (next : Place) (before after : List Run) → HasRead old bytes → old.fault ≡ None
+pub fed-ok : {old : Progress} {bytes : List ℕ} (piece : List ℕ) {next : Place} {before after : List Run} → HasRead old bytes → old.fault ≡ None
     → IsPlace (old.read + length piece) next
     → Takes (Ok next) before after (λ (stream : Bool × List ℕ). schedule_from stream.0 old.place old.read (piece ++ stream.1))
     (λ stream next. schedule_from stream.0 next (old.read + length piece) stream.1)
     → HasRead (record { read = old.read + length piece; place = next; fault = old.fault }) (bytes ++ piece)
-fed-ok old bytes piece next before after has none place takes =
+fed-ok {old} {bytes} piece {next} {before} {after} has none place takes =
     subst (λ f. HasRead (record { read = old.read + length piece; place = next; fault = f }) (bytes ++ piece)) (sym none)
     (has-after old bytes piece (Ok next) before after has none place takes (λ e. absurd (cc)))

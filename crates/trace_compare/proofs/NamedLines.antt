@@ -47,35 +47,34 @@ begun-line (x ∷ xs) ys one =
     (h, (t, slice_split-cons_no is_line_end x (xs ++ ys) (All-head test x xs one) ∙ ap (onto_first x) is))
 
 -- a line that names a choice, and isn't the last
-pub line-made : (ended : LineEnded) (line : List ℕ) (choice : Choice) (n : ℕ) (before after : Lines) (a b : Option (List ℕ))
+pub line-made : (ended : LineEnded) (line : List ℕ) {choice : Choice} {n : ℕ} {before after : Lines} {a b : Option (List ℕ)}
     → IsOneLine line → HasCome ended line (prepend_known after.held b) → next_by (line_names line) ended ≡ next.Made choice
     → Consumes (prepend_known before.held a) (prepend_known after.held b) (taken (Ok ended) line)
     → (ended ≢ how.AtEnd → Gave before after (length (taken (Ok ended) line))) → HasTaken n (choice ∷ []) (n + 1) before after a b
-line-made ended line choice n before after a b one came is gone gave = grind (arith, length-append, whole-line, names-line, long-names)
+line-made ended line one came is gone gave = grind (arith, length-append, whole-line, names-line, long-names)
 
 -- the line that ends them, by what it names
 by_end : (is : LineNames) (n : ℕ) → naming_by is n (ended (Some (n + 1))) ≡ last_naming (next_by is how.AtEnd) n
 by_end is n = grind arith
 
-pub line-last : (ended : LineEnded) (line : List ℕ) (n : ℕ) (before after : Lines) (a b : Option (List ℕ))
+pub line-last : (ended : LineEnded) (line : List ℕ) {n : ℕ} {before after : Lines} {a b : Option (List ℕ)}
     → IsOneLine line → HasCome ended line (prepend_known after.held b)
     → ((choice : Choice) → next_by (line_names line) ended ≢ next.Made choice)
     → Consumes (prepend_known before.held a) (prepend_known after.held b) (taken (Ok ended) line)
     → HasEnded n (last_naming (next_by (line_names line) ended) n) before after a b
-line-last how.Whole line n before after a b one came none gone = grind (arith, whole-line)
-line-last how.AtEnd line n before after a b one came none gone = grind (arith, slice_split_none, by_end)
-line-last how.TooLong line n before after a b one came none gone =
-    let nothing : line_names line ≡ names.Nothing = long-names line (omega (arith, came)) in (
-      line,
-      (
-        gone,
-        inr (λ rest.
-            let (h, (t, split)) = begun-line line rest one in
-            let long : line_names (line ++ h) ≡ names.Nothing = long-names (line ++ h) (omega (arith, came, length-append line h)) in
-            ap (naming_from n) split ∙ names-line (line ++ h) t n names.Nothing long
-            ∙ ap (λ (i : LineNames). last_naming (next_by i how.TooLong) n) (sym nothing)),
-      ),
-    )
+line-last how.Whole line one came none gone = grind (arith, whole-line)
+line-last how.AtEnd line one came none gone = grind (arith, slice_split_none, by_end)
+line-last how.TooLong line {n} one came none gone =
+    let nothing : line_names line ≡ names.Nothing = long-names line (omega (arith, came)) in
+    record {
+      bytes = line;
+      gone = gone;
+      names = inr (λ rest.
+          let (h, (t, split)) = begun-line line rest one in
+          let long : line_names (line ++ h) ≡ names.Nothing = long-names (line ++ h) (omega (arith, came, length-append line h)) in
+          ap (naming_from n) split ∙ names-line (line ++ h) t n names.Nothing long
+          ∙ ap (λ (i : LineNames). last_naming (next_by i how.TooLong) n) (sym nothing));
+    }
 
 -- ---- line after line
 
@@ -83,18 +82,18 @@ behind-both : (one two : List Choice) (rest : Naming) → behind_choices one (be
 behind-both one two rest = ap (λ cs. record { choices = cs; no_line = rest.no_line }) (sym (append_assoc one two rest.choices))
 
 -- a line more
-pub taken-more : (n next last : ℕ) (choices more : List Choice) (x y z : Lines) (a b c : Option (List ℕ))
+pub taken-more : {n next last : ℕ} {choices more : List Choice} {x y z : Lines} {a b c : Option (List ℕ)}
     → HasTaken n choices next x y a b → HasTaken next more last y z b c → HasTaken n (choices ++ more) last x z a c
-taken-more n next last choices more x y z a b c (one, (gone, many, names)) (two, (on, few, behind)) = (
-  one ++ two,
-  (
-    (Consumes-trans _ _ _ one two gone.0 on.0, omega (arith, gone.1, on.1, length-append one two)),
-    omega (arith, many, few, length-append one two),
-    λ rest. ap (λ bytes. naming_from n (slice_split is_line_end bytes)) (append_assoc one two rest) ∙ names (two ++ rest)
-        ∙ ap (behind_choices choices) (behind rest)
-        ∙ behind-both choices more (naming_from last (slice_split is_line_end rest)),
-  ),
-)
+taken-more {n} {next} {last} {choices} {more} one two = record {
+  bytes = one.bytes ++ two.bytes;
+  gone = (
+    Consumes-trans _ _ _ one.bytes two.bytes one.gone.0 two.gone.0,
+    omega (arith, one.gone.1, two.gone.1, length-append one.bytes two.bytes),
+  );
+  many = omega (arith, one.many, two.many, length-append one.bytes two.bytes);
+  names = λ rest. ap (λ bytes. naming_from n (slice_split is_line_end bytes)) (append_assoc one.bytes two.bytes rest) ∙ one.names (two.bytes ++ rest)
+      ∙ ap (behind_choices choices) (two.names rest) ∙ behind-both choices more (naming_from last (slice_split is_line_end rest));
+}
 
 -- what was taken, and what is held
 pub unread : (before left : Option (List ℕ)) (bytes held : List ℕ) → Consumes before (prepend_known held left) bytes
@@ -125,18 +124,19 @@ names-behind : (one two : List ℕ) (choices : List Choice) (n : ℕ) (left : Op
 names-behind one two choices n left naming names given = grind (arith, append_assoc)
 
 -- the lines to the end
-pub taken-all : (n : ℕ) (choices : List Choice) (naming : Naming) (y z : Lines) (a b c : Option (List ℕ))
+pub taken-all : {n : ℕ} {choices : List Choice} {naming : Naming} {y z : Lines} {a b c : Option (List ℕ)}
     → HasTaken 1 choices n none_read y a b → HasEnded n naming y z b c → HasRead a c (behind_choices choices naming)
-taken-all n choices naming y z a b c (one, (gone, many, names)) (two, (on, last)) =
+taken-all {n} {choices} {naming} {y} {z} {a} {b} {c} one two =
     subst (λ o. HasRead o c (behind_choices choices naming)) (prepend_known-nil a)
-    (read-held (prepend_known [] a) c (one ++ two) z.held (behind_choices choices naming)
-    (Consumes-trans _ _ _ one two gone.0 on) (names-behind one two choices n (prepend_known z.held c) naming names last))
+    (read-held (prepend_known [] a) c (one.bytes ++ two.bytes) z.held (behind_choices choices naming)
+    (Consumes-trans _ _ _ one.bytes two.bytes one.gone.0 two.gone)
+    (names-behind one.bytes two.bytes choices n (prepend_known z.held c) naming one.names two.names))
 
-pub taken-named : (n : ℕ) (choices : List Choice) (name : NextName) (y z : Lines) (a b c : Option (List ℕ))
-    (is : Result (List Choice) ℕ) → HasTaken 1 choices n none_read y a b → HasEnded n (last_naming name n) y z b c
+pub taken-named : {n : ℕ} {choices : List Choice} (name : NextName) {y z : Lines} {a b c : Option (List ℕ)} (is : Result (List Choice) ℕ)
+    → HasTaken 1 choices n none_read y a b → HasEnded n (last_naming name n) y z b c
     → choices_or_line (choices ++ (last_naming name n).choices) (last_naming name n).no_line ≡ is → HasNamed a c is
-taken-named n choices name y z a b c is taken end same =
-    (behind_choices choices (last_naming name n), (taken-all n choices (last_naming name n) y z a b c taken end, sym same))
+taken-named {n} {choices} name is taken end same =
+    (behind_choices choices (last_naming name n), (taken-all taken end, sym same))
 
 -- a source that gives on and on
 pub gone-on : (bytes : List ℕ) (y z : Lines) (a b c : Option (List ℕ)) → HasGone bytes none_read y a b → HasGone [] y z b c
@@ -154,13 +154,13 @@ pub gone-lines : (bytes : List ℕ) (y : Lines) (a b : Option (List ℕ)) → Ha
     → GivesOnAndOn a b
 gone-lines bytes y a b gone most = grind (arith, unread, length-append)
 
-pub taken-on : (n : ℕ) (choices : List Choice) (y z : Lines) (a b c : Option (List ℕ))
+pub taken-on : {n : ℕ} {choices : List Choice} {y : Lines} (z : Lines) {a b : Option (List ℕ)} (c : Option (List ℕ))
     → HasTaken 1 choices n none_read y a b → HasGone [] y z b c → z.reads ≡ 1000000000 → GivesOnAndOn a c
-taken-on n choices y z a b c (one, (gone, many, names)) on most = gone-on one y z a b c gone on most
+taken-on {n} {choices} {y} z {a} {b} c one on most = gone-on one.bytes y z a b c one.gone on most
 
-pub taken-lines : (n : ℕ) (choices : List Choice) (y : Lines) (a b : Option (List ℕ))
+pub taken-lines : {n : ℕ} {choices : List Choice} {y : Lines} {a b : Option (List ℕ)}
     → HasTaken 1 choices n none_read y a b → 1000000001 ≤ n → GivesOnAndOn a b
-taken-lines n choices y a b (one, (gone, many, names)) most = gone-lines one y a b gone (omega (arith, many, most))
+taken-lines {n} {choices} {y} {a} {b} one most = gone-lines one.bytes y a b one.gone (omega (arith, one.many, most))
 
 pub or_else : {F G H : Type 0} → F ⊎ H → (H → G) → F ⊎ G
 or_else given turn = grind arith

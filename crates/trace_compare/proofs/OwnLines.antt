@@ -44,22 +44,7 @@ ends-line xs line one =
 -- more bytes behind others
 pub Goes-more : (a b c : Comparison) (bytes rest : List ℕ) (done count : ℕ) → rest ≡ drop done bytes → GoesOver a b bytes done
     → GoesOver b c rest count → GoesOver a c bytes (done + count)
-Goes-more a b c bytes rest done count is one two = record {
-  within = omega (arith, one.within, two.within, ap length is, length-drop done bytes);
-  left = λ more. one.left more ∙ ap (λ bs. bytes_left b (bs ++ more)) (sym is) ∙ two.left more
-      ∙ ap (λ bs. bytes_left c (bs ++ more)) (ap (drop count) is ∙ drop-drop count done bytes);
-  counted = omega (
-    arith,
-    ap line_ends (take-add done count bytes),
-    ends-append (take done bytes) (take count (drop done bytes)),
-    ap (λ r. line_ends (take count r)) is,
-    one.counted,
-    two.counted,
-  );
-  number = omega (arith, one.number, two.number);
-  text = two.text ∙ one.text;
-  at = two.at ∙ one.at;
-}
+Goes-more a b c bytes rest done count is one two = grind (arith, length-drop, drop-drop, take-add, ends-append)
 
 -- the bytes begin with the run's line of the choice
 pub met : (before after : Comparison) (choice : Choice) (text bytes : List ℕ) (count : ℕ) → IsReading before → IsReading after
@@ -164,9 +149,7 @@ missed before after choice text bytes more reading still none lost kept same few
 -- bytes that begin with a number begin with the whole line where they go on as it does
 pub begun_whole : (number rest bytes : List ℕ) → take (length number) bytes ≡ number
     → take (length (number ++ rest)) bytes ≡ number ++ take (length rest) (drop (length number) bytes)
-begun_whole number rest bytes begun =
-    ap (λ n. take n bytes) (length-append number rest) ∙ take-add (length number) (length rest) bytes
-    ∙ ap (λ xs. xs ++ take (length rest) (drop (length number) bytes)) begun
+begun_whole number rest bytes begun = grind (arith, length-append, take-add)
 
 -- a choice was played for the bytes, and its line was met or not
 pub own-by : (before played after : Comparison) (choice : Choice) (number bytes : List ℕ) (count : ℕ) → IsReading before

@@ -6,9 +6,8 @@ use Rattle.std.specs.{List.position_or_len, Str.bytes_eq}
 use Rattle.byte_ports.specs.SourceLines.{IsOneLine}
 use Rattle.line_reader.specs.Words.{is_line_end}
 use Rattle.machine_scene.specs.Scene.{thread_at}
-use Rattle.thread_machine.specs.{declared.choice.Choice.Choice, declared.fault.StepFault.StepFault, Execution.execution}
+use Rattle.thread_machine.specs.{declared.choice.Choice.Choice, declared.fault.StepFault.StepFault, Execution.execution, Step.is_used_up, World.World, World.world_of}
 use Rattle.thread_machine.specs.declared.fault.StepFault.TheVariants.{NoSuchThread, StepLimit}
-use Rattle.thread_machine.specs.{Step.is_used_up, World.World, World.world_of}
 use Rattle.trace_compare.specs.declared.comparison.{Comparison.Comparison, Verdict.Verdict}
 use Rattle.trace_compare.specs.Compare.{choice_verdict, choices_in, line_at, line_by, lines_verdict, otherwise, state_verdict}
 use Rattle.trace_compare.specs.Comparing.{HasEndedBehind, MeetsText, lines_left, line_kept, text_left, told_by, told_left}
@@ -34,12 +33,7 @@ some_text : (line rest : List ℕ) → 0 < length ((line ++ 10 ∷ []) ++ rest)
 some_text line rest = omega (arith, length-append (line ++ 10 ∷ []) rest, length-append line (10 ∷ []))
 
 pub at-first : (line rest : List ℕ) → IsOneLine line → line_at 0 ((line ++ 10 ∷ []) ++ rest) ≡ Some line
-at-first line rest one =
-    let text = (line ++ 10 ∷ []) ++ rest in
-    some_first text (some_text line rest)
-    ∙ ap (λ n. Some (take n text)) (first-one line rest one)
-    ∙ ap (λ t. Some (take (length line) t)) (append_assoc line (10 ∷ []) rest)
-    ∙ ap Some (take-append_seam line (10 ∷ rest))
+at-first line rest one = grind (arith, some_first, some_text, first-one, append_assoc, take-append_seam)
 
 pub at-next : (n : ℕ) (line rest : List ℕ) → IsOneLine line → line_at (suc n) ((line ++ 10 ∷ []) ++ rest) ≡ line_at n rest
 at-next n line rest one =

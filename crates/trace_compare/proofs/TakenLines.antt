@@ -25,10 +25,10 @@ consumes-held (Some x) count held =
     ap (λ l. l ++ x) (sym (take-append-drop count held)) ∙ append_assoc (take count held) (drop count held) x
 
 -- behind lines that are taken where they lie
-pub come-over : (first now next : Comparison) (x y : Lines) (turns count : ℕ) (a b : Option (List ℕ)) (bytes : List ℕ)
+pub come-over : {first now next : Comparison} {x : Lines} (y : Lines) {turns count : ℕ} {a b : Option (List ℕ)} {bytes : List ℕ}
     → HasComeTo first now x turns a b → bytes ≡ x.held → GoesOver now next bytes count → y.held ≡ drop count x.held → y.reads ≡ x.reads
     → HasComeTo first next y turns a b
-come-over first now next x y turns count a b bytes come there goes held reads =
+come-over {first} {now} {next} {x} y {turns} {count} {a} {b} come there goes held reads =
     let over : GoesOver now next x.held count = subst (λ l. GoesOver now next l count) there goes in
     let front = take count x.held in
     let rest = drop count x.held in
@@ -53,11 +53,11 @@ come-over first now next x y turns count a b bytes come there goes held reads =
     }
 
 -- behind a read
-pub read-behind : (first now : Comparison) (x y : Lines) (turns : ℕ) (a b c : Option (List ℕ)) (bytes : List ℕ)
+pub read-behind : {first now : Comparison} {x : Lines} (y : Lines) {turns : ℕ} {a b : Option (List ℕ)} (c : Option (List ℕ)) (bytes : List ℕ)
     → HasComeTo first now x turns a b → Consumes (prepend_known x.held b) (prepend_known y.held c) bytes
     → (c ≡ b) ⊎ EndsInAPiece (bytes ++ y.held) → IsReadUpTo now.number a c
-read-behind first now x y turns a b c bytes come gone (inl same) = subst (IsReadUpTo now.number a) (sym same) come.far
-read-behind first now x y turns a b c bytes come gone (inr (front, (piece, (is, one, few)))) = (
+read-behind {first} {now} {x} y {turns} {a} {b} c bytes come gone (inl same) = subst (IsReadUpTo now.number a) (sym same) come.far
+read-behind {first} {now} {x} y {turns} {a} {b} c bytes come gone (inr (front, (piece, (is, one, few)))) = (
   come.bytes ++ front,
   (
     piece,
@@ -82,13 +82,13 @@ left-behind first now x y turns a b bytes got more come is =
     grind (arith, append_assoc)
 
 -- a line more
-pub come-line : (first now next : Comparison) (x y : Lines) (turns : ℕ) (a b c : Option (List ℕ)) (ended : LineEnded) (line : List ℕ)
+pub come-line : {first now next : Comparison} {x y : Lines} {turns : ℕ} {a b c : Option (List ℕ)} (ended : LineEnded) (line : List ℕ)
     → HasComeTo first now x turns a b → IsOneLine line → HasJudged now next ended line None
     → Consumes (prepend_known x.held b) (prepend_known y.held c) (taken (Ok ended) line)
     → (ended ≢ how.AtEnd → Gave x y (length (taken (Ok ended) line)))
     → (got : List ℕ) × (taken (Ok ended) line ++ y.held ≡ x.held ++ got) → IsReadUpTo now.number a c
     → HasComeTo first next y (turns + 1) a c
-come-line first now next x y turns a b c how.Whole line come one (whole, number, judged) gone gave (got, is) far =
+come-line {first} {now} {next} {x} {y} {turns} {a} {b} {c} how.Whole line come one (whole, number, judged) gone gave (got, is) far =
     let bytes = line ++ 10 ∷ [] in
     let given : Gave x y (length bytes) = gave (λ e. cc) in
     record {
@@ -102,15 +102,15 @@ come-line first now next x y turns a b c how.Whole line come one (whole, number,
       some = omega (arith, come.some, length-append come.bytes bytes, length-append line (10 ∷ []));
       far = read-more now.number next.number a c (omega (arith, number)) far;
     }
-come-line first now next x y turns a b c ended line come one given gone gave behind far = grind arith
+come-line ended line come one given gone gave behind far = grind arith
 
 -- a verdict
-pub come-verdict : (first now next : Comparison) (x y : Lines) (turns : ℕ) (a b c : Option (List ℕ)) (ended : LineEnded) (line : List ℕ)
-    (v : Verdict) → HasComeTo first now x turns a b → HasJudged now next ended line (Some v)
+pub come-verdict : {first now : Comparison} (next : Comparison) {x : Lines} (y : Lines) {turns : ℕ} {a b : Option (List ℕ)}
+    (c : Option (List ℕ)) (ended : LineEnded) (line : List ℕ) (v : Verdict) → HasComeTo first now x turns a b → HasJudged now next ended line (Some v)
     → Consumes (prepend_known x.held b) (prepend_known y.held c) (taken (Ok ended) line)
     → (got : List ℕ) × (taken (Ok ended) line ++ y.held ≡ x.held ++ got) → HasCome ended line (prepend_known y.held c)
     → (ended ≡ how.AtEnd → y.held ≡ []) → (bytes : List ℕ) × (Consumes a c bytes × HasLeft first bytes c (told_by v next))
-come-verdict first now next x y turns a b c ended line v come judged gone (got, is) came all =
+come-verdict {first} {now} next {x} y {turns} {a} {b} c ended line v come judged gone (got, is) came all =
     let bytes = taken (Ok ended) line in (
       (come.bytes ++ bytes) ++ y.held,
       (

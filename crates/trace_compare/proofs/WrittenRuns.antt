@@ -1,5 +1,5 @@
 -- A schedule that is written as its choices come.
-use Rattle.std.proofs.Common.{◌≡◌, ◌∙◌, ◌+◌, ◌<◌, ◌≤◌, ℕ, Bool, List, [], ◌∷◌, ◌++◌, Some, None, refl, ap, sym, subst, append_assoc, append-nil, arith, Option, Result, Ok, OnOk, IfOk, is_none, replicate}
+use Rattle.std.proofs.Common.{◌≡◌, ◌∙◌, ◌+◌, ◌<◌, ◌≤◌, ℕ, Bool, List, [], ◌∷◌, ◌++◌, Some, None, refl, ap, sym, subst, append_assoc, append-nil, arith, Option, Result, Ok, Err, OnOk, IfOk, is_none, replicate}
 use Rattle.std.proofs.KnownBytes.{Appends-nil, Appends-trans, Consumes-trans, prepend_known-nil}
 use Rattle.std.proofs.lemmas.List.{replicate-append-replicate, Elements.All-append, Elements.All-cons, Elements.All-nil}
 use Rattle.std.specs.{List.slice_split, Io.KnownBytes.Appends, Io.KnownBytes.Consumes, Io.KnownBytes.prepend_known}
@@ -93,23 +93,24 @@ written-runs : (start new : Option (List ℕ)) (last : Option Run) (choices : Li
 written-runs start new None choices (none, same) = ([], ([], (none, subst (λ o. Appends start o []) (sym same) (Appends-nil start))))
 written-runs start new (Some run) choices (runs, (all, spelled-all, one, joined, text)) = grind (arith, choices-both)
 
-pub written-part : (n : ℕ) (choices : List Choice) (y z : Lines) (a b c start new : Option (List ℕ)) (last : Option Run)
+pub written-part : {n : ℕ} {choices : List Choice} {y : Lines} (z : Lines) {a b : Option (List ℕ)} (c start new : Option (List ℕ)) (last : Option Run)
     → HasTaken 1 choices n none_read y a b → Consumes (prepend_known y.held b) (prepend_known z.held c) [] → HasWritten start last new choices
     → HasWrittenPart a c start new
-written-part n choices y z a b c start new last (one, (gone, many, names)) on written =
-    let (runs, (rest, (is, text))) = written-runs start new last choices written in (
+written-part {n} {choices} {y} z {a} {b} c start new last taken on written =
+    let (runs, (rest, (is, text))) = written-runs start new last choices written in
+    let one = taken.bytes in
+    let more = (naming_from n (slice_split is_line_end ([] ++ z.held))).choices in (
       (one ++ []) ++ z.held,
       (
         runs,
         (
-          rest ++ (naming_from n (slice_split is_line_end ([] ++ z.held))).choices,
+          rest ++ more,
           (
             subst (λ o. Consumes o c ((one ++ []) ++ z.held)) (prepend_known-nil a)
-                (unread (prepend_known [] a) c (one ++ []) z.held (Consumes-trans _ _ _ one [] gone.0 on)),
+                (unread (prepend_known [] a) c (one ++ []) z.held (Consumes-trans _ _ _ one [] taken.gone.0 on)),
             ap (λ bytes. (naming_of bytes).choices) (append_assoc one [] z.held)
-                ∙ ap (λ (naming : Naming). naming.choices) (names ([] ++ z.held))
-                ∙ ap (λ cs. cs ++ (naming_from n (slice_split is_line_end ([] ++ z.held))).choices) is
-                ∙ append_assoc (choices_of runs) rest (naming_from n (slice_split is_line_end ([] ++ z.held))).choices,
+                ∙ ap (λ (naming : Naming). naming.choices) (taken.names ([] ++ z.held))
+                ∙ ap (λ cs. cs ++ more) is ∙ append_assoc (choices_of runs) rest more,
             text,
           ),
         ),
@@ -119,26 +120,26 @@ written-part n choices y z a b c start new last (one, (gone, many, names)) on wr
 pub on-ok : {T E P Q : Type 0} (r : Result T E) → (P → Q) → OnOk r P → OnOk r Q
 on-ok r then p = grind arith
 
--- where the line's end was written
-pub ended-ok : {T E F : Type 0} (u : T) (r : Result (Option ℕ) F) (w : Result T E) (stop : Option ℕ) (P : Option ℕ → Type 0) (Q : Type 0)
-    → OnOk r (w ≡ Ok u) → IfOk r (λ answer. answer ≡ stop) → OnOk w Q → (Q → P stop) → IfOk r P
-ended-ok u r w stop P Q ok is done then = grind arith
-
 -- what was read and written then
 abbrev pub HasEndedSo : Option (List ℕ) → Option (List ℕ) → Option (List ℕ) → Option (List ℕ) → Option ℕ → Type 0
 HasEndedSo a c start new stop =
     (choices : List Choice) × (HasRead a c (record { choices = choices; no_line = stop }) × HasWrittenUpTo (is_none stop) choices start new)
 
-pub ended-all : (n : ℕ) (choices all : List Choice) (name : NextName) (stop : Option ℕ) (y z : Lines) (a b c start new : Option (List ℕ))
+ended-all : {n : ℕ} {choices : List Choice} (all : List Choice) (name : NextName) (stop : Option ℕ) {y z : Lines} {a b c : Option (List ℕ)}
     → HasTaken 1 choices n none_read y a b → HasEnded n (last_naming name n) y z b c → choices ++ (last_naming name n).choices ≡ all
-    → (last_naming name n).no_line ≡ stop → HasWrittenUpTo (is_none stop) all start new → HasEndedSo a c start new stop
-ended-all n choices all name stop y z a b c start new taken end same is written = (
-  all,
-  (
+    → (last_naming name n).no_line ≡ stop → HasRead a c (record { choices = all; no_line = stop })
+ended-all {n} all name stop {y} {z} {a} {b} {c} taken end same is =
     subst (HasRead a c)
-        (ap (λ cs. record { choices = cs; no_line = (last_naming name n).no_line }) same
-        ∙ ap (λ line. record { choices = all; no_line = line }) is)
-        (taken-all n choices (last_naming name n) y z a b c taken end),
-    written,
-  ),
-)
+    (ap (λ cs. record { choices = cs; no_line = (last_naming name n).no_line }) same
+    ∙ ap (λ line. record { choices = all; no_line = line }) is) (taken-all taken end)
+
+-- where the line's end was written
+pub ended-so : {E F : Type 0} {n : ℕ} {choices : List Choice} (all : List Choice) (name : NextName) (stop : Option ℕ) {y z : Lines}
+    {a b c : Option (List ℕ)} (start new : Option (List ℕ)) (answer : Result (Option ℕ) F) (written : Result (Unit {0}) E)
+    → OnOk answer (written ≡ Ok tt) → IfOk answer (λ is. is ≡ stop) → OnOk written (HasWrittenUpTo (is_none stop) all start new)
+    → HasTaken 1 choices n none_read y a b → HasEnded n (last_naming name n) y z b c → choices ++ (last_naming name n).choices ≡ all
+    → (last_naming name n).no_line ≡ stop → IfOk answer (λ is. HasEndedSo a c start new is)
+ended-so {E} {F} {n} {choices} all name stop {y} {z} {a} {b} {c} start new (Err why) written ok is done taken end same none = tt
+ended-so {E} {F} {n} {choices} all name stop {y} {z} {a} {b} {c} start new (Ok answer) written ok is done taken end same none =
+    subst (HasEndedSo a c start new) (sym is)
+    (all, (ended-all all name stop taken end same none, rw ok at done))

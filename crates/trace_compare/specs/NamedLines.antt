@@ -41,14 +41,16 @@ HasGone bytes before after left_before left_after =
     Consumes (prepend_known before.held left_before) (prepend_known after.held left_after) bytes × Gave before after (length bytes)
 
 -- lines were taken that name these choices, a byte each at least, and the next line has this number
-abbrev pub HasTaken : ℕ → List Choice → ℕ → (before after : Lines) → (left_before left_after : Option (List ℕ)) → Type 0
-HasTaken n choices next before after left_before left_after =
-    (bytes : List ℕ)
-    × (HasGone bytes before after left_before left_after × (next ≤ length bytes + n) × NamesFrom n bytes choices next)
+pub record HasTaken (n : ℕ) (choices : List Choice) (next : ℕ) (before after : Lines)
+    (left_before left_after : Option (List ℕ)) : Type 0 where
+  pub bytes : List ℕ
+  pub gone : HasGone bytes before after left_before left_after
+  pub many : next ≤ length bytes + n
+  pub names : NamesFrom n bytes choices next
 
 -- lines were taken up to the one that ends the choices, and name this
-abbrev pub HasEnded : ℕ → Naming → (before after : Lines) → (left_before left_after : Option (List ℕ)) → Type 0
-HasEnded n naming before after left_before left_after =
-    (bytes : List ℕ)
-    × (Consumes (prepend_known before.held left_before) (prepend_known after.held left_after) bytes
-    × Names n bytes (prepend_known after.held left_after) naming)
+pub record HasEnded (n : ℕ) (naming : Naming) (before after : Lines)
+    (left_before left_after : Option (List ℕ)) : Type 0 where
+  pub bytes : List ℕ
+  pub gone : Consumes (prepend_known before.held left_before) (prepend_known after.held left_after) bytes
+  pub names : Names n bytes (prepend_known after.held left_after) naming

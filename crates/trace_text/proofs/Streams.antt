@@ -4,12 +4,9 @@ use Rattle.std.proofs.KnownBytes.{Appends-trans, Consumes-trans}
 use Rattle.std.specs.Io.KnownBytes.{Appends, Consumes, IsAtEnd}
 use Rattle.byte_ports.specs.Port.{FailsForGood}
 use Rattle.schedule_reader.specs.Schedule.{Schedule, finished_schedule, choices_of}
-use Rattle.thread_machine.specs.{Standing.standing_of, World.World, declared.choice.Choice.Choice, Execution.execution}
-use Rattle.thread_machine.specs.{declared.fault.StepFault.StepFault, Step.refusal_of}
-use Rattle.trace_text.specs.{declared.play.Refused.Refused, Lines.refusal_text, declared.run.RunFault.RunFault, Start.Begins}
-use Rattle.trace_text.specs.{Outcome.EndsFrom, Outcome.Stops, Outcome.StopsFrom, declared.play.PlayFault.PlayFault}
+use Rattle.thread_machine.specs.{Standing.standing_of, World.World, declared.choice.Choice.Choice, Execution.execution, declared.fault.StepFault.StepFault, Step.refusal_of}
+use Rattle.trace_text.specs.{declared.play.Refused.Refused, Lines.refusal_text, declared.run.RunFault.RunFault, Start.Begins, Outcome.EndsFrom, Outcome.Stops, Outcome.StopsFrom, declared.play.PlayFault.PlayFault, RunText.AreTraced, RunText.refusal_in, State.state_text, declared.run_end.RunEnd.RunEnd}
 use Rattle.trace_text.specs.Playing.{HasPlayedAll, PlaysTo, played_fault, row_of, told_as}
-use Rattle.trace_text.specs.{RunText.AreTraced, RunText.refusal_in, State.state_text, declared.run_end.RunEnd.RunEnd}
 use Rattle.trace_text.specs.Trace.{AppendsPartOf, lines_of, refused_of}
 use Rattle.trace_text.specs.declared.run.RunFault.TheVariants as fault
 use Rattle.trace_text.specs.declared.play.PlayFault.TheVariants as play
@@ -65,16 +62,7 @@ told_so first last choices (Some refused) world_is is =
 traced_by : (end : RunEnd) (first last : World) (choices : List Choice) (refused : Option Refused) (old between new : Option (List ℕ))
     → PlaysTo first last choices refused old between → TellsEnd last refused end → Appends between new (state_text last)
     → AreTraced first choices end old new
-traced_by end first last choices refused old between new plays tells appends =
-    let is = plays.world in (
-      (
-        tells.0 ∙ ap standing_of is,
-        tells.1 ∙ ap state_text is,
-        tells.2 ∙ told_so first last choices refused is plays.answer
-            ∙ ap (λ w. option_map (refusal_in w) (refused_of first choices)) is,
-      ),
-      Appends-trans old between new _ _ plays.lines (subst (λ w. Appends between new (state_text w)) is appends),
-    )
+traced_by end first last choices refused old between new plays tells appends = grind (arith, told_so, Appends-trans)
 
 pub are_traced : {E : Type 0} (result : Result RunEnd E) (first last : World) (choices : List Choice) (refused : Option Refused)
     (old between new : Option (List ℕ)) → PlaysTo first last choices refused old between

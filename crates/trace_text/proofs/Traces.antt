@@ -26,9 +26,7 @@ one_text_more now next start one rest more all is first before = grind (arith, a
 pub one_numbered_more : {A : Type 0} (text : ℕ → A → List ℕ) (xs : List A) (i : ℕ) (d : A) (now next start : List ℕ) → i < length xs
     → next ≡ now ++ text i (get_or xs i d) → now ++ numbered_texts text i (drop i xs) ≡ start ++ numbered_texts text 0 xs
     → next ++ numbered_texts text (i + 1) (drop (i + 1) xs) ≡ start ++ numbered_texts text 0 xs
-one_numbered_more text xs i d now next start there is before =
-    one_text_more now next start (text i (get_or xs i d)) (numbered_texts text i (drop i xs))
-    (numbered_texts text (i + 1) (drop (i + 1) xs)) (numbered_texts text 0 xs) is (numbered_texts-drop text xs i d there) before
+one_numbered_more text xs i d now next start there is before = grind (arith, one_text_more, numbered_texts-drop)
 
 -- all of them are written where none is left
 pub all_numbered : {A : Type 0} (text : ℕ → A → List ℕ) (xs : List A) (i : ℕ) (now start : List ℕ) → length xs ≤ i

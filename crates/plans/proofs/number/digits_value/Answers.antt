@@ -1,4 +1,5 @@
 use Rattle.std.proofs.Common.{arith}
+use Rattle.std.proofs.lemmas.Grind.{common_steps}
 use Rattle.line_reader.proofs.Digits.{digits_value-next}
 use Rattle.plans.proofs.Digits.{digits_value-next_few}
 use Rattle.plans.proofs.number.digits_value.Goals as goal
@@ -9,11 +10,7 @@ overflow_mul-value c =
     omega (arith, few, c.loop-digit.invariant)
 
 pub overflow_add-value : goal.overflow_add-value
-overflow_add-value c =
-    let few = digits_value-next_few c.args.digits.now c.loop-digit.digit-index 0 c.requires.digits c.requires.few c.loop-digit-test.true in
-    omega (arith, few, c.loop-digit.invariant)
+overflow_add-value c = grind (arith, common_steps, digits_value-next_few)
 
 pub loop-digit-preserved : goal.loop-digit-preserved
-loop-digit-preserved c =
-    let next = digits_value-next c.args.digits.now c.loop-digit.digit-index 0 c.requires.digits c.loop-digit-test.true in
-    omega (arith, next, c.loop-digit.invariant)
+loop-digit-preserved c = grind (arith, common_steps, digits_value-next)

@@ -1,17 +1,11 @@
-use Rattle.std.proofs.Common.{◌+◌, ◌++◌, ℕ, Bool, List, ap, subst, refl, arith}
-use Rattle.schedule_reader.specs.Places.{IsPlace, schedule_from}
+use Rattle.std.proofs.Common.{◌+◌, subst, refl, arith}
+use Rattle.std.proofs.lemmas.Grind.{common_steps}
+use Rattle.schedule_reader.specs.Places.{IsPlace}
 use Rattle.schedule_reader.proofs.{Streams.takes-plain, Streams.takes-end, Turns.takes-some, Turns.takes-some_fault}
 use Rattle.schedule_reader.proofs.reader.read_bytes.Goals as goal
 
 pub loop-done-init : goal.loop-done-init
-loop-done-init c = record {
-  within = omega arith;
-  place = subst (λ at. IsPlace at c.args.place) (omega arith) c.requires.place;
-  takes = takes-plain _ _ _ _ (λ (stream : Bool × List ℕ). ap (λ at. schedule_from stream.0 c.args.place at (c.args.piece.now ++ stream.1)) (omega arith));
-  spelled = λ all. all;
-  few = omega arith;
-  room = omega arith;
-}
+loop-done-init c = grind (arith, common_steps, takes-plain)
 
 pub loop-done-preserved : goal.loop-done-preserved
 loop-done-preserved c = record {

@@ -1,4 +1,5 @@
-use Rattle.std.proofs.Common.{◌≡◌, ◌-◌, [], replicate, arith}
+use Rattle.std.proofs.Common.{◌-◌, replicate, arith}
+use Rattle.std.proofs.lemmas.Grind.{common_steps}
 use Rattle.trace_text.proofs.Plays.{Continues-next, Continues-refused, Continues-end, replicate-first}
 use Rattle.trace_text.proofs.play.play_run.Goals as goal
 
@@ -16,6 +17,4 @@ loop-left-preserved g c =
     c.loop-left.invariant c.in-Ok-None.ensures.plays c.in-Ok-None.field-0-is
 
 pub returns-clause-plays : goal.returns-clause-plays
-returns-clause-plays g c =
-    let none : replicate c.loop-left.left c.args.run.now.choice ≡ [] = grind arith in
-    Continues-end _ _ _ _ _ _ none c.loop-left.invariant
+returns-clause-plays g c = grind (arith, common_steps, Continues-end)

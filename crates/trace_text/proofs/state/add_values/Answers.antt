@@ -1,4 +1,5 @@
-use Rattle.std.proofs.Common.{rules, arith, ap, ◌≡◌, ◌+◌, ◌≤◌, ◌++◌, drop, flat_map, get_or, length, pos}
+use Rattle.std.proofs.Common.{rules, arith, ◌≡◌, ◌+◌, ◌≤◌, ◌++◌, drop, flat_map, get_or, length, pos}
+use Rattle.std.proofs.lemmas.Grind.{common_steps}
 use Rattle.std.proofs.lemmas.List.{drop_all}
 use Rattle.std.specs.Fmt.{signed_decimal}
 use Rattle.trace_text.specs.State.{value_text}
@@ -22,12 +23,4 @@ loop-value-preserved c =
     }
 
 pub returns : goal.returns
-returns c =
-    let values = c.args.values.now in
-    let i = c.loop-value.value-index in
-    let none = ap (λ rest. length (flat_map value_text rest)) (drop_all i values c.loop-value-test.false) in
-    record {
-      text = all_written value_text values i c.loop-value.text.items c.args.text.now.items c.loop-value-test.false
-          c.loop-value.invariant.text;
-      few = omega (arith, none, c.loop-value.auto.value-index-end, c.loop-value.invariant.few);
-    }
+returns c = grind (arith, common_steps, drop_all, all_written)

@@ -1,18 +1,13 @@
-use Rattle.std.proofs.Common.{◌≡◌, ◌∙◌, ◌+◌, ◌<◌, ◌-◌, ap, arith, drop, length, length-drop, map, subst, sym}
+use Rattle.std.proofs.Common.{◌≡◌, ◌∙◌, ◌+◌, ◌<◌, ◌-◌, ap, arith, drop, length, length-drop, map, sym}
+use Rattle.std.proofs.lemmas.Grind.{common_steps}
 use Rattle.std.specs.List.{position_or_len, slice_split}
-use Rattle.row_code.specs.Answers.{FailsUnless}
 use Rattle.line_reader.specs.{Seen.name_seen, Words.is_line_end}
-use Rattle.plans.specs.{Drafts.draft_of, Plan.is_memory, Plan.lines_behind, Plan.words_behind, Words.words_of}
+use Rattle.plans.specs.{Drafts.draft_of, Plan.lines_behind, Plan.words_behind, Words.words_of}
 use Rattle.plans.proofs.Behind.{next_line, last_line, faulty_line, before_end}
 use Rattle.plans.proofs.draft.Reading.add_lines.Goals as goal
 
 pub returns-in-Err : goal.returns-in-Err
-returns-in-Err c =
-    let names = map name_seen c.args.names.now in
-    let memory = is_memory c.in-Err.fault.kind in
-    faulty_line names c.loop-fault.line c.loop-fault.rest.now (draft_of c.loop-fault.self) _ memory c.in-Err.fault c.loop-fault.invariant.lines
-    (subst (λ line. FailsUnless memory c.in-Err.fault (words_behind names c.loop-fault.line (draft_of c.loop-fault.self) (words_of line)))
-    (before_end c.loop-fault.rest.now _ _ c.before-in-loop-fault.ensures c.length_before-length.ensures.length) c.in-Err.ensures)
+returns-in-Err c = grind (arith, common_steps, faulty_line, before_end)
 
 pub returns-then-length-rest : goal.returns-then-length-rest
 returns-then-length-rest c =

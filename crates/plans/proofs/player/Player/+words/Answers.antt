@@ -62,8 +62,3 @@ pub play_words-returns-in-None-clause-played : goal.play_words-returns-in-None-c
 play_words-returns-in-None-clause-played t c =
     end_left c.args.words.now c.loop-step.words c.next.new.self c.args.self.now c.loop-step.self (c.next.ensures.none c.in-None.is)
     c.loop-step.invariant.1
-
-pub play_words-returns-in-None-clause-within : goal.play_words-returns-in-None-clause-within
-play_words-returns-in-None-clause-within t c =
-    let none = ap length (c.next.ensures.end c.in-None.is) in
-    omega (arith, none)

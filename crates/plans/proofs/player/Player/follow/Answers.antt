@@ -1,12 +1,6 @@
-use Rattle.std.proofs.Common.{◌≡◌, ◌∙◌, ◌-◌, ◌<◌, ◌≤◌, sym, ap, rules, arith}
-use Rattle.plans.specs.Play.{followed}
+use Rattle.std.proofs.Common.{◌∙◌, ◌-◌, ◌<◌, ◌≤◌, sym, rules, arith}
 use Rattle.plans.proofs.Repeats.{next_followed, none_followed, over_followed, all_followed}
 use Rattle.plans.proofs.player.Player.follow.Goals as goal
-
-pub loop-k-init : goal.loop-k-init
-loop-k-init c =
-    let all : c.args.most - 0 ≡ c.args.most = omega arith in
-    ap (λ n. followed c.args.rule n 0 c.args.self.now) all
 
 pub loop-k-preserved : goal.loop-k-preserved
 loop-k-preserved c =

@@ -1,12 +1,7 @@
-use Rattle.std.proofs.Common.{◌≡◌, ◌∙◌, ◌-◌, ◌<◌, ◌≤◌, sym, ap, rules, arith}
-use Rattle.plans.specs.{Play.repeated, Progress.chosen}
+use Rattle.std.proofs.Common.{◌∙◌, ◌-◌, ◌<◌, ◌≤◌, sym, rules, arith}
+use Rattle.plans.specs.{Progress.chosen}
 use Rattle.plans.proofs.Repeats.{next_repeated, over_repeated, all_repeated}
 use Rattle.plans.proofs.player.Player.repeat.Goals as goal
-
-pub loop-done-init : goal.loop-done-init
-loop-done-init c =
-    let all : c.args.times - 0 ≡ c.args.times = omega arith in
-    ap (λ n. repeated n (chosen c.args.choice) c.args.self.now) all
 
 pub loop-done-preserved : goal.loop-done-preserved
 loop-done-preserved c =

@@ -1,4 +1,5 @@
-use Rattle.std.proofs.Common.{◌≡◌, ◌∙◌, ◌+◌, ◌-◌, ◌≤◌, ◌++◌, List, ℕ, length, drop, set, ap, sym, arith, to_z-of_z, unsigned_abs, length-drop, length-set}
+use Rattle.std.proofs.Common.{◌≡◌, ◌∙◌, ◌+◌, ◌-◌, ◌≤◌, ◌++◌, List, ℕ, length, drop, set, ap, arith, to_z-of_z, unsigned_abs, length-drop, length-set}
+use Rattle.std.proofs.lemmas.Grind.{common_steps}
 use Rattle.std.proofs.lemmas.Fmt.{length-decimal-le}
 use Rattle.std.specs.Fmt.{decimal}
 use Rattle.trace_text.proofs.LineEnds.{room_for_value, longer_by_count, sign_before}
@@ -37,19 +38,7 @@ returns-clause-text c =
     (c.from.ensures ∙ c.unsigned_abs.ensures.value ∙ ap unsigned_abs back) (rw back at c.if-value-ge0.false)
 
 pub returns-clause-length : goal.returns-clause-length
-returns-clause-length c =
-    let w = c.write_digits-self-inside in
-    let room = room_for_value c.self.inside.bytes c.args.self.now c.self.inside.start c.from.result c.self.told c.self.invariant
-    c.self.view_is c.requires (omega (arith, c.from.ensures, c.unsigned_abs.ensures.bound)) in
-    one_more w.new.buf w.result c.self.inside.start (length (decimal c.from.result)) (length c.args.self.now)
-    (w.auto.buf ∙ c.self.told) w.ensures.start (short c.from.result c.unsigned_abs.result c.from.ensures c.unsigned_abs.ensures.bound)
-    (omega (arith, room, w.ensures.start)) c.self.invariant
-    (ap length (sym c.self.view_is) ∙ length-drop c.self.inside.start c.self.inside.bytes ∙ ap (λ n. n - c.self.inside.start) c.self.told)
+returns-clause-length c = grind (arith, common_steps, room_for_value, one_more, short, length-drop)
 
 pub returns-then-value-ge0-clause-length : goal.returns-then-value-ge0-clause-length
-returns-then-value-ge0-clause-length c =
-    let w = c.write_digits-self-inside in
-    let more = longer_by_count c.args.self.now _ c.from.result 10
-    (w.ensures.written ∙ ap (λ line. decimal c.from.result ++ line) c.self.view_is)
-    (short c.from.result c.unsigned_abs.result c.from.ensures c.unsigned_abs.ensures.bound) in
-    omega (arith, more)
+returns-then-value-ge0-clause-length c = grind (arith, common_steps, longer_by_count, short)
