@@ -17,28 +17,54 @@ mod sessions;
 mod texts;
 mod threads;
 
-// The calls that are tried, and the sweep that they all have.
-mod calls;
+// The sweep that they all have.
 mod sweep;
 
-use calls::Call;
+use programs::{MEETING, SCHEDULE};
 use runs::ROUND;
-use sessions::Asked;
 use std::alloc::AllocError;
 use std::io;
 use sweep::Trials;
+
+/// Tries texts, images and trees.
+fn tell_programs(trials: &mut Trials) {
+    trials.tell("assemble", texts::assembling);
+    trials.tell("disassemble", texts::listing);
+    trials.tell("read_image", texts::reading);
+    trials.tell("load", texts::loading);
+    trials.tell("Loaded::copy", texts::copying);
+    trials.tell("Forest::new", machines::new_forest);
+    trials.tell("Forest::declare", machines::declaring);
+    trials.tell("Forest::copy", machines::copying_forest);
+}
+
+/// Tries machines, schedules, lines and runs.
+fn tell_machines(trials: &mut Trials) {
+    trials.tell("Machine::new", machines::beginning);
+    trials.tell("Machine::copy", machines::copying);
+    trials.tell("step at out", machines::stepping);
+    trials.tell("step_noting at out", machines::noting);
+    trials.tell("feed", schedules::feeding);
+    trials.tell("finish", schedules::finishing);
+    trials.tell("write_schedule", schedules::writing);
+    trials.tell("event_line", runs::event);
+    trials.tell("refusal_line", runs::refusal);
+    trials.tell("state_text", runs::state);
+    trials.tell("run_text", |trial| runs::playing(trial, MEETING, SCHEDULE));
+    trials.tell("compare", |trial| runs::comparing(trial, MEETING, SCHEDULE));
+}
 
 /// Writes whether a run, and a comparison, makes as many requests for memory with `long`, of 100,000 turns, as with `short`.
 fn tell_counts(trials: &mut Trials, short: &[u8], long: &[u8]) {
     trials.tell_counts(
         "run_text of 10,000 and of 100,000 tokens",
-        Call::RunText(ROUND, short),
-        Call::RunText(ROUND, long),
+        |trial| runs::playing(trial, ROUND, short),
+        |trial| runs::playing(trial, ROUND, long),
     );
     trials.tell_counts(
         "compare with 10,000 and with 100,000 lines",
-        Call::Compare(ROUND, short),
-        Call::Compare(ROUND, long),
+        |trial| runs::comparing(trial, ROUND, short),
+        |trial| runs::comparing(trial, ROUND, long),
     );
 }
 
@@ -50,12 +76,22 @@ fn tell_long_runs(trials: &mut Trials) -> Result<(), AllocError> {
     Ok(())
 }
 
-/// Tries the debugger and each of its commands, and writes the results.
+/// Tries the debugger and each of its commands.
 fn tell_debugger(trials: &mut Trials) {
-    trials.tell_all(calls::DEBUGGER);
+    trials.tell("Debugger::new", sessions::opening);
+    trials.tell("Debugger::step at out", sessions::stepping);
+    trials.tell("go", sessions::going);
     for command in &sessions::COMMANDS {
-        trials.tell(command.0, Call::Ask(Asked::Command(command)));
+        trials.tell(command.0, |trial| sessions::commanding(trial, command));
     }
+}
+
+/// Tries the records of real threads, and the phaser between them.
+fn tell_threads(trials: &mut Trials) {
+    trials.tell("Journaled::new", threads::recording);
+    trials.tell("take_step at out", threads::taking_step);
+    trials.tell("take_expiry", threads::taking_expiry);
+    trials.tell("SharedPhaser::new", threads::sharing);
 }
 
 /// Tries all calls and writes the results, a line each. Fails if a line can't be written.
@@ -66,11 +102,11 @@ fn main(rt: HostRuntime) -> io::Result<()> {
         alloc,
         written: Ok(()),
     };
-    trials.tell_all(calls::PROGRAMS);
-    trials.tell_all(calls::MACHINES);
+    tell_programs(&mut trials);
+    tell_machines(&mut trials);
     tell_long_runs(&mut trials)?;
     tell_debugger(&mut trials);
-    trials.tell_all(calls::THREADS);
+    tell_threads(&mut trials);
     trials.written?;
     let live = threads::swept(&rt, alloc);
     println!(&rt; "run_live: {live}")

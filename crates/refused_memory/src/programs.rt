@@ -14,6 +14,9 @@ use trace_text::state::state_text;
 pub const MEETING: &[u8] =
     b".phaser p 2\n.thread a main\n.thread b main\nmain: paaa r0 p\nout r0\nhalt\n";
 
+/// A schedule of it, until both have ended.
+pub const SCHEDULE: &[u8] = b"t0 t1 t0*3 t1*2";
+
 /// A turn of its first thread.
 pub const FIRST: Run = Run {
     choice: Choice {
@@ -37,18 +40,12 @@ pub const TURNS: [Run; 7] = [FIRST, SECOND, FIRST, FIRST, FIRST, SECOND, SECOND]
 
 /// Returns the image of a text. Any fault counts as out of memory, since the text has none.
 pub fn image_of(alloc: Global, text: &[u8]) -> Result<Image, AllocError> {
-    match assemble(alloc, text) {
-        Ok(image) => Ok(image),
-        Err(_) => Err(AllocError),
-    }
+    assemble(alloc, text).map_err(|_| AllocError)
 }
 
 /// Returns the program of a text. Any fault counts as out of memory, since the text has none.
 pub fn program_of(alloc: Global, text: &[u8]) -> Result<Loaded, AllocError> {
-    match load(alloc, image_of(alloc, text)?) {
-        Ok(program) => Ok(program),
-        Err(_) => Err(AllocError),
-    }
+    load(alloc, image_of(alloc, text)?).map_err(|_| AllocError)
 }
 
 /// Returns the trace of the program `text` under `schedule`, of at most 2,000,000 bytes. Any fault counts as out of memory.
@@ -61,61 +58,37 @@ pub fn trace_of(alloc: Global, text: &[u8], schedule: &[u8]) -> Result<MemorySin
     }
 }
 
-/// Returns whether a machine plays these choices, and refuses none of them.
-fn plays(machine: &mut Machine, turns: &[Run]) -> bool {
+/// Plays these choices. One that is refused counts as out of memory.
+fn play(machine: &mut Machine, turns: &[Run]) -> Result<(), AllocError> {
     for turn in turns {
         if machine.step(turn.choice).is_err() {
-            return false;
+            return Err(AllocError);
         }
     }
-    true
+    Ok(())
 }
 
-/// Returns the machine of the meeting before its first choice. Its limit of 1000 steps is never reached.
-fn meeting(alloc: Global) -> Result<Machine, AllocError> {
-    match program_of(alloc, MEETING) {
-        Ok(program) => Machine::new(alloc, program, 1000),
-        Err(_) => Err(AllocError),
-    }
-}
-
-/// Returns the machine of the meeting after its first `count` choices (at most 7). A refused choice counts as out of memory.
+/// Returns the machine of the meeting after its first `count` choices (at most 7). Its limit of 1000 steps is never reached.
 pub fn meeting_after(alloc: Global, count: usize) -> Result<Machine, AllocError> {
-    let (turns, _) = TURNS.split_at(count.min(7));
-    let mut machine = meeting(alloc)?;
-    if plays(&mut machine, turns) {
-        Ok(machine)
-    } else {
-        Err(AllocError)
-    }
+    let mut machine = Machine::new(alloc, program_of(alloc, MEETING)?, 1000)?;
+    play(&mut machine, &TURNS[..count.min(7)])?;
+    Ok(machine)
 }
 
-/// Returns whether a machine shows this state. If there is no memory for the state, it does not.
-pub fn shows(alloc: Global, machine: &Machine, state: &[u8]) -> bool {
-    match state_text(alloc, machine) {
-        Ok(text) => text.as_slice() == state,
-        Err(_) => false,
-    }
-}
-
-/// Returns whether two machines show the same state. If there is no memory for the states, they don't.
-fn are_alike(alloc: Global, machine: &Machine, other: &Machine) -> bool {
-    match state_text(alloc, other) {
-        Ok(text) => shows(alloc, machine, text.as_slice()),
-        Err(_) => false,
-    }
+/// Returns whether a machine shows this state.
+pub fn shows(alloc: Global, machine: &Machine, state: &[u8]) -> Result<bool, AllocError> {
+    Ok(state_text(alloc, machine)?.as_slice() == state)
 }
 
 /// Returns whether `machine` shows the state of the meeting after its first `count` choices.
-pub fn is_at(alloc: Global, machine: &Machine, count: usize) -> bool {
-    match meeting_after(alloc, count) {
-        Ok(wanted) => are_alike(alloc, machine, &wanted),
-        Err(_) => false,
-    }
+pub fn is_at(alloc: Global, machine: &Machine, count: usize) -> Result<bool, AllocError> {
+    let wanted = state_text(alloc, &meeting_after(alloc, count)?)?;
+    shows(alloc, machine, wanted.as_slice())
 }
 
 /// Returns whether `machine` shows the state of the meeting after its first `count` choices, and then plays the rest of the 7.
-pub fn goes_on(alloc: Global, machine: &mut Machine, count: usize) -> bool {
-    let (_, rest) = TURNS.split_at(count.min(7));
-    is_at(alloc, machine, count) && plays(machine, rest) && is_at(alloc, machine, 7)
+pub fn goes_on(alloc: Global, machine: &mut Machine, count: usize) -> Result<bool, AllocError> {
+    let stood = is_at(alloc, machine, count)?;
+    play(machine, &TURNS[count.min(7)..])?;
+    Ok(stood && is_at(alloc, machine, 7)?)
 }

@@ -2,10 +2,10 @@
 //! A try of a call, from `begin` to `end`, is `Right`, out of `Memory`, or `Wrong`.
 
 use crate::programs::{FIRST, image_of, meeting_after, shows, trace_of};
-use crate::trial::{Answer, Trial};
+use crate::trial::{Answer, Trial, Tried};
 use byte_ports::{MemorySink, MemorySource};
 use std::alloc::{AllocError, Global};
-use thread_machine::{Event, Machine, Mark, What};
+use thread_machine::{Event, Mark, What};
 use trace_compare::{CompareFault, RunFault, Verdict, compare, run_text};
 use trace_text::line::{event_line, refusal_line};
 use trace_text::state::state_text;
@@ -31,23 +31,19 @@ fn line_answer(answered: Result<(), AllocError>, text: &[u8], wanted: &[u8]) -> 
 }
 
 /// Tries `event_line`, which appends the line of choice 7 at row 5 to a full text. If memory is refused, the text is as before.
-pub fn event(trial: Trial) -> Answer {
-    let Ok(mut text) = full_text(trial.alloc) else {
-        return Answer::Wrong;
-    };
+pub fn event(trial: Trial) -> Tried {
+    let mut text = full_text(trial.alloc)?;
     trial.begin();
     let answered = trial.end(event_line(&mut text, 7, FIRST.choice, 5, &EVENT));
-    line_answer(answered, text.as_slice(), b"abc7 t0 5 = -5 +p0 1\n")
+    Ok(line_answer(answered, text.as_slice(), b"abc7 t0 5 = -5 +p0 1\n"))
 }
 
 /// Tries `refusal_line`, which appends the line of choice 8 to a full text. If memory is refused, the text is as before.
-pub fn refusal(trial: Trial) -> Answer {
-    let Ok(mut text) = full_text(trial.alloc) else {
-        return Answer::Wrong;
-    };
+pub fn refusal(trial: Trial) -> Tried {
+    let mut text = full_text(trial.alloc)?;
     trial.begin();
     let answered = trial.end(refusal_line(&mut text, 8, FIRST.choice, None));
-    line_answer(answered, text.as_slice(), b"abc8 t0 - none\n")
+    Ok(line_answer(answered, text.as_slice(), b"abc8 t0 - none\n"))
 }
 
 /// The state of the meeting before the first choice.
@@ -55,20 +51,13 @@ const AT_FIRST: &[u8] = b"state 0 0 live\nt0 0 runs 0 regs 0 0 0 0 0 0 0 0 stack
 t1 0 runs 0 regs 0 0 0 0 0 0 0 0 stack out\np0 0 2 0 2\n";
 
 /// Tries `state_text` of the meeting before its first choice. Afterwards the machine still shows this state.
-pub fn state(trial: Trial) -> Answer {
-    match meeting_after(trial.alloc, 0) {
-        Ok(machine) => stated(trial, &machine),
-        Err(_) => Answer::Wrong,
-    }
-}
-
-/// Tries `state_text` of `machine`, which has played no choice of the meeting. Afterwards it still shows that state.
-fn stated(trial: Trial, machine: &Machine) -> Answer {
-    let answer = match trial.end(state_text(trial.begin(), machine)) {
+pub fn state(trial: Trial) -> Tried {
+    let machine = meeting_after(trial.alloc, 0)?;
+    let answer = match trial.end(state_text(trial.begin(), &machine)) {
         Ok(text) => Answer::Right.provided(text.as_slice() == AT_FIRST),
         Err(_) => Answer::Memory,
     };
-    answer.provided(shows(trial.alloc, machine, AT_FIRST))
+    Ok(answer.provided(shows(trial.alloc, &machine, AT_FIRST)?))
 }
 
 /// A thread that goes round for ever.
@@ -94,46 +83,33 @@ fn is_beginning(bytes: &[u8], trace: &[u8]) -> bool {
 }
 
 /// Tries `run_text` of the program `text` with `schedule`: before `Memory` it writes a beginning of the choices' lines.
-pub fn playing(trial: Trial, text: &[u8], schedule: &[u8]) -> Answer {
-    match trace_of(trial.alloc, text, schedule) {
-        Ok(wanted) => played(trial, text, schedule, wanted.bytes()),
-        Err(_) => Answer::Wrong,
-    }
-}
-
-/// Tries `run_text`, which writes the trace `wanted` if nothing is refused. Otherwise it writes a beginning, without the state.
-fn played(trial: Trial, text: &[u8], schedule: &[u8], wanted: &[u8]) -> Answer {
-    let Ok(mut trace) = MemorySink::new(trial.alloc, 2_000_000, None) else {
-        return Answer::Wrong;
-    };
-    let Ok(image) = image_of(trial.alloc, text) else {
-        return Answer::Wrong;
-    };
+pub fn playing(trial: Trial, text: &[u8], schedule: &[u8]) -> Tried {
+    let wanted = trace_of(trial.alloc, text, schedule)?;
+    let mut trace = MemorySink::new(trial.alloc, 2_000_000, None)?;
+    let image = image_of(trial.alloc, text)?;
     let mut source = MemorySource::new(schedule, None);
-    match trial.end(run_text(trial.begin(), image, &mut source, &mut trace)) {
-        Ok(()) => Answer::Right.provided(trace.bytes() == wanted),
-        Err(RunFault::Memory) => Answer::Memory.provided(is_beginning(trace.bytes(), wanted)),
-        Err(_) => Answer::Wrong,
-    }
+    Ok(
+        match trial.end(run_text(trial.begin(), image, &mut source, &mut trace)) {
+            Ok(()) => Answer::Right.provided(trace.bytes() == wanted.bytes()),
+            Err(RunFault::Memory) => Answer::Memory.provided(is_beginning(
+                trace.bytes(),
+                wanted.bytes(),
+            )),
+            Err(_) => Answer::Wrong,
+        },
+    )
 }
 
-/// Tries `compare` of the program `text` with the trace that it has under `schedule`.
-pub fn comparing(trial: Trial, text: &[u8], schedule: &[u8]) -> Answer {
-    match trace_of(trial.alloc, text, schedule) {
-        Ok(trace) => compared(trial, text, trace.bytes()),
-        Err(_) => Answer::Wrong,
-    }
-}
-
-/// Tries `compare` of this trace with its run: the verdict is `Same`, unless memory is refused.
-fn compared(trial: Trial, text: &[u8], trace: &[u8]) -> Answer {
-    let Ok(image) = image_of(trial.alloc, text) else {
-        return Answer::Wrong;
-    };
-    let mut source = MemorySource::new(trace, None);
-    match trial.end(compare(trial.begin(), image, &mut source)) {
-        Ok(verdict) => Answer::Right.provided(verdict == Verdict::Same),
-        Err(CompareFault::Memory) => Answer::Memory,
-        Err(_) => Answer::Wrong,
-    }
+/// Tries `compare` of the program `text` with the trace that it has under `schedule`: the verdict is `Same`.
+pub fn comparing(trial: Trial, text: &[u8], schedule: &[u8]) -> Tried {
+    let trace = trace_of(trial.alloc, text, schedule)?;
+    let image = image_of(trial.alloc, text)?;
+    let mut source = MemorySource::new(trace.bytes(), None);
+    Ok(
+        match trial.end(compare(trial.begin(), image, &mut source)) {
+            Ok(verdict) => Answer::Right.provided(verdict == Verdict::Same),
+            Err(CompareFault::Memory) => Answer::Memory,
+            Err(_) => Answer::Wrong,
+        },
+    )
 }

@@ -1,6 +1,6 @@
 //! Schedules that are read and written. A try of a call, from `begin` to `end`, is `Right`, out of `Memory`, or `Wrong`.
 
-use crate::trial::{Answer, Trial};
+use crate::trial::{Answer, Trial, Tried};
 use schedule_reader::{Reader, Run, ScheduleFault, write_schedule};
 use thread_machine::Choice;
 
@@ -17,46 +17,47 @@ fn is_beginning(runs: &[Run]) -> bool {
 }
 
 /// Tries `Reader::feed`, and again with memory: after `Memory` it has the runs of some first tokens, and stays at `Memory`.
-pub fn feeding(trial: Trial) -> Answer {
+pub fn feeding(trial: Trial) -> Tried {
     let mut runs = Vec::new(trial.alloc);
     let mut reader = Reader::new();
     trial.begin();
     let answered = trial.end(reader.feed(TOKENS, &mut runs));
     let (count, is_first) = (runs.len(), is_beginning(runs.as_slice()));
     let again = reader.feed(TOKENS, &mut runs);
-    match (answered, again) {
+    Ok(match (answered, again) {
         (Ok(()), Ok(())) => Answer::Right.provided(is_first && count == 9 && runs.len() == 18),
         (Err(ScheduleFault::Memory), Err(ScheduleFault::Memory)) => {
             Answer::Memory.provided(is_first && count < 9 && runs.len() == count)
         }
         _ => Answer::Wrong,
-    }
+    })
 }
 
 /// Tries `Reader::finish`, which appends the last token, since no space follows it. After `Memory` the list is still empty.
-pub fn finishing(trial: Trial) -> Answer {
+pub fn finishing(trial: Trial) -> Tried {
     let mut runs = Vec::new(trial.alloc);
     let mut reader = Reader::new();
     let fed = reader.feed(b"t7*5", &mut runs);
     trial.begin();
     let answered = trial.end(reader.finish(&mut runs));
-    match (fed, answered) {
+    Ok(match (fed, answered) {
         (Ok(()), Ok(())) => Answer::Right.provided(runs.len() == 1),
         (Ok(()), Err(ScheduleFault::Memory)) => Answer::Memory.provided(runs.is_empty()),
         _ => Answer::Wrong,
-    }
+    })
 }
 
 /// Tries `write_schedule`, which returns a token for each of two runs.
-pub fn writing(trial: Trial) -> Answer {
+pub fn writing(trial: Trial) -> Tried {
     let choice = Choice {
         thread: 63,
         expiry: true,
     };
     let runs = [Run { choice, times: 1 }, Run { choice, times: 70 }];
-    let answered = trial.end(write_schedule(trial.begin(), runs.as_slice()));
-    match answered {
-        Ok(text) => Answer::Right.provided(text.as_bytes() == b"x63 x63*70".as_slice()),
-        Err(_) => Answer::Memory,
-    }
+    Ok(
+        match trial.end(write_schedule(trial.begin(), runs.as_slice())) {
+            Ok(text) => Answer::Right.provided(text.as_bytes() == b"x63 x63*70".as_slice()),
+            Err(_) => Answer::Memory,
+        },
+    )
 }

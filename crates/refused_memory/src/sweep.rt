@@ -1,8 +1,7 @@
 //! The sweep that all calls have: each request for memory of a call is refused in turn, and the results are written.
 
-use crate::calls::{Call, Calls};
 use crate::marks;
-use crate::trial::{Answer, Trial};
+use crate::trial::{Answer, Trial, Tried};
 use std::alloc::Global;
 use std::io;
 
@@ -21,11 +20,13 @@ const MOST: u16 = 60_000;
 
 /// Tries a call with its first request for memory refused, then its second, and so on, until it makes no more: with `all` each
 /// with all later ones. A wrong answer ends this, and so do blocks of memory that are still in use.
-fn swept(alloc: Global, all: bool, call: Call) -> Outcome {
+fn swept<F: Fn(Trial) -> Tried>(alloc: Global, all: bool, call: &F) -> Outcome
+    requires { F.IsAlwaysCallable call.now }
+{
     let mut memory = 0u16;
     for request in 1..=MOST {
         marks::count(alloc);
-        let answer = call.tried(Trial {
+        let answer = call(Trial {
             alloc,
             request,
             all,
@@ -34,13 +35,13 @@ fn swept(alloc: Global, all: bool, call: Call) -> Outcome {
             return Outcome::Wrong(request);
         }
         match (answer, marks::end(alloc)) {
-            (Answer::Right, false) => {
+            (Ok(Answer::Right), false) => {
                 let requests = request - 1;
                 return Outcome::Refused { requests, memory };
             }
             // the kit's lists ask again for as much where they are refused
-            (Answer::Right, true) => {}
-            (Answer::Memory, true) => memory = memory.saturating_add(1),
+            (Ok(Answer::Right), true) => {}
+            (Ok(Answer::Memory), true) => memory = memory.saturating_add(1),
             _ => return Outcome::Wrong(request),
         }
     }
@@ -72,20 +73,17 @@ pub struct Trials<'a> {
 
 impl<'a> Trials<'a> {
     /// Tries the call named `name` twice, and writes a line for each: with each request refused alone, and with all later ones.
-    pub fn tell(&mut self, name: &str, call: Call) {
-        self.try_once(name, false, call);
-        self.try_once(name, true, call);
-    }
-
-    /// Tries these calls, one after the other, and writes two lines for each.
-    pub fn tell_all(&mut self, calls: Calls) {
-        for (name, call) in calls {
-            self.tell(name, *call);
-        }
+    pub fn tell<F: Fn(Trial) -> Tried>(&mut self, name: &str, call: F)
+        requires { F.IsAlwaysCallable call }
+    {
+        self.try_once(name, false, &call);
+        self.try_once(name, true, &call);
     }
 
     /// Tries a call with each request refused, with `all` also all later ones, and writes a line, unless writing has failed.
-    fn try_once(&mut self, name: &str, all: bool, call: Call) {
+    fn try_once<F: Fn(Trial) -> Tried>(&mut self, name: &str, all: bool, call: &F)
+        requires { F.IsAlwaysCallable call.now }
+    {
         if self.written.is_ok() {
             let outcome = swept(self.alloc, all, call);
             let which = if all {
@@ -114,10 +112,18 @@ impl<'a> Trials<'a> {
 
     /// Tries both calls with each request for memory refused alone, and writes whether they make as many requests (or `WRONG`).
     /// `long` has ten times the tokens or lines of `short`: the number of requests should not depend on that.
-    pub fn tell_counts(&mut self, name: &str, short: Call, long: Call) {
+    pub fn tell_counts<F: Fn(Trial) -> Tried, G: Fn(Trial) -> Tried>(
+        &mut self,
+        name: &str,
+        short: F,
+        long: G,
+    )
+        requires short { F.IsAlwaysCallable short }
+        requires long { G.IsAlwaysCallable long }
+    {
         if self.written.is_ok() {
-            let short = swept(self.alloc, false, short);
-            let came = compared(short, swept(self.alloc, false, long));
+            let short = swept(self.alloc, false, &short);
+            let came = compared(short, swept(self.alloc, false, &long));
             self.written = println!(self.rt; "{name}: {came}");
         }
     }

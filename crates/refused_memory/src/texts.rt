@@ -1,11 +1,11 @@
 //! Texts, images and programs. A try of a call, from `begin` to `end`, is `Right`, out of `Memory`, or `Wrong`.
 
 use crate::programs::{image_of, program_of, shows};
-use crate::trial::{Answer, Trial};
+use crate::trial::{Answer, Trial, Tried};
 use assembler::{AsmFaultKind, assemble, disassemble};
 use loader::{LoadFault, Loaded, load};
 use row_code::{Image, ImageFault, read_image};
-use std::alloc::Global;
+use std::alloc::{AllocError, Global};
 use thread_machine::Machine;
 
 /// Each kind of declaration with a name, and names that are used before and after their declaration: eight lines.
@@ -26,84 +26,62 @@ const IMAGE: &[u8] = b"PBW1\x00\x00\x00\x00\x02\x00\x02\x00\
 \x01\x00\x00\x00\x00\x00\x00\x00\x0e\x00\x00\x00\x00\x00\x00\x00\x00\x00\x00\x00\x00\x00\x00\x00";
 
 /// Returns whether this is the canonical text of an image.
-fn lists(alloc: Global, image: &Image, listing: &[u8]) -> bool {
-    match disassemble(alloc, image) {
-        Ok(text) => text.as_slice() == listing,
-        Err(_) => false,
-    }
+fn lists(alloc: Global, image: &Image, listing: &[u8]) -> Result<bool, AllocError> {
+    Ok(disassemble(alloc, image)?.as_slice() == listing)
 }
 
 /// Returns whether the machine of `program` shows the state that `TEXT` has before its first choice.
-fn begins(alloc: Global, program: Loaded) -> bool {
-    match Machine::new(alloc, program, 1000) {
-        Ok(machine) => shows(alloc, &machine, AT_FIRST),
-        Err(_) => false,
-    }
+fn begins(alloc: Global, program: Loaded) -> Result<bool, AllocError> {
+    shows(alloc, &Machine::new(alloc, program, 1000)?, AT_FIRST)
 }
 
 /// Tries `assemble` of `TEXT`: if memory is refused, the fault names one of its eight lines.
-pub fn assembling(trial: Trial) -> Answer {
-    match trial.end(assemble(trial.begin(), TEXT)) {
-        Ok(image) => Answer::Right.provided(lists(trial.alloc, &image, LISTING)),
+pub fn assembling(trial: Trial) -> Tried {
+    Ok(match trial.end(assemble(trial.begin(), TEXT)) {
+        Ok(image) => Answer::Right.provided(lists(trial.alloc, &image, LISTING)?),
         Err(fault) if fault.kind == AsmFaultKind::Memory => {
             Answer::Memory.provided(fault.line > 0 && fault.line <= 8)
         }
         Err(_) => Answer::Wrong,
-    }
+    })
 }
 
 /// Tries `disassemble` of the image of `TEXT`. Afterwards the image has the same canonical text as before.
-pub fn listing(trial: Trial) -> Answer {
-    match image_of(trial.alloc, TEXT) {
-        Ok(image) => listed(trial, &image),
-        Err(_) => Answer::Wrong,
-    }
-}
-
-/// Tries `disassemble` of `image`, and then checks that the image still has this canonical text.
-fn listed(trial: Trial, image: &Image) -> Answer {
-    let answer = match trial.end(disassemble(trial.begin(), image)) {
+pub fn listing(trial: Trial) -> Tried {
+    let image = image_of(trial.alloc, TEXT)?;
+    let answer = match trial.end(disassemble(trial.begin(), &image)) {
         Ok(text) => Answer::Right.provided(text.as_slice() == LISTING),
         Err(_) => Answer::Memory,
     };
-    answer.provided(lists(trial.alloc, image, LISTING))
+    Ok(answer.provided(lists(trial.alloc, &image, LISTING)?))
 }
 
 /// Tries `read_image` on the bytes `IMAGE`: the image that it returns has the canonical text `listing`.
-pub fn reading(trial: Trial) -> Answer {
+pub fn reading(trial: Trial) -> Tried {
     let listing = b".thread t0 #1\n.thread t1 #0\nout r0\nhalt\n";
-    match trial.end(read_image(trial.begin(), IMAGE)) {
-        Ok(image) => Answer::Right.provided(lists(trial.alloc, &image, listing)),
+    Ok(match trial.end(read_image(trial.begin(), IMAGE)) {
+        Ok(image) => Answer::Right.provided(lists(trial.alloc, &image, listing)?),
         Err(ImageFault::Memory) => Answer::Memory,
         Err(_) => Answer::Wrong,
-    }
+    })
 }
 
 /// Tries `load` on the image of `TEXT`: a machine of the program shows the state before the first choice.
-pub fn loading(trial: Trial) -> Answer {
-    let Ok(image) = image_of(trial.alloc, TEXT) else {
-        return Answer::Wrong;
-    };
-    match trial.end(load(trial.begin(), image)) {
-        Ok(program) => Answer::Right.provided(begins(trial.alloc, program)),
+pub fn loading(trial: Trial) -> Tried {
+    let image = image_of(trial.alloc, TEXT)?;
+    Ok(match trial.end(load(trial.begin(), image)) {
+        Ok(program) => Answer::Right.provided(begins(trial.alloc, program)?),
         Err(LoadFault::Memory) => Answer::Memory,
         Err(_) => Answer::Wrong,
-    }
+    })
 }
 
 /// Tries `Loaded::copy` of the program of `TEXT`. Afterwards the program that was copied is played as before.
-pub fn copying(trial: Trial) -> Answer {
-    let Ok(program) = program_of(trial.alloc, TEXT) else {
-        return Answer::Wrong;
-    };
-    let answer = copied(trial, &program);
-    answer.provided(begins(trial.alloc, program))
-}
-
-/// Tries `Loaded::copy` of `program`: a machine of the copy shows the state before the first choice.
-fn copied(trial: Trial, program: &Loaded) -> Answer {
-    match trial.end(program.copy(trial.begin())) {
-        Ok(copy) => Answer::Right.provided(begins(trial.alloc, copy)),
+pub fn copying(trial: Trial) -> Tried {
+    let program = program_of(trial.alloc, TEXT)?;
+    let answer = match trial.end(program.copy(trial.begin())) {
+        Ok(copy) => Answer::Right.provided(begins(trial.alloc, copy)?),
         Err(_) => Answer::Memory,
-    }
+    };
+    Ok(answer.provided(begins(trial.alloc, program)?))
 }

@@ -3,8 +3,7 @@
 
 use crate::marks;
 use crate::programs::{FIRST, MEETING, SECOND, is_at, program_of, trace_of};
-use crate::trial::{Answer, Trial};
-use loader::Loaded;
+use crate::trial::{Answer, Trial, Tried};
 use packed_phaser::Policy;
 use phase_number::Phase;
 use schedule_reader::Run;
@@ -13,54 +12,44 @@ use std::alloc::{AllocError, Global};
 use std::sync::Wait;
 use std::thread::Threads;
 use thread_machine::{Choice, Event, Machine};
-use thread_runner::{Journaled, LiveFault, LiveRun, NoGate, TakeFault, run_live};
+use thread_runner::{Journaled, LiveFault, NoGate, TakeFault, run_live};
 use trace_text::state::state_text;
 
-/// Returns whether a trace has neither an idle nor a refused choice, and ends with `end`.
-fn has_steps(trace: &[u8], end: &[u8]) -> bool {
-    for line in trace.split(|byte| *byte == b'\n') {
+/// Returns whether each choice of a schedule is a step of the program `text`, and the run's trace ends with `end`.
+fn is_played(alloc: Global, text: &[u8], schedule: &[u8], end: &[u8]) -> Result<bool, AllocError> {
+    let trace = trace_of(alloc, text, schedule)?;
+    for line in trace.bytes().split(|byte| *byte == b'\n') {
         if line.ends_with(b" idle") || line.ends_with(b" none") || line.ends_with(b" limit") {
-            return false;
+            return Ok(false);
         }
     }
-    trace.ends_with(end)
-}
-
-/// Returns whether each choice of a schedule is a step, and the run's trace ends with `end`.
-fn is_played(alloc: Global, text: &[u8], schedule: &[u8], end: &[u8]) -> bool {
-    match trace_of(alloc, text, schedule) {
-        Ok(trace) => has_steps(trace.bytes(), end),
-        Err(_) => false,
-    }
+    Ok(trace.bytes().ends_with(end))
 }
 
 /// Returns whether each choice of `schedule` is a step of the program `text`, and the last leads to the state of `machine`.
-fn leads_to(alloc: Global, text: &[u8], schedule: &[u8], machine: &Machine) -> bool {
-    match state_text(alloc, machine) {
-        Ok(state) => is_played(alloc, text, schedule, state.as_slice()),
-        Err(_) => false,
-    }
-}
-
-/// Returns whether the machine of `record` shows the state of the meeting before its first choice.
-fn begins(alloc: Global, record: Journaled) -> bool {
-    is_at(alloc, record.machine(), 0)
-}
-
-/// Tries `Journaled::new` with the meeting's program: the record's machine has played no choice. The limit is 1000 steps.
-fn recorded(trial: Trial, program: Loaded) -> Answer {
-    match trial.end(Journaled::new(trial.begin(), program, 1000)) {
-        Ok(record) => Answer::Right.provided(begins(trial.alloc, record)),
-        Err(_) => Answer::Memory,
-    }
+fn leads_to(
+    alloc: Global,
+    text: &[u8],
+    schedule: &[u8],
+    machine: &Machine,
+) -> Result<bool, AllocError> {
+    is_played(
+        alloc,
+        text,
+        schedule,
+        state_text(alloc, machine)?.as_slice(),
+    )
 }
 
 /// Tries `Journaled::new` with the meeting: the record's machine has played no choice.
-pub fn recording(trial: Trial) -> Answer {
-    match program_of(trial.alloc, MEETING) {
-        Ok(program) => recorded(trial, program),
-        Err(_) => Answer::Wrong,
-    }
+pub fn recording(trial: Trial) -> Tried {
+    let program = program_of(trial.alloc, MEETING)?;
+    Ok(
+        match trial.end(Journaled::new(trial.begin(), program, 1000)) {
+            Ok(record) => Answer::Right.provided(is_at(trial.alloc, record.machine(), 0)?),
+            Err(_) => Answer::Memory,
+        },
+    )
 }
 
 /// Takes a thread's turn, or lets its wait expire. If there is no such thread, the result is `NotReady`.
@@ -74,75 +63,40 @@ fn take(record: &mut Journaled, choice: Choice) -> Result<Event, TakeFault> {
     }
 }
 
-/// Returns whether `record` takes all of these turns. After the first that it refuses, none is tried.
-fn takes(record: &mut Journaled, turns: &[Run]) -> bool {
+/// Returns whether the choices in `record` are `schedule`, and playing them on `text` leads to the state of its machine.
+fn leads(
+    alloc: Global,
+    text: &[u8],
+    schedule: &[u8],
+    record: &Journaled,
+) -> Result<bool, AllocError> {
+    Ok(record.schedule() == schedule && leads_to(alloc, text, schedule, record.machine())?)
+}
+
+/// Tries to take `choice` after `turns`, which makes the record `schedule`. After `Memory` the record is as before, without the
+/// last three bytes (the token and the space before it), and then takes the choice.
+fn taking(trial: Trial, text: &[u8], turns: &[Run], choice: Choice, schedule: &[u8]) -> Tried {
+    let mut record = Journaled::new(trial.alloc, program_of(trial.alloc, text)?, 1000)?;
     for turn in turns {
-        if take(record, turn.choice).is_err() {
-            return false;
+        if take(&mut record, turn.choice).is_err() {
+            return Ok(Answer::Wrong);
         }
     }
-    true
-}
-
-/// Returns the record of a run of the program `text` before its first turn. Any fault of the text counts as out of memory.
-fn record_of(alloc: Global, text: &[u8]) -> Result<Journaled, AllocError> {
-    match program_of(alloc, text) {
-        Ok(program) => Journaled::new(alloc, program, 1000),
-        Err(_) => Err(AllocError),
-    }
-}
-
-/// Returns whether the choices in `record` are `schedule`, and playing them on `text` leads to the state of its machine.
-fn leads(alloc: Global, text: &[u8], schedule: &[u8], record: &Journaled) -> bool {
-    record.schedule() == schedule && leads_to(alloc, text, schedule, record.machine())
-}
-
-/// Tries to take `choice` after `turns`, which makes the record `schedule`. After `Memory` the record is as before, and then
-/// takes the choice.
-fn taking(trial: Trial, text: &[u8], turns: &[Run], choice: Choice, schedule: &[u8]) -> Answer {
-    match record_of(trial.alloc, text) {
-        Ok(record) => taken_behind(trial, text, record, turns, choice, schedule),
-        Err(_) => Answer::Wrong,
-    }
-}
-
-/// Takes `turns` and then tries `choice`, after which the record has to be `schedule`. It drops the record and so frees it.
-fn taken_behind(
-    trial: Trial,
-    text: &[u8],
-    mut record: Journaled,
-    turns: &[Run],
-    choice: Choice,
-    schedule: &[u8],
-) -> Answer {
-    let has_taken = takes(&mut record, turns);
-    taken(trial, text, &mut record, choice, schedule).provided(has_taken)
-}
-
-/// Tries to take `choice`, after which the record has to be `schedule`. After `Memory` it has to be `schedule` without the last
-/// three bytes (the token and the space before it), and then takes the choice.
-fn taken(
-    trial: Trial,
-    text: &[u8],
-    record: &mut Journaled,
-    choice: Choice,
-    schedule: &[u8],
-) -> Answer {
     let (before, _) = schedule.split_at(schedule.len().saturating_sub(3));
     trial.begin();
-    let answer = match trial.end(take(record, choice)) {
+    let answer = match trial.end(take(&mut record, choice)) {
         Ok(_) => Answer::Right,
         Err(TakeFault::Memory) => {
-            let stands = leads(trial.alloc, text, before, record);
-            Answer::Memory.provided(stands && take(record, choice).is_ok())
+            let stands = leads(trial.alloc, text, before, &record)?;
+            Answer::Memory.provided(stands && take(&mut record, choice).is_ok())
         }
         Err(_) => Answer::Wrong,
     };
-    answer.provided(leads(trial.alloc, text, schedule, record))
+    Ok(answer.provided(leads(trial.alloc, text, schedule, &record)?))
 }
 
 /// Tries `Journaled::take_step` at an `out`, of a thread that didn't have the last turn: the output and the record need memory.
-pub fn taking_step(trial: Trial) -> Answer {
+pub fn taking_step(trial: Trial) -> Tried {
     let turns = [FIRST, SECOND, FIRST];
     taking(trial, MEETING, &turns, SECOND.choice, b"t0 t1 t0 t1")
 }
@@ -152,7 +106,7 @@ const TIMED: &[u8] = b".phaser p 2\n.thread a m\n.thread b n\n\
 m: ldi r2 1\npawaitt r0 p r1 r2\nhalt\nn: ldi r0 1\nldi r0 1\nhalt\n";
 
 /// Tries `Journaled::take_expiry` at the end of a timed wait. The record has no room for it yet.
-pub fn taking_expiry(trial: Trial) -> Answer {
+pub fn taking_expiry(trial: Trial) -> Tried {
     let turns = [FIRST, SECOND, FIRST, SECOND, SECOND];
     let expiry = Choice {
         thread: 0,
@@ -162,39 +116,34 @@ pub fn taking_expiry(trial: Trial) -> Answer {
 }
 
 /// Tries `SharedPhaser::new` with two parties in phase 0, of which none has arrived: its packed state is 0x2_0002.
-pub fn sharing(trial: Trial) -> Answer {
+pub fn sharing(trial: Trial) -> Tried {
     let made = SharedPhaser::new(trial.begin(), 2, Policy::Default, Phase::prevailing(0));
     trial.end(());
-    match made {
+    Ok(match made {
         Ok((phaser, first)) => Answer::Right.provided(phaser.close(first).raw() == 0x2_0002),
         Err(NewFault::Memory) => Answer::Memory,
         Err(NewFault::RoutinePolicy) => Answer::Wrong,
-    }
+    })
 }
 
-/// Tries `run_live`: its schedule leads to its machine's state, or after `Memory` can be played. `Spawn` counts as `Memory`.
-fn running<R: Threads + Wait + Sync>(rt: &R, trial: Trial) -> Answer {
-    let Ok(program) = program_of(trial.alloc, MEETING) else {
-        return Answer::Wrong;
-    };
-    match trial.end(run_live(rt, trial.begin(), program, 1000, &NoGate)) {
-        Ok(run) => Answer::Right.provided(is_its(trial.alloc, run)),
-        Err(LiveFault::Memory(left)) => Answer::Memory.provided(is_left(
-            trial.alloc,
-            left.into_schedule(),
-        )),
-        Err(LiveFault::Spawn) => Answer::Memory,
-    }
-}
-
-/// Returns whether each choice in the schedule of `run`, one of the meeting, is a step, and they lead to its machine's state.
-fn is_its(alloc: Global, run: LiveRun) -> bool {
-    leads_to(alloc, MEETING, run.schedule.as_slice(), &run.machine)
-}
-
-/// Returns whether each choice of `left`, the schedule of a run of the meeting that ended early, is a step (`b""`: any end).
-fn is_left(alloc: Global, left: Vec<u8>) -> bool {
-    is_played(alloc, MEETING, left.as_slice(), b"")
+/// Tries `run_live`: its schedule has only steps, which lead to its machine's state. After `Memory` it still has only steps.
+/// `Spawn` counts as `Memory`.
+fn running<R: Threads + Wait + Sync>(rt: &R, trial: Trial) -> Tried {
+    let alloc = trial.alloc;
+    let program = program_of(alloc, MEETING)?;
+    Ok(
+        match trial.end(run_live(rt, trial.begin(), program, 1000, &NoGate)) {
+            Ok(run) => {
+                let is_its = leads_to(alloc, MEETING, run.schedule.as_slice(), &run.machine)?;
+                Answer::Right.provided(is_its)
+            }
+            Err(LiveFault::Memory(left)) => {
+                let schedule = left.into_schedule();
+                Answer::Memory.provided(is_played(alloc, MEETING, schedule.as_slice(), b"")?)
+            }
+            Err(LiveFault::Spawn) => Answer::Memory,
+        },
+    )
 }
 
 /// Returns in words the result of `run_live` with each of its first 100 requests refused in turn. How many requests a run makes
@@ -208,8 +157,8 @@ pub fn swept<R: Threads + Wait + Sync>(rt: &R, alloc: Global) -> &'static str {
             all: false,
         };
         match (running(rt, trial), marks::end(alloc)) {
-            (Answer::Memory, true) => memory = memory.saturating_add(1),
-            (Answer::Right, _) => {}
+            (Ok(Answer::Memory), true) => memory = memory.saturating_add(1),
+            (Ok(Answer::Right), _) => {}
             _ => return "WRONG",
         }
     }

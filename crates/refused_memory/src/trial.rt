@@ -3,7 +3,7 @@
 ghost use Rattle.std.specs.Prelude.{◌≡◌};
 
 use crate::marks;
-use std::alloc::Global;
+use std::alloc::{AllocError, Global};
 
 /// What a call returned, and what is true afterwards.
 #[derive(Clone, Copy)]
@@ -23,9 +23,11 @@ impl Answer {
     }
 }
 
+/// The answer of a try, or that anything else than the call is out of memory, which counts as `Wrong`.
+pub type Tried = Result<Answer, AllocError>;
+
 /// A call that is tried once. First what it needs is made. Only the call comes between `begin` and `end`. After it, its result
-/// and what is true then are checked. So memory is refused to nothing but the call. If anything else is out of memory, the
-/// answer is `Wrong`.
+/// and what is true then are checked. So memory is refused to nothing but the call.
 #[derive(Clone, Copy)]
 pub struct Trial {
     pub alloc: Global,

@@ -1,20 +1,14 @@
 //! Commands over ports in memory, of which one fails at one of its calls. What was written before is a beginning of the whole,
 //! and the exit status and the line say whether a read or a write failed. Besides, `live` and `race` are played over ports that
 //! don't fail.
-use crate::programs::{LISTED, MEETING, MEETING_RUN, TRACE, image_of};
+use crate::programs::{LISTED, MEETING, MEETING_RUN, TRACE};
 use byte_ports::{MemorySink, MemorySource};
-use row_code::write_image;
 use std::alloc::{AllocError, Global};
-use std::sync::Wait;
-use std::thread::Threads;
-use trace_compare::{CompareFault, Verdict, compare};
-use trace_text::{RunFault, run_text};
+use std::test::Fail;
 use workbench::{asm_cmd, both_cmd, compare_cmd, debug_cmd, list_cmd, live_cmd, race_cmd, run_cmd};
 
 /// No case makes more calls on a port than these.
 const CALLS: u32 = 60;
-
-const SCHEDULE: &[u8] = b"t0 t1 t0*3 t1*2\n";
 
 /// The image of one thread whose one row is `halt`.
 const HALT: &[u8] = b"PBW1\0\0\0\0\x01\0\x01\0\0\0\0\0\0\0\0\0\0\0\0\0";
@@ -60,7 +54,7 @@ static CASES: [Case; 6] = [
     Case {
         call: Call::Run,
         file: MEETING,
-        other: SCHEDULE,
+        other: b"t0 t1 t0*3 t1*2\n",
         whole: TRACE,
     },
     Case {
@@ -157,79 +151,20 @@ fn a_port_that_fails_at_any_call_is_reported(rt: HostRuntime) {
     }
 }
 
-/// Returns whether `run_text` reports that its trace can't be written, which fails at call `call`, or else writes all of it.
-fn is_right_run(alloc: Global, call: u32) -> bool {
-    let Ok(mut trace) = MemorySink::new(alloc, 1000, Some(call)) else {
-        return false;
-    };
-    let Some(image) = image_of(alloc, MEETING) else {
-        return false;
-    };
-    let mut schedule = MemorySource::new(SCHEDULE, None);
-    match run_text(alloc, image, &mut schedule, &mut trace) {
-        Ok(()) => trace.bytes() == TRACE,
-        Err(fault) => matches!(fault, RunFault::Write) && TRACE.starts_with(trace.bytes()),
-    }
-}
-
-/// Returns whether `compare` reports that the trace can't be read, which fails at call `call`, or else finds it the same.
-fn is_right_verdict(alloc: Global, call: u32) -> bool {
-    let Some(image) = image_of(alloc, MEETING) else {
-        return false;
-    };
-    let mut seen = MemorySource::new(TRACE, Some(call));
-    match compare(alloc, image, &mut seen) {
-        Ok(verdict) => verdict == Verdict::Same,
-        Err(fault) => matches!(fault, CompareFault::Read),
-    }
-}
-
-/// Returns whether `write_image` reports that its output fails at call `call`, or else writes all bytes of the image.
-fn is_right_image(alloc: Global, call: u32) -> bool {
-    let Some(image) = image_of(alloc, ".thread a main\nmain: halt\n") else {
-        return false;
-    };
-    let Ok(mut output) = MemorySink::new(alloc, 1000, Some(call)) else {
-        return false;
-    };
-    let is_made = write_image(&image, &mut output).is_ok();
-    HALT.starts_with(output.bytes()) && is_made == (output.bytes() == HALT)
-}
-
-/// `run_text`, `compare` and `write_image`, which these commands call, report a failing port, too.
+/// A program whose only thread waits for a second party is played by a real thread until it is stuck. After a race of two threads
+/// that meet 1000 times, the phaser is in phase 1000.
 #[test]
-fn what_the_commands_stand_on_reports_it_too(rt: HostRuntime) {
-    for call in 0..CALLS {
-        let is_right = is_right_run(rt.alloc(), call)
-            && is_right_verdict(rt.alloc(), call)
-            && is_right_image(rt.alloc(), call);
-        assert!(rt; is_right, "{call}");
-    }
-}
-
-/// Returns whether a program whose only thread waits for a second party is played by a real thread until it is stuck.
-fn is_played_live<R: Threads + Wait + Sync>(rt: &R, alloc: Global) -> Result<bool, AllocError> {
+fn the_commands_of_threads_are_played(rt: HostRuntime) -> Result<(), Fail> {
     let text = b".phaser p 2\n.thread a main\nmain: paaa r0 p\nhalt\n";
     let trace: &[u8] =
         b"1 t0 0 wait\nstate 1 1 stuck\nt0 0 waits 0 regs 0 0 0 0 0 0 0 0 stack out\np0 0 2 1 1\n";
     let mut file = MemorySource::new(text, None);
-    let mut output = MemorySink::new(alloc, 1000, None)?;
-    let mut errors = MemorySink::new(alloc, 100, None)?;
-    let status = live_cmd(rt, alloc, 1000, &mut file, &mut output, &mut errors);
-    Ok(status == 0 && output.bytes() == trace)
-}
-
-/// Returns whether a race of two threads that meet 1000 times writes its line: the phaser is then in phase 1000.
-fn is_raced<R: Threads + Wait + Sync>(rt: &R, alloc: Global) -> Result<bool, AllocError> {
-    let mut line = MemorySink::new(alloc, 100, None)?;
-    let mut errors = MemorySink::new(alloc, 100, None)?;
-    let status = race_cmd(rt, alloc, 2, 1000, &mut line, &mut errors);
-    Ok(status == 0 && line.bytes() == b"phase 1000 parties 2 unarrived 2\n".as_slice())
-}
-
-/// `live` and `race` write the only result that real threads can have here.
-#[test]
-fn the_commands_of_threads_are_played(rt: HostRuntime) {
-    assert!(rt; is_played_live(&rt, rt.alloc()) == Ok(true), "live");
-    assert!(rt; is_raced(&rt, rt.alloc()) == Ok(true), "race");
+    let mut output = MemorySink::new(rt.alloc(), 1000, None)?;
+    let mut errors = MemorySink::new(rt.alloc(), 100, None)?;
+    let status = live_cmd(&rt, rt.alloc(), 1000, &mut file, &mut output, &mut errors);
+    assert!(rt; status == 0 && output.bytes() == trace);
+    let mut line = MemorySink::new(rt.alloc(), 100, None)?;
+    let status = race_cmd(&rt, rt.alloc(), 2, 1000, &mut line, &mut errors);
+    assert!(rt; status == 0 && line.bytes() == b"phase 1000 parties 2 unarrived 2\n".as_slice());
+    Ok(())
 }

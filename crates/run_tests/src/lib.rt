@@ -1,23 +1,16 @@
 //! Tests by public calls, where no command of the program shows what is tested.
 //!
-//! The tests of the lowest crates call ports, rows, packed words, trees of phasers, and the word that real threads share. The
-//! tests of runs cut streams anywhere, force threads into an order, and let writing a reply or any call of a port fail. They also
-//! test the calls of `headline`.
+//! The tests of the lowest crates call ports, packed words, and the word that real threads share. The tests of runs cut a schedule
+//! anywhere, force threads into an order, and let any call of a port fail. They also test the calls of `headline`.
 #![tactic(auto)]
 
-// Ports, rows and words.
-#[cfg(test)]
-mod block_ports;
+// Ports and words.
 #[cfg(test)]
 mod port_callers;
-#[cfg(test)]
-mod rows;
 #[cfg(test)]
 mod shared_callers;
 #[cfg(test)]
 mod std_ports;
-#[cfg(test)]
-mod trees;
 #[cfg(test)]
 mod words;
 
@@ -29,19 +22,13 @@ mod failing_ports;
 #[cfg(test)]
 mod limits;
 #[cfg(test)]
-mod lines;
-#[cfg(test)]
 mod names;
 #[cfg(test)]
 mod orders;
 #[cfg(test)]
 mod pauses;
 #[cfg(test)]
-mod plan_texts;
-#[cfg(test)]
 mod programs;
-#[cfg(test)]
-mod replies;
 #[cfg(test)]
 mod schedules;
 #[cfg(test)]

@@ -3,6 +3,7 @@ use crate::programs::program_of;
 use std::alloc::{AllocError, Global};
 use std::sync::Wait;
 use std::sync::atomic::{AtomicBool, AtomicU32, Ordering};
+use std::test::Fail;
 use std::thread;
 use std::thread::Threads;
 use thread_runner::{Ending, Gate, LiveRun, run_live};
@@ -10,60 +11,28 @@ use thread_runner::{Ending, Gate, LiveRun, run_live};
 /// How often a gate looks before it gives up.
 const MOST_LOOKS: u32 = 100_000_000;
 
-/// Each worker's first pass is held until every worker's first pass has begun: no thread can play for another.
-#[derive(Drop)]
-struct Meeting {
-    threads: u8,
-    begun: AtomicU32,
-    failed: AtomicBool,
-}
-
-impl Meeting {
-    fn of(threads: u8) -> Meeting {
-        Meeting {
-            threads,
-            begun: AtomicU32::new(0),
-            failed: AtomicBool::new(false),
-        }
-    }
-}
-
-impl Gate for Meeting {
-    /// Holds a worker's first pass (`step` 0) until all have begun theirs, or notes in `failed` that they never did.
-    fn pass(&self, _thread: u8, step: u32) {
-        if step > 0 {
-            return;
-        }
-        self.begun.fetch_add(1, Ordering::SeqCst);
-        for _ in 0..MOST_LOOKS {
-            if self.begun.load(Ordering::SeqCst) >= u32::from(self.threads) {
-                return;
-            }
-            thread::yield_now();
-        }
-        self.failed.store(true, Ordering::SeqCst);
-    }
-}
-
 /// The order in which threads take their first steps, as a schedule. A pass waits until, for every step that the script puts
-/// before the pass's own, the next pass of that step's thread has begun.
+/// before the pass's own, the next pass of that step's thread has begun; so no thread can play for another. And each pass waits
+/// until the first passes of all threads below `meeting` have begun.
 #[derive(Drop)]
 struct Script {
     order: &'static str,
-    begun: [AtomicU32; 3],
+    meeting: u8,
+    begun: [AtomicU32; 64],
     failed: AtomicBool,
 }
 
 impl Script {
-    fn of(order: &'static str) -> Script {
+    fn of(order: &'static str, meeting: u8) -> Script {
         Script {
             order,
-            begun: [AtomicU32::new(0), AtomicU32::new(0), AtomicU32::new(0)],
+            meeting,
+            begun: [0; 64].map(AtomicU32::new),
             failed: AtomicBool::new(false),
         }
     }
 
-    /// Returns how many passes of a thread have begun. A thread after the third has none.
+    /// Returns how many passes of a thread have begun. A thread after the last has none.
     fn begun(&self, thread: u8) -> u32 {
         match self.begun.get(usize::from(thread)) {
             Some(begun) => begun.load(Ordering::SeqCst),
@@ -84,13 +53,16 @@ impl Script {
 }
 
 impl Gate for Script {
-    /// Notes that a pass of `thread` has begun, and waits until the steps before it in the script are done: until each other
-    /// thread has begun one pass more than it has steps there.
+    /// Notes that a pass of `thread` has begun, and waits for the meeting, and until the steps before it in the script are done:
+    /// until each other thread has begun one pass more than it has steps there.
     fn pass(&self, thread: u8, step: u32) {
         if let Some(begun) = self.begun.get(usize::from(thread)) {
             begun.store(step.saturating_add(1), Ordering::SeqCst);
         }
-        let mut steps = [0u32; 3];
+        for other in 0..self.meeting {
+            self.hold(other, 1);
+        }
+        let mut steps = [0u32; 64];
         for digit in self.order.bytes().filter(u8::is_ascii_digit) {
             let other = digit - b'0';
             let Some(taken) = steps.get_mut(usize::from(other)) else {
@@ -108,37 +80,19 @@ impl Gate for Script {
     }
 }
 
-/// What a run comes to whose threads have all ended.
-#[derive(Clone, Copy)]
-enum Came<'a> {
-    Schedule(&'a str),
-    Steps(u32),
-}
-
-/// Returns whether the threads of `run` have all ended, and its schedule, or its number of steps, is the one in `came`.
-fn comes_to(run: &LiveRun, came: Came) -> bool {
-    let is_it = match came {
-        Came::Schedule(order) => run.schedule.as_slice() == order.as_bytes(),
-        Came::Steps(steps) => run.machine.steps() == steps,
-    };
-    is_it && run.ending == Ending::AllEnded
-}
-
-/// Plays `text` live, held by `gate`. Returns whether all threads end, with the schedule or the number of steps in `came`.
-fn runs<R: Threads + Wait + Sync, G: Gate + Sync>(
+/// Returns what comes of playing `text` live, held by `gate`. The gate mustn't have given up, and all threads have to end.
+fn run_of<R: Threads + Wait + Sync>(
     rt: &R,
     alloc: Global,
     text: &str,
-    gate: &G,
-    came: Came,
-) -> bool {
-    let Some(program) = program_of(alloc, text) else {
-        return false;
-    };
-    match run_live(rt, alloc, program, 1_000_000, gate) {
-        Ok(run) => comes_to(&run, came),
-        Err(_) => false,
+    gate: &Script,
+) -> Result<LiveRun, Fail> {
+    let run = run_live(rt, alloc, program_of(alloc, text)?, 1_000_000, gate);
+    let run = run.ok().ok_or("no run")?;
+    if gate.failed.load(Ordering::SeqCst) || run.ending != Ending::AllEnded {
+        return Err(Fail::new("out of order"));
     }
+    Ok(run)
 }
 
 const TWO: &str = ".thread a m\n.thread b m\nm: ldi r0 1\nldi r0 2\nhalt\n";
@@ -149,29 +103,28 @@ const THREE: &str = ".thread a m\n.thread b m\n.thread c m\nm: ldi r0 1\nldi r0 
 const MEETING: &str = ".phaser p 3\n.thread a m\n.thread b m\n.thread c m\nm: paaa r0 p\nhalt\n";
 
 /// A program, and the order of its threads' steps, which is its schedule.
-static ORDERS: [(&str, &str); 12] = [
+static ORDERS: [(&str, &str); 8] = [
     (TWO, "t0 t1 t0 t1 t1 t0"),
     (TWO, "t1 t0 t0 t1 t1 t0"),
     (TWO, "t0 t0 t0 t1 t1 t1"),
     (TWO, "t1 t1 t1 t0 t0 t0"),
-    (THREE, "t0 t1 t2 t0 t1 t2 t0 t1 t2"),
-    (THREE, "t2 t1 t0 t2 t1 t0 t2 t1 t0"),
     (THREE, "t1 t1 t1 t2 t2 t2 t0 t0 t0"),
     (THREE, "t2 t0 t0 t1 t2 t1 t0 t1 t2"),
-    (THREE, "t0 t2 t2 t1 t1 t0 t2 t0 t1"),
     (MEETING, "t0 t1 t2 t1 t0 t2 t1 t0"),
-    (MEETING, "t2 t1 t0 t0 t1 t2 t2 t1"),
     (MEETING, "t1 t2 t0 t2 t2 t1 t1 t0"),
 ];
 
 /// Workers step in the order of the gate's script, so their record is this script.
 #[test]
-fn workers_step_in_the_order_that_a_gate_forces(rt: HostRuntime) {
+fn workers_step_in_the_order_that_a_gate_forces(rt: HostRuntime) -> Result<(), Fail> {
     for (text, schedule) in &ORDERS {
-        let gate = Script::of(schedule);
-        let ran = runs(&rt, rt.alloc(), text, &gate, Came::Schedule(schedule));
-        assert!(rt; ran && !gate.failed.load(Ordering::SeqCst), "{schedule}");
+        let run = run_of(&rt, rt.alloc(), text, &Script::of(schedule, 0))?;
+        assert!(rt;
+            run.schedule.as_slice() == schedule.as_bytes(),
+            "{schedule}"
+        );
     }
+    Ok(())
 }
 
 /// Returns the text of a program in which `threads` threads meet at one phaser and end.
@@ -187,10 +140,9 @@ fn crowd(alloc: Global, threads: u8) -> Result<String, AllocError> {
 
 /// 64 workers begin before any goes on. Each has two steps (`paaa`, `halt`), and each but the last to arrive ends a wait: 191.
 #[test]
-fn sixty_four_workers_run_at_once(rt: HostRuntime) -> Result<(), AllocError> {
+fn sixty_four_workers_run_at_once(rt: HostRuntime) -> Result<(), Fail> {
     let text = crowd(rt.alloc(), 64)?;
-    let gate = Meeting::of(64);
-    let ran = runs(&rt, rt.alloc(), text.as_str(), &gate, Came::Steps(191));
-    assert!(rt; ran && !gate.failed.load(Ordering::SeqCst));
+    let run = run_of(&rt, rt.alloc(), text.as_str(), &Script::of("", 64))?;
+    assert!(rt; run.machine.steps() == 191);
     Ok(())
 }

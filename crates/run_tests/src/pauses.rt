@@ -64,10 +64,7 @@ fn each_run_has_pauses_of_its_own(rt: HostRuntime) -> Result<(), Fail> {
         expected: &[],
     };
     let mut output = MemorySink::new(rt.alloc(), 1000, None)?;
-    let Some(image) = image_of(rt.alloc(), ONE) else {
-        assert!(rt; false);
-        return Ok(());
-    };
+    let image = image_of(rt.alloc(), ONE)?;
     let reported = report_runs(&rt, rt.alloc(), &asked, &notes, image, &mut output);
     assert!(rt; reported.is_ok() && notes.passes.load(Ordering::SeqCst) == 2 * PASSES);
     for pass in 0..2 * PASSES {

@@ -3,8 +3,7 @@ use assembler::assemble;
 use loader::{Loaded, load};
 use row_code::Image;
 use std::alloc::Global;
-use thread_machine::Machine;
-use trace_text::state::state_text;
+use std::test::Fail;
 
 /// Two threads meet at a phaser, and put out what they met.
 pub const MEETING: &str =
@@ -22,28 +21,12 @@ pub const TRACE: &[u8] =
     b"1 t0 0 wait\n2 t1 0 = 1 +p0 1\n3 t0 0 = 1\n4 t0 1 out 1\n5 t0 2 end\n6 t1 1 out 1\n7 t1 2 end\n\
     state 7 7 all\nt0 2 ended 0 regs 1 0 0 0 0 0 0 0 stack out 1\nt1 2 ended 0 regs 1 0 0 0 0 0 0 0 stack out 1\np0 1 2 0 2\n";
 
-/// Returns the image of a program's text, or `None` if the text has a fault.
-pub fn image_of(alloc: Global, text: &str) -> Option<Image> {
-    assemble(alloc, text.as_bytes()).ok()
+/// Returns the image of a program's text.
+pub fn image_of(alloc: Global, text: &str) -> Result<Image, Fail> {
+    Ok(assemble(alloc, text.as_bytes())?)
 }
 
-/// Returns the loaded program of a text, or `None` if the text or its image has a fault.
-pub fn program_of(alloc: Global, text: &str) -> Option<Loaded> {
-    load(alloc, image_of(alloc, text)?).ok()
-}
-
-/// Returns whether the text of a machine's state is `state`. If there is no memory for the text, it isn't.
-pub fn shows(alloc: Global, machine: &Machine, state: &[u8]) -> bool {
-    match state_text(alloc, machine) {
-        Ok(text) => text.as_slice() == state,
-        Err(_) => false,
-    }
-}
-
-/// Returns whether two machines show the same state.
-pub fn are_alike(alloc: Global, machine: &Machine, other: &Machine) -> bool {
-    match state_text(alloc, other) {
-        Ok(text) => shows(alloc, machine, text.as_slice()),
-        Err(_) => false,
-    }
+/// Returns the loaded program of a text.
+pub fn program_of(alloc: Global, text: &str) -> Result<Loaded, Fail> {
+    Ok(load(alloc, image_of(alloc, text)?)?)
 }

@@ -10,111 +10,44 @@ use phase_number::Phase;
 use shared_phaser::{Call, NewFault, NotThere, Party, Reply, SharedPhaser};
 use std::alloc::Global;
 use std::sync::Wait;
+use std::test::Fail;
 use std::thread::{Threads, join};
 
-/// A phaser as it is made, one call, its result, and what it leaves.
-type Row = (u16, i32, Policy, Call, Reply, u64);
+/// A phaser as it is made, and calls one after the other, each with its result and the word that it leaves.
+type Session = (u16, i32, Policy, &'static [(Call, Reply, u64)]);
 
-static ROWS: [Row; 12] = [
-    (65535, 0, Default, Register(1), TooMany, 0xffffffff),
-    (65535, 0, Default, Register(0), Counted(0), 0xffffffff),
-    (1, 7, Default, Register(2), Counted(7), 0x700030003),
-    (0, 0, Default, Arrive(false), Reply::NotThere, 0x1),
-    (2, 0, Default, Arrive(false), Counted(0), 0x20001),
-    (1, 0, Default, Arrive(false), Counted(0), 0x100010001),
-    (1, 0, Default, Arrive(true), Counted(0), 0x8000000100000000),
-    (1, 0, Never, Arrive(true), Counted(0), 0x100000001),
+/// A termination stays; and of a phaser that goes on without parties nobody is left to arrive.
+static SESSIONS: [Session; 9] = [
+    (
+        65535,
+        0,
+        Default,
+        &[
+            (Register(1), TooMany, 0xffffffff),
+            (Register(0), Counted(0), 0xffffffff),
+        ],
+    ),
+    (1, 7, Default, &[(Register(2), Counted(7), 0x700030003)]),
+    (0, 0, Default, &[(Arrive(false), Reply::NotThere, 0x1)]),
+    (1, 0, Default, &[(Arrive(false), Counted(0), 0x100010001)]),
+    (
+        1,
+        0,
+        Default,
+        &[(Arrive(true), Counted(0), 0x8000000100000000)],
+    ),
     (
         1,
         0,
         Until(0),
-        Arrive(false),
-        Counted(0),
-        0x8000000100010000,
+        &[(Arrive(false), Counted(0), 0x8000000100010000)],
     ),
-    (1, 0, Until(1), Arrive(false), Counted(0), 0x100010001),
     (
         1,
         2147483647,
         Default,
-        Arrive(false),
-        Counted(2147483647),
-        0x10001,
+        &[(Arrive(false), Counted(2147483647), 0x10001)],
     ),
-    (2, 3, Default, Force, Dead(-2147483645), 0x8000000300020002),
-];
-
-/// Makes a phaser in phase 0, and its first caller: a `Party` is what a caller needs for its calls.
-fn made(alloc: Global, parties: u16, policy: Policy) -> Result<(SharedPhaser, Party), NewFault>
-    ensures { IfOk result (λ r. (phaser_of r.1 ≡ r.0) × (r.1.known.number ≡ 0)) }
-{
-    SharedPhaser::new(alloc, parties, policy, Phase::prevailing(0))
-}
-
-/// Returns the result of `call` in one try, or `None` if another caller came first or it isn't one of these three calls.
-fn tried(phaser: &SharedPhaser, party: &mut Party, call: Call) -> Option<Reply>
-    requires { phaser_of party.old ≡ phaser.now }
-    ensures { phaser_of party.new ≡ phaser.now }
-{
-    let made = match call {
-        Register(parties) => phaser.register_within(party, parties, 1),
-        Arrive(leave) => phaser.arrive_within(party, leave, 1),
-        Force => phaser.force_within(party, 1),
-        _ => return None,
-    };
-    made.ok()
-}
-
-/// Returns the result of `call`, which tries again until no other caller comes first, or `None` if it is a look or a wait.
-fn called<R: Wait>(rt: &R, phaser: &SharedPhaser, party: &mut Party, call: Call) -> Option<Reply>
-    requires { phaser_of party.old ≡ phaser.now }
-    ensures { phaser_of party.new ≡ phaser.now }
-{
-    match call {
-        Register(parties) => Some(phaser.register(rt, party, parties)),
-        Arrive(false) => Some(phaser.arrive(rt, party)),
-        Arrive(true) => Some(phaser.arrive_and_deregister(rt, party)),
-        Force => Some(phaser.force(rt, party)),
-        _ => None,
-    }
-}
-
-/// Returns whether the call of `row` has its result and leaves its word: by the call that tries on (`waits`) or in one try.
-fn holds<R: Wait>(rt: &R, alloc: Global, row: &Row, waits: bool) -> bool {
-    let (parties, phase, policy, call, reply, word) = *row;
-    match SharedPhaser::new(alloc, parties, policy, Phase::prevailing(phase)) {
-        Ok((phaser, mut party)) => {
-            let answer = if waits {
-                called(rt, &phaser, &mut party, call)
-            } else {
-                tried(&phaser, &mut party, call)
-            };
-            answer == Some(reply) && phaser.look(&mut party).raw() == word
-        }
-        Err(_) => false,
-    }
-}
-
-/// Each call has the result of its row and leaves its word, both in one try and by the function that may try several times.
-#[test]
-fn single_calls(rt: HostRuntime) {
-    for row in &ROWS {
-        assert!(rt; holds(&rt, rt.alloc(), row, false) && holds(&rt, rt.alloc(), row, true));
-    }
-}
-
-/// A shared phaser can't have rows of a program as its `onAdvance`.
-#[test]
-fn a_routine_is_refused(rt: HostRuntime) {
-    let refused = SharedPhaser::new(rt.alloc(), 1, Policy::Routine, Phase::prevailing(0));
-    assert!(rt; refused.err() == Some(NewFault::RoutinePolicy));
-}
-
-/// A phaser as it is made, and calls one after the other, each with its result and what it leaves.
-type Session = (u16, i32, Policy, &'static [(Call, Reply, u64)]);
-
-/// A termination stays; and of a phaser that goes on without parties nobody is left to arrive.
-static SESSIONS: [Session; 2] = [
     (
         2,
         3,
@@ -136,6 +69,20 @@ static SESSIONS: [Session; 2] = [
     ),
 ];
 
+/// Returns the result of `call` in one try, or `None` if another caller came first or it isn't one of these three calls.
+fn tried(phaser: &SharedPhaser, party: &mut Party, call: Call) -> Option<Reply>
+    requires { phaser_of party.old ≡ phaser.now }
+    ensures { phaser_of party.new ≡ phaser.now }
+{
+    let made = match call {
+        Register(parties) => phaser.register_within(party, parties, 1),
+        Arrive(leave) => phaser.arrive_within(party, leave, 1),
+        Force => phaser.force_within(party, 1),
+        _ => return None,
+    };
+    made.ok()
+}
+
 /// Returns whether each of `calls`, made one after the other, has its result and leaves its word, in one try.
 fn go_on(phaser: &SharedPhaser, party: &mut Party, calls: &[(Call, Reply, u64)]) -> bool
     requires { phaser_of party.old ≡ phaser.now }
@@ -149,115 +96,77 @@ fn go_on(phaser: &SharedPhaser, party: &mut Party, calls: &[(Call, Reply, u64)])
         && go_on(phaser, party, rest)
 }
 
-/// Returns whether the calls of `session`, on a new phaser, have their results and leave their words.
-fn goes_so(alloc: Global, session: &Session) -> bool {
-    let (parties, phase, policy, calls) = *session;
-    match SharedPhaser::new(alloc, parties, policy, Phase::prevailing(phase)) {
-        Ok((phaser, mut party)) => go_on(&phaser, &mut party, calls),
-        Err(_) => false,
-    }
-}
-
-/// A termination stays, and an arrival where no party is registered is refused.
+/// Each call of a session has its result and leaves its word.
 #[test]
-fn calls_in_a_row(rt: HostRuntime) {
-    for session in &SESSIONS {
-        assert!(rt; goes_so(rt.alloc(), session));
+fn calls_in_a_row(rt: HostRuntime) -> Result<(), Fail> {
+    for (parties, phase, policy, calls) in &SESSIONS {
+        let phase = Phase::prevailing(*phase);
+        let (phaser, mut party) = SharedPhaser::new(rt.alloc(), *parties, *policy, phase)?;
+        assert!(rt; go_on(&phaser, &mut party, *calls), "{parties}");
     }
+    Ok(())
 }
 
-/// Terminates a phaser in phase 0. Returns whether this and the waits after it return its view, -2147483648, at once.
-fn stays_terminated<R: Wait>(rt: &R, phaser: &SharedPhaser, party: &mut Party) -> bool
-    requires { phaser_of party.old ≡ phaser.now }
+/// A shared phaser can't have rows of a program as its `onAdvance`.
+#[test]
+fn a_routine_is_refused(rt: HostRuntime) {
+    let refused = SharedPhaser::new(rt.alloc(), 1, Policy::Routine, Phase::prevailing(0));
+    assert!(rt; refused.err() == Some(NewFault::RoutinePolicy));
+}
+
+/// Makes a phaser in phase 0, and its first caller: a `Party` is what a caller needs for its calls.
+fn made(alloc: Global, parties: u16) -> Result<(SharedPhaser, Party), NewFault>
+    ensures { IfOk result (λ r. (phaser_of r.1 ≡ r.0) × (r.1.known.number ≡ 0)) }
 {
-    phaser.force_within(party, 1) == Ok(Dead(-2147483648))
-        && phaser.await_advance(rt, party, 0) == -2147483648
-        && phaser.arrive_and_await_advance(rt, party) == Ok(-2147483648)
+    SharedPhaser::new(alloc, parties, Default, Phase::prevailing(0))
 }
 
 /// On a terminated phaser no call waits: each returns the view.
 #[test]
-fn a_terminated_phaser_stays_so(rt: HostRuntime) {
-    match made(rt.alloc(), 2, Default) {
-        Ok((phaser, mut party)) => assert!(rt; stays_terminated(&rt, &phaser, &mut party)),
-        Err(_) => assert!(rt; false),
-    }
+fn a_terminated_phaser_stays_so(rt: HostRuntime) -> Result<(), Fail> {
+    let (phaser, mut party) = made(rt.alloc(), 2)?;
+    assert!(rt; phaser.force_within(&mut party, 1) == Ok(Dead(-2147483648)));
+    assert!(rt; phaser.await_advance(&rt, &mut party, 0) == -2147483648);
+    assert!(rt; phaser.arrive_and_await_advance(&rt, &mut party) == Ok(-2147483648));
+    Ok(())
 }
 
-/// Returns whether the only party never waits: for a negative phase, for another one than the present 0, or after its arrival.
-fn waits_for_nobody<R: Wait>(rt: &R, phaser: &SharedPhaser, party: &mut Party) -> bool
-    requires { phaser_of party.old ≡ phaser.now }
-{
-    phaser.await_advance(rt, party, -5) == -5
-        && phaser.await_advance(rt, party, 3) == 0
-        && phaser.arrive_and_await_advance(rt, party) == Ok(1)
-        && phaser.arrive_and_deregister(rt, party) == Counted(1)
-}
-
-/// A wait doesn't block for another phase, or if nobody else has to arrive.
+/// The only party doesn't wait for a negative phase, for another one than the present, or after its arrival. A party that isn't
+/// registered can't arrive, so it doesn't wait either.
 #[test]
-fn waits_that_are_over(rt: HostRuntime) {
-    match made(rt.alloc(), 1, Default) {
-        Ok((phaser, mut party)) => assert!(rt; waits_for_nobody(&rt, &phaser, &mut party)),
-        Err(_) => assert!(rt; false),
-    }
-}
-
-/// An arrival that no registered party can make is refused, so its caller doesn't wait.
-#[test]
-fn a_stray_cannot_wait(rt: HostRuntime) {
-    match made(rt.alloc(), 0, Default) {
-        Ok((phaser, mut party)) => {
-            let answer = phaser.arrive_and_await_advance(&rt, &mut party);
-            assert!(rt; answer == Err(NotThere));
-        }
-        Err(_) => assert!(rt; false),
-    }
-}
-
-/// Returns whether a second caller registers two parties beside the only one, and the first caller sees three.
-fn counts_three(phaser: &SharedPhaser, first: &mut Party) -> bool
-    requires first { first.old.known.number ≡ 0 }
-    requires phaser { phaser_of first.old ≡ phaser.now }
-{
-    let mut second = phaser.split(first);
-    phaser.register_within(&mut second, 2, 1) == Ok(Counted(0)) && phaser.look(first).parties() == 3
+fn nobody_waits_without_need(rt: HostRuntime) -> Result<(), Fail> {
+    let (phaser, mut party) = made(rt.alloc(), 1)?;
+    assert!(rt; phaser.await_advance(&rt, &mut party, -5) == -5);
+    assert!(rt; phaser.await_advance(&rt, &mut party, 3) == 0);
+    assert!(rt; phaser.arrive_and_await_advance(&rt, &mut party) == Ok(1));
+    assert!(rt; phaser.arrive_and_deregister(&rt, &mut party) == Counted(1));
+    let (phaser, mut stray) = made(rt.alloc(), 0)?;
+    assert!(rt; phaser.arrive_and_await_advance(&rt, &mut stray) == Err(NotThere));
+    Ok(())
 }
 
 /// The first caller sees what a second one has registered.
 #[test]
-fn two_callers_of_one_phaser(rt: HostRuntime) {
-    match made(rt.alloc(), 1, Default) {
-        Ok((phaser, mut first)) => assert!(rt; counts_three(&phaser, &mut first)),
-        Err(_) => assert!(rt; false),
-    }
-}
-
-/// Returns the packed state of a phaser that is closed after its two parties' arrivals, or `None` if one has another result.
-fn word_of_two(alloc: Global) -> Option<u64> {
-    let (phaser, mut first) = made(alloc, 2, Default).ok()?;
+fn two_callers_of_one_phaser(rt: HostRuntime) -> Result<(), Fail> {
+    let (phaser, mut first) = made(rt.alloc(), 1)?;
     let mut second = phaser.split(&mut first);
-    let arrived = Ok(Counted(0));
-    let both = phaser.arrive_within(&mut first, false, 1) == arrived
-        && phaser.arrive_within(&mut second, false, 1) == arrived;
-    phaser.join(&mut first, second);
-    let word = phaser.close(first).raw();
-    if both { Some(word) } else { None }
-}
-
-/// Returns the packed state of a phaser of two parties that is closed before any call. `None` is out of memory.
-fn word_of_none(alloc: Global) -> Option<u64> {
-    match made(alloc, 2, Default) {
-        Ok((phaser, first)) => Some(phaser.close(first).raw()),
-        Err(_) => None,
-    }
+    assert!(rt; phaser.register_within(&mut second, 2, 1) == Ok(Counted(0)));
+    assert!(rt; phaser.look(&mut first).parties() == 3);
+    Ok(())
 }
 
 /// `close` returns the packed state that the calls have left: two parties in phase 1 after two arrivals, in phase 0 after none.
 #[test]
-fn closed_words(rt: HostRuntime) {
-    assert!(rt; word_of_two(rt.alloc()) == Some(0x100020002));
-    assert!(rt; word_of_none(rt.alloc()) == Some(0x20002));
+fn closed_words(rt: HostRuntime) -> Result<(), Fail> {
+    let (phaser, mut first) = made(rt.alloc(), 2)?;
+    let mut second = phaser.split(&mut first);
+    assert!(rt; phaser.arrive_within(&mut first, false, 1) == Ok(Counted(0)));
+    assert!(rt; phaser.arrive_within(&mut second, false, 1) == Ok(Counted(0)));
+    phaser.join(&mut first, second);
+    assert!(rt; phaser.close(first).raw() == 0x100020002);
+    let (phaser, first) = made(rt.alloc(), 2)?;
+    assert!(rt; phaser.close(first).raw() == 0x20002);
+    Ok(())
 }
 
 /// On a phaser of one party a thread waits for the end of phase 0, and another makes `call`. Returns the results of both.
@@ -266,7 +175,7 @@ fn released<R: Threads + Wait + Sync>(
     alloc: Global,
     call: Call,
 ) -> Option<(i32, Option<Reply>)> {
-    let (phaser, mut first) = made(alloc, 1, Default).ok()?;
+    let (phaser, mut first) = made(alloc, 1).ok()?;
     let mut second = phaser.split(&mut first);
     let shared = &phaser;
     let waiting = &mut first;
@@ -274,7 +183,7 @@ fn released<R: Threads + Wait + Sync>(
     Some(join(
         rt,
         move || shared.await_advance(rt, waiting, 0),
-        move || called(rt, shared, calling, call),
+        move || tried(shared, calling, call),
     ))
 }
 

@@ -1,6 +1,6 @@
 //! What a record takes and what it refuses, in the order in which workers ask.
-use crate::programs::{MEETING, program_of};
-use std::alloc::Global;
+use crate::programs::program_of;
+use std::test::Fail;
 use thread_machine::What;
 use thread_runner::{Ending, Journaled, TakeFault};
 
@@ -20,16 +20,10 @@ const LONELY: &str = ".phaser p 2\n.thread a main\nmain: paaa r0 p\nhalt\n";
 const TIMED: &str =
     ".phaser p 2\n.thread a main\nmain: ldi r1 0\nldi r2 1\npawaitt r0 p r1 r2\nhalt\n";
 
-const BROKEN: &str =
-    ".barrier g 3\n.thread a x\n.thread b y\nx: cawait r0 g\nhalt\ny: cawaitt r0 g r1\nhalt\n";
-
-const BREAKING: &str = ".barrier g 3\n.thread a x\n.thread b y\nx: cawait r0 g\nhalt\n\
-y: ldi r1 5\ncawaitt r0 g r1\nhalt\n";
-
 const BOTH_TIMED: &str = ".phaser p 3\n.thread a main\n.thread b main\n\
 main: ldi r2 1\npawaitt r0 p r1 r2\nhalt\n";
 
-static ROWS: [Row; 9] = [
+static ROWS: [Row; 4] = [
     (LONELY, 10, "t0~ t0! x0!", "t0", Some(Ending::Stuck)),
     (
         ".thread a m\nm: jmp m\n",
@@ -43,29 +37,6 @@ static ROWS: [Row; 9] = [
         10,
         "x0! t0 t0 t0 t0! x0 x0! t0 t0! x0!",
         "t0 t0 t0 x0 t0",
-        Some(Ending::AllEnded),
-    ),
-    (
-        TIMED,
-        3,
-        "t0 t0 t0 t0! x0#",
-        "t0 t0 t0",
-        Some(Ending::Limit),
-    ),
-    (
-        ".thread a m\nm: halt\n",
-        1,
-        "t0 t0!",
-        "t0",
-        Some(Ending::AllEnded),
-    ),
-    (MEETING, 10, "t0 t1 t0 t0", "t0 t1 t0 t0", None),
-    (BROKEN, 10, "t0 x0! x1! t1", "t0 t1", None),
-    (
-        BREAKING,
-        10,
-        "t1 t1 x1! t0 x0! x1 t0 t0 t1",
-        "t1 t1 t0 x1 t0 t0 t1",
         Some(Ending::AllEnded),
     ),
     (
@@ -114,24 +85,14 @@ fn records(journaled: &mut Journaled, row: &Row) -> bool {
     journaled.schedule() == schedule.as_bytes() && journaled.ending() == ending
 }
 
-/// Returns the record of a run of the program `text` before its first step, with this limit of steps.
-fn record_of(alloc: Global, text: &str, limit: u32) -> Option<Journaled> {
-    Journaled::new(alloc, program_of(alloc, text)?, limit.min(1_000_000_000)).ok()
-}
-
-/// Returns whether all that `row` says is so, from the beginning of a run of its program.
-fn holds(alloc: Global, row: &Row) -> bool {
-    let (text, limit, _, _, _) = *row;
-    match record_of(alloc, text, limit) {
-        Some(mut journaled) => records(&mut journaled, row),
-        None => false,
-    }
-}
-
 /// A record has the choices that were taken, and none that was refused.
 #[test]
-fn what_is_taken_is_recorded(rt: HostRuntime) {
+fn what_is_taken_is_recorded(rt: HostRuntime) -> Result<(), Fail> {
     for row in &ROWS {
-        assert!(rt; holds(rt.alloc(), row));
+        let (text, limit, _, schedule, _) = *row;
+        let program = program_of(rt.alloc(), text)?;
+        let mut journaled = Journaled::new(rt.alloc(), program, limit.min(1_000_000_000))?;
+        assert!(rt; records(&mut journaled, row), "{schedule}");
     }
+    Ok(())
 }
