@@ -48,32 +48,10 @@ module _ (o : Setup) (word : ℕ) (views : List View) (log : List Entry) (id : �
       (s.0, at_longer (set views id (giving_view v)) (given_view v ∷ []) n s.0 s.1, s.2)
 
   giver_stands : Stands o cut log id (giving_view v)
-  giver_stands = record {
-    number = stood.number;
-    opening = stood.opening;
-    knows = record {
-      begins = stood.knows.begins;
-      informed = stood.knows.informed;
-      owns = record { own = stood.knows.owns.own; kept = stood.knows.owns.kept; apart = stood.knows.owns.apart };
-    };
-    joined = λ k d h. spent_in_cut _ (stood.joined k d h);
-  }
+  giver_stands = grind (arith, stood, spent_in_cut)
 
   taker_stands : Stands o cut log (length views) (given_view v)
-  taker_stands = record {
-    number = count;
-    opening = stood.opening;
-    knows = record {
-      begins = stood.knows.begins;
-      informed = prefix_nil log;
-      owns = record {
-        own = rule.later (v.known.splits + 1) (let n = count in omega arith);
-        kept = none_of (λ (x : Kept). calls_by x.number log ≡ x.calls);
-        apart = none_of (λ (x : Kept). x.number ≢ v.known.splits + 1);
-      };
-    };
-    joined = none_of (λ (x : Kept). IsSpent cut x.number);
-  }
+  taker_stands = grind (arith, count, stood, prefix_nil, none_of)
 
   other_stands : (j : ℕ) (u : View) → get_elem? views j ≡ some u → u.live ≡ true → Stands o cut log j u
   other_stands j u at' live' = let s = rule.stands j u at' live' in
@@ -194,9 +172,7 @@ module _ (o : Setup) (word : ℕ) (views : List View) (log : List Entry) (id oid
 
 pub joins : (o : Setup) (id oid : ℕ) (v w : View) → v.live ≡ true → v.known.number ≡ 0 → w.live ≡ true
     → Joins (IsKept o) id v oid w (receiving_view v w) spent_view
-joins o id oid v w live first live_other s kept at other at_both =
-    let at_other : get_elem? s.views oid ≡ some w = sym (set_else s.views id oid (receiving_view v w) other) ∙ at_both in
-    record { word = kept.word; log = kept.log; words = kept.words; keeps = join_keeps o kept.word s.views kept.log id oid v w kept.keeps at live first other at_other live_other }
+joins o id oid v w live first live_other s kept at other at_both = grind (arith, set_else, join_keeps)
 
 -- the phaser as it is made
 pub starts : (o : Setup) (word : ℕ) → record_of word ≡ fresh o.phase o.parties → IsWord word → IsKept o (opening (word ∷ []) [] (first_view o))

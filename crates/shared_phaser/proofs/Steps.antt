@@ -17,8 +17,7 @@ pub spent_apart : (views : List View) (n id : ℕ) (v : View) → IsSpent views 
 spent_apart views n id v spent at live e = grind arith
 
 pub spent_stays : (views : List View) (n id : ℕ) (v w : View) → IsSpent views n → get_elem? views id ≡ some v → v.live ≡ true → IsSpent (set views id w) n
-spent_stays views n id v w spent at live =
-    (spent.0, set_else views id n w (spent_apart views n id v spent at live) ∙ spent.1, spent.2)
+spent_stays views n id v w spent at live = grind (arith, set_else, spent_apart)
 
 -- a history that goes on by calls of one caller alone
 pub record Grown (id : ℕ) (log log' : List Entry) : Type 0 where

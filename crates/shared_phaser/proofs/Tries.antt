@@ -1,10 +1,10 @@
 -- What the tries of a call come to.
-use Rattle.std.proofs.Common.{◌≡◌, ◌≢◌, ◌⊎◌, ℕ, ◌+◌, ◌≤◌, ◌==◌, if◌then◌else◌, Bool, true, false, List, refl, sym, ap, ◌∙◌, subst, inl, inr, ⊎_elim, arith, append_assoc, eq-zero-or-pos}
+use Rattle.std.proofs.Common.{◌≡◌, ◌≢◌, ◌⊎◌, ℕ, ◌+◌, ◌≤◌, ◌==◌, if◌then◌else◌, Bool, true, false, List, refl, sym, ap, ◌∙◌, subst, inl, inr, arith, append_assoc, eq-zero-or-pos}
 use Rattle.atomic_table.specs.Table.{Me, Step}
 use Rattle.packed_phaser.specs.{Flat.Flat, Word.IsWord, Word.record_of, declared.policy.Policy.Policy}
 use Rattle.shared_phaser.specs.declared.history.{Call.Call, Answer.Answer, Entry.Entry, Known.Known, View.View}
 use Rattle.shared_phaser.specs.declared.history.Answer.TheVariants.{Saw, Replied, Passed}
-use Rattle.shared_phaser.specs.History.{Effect, Shows, Tells, Makes, Waits, effect, Answers, at_end, after_all, changes, opened}
+use Rattle.shared_phaser.specs.History.{Effect, Shows, Tells, Makes, Waits, effect, Answers, at_end, changes}
 use Rattle.shared_phaser.specs.{Known.making, Known.seeing, Known.MakesCall, Known.SeesMore, Outcome.IsPrompt, Outcome.Suits}
 use Rattle.shared_phaser.specs.Rule.{Finds, loaded, exchanged, effect_at, Loads, Exchanges}
 use Rattle.shared_phaser.proofs.Stories.{after_all-append, changes-append, unchanged}
@@ -57,12 +57,10 @@ module _ (c : Call) (s : Step (Unit {0})) (v w : Me (Unit {0}) View) (n : ℕ) (
 
   -- a load that answers the call
   pub told : (a : Answer) → effect_at v.0 c n ≡ Tells a → MakesCall v.0.known c a w.0.known
-  told a is = subst (MakesCall v.0.known c a) (known_is (Tells a) is)
-      (made v.0 n load.log c a load.finds (subst (λ (e : Effect). Answers (record_of n) e a) (sym is) refl))
+  told a is = grind (arith, known_is, made)
 
   pub looked : effect_at v.0 c n ≡ Shows → MakesCall v.0.known c (Saw n) w.0.known
-  looked is = subst (MakesCall v.0.known c (Saw n)) (known_is Shows is)
-      (made v.0 n load.log c (Saw n) load.finds (subst (λ (e : Effect). Answers (record_of n) e (Saw n)) (sym is) (n, refl, refl)))
+  looked is = grind (arith, known_is, made)
 
   -- and one that doesn't
   waited_as : (e : Effect) → effect_at v.0 c n ≡ e → loaded e v.0.known load.log c n ≡ seeing v.0.known load.log → SeesMore v.0.known 0 w.0.known
@@ -94,27 +92,14 @@ module _ (c : Call) (s : Step (Unit {0})) (v w : Me (Unit {0}) View) (n : ℕ) (
 
   -- the exchange was won
   pub won_is : (a : Answer) (g : Flat) → (n == s.first) ≡ true → effect_at v.0 c n ≡ Makes g a → MakesCall v.0.known c a w.0.known
-  won_is a g hit is = subst (MakesCall v.0.known c a)
-      (sym (ap (λ (e : Effect). exchanged true e v.0.known exchange.log c) is) ∙ exchanged_is true hit)
-      (made v.0 n exchange.log c a exchange.finds (subst (λ (e : Effect). Answers (record_of n) e a) (sym is) refl))
+  won_is a g hit is = grind (arith, exchanged_is, made)
 
   -- or lost, and then another call changed the phaser
   pub lost_is : OneWord → (n == s.first) ≡ false → n ≢ s.first → IsWord s.first → (record_of s.first).ended ≡ false
       → record_of s.first ≡ at_end v.0.known.opening v.0.known.seen
       → SeesMore v.0.known 1 w.0.known × (record_of n ≡ at_end w.0.known.opening w.0.known.seen)
   lost_is one miss apart valid running found =
-      let k = v.0.known in
-      let p = k.opening.policy in
-      let rest = exchange.finds.knows.begins in
-      let after_rest : at_end k.opening exchange.log ≡ after_all p (at_end k.opening k.seen) rest.0 =
-      ap (at_end k.opening) (sym rest.1) ∙ after_all-append p (opened k.opening) k.seen rest.0 in
-      let never : changes p (at_end k.opening k.seen) rest.0 ≡ 0 → ⊥ = λ none. apart (sym (one s.first n valid exchange.finds.valid
-      (found ∙ (sym (unchanged p (at_end k.opening k.seen) rest.0 none) ∙ (sym after_rest ∙ sym exchange.finds.now))) running)) in
-      let grown : 1 ≤ changes p (at_end k.opening k.seen) rest.0 =
-      ⊎_elim (λ (h : changes p (at_end k.opening k.seen) rest.0 ≡ 0). absurd (never h)) (λ h. h) (eq-zero-or-pos (changes p (at_end k.opening k.seen) rest.0)) in (
-        subst (SeesMore k 1) (exchanged_is false miss) (seen v.0 n exchange.log 1 exchange.finds grown),
-        subst (λ (l : Known). record_of n ≡ at_end l.opening l.seen) (exchanged_is false miss) exchange.finds.now,
-      )
+      grind (arith, after_all-append, unchanged, eq-zero-or-pos, exchanged_is, seen)
 
 -- the tries of a call, so far all lost
 abbrev pub RacesSoFar : Known → ℕ → ℕ → Known → Type 0

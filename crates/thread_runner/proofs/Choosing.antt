@@ -1,9 +1,9 @@
 -- Where a run isn't over, some thread has a choice to make.
-use Rattle.std.proofs.Common.{◌≡◌, ◌⊎◌, ◌<◌, ℕ, Bool, true, false, refl, sym, ap, arith, length, Option, None, ◌&&◌, ◌||◌, not}
+use Rattle.std.proofs.Common.{◌≡◌, ◌⊎◌, ◌<◌, ℕ, Bool, true, false, refl, arith, length, Option, None, ◌&&◌, ◌||◌, not}
 use Rattle.std.proofs.lemmas.Bool.Decides.{nat_tests}
-use Rattle.thread_machine.specs.{declared.choice.Choice.Choice, World.World, Ready.some_ready}
+use Rattle.thread_machine.specs.{World.World, Ready.some_ready}
 use Rattle.thread_runner.specs.{declared.live.Break.Break, Endings.ending_of, Waiting.waits}
-use Rattle.thread_runner.specs.Turns.{expiry_of, is_ready_in, can_expire_in, some_turn, some_lower, is_due, may_choose, IsDue}
+use Rattle.thread_runner.specs.Turns.{expiry_of, is_ready_in, can_expire_in, some_turn, is_due, may_choose, IsDue}
 use Rattle.thread_runner.proofs.Threads.{Lowest, lowest, none_passes, one_passes}
 
 -- and there is a step left
@@ -57,11 +57,7 @@ due_by true due waits is = absurd (cc waits)
 due_by false due waits is = is
 
 pub due_by_expiry : (world : World) (t : ℕ) → t < length world.scene.threads → is_due world t ≡ true → IsDue world (expiry_of t)
-due_by_expiry world t there is =
-    let waits = isnt_ready (is_ready_in world t) world t refl there
-    (none_ready (can_expire_in world t) (some_turn world) (some_lower world t) is) in
-    let made : Bool → Choice = λ ready. record { thread = t; expiry = not ready } in
-    (due_by (is_ready_in world t) (is_due world t) waits is, ap made (sym waits))
+due_by_expiry world t there is = grind (arith, isnt_ready, none_ready, due_by)
 
 -- so where the time of a wait is over no thread is ready
 waits_by : (ready due : Bool) → (ready || due) ≡ true → true ≡ not ready → due ≡ true
@@ -70,7 +66,4 @@ waits_by false due may is = may
 
 pub none_is_ready : (world : World) (waiting t : ℕ) → IsDue world (expiry_of waiting) → t < length world.scene.threads
     → is_ready_in world t ≡ false
-none_is_ready world waiting t due there =
-    let is = waits_by (is_ready_in world waiting) (is_due world waiting) due.0 (ap (λ (c : Choice). c.expiry) due.1) in
-    isnt_ready (is_ready_in world t) world t refl there
-    (none_ready (can_expire_in world waiting) (some_turn world) (some_lower world waiting) is)
+none_is_ready world waiting t due there = grind (arith, waits_by, isnt_ready, none_ready)

@@ -1,5 +1,5 @@
 -- A replay of one choice more.
-use Rattle.std.proofs.Common.{◌≡◌, ◌+◌, ◌*◌, ◌<◌, ◌≤◌, ℕ, true, List, [], ◌∷◌, ◌++◌, length, ◌∙◌, ap, append_assoc, sym, subst, arith, length-append, All, Option, Some, None}
+use Rattle.std.proofs.Common.{◌≡◌, ◌+◌, ◌*◌, ◌<◌, ◌≤◌, ℕ, true, List, [], ◌∷◌, ◌++◌, length, append_assoc, arith, length-append, All, Option, Some, None}
 use Rattle.std.proofs.lemmas.List.Elements.{All-push}
 use Rattle.loader.specs.Program.{Program}
 use Rattle.thread_machine.specs.{declared.choice.Choice.Choice, declared.fault.StepFault.StepFault, Ready.is_choice_ready}
@@ -43,9 +43,7 @@ pub replay_more : (recording : Recording) (choice : Choice) (before after : Worl
     → after ≡ (played before choice).world → length after.scene.threads ≡ length before.scene.threads → IsDue before choice
     → IsReplay (with_choice choice recording) after
 replay_more recording choice before after replay ready accepted below is threads due =
-    let due = due_more recording.choices recording.first choice replay.accepted
-    (subst (λ (w : World). IsDue w choice) (sym replay.leads) due) replay.due in
-    grind (arith, execution-snoc, counts, length-append)
+    grind (arith, due_more, execution-snoc, counts, length-append)
 
 -- the program and the limit stay, so that the first world does
 pub same_first : (before after : World) (choice : Choice) → is_choice_ready before.program choice before.scene ≡ true
@@ -98,6 +96,5 @@ due_at (first ∷ before) world choice rest accepted due =
 
 -- what has all choices of a longer record has those of its beginning
 pub kept_more : (a b : Recording) (more : List Choice) → b.choices ≡ a.choices ++ more → (f : LiveFault) → HasKept b f → HasKept a f
-kept_more a b more is (fault.Memory schedule) (rest, kept) =
-    (more ++ rest, kept ∙ ap (λ l. l ++ rest) is ∙ append_assoc a.choices more rest)
+kept_more a b more is (fault.Memory schedule) (rest, kept) = grind (arith, append_assoc)
 kept_more a b more is fault.Spawn kept = tt

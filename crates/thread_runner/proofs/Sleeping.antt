@@ -14,8 +14,7 @@ none_wakes : (broken : Option Break) (world : World) (k : ℕ) → wakes broken 
 none_wakes broken world k = ap (λ b. b && not (waits broken world k)) (has-none k)
 
 pub none_sleeps : (broken : Option Break) (world : World) (sleepers : ℕ) → sleepers ≡ 0 → some_wakes broken world sleepers ≡ false
-none_sleeps broken world sleepers is =
-    ap (some_wakes broken world) is ∙ none_passes (wakes broken world 0) (length world.scene.threads) (λ k within. none_wakes broken world k)
+none_sleeps broken world sleepers is = grind (arith, none_passes, none_wakes)
 
 -- no worker wakes, so this one doesn't
 fails_by : (passes : Bool) (test : ℕ → Bool) (many k : ℕ) → test k ≡ passes → list_any test (range_with_len 0 many) ≡ false → k < many

@@ -166,19 +166,6 @@ fn run_of<O: Origin + Send + Sync, R: Threads + Wait + Sync, G: Gate + Sync>(
     end(lock.into_inner())
 }
 
-/// Plays the run of this record by `run_of`. `Brand` names its origin, which only contracts use.
-fn recorded<R: Threads + Wait + Sync, G: Gate + Sync>(
-    rt: &R,
-    journaled: Journaled,
-    gate: &G,
-) -> Result<(Journaled, Ending), LiveFault>
-    ensures first { IfOk result (λ both. both.0.first ≡ journaled.first) }
-    ensures ending { IfOk result (λ both. ending_of (recorded_world both.0) ≡ Some both.1) }
-    ensures left { IfErr result (HasLeft journaled.first) }
-{
-    run_of::<Brand, R, G>(rt, journaled, gate)
-}
-
 /// Returns the schedule, the machine and the ending of a record whose run has ended so.
 fn ended(journaled: Journaled, ending: Ending) -> LiveRun
     requires { ending_of (recorded_world journaled) ≡ Some ending }
@@ -213,7 +200,8 @@ pub fn run_live<R: Threads + Wait + Sync, G: Gate + Sync>(
         Ok(journaled) => journaled,
         Err(left) => return Err(LiveFault::Memory(left)),
     };
-    match recorded(rt, journaled, gate) {
+    // `Brand` names its origin, which only contracts use.
+    match run_of::<Brand, R, G>(rt, journaled, gate) {
         Ok((journaled, ending)) => Ok(ended(journaled, ending)),
         Err(fault) => Err(fault),
     }

@@ -8,6 +8,5 @@ pub mod List
 pub mod Live
 pub mod ProgramFile
 pub mod Race
-pub mod Racing
 pub mod RunLine
 pub mod Outcome

@@ -7,6 +7,8 @@ use Rattle.shared_phaser.specs.declared.history.{Reply.TheVariants.Counted, Setu
 use Rattle.shared_phaser.specs.declared.history.Answer.TheVariants.{Replied, Passed}
 use Rattle.shared_phaser.specs.History.{IsLegal, at_end, calls_by}
 use Rattle.shared_phaser.specs.Known.{Caller, Identity, entry, phaser_of}
+use Rattle.workbench.specs.declared.fault.Fault.{Fault}
+use Rattle.workbench.specs.declared.fault.Fault.TheVariants as fault
 
 -- how a race's phaser begins
 abbrev pub opening_of : ℕ → Setup
@@ -51,6 +53,10 @@ HasMet before rounds caller =
 
 abbrev pub number_of : Caller → ℕ
 number_of caller = caller.known.number
+
+-- why a race breaks off: it is out of memory, or a thread couldn't be started, or the output failed
+abbrev pub IsRaceFault : Fault → Type 0
+IsRaceFault f = (f ≡ fault.Memory) ⊎ ((f ≡ fault.Spawn) ⊎ (f ≡ fault.Write))
 
 -- the line of a phaser
 abbrev pub line_of : Flat → List ℕ

@@ -1,5 +1,5 @@
 // Where the lines of a session come from.
-ghost use Rattle.std.specs.Prelude.{◌≡◌, ◌⊎◌, ◌+◌, ◌≤◌, ◌∷◌, ◌++◌, [], true, false, ℕ, Bool, length, All, List, Option, Some, None, Ok, Err, IsTrue, IfErr, OnOk};
+ghost use Rattle.std.specs.Prelude.{◌≡◌, ◌⊎◌, ◌+◌, ◌≤◌, ◌∷◌, ◌++◌, [], true, false, ℕ, Bool, length, List, Option, Some, None, Ok, Err, IsTrue, IfErr, OnOk};
 ghost use Rattle.std.specs.Io.KnownBytes.{Consumes, IsAtEnd};
 ghost use Rattle.workbench.specs.{declared.fault.Fault.Fault, Debug.HasNoEnd, Input.IsCounted};
 

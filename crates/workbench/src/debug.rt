@@ -87,27 +87,12 @@ pub fn debug_behind<C: Companion, K: Sink>(
         (K.written output.old) (K.written output.new) (K.has_failed output.new) }
     ensures few { GivesFew (C.left commands.old) (C.left commands.new) }
 {
-    match first_debugger(alloc, image) {
-        Ok(mut debugger) => debug_runs(alloc, &mut debugger, runs, commands, output),
-        Err(fault) => Err(fault),
-    }
-}
-
-/// Plays `runs` on a debugger before its first choice, writes the reply of `g`, and carries out the lines of `commands`.
-fn debug_runs<C: Companion, K: Sink>(
-    alloc: Global,
-    debugger: &mut Debugger,
-    runs: &[Run],
-    commands: &mut C,
-    output: &mut K,
-) -> Result<(), Fault>
-    ensures outcome { (image : Image) → IsFirstSession image debugger.old → Debugs (Some runs.now) image result
-        (C.left commands.old) (C.left commands.new) (C.has_failed commands.new)
-        (K.written output.old) (K.written output.new) (K.has_failed output.new) }
-    ensures few { GivesFew (C.left commands.old) (C.left commands.new) }
-{
+    let mut debugger = match first_debugger(alloc, image) {
+        Ok(debugger) => debugger,
+        Err(fault) => return Err(fault),
+    };
     match debugger.go_command(runs, output) {
-        Ok(()) => converse(alloc, debugger, commands, output),
+        Ok(()) => converse(alloc, &mut debugger, commands, output),
         Err(_) => Err(Fault::Write),
     }
 }
@@ -126,34 +111,17 @@ pub fn debug_at<T: Source, C: Companion, K: Sink>(
         (K.written output.old) (K.written output.new) (K.has_failed output.new) }
     ensures few { GivesFew (C.left commands.old) (C.left commands.new) }
 {
-    match first_debugger(alloc, image) {
-        Ok(mut debugger) => debug_from(alloc, &mut debugger, trace, commands, output),
-        Err(fault) => Err(fault),
-    }
-}
-
-/// Plays a trace's choices on a debugger before its first choice, writes the reply of `g`, and carries out the lines of
-/// `commands`. If it isn't a trace, it writes `not a trace LINE`, and reads no command.
-fn debug_from<T: Source, C: Companion, K: Sink>(
-    alloc: Global,
-    debugger: &mut Debugger,
-    trace: &mut T,
-    commands: &mut C,
-    output: &mut K,
-) -> Result<Done, Fault>
-    ensures outcome { (image : Image) → IsFirstSession image debugger.old
-        → DebugsAt image result (T.left trace.old) (T.left trace.new) (T.has_failed trace.new)
-        (C.left commands.old) (C.left commands.new) (C.has_failed commands.new)
-        (K.written output.old) (K.written output.new) (K.has_failed output.new) }
-    ensures few { GivesFew (C.left commands.old) (C.left commands.new) }
-{
-    let stop = match play_trace(alloc, debugger, trace) {
+    let mut debugger = match first_debugger(alloc, image) {
+        Ok(debugger) => debugger,
+        Err(fault) => return Err(fault),
+    };
+    let stop = match play_trace(alloc, &mut debugger, trace) {
         Ok(PlayedTrace::To(stop)) => stop,
         Ok(PlayedTrace::NotATrace { line }) => return not_a_trace(output, line),
         Err(fault) => return Err(fault),
     };
     match say_stop(output, stop) {
-        Ok(()) => as_asked(converse(alloc, debugger, commands, output)),
+        Ok(()) => as_asked(converse(alloc, &mut debugger, commands, output)),
         Err(_) => Err(Fault::Write),
     }
 }
@@ -220,10 +188,7 @@ pub fn first_debugger(alloc: Global, image: Image) -> Result<Debugger, Fault>
         Err(StartFault::Load(fault)) => return Err(Fault::Load(fault)),
         Err(StartFault::Memory) => return Err(Fault::Memory),
     };
-    match Debugger::new(alloc, machine, MOST_KEPT) {
-        Ok(debugger) => Ok(debugger),
-        Err(_) => Err(Fault::Memory),
-    }
+    Debugger::new(alloc, machine, MOST_KEPT).map_err(|_| Fault::Memory)
 }
 
 /// Reads a line, writes its reply, and goes on so, up to `q` or to the end. Fails with `Read` after 1,000,000,000 bytes.

@@ -10,6 +10,7 @@ use itoa::Buffer;
 use loader::{LoadFault, Place};
 use row_code::ImageFault;
 use schedule_reader::ScheduleFault;
+use std::alloc::AllocError;
 use trace_text::RunFault;
 
 /// Which picture of a run is asked for.
@@ -58,6 +59,17 @@ pub enum Fault {
     Write,
 }
 
+impl From<AllocError> for Fault {
+    ghost use Rattle.std.specs.Prelude.{◌≡◌};
+    ghost use Rattle.workbench.specs.declared.fault.Fault.TheVariants.{Memory};
+
+    ghost from_gives = { λ _ fault. fault ≡ Memory };
+
+    fn from(_error: AllocError) -> Fault {
+        Fault::Memory
+    }
+}
+
 impl Fault {
     /// Returns a run's fault as a command's fault.
     pub fn of_run(fault: RunFault) -> Fault
@@ -84,7 +96,11 @@ fn refusal_status(number: Option<u8>) -> u8
 }
 
 /// Writes a word and a number.
-fn push_with_count<E: Sink>(errors: &mut E, word: &[u8], count: u64) -> Result<(), Failed>
+pub(crate) fn push_with_count<E: Sink>(
+    errors: &mut E,
+    word: &[u8],
+    count: u64,
+) -> Result<(), Failed>
     ensures bytes { OnOk result (Appends (E.written errors.old) (E.written errors.new)
         (counted word.now count)) }
     ensures failed { OnErr result (IsTrue (E.has_failed errors.new)) }

@@ -1,23 +1,20 @@
 //! A race as a command: threads meet at one shared phaser, and a line tells about this phaser.
 //!
 //! A thread meets the others when it calls `arriveAndAwaitAdvance`. In a race each thread does this the same number of times.
-//! `meeting` returns the word that the phaser has after the last meeting, and `command` writes this word as a line.
+//! `meeting` returns the word that the phaser has after the last meeting, and `line` writes this word as a line.
 ghost use Rattle.std.specs.Prelude.{◌≡◌, ◌⊎◌, ℕ, Err, IfErr, IsTrue, OnOk};
 ghost use Rattle.std.specs.Io.KnownBytes.{Appends};
 ghost use Rattle.packed_phaser.specs.Word.{record_of};
-ghost use Rattle.workbench.specs.{Race.IsFinal, Race.line_of, declared.racing.fault.RaceFault.RaceFault, Racing.fault_of_race};
+ghost use Rattle.workbench.specs.Race.{IsFinal, IsRaceFault, line_of};
 ghost use Rattle.workbench.specs.{declared.fault.Fault.Fault, Fault.HasReported, Fault.status_of};
 
-mod command;
-pub mod fault;
 mod line;
 mod meeting;
 pub mod pace;
 
 use crate::done::{as_asked, settled};
 use crate::fault::Fault;
-use crate::racing::command::write_race;
-use crate::racing::fault::RaceFault;
+use crate::racing::line::push_line;
 use crate::racing::pace::{NoPace, Pace};
 use byte_ports::Sink;
 use std::alloc::Global;
@@ -39,8 +36,8 @@ pub fn race_cmd<R: Threads + Wait + Sync, K: Sink, E: Sink>(
     ensures done { result ≡ 0 → (word : ℕ) × (IsFinal parties rounds word
         × Appends (K.written output.old) (K.written output.new) (line_of (record_of word))) }
     ensures told { ((result ≡ 0) × (E.written errors.new ≡ E.written errors.old))
-        ⊎ ((fault : RaceFault) × ((result ≡ status_of (fault_of_race fault))
-        × HasReported (fault_of_race fault) (E.has_failed errors.new) (E.written errors.old) (E.written errors.new))) }
+        ⊎ ((fault : Fault) × (IsRaceFault fault × (result ≡ status_of fault)
+        × HasReported fault (E.has_failed errors.new) (E.written errors.old) (E.written errors.new))) }
     ensures unchanged { result ≡ 4 → K.written output.new ≡ K.written output.old }
     ensures port { result ≡ 5 → IsTrue (K.has_failed output.new) }
 {
@@ -62,24 +59,11 @@ pub fn race<R: Threads + Wait + Sync, P: Pace + Sync, K: Sink>(
 ) -> Result<(), Fault>
     ensures done { OnOk result ((word : ℕ) × (IsFinal parties rounds word
         × Appends (K.written output.old) (K.written output.new) (line_of (record_of word)))) }
-    ensures fault { IfErr result (λ fault. (why : RaceFault) × (fault ≡ fault_of_race why)) }
+    ensures fault { IfErr result IsRaceFault }
     ensures unchanged { IfErr result (λ fault. (fault ≡ Fault.Write)
         ⊎ (K.written output.new ≡ K.written output.old)) }
     ensures write { result ≡ Err Fault.Write → IsTrue (K.has_failed output.new) }
 {
-    match write_race(rt, alloc, parties, rounds, pace, output) {
-        Ok(()) => Ok(()),
-        Err(fault) => Err(fault_of_race(fault)),
-    }
-}
-
-/// Returns a race's fault as a command's fault.
-fn fault_of_race(fault: RaceFault) -> Fault
-    ensures { result ≡ fault_of_race fault }
-{
-    match fault {
-        RaceFault::Memory => Fault::Memory,
-        RaceFault::Spawn => Fault::Spawn,
-        RaceFault::Write => Fault::Write,
-    }
+    let word = meeting::race(rt, alloc, parties, rounds, pace)?;
+    push_line(output, word).map_err(|_| Fault::Write)
 }

@@ -1,22 +1,12 @@
 //! The line that a race ends with.
-ghost use Rattle.std.specs.Prelude.{◌≡◌, ◌++◌, IsTrue, OnOk, OnErr};
-ghost use Rattle.std.specs.{Fmt.decimal, Io.KnownBytes.Appends};
+ghost use Rattle.std.specs.Prelude.{◌≡◌, IsTrue, OnOk, OnErr};
+ghost use Rattle.std.specs.Io.KnownBytes.{Appends};
 ghost use Rattle.packed_phaser.specs.Word.{record_of};
 ghost use Rattle.workbench.specs.Race.{line_of};
 
+use crate::fault::push_with_count;
 use byte_ports::{Failed, Sink};
-use itoa::Buffer;
 use packed_phaser::Word;
-
-/// Writes a word, and a number after it.
-fn push_with_count<K: Sink>(output: &mut K, word: &[u8], count: u64) -> Result<(), Failed>
-    ensures bytes { OnOk result (Appends (K.written output.old) (K.written output.new)
-        (word.now ++ decimal count)) }
-    ensures failed { OnErr result (IsTrue (K.has_failed output.new)) }
-{
-    output.push(word)?;
-    output.push(Buffer::new().format(count).as_bytes())
-}
 
 /// Returns the number of a phaser's phase, 0 to 2147483647. After termination the view is that number less 2147483648.
 fn phase_of(word: Word) -> u64

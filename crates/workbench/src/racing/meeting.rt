@@ -1,10 +1,11 @@
 //! Threads that meet at one shared phaser.
-ghost use Rattle.std.specs.Prelude.{◌≡◌, ◌≢◌, ◌+◌, ◌<◌, ◌≤◌, ◌++◌, [], map, ℕ, All, IfOk, IfErr, true, false, length, vec_len, vec_capacity};
+ghost use Rattle.std.specs.Prelude.{◌≡◌, ◌≢◌, ◌⊎◌, ◌+◌, ◌<◌, ◌≤◌, ◌++◌, [], map, ℕ, All, IfOk, IfErr, true, false, length, vec_capacity};
 ghost use Rattle.std.specs.List.{range_with_len};
 ghost use Rattle.shared_phaser.specs.{declared.history.Kept.Kept, Known.EndsAs, Known.phaser_of};
+ghost use Rattle.workbench.specs.declared.fault.Fault.{Fault};
 ghost use Rattle.workbench.specs.Race.{AreMeetings, HasMet, IsFinal, IsFresh, number_of};
 
-use crate::racing::fault::RaceFault;
+use crate::fault::Fault;
 use crate::racing::pace::Pace;
 use packed_phaser::{Policy, Word};
 use phase_number::Phase;
@@ -24,6 +25,7 @@ pub struct Home {
 }
 
 impl Promise<Party> for Home {
+    ghost use Rattle.workbench.specs.declared.fault.Fault.{Fault};
     ghost use Rattle.workbench.specs.Race.{HasMet};
 
     ghost kept_by = { λ home party. HasMet home.caller.value home.rounds party };
@@ -163,25 +165,25 @@ fn gather<R: Threads>(rt: &R, phaser: &SharedPhaser, first: &mut Party, running:
 }
 
 /// Closes the phaser and returns its word. Fails with `Spawn` if a thread wasn't started (`is_whole` is false).
-fn ended(phaser: SharedPhaser, first: Party, is_whole: bool) -> Result<Word, RaceFault>
+fn ended(phaser: SharedPhaser, first: Party, is_whole: bool) -> Result<Word, Fault>
     requires first { first.known.number ≡ 0 }
     requires phaser { phaser_of first ≡ phaser }
     ensures word { IfOk result (λ word. (is_whole ≡ true) × EndsAs first.known word) }
-    ensures spawn { IfErr result (λ fault. (is_whole ≡ false) × (fault ≡ RaceFault.Spawn)) }
+    ensures spawn { IfErr result (λ fault. (is_whole ≡ false) × (fault ≡ Fault.Spawn)) }
 {
     if !is_whole {
-        return Err(RaceFault::Spawn);
+        return Err(Fault::Spawn);
     }
     Ok(phaser.close(first))
 }
 
 /// Returns the fault of a phaser that isn't made: it can only be out of memory.
-fn fault_of_new(fault: NewFault) -> RaceFault
+fn fault_of_new(fault: NewFault) -> Fault
     requires { fault ≢ NewFault.RoutinePolicy }
-    ensures { result ≡ RaceFault.Memory }
+    ensures { result ≡ Fault.Memory }
 {
     match fault {
-        NewFault::Memory => RaceFault::Memory,
+        NewFault::Memory => Fault::Memory,
         NewFault::RoutinePolicy => unreachable!(),
     }
 }
@@ -193,9 +195,9 @@ pub fn race<R: Threads + Wait + Sync, P: Pace + Sync>(
     parties: u16,
     rounds: u32,
     pace: &P,
-) -> Result<Word, RaceFault>
+) -> Result<Word, Fault>
     ensures word { IfOk result (λ word. IsFinal parties rounds word) }
-    ensures fault { IfErr result (λ fault. fault ≢ RaceFault.Write) }
+    ensures fault { IfErr result (λ fault. (fault ≡ Fault.Memory) ⊎ (fault ≡ Fault.Spawn)) }
 {
     let made = SharedPhaser::new(alloc, parties, Policy::Default, Phase::prevailing(0));
     let (phaser, mut first) = match made {

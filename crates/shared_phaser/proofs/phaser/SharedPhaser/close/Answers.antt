@@ -5,7 +5,6 @@ use Rattle.shared_phaser.proofs.phaser.SharedPhaser.close.Goals as goal
 
 pub returns : goal.returns
 returns c =
-    let v = c.first.inside.seat.me.0 in
     let known : c.first.inside.seat.me.0.known ≡ c.args.first.known = ap (λ (p : Caller). p.known) c.first.view_is in
     let same : c.word-bits.result ≡ c.in-Some.word = search rules in
     let first : c.first.inside.seat.me.0.known.number ≡ 0 = ap (λ (p : Caller). p.known.number) c.first.view_is ∙ c.requires.first in

@@ -1,7 +1,7 @@
-use Rattle.std.proofs.Common.{◌≡◌, ◌∙◌, ℕ, sym, subst, rules, arith, None}
+use Rattle.std.proofs.Common.{◌≡◌, ◌∙◌, sym, subst, rules, arith, None}
 use Rattle.std.proofs.lemmas.Result.{on_ok_weaker}
-use Rattle.thread_runner.specs.{Recording.Recording, Recording.recorded_world, Recording.with_choice, Endings.ending_of}
-use Rattle.thread_runner.specs.Turns.{IsNext, choice_in, may_choose}
+use Rattle.thread_runner.specs.{Recording.Recording, Recording.recorded_world, Endings.ending_of}
+use Rattle.thread_runner.specs.Turns.{may_choose}
 use Rattle.thread_runner.proofs.{Threads.one_more, Choosing.chooser}
 use Rattle.thread_runner.proofs.journaled.Journaled.take_next.Goals as goal
 
@@ -19,7 +19,4 @@ unreachable-requires c =
     absurd (cc (found.chooses, not))
 
 pub returns-then-may_choose-clause-recorded : goal.returns-then-may_choose-clause-recorded
-returns-then-may_choose-clause-recorded c = on_ok_weaker c.take_choice.result (λ is.
-    subst (λ (r : Recording). (t : ℕ) × (IsNext (recorded_world r) t
-    × (c.take_choice.new.self ≡ with_choice (choice_in (recorded_world r) t) r))) c.loop-t.invariant.0
-    (c.loop-t.t, ((sym c.may_choose.ensures ∙ c.if-may_choose.true, c.loop-t.invariant.1), is))) c.take_choice.ensures.recorded
+returns-then-may_choose-clause-recorded c = grind (arith, on_ok_weaker)

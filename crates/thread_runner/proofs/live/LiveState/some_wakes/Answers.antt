@@ -16,7 +16,4 @@ returns-then-wakes c =
     (sym c.wakes.ensures ∙ c.if-wakes.true))
 
 pub returns : goal.returns
-returns c =
-    let now = c.args.self.now in
-    sym (none_passes (wakes now.broken (recorded_world now.journaled) now.sleepers) _
-    (λ k within. c.loop-thread.invariant k (search (rules, arith))))
+returns c = grind (arith, none_passes)

@@ -1,4 +1,4 @@
-use Rattle.std.proofs.Common.{◌≡◌, ◌∙◌, ◌++◌, [], List, All, ap, subst, sym, rules, map}
+use Rattle.std.proofs.Common.{inr, ◌≡◌, ◌∙◌, ◌++◌, [], List, All, ap, subst, sym, rules, map}
 use Rattle.std.proofs.lemmas.{List.Elements.All-nil, Result.IfErr-weaker, Result.IfOk-weaker}
 use Rattle.std.specs.declared.thread.PromisedHandle.{PromisedHandle}
 use Rattle.shared_phaser.specs.{declared.history.Kept.Kept, declared.phaser.Party.Party, Known.Caller}
@@ -27,4 +27,4 @@ returns-clause-word g c = IfOk-weaker c.ended.result _ _ (λ word is.
     final c.args.parties c.args.rounds word c.gather.new.first.known opening gathered is.1) c.ended.ensures.word
 
 pub returns-clause-fault : goal.returns-clause-fault
-returns-clause-fault g c = IfErr-weaker c.ended.result _ _ (λ fault is write. cc (is.1, write)) c.ended.ensures.spawn
+returns-clause-fault g c = IfErr-weaker c.ended.result _ _ (λ fault is. inr is.1) c.ended.ensures.spawn
