@@ -203,10 +203,8 @@ fn number_given(
     let Some(digits) = word_given(matches, option) else {
         return Ok(None);
     };
-    match number(digits, least, most) {
-        Some(number) => Ok(Some(number)),
-        None => Err(Refusal::Wrong(NUMBER)),
-    }
+    let number = number(digits, least, most).ok_or(Refusal::Wrong(NUMBER))?;
+    Ok(Some(number))
 }
 
 /// The number of an option that has to be there.
@@ -214,10 +212,7 @@ fn needed(matches: &ArgMatches<'_>, option: &str, least: u32, most: u32) -> Resu
     ensures range { IfOk result (λ n. (least ≤ n) × (n ≤ most)) }
     ensures asked { IfOk result (λ n. IsNumber (given option.now (rows_in matches.now)) (Some n)) }
 {
-    match number_given(matches, option, least, most)? {
-        Some(number) => Ok(number),
-        None => Err(Refusal::Wrong(NUMBER)),
-    }
+    number_given(matches, option, least, most)?.ok_or(Refusal::Wrong(NUMBER))
 }
 
 /// Returns the words of a text, with one blank between them.
@@ -287,12 +282,10 @@ fn given_orders<'a>(alloc: Global, matches: &ArgMatches<'a>) -> Result<Option<Or
     let Some(seeds) = seeds_in(text) else {
         return Err(Refusal::Wrong(SEEDS));
     };
-    let limit = number_given(matches, "limit", 1, 1_000_000)?;
-    let expected = expected(alloc, matches)?;
     Ok(Some(Orders {
         seeds,
-        limit,
-        expected,
+        limit: number_given(matches, "limit", 1, 1_000_000)?,
+        expected: expected(alloc, matches)?,
     }))
 }
 
@@ -301,16 +294,12 @@ fn live<'a>(alloc: Global, matches: &ArgMatches<'a>) -> Result<Request<'a>, Refu
     ensures range { IfOk result IsInRange }
     ensures asked { IfOk result (AsksBy (codes "live") (rows_in matches.now)) }
 {
-    let limit = needed(matches, "limit", 1, 1_000_000_000)?;
-    let seed = number_given(matches, "stir", 0, 4_294_967_295)?;
-    let runs = number_given(matches, "runs", 1, 100_000)?;
-    let expected = expected(alloc, matches)?;
     Ok(Request::Live {
         file: word(matches, "FILE"),
-        limit,
-        seed,
-        runs,
-        expected,
+        limit: needed(matches, "limit", 1, 1_000_000_000)?,
+        seed: number_given(matches, "stir", 0, 4_294_967_295)?,
+        runs: number_given(matches, "runs", 1, 100_000)?,
+        expected: expected(alloc, matches)?,
     })
 }
 
@@ -319,11 +308,9 @@ fn race<'a>(matches: &ArgMatches<'a>) -> Result<Request<'a>, Refusal>
     ensures range { IfOk result IsInRange }
     ensures asked { IfOk result (AsksBy (codes "race") (rows_in matches.now)) }
 {
-    let parties = needed(matches, "parties", 1, 16)?;
-    let rounds = needed(matches, "rounds", 1, 1_000_000)?;
     Ok(Request::Race {
-        parties: parties as u16,
-        rounds,
+        parties: needed(matches, "parties", 1, 16)? as u16,
+        rounds: needed(matches, "rounds", 1, 1_000_000)?,
     })
 }
 
@@ -332,11 +319,10 @@ fn draw<'a>(matches: &ArgMatches<'a>) -> Result<Request<'a>, Refusal>
     ensures range { IfOk result IsInRange }
     ensures asked { IfOk result (AsksBy (codes "draw") (rows_in matches.now)) }
 {
-    let width = needed(matches, "width", 60, 1000)?;
     Ok(Request::Draw {
         file: word(matches, "FILE"),
         steps: chosen_steps(matches),
-        width: width as u16,
+        width: needed(matches, "width", 60, 1000)? as u16,
     })
 }
 
@@ -349,11 +335,10 @@ fn run<'a>(
     ensures range { IfOk result IsInRange }
     ensures asked { IfOk result (IsRun file.entry (rows_in matches.now)) }
 {
-    let expected = expected(alloc, matches)?;
     Ok(Request::Run {
         file,
         steps: chosen_steps(matches),
-        expected,
+        expected: expected(alloc, matches)?,
     })
 }
 
@@ -442,17 +427,11 @@ fn parsed<'a>(
 
 /// Returns the error of arguments of which one isn't text.
 pub fn no_text(alloc: Global, version: &str) -> Error {
-    let mut program = match program(alloc, version) {
-        Ok(program) => program,
-        Err(memory) => return Error::from(memory),
-    };
-    match program.error(
+    let error = program(alloc, version).and_then(|mut program| program.error(
         ErrorKind::ValueValidation,
         "invalid UTF-8 was detected in one or more arguments",
-    ) {
-        Ok(error) => error,
-        Err(memory) => Error::from(memory),
-    }
+    ));
+    error.unwrap_or_else(|memory| Error::from(memory))
 }
 
 /// Returns what the arguments ask for, and when a failure is explained, if they say so. The first one is the program's own name.
@@ -465,6 +444,5 @@ pub fn parse<'a>(
 ) -> Result<(Request<'a>, Option<When>), Error>
     ensures { IfOk result (λ both. IsInRange both.0) }
 {
-    let mut program = program(alloc, version)?;
-    parsed(alloc, &mut program, words)
+    parsed(alloc, &mut program(alloc, version)?, words)
 }

@@ -14,8 +14,8 @@ pub const STANDARD_INPUT: &str = "standard input";
 pub const STANDARD_OUTPUT: &str = "standard output";
 
 /// What is said if `-` isn't standard input.
-const AT_MINUS: &[u8] =
-    b"`-` is standard input as SCHEDULE, TRACE or PLAN; `vuthgal < FILE` plays a text with its schedule";
+const AT_MINUS: &str =
+    "`-` is standard input as SCHEDULE, TRACE or PLAN; `vuthgal < FILE` plays a text with its schedule";
 
 /// The system's number for a pipe that nobody reads.
 const BROKEN_PIPE: i32 = 32;
@@ -33,29 +33,22 @@ fn is_like_plan(name: &str) -> bool {
 /// What helps if no file of this name can be opened: it is `-`, a page, a path of Windows or a plan, or near to a file's name.
 fn hint_at_name(rt: &HostRuntime, name: &str) -> Hint {
     let alloc = rt.alloc();
-    if name == "-" {
-        return help(alloc, AT_MINUS);
-    }
-    if name.ends_with(".html") {
-        return help(
-            alloc,
-            b"`vuthgal show FILE > page.html` writes the page to a file",
-        );
-    }
-    if name.contains('\\') {
-        return help(
-            alloc,
-            b"a path has `/` between its folders, as in `examples/meeting.asm`",
-        );
-    }
-    if is_like_plan(name) {
-        let plan = format!(in alloc; "`vuthgal run FILE --plan '{name}'` plays this as a plan")?;
-        return help(alloc, plan.as_bytes());
-    }
-    match near_file(rt, name) {
-        Some(file) => near(alloc, file.as_bytes()),
-        None => Ok(None),
-    }
+    let helps = match name {
+        "-" => AT_MINUS,
+        _ if name.ends_with(".html") => "`vuthgal show FILE > page.html` writes the page to a file",
+        _ if name.contains('\\') =>
+            "a path has `/` between its folders, as in `examples/meeting.asm`",
+        _ if is_like_plan(name) => {
+            let plan = format!(in alloc;
+                "`vuthgal run FILE --plan '{name}'` plays this as a plan"
+            )?;
+            return help(alloc, plan.as_bytes());
+        }
+        _ => {
+            return near_file(rt, name).map_or(Ok(None), |file| near(alloc, file.as_bytes()));
+        }
+    };
+    help(alloc, helps.as_bytes())
 }
 
 /// What helps if a file can't be read: a folder's programs.
@@ -70,11 +63,8 @@ fn hint_at_read(rt: &HostRuntime, name: &str, error: &io::Error) -> Hint {
     for program in programs.iter() {
         names.push(program.as_bytes())?;
     }
-    help_by_names(
-        rt.alloc(),
-        b"this is a folder; its programs are ",
-        names.as_slice(),
-    )
+    let before = b"this is a folder; its programs are ";
+    help_by_names(rt.alloc(), before, names.as_slice())
 }
 
 /// Reports a fault of a file with the system's reason.
@@ -93,13 +83,8 @@ fn fail_by(
 
 /// Reports a file that can't be opened to be read.
 pub fn fail_to_open(report: &Report<'_>, name: &str, error: &io::Error) -> Reported {
-    fail_by(
-        report,
-        Fault::Read,
-        name,
-        error,
-        hint_at_name(report.rt, name),
-    )
+    let hint = hint_at_name(report.rt, name);
+    fail_by(report, Fault::Read, name, error, hint)
 }
 
 /// Reports a file that can't be opened to be written.
@@ -109,30 +94,21 @@ pub fn fail_to_create(report: &Report<'_>, name: &str, error: &io::Error) -> Rep
 
 /// Reports that two names are those of one file.
 pub fn fail_for_one_file(report: &Report<'_>, name: &str) -> Reported {
-    report.fail_for(
-        Fault::Write,
-        name,
-        "SRC and OUT are the same file",
-        Ok(None),
-    )
+    let reason = "SRC and OUT are the same file";
+    report.fail_for(Fault::Write, name, reason, Ok(None))
 }
 
 /// Reports a fault of a command that read the file `input` and wrote `output`. If the system has no reason, a read was too long.
 pub fn fail(report: &Report<'_>, input: &str, output: &str, fault: Fault) -> Reported {
     match (fault, report.reason.error()) {
-        (Fault::Read, Some(error)) => fail_by(
-            report,
-            fault,
-            input,
-            &error,
-            hint_at_read(report.rt, input, &error),
-        ),
-        (Fault::Read, None) => report.fail_for(
-            fault,
-            input,
-            "it has more than 16777216 bytes",
-            Ok(None),
-        ),
+        (Fault::Read, Some(error)) => {
+            let hint = hint_at_read(report.rt, input, &error);
+            fail_by(report, fault, input, &error, hint)
+        }
+        (Fault::Read, None) => {
+            let reason = "it has more than 16777216 bytes";
+            report.fail_for(fault, input, reason, Ok(None))
+        }
         // The reader of a pipe has gone, and needs no reason.
         (Fault::Write, Some(error)) if error.raw_os_error() == Some(BROKEN_PIPE) => {
             report.line(Unplanned::Fault(fault))

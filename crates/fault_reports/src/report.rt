@@ -98,14 +98,8 @@ impl<'a> Report<'a> {
         if value.is_empty() || When::of(str::from_utf8(value).unwrap_or("")).is_some() {
             return Ok(());
         }
-        push_pieces(
-            errors,
-            &[
-                b"VUTHGAL_EXPLAIN is always, auto or never: ",
-                value,
-                b" counts for nothing\n",
-            ],
-        )
+        errors.push(b"VUTHGAL_EXPLAIN is always, auto or never: ")?;
+        push_pieces(errors, &[value, b" counts for nothing\n"])
     }
 
     /// Returns whether a person is told more. Unless the arguments decide, a wrong value of VUTHGAL_EXPLAIN is told first.
@@ -174,11 +168,8 @@ impl<'a> Report<'a> {
     /// Shows a person in what the states differ in which several runs of a program with these threads ended.
     pub fn differences(&self, names: &[&[u8]], outcomes: &Outcomes) {
         if self.is_explained {
-            let _ = push_differences(
-                names,
-                outcomes,
-                &mut WritePort::new(printable::errors(self.rt)),
-            );
+            let mut errors = WritePort::new(printable::errors(self.rt));
+            let _ = push_differences(names, outcomes, &mut errors);
         }
     }
 

@@ -20,35 +20,24 @@ use thread_machine::Machine;
 /// What is shown of a line of which nothing more is known.
 const NO_COMMAND: &str = "not a command, or no such thread or row: `help` lists the commands";
 
-const ONE_CHOICE: &str = "`s NAME`, or NAME alone, is one choice of a thread; Enter repeats it";
-
-const BREAK: &str =
-    "`k ROW` sets a breakpoint at a row or a label, and `c ROW` clears it; `b` takes a choice back";
-
 /// The commands of other debuggers, and what does the same here.
-static ELSEWHERE: [(&str, &str); 9] = [
-    ("step next n", ONE_CHOICE),
-    (
-        "continue cont run r",
-        "`..` plays all threads in turn, up to a breakpoint; `ann.` plays ann until it waits",
-    ),
-    ("break breakpoint clear", BREAK),
-    ("undo u back", "`b` takes the last choice back"),
-    ("print info state bt", "`p` shows the state"),
-    (
-        "list",
-        "the rows are above the first reply; `vuthgal list --rows FILE` writes them, too",
-    ),
-    ("save", "`w` writes the choices so far, as a plan"),
-    ("quit exit", "`q` ends the session"),
-    ("h", "`help` lists the commands"),
-];
+const ELSEWHERE: &str = "\
+step next n: `s NAME`, or NAME alone, is one choice of a thread; Enter repeats it
+continue cont run r: `..` plays all threads in turn, up to a breakpoint; `ann.` plays ann until it waits
+break breakpoint clear: `k ROW` sets a breakpoint at a row or a label, and `c ROW` clears it; `b` takes a choice back
+undo u back: `b` takes the last choice back
+print info state bt: `p` shows the state
+list: the rows are above the first reply; `vuthgal list --rows FILE` writes them, too
+save: `w` writes the choices so far, as a plan
+quit exit: `q` ends the session
+h: `help` lists the commands
+";
 
 /// What helps if `s` or `g` isn't followed by choices alone.
 fn helps_at_choices(word: &[u8], rest: &[u8]) -> Option<&'static str> {
     let is_step = word == b"s".as_slice();
     if is_step && rest.is_empty() {
-        Some(ONE_CHOICE)
+        found_in(ELSEWHERE, b"step")
     } else if is_step && rest.iter().any(|byte| is_blank(*byte)) {
         Some("`s` is one choice: `g ann bob` plays several")
     } else if is_step && rest.contains(&b'*') {
@@ -76,17 +65,17 @@ fn helps_at_command(said: &[u8]) -> Option<&'static str> {
     }
     match word {
         b"" => Some("there is no command to repeat yet: `help` lists the commands"),
-        b"b" => Some(BREAK),
+        b"b" => found_in(ELSEWHERE, b"break"),
         b"p" => Some("`p` alone shows the whole state"),
         b"w" => Some("`w` alone writes the choices so far, as a plan"),
         b"q" => Some("`q` alone ends the session"),
         b"help" | b"?" => Some("`help` alone lists the commands"),
-        b"k" if rest.is_empty() => Some(BREAK),
+        b"k" if rest.is_empty() => found_in(ELSEWHERE, b"break"),
         b"c" if rest.is_empty() => Some(
             "`c ROW` clears a breakpoint; `..` plays on, up to a breakpoint",
         ),
         b"s" | b"g" => helps_at_choices(word, rest),
-        _ => found_in(&ELSEWHERE, word),
+        _ => found_in(ELSEWHERE, word),
     }
 }
 

@@ -1,7 +1,5 @@
-mod Appended
 mod Awaited
 pub mod Cells
-mod Counts
 pub mod Drawings
 mod Ends
 mod Escapes

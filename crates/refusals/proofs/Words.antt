@@ -1,5 +1,5 @@
 -- The entries of words, beside the instruction table.
-use Rattle.std.proofs.Common.{◌≡◌, ◌≤◌, ◌<◌, ◌-◌, ◌∙◌, ◌++◌, ℕ, zero, suc, List, [], ◌∷◌, length, take, drop, Option, Some, None, IfSome, slice_index_or, ap, sym, subst, arith, zero-add, inl, inr, MatchOption, ◌≢◌, true, false, nat_lt, slice_get, take_all}
+use Rattle.std.proofs.Common.{◌≡◌, ◌≤◌, ◌<◌, ◌-◌, ◌∙◌, ◌++◌, ℕ, zero, suc, List, [], ◌∷◌, length, take, drop, Option, Some, None, IfSome, slice_index_or, ap, sym, subst, arith, inl, inr, MatchOption, ◌≢◌, true, false, nat_lt, slice_get, take_all}
 use Rattle.std.proofs.lemmas.{Grind.common_steps, Bool.Decides.nat_tests, Option.slice_get-get_or}
 use Rattle.std.specs.{Borrow.Bor, List.flat_map}
 use Rattle.instruction_table.specs.declared.shape.Shape.{Shape}

@@ -19,10 +19,7 @@ pub struct Question {
 fn is_place(word: &str) -> bool
     ensures { result ≡ is_place word.now }
 {
-    match word.as_bytes() {
-        [byte, ..] => *byte == b' ',
-        [] => false,
-    }
+    word.as_bytes().first() == Some(&b' ')
 }
 
 /// The number that digits alone spell. None for a sign, other signs, or too large a number.
@@ -32,10 +29,7 @@ fn number(text: &str) -> Option<u64>
     if text.as_bytes().first() == Some(&b'+') {
         return None;
     }
-    match text.parse::<u64>() {
-        Ok(number) => Some(number),
-        Err(_) => None,
-    }
+    text.parse::<u64>().ok()
 }
 
 /// Returns the place that a word has, if it is a number.
@@ -56,26 +50,18 @@ fn fitted(pattern: &[&'static str], words: &[&str]) -> Option<Option<Place>>
         (Fits (texts pattern.now) (texts words.now)) }
 {
     match pattern {
-        [] => if words.is_empty() { Some(None) } else { None },
+        [] => words.is_empty().then_some(None),
+        [asked, ..] if is_word(asked, "..") => Some(None),
         [asked, pattern @ ..] => match words {
-            [] => if is_word(asked, "..") {
-                Some(None)
-            } else {
-                None
-            },
-            [word, words @ ..] => {
-                if is_word(asked, "..") {
-                    Some(None)
-                } else if is_place(asked) {
-                    let place = place_told(asked, word)?;
-                    fitted(pattern, words)?;
-                    Some(Some(place))
-                } else if is_word(asked, "_") || is_word(asked, word) {
-                    fitted(pattern, words)
-                } else {
-                    None
-                }
+            [word, words @ ..] if is_place(asked) => {
+                let place = place_told(asked, word)?;
+                fitted(pattern, words)?;
+                Some(Some(place))
             }
+            [word, words @ ..] if is_word(asked, "_") || is_word(asked, word) => {
+                fitted(pattern, words)
+            }
+            _ => None,
         },
     }
 }
@@ -130,12 +116,8 @@ fn without_refused<'a, 'b>(words: &'b [&'a str]) -> &'b [&'a str]
     ensures { texts result.now ≡ without_refused (texts words.now) }
 {
     match words {
-        [] => words,
-        [word, rest @ ..] => if is_word(word, "refused") {
-            rest
-        } else {
-            words
-        },
+        [word, rest @ ..] if is_word(word, "refused") => rest,
+        _ => words,
     }
 }
 

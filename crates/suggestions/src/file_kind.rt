@@ -40,13 +40,12 @@ fn is_utf_16(bytes: &[u8]) -> bool {
 
 /// Returns what helps if a file has a byte order mark, is UTF-16 or is binary. None for an ASCII text.
 pub fn helps_at_encoding(bytes: &[u8]) -> Option<&'static str> {
-    if bytes.starts_with(&[0xef, 0xbb, 0xbf]) {
-        Some("the file begins with a UTF-8 byte order mark (EF BB BF): save it without one")
-    } else if is_utf_16(bytes) {
-        Some("the file is UTF-16: save it as ASCII")
-    } else if bytes.get(..BEGINNING).unwrap_or(bytes).contains(&0) {
-        Some("the file is binary: a text is ASCII, and `vuthgal asm` makes images")
-    } else {
-        None
+    helps! {
+        bytes.starts_with(&[0xef, 0xbb, 0xbf]) =>
+            "the file begins with a UTF-8 byte order mark (EF BB BF): save it without one",
+        is_utf_16(bytes) => "the file is UTF-16: save it as ASCII",
+        bytes.get(..BEGINNING).unwrap_or(bytes).contains(&0) =>
+            "the file is binary: a text is ASCII, and `vuthgal asm` makes images",
+        else None
     }
 }

@@ -4,6 +4,13 @@
 //! the language has in place of a statement of other languages.
 #![tactic(auto)]
 
+/// What helps in the first of these cases that holds, or else what follows `else`.
+macro_rules! helps {
+    ($($case:expr => $helps:expr,)+ else $other:expr) => {
+        $(if $case { Some($helps) } else)+ { $other }
+    };
+}
+
 // What helps, as a line.
 pub mod hint;
 

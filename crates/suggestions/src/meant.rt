@@ -125,47 +125,31 @@ fn helps_at_word(alloc: Global, text: &[u8], words: &[&[u8]], word: &[u8]) -> Op
         _ => b"".as_slice(),
     };
     let behind_colon = word.get(length_before(b':', word).saturating_add(1)..);
-    if word == b".run".as_slice() && behind.is_empty() {
-        Some(
+    helps! {
+        word == b".run".as_slice() && behind.is_empty() =>
             "this file also has a schedule: `run FILE` plays it, `show FILE` shows it; `debug` and `live` need the part above `.run`",
-        )
-    } else if word == b".run".as_slice() {
-        Some("`.run` is alone in its line, and the schedule is below it")
-    } else if word == b"run".as_slice() && words.len() == 1 {
-        Some("the line between a program and its schedule is `.run`, with a dot")
-    } else if word.eq_ignore_ascii_case(b".run") {
-        Some("the line between a program and its schedule is `.run`, in small letters")
-    } else if has_comment_sign(word) {
-        Some(AT_COMMENT)
-    } else if word.ends_with(b".") && !is_word_of_the_language(behind) {
-        Some("this looks like a plan: the program comes first")
-    } else if is_schedule(alloc, word) {
-        Some("a schedule follows a line `.run`, below the program")
-    } else if is_label(word) {
-        Some("a line has one label: put the other on a line of its own")
-    } else if is_word_of_the_language(behind_colon.unwrap_or(&[])) {
-        Some("put a blank behind the colon, as in `main: paaa r0 p`")
-    } else if words.len() == 1 && is_operand(text, word) {
-        Some("a label needs a colon, as in `main:`")
-    } else if behind.starts_with(b":") {
-        Some("no blank before the colon of a label, as in `main: paaa r0 p`")
-    } else if is_word_of_the_language(behind) {
-        Some("a label needs a colon, as in `main: paaa r0 p`")
-    } else {
-        helps_at_java_line(words, word)
+        word == b".run".as_slice() => "`.run` is alone in its line, and the schedule is below it",
+        word == b"run".as_slice() && words.len() == 1 => "the line between a program and its schedule is `.run`, with a dot",
+        word.eq_ignore_ascii_case(b".run") => "the line between a program and its schedule is `.run`, in small letters",
+        has_comment_sign(word) => AT_COMMENT,
+        word.ends_with(b".") && !is_word_of_the_language(behind) => "this looks like a plan: the program comes first",
+        is_schedule(alloc, word) => "a schedule follows a line `.run`, below the program",
+        is_label(word) => "a line has one label: put the other on a line of its own",
+        is_word_of_the_language(behind_colon.unwrap_or(&[])) => "put a blank behind the colon, as in `main: paaa r0 p`",
+        words.len() == 1 && is_operand(text, word) => "a label needs a colon, as in `main:`",
+        behind.starts_with(b":") => "no blank before the colon of a label, as in `main: paaa r0 p`",
+        is_word_of_the_language(behind) => "a label needs a colon, as in `main: paaa r0 p`",
+        else helps_at_java_line(words, word)
     }
 }
 
 /// What helps at a comma or a quotation mark in a word of a line; `first` is its row's or directive's word.
 fn helps_at_sign(first: &[u8], word: &[u8]) -> Option<&'static str> {
-    if word.ends_with(b",") && first == b".thread".as_slice() {
-        Some(AT_THREAD)
-    } else if word.ends_with(b",") {
-        Some(AT_COMMA)
-    } else if word.contains(&b'"') {
-        Some("there are no texts: a program puts out numbers, as in `out r0`")
-    } else {
-        None
+    helps! {
+        word.ends_with(b",") && first == b".thread".as_slice() => AT_THREAD,
+        word.ends_with(b",") => AT_COMMA,
+        word.contains(&b'"') => "there are no texts: a program puts out numbers, as in `out r0`",
+        else None
     }
 }
 
@@ -182,25 +166,15 @@ fn helps_at_equals(words: &[&[u8]]) -> Option<&'static str> {
 
 /// What helps if a line has too few or too many operands; `first` is its row's or directive's word.
 fn helps_at_count(first: &[u8], words: &[&[u8]]) -> Option<&'static str> {
-    if first == b".thread".as_slice() && have(words, b':') {
-        Some(AT_COLON)
-    } else if first == b".thread".as_slice() {
-        Some(AT_THREAD)
-    } else if first == b".cell".as_slice() {
-        Some("a cell has only a name, and begins at 0: `.cell total`")
-    } else if words.iter().any(|word| begins_other_comment(*word)) {
-        Some(AT_COMMENT)
-    } else if have(words, b',') {
-        Some(AT_COMMA)
-    } else if words
-        .iter()
-        .filter(|word| shape_of(**word).is_some())
-        .count()
-        > 1
-    {
-        Some("one instruction a line: put the second on a line of its own")
-    } else {
-        helps_at_equals(words)
+    helps! {
+        first == b".thread".as_slice() && have(words, b':') => AT_COLON,
+        first == b".thread".as_slice() => AT_THREAD,
+        first == b".cell".as_slice() => "a cell has only a name, and begins at 0: `.cell total`",
+        words.iter().any(|word| begins_other_comment(*word)) => AT_COMMENT,
+        have(words, b',') => AT_COMMA,
+        words.iter().filter(|word| shape_of(**word).is_some()).count() > 1 =>
+            "one instruction a line: put the second on a line of its own",
+        else helps_at_equals(words)
     }
 }
 
@@ -241,16 +215,12 @@ fn helps_at_range(first: &[u8], words: &[&[u8]], word: &[u8]) -> &'static str {
 
 /// What helps at a word that is no register: it is a cell or a number, or the line has a `=`.
 fn helps_at_register(text: &[u8], words: &[&[u8]], word: &[u8]) -> Option<&'static str> {
-    if declares(text, b".cell", word) {
-        Some("`lds r0 c` reads the cell c into r0, and `sts r0 c` writes r0 to it")
-    } else if have(words, b'=') {
-        Some(AT_EQUALS)
-    } else if is_number(word) {
-        Some("put the number into a register first, as in `ldi r1 1`")
-    } else if is_like_register(word) {
-        Some("the registers are r0 to r7: a small r and one digit")
-    } else {
-        None
+    helps! {
+        declares(text, b".cell", word) => "`lds r0 c` reads the cell c into r0, and `sts r0 c` writes r0 to it",
+        have(words, b'=') => AT_EQUALS,
+        is_number(word) => "put the number into a register first, as in `ldi r1 1`",
+        is_like_register(word) => "the registers are r0 to r7: a small r and one digit",
+        else None
     }
 }
 
@@ -260,18 +230,13 @@ fn helps_at_no_name(words: &[&[u8]], word: &[u8]) -> Option<&'static str> {
         [first, name, ..] => is_directive(*first) && *name == word,
         _ => false,
     };
-    if word == b"{".as_slice() {
-        Some("no braces: `try failed` names the label of the handler, and `endtry` ends it")
-    } else if word.ends_with(b":") && words.iter().skip(1).any(|operand| *operand == word) {
-        Some(AT_COLON)
-    } else if is_number(word) && is_in_place_of_name {
-        Some("a declaration begins with its name, as in `.phaser p 2`")
-    } else if is_in_place_of_name {
-        Some("a name has letters, digits and `_`, and begins with no digit, as in `.phaser p 2`")
-    } else if is_number(word) {
-        Some("a declaration begins with its name; an operand is a name, or # and a number: #1")
-    } else {
-        None
+    helps! {
+        word == b"{".as_slice() => "no braces: `try failed` names the label of the handler, and `endtry` ends it",
+        word.ends_with(b":") && words.iter().skip(1).any(|operand| *operand == word) => AT_COLON,
+        is_number(word) && is_in_place_of_name => "a declaration begins with its name, as in `.phaser p 2`",
+        is_in_place_of_name => "a name has letters, digits and `_`, and begins with no digit, as in `.phaser p 2`",
+        is_number(word) => "a declaration begins with its name; an operand is a name, or # and a number: #1",
+        else None
     }
 }
 

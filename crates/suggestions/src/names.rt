@@ -12,13 +12,6 @@ use refusals::table::row::row_entry;
 use refusals::word::word_entry;
 use std::alloc::{AllocError, Global};
 
-/// A name, and what has it.
-#[derive(Clone, Copy)]
-struct Given<'a> {
-    name: &'a [u8],
-    kind: OperandKind,
-}
-
 /// Returns a thing of this kind with its article, as `a cell`, and a line of a program that gives one its name or has one.
 pub fn called(kind: OperandKind) -> (&'static str, &'static str) {
     match kind {
@@ -43,27 +36,17 @@ pub fn letter_of(kind: OperandKind) -> Option<&'static str> {
     }
 }
 
-/// The name that a line gives, if it gives one: its label's, or that of what it declares.
-fn name_given(line: &[u8]) -> Option<Given<'_>> {
-    let first = word(line, 0)?;
-    if is_label(first) {
-        return Some(Given {
-            name: before_last(first),
-            kind: OperandKind::Target,
-        });
-    }
-    if !is_directive(first) {
-        return None;
-    }
-    Some(Given {
-        name: word(line, 1)?,
-        kind: match first {
-            b".phaser" => OperandKind::Phaser,
-            b".barrier" => OperandKind::Barrier,
-            b".thread" => OperandKind::Thread,
-            _ => OperandKind::Cell,
-        },
-    })
+/// The name that a line gives, if it gives one, and the kind of what has it: its label's, or that of what it declares.
+fn name_given(line: &[u8]) -> Option<(&[u8], OperandKind)> {
+    let kind = match word(line, 0)? {
+        label if is_label(label) => return Some((before_last(label), OperandKind::Target)),
+        b".phaser" => OperandKind::Phaser,
+        b".barrier" => OperandKind::Barrier,
+        b".thread" => OperandKind::Thread,
+        first if is_directive(first) => OperandKind::Cell,
+        _ => return None,
+    };
+    Some((word(line, 1)?, kind))
 }
 
 /// Returns the names that a text gives to things of this kind, or without a kind to all that have a line in the state.
@@ -74,9 +57,9 @@ pub fn names_in(
 ) -> Result<Vec<&[u8]>, AllocError> {
     let mut names = Vec::new(alloc);
     for line in text.split(|byte| *byte == b'\n') {
-        if let Some(given) = name_given(line) {
-            if kind.map_or(letter_of(given.kind).is_some(), |kind| kind == given.kind) {
-                names.push(given.name)?;
+        if let Some((name, given)) = name_given(line) {
+            if kind.map_or(letter_of(given).is_some(), |kind| kind == given) {
+                names.push(name)?;
             }
         }
     }
@@ -85,9 +68,10 @@ pub fn names_in(
 
 /// Returns the number of the first line that gives this name, from 1.
 pub fn first_line(text: &[u8], name: &[u8]) -> Option<u64> {
-    let before = text.split(|byte| *byte == b'\n').position(|line| name_given(line).is_some_and(
-        |given| given.name == name,
-    ))?;
+    let before = text.split(|byte| *byte == b'\n').position(|line| name_given(line).is_some_and(|(
+        given,
+        _,
+    )| given == name))?;
     Some((before as u64).saturating_add(1))
 }
 
@@ -121,7 +105,7 @@ pub fn nearest_word(alloc: Global, word: &[u8]) -> Result<Nearest<'static>, Allo
         let directive = (*directive).as_bytes();
         nearest = nearest.or(alloc, method_in(directive), directive, name)?;
     }
-    for (methods, row) in &METHODS {
+    for (methods, row) in METHODS.split('\n').filter_map(|line| line.split_once(": ")) {
         for method in methods.split_ascii_whitespace() {
             if method.len() >= LEAST {
                 nearest = nearest.or(alloc, method.as_bytes(), row.as_bytes(), name)?;

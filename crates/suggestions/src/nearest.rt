@@ -5,15 +5,6 @@ ghost use Rattle.std.specs.Prelude.{◌≡◌, ◌⊎◌, ◌<◌, IfOk, Some};
 use std::alloc::{AllocError, Global};
 use strsim::osa_distance;
 
-/// Returns the word in small letters.
-pub fn in_small_letters(alloc: Global, word: &[u8]) -> Result<Vec<u8>, AllocError> {
-    let mut small = Vec::new(alloc);
-    for byte in word {
-        small.push(byte.to_ascii_lowercase())?;
-    }
-    Ok(small)
-}
-
 /// In how many letters two names differ at least if neither is near to the other.
 const FAR: usize = 3;
 
@@ -23,8 +14,8 @@ fn distance(alloc: Global, a: &[u8], b: &[u8]) -> Result<usize, AllocError> {
     if a.len().abs_diff(b.len()) >= FAR {
         return Ok(usize::MAX);
     }
-    let a = in_small_letters(alloc, a)?;
-    let b = in_small_letters(alloc, b)?;
+    let a = a.to_ascii_lowercase(alloc)?;
+    let b = b.to_ascii_lowercase(alloc)?;
     match (str::from_utf8(a.as_slice()), str::from_utf8(b.as_slice())) {
         (Ok(a), Ok(b)) => osa_distance(alloc, a, b),
         _ => Ok(usize::MAX),

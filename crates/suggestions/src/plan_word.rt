@@ -12,8 +12,6 @@ pub const AT_COMMENT: &str = "a comment begins with `;`";
 
 const AT_COMMA: &str = "no commas: put blanks between the words of a plan";
 
-const AT_SEED: &str = "`?7`, without a blank, plays any thread that can continue, by the seed 7";
-
 const AT_COUNTED_DOT: &str = "a dot has no count: `ann*3`, or `( ann. )*3`";
 
 /// What helps at a choice that is written otherwise, as `T0` and `xt0`.
@@ -30,66 +28,51 @@ pub fn has_comment_sign(word: &[u8]) -> bool {
 /// What helps at a word that no plan has, for a comment, a comma or a count; `before` is the byte before it.
 fn helps_at_count(word: &[u8], before: Option<u8>) -> Option<&'static str> {
     let count = word.get(..length_before(b'*', word)).unwrap_or(word);
-    if has_comment_sign(word) {
-        Some(AT_COMMENT)
-    } else if word.contains(&b',') {
-        Some(AT_COMMA)
-    } else if word.starts_with(b"*") {
-        Some("no blank before a count, as in `ann*3` and `( ann. )*3`")
-    } else if are_digits(count) && count.len() < word.len() {
-        Some("the count is last, as in `ann*3`")
-    } else if matches!(word, [b'[' | b'{', ..]) || are_digits(word) && before == Some(b')') {
-        Some("what is repeated is in parentheses, and its count follows a star: `( ann bob )*3`")
-    } else if are_digits(word) {
-        Some("`t0` is thread 0; a count follows a name and a star, as in `ann*3`")
-    } else {
-        None
+    helps! {
+        has_comment_sign(word) => AT_COMMENT,
+        word.contains(&b',') => AT_COMMA,
+        word.starts_with(b"*") => "no blank before a count, as in `ann*3` and `( ann. )*3`",
+        are_digits(count) && count.len() < word.len() => "the count is last, as in `ann*3`",
+        matches!(word, [b'[' | b'{', ..]) || are_digits(word) && before == Some(b')') =>
+            "what is repeated is in parentheses, and its count follows a star: `( ann bob )*3`",
+        are_digits(word) => "`t0` is thread 0; a count follows a name and a star, as in `ann*3`",
+        else None
     }
 }
 
 /// What helps at a word that no plan has, for its dots.
 fn helps_at_dots(word: &[u8]) -> Option<&'static str> {
     let behind = word.get(length_before(b'.', word).saturating_add(1)..)?;
-    if word == b".".as_slice() {
-        Some("`..` plays all threads in turn; `ann.` plays ann until it waits")
-    } else if word.starts_with(b"...") {
-        Some("`..` has two dots: it plays all threads in turn")
-    } else if word.starts_with(b"..") {
-        Some("a count follows a star, as in `..*5`")
-    } else if word.ends_with(b"..") {
-        Some("one dot follows a name, as in `ann.`; `..` is a word of its own")
-    } else if behind.starts_with(b"*") {
-        Some(AT_COUNTED_DOT)
-    } else if !behind.is_empty() {
-        Some("put a blank behind a dot, as in `ann. bob.`")
-    } else if word.starts_with(b"x") {
-        Some("no dot after an expiry: `xann` lets the time of ann's wait run out")
-    } else {
-        None
+    helps! {
+        word == b".".as_slice() => "`..` plays all threads in turn; `ann.` plays ann until it waits",
+        word.starts_with(b"...") => "`..` has two dots: it plays all threads in turn",
+        word.starts_with(b"..") => "a count follows a star, as in `..*5`",
+        word.ends_with(b"..") => "one dot follows a name, as in `ann.`; `..` is a word of its own",
+        behind.starts_with(b"*") => AT_COUNTED_DOT,
+        !behind.is_empty() => "put a blank behind a dot, as in `ann. bob.`",
+        word.starts_with(b"x") => "no dot after an expiry: `xann` lets the time of ann's wait run out",
+        else None
     }
 }
 
 /// What helps at a star, if its count isn't only too small or too large.
 fn helps_at_star(word: &[u8]) -> Option<&'static str> {
-    if word.ends_with(b".") {
-        Some(AT_COUNTED_DOT)
-    } else if word.contains(&b',') {
-        Some(AT_COMMA)
-    } else if word.ends_with(b"*") {
-        Some("a count follows a star without a blank, as in `ann*3`")
-    } else {
-        None
+    helps! {
+        word.ends_with(b".") => AT_COUNTED_DOT,
+        word.contains(&b',') => AT_COMMA,
+        word.ends_with(b"*") => "a count follows a star without a blank, as in `ann*3`",
+        else None
     }
 }
 
 /// Words that people write in plans, and what helps there.
-static NO_NAMES: [(&str, &str); 5] = [
-    ("x", "no blank: `xann` is the expiry of ann's wait"),
-    ("until", "`ann.` plays ann until it waits, ends or dies"),
-    ("then and", "put only blanks between the words of a plan"),
-    ("seed random", AT_SEED),
-    ("all each every", "`..` plays all threads in turn"),
-];
+const NO_NAMES: &str = "\
+x: no blank: `xann` is the expiry of ann's wait
+until: `ann.` plays ann until it waits, ends or dies
+then and: put only blanks between the words of a plan
+seed random: `?7`, without a blank, plays any thread that can continue, by the seed 7
+all each every: `..` plays all threads in turn
+";
 
 /// Returns what helps at a wrong word of a plan, by its fault and the byte before it. None if its entry says enough.
 pub fn helps_at(kind: PlanFaultKind, word: &[u8], before: Option<u8>) -> Option<&'static str> {
@@ -99,12 +82,12 @@ pub fn helps_at(kind: PlanFaultKind, word: &[u8], before: Option<u8>) -> Option<
         ),
         PlanFaultKind::BadWord => helps_at_count(word, before).or(helps_at_dots(word)),
         PlanFaultKind::BadCount => helps_at_star(word),
-        PlanFaultKind::BadSeed if word == b"?".as_slice() => Some(AT_SEED),
+        PlanFaultKind::BadSeed if word == b"?".as_slice() => found_in(NO_NAMES, b"seed"),
         PlanFaultKind::NotNamed => match word {
             [b'T' | b'X', digits @ ..] | [b'x', b't', digits @ ..] if are_digits(digits) => Some(
                 AT_TURN,
             ),
-            _ => found_in(&NO_NAMES, word),
+            _ => found_in(NO_NAMES, word),
         },
         _ => None,
     }

@@ -18,33 +18,27 @@ pub enum Origin {
 /// byte before it.
 fn helps_at(bytes: &[u8], before: Option<u8>, rest: &[u8], origin: Origin) -> Option<&'static str> {
     let byte = rest.first().copied().unwrap_or(0);
-    if let Some(helps) = helps_at_encoding(bytes) {
-        Some(helps)
-    } else if is_whole_program(bytes) {
-        Some("this is a program: a schedule is a list of turns such as `t0 t1*3`")
-    } else if is_trace(bytes) {
-        Some("this looks like a trace: `vuthgal choices TRACE` writes its schedule")
-    } else if byte == b';' {
-        Some("a schedule can't have comments; a program text can, above its line `.run`")
-    } else if byte == b'*' || before == Some(b'*') && !byte.is_ascii_digit() {
-        Some("a count follows its star, and no blank is beside the star: `t0*3`")
-    } else if matches!((before, byte), (Some(b'0'..=b'9'), b't' | b'x')) {
-        Some("put a blank between two turns, as in `t0 t1`; a count follows a star: `t0*3`")
-    } else if matches!(rest, [b't' | b'T' | b'X', b'0'..=b'9', ..]) {
-        Some(AT_TURN)
-    } else if origin != Origin::Beside && rest.starts_with(b".run") {
-        Some("`.run` is a line of a program's text: a schedule in a file of its own has none")
-    } else if matches!(rest, [b't' | b'x'])
-        || !byte.is_ascii_alphabetic() && !matches!(byte, b'.' | b'?' | b'(' | b')')
-    {
-        None
-    } else if origin == Origin::Beside {
-        Some("below `.run` is a schedule of tN and xN; a plan is an option: `--plan 'ann. bob.'`")
-    } else if origin == Origin::Standard {
-        Some("a schedule has tN and xN; `--plan-file /dev/stdin` plays the plan on standard input")
-    } else {
-        Some("a schedule has tN and xN; a plan has names and `?SEED`: `--plan-file FILE` plays one")
-    }
+    let is_of_plan = !matches!(rest, [b't' | b'x'])
+        && (byte.is_ascii_alphabetic() || matches!(byte, b'.' | b'?' | b'(' | b')'));
+    let helps = helps! {
+        is_whole_program(bytes) => "this is a program: a schedule is a list of turns such as `t0 t1*3`",
+        is_trace(bytes) => "this looks like a trace: `vuthgal choices TRACE` writes its schedule",
+        byte == b';' => "a schedule can't have comments; a program text can, above its line `.run`",
+        byte == b'*' || before == Some(b'*') && !byte.is_ascii_digit() =>
+            "a count follows its star, and no blank is beside the star: `t0*3`",
+        matches!((before, byte), (Some(b'0'..=b'9'), b't' | b'x')) =>
+            "put a blank between two turns, as in `t0 t1`; a count follows a star: `t0*3`",
+        matches!(rest, [b't' | b'T' | b'X', b'0'..=b'9', ..]) => AT_TURN,
+        origin != Origin::Beside && rest.starts_with(b".run") =>
+            "`.run` is a line of a program's text: a schedule in a file of its own has none",
+        is_of_plan && origin == Origin::Beside =>
+            "below `.run` is a schedule of tN and xN; a plan is an option: `--plan 'ann. bob.'`",
+        is_of_plan && origin == Origin::Standard =>
+            "a schedule has tN and xN; `--plan-file /dev/stdin` plays the plan on standard input",
+        is_of_plan => "a schedule has tN and xN; a plan has names and `?SEED`: `--plan-file FILE` plays one",
+        else None
+    };
+    helps_at_encoding(bytes).or(helps)
 }
 
 /// Returns what helps if a schedule is refused at a byte of a line, by its offset there, if that is more than its entry says. At the

@@ -3,7 +3,6 @@
 
 use crate::java::row_of;
 use crate::names::{has_option, nearest_question};
-use crate::nearest::in_small_letters;
 use byte_ports::{Failed, Sink};
 use line_reader::label::is_label;
 use refusals::entries::tables;
@@ -16,7 +15,7 @@ use std::alloc::{AllocError, Global};
 
 /// The row or directive that is meant by a word in large letters, a method of Java, or an option of a directive.
 fn word_meant(alloc: Global, word: &str) -> Result<Option<&'static str>, AllocError> {
-    let small = in_small_letters(alloc, word.as_bytes())?;
+    let small = word.as_bytes().to_ascii_lowercase(alloc)?;
     let small = small.as_slice();
     if let Some(entry) = word_entry(str::from_utf8(small).unwrap_or("")) {
         return Ok(Some(entry.word));
@@ -32,16 +31,11 @@ fn word_meant(alloc: Global, word: &str) -> Result<Option<&'static str>, AllocEr
 
 /// Whether these words are the sentence of an entry, behind the name of its kind if it has one.
 fn are_sentence(means: &str, words: &[&str]) -> bool {
-    let mut said = means
+    means
         .split_once(": ")
         .map_or(means, |(_, sentence)| sentence)
-        .split_ascii_whitespace();
-    for word in words {
-        if said.next() != Some(*word) {
-            return false;
-        }
-    }
-    said.next().is_none()
+        .split_ascii_whitespace()
+        .eq(words.iter().copied())
 }
 
 /// The words that ask for an entry whose sentence a failure at a terminal has: these, behind its place and its kind, which have colons.
@@ -51,14 +45,11 @@ fn asked_by_sentence(words: &[&str]) -> Option<&'static [&'static str]> {
         .take_while(|word| is_label(word.as_bytes()))
         .count();
     let words = words.get(before..).unwrap_or(&[]);
-    for table in tables().iter() {
-        for entry in table.iter() {
-            if are_sentence(entry.means, words) {
-                return entry.asked.first().copied();
-            }
-        }
-    }
-    None
+    tables()
+        .iter()
+        .flat_map(|table| table.iter())
+        .find(|entry| are_sentence(entry.means, words))
+        .and_then(|entry| entry.asked.first().copied())
 }
 
 /// The word that asks for what a line of the state, or a mark in a trace, is about: `p0` for any phaser, `+b0` for a barrier.
@@ -81,19 +72,15 @@ fn numbered_word(word: &str) -> Option<&'static str> {
 
 /// The words that ask for an entry whose kind has this name, as `UnknownWord`, or that ask for it in other letters.
 fn asked_by(name: &str) -> Option<&'static [&'static str]> {
-    for table in tables().iter() {
-        for entry in table.iter() {
-            let kind = entry.means.split_once(':').map_or("", |(kind, _)| kind);
-            if kind.as_bytes().eq_ignore_ascii_case(name.as_bytes()) {
-                return entry.asked.first().copied();
-            }
-            for asked in entry.asked.iter() {
-                if let [word] = *asked {
-                    if word.as_bytes().eq_ignore_ascii_case(name.as_bytes()) {
-                        return Some(*asked);
-                    }
-                }
-            }
+    let is_name = |word: &str| word.as_bytes().eq_ignore_ascii_case(name.as_bytes());
+    for entry in tables().iter().flat_map(|table| table.iter()) {
+        let kind = entry.means.split_once(':').map_or("", |(kind, _)| kind);
+        if is_name(kind) {
+            return entry.asked.first().copied();
+        }
+        let mut asked = entry.asked.iter().copied();
+        if let Some(asked) = asked.find(|asked| matches!(*asked, [word] if is_name(*word))) {
+            return Some(asked);
         }
     }
     None

@@ -29,40 +29,25 @@ const LONGEST_WORD: usize = 131_072;
 
 /// What helps where a plan or a STATE lacks quotes.
 const QUOTES: &str =
-    "help: quote a plan and a STATE that have blanks: `--plan 'ann. bob.' --expect 'ann out 1'`\n";
+    "quote a plan and a STATE that have blanks: `--plan 'ann. bob.' --expect 'ann out 1'`";
 
 /// What helps where an option begins with one hyphen, or with a dash.
-const HYPHENS: &str = "help: an option begins with two hyphens, as in `--plan`\n";
+const HYPHENS: &str = "an option begins with two hyphens, as in `--plan`";
 
 /// Words that people write in place of a command, and what there is.
-static NO_COMMANDS: [(&str, &str); 3] = [
-    ("version", "help: `vuthgal --version` writes the version\n"),
-    (
-        "playground app web",
-        "help: the app is the file `vuthgal.html`; `vuthgal show FILE > page.html` writes it with a run\n",
-    ),
-    (
-        "check test",
-        "help: `bin/check FOLDER` checks the kept runs of a folder, and `vuthgal compare` one trace\n",
-    ),
-];
+const NO_COMMANDS: &str = "\
+version: `vuthgal --version` writes the version
+playground app web: the app is the file `vuthgal.html`; `vuthgal show FILE > page.html` writes it with a run
+check test: `bin/check FOLDER` checks the kept runs of a folder, and `vuthgal compare` one trace
+";
 
 /// Options that people write, and what there is in their place.
-static OPTIONS: [(&str, &str); 4] = [
-    (
-        "--plan --plan-file",
-        "help: `run`, `debug`, `show` and `draw` have this option, behind the command's name\n",
-    ),
-    ("--threads --thread", "help: `race` has `--parties N`\n"),
-    (
-        "--seed",
-        "help: `live` has `--stir SEED`, and `plan` has `--seeds FROM..TO`\n",
-    ),
-    (
-        "-o --out --output",
-        "help: `> FILE` behind the command writes its output to a file\n",
-    ),
-];
+const OPTIONS: &str = "\
+--plan --plan-file: `run`, `debug`, `show` and `draw` have this option, behind the command's name
+--threads --thread: `race` has `--parties N`
+--seed: `live` has `--stir SEED`, and `plan` has `--seeds FROM..TO`
+-o --out --output: `> FILE` behind the command writes its output to a file
+";
 
 /// The status if the arguments are wrong.
 const WRONG_WORDS: u8 = 2;
@@ -202,19 +187,18 @@ fn help_with(
 ) -> Result<Option<String>, AllocError> {
     let helps = match kind {
         ErrorKind::InvalidSubcommand if fs::metadata(rt, wrong).is_ok() => {
-            let run = format!(in rt.alloc();
+            return Ok(Some(format!(in rt.alloc();
                 "help: `vuthgal run {wrong}` plays a text with its schedule, `vuthgal run {wrong} SCHEDULE` a program\n"
-            )?;
-            return Ok(Some(run));
+            )?));
         }
-        ErrorKind::InvalidSubcommand => found_in(&NO_COMMANDS, wrong.as_bytes()),
+        ErrorKind::InvalidSubcommand => found_in(NO_COMMANDS, wrong.as_bytes()),
         ErrorKind::UnknownArgument if have_other_dash(words) => Some(HYPHENS),
         _ if lack_quotes(words) => Some(QUOTES),
-        ErrorKind::UnknownArgument => found_in(&OPTIONS, wrong.as_bytes()),
+        ErrorKind::UnknownArgument => found_in(OPTIONS, wrong.as_bytes()),
         _ => None,
     };
     match helps {
-        Some(helps) => Ok(Some(String::from_str(rt.alloc(), helps)?)),
+        Some(helps) => Ok(Some(format!(in rt.alloc(); "help: {helps}\n")?)),
         None => Ok(None),
     }
 }

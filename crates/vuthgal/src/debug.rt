@@ -40,12 +40,8 @@ fn session<C: Companion>(
         Some(runs) => shown::debug_behind(report.alloc(), image, runs, commands, &mut output),
         None => shown::debug(report.alloc(), image, commands, &mut output),
     };
-    as_asked(flushed(answer, &mut output)).map_err(|fault| fail(
-        report,
-        file,
-        STANDARD_INPUT,
-        fault,
-    ))
+    let failed = |fault| fail(report, file, STANDARD_INPUT, fault);
+    as_asked(flushed(answer, &mut output)).map_err(failed)
 }
 
 /// Returns the lines of standard input, read a block at a time.
@@ -88,13 +84,8 @@ fn session_at(
     let mut trace = Watched::new(report.alloc(), ReadPort::new(trace), 0);
     let mut commands = commands(report)?;
     let mut output = WritePort::new(report.kept(report.rt.stdout()));
-    let answer = shown::debug_at(
-        report.alloc(),
-        image,
-        &mut trace,
-        &mut commands,
-        &mut output,
-    );
+    let alloc = report.alloc();
+    let answer = shown::debug_at(alloc, image, &mut trace, &mut commands, &mut output);
     let done = flushed(answer, &mut output).map_err(|fault| fail(report, file, name, fault))?;
     if done == Done::Unlike {
         let line = wrong_line(report.alloc(), &trace);

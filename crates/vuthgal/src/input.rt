@@ -60,27 +60,20 @@ pub fn named<'a, 'b>(
 
 /// Returns all that a stream of this name holds.
 pub fn contents(report: &Report<'_>, name: &str, stream: Stream<'_>) -> Result<Vec<u8>, Reported> {
-    read_all(report.alloc(), &mut ReadPort::new(stream)).map_err(|fault| files::fail(
-        report, name, "", fault,
-    ))
+    let failed = |fault| files::fail(report, name, "", fault);
+    read_all(report.alloc(), &mut ReadPort::new(stream)).map_err(failed)
 }
 
 /// Returns the program of a file.
 pub fn program<'a>(report: &Report<'_>, file: ProgramFile<'a>) -> Result<Program<'a>, Reported>
     ensures { IfOk result (λ program. IsNamedProgram program.bytes.now program.image program.names) }
 {
-    match program_in(report.alloc(), file.text) {
-        Ok(program) => Ok(program),
-        Err(fault) => Err(fail_to_read(report, file, fault)),
-    }
+    program_in(report.alloc(), file.text).map_err(|fault| fail_to_read(report, file, fault))
 }
 
 /// Returns the program of a text, also if it begins as an image does.
 pub fn text<'a>(report: &Report<'_>, file: ProgramFile<'a>) -> Result<Program<'a>, Reported>
     ensures { IfOk result (λ program. StandsFor program.bytes.now program.image) }
 {
-    match program_of_text(report.alloc(), file.text) {
-        Ok(program) => Ok(program),
-        Err(fault) => Err(fail_to_read(report, file, fault)),
-    }
+    program_of_text(report.alloc(), file.text).map_err(|fault| fail_to_read(report, file, fault))
 }

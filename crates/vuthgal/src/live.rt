@@ -36,14 +36,8 @@ fn played<R: Threads + Wait + Sync>(
 {
     let mut output = block_port(report)?;
     let gate = asked.pauses.of_run(0, &NoGate);
-    let answer = shown::live(
-        threads,
-        report.alloc(),
-        asked.limit,
-        &gate,
-        image,
-        &mut output,
-    );
+    let alloc = report.alloc();
+    let answer = shown::live(threads, alloc, asked.limit, &gate, image, &mut output);
     match passed_on(answer, &mut output) {
         Ok(end) => Ok(ended(report, file.bytes, asked.expected, &end, LIMIT_ENDS)),
         Err(fault) => Err(fail(report, file, file.name, fault)),
@@ -112,18 +106,8 @@ pub fn race<R: Threads + Wait + Sync>(
     rounds: u32,
 ) -> Result<Done, Reported> {
     let mut output = WritePort::new(report.kept(report.rt.stdout()));
-    let answer = racing::race(
-        threads,
-        report.alloc(),
-        parties,
-        rounds,
-        &NoPace,
-        &mut output,
-    );
-    as_asked(flushed(answer, &mut output)).map_err(|fault| files::fail(
-        report,
-        "",
-        STANDARD_OUTPUT,
-        fault,
-    ))
+    let alloc = report.alloc();
+    let answer = racing::race(threads, alloc, parties, rounds, &NoPace, &mut output);
+    let failed = |fault| files::fail(report, "", STANDARD_OUTPUT, fault);
+    as_asked(flushed(answer, &mut output)).map_err(failed)
 }

@@ -69,14 +69,11 @@ fn main(rt: HostRuntime) -> ExitCode {
             file,
             plan,
             has_names,
-            orders: None,
-        } => plan::plan(&report, file, plan, has_names),
-        Request::Plan {
-            file,
-            plan,
-            has_names,
-            orders: Some(orders),
-        } => plan::seeds(&report, file, plan, has_names, &orders),
+            orders,
+        } => match orders {
+            None => plan::plan(&report, file, plan, has_names),
+            Some(orders) => plan::seeds(&report, file, plan, has_names, &orders),
+        },
     };
     ExitCode::from(match answer {
         Ok(done) => done.status(),

@@ -31,19 +31,12 @@ fn made<P: Picture>(
     choices: Choices<'_>,
 ) -> Result<Done, Reported> {
     let Choices { name, origin, .. } = choices;
-    let source = ReadPort::new(choices.stream);
-    let mut schedule = Watched::new(report.alloc(), source, choices.lines);
+    let alloc = report.alloc();
+    let mut schedule = Watched::new(alloc, ReadPort::new(choices.stream), choices.lines);
     let mut output = WritePort::new(report.kept(report.rt.stdout()));
     // Below `.run` the whole schedule is in memory, so its fault is reported even behind too many choices.
     let to_end = matches!(origin, Origin::Beside);
-    let answer = make(
-        report.alloc(),
-        picture,
-        program,
-        &mut schedule,
-        to_end,
-        &mut output,
-    );
+    let answer = make(alloc, picture, program, &mut schedule, to_end, &mut output);
     match flushed(answer, &mut output) {
         Ok(missing) => {
             if choices.live == NO_SCHEDULE {
@@ -74,15 +67,9 @@ fn picture<P: Picture>(
         text,
     };
     let program = input::program(report, file)?;
-    match steps {
-        OpenSteps::Beside => {
-            let choices = Choices::beside(file, beside);
-            made(report, picture, file, program, choices)
-        }
-        OpenSteps::Named(name, stream) => {
-            let choices = Choices::named(name, stream);
-            made(report, picture, file, program, choices)
-        }
+    let choices = match steps {
+        OpenSteps::Beside => Choices::beside(file, beside),
+        OpenSteps::Named(name, stream) => Choices::named(name, stream),
         OpenSteps::Plan(name, plan) => {
             let bytes = plan.as_slice();
             let written = PlanFile { name, bytes };
@@ -90,18 +77,19 @@ fn picture<P: Picture>(
             if planned.stopped {
                 push_stopped(report);
             }
-            let schedule = write_schedule(report.alloc(), planned.runs.as_slice()).map_err(
-                |_| report.fault(Fault::Memory),
-            )?;
-            let choices = Choices::planned(name, schedule.as_bytes());
+            let Ok(schedule) = write_schedule(report.alloc(), planned.runs.as_slice()) else {
+                return Err(report.fault(Fault::Memory));
+            };
+            let choices = Choices::named(name, input::Stream::Text(schedule.as_bytes()));
             let done = made(report, picture, file, program, choices)?;
             // A picture that is refused has its own help.
             if planned.stopped {
                 explain_stopped(report, written);
             }
-            Ok(done)
+            return Ok(done);
         }
-    }
+    };
+    made(report, picture, file, program, choices)
 }
 
 /// Writes the page of the program in a file.

@@ -31,11 +31,8 @@ fn inputs<'a>(
         let program = input::contents(report, file, program)?;
         return Ok((program, "", Vec::new(report.alloc())));
     };
-    let (name, stream) = input::named(
-        report,
-        word,
-        b"reading a plan from the terminal (plan --help lists its words)\n",
-    )?;
+    let waiting = b"reading a plan from the terminal (plan --help lists its words)\n";
+    let (name, stream) = input::named(report, word, waiting)?;
     let program = input::contents(report, file, program)?;
     Ok((program, name, input::contents(report, name, stream)?))
 }
@@ -63,31 +60,14 @@ pub fn plan(
     let program = input::program(report, file)?;
     let names = names_of(report, &program)?;
     let mut output = WritePort::new(report.kept(report.rt.stdout()));
+    let alloc = report.alloc();
     let planned = if has_names {
-        plan_with_names(
-            report.alloc(),
-            program,
-            plan.bytes,
-            MOST_CHOICES,
-            &mut output,
-        )
+        plan_with_names(alloc, program, plan.bytes, MOST_CHOICES, &mut output)
     } else {
-        commands::plan::plan(
-            report.alloc(),
-            program,
-            plan.bytes,
-            MOST_CHOICES,
-            &mut output,
-        )
+        commands::plan::plan(alloc, program, plan.bytes, MOST_CHOICES, &mut output)
     };
-    let is_stopped = planned.map_err(|why| fail_at_plan(
-        report,
-        file,
-        names.as_slice(),
-        plan,
-        why,
-    ))?;
-    match flushed(Ok(is_stopped), &mut output) {
+    let failed = |why| fail_at_plan(report, file, names.as_slice(), plan, why);
+    match flushed(Ok(planned.map_err(failed)?), &mut output) {
         Ok(false) => Ok(Done::AsAsked),
         Ok(true) => {
             report_stopped(report, plan);
@@ -143,10 +123,9 @@ pub fn seeds(
     };
     let mut output = block_port(report)?;
     let failed = |why| fail_at_plan(report, file, names.as_slice(), plan, why);
-    let tally = report_seeds(report.alloc(), program, plan.bytes, &seeds, &mut output).map_err(
-        failed,
-    )?;
-    let tally = passed_on(Ok(tally), &mut output).map_err(|fault| failed(Unplanned::Fault(fault)))?;
+    let tally = report_seeds(report.alloc(), program, plan.bytes, &seeds, &mut output);
+    let tally = passed_on(Ok(tally.map_err(failed)?), &mut output);
+    let tally = tally.map_err(|fault| failed(Unplanned::Fault(fault)))?;
     report.differences(names.as_slice(), &tally.outcomes);
     Ok(settled_by(report, file.bytes, expected.as_slice(), tally.unlike))
 }

@@ -60,24 +60,14 @@ impl<'a> Choices<'a> {
         }
     }
 
-    /// Returns the schedule that a plan of this name stands for.
-    pub fn planned(name: &'a str, schedule: &'a [u8]) -> Choices<'a> {
-        Choices {
-            name,
-            origin: Origin::Plan,
-            stream: Stream::Text(schedule),
-            lines: 0,
-            live: SCHEDULE_ENDS,
-        }
-    }
-
-    /// Returns the schedule of this name.
+    /// Returns the schedule of this name. A text is that of a plan.
     pub fn named(name: &'a str, stream: Stream<'a>) -> Choices<'a> {
         Choices {
             name,
             origin: match &stream {
                 Stream::Standard(_) => Origin::Standard,
-                _ => Origin::File,
+                Stream::File(_) => Origin::File,
+                Stream::Text(_) => Origin::Plan,
             },
             stream,
             lines: 0,
@@ -120,13 +110,11 @@ fn played(
     expected: &[Vec<u8>],
 ) -> Result<Done, Reported> {
     let Choices { name, origin, .. } = choices;
-    let source = ReadPort::new(choices.stream);
-    let mut schedule = Watched::new(report.alloc(), source, choices.lines);
+    let alloc = report.alloc();
+    let mut schedule = Watched::new(alloc, ReadPort::new(choices.stream), choices.lines);
     let mut output = block_port(report)?;
-    let answer = shown::run(report.alloc(), image, &mut schedule, &mut output).map_err(
-        |fault| Fault::of_run(fault),
-    );
-    match passed_on(answer, &mut output) {
+    let answer = shown::run(alloc, image, &mut schedule, &mut output);
+    match passed_on(answer.map_err(|fault| Fault::of_run(fault)), &mut output) {
         Ok(end) => {
             let done = ended(report, file.bytes, expected, &end, choices.live);
             if let Some(refused) = &end.refused {
@@ -168,10 +156,8 @@ pub fn run<'a>(
     expected: &[&str],
 ) -> Result<Done, Reported> {
     if name.is_none() {
-        notes::push_waiting(
-            report,
-            b"reading a program text from the terminal (--help says more)\n",
-        );
+        let waiting = b"reading a program text from the terminal (--help says more)\n";
+        notes::push_waiting(report, waiting);
     }
     let (bytes, steps) = opened(report, name, steps)?;
     let (text, beside) = match name {
@@ -189,18 +175,13 @@ pub fn run<'a>(
     };
     let expected = expectations(report, &program.names, expected)?;
     let expected = expected.as_slice();
-    match steps {
-        OpenSteps::Beside => {
-            let choices = Choices::beside(file, beside);
-            played(report, file, program.image, choices, expected)
-        }
-        OpenSteps::Named(name, stream) => {
-            let choices = Choices::named(name, stream);
-            played(report, file, program.image, choices, expected)
-        }
+    let choices = match steps {
+        OpenSteps::Beside => Choices::beside(file, beside),
+        OpenSteps::Named(name, stream) => Choices::named(name, stream),
         OpenSteps::Plan(name, plan) => {
             let bytes = plan.as_slice();
-            play_plan(report, file, program, PlanFile { name, bytes }, expected)
+            return play_plan(report, file, program, PlanFile { name, bytes }, expected);
         }
-    }
+    };
+    played(report, file, program.image, choices, expected)
 }

@@ -36,11 +36,8 @@ fn open_steps<'a>(report: &'a Report<'_>, steps: Steps<'a>) -> Result<OpenSteps<
         Steps::Beside => Ok(OpenSteps::Beside),
         Steps::Trace(name) => Ok(OpenSteps::Named(name, input::stream(report, name)?)),
         Steps::Named(word) => {
-            let (name, stream) = input::named(
-                report,
-                word,
-                b"reading a schedule from the terminal (Ctrl-D ends it)\n",
-            )?;
+            let waiting = b"reading a schedule from the terminal (Ctrl-D ends it)\n";
+            let (name, stream) = input::named(report, word, waiting)?;
             Ok(OpenSteps::Named(name, stream))
         }
         Steps::Plan(plan) => {
@@ -119,13 +116,8 @@ pub fn played(
     ensures { IfOk result (λ planned. AreRuns planned.runs.items) }
 {
     let names = names_of(report, program)?;
-    planned_in(report.alloc(), program, plan.bytes).map_err(|why| fail_at_plan(
-        report,
-        file,
-        names.as_slice(),
-        plan,
-        why,
-    ))
+    let failed = |why| fail_at_plan(report, file, names.as_slice(), plan, why);
+    planned_in(report.alloc(), program, plan.bytes).map_err(failed)
 }
 
 /// Returns what a plan plays on a program. It is reported if the plan needs more choices than it may make.

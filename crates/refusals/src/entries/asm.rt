@@ -1,8 +1,7 @@
 use crate::entry::Entry;
 
-/// A program text that is refused for a line, its first word, or how many operands it has.
-pub static ASM_LINE: [Entry; 4] =
-    numbered! { "refused ", "asm", "docs/LANGUAGE.md, \"Kinds of fault\"";
+/// A program text that is refused.
+pub static ASM: [Entry; 13] = numbered! { "refused ", "asm", "docs/LANGUAGE.md, \"Kinds of fault\"";
     LINE 1: "BadByte: a byte that isn't allowed, not even in a comment",
         "printable ASCII, spaces and tabs; no UTF-8 byte order mark (EF BB BF)",
         "printf 'halt ; caf\\303\\251\\n' | vuthgal";
@@ -15,11 +14,6 @@ pub static ASM_LINE: [Entry; 4] =
     LINE 4: "OperandCount: too few or too many operands, or arguments of options",
         "as many operands as the instruction or directive has",
         "printf 'ldi r0\\n' | vuthgal";
-};
-
-/// A program text that is refused for an operand.
-pub static ASM_OPERAND: [Entry; 5] =
-    numbered! { "refused ", "asm", "docs/LANGUAGE.md, \"Kinds of fault\"";
     LINE 5: "BadRegister: the word isn't a register",
         "r0 to r7, a small r and one digit",
         "printf 'ldi r8 1\\n' | vuthgal";
@@ -35,11 +29,6 @@ pub static ASM_OPERAND: [Entry; 5] =
     LINE 9: "UnknownName: nothing of the kind that is needed here has this name",
         "the name of a label, or of a declared phaser, barrier, thread or cell",
         "printf 'jmp nowhere\\n' | vuthgal";
-};
-
-/// A program text that is refused for what it declares, or for how much.
-pub static ASM_DECLARATION: [Entry; 4] =
-    numbered! { "refused ", "asm", "docs/LANGUAGE.md, \"Kinds of fault\"";
     LINE 10: "NameTwice: an earlier line has defined this name",
         "another name; labels and declared things can't share a name",
         "printf '.cell x\\n.thread x #0\\n' | vuthgal";

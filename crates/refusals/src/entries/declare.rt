@@ -18,8 +18,8 @@ macro_rules! declared {
     };
 }
 
-/// Why a phaser can't be declared: a count of parties or levels.
-pub static DECLARE_COUNT: [Entry; 3] = declared! {
+/// Why a phaser can't be declared.
+pub static DECLARE: [Entry; 6] = declared! {
     1: "BadParties: fewer than 0 or more than 65535 parties",
         "0 to 65535 parties",
         "none: a text or an image can't have such a number";
@@ -29,10 +29,6 @@ pub static DECLARE_COUNT: [Entry; 3] = declared! {
     3: "TooDeep: it would be on level 9 of its tree",
         "at most 8 levels",
         "{ echo .phaser a 0; for i in {0..7}; do echo .phaser a$i 0 parent \\#$i; done; echo .thread t \\#0; echo halt; } | vuthgal";
-};
-
-/// Why a phaser can't be declared: another reason.
-pub static DECLARE_OTHER: [Entry; 3] = declared! {
     4: "TooManyPhasers: there are already 64 phasers",
         "at most 64 phasers",
         "none: a text or an image can't have so many";

@@ -1,7 +1,7 @@
 use crate::entry::Entry;
 
-/// The numbers of the exceptions that Java has, and their names.
-pub static EXCEPTION: [Entry; 5] = numbered! { "", "exception", "docs/BEHAVIOUR.md, \"Exceptions\"";
+/// The exceptions: those that Java has, with their names, and the others.
+pub static EXCEPTION: [Entry; 8] = numbered! { "", "exception", "docs/BEHAVIOUR.md, \"Exceptions\"";
     1 | "IllegalStateException": "IllegalStateException: no party left to arrive, or too many parties",
         "a registration before the arrival",
         "printf '.phaser p 0\\n.thread t #0\\nparr r0 p\\nhalt\\n.run\\nt0\\n' | vuthgal";
@@ -17,11 +17,6 @@ pub static EXCEPTION: [Entry; 5] = numbered! { "", "exception", "docs/BEHAVIOUR.
     5 | "TimeoutException": "TimeoutException: a timed wait timed out, or its time is 0 or less",
         "a time above 0, and no xN in the schedule",
         "printf '.barrier b 2\\n.thread t #0\\ncawaitt r0 b r1\\nhalt\\n.run\\nt0\\n' | vuthgal";
-};
-
-/// The numbers of the other exceptions.
-pub static OTHER_EXCEPTION: [Entry; 3] =
-    numbered! { "", "exception", "docs/BEHAVIOUR.md, \"Exceptions\"";
     6: "stack full: a call, a try or an arrival with 64 entries on the stack",
         "a ret for each call, an endtry for each try",
         "printf '.thread t #0\\ncall #0\\nhalt\\n.run\\nt0*65\\n' | vuthgal";

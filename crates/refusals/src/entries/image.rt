@@ -1,7 +1,7 @@
 use crate::entry::Entry;
 
-/// An image that is refused for how it begins.
-pub static IMAGE_HEAD: [Entry; 3] = numbered! { "refused ", "image", "docs/FORMATS.md, \"Images\"";
+/// An image that is refused.
+pub static IMAGE: [Entry; 7] = numbered! { "refused ", "image", "docs/FORMATS.md, \"Images\"";
     1: "Short: the file ends too early",
         "12 bytes, then as many entries as they say",
         "printf 'PBW1' > a.image; vuthgal list a.image";
@@ -11,10 +11,6 @@ pub static IMAGE_HEAD: [Entry; 3] = numbered! { "refused ", "image", "docs/FORMA
     3: "Count: more than 64 phasers, barriers or threads",
         "at most 64 of each",
         "printf 'PBW1\\101\\0\\0\\0\\0\\0\\0\\0' > a.image; vuthgal list a.image";
-};
-
-/// An image that is refused for a field, a row, or what follows.
-pub static IMAGE_FIELD: [Entry; 4] = numbered! { "refused ", "image", "docs/FORMATS.md, \"Images\"";
     4 BYTE: "Field: the field at this byte of the file has a wrong value",
         "parents 0 to 63 or 255, policies 0 to 3, phases from 0, rows to 65535",
         "printf 'PBW1\\1\\0\\0\\0\\0\\0\\0\\0\\377\\4\\2\\0\\0\\0\\0\\0\\0\\0\\0\\0' > a.image; vuthgal list a.image";

@@ -1,7 +1,7 @@
 use crate::entry::Entry;
 
-/// A plan that is refused for a word.
-pub static PLAN_WORD: [Entry; 5] = numbered! { "refused ", "plan", "docs/TRACES.md, \"Plan text\"";
+/// A plan that is refused.
+pub static PLAN: [Entry; 8] = numbered! { "refused ", "plan", "docs/TRACES.md, \"Plan text\"";
     LINE 1: "BadWord: this isn't a word of a plan",
         "ann t0 ann*3 ann. xann .. ..*5 ?7 ( ann. )*3, with blanks, not commas",
         "printf '.thread t #0\\nhalt\\n' > a.txt; echo 't+2' | vuthgal plan a.txt";
@@ -17,11 +17,6 @@ pub static PLAN_WORD: [Entry; 5] = numbered! { "refused ", "plan", "docs/TRACES.
     LINE 5: "NoThread: no thread has this number",
         "threads are numbered from 0, in the order of their `.thread` lines",
         "printf '.thread t #0\\nhalt\\n' > a.txt; echo 't1' | vuthgal plan a.txt";
-};
-
-/// A plan that is refused for its parentheses.
-pub static PLAN_PARENTHESES: [Entry; 3] =
-    numbered! { "refused ", "plan", "docs/TRACES.md, \"Plan text\"";
     LINE 6: "TooDeep: a parenthesis is inside sixteen others",
         "at most sixteen parentheses inside each other",
         "printf '.thread t #0\\nhalt\\n' > a.txt; echo '((((((((((((((((( t )))))))))))))))))' | vuthgal plan a.txt";

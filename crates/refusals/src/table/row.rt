@@ -4,13 +4,9 @@ ghost use Rattle.std.specs.List.{flat_map};
 ghost use Rattle.instruction_table.specs.Table.{table};
 ghost use Rattle.refusals.specs.Word.{IsRowEntry, row_spellings, spellings};
 
-use crate::table::barrier_rows::BARRIER_ROWS;
-use crate::table::control_rows::CONTROL_ROWS;
-use crate::table::phaser_rows::PHASER_ROWS;
-use crate::table::plain_rows::PLAIN_ROWS;
-use crate::table::shared_rows::SHARED_ROWS;
-use crate::table::timed_rows::TIMED_ROWS;
-use crate::table::view_rows::VIEW_ROWS;
+use crate::table::rows::{
+    BARRIER_ROWS, CONTROL_ROWS, PHASER_ROWS, PLAIN_ROWS, SHARED_ROWS, TIMED_ROWS, VIEW_ROWS,
+};
 use crate::word::WordEntry;
 
 /// Returns the tables of the rows, which have an entry for each opcode.
